@@ -1,0 +1,2 @@
+//! The feature graph of package tables, and walks over it.
+#![tactic(auto)]

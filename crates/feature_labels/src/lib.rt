@@ -1,0 +1,2 @@
+//! Feature ids, feature labels and lists of them.
+#![tactic(auto)]

@@ -1,0 +1,2 @@
+//! The feature graph: queries and sets of features.
+#![tactic(auto)]

@@ -1,0 +1,2 @@
+//! Tests that cross the crates.
+#![tactic(auto)]
