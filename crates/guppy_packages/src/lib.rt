@@ -2,5 +2,7 @@
 #![tactic(auto)]
 
 mod package_id;
+mod row;
 
 pub use package_id::PackageId;
+pub use row::{DependencyKind, Row};
