@@ -1,0 +1,6 @@
+pub mod Nodes
+pub mod Links
+pub mod Candidates
+pub mod Pairs
+pub mod Adds
+pub mod Parts

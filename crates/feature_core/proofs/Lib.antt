@@ -1,0 +1,3 @@
+pub mod Places
+pub mod AddsLemmas
+pub mod PartLemmas
