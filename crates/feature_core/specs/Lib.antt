@@ -4,3 +4,5 @@ pub mod Candidates
 pub mod Pairs
 pub mod Adds
 pub mod Parts
+pub mod Walks
+pub mod WalkProgress

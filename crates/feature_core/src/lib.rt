@@ -1,2 +1,5 @@
 //! The feature graph of package tables, and walks over it.
 #![tactic(auto)]
+
+pub mod engine;
+pub mod laws;
