@@ -1,2 +1,4 @@
+pub mod Items
+pub mod Platform
 pub mod Rows
 pub mod Tables
