@@ -1,4 +1,4 @@
--- The parts of the tables contribute exactly the pairs that have a candidate.
+-- The parts of the tables contribute exactly a key for each candidate of a pair.
 use Rattle.std.proofs.Common.{◌≡◌, ◌≢◌, ℕ, zero, suc, ◌+◌, ◌<◌, ◌⊎◌, inl, inr, ⊎_elim, List, ◌∷◌, [], ◌++◌, length, map, Bool, true, false, refl, ap, sym, ◌∙◌, subst, arith, Option, Some, None, cond}
 use Rattle.std.specs.Prelude.{Contains, slice_get, IsTrue, IsFalse, ◌&&◌, ◌||◌, not, ◌↔◌}
 use Rattle.std.specs.List.{list_any}
@@ -14,10 +14,10 @@ use Rattle.feature_labels.specs.declared.link_declarations.LinkDeclarations.{Lin
 use Rattle.feature_labels.specs.declared.link_declarations.LinkDeclarations.TheVariants.{Unsplit, Required, Optional}
 use Rattle.feature_core.specs.Nodes.{NodeAt, labels_of, first_node}
 use Rattle.feature_core.specs.Links.{IsPackage, IsLink, over, includes, has_declaration}
-use Rattle.feature_core.specs.Candidates
-use Rattle.feature_core.specs.Candidates.{Edge, Candidate, HasItem, LeadsOver, IsSection, requests, requesting, unsplit_of, by_name, to_base, to_feature, to_dependency, over_strong, over_weak, with_dependency, with_feature, of_required, of_optional, feature_to_base, named_feature, dep_colon, slash_full, slash_optional, slash_weak, section}
+use Rattle.feature_core.specs.Candidates.{Edge, rank_of, Candidate, HasItem, LeadsOver, IsSection, requests, requesting, unsplit_of, by_name, to_base, to_feature, to_dependency, over_strong, over_weak, with_dependency, with_feature, of_required, of_optional, feature_to_base, named_feature, dep_colon, slash_full, slash_optional, slash_weak, section}
 use Rattle.feature_core.specs.Pairs.{HasCandidate}
-use Rattle.feature_core.specs.Parts.{IsToFirst, IsTo, IsOver, IsBeside, IsOfItem, IsOfItemAt, IsOfFeatureAt, IsOfPackageAt, start_of, IsRequest, IsOfDeclarationAt, IsOfLinkAt, IsOfTables}
+use Rattle.feature_core.specs.declared.key.Key.{Key}
+use Rattle.feature_core.specs.Parts.{key, over_rank, IsToFirst, IsTo, IsOver, IsBeside, IsOfItem, IsOfItemAt, IsOfFeatureAt, IsOfPackageAt, start_of, IsRequest, IsOfDeclarationAt, IsOfLinkAt, IsOfTables}
 use Rattle.feature_core.proofs.Places.{IsSpread, node_there, node_back, get_left, get_right, get_cases, got_map, got_same}
 use Rattle.feature_core.proofs.AddsLemmas.{place_of_element, element_at_place, place_below}
 
@@ -134,19 +134,40 @@ base_back t n p h = let s = node_back t n p base h in go s s.place s.is_place s.
     go s zero at is = omega arith
     go s (suc k) at is = absurd (later_label s.row k base at refl)
 
+-- a key for the candidate e of the pair (u, w)
+pub record IsKeyOf (u w : ℕ) (e : Edge) (x : Key) : Type 0 where
+  pub from : x.from ≡ u
+  pub to : x.to ≡ w
+  pub rank : x.rank ≡ rank_of e
+
+-- a candidate for which the key stands
+pub record StandsFor (t : Tables) (x : Key) : Type 0 where
+  pub edge : Edge
+  pub candidate : Candidate t x.from x.to edge
+  pub rank : x.rank ≡ rank_of edge
+
+is_key : (u w rank source place : ℕ) (e : Edge) → rank ≡ rank_of e → IsKeyOf u w e (key u w rank source place)
+is_key u w rank source place e h = record { from = refl; to = refl; rank = h }
+
+stands : (t : Tables) (u w rank source place : ℕ) (e : Edge) (x : Key) → x ≡ key u w rank source place → Candidate t u w e → rank ≡ rank_of e → StandsFor t x
+stands t u w rank source place e x is c r = subst (λ z. StandsFor t z) (sym is) (record { edge = e; candidate = c; rank = r })
+
 module _ (t : Tables) (differ : NamesDiffer t) where
+  -- a key that a package contributes
+  OfPackage : ℕ → ℕ → ℕ → Edge → Type 0
+  OfPackage p u w e = (x : Key) × IsOfPackageAt t p x × IsKeyOf u w e x
+
   -- a node of a package that isn't its base
-  of_base : (u w p : ℕ) (l : LabelName) → NodeAt t u p l → l ≢ base → NodeAt t w p base → IsOfPackageAt t p (u, w)
+  of_base : (u w p : ℕ) (l : LabelName) → NodeAt t u p l → l ≢ base → NodeAt t w p base → (x : Key) × IsOfPackageAt t p x × IsKeyOf u w feature_to_base x
   of_base u w p l nu ne nw = let s = node_back t u p l nu in go s s.place s.is_place s.is
     where
-      go : (s : IsSpread labels_of t.packages u p l) (k : ℕ) → slice_get (labels_of s.row) k ≡ Some l → u ≡ first_node t p + k → IsOfPackageAt t p (u, w)
+      go : (s : IsSpread labels_of t.packages u p l) (k : ℕ) → slice_get (labels_of s.row) k ≡ Some l → u ≡ first_node t p + k → (x : Key) × IsOfPackageAt t p x × IsKeyOf u w feature_to_base x
       go s zero at is = let e : base ≡ l = same_some base l at in absurd (ne (sym e))
       go s (suc k) at is =
-          let there : (u, w) ≡ (first_node t p + suc k, first_node t p) = let e = base_back t w p nw in cc in
-          (s.row, s.is_row, inl (suc k, place_below (labels_of s.row) (suc k) l at, (omega arith, there)))
+          (key (first_node t p + suc k) (first_node t p) 1 0 0, (s.row, s.is_row, inl (suc k, place_below (labels_of s.row) (suc k) l at, (omega arith, refl))), record { from = sym is; to = sym (base_back t w p nw); rank = refl })
 
   -- what an item of a feature contributes is among what its package contributes
-  of_item : (u p : ℕ) (f : Text) (item : Item) (x : ℕ × ℕ) → HasItem t p f item → NodeAt t u p (named f) → IsOfItem t u p f item x → IsOfPackageAt t p x
+  of_item : (u p : ℕ) (f : Text) (item : Item) (x : Key) → HasItem t p f item → NodeAt t u p (named f) → IsOfItem t u p f item x → IsOfPackageAt t p x
   of_item u p f item x h nu of =
       let j = place_of_element h.table.features h.feature h.is_feature in
       let i = place_of_element h.feature.items h.text h.is_item in
@@ -160,11 +181,11 @@ module _ (t : Tables) (differ : NamesDiffer t) where
       (h.table, h.is_package, inr (j.0, (h.feature, j.1, (i.0, (h.text, i.1, said)))))
 
   of_section : (u w : ℕ) (which : LinkDeclarations) (label : LinkTable → LabelName) (e : Edge) (s : IsSection t u w which label e)
-      → ((d : Declared) → IsTrue (includes which d) → start_of s.link d ≡ label s.link) → IsOfLinkAt t s.k (u, w)
+      → ((d : Declared) → IsTrue (includes which d) → start_of s.link d ≡ label s.link) → (x : Key) × IsOfLinkAt t s.k x × IsKeyOf u w e x
   of_section u w which label e s starts =
       let d = list_any_back (requesting s.asked which) s.link.declarations s.is_requested in
       let counted = both (includes which d.element) (requests d.element s.asked) d.passes in
-      (s.link, s.is_link, (d.place, (d.element, d.there, (u, subst (λ z. NodeAt t u s.link.from z) (sym (starts d.element counted.0)) s.from_node, (s.asked, counted.1, (refl, s.to_node))))))
+      (key u w 7 s.k d.place, (s.link, s.is_link, (d.place, (d.element, d.there, (u, subst (λ z. NodeAt t u s.link.from z) (sym (starts d.element counted.0)) s.from_node, (s.asked, counted.1, (w, s.to_node, refl)))))), is_key u w 7 s.k d.place e (sym (ap rank_of s.is_edge)))
 
   required_start : (link : LinkTable) (d : Declared) → IsTrue (not d.optional) → start_of link d ≡ base
   required_start link d h = ap (λ b. cond b (optional link.name) base) (not_true d.optional h)
@@ -172,54 +193,68 @@ module _ (t : Tables) (differ : NamesDiffer t) where
   optional_start : (link : LinkTable) (d : Declared) → IsTrue d.optional → start_of link d ≡ optional link.name
   optional_start link d h = ap (λ b. cond b (optional link.name) base) h
 
-  contributed : (u w : ℕ) (e : Edge) → Candidate t u w e → IsOfTables t (u, w)
-  contributed u w e (to_base p l nu ne nw is) = inl (p, of_base u w p l nu ne nw)
-  contributed u w e (to_feature p f g h ne nu nw is) = inl (p, of_item u p f (feature_item g) (u, w) h nu (ne, (refl, nw)))
-  contributed u w e (to_dependency p f d h nu nw is) = inl (p, of_item u p f (optional_item d) (u, w) h nu (refl, nw))
-  contributed u w e (over_strong k link weak l strong is) = inl (link.from, of_item u link.from l.f (slash_item link.name l.g weak) (u, w) l.has_item l.from_node (inl (k, (link, l.is_link, refl, refl, (refl, l.to_node)))))
-  contributed u w e (over_weak k link l weak is) = inl (link.from, of_item u link.from l.f (slash_item link.name l.g true) (u, w) l.has_item l.from_node (inl (k, (link, l.is_link, refl, refl, (refl, l.to_node)))))
-  contributed u w e (with_dependency p f d g h nu nw is) = inl (p, of_item u p f (slash_item d g false) (u, w) h nu (inr (refl, inl (refl, nw))))
-  contributed u w e (with_feature p n f d g h nu nd ne nw is) = inl (p, of_item u p f (slash_item d g false) (u, w) h nu (inr (refl, inr (ne, (n, nd), (refl, nw)))))
-  contributed u w e (of_required s) = inr (s.k, of_section u w Required (λ link. base) e s (λ d i. required_start s.link d i))
-  contributed u w e (of_optional s) = inr (s.k, of_section u w Optional (λ link. optional link.name) e s (λ d i. optional_start s.link d i))
+  over_strongly : (weak : Bool) (link : LinkTable) → IsFalse (weak && has_declaration Optional link) → over_rank weak link ≡ 4
+  over_strongly weak link h = ap (λ b. cond b 6 4) h
 
-  over_link : (u w p k : ℕ) (f d g : Text) (weak : Bool) (link : LinkTable) → HasItem t p f (slash_item d g weak) → NodeAt t u p (named f) → IsLink t k link → link.from ≡ p → link.name ≡ d → NodeAt t w link.to (named g) → HasCandidate t u w
-  over_link u w p k f d g weak link h nu is from name nw = go (weak && has_declaration Optional link) refl
+  over_weakly : (weak : Bool) (link : LinkTable) → IsTrue (weak && has_declaration Optional link) → over_rank weak link ≡ 6
+  over_weakly weak link h = ap (λ b. cond b 6 4) h
+
+  of_item_to : (u w p rank source : ℕ) (f : Text) (item : Item) (e : Edge) → HasItem t p f item → NodeAt t u p (named f) → e ≡ e → rank ≡ rank_of e → IsOfItem t u p f item (key u w rank source 0) → (x : Key) × IsOfTables t x × IsKeyOf u w e x
+  of_item_to u w p rank source f item e h nu same r of = (key u w rank source 0, inl (p, of_item u p f item (key u w rank source 0) h nu of), is_key u w rank source 0 e r)
+
+  -- each candidate has a key
+  pub contributed : (u w : ℕ) (e : Edge) → Candidate t u w e → (x : Key) × IsOfTables t x × IsKeyOf u w e x
+  contributed u w e (to_base p l nu ne nw is) = let b = of_base u w p l nu ne nw in (b.0, inl (p, b.1), subst (λ z. IsKeyOf u w z b.0) (sym is) b.2)
+  contributed u w e (to_feature p f g h ne nu nw is) = of_item_to u w p 2 0 f (feature_item g) e h nu refl (sym (ap rank_of is)) (ne, (w, nw, refl))
+  contributed u w e (to_dependency p f d h nu nw is) = of_item_to u w p 3 0 f (optional_item d) e h nu refl (sym (ap rank_of is)) (w, nw, refl)
+  contributed u w e (over_strong k link weak l strong is) =
+      of_item_to u w link.from 4 k l.f (slash_item link.name l.g weak) e l.has_item l.from_node refl (sym (ap rank_of is)) (inl (k, (link, l.is_link, refl, refl, (w, l.to_node, ap (λ z. key u w z k 0) (sym (over_strongly weak link strong))))))
+  contributed u w e (over_weak k link l weak is) =
+      of_item_to u w link.from 6 k l.f (slash_item link.name l.g true) e l.has_item l.from_node refl (sym (ap rank_of is)) (inl (k, (link, l.is_link, refl, refl, (w, l.to_node, ap (λ z. key u w z k 0) (sym (over_weakly true link weak))))))
+  contributed u w e (with_dependency p f d g h nu nw is) = of_item_to u w p 5 0 f (slash_item d g false) e h nu refl (sym (ap rank_of is)) (inr (refl, inl (w, nw, refl)))
+  contributed u w e (with_feature p n f d g h nu nd ne nw is) = of_item_to u w p 5 0 f (slash_item d g false) e h nu refl (sym (ap rank_of is)) (inr (refl, inr (ne, (n, nd), (w, nw, refl))))
+  contributed u w e (of_required s) = let x = of_section u w Required (λ link. base) e s (λ d i. required_start s.link d i) in (x.0, inr (s.k, x.1), x.2)
+  contributed u w e (of_optional s) = let x = of_section u w Optional (λ link. optional link.name) e s (λ d i. optional_start s.link d i) in (x.0, inr (s.k, x.1), x.2)
+
+  over_link : (u w p k : ℕ) (f d g : Text) (weak : Bool) (link : LinkTable) (x : Key) → HasItem t p f (slash_item d g weak) → NodeAt t u p (named f) → IsLink t k link → link.from ≡ p → link.name ≡ d → NodeAt t w link.to (named g) → x ≡ key u w (over_rank weak link) k 0 → StandsFor t x
+  over_link u w p k f d g weak link x h nu is from name nw eq = go (weak && has_declaration Optional link) refl
     where
       item : (weaker : Bool) → weak ≡ weaker → HasItem t link.from f (slash_item link.name g weaker)
       item weaker e = subst (λ z. HasItem t link.from f (slash_item link.name g z)) e (subst (λ z. HasItem t link.from f (slash_item z g weak)) (sym name) (subst (λ z. HasItem t z f (slash_item d g weak)) (sym from) h))
       leads : (weaker : Bool) → weak ≡ weaker → LeadsOver t u w weaker k link
       leads weaker e = record { f = f; g = g; has_item = item weaker e; from_node = subst (λ z. NodeAt t u z (named f)) (sym from) nu; is_link = is; to_node = nw }
-      go : (b : Bool) → weak && has_declaration Optional link ≡ b → HasCandidate t u w
-      go true e = let both_true = both weak (has_declaration Optional link) e in (slash_weak k (unsplit_of k link), over_weak k link (leads true both_true.0) both_true.1 refl)
-      go false e = (slash_full (unsplit_of k link), over_strong k link weak (leads weak refl) e refl)
+      go : (b : Bool) → weak && has_declaration Optional link ≡ b → StandsFor t x
+      go true e =
+          let both_true = both weak (has_declaration Optional link) e in
+          stands t u w (over_rank weak link) k 0 (slash_weak k (unsplit_of k link)) x eq (over_weak k link (leads true both_true.0) both_true.1 refl) (over_weakly weak link e)
+      go false e = stands t u w (over_rank weak link) k 0 (slash_full (unsplit_of k link)) x eq (over_strong k link weak (leads weak refl) e refl) (over_strongly weak link e)
 
-  -- what an item contributes has a candidate
-  by_item : (u p : ℕ) (f : Text) (item : Item) (x : ℕ × ℕ) → HasItem t p f item → NodeAt t u p (named f) → IsOfItem t u p f item x → HasCandidate t x.0 x.1
-  by_item u p f (feature_item g) x h nu of = (named_feature, to_feature p f g h of.0 (subst (λ z. NodeAt t z p (named f)) (sym of.1.0) nu) of.1.1 refl)
-  by_item u p f (optional_item d) x h nu of = (dep_colon (by_name t p Unsplit d), to_dependency p f d h (subst (λ z. NodeAt t z p (named f)) (sym of.0) nu) of.1 refl)
+  -- what an item contributes stands for a candidate
+  by_item : (u p : ℕ) (f : Text) (item : Item) (x : Key) → HasItem t p f item → NodeAt t u p (named f) → IsOfItem t u p f item x → StandsFor t x
+  by_item u p f (feature_item g) x h nu of = stands t u of.1.0 2 0 0 named_feature x of.1.2 (to_feature p f g h of.0 nu of.1.1 refl) refl
+  by_item u p f (optional_item d) x h nu of = stands t u of.0 3 0 0 (dep_colon (by_name t p Unsplit d)) x of.2 (to_dependency p f d h nu of.1 refl) refl
   by_item u p f (slash_item d g weak) x h nu of = ⊎_elim
-      (λ o. over_link x.0 x.1 p o.0 f d g weak o.1.0 h (subst (λ z. NodeAt t z p (named f)) (sym o.1.4.0) nu) o.1.1 o.1.2 o.1.3 o.1.4.1)
+      (λ o. over_link u o.1.4.0 p o.0 f d g weak o.1.0 x h nu o.1.1 o.1.2 o.1.3 o.1.4.1 o.1.4.2)
       (λ o.
       let strong : HasItem t p f (slash_item d g false) = subst (λ z. HasItem t p f (slash_item d g z)) o.0 h in
       ⊎_elim
-      (λ i. (slash_optional (by_name t p Optional d), with_dependency p f d g strong (subst (λ z. NodeAt t z p (named f)) (sym i.0) nu) i.1 refl))
-      (λ i. (slash_optional (by_name t p Optional d), with_feature p i.1.0 f d g strong (subst (λ z. NodeAt t z p (named f)) (sym i.2.0) nu) i.1.1 i.0 i.2.1 refl))
+      (λ i. stands t u i.0 5 0 0 (slash_optional (by_name t p Optional d)) x i.2 (with_dependency p f d g strong nu i.1 refl) refl)
+      (λ i. stands t u i.2.0 5 0 0 (slash_optional (by_name t p Optional d)) x i.2.2 (with_feature p i.1.0 f d g strong nu i.1.1 i.0 i.2.1 refl) refl)
       o.1)
       of
 
-  by_base : (p k : ℕ) (table : PackageTable) (x : ℕ × ℕ) → IsPackage t p table → k < length (labels_of table) → IsToFirst (first_node t p) k x → HasCandidate t x.0 x.1
+  by_base : (p k : ℕ) (table : PackageTable) (x : Key) → IsPackage t p table → k < length (labels_of table) → IsToFirst (first_node t p) k x → StandsFor t x
   by_base p zero table x h l i = absurd (omega (arith, i.0))
   by_base p (suc k) table x h l i =
       let s = within (labels_of table) (suc k) l in
-      subst (λ z. HasCandidate t z.0 z.1) (sym i.1) (feature_to_base, to_base p s.0 (node_there t p (suc k) table s.0 h s.1) (later_label table k s.0 s.1) (base_node t p table h) refl)
+      stands t (first_node t p + suc k) (first_node t p) 1 0 0 feature_to_base x i.1 (to_base p s.0 (node_there t p (suc k) table s.0 h s.1) (later_label table k s.0 s.1) (base_node t p table h) refl) refl
     where
       within : {X : Type 0} (xs : List X) (k : ℕ) → k < length xs → (y : X) × (slice_get xs k ≡ Some y)
       within [] k l = absurd (omega (arith, l))
       within (y ∷ ys) zero l = (y, refl)
       within (y ∷ ys) (suc k) l = within ys k (omega (arith, l))
 
-  by_package : (p : ℕ) (x : ℕ × ℕ) → IsOfPackageAt t p x → HasCandidate t x.0 x.1
+  by_package : (p : ℕ) (x : Key) → IsOfPackageAt t p x → StandsFor t x
   by_package p x h = ⊎_elim
       (λ b. by_base p b.0 h.0 x h.1 b.1 b.2)
       (λ b.
@@ -232,32 +267,30 @@ module _ (t : Tables) (differ : NamesDiffer t) where
       (feature_node t p b.0 h.0 feature h.1 at) i.1.2)
       h.2
 
-  by_declaration : (k j : ℕ) (link : LinkTable) (d : Declared) (x : ℕ × ℕ) (u : ℕ) (asked : LabelName) → IsLink t k link → slice_get link.declarations j ≡ Some d → NodeAt t u link.from (start_of link d) → IsTrue (requests d asked) → IsTo t u link.to asked x → HasCandidate t x.0 x.1
-  by_declaration k j link d x u asked is at nu req to = go d.optional refl
+  by_declaration : (k j : ℕ) (link : LinkTable) (d : Declared) (x : Key) (u w : ℕ) (asked : LabelName) → IsLink t k link → slice_get link.declarations j ≡ Some d → NodeAt t u link.from (start_of link d) → IsTrue (requests d asked) → NodeAt t w link.to asked → x ≡ key u w 7 k j → StandsFor t x
+  by_declaration k j link d x u w asked is at nu req nw eq = go d.optional refl
     where
-      from : NodeAt t x.0 link.from (start_of link d)
-      from = subst (λ z. NodeAt t z link.from (start_of link d)) (sym to.0) nu
-      section_of : (which : LinkDeclarations) (label : LinkTable → LabelName) → IsTrue (includes which d) → start_of link d ≡ label link → IsSection t x.0 x.1 which label (section (over which (requesting asked which) ((k, link) ∷ [])))
+      section_of : (which : LinkDeclarations) (label : LinkTable → LabelName) → IsTrue (includes which d) → start_of link d ≡ label link → IsSection t u w which label (section (over which (requesting asked which) ((k, link) ∷ [])))
       section_of which label counted starts = record {
         k = k;
         link = link;
         is_link = is;
         asked = asked;
         is_requested = list_any_there (requesting asked which) link.declarations j d at (joined_true (includes which d) (requests d asked) counted req);
-        from_node = subst (λ z. NodeAt t x.0 link.from z) starts from;
-        to_node = to.1;
+        from_node = subst (λ z. NodeAt t u link.from z) starts nu;
+        to_node = nw;
         is_edge = refl;
       }
-      go : (b : Bool) → d.optional ≡ b → HasCandidate t x.0 x.1
-      go true e = (section (over Optional (requesting asked Optional) ((k, link) ∷ [])), of_optional (section_of Optional (λ l. optional l.name) e (optional_start link d e)))
-      go false e = (section (over Required (requesting asked Required) ((k, link) ∷ [])), of_required (section_of Required (λ l. base) (not_false d.optional e) (required_start link d (not_false d.optional e))))
+      go : (b : Bool) → d.optional ≡ b → StandsFor t x
+      go true e = stands t u w 7 k j (section (over Optional (requesting asked Optional) ((k, link) ∷ []))) x eq (of_optional (section_of Optional (λ l. optional l.name) e (optional_start link d e))) refl
+      go false e = stands t u w 7 k j (section (over Required (requesting asked Required) ((k, link) ∷ []))) x eq (of_required (section_of Required (λ l. base) (not_false d.optional e) (required_start link d (not_false d.optional e)))) refl
 
-  by_link : (k : ℕ) (x : ℕ × ℕ) → IsOfLinkAt t k x → HasCandidate t x.0 x.1
-  by_link k x h = let d = h.2.1 in by_declaration k h.2.0 h.0 d.0 x d.2.0 d.2.2.0 h.1 d.1 d.2.1 d.2.2.1 d.2.2.2
+  by_link : (k : ℕ) (x : Key) → IsOfLinkAt t k x → StandsFor t x
+  by_link k x h =
+      let d = h.2.1 in
+      let asked = d.2.2 in
+      by_declaration k h.2.0 h.0 d.0 x d.2.0 asked.2.0 asked.0 h.1 d.1 d.2.1 asked.1 asked.2.1 asked.2.2
 
-  -- the pairs of all parts are those that have a candidate
-  pub exactly_contributed : (u w : ℕ) → IsOfTables t (u, w) ↔ HasCandidate t u w
-  exactly_contributed u w = (
-    (λ h. ⊎_elim (λ i. by_package i.0 (u, w) i.1) (λ i. by_link i.0 (u, w) i.1) h),
-    (λ h. contributed u w h.0 h.1),
-  )
+  -- each key stands for a candidate
+  pub stands_for : (x : Key) → IsOfTables t x → StandsFor t x
+  stands_for x h = ⊎_elim (λ i. by_package i.0 x i.1) (λ i. by_link i.0 x i.1) h

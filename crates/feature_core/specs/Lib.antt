@@ -3,6 +3,7 @@ pub mod Links
 pub mod Candidates
 pub mod Pairs
 pub mod Adds
+pub mod Keys
 pub mod Parts
 pub mod Walks
 pub mod WalkProgress

@@ -2,4 +2,5 @@
 #![tactic(auto)]
 
 pub mod engine;
+mod key;
 pub mod laws;
