@@ -1,12 +1,10 @@
 -- The cuts of an item's text.
-use Rattle.std.proofs.Common.{◌≡◌, ◌≢◌, ℕ, ◌+◌, ◌-◌, ◌<◌, List, [], ◌∷◌, ◌++◌, Bool, true, false, cond, ◌||◌, not, Option, None, Some, length, take, drop, refl, ap, sym, ◌∙◌, arith}
-use Rattle.std.specs.Prelude.{nat_eq, MatchOption, ◌==◌, nat_lt, codes}
+use Rattle.std.proofs.Common.{◌≡◌, ◌≢◌, ℕ, ◌+◌, ◌-◌, ◌<◌, List, [], ◌∷◌, ◌++◌, Bool, true, false, cond, ◌||◌, not, length, take, drop, refl, ap, sym, ◌∙◌, arith}
+use Rattle.std.specs.Prelude.{nat_eq, codes}
 use Rattle.std.specs.List.{list_any, position_or_len, ends_with, starts_with, before_first, after_first}
-use Rattle.std.specs.Cmp.Lexicographic.{pointwise, bytes_decides}
-use Rattle.std.specs.Str.Pattern.{FindsTextPrefix, HasPrefixMatch}
+use Rattle.std.specs.Cmp.Lexicographic.{bytes_decides}
 use Rattle.std.proofs.lemmas.List.{take-append-drop}
-use Rattle.std.proofs.lemmas.Str.Pattern.{starts_text}
-use Rattle.guppy_packages.specs.Items.{Item, item_of, cut_item, plain_item, slash_item, optional_item, feature_item, is_slash}
+use Rattle.guppy_packages.specs.Items.{item_of, cut_item, plain_item, slash_item, optional_item, feature_item, is_slash}
 use Rattle.guppy_packages.specs.Rows.{Text}
 
 -- whether an element passes, by the place of the first that does

@@ -1,5 +1,5 @@
 -- Platform statuses, without where they lie in memory.
-use Rattle.std.specs.Prelude.{◌≢◌, List, [], ◌∷◌, map}
+use Rattle.std.specs.Prelude.{◌≢◌, List, [], ◌∷◌, Option, None, Some, map, slice_get}
 use Rattle.std.specs.String.{string_bytes}
 use Rattle.guppy_packages.specs.Rows.{Text}
 use Rattle.guppy_packages.specs.declared.platform.Spec.{Spec}
@@ -33,3 +33,13 @@ status_of status.Always = always_status
 abbrev pub impl_status : PlatformStatusImpl → Status
 impl_status held.Always = always_status
 impl_status (held.Specs specs) = status_by (map spec_text specs.items)
+
+-- the specs that are held, where it is not always
+abbrev pub platform_specs : PlatformStatusImpl → Option (List Text)
+platform_specs held.Always = None
+platform_specs (held.Specs specs) = Some (map spec_text specs.items)
+
+-- a declaration's platform: always, or one spec
+abbrev pub platform_text : PlatformStatusImpl → Option Text
+platform_text held.Always = None
+platform_text (held.Specs specs) = slice_get (map spec_text specs.items) 0

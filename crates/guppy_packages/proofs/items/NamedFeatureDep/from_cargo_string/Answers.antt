@@ -1,7 +1,7 @@
-use Rattle.std.proofs.Common.{◌≡◌, ◌∙◌, sym, ap, ap₂, lit<, drop, None}
+use Rattle.std.proofs.Common.{◌∙◌, sym, ap, ap₂, lit<, drop, None}
 use Rattle.std.proofs.lemmas.Str.Pattern.{strip_suffix_char}
 use Rattle.guppy_packages.proofs.ItemLemmas.{unmarked, item_of-plain, item_of-cut, marked, unmarked_text}
-use Rattle.guppy_packages.specs.Items.{cut_item, item_of, optional_item}
+use Rattle.guppy_packages.specs.Items.{cut_item, optional_item}
 use Rattle.guppy_packages.proofs.items.NamedFeatureDep.from_cargo_string.Goals as goal
 
 pub returns-in-None : goal.returns-in-None
