@@ -2,7 +2,7 @@ use Rattle.std.proofs.Common.{rules, ◌≡◌, ◌<◌, ◌/◌, ◌%◌, lengt
 use Rattle.std.proofs.lemmas.List.{get_or_read}
 use Rattle.std.proofs.lemmas.Nat.Bits.{shr_and_one}
 use Rattle.guppy_support.proofs.BitLemmas.{size_is, has_is}
-use Rattle.guppy_support.proofs.IxBitSet.contains.Goals as goal
+use Rattle.guppy_support.proofs.bit_set.IxBitSet.contains.Goals as goal
 
 pub index-requires : goal.index-requires
 index-requires c =
