@@ -1,2 +1,3 @@
+pub mod Metadata
 pub mod Rows
 pub mod Tables
