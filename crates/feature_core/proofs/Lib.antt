@@ -12,3 +12,4 @@ pub mod WalkLoops
 pub mod WalkEnds
 pub mod WithinAll
 pub mod NodeLemmas
+pub mod LabelLemmas

@@ -5,3 +5,4 @@ pub mod engine;
 mod key;
 pub mod laws;
 mod nodes;
+mod numbers;
