@@ -5,7 +5,7 @@ use Rattle.std.proofs.lemmas.Bool.{eqb-true, eq-eqb}
 use Rattle.std.proofs.lemmas.Bool.Decides.{eqb_tells}
 use Rattle.guppy_support.specs.Bits.{has}
 use Rattle.feature_core.specs.Walks.{Content, Way, Call, IsWay, numbers_where, starting, is_in}
-use Rattle.feature_core.specs.WalkProgress.{Field, noted, Distinct}
+use Rattle.feature_core.specs.Explanations.{Distinct}
 use Rattle.feature_core.proofs.Answered.{decide, or_cases, or_left, or_right, and_both, and_intro, clash}
 
 pub marked_set : (marks : List Bool) (n : ℕ) → n < length marks → IsTrue (has (slice_set marks n true) n)
