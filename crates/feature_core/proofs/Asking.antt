@@ -1,13 +1,10 @@
-use Rattle.std.proofs.Common.{◌≡◌, ◌≢◌, ℕ, zero, suc, ◌+◌, ◌-◌, ◌<◌, ◌≤◌, Bool, true, false, not, ◌&&◌, ◌||◌, ◌⊎◌, List, [], ◌∷◌, ◌++◌, Option, Some, None, length, refl, sym, ◌∙◌, ap, subst, inl, inr, arith}
-use Rattle.std.specs.Prelude.{IsTrue, IsFalse, slice_get, ◌==◌}
-use Rattle.std.proofs.lemmas.Option.{slice_get_within}
+use Rattle.std.proofs.Common.{◌≡◌, ℕ, ◌<◌, Bool, true, false, List, [], ◌∷◌, ◌++◌, Option, Some, None, refl, sym, ◌∙◌, ap, subst, arith}
+use Rattle.std.specs.Prelude.{IsTrue, slice_get}
 use Rattle.feature_core.specs.declared.engine.Half.{Half}
-use Rattle.feature_core.specs.declared.engine.Half.TheVariants.{Full, Required, Optional}
-use Rattle.feature_core.specs.declared.engine.Ask.{Ask}
 use Rattle.feature_core.specs.declared.engine.Taken.{Taken}
 use Rattle.feature_core.specs.Walks.{Content, Way, Call, IsWay, IsContent, has_half, GoesAlong, AreOffers, MayAsk, numbers_where, told, taken_of}
 use Rattle.feature_core.specs.WalkProgress.{Findings, Asks}
-use Rattle.feature_core.proofs.WayNumbers.{Numbers, number_way}
+use Rattle.feature_core.proofs.WayNumbers.{number_way}
 use Rattle.feature_core.proofs.WalkMoves.{call_of}
 
 steps_before : {O : Type 0} (gives : O → ℕ → Half → Bool → O → Type 0) (s : O) (e : ℕ) (h : Half) (b : Bool) (t : O) (run : List Call) (u : O) → gives s e h b t → GoesAlong gives t run u → GoesAlong gives s (run ++ call_of e h b ∷ []) u

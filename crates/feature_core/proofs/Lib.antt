@@ -6,4 +6,4 @@ pub mod WalkMoves
 pub mod Asking
 pub mod WalkLoops
 pub mod WalkEnds
-pub mod WithinAll
+pub mod ReachLaws

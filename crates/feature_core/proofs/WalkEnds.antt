@@ -1,5 +1,5 @@
-use Rattle.std.proofs.Common.{◌≡◌, ◌≢◌, ℕ, zero, suc, ◌+◌, ◌-◌, ◌*◌, ◌<◌, ◌≤◌, Bool, true, false, not, ◌&&◌, ◌||◌, ◌⊎◌, List, [], ◌∷◌, ◌++◌, Option, Some, None, length, take, refl, sym, ◌∙◌, ap, subst, inl, inr, arith, append_assoc, length-append, length-take, cond}
-use Rattle.std.specs.Prelude.{IsTrue, IsFalse, slice_get, slice_index, ◌==◌, count_by, ◌↔◌}
+use Rattle.std.proofs.Common.{◌≡◌, ◌≢◌, ℕ, zero, suc, ◌+◌, ◌*◌, ◌<◌, ◌≤◌, Bool, true, false, not, ◌&&◌, ◌||◌, ◌⊎◌, List, [], ◌∷◌, ◌++◌, Some, length, take, refl, sym, ◌∙◌, ap, subst, inl, inr, arith, length-append, length-take, cond}
+use Rattle.std.specs.Prelude.{IsTrue, IsFalse, slice_get, ◌==◌, count_by, ◌↔◌}
 use Rattle.std.proofs.lemmas.Bool.{eqb-true, eq-eqb}
 use Rattle.std.proofs.lemmas.List.{take-append-le}
 use Rattle.std.proofs.lemmas.List.Sums.{count_by-le-length, sum_by-cons}
@@ -10,17 +10,17 @@ use Rattle.feature_core.specs.declared.engine.Ask.{Ask}
 use Rattle.feature_core.specs.declared.engine.Ask.TheVariants as asks
 use Rattle.guppy_support.specs.Bits.{has, members}
 use Rattle.std.specs.List.{range_with_len}
-use Rattle.feature_core.specs.Walks.{edges_from, edges_gated_by, Content, Way, Call, IsWay, Reach, IsDue, IsComplete, IsWalk, LegalRun, was_made, was_accepted, has_half, has_gate, is_gated, is_in, numbers_where, starting, releasing}
+use Rattle.feature_core.specs.Walks.{edges_from, edges_gated_by, Content, Way, IsWay, Reach, IsDue, IsWalk, LegalRun, was_accepted, has_gate, is_gated, is_in, numbers_where, starting, releasing}
 use Rattle.feature_core.specs.declared.engine.Step.{Step}
 use Rattle.feature_core.specs.declared.engine.StepReason.{StepReason}
-use Rattle.feature_core.specs.declared.engine.StepReason.TheVariants.{Initial, Edge, Offer}
-use Rattle.std.specs.Prelude.{map, filter}
+use Rattle.feature_core.specs.declared.engine.StepReason.TheVariants.{Initial}
+use Rattle.std.specs.Prelude.{filter}
 use Rattle.feature_core.specs.Explanations.{IsReason, HasReasons, Distinct, nodes_of, IsExplainedWalk}
-use Rattle.feature_core.specs.WalkProgress.{Findings, noted, IsAt, Extends, TakesAll, FreesAll, TakesStopped, FreesStopped, of_way, passes, reads_of, IsDone, Begun}
+use Rattle.feature_core.specs.WalkProgress.{Findings, noted, Extends, TakesAll, FreesAll, TakesStopped, FreesStopped, of_way, passes, reads_of, IsDone, Begun}
 use Rattle.feature_core.proofs.Answered.{decide, clash, or_left, or_right, or_cases, and_both, and_intro}
-use Rattle.feature_core.proofs.Reaches.{same_way, reach_in, open_cases}
+use Rattle.feature_core.proofs.Reaches.{reach_in, open_cases}
 use Rattle.feature_core.proofs.Runs.{members_least}
-use Rattle.feature_core.proofs.WayNumbers.{number_way, number_in, numbers_distinct, not_before, is_in_at, take_is_in, length-numbers, count_by_same, count_by_either}
+use Rattle.feature_core.proofs.WayNumbers.{number_way, number_in, not_before, is_in_at, take_is_in, length-numbers, count_by_same, count_by_either}
 use Rattle.feature_core.proofs.WalkLoops.{at_same, eqb_swap}
 use Rattle.feature_core.proofs.WalkMoves.{noted_ordered, noted_distinct, noted_named}
 use Rattle.feature_core.proofs.WayNumbers.{marked_set, marked_grows, marked_cases, snoc_cases}
@@ -338,6 +338,8 @@ reads_none c = omega (arith, no_count (λ (w : Way). false) (λ w. refl) c.ways,
 -- the reads by the members in place of their list
 pub reads_members : (c : Content) (M : ℕ → Bool) (order : List ℕ) → ((n : ℕ) → M n ≡ is_in order n) → reads_of c order ≡ 2 * length order + edges_from c M + edges_gated_by c M
 reads_members c M order same =
-    omega (arith,
+    omega (
+      arith,
       count_by_same (λ (w : Way). is_in order w.start) (λ (w : Way). M w.start) (λ w. sym (same w.start)) c.ways,
-      count_by_same (λ (w : Way). is_gated w.ask && is_in order w.gate) (λ (w : Way). is_gated w.ask && M w.gate) (λ w. ap (λ (b : Bool). is_gated w.ask && b) (sym (same w.gate))) c.ways)
+      count_by_same (λ (w : Way). is_gated w.ask && is_in order w.gate) (λ (w : Way). is_gated w.ask && M w.gate) (λ w. ap (λ (b : Bool). is_gated w.ask && b) (sym (same w.gate))) c.ways,
+    )

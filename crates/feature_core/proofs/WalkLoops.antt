@@ -1,5 +1,5 @@
-use Rattle.std.proofs.Common.{◌≡◌, ◌≢◌, ℕ, zero, suc, ◌+◌, ◌-◌, ◌*◌, ◌<◌, ◌≤◌, Bool, true, false, not, ◌&&◌, ◌||◌, ◌⊎◌, List, [], ◌∷◌, ◌++◌, Option, Some, None, length, take, refl, sym, ◌∙◌, ap, subst, inl, inr, arith, append_assoc}
-use Rattle.std.specs.Prelude.{IsTrue, IsFalse, slice_get, slice_index, ◌==◌, count_by}
+use Rattle.std.proofs.Common.{◌≡◌, ℕ, zero, suc, ◌≤◌, Bool, true, false, ◌&&◌, ◌||◌, List, [], ◌∷◌, ◌++◌, Some, None, length, take, refl, sym, ◌∙◌, ap, subst, inl, inr, arith, append_assoc}
+use Rattle.std.specs.Prelude.{IsTrue, IsFalse, slice_get, ◌==◌}
 use Rattle.std.proofs.Common.{Result, Ok, Err, OnErr}
 use Rattle.std.proofs.lemmas.Bool.{eqb-true, eq-eqb}
 use Rattle.std.proofs.lemmas.Bool.Decides.{eqb_tells}
@@ -8,17 +8,16 @@ use Rattle.feature_core.specs.declared.engine.Half.{Half}
 use Rattle.feature_core.specs.declared.engine.Ask.{Ask}
 use Rattle.feature_core.specs.declared.engine.Ask.TheVariants as asks
 use Rattle.guppy_support.specs.Bits.{has}
-use Rattle.feature_core.specs.Walks.{Content, Way, Call, IsWay, has_half, has_gate, is_gated, is_in, numbers_where, starting, releasing}
+use Rattle.feature_core.specs.Walks.{Content, Way, IsWay, is_gated, is_in, starting, releasing}
 use Rattle.feature_core.specs.declared.engine.Step.{Step}
 use Rattle.feature_core.specs.declared.engine.progress.Found.{Found}
 use Rattle.feature_core.specs.Explanations.{nodes_of}
 use Rattle.feature_core.specs.declared.engine.StepReason.{StepReason}
-use Rattle.feature_core.specs.declared.engine.StepReason.TheVariants.{Initial, Edge, Offer}
-use Rattle.feature_core.specs.WalkProgress.{Findings, findings, noted, refusing, answered, Asks, IsAt, with_edge, Extends, TakesEdge, FreesEdge, TakesAll, FreesAll, TakesStopped, FreesStopped}
-use Rattle.feature_core.proofs.Answered.{decide, clash, and_both, or_left, or_right, or_cases}
-use Rattle.feature_core.proofs.WayNumbers.{number_way, number_in, numbers_distinct, not_before, is_in_at, take_is_in}
+use Rattle.feature_core.specs.declared.engine.StepReason.TheVariants.{Offer}
+use Rattle.feature_core.specs.WalkProgress.{Findings, findings, noted, Asks, IsAt, with_edge, Extends, TakesEdge, FreesEdge, TakesAll, FreesAll, TakesStopped, FreesStopped}
+use Rattle.feature_core.proofs.Answered.{decide, clash, and_both}
+use Rattle.feature_core.proofs.WayNumbers.{number_way, numbers_distinct, not_before, is_in_at, take_is_in}
 use Rattle.feature_core.proofs.WalkMoves.{with_here}
-use Rattle.std.proofs.lemmas.Option.{slice_get_within, slice_get_cases}
 
 pub extends_refl : (f : Findings) → Extends f f
 extends_refl f = ([], sym (append-nil f.order))

@@ -1,5 +1,5 @@
-use Rattle.std.proofs.Common.{◌≡◌, ◌≢◌, ℕ, zero, suc, ◌+◌, ◌-◌, ◌<◌, ◌≤◌, Bool, true, false, not, ◌&&◌, ◌||◌, ◌⊎◌, List, [], ◌∷◌, ◌++◌, Option, Some, None, length, get_or, take, set, refl, sym, ◌∙◌, ap, subst, inl, inr, arith, get_or-set_other, get_or-set_same}
-use Rattle.std.specs.Prelude.{IsTrue, IsFalse, slice_get, slice_set, slice_index, ◌==◌, if◌then◌else◌, nat_le}
+use Rattle.std.proofs.Common.{◌≡◌, ◌≢◌, ℕ, ◌<◌, ◌≤◌, Bool, true, false, not, ◌&&◌, ◌||◌, ◌⊎◌, List, [], ◌∷◌, ◌++◌, length, take, refl, sym, ◌∙◌, ap, subst, inl, inr, arith, get_or-set_other}
+use Rattle.std.specs.Prelude.{IsTrue, IsFalse, slice_set, ◌==◌}
 use Rattle.std.proofs.lemmas.Bool.{eqb-true, eq-eqb}
 use Rattle.std.proofs.lemmas.Bool.Decides.{eqb_tells}
 use Rattle.feature_core.specs.declared.engine.Half.{Half}
@@ -7,17 +7,16 @@ use Rattle.feature_core.specs.declared.engine.Half.TheVariants.{Full, Required, 
 use Rattle.feature_core.specs.declared.engine.Ask.{Ask}
 use Rattle.feature_core.specs.declared.engine.Ask.TheVariants as asks
 use Rattle.guppy_support.specs.Bits.{has}
-use Rattle.feature_core.specs.Walks.{Content, Way, Call, IsWay, has_half, has_gate, has_turn, is_gated, Reach, was_made, was_accepted, is_of, is_half, IsDue, IsLegal, GoesAlong, is_in}
+use Rattle.feature_core.specs.Walks.{Content, Way, Call, IsWay, has_half, has_gate, has_turn, is_gated, Reach, was_made, was_accepted, is_of, is_half, IsDue, is_in}
 use Rattle.feature_core.specs.declared.engine.Step.{Step}
 use Rattle.feature_core.specs.declared.engine.StepReason.{StepReason}
 use Rattle.feature_core.specs.declared.engine.StepReason.TheVariants.{Initial, Edge, Offer}
 use Rattle.std.proofs.lemmas.Option.{slice_get_within}
 use Rattle.std.proofs.lemmas.List.{take-append-le, map-append, length-map}
 use Rattle.std.proofs.Math.Seq.{take-append_seam}
-use Rattle.std.specs.Prelude.{map}
 use Rattle.feature_core.specs.Explanations.{IsReason, HasReasons, Distinct, nodes_of, refused_of}
-use Rattle.feature_core.specs.WalkProgress.{Findings, noted, refusing, answered, Core, IsAt, Asks, Comes, with_edge}
-use Rattle.feature_core.proofs.Answered.{decide, or_cases, or_left, or_right, and_both, and_intro, clash, is_of_same, is_of_refl, is_half_same, is_half_refl}
+use Rattle.feature_core.specs.WalkProgress.{Findings, noted, answered, Core, IsAt, Asks, Comes, with_edge}
+use Rattle.feature_core.proofs.Answered.{decide, or_cases, or_left, or_right, and_both, and_intro, clash, is_of_same, is_of_refl}
 use Rattle.feature_core.proofs.Reaches.{same_way, reach_more, reach_grows, open_by, open_nobody}
 use Rattle.feature_core.proofs.WayNumbers.{snoc_cases, marked_set, marked_grows, marked_cases, marked_set_is, is_in-append, distinct_more}
 

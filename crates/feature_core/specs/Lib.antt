@@ -1,3 +1,4 @@
 pub mod Walks
 pub mod Explanations
+pub mod Laws
 pub mod WalkProgress

@@ -1,5 +1,5 @@
 -- What holds while a walk is under way.
-use Rattle.std.specs.Prelude.{◌≡◌, ◌+◌, ◌*◌, ℕ, suc, Bool, true, false, List, [], ◌∷◌, ◌++◌, Option, Some, None, slice_get, map, slice_set, IsTrue, IsFalse, ◌&&◌, ◌||◌, ◌==◌, not, ◌<◌, ◌≤◌, if◌then◌else◌, length, count_by, All, vec_len, vec_capacity}
+use Rattle.std.specs.Prelude.{◌≡◌, ◌+◌, ◌*◌, ℕ, Bool, true, false, List, [], ◌∷◌, ◌++◌, Option, Some, None, slice_get, slice_set, IsTrue, IsFalse, ◌&&◌, ◌||◌, ◌==◌, not, ◌<◌, ◌≤◌, if◌then◌else◌, length, count_by, All, vec_len, vec_capacity}
 use Rattle.guppy_support.specs.Bits.{has}
 use Rattle.feature_core.specs.declared.engine.Half.{Half}
 use Rattle.feature_core.specs.declared.engine.Ask.TheVariants as asks

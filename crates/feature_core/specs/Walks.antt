@@ -1,5 +1,5 @@
 -- Walks over edges, some of which are offered before they are followed.
-use Rattle.std.specs.Prelude.{◌≡◌, ◌+◌, ℕ, zero, suc, slice_index_or, if◌then◌else◌, Bool, true, false, List, [], ◌∷◌, Option, Some, None, slice_get, IsTrue, IsFalse, ◌&&◌, ◌||◌, ◌==◌, not, ◌<◌, ◌≤◌, ◌↔◌, ◌⊎◌, length, count_by}
+use Rattle.std.specs.Prelude.{◌≡◌, ℕ, suc, if◌then◌else◌, Bool, true, false, List, [], ◌∷◌, Option, Some, None, slice_get, IsTrue, IsFalse, ◌&&◌, ◌||◌, ◌==◌, ◌<◌, ◌↔◌, count_by}
 use Rattle.feature_core.specs.declared.engine.Half.{Half}
 use Rattle.feature_core.specs.declared.engine.Half.TheVariants.{Full, Required, Optional}
 use Rattle.feature_core.specs.declared.engine.Ask.{Ask}

@@ -9,7 +9,7 @@ ghost use Rattle.feature_core.specs.declared.engine.Half.{Half};
 mod progress;
 
 use guppy_support::IxBitSet;
-use progress::{walk_members, Found};
+use progress::{Found, walk_members};
 use std::alloc::{AllocError, Global};
 
 /// What is offered of a conditional edge: its full link, or a half of a weak edge.

@@ -1,4 +1,4 @@
-use Rattle.std.proofs.Common.{◌≡◌, ◌<◌, ℕ, [], ◌∷◌, List, length, refl, sym, ◌∙◌, ap, subst, arith}
+use Rattle.std.proofs.Common.{◌<◌, ℕ, List, length, sym, ◌∙◌, ap, subst, arith}
 use Rattle.feature_core.specs.WalkProgress.{Findings, findings, noted, IsListed}
 use Rattle.feature_core.specs.declared.engine.StepReason.TheVariants.{Initial}
 use Rattle.feature_core.proofs.WalkLoops.{same_findings}

@@ -1,4 +1,4 @@
-use Rattle.std.proofs.Common.{◌≡◌, ◌<◌, ◌≤◌, ◌+◌, suc, ℕ, Bool, List, ◌&&◌, Some, None, length, refl, sym, ◌∙◌, ap, subst, arith, add-one}
+use Rattle.std.proofs.Common.{◌≡◌, ◌<◌, suc, ℕ, Bool, List, ◌&&◌, Some, None, length, refl, sym, ◌∙◌, ap, subst, arith, add-one}
 use Rattle.std.specs.Prelude.{slice_get, ◌==◌}
 use Rattle.std.proofs.lemmas.Option.{slice_get_within}
 use Rattle.feature_core.specs.Walks.{Content, Way, IsContent, is_gated, releasing, MayAsk}

@@ -1,18 +1,16 @@
-use Rattle.std.proofs.Common.{◌≡◌, ◌<◌, ℕ, Bool, true, false, List, [], ◌∷◌, ◌&&◌, Some, None, length, refl, sym, ◌∙◌, ap, subst, inl, inr, arith}
-use Rattle.std.specs.Prelude.{IsTrue, IsFalse, slice_get, ◌==◌}
+use Rattle.std.proofs.Common.{◌<◌, ℕ, [], ◌&&◌, length, refl, sym, subst, arith}
+use Rattle.std.specs.Prelude.{IsTrue, ◌==◌}
 use Rattle.std.proofs.lemmas.Option.{slice_get_within}
 use Rattle.std.proofs.lemmas.Bool.{eqb-true}
-use Rattle.feature_core.specs.declared.engine.Half.{Half}
-use Rattle.feature_core.specs.declared.engine.Half.TheVariants.{Full, Required, Optional}
+use Rattle.feature_core.specs.declared.engine.Half.TheVariants.{Optional}
 use Rattle.feature_core.specs.declared.engine.Ask.{Ask}
-use Rattle.feature_core.specs.declared.engine.Ask.TheVariants as asks
 use Rattle.guppy_support.specs.Bits.{has}
-use Rattle.feature_core.specs.Walks.{Content, Way, Call, IsWay, has_half, is_gated, GoesAlong, AreOffers, MayAsk, numbers_where, told, taken_of, releasing}
-use Rattle.feature_core.specs.WalkProgress.{Findings, findings, noted, Asks, IsAt, with_edge}
+use Rattle.feature_core.specs.Walks.{Way, has_half, is_gated}
+use Rattle.feature_core.specs.WalkProgress.{findings}
 use Rattle.feature_core.proofs.Answered.{and_both}
 use Rattle.feature_core.proofs.Asking.{seen, unseen, may_after, far_within}
 use Rattle.feature_core.proofs.WalkMoves.{free_weak}
-use Rattle.feature_core.proofs.WalkLoops.{extends_asks, extends_noted, extends_refl, extends_trans, gated_weak}
+use Rattle.feature_core.proofs.WalkLoops.{extends_asks, extends_refl, gated_weak}
 use Rattle.feature_core.proofs.engine.progress.release_one.Goals as goal
 
 -- what was seen, by its parts

@@ -1,14 +1,12 @@
-use Rattle.std.proofs.Common.{◌≡◌, ◌<◌, ℕ, Bool, true, false, List, [], ◌∷◌, Some, None, length, refl, sym, ◌∙◌, ap, subst, inl, inr, arith}
-use Rattle.std.specs.Prelude.{IsTrue, IsFalse, slice_get, ◌==◌}
+use Rattle.std.proofs.Common.{◌<◌, ℕ, true, [], length, refl, sym, ◌∙◌, ap, subst, arith}
+use Rattle.std.specs.Prelude.{IsTrue, ◌==◌}
 use Rattle.std.proofs.lemmas.Option.{slice_get_within}
 use Rattle.std.proofs.lemmas.Bool.{eqb-true}
-use Rattle.feature_core.specs.declared.engine.Half.{Half}
 use Rattle.feature_core.specs.declared.engine.Half.TheVariants.{Full, Required, Optional}
 use Rattle.feature_core.specs.declared.engine.Ask.{Ask}
-use Rattle.feature_core.specs.declared.engine.Ask.TheVariants as asks
 use Rattle.guppy_support.specs.Bits.{has}
-use Rattle.feature_core.specs.Walks.{Content, Way, Call, IsWay, has_half, GoesAlong, AreOffers, MayAsk, numbers_where, told, taken_of, starting}
-use Rattle.feature_core.specs.WalkProgress.{Findings, findings, noted, Asks, IsAt, with_edge, Extends}
+use Rattle.feature_core.specs.Walks.{Way, has_half}
+use Rattle.feature_core.specs.WalkProgress.{Findings, findings, IsAt, with_edge, Extends}
 use Rattle.feature_core.specs.declared.engine.StepReason.TheVariants.{Edge}
 use Rattle.feature_core.proofs.Asking.{seen, unseen, may_after, far_within}
 use Rattle.feature_core.proofs.WalkMoves.{take_nobody, take_full, take_weak}

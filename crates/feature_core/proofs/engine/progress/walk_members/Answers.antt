@@ -1,12 +1,12 @@
-use Rattle.std.proofs.Common.{◌≡◌, ◌<◌, ◌≤◌, ◌+◌, ◌-◌, suc, ℕ, Bool, List, [], ◌∷◌, ◌&&◌, Some, length, take, refl, sym, ◌∙◌, ap, subst, arith, add-one}
+use Rattle.std.proofs.Common.{◌≡◌, ◌<◌, ◌+◌, suc, ℕ, List, Some, length, take, refl, sym, ◌∙◌, ap, subst, arith, add-one}
 use Rattle.std.proofs.lemmas.List.{length-map}
-use Rattle.std.specs.Prelude.{slice_get, slice_index_or, ◌==◌, Vec, vec_len}
+use Rattle.std.specs.Prelude.{slice_get, slice_index_or, ◌==◌, vec_len}
 use Rattle.std.proofs.lemmas.Option.{slice_get_read, slice_get-map}
 use Rattle.std.specs.Option.{option_map}
 use Rattle.guppy_support.specs.Bits.{has}
 use Rattle.feature_core.specs.declared.engine.Step.{Step}
 use Rattle.feature_core.specs.declared.engine.progress.Found.{Found}
-use Rattle.feature_core.specs.Walks.{Content, Way, IsContent, is_gated, starting, releasing, MayAsk}
+use Rattle.feature_core.specs.Walks.{Content, Way, IsContent, starting, releasing, MayAsk}
 use Rattle.feature_core.specs.WalkProgress.{Findings, findings, TakesAll, FreesAll, TakesStopped, FreesStopped, reads_of}
 use Rattle.feature_core.proofs.WalkEnds.{done_more, stopped_taking, stopped_freeing, reads_more, started_none, take_extends, longer, reads_bound, reads_none}
 use Rattle.feature_core.proofs.WalkLoops.{extends_trans, take-length, on_err}
