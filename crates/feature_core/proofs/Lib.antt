@@ -10,6 +10,6 @@ pub mod WalkMoves
 pub mod Asking
 pub mod WalkLoops
 pub mod WalkEnds
-pub mod WithinAll
 pub mod NodeLemmas
 pub mod LabelLemmas
+pub mod ReachLaws

@@ -6,4 +6,6 @@ pub mod Adds
 pub mod Keys
 pub mod Parts
 pub mod Walks
+pub mod Explanations
+pub mod Laws
 pub mod WalkProgress
