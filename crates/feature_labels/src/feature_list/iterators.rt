@@ -200,6 +200,10 @@ impl<'g, 'a> Iterator for NamedFeatures<'g, 'a> {
         }
         None
     }
+
+    fn size_hint(&self) -> (usize, Option<usize>) {
+        (0, Some(self.labels.len()))
+    }
 }
 
 impl<'g, 'a> FusedIterator for NamedFeatures<'g, 'a> {}
@@ -248,6 +252,10 @@ impl<'g, 'a> Iterator for OptionalDeps<'g, 'a> {
             }
         }
         None
+    }
+
+    fn size_hint(&self) -> (usize, Option<usize>) {
+        (0, Some(self.labels.len()))
     }
 }
 
