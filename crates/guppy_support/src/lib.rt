@@ -2,5 +2,8 @@
 #![tactic(auto)]
 
 mod bit_set;
+mod digraph;
+mod pack;
 
 pub use bit_set::{IxBitSet, Ones};
+pub use digraph::{Digraph, DigraphError, Edge};
