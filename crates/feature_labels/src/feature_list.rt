@@ -150,7 +150,7 @@ impl<'g> FeatureList<'g> {
     {
         Ok(FeatureList {
             package: self.package,
-            labels: self.labels.as_slice().to_vec(alloc)?,
+            labels: self.labels().to_vec(alloc)?,
         })
     }
 }

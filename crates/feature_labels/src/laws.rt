@@ -7,7 +7,7 @@ ghost use Rattle.feature_labels.specs.Names.{label_of, label_cmp, id_of, id_cmp,
 use crate::feature_id::FeatureId;
 use crate::feature_label::{FeatureKind, FeatureLabel};
 use std::cmp::Ordering;
-use std::hash::{Hash, Hasher};
+use std::hash::Hash;
 
 /// Two labels are equal where they are of one kind and have one name.
 pub fn label_equality(a: FeatureLabel<'_>, b: FeatureLabel<'_>) -> bool
@@ -23,19 +23,11 @@ pub fn label_order(a: FeatureLabel<'_>, b: FeatureLabel<'_>) -> Ordering
     a.cmp(&b)
 }
 
-/// Equal labels hash alike.
-pub fn label_hash<H: Hasher>(
-    a: FeatureLabel<'_>,
-    b: FeatureLabel<'_>,
-    first: &mut H,
-    second: &mut H,
-)
-    requires labels { label_of a ≡ label_of b }
-    requires states { first.old ≡ second.old }
-    ensures { first.new ≡ second.new }
+/// Equal labels make the same writes to a hasher.
+pub fn label_hash(a: FeatureLabel<'_>, b: FeatureLabel<'_>)
+    ensures { label_of a.entry ≡ label_of b.entry →
+        ⟦<FeatureLabel<'static> as Hash>⟧.hash_input a.entry ≡ ⟦<FeatureLabel<'static> as Hash>⟧.hash_input b.entry }
 {
-    a.hash(first);
-    b.hash(second);
 }
 
 /// The order of labels is total.
@@ -71,14 +63,11 @@ pub fn id_order(a: FeatureId<'_>, b: FeatureId<'_>) -> Ordering
     a.cmp(&b)
 }
 
-/// Equal ids hash alike.
-pub fn id_hash<H: Hasher>(a: FeatureId<'_>, b: FeatureId<'_>, first: &mut H, second: &mut H)
-    requires ids { id_of a ≡ id_of b }
-    requires states { first.old ≡ second.old }
-    ensures { first.new ≡ second.new }
+/// Equal ids make the same writes to a hasher.
+pub fn id_hash(a: FeatureId<'_>, b: FeatureId<'_>)
+    ensures { id_of a.entry ≡ id_of b.entry →
+        ⟦<FeatureId<'static> as Hash>⟧.hash_input a.entry ≡ ⟦<FeatureId<'static> as Hash>⟧.hash_input b.entry }
 {
-    a.hash(first);
-    b.hash(second);
 }
 
 /// The order of ids is total.
