@@ -9,3 +9,5 @@ pub mod Walks
 pub mod Explanations
 pub mod Laws
 pub mod WalkProgress
+pub mod Errors
+pub mod Built
