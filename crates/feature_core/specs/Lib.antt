@@ -11,3 +11,4 @@ pub mod Laws
 pub mod WalkProgress
 pub mod Errors
 pub mod Built
+pub mod NamedLinks

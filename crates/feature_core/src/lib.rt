@@ -1,11 +1,13 @@
 //! The feature graph of package tables, and walks over it.
 #![tactic(auto)]
 
+mod candidates;
 mod data;
 pub mod engine;
 mod error;
 mod key;
 pub mod laws;
+mod named_links;
 mod nodes;
 mod numbers;
 mod walk;
