@@ -234,3 +234,16 @@ place_fits t p k table few is l = let b = node_below t p k table is l in omega (
 -- the tables of a package, where its graph is known
 pub package_there : (t g : Tables) (p : ℕ) (table : PackageTable) → g ≡ t → slice_get g.packages p ≡ Some table → IsPackage t p table
 package_there t g p table e h = subst (λ z. slice_get z.packages p ≡ Some table) e h
+
+-- the nodes of a package end no later than all nodes
+pub labels_total : (t : Tables) (p : ℕ) (table : PackageTable) → length (node_places t) < 2 ^ 64 → IsPackage t p table → first_node t p + length (labels_of table) < 2 ^ 64
+labels_total t p table few is =
+    let l : length (labels_of table) ≡ 1 + length table.features + length table.optional_names = length_labels table in
+    let b = node_below t p (length table.features + length table.optional_names) table is (omega arith) in
+    omega (arith, b, few)
+
+pub labels_counted : (table : PackageTable) (features names : ℕ) → features ≡ length table.features → names ≡ length table.optional_names → 1 + features + names ≡ length (labels_of table)
+labels_counted table features names f n = omega (arith, length_labels table)
+
+pub feature_below : (table : PackageTable) (k : ℕ) → k < length table.features → 1 + k < length (labels_of table)
+feature_below table k l = omega (arith, length_labels table)

@@ -15,3 +15,4 @@ pub mod LabelLemmas
 pub mod ReachLaws
 pub mod NameLemmas
 pub mod GroupedLinks
+pub mod PushLemmas

@@ -1,5 +1,6 @@
 //! The candidates for edges, as keys, part by part of the tables.
-ghost use Rattle.std.specs.Prelude.{◌≡◌, ◌+◌, ◌<◌, ◌^◌, ◌↔◌, ℕ, OnOk, IfOk, IsFalse, Some, length, slice_get};
+ghost use Rattle.std.specs.Prelude.{◌≡◌, ◌+◌, ◌<◌, ◌^◌, ◌↔◌, ◌&&◌, if◌then◌else◌, ℕ, OnOk, IfOk, IsFalse, Some, length, slice_get};
+ghost use Rattle.std.specs.List.{list_any};
 ghost use Rattle.guppy_packages.specs.Tables.{LinkTable};
 ghost use Rattle.feature_labels.specs.declared.link_declarations.LinkDeclarations.TheVariants.{Optional};
 ghost use Rattle.feature_core.specs.Links.{IsLink, has_declaration};
@@ -11,7 +12,7 @@ ghost use Rattle.feature_labels.specs.Names.LabelName.{base, named, optional};
 ghost use Rattle.feature_core.specs.Adds.{Adds, Below};
 ghost use Rattle.feature_core.specs.Nodes.{NodeAt, first_node, labels_of};
 ghost use Rattle.feature_core.specs.NamedLinks.{AreNamedLinks};
-ghost use Rattle.feature_core.specs.Parts.{key, IsToFirst, IsOverLink, start_of, IsOver, IsBeside, IsOfItem, IsOfItemAt, IsOfFeatureAt, IsOfPackageAt, IsRequest, IsOfDeclarationAt, IsOfLinkAt, IsOfTables};
+ghost use Rattle.feature_core.specs.Parts.{key, over_rank, IsToFirst, IsOverLink, start_of, IsOver, IsBeside, IsOfItem, IsOfItemAt, IsOfFeatureAt, IsOfPackageAt, IsRequest, IsOfDeclarationAt, IsOfLinkAt, IsOfTables};
 
 use crate::key::Key;
 use crate::named_links::{LinkGroups, named_links, numbers_of};
@@ -44,7 +45,8 @@ fn push_to(
 
 /// Adds a key from each node of a package past the first to the first.
 fn push_to_first(keys: &mut Vec<Key>, first: usize, count: usize) -> Result<(), AllocError>
-    requires { first + count < 2 ^ 64 }
+    requires some { 0 < count }
+    requires fits { first + count < 2 ^ 64 }
     ensures { OnOk result (Adds (Below count (IsToFirst first)) keys.old.items keys.new.items) }
 {
     for place in 1..count {
@@ -53,11 +55,25 @@ fn push_to_first(keys: &mut Vec<Key>, first: usize, count: usize) -> Result<(), 
     Ok(())
 }
 
-/// Whether a declaration of the link is optional.
-fn has_optional(link: PackageLink<'_>) -> bool
-    ensures { result ≡ has_declaration Optional (link_table_of link.entry) }
+/// Whether a declaration is optional.
+fn is_any_optional(declarations: &[Declaration]) -> bool
+    ensures { result ≡ list_any (λ d. (declared d).optional) declarations.now }
 {
-    link.declarations().iter().any(|declaration| declaration.optional())
+    declarations.iter().any(|declaration| declaration.optional())
+}
+
+/// The rank of an edge over a link, where the item is weak or not and a declaration of the link is optional or none is.
+fn slash_rank(weak: bool, optional: bool) -> u8
+    ensures { result ≡ (if weak && optional then 6 else 4) }
+{
+    if weak && optional { 6 } else { 4 }
+}
+
+/// The rank of an edge over a link, where the item is weak or not.
+fn rank_over(link: PackageLink<'_>, weak: bool) -> u8
+    ensures { result ≡ over_rank weak (link_table_of link.entry) }
+{
+    slash_rank(weak, is_any_optional(link.declarations()))
 }
 
 /// Adds a key to the feature of a link's target, where it has the feature.
@@ -73,8 +89,9 @@ fn push_over_link(
     ensures { OnOk result (Adds (IsOverLink numbers.entry.graph.now from feature.now weak ix) keys.old.items keys.new.items) }
 {
     let link = numbers.graph.link(ix);
-    let rank = if weak && has_optional(link) { 6 } else { 4 };
-    push_to(keys, from, numbers.named(link.to(), feature), rank, ix, 0)
+    let to = numbers.named(link.to(), feature);
+    push_to(keys, from, to, rank_over(link, weak), ix, 0)?;
+    Ok(())
 }
 
 /// Adds a key to the feature of each target of a package's links under a name.
@@ -139,7 +156,8 @@ fn push_item(
             Ok(())
         }
         NamedFeatureDep::OptionalDependency(name) => {
-            push_to(keys, from, numbers.optional(metadata, name), 3, 0, 0)
+            push_to(keys, from, numbers.optional(metadata, name), 3, 0, 0)?;
+            Ok(())
         }
         NamedFeatureDep::DependencyNamedFeature {
             dep_name,
@@ -205,62 +223,24 @@ fn push_package(
     requires links { AreNamedLinks numbers.graph.now groups.now }
     ensures { OnOk result (Adds (IsOfPackageAt numbers.entry.graph.now metadata.entry.package_ix) keys.old.items keys.new.items) }
 {
+    let _ix = metadata.package_ix();
     push_to_first(keys, numbers.base(metadata), numbers.node_count(metadata))?;
     push_features(keys, numbers, groups, metadata)?;
     Ok(())
 }
 
-/// Adds the keys of what a declaration requests of a package.
-fn push_requests(
+/// Adds the keys of all packages.
+fn push_packages(
     keys: &mut Vec<Key>,
     numbers: Numbers<'_>,
-    metadata: PackageMetadata<'_>,
-    from: usize,
-    link: usize,
-    place: usize,
-    declaration: &Declaration,
+    groups: &LinkGroups<'_>,
 ) -> Result<(), AllocError>
-    requires { package_graph_of metadata ≡ numbers.graph.now }
-    ensures { OnOk result (Adds (IsRequest numbers.entry.graph.now from metadata.entry.package_ix link place (declared declaration.now)) keys.old.items keys.new.items) }
+    requires { AreNamedLinks numbers.graph.now groups.now }
+    ensures { OnOk result (Adds (λ x. (p : ℕ) × IsOfPackageAt numbers.entry.graph.now p x) keys.old.items keys.new.items) }
 {
-    push_to(keys, from, Some(numbers.base(metadata)), 7, link, place)?;
-    if declaration.default_features() {
-        push_to(keys, from, numbers.named(metadata, "default"), 7, link, place)?;
-    }
-    let names = declaration.features();
-    for ix in 0..names.len() {
-        push_to(keys, from, numbers.named(metadata, names[ix].as_str()), 7, link, place)?;
+    for ix in 0..numbers.graph.package_count() {
+        push_package(keys, numbers, groups, numbers.graph.package(ix))?;
     }
     Ok(())
 }
 
-/// The node that a declaration of a link starts from.
-fn start<'g>(numbers: Numbers<'g>, link: PackageLink<'g>, declaration: &Declaration) -> Option<usize>
-    requires { link_graph_of link ≡ numbers.graph.now }
-    ensures { (n : ℕ) → (result ≡ Some n) ↔ NodeAt numbers.entry.graph.now n (link_table_of link.entry).from (start_of (link_table_of link.entry) (declared declaration.now)) }
-{
-    if declaration.optional() {
-        numbers.optional(link.from(), link.dep_name())
-    } else {
-        Some(numbers.base(link.from()))
-    }
-}
-
-/// Adds the keys of a declaration of a link.
-fn push_declaration(
-    keys: &mut Vec<Key>,
-    numbers: Numbers<'_>,
-    ix: usize,
-    place: usize,
-) -> Result<(), AllocError>
-    requires place { (link : LinkTable) → slice_get numbers.graph.now.links ix ≡ Some link → place < length link.declarations }
-    requires link { ix < length numbers.graph.now.links }
-    ensures { OnOk result (Adds (λ x. (link : LinkTable) × IsLink numbers.entry.graph.now ix link × IsOfDeclarationAt numbers.entry.graph.now ix link place x) keys.old.items keys.new.items) }
-{
-    let link = numbers.graph.link(ix);
-    let declaration = &link.declarations()[place];
-    let Some(from) = start(numbers, link, declaration) else {
-        return Ok(());
-    };
-    push_requests(keys, numbers, link.to(), from, ix, place, declaration)
-}
