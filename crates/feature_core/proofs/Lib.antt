@@ -13,3 +13,4 @@ pub mod WalkEnds
 pub mod NodeLemmas
 pub mod LabelLemmas
 pub mod ReachLaws
+pub mod OpenWays

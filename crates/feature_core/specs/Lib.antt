@@ -9,3 +9,4 @@ pub mod Walks
 pub mod Explanations
 pub mod Laws
 pub mod WalkProgress
+pub mod Ends

@@ -6,3 +6,4 @@ mod key;
 pub mod laws;
 mod nodes;
 mod numbers;
+mod reach;
