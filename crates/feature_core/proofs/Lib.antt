@@ -14,3 +14,4 @@ pub mod NodeLemmas
 pub mod LabelLemmas
 pub mod ReachLaws
 pub mod OpenWays
+pub mod NameLemmas

@@ -10,3 +10,5 @@ pub mod Explanations
 pub mod Laws
 pub mod WalkProgress
 pub mod Ends
+pub mod Errors
+pub mod Built
