@@ -13,5 +13,5 @@ pub mod WalkEnds
 pub mod NodeLemmas
 pub mod LabelLemmas
 pub mod ReachLaws
-pub mod OpenWays
+pub mod OpenWayLemmas
 pub mod NameLemmas

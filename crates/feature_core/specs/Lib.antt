@@ -9,6 +9,6 @@ pub mod Walks
 pub mod Explanations
 pub mod Laws
 pub mod WalkProgress
-pub mod Ends
+pub mod OpenWays
 pub mod Errors
 pub mod Built

@@ -4,7 +4,8 @@ ghost use Rattle.guppy_support.specs.Bits.{has};
 ghost use Rattle.feature_core.specs.declared.engine.Half.{Half};
 ghost use Rattle.feature_core.specs.Walks.{Content, starting};
 ghost use Rattle.feature_core.specs.Pairs.{PairLeads, ReachAlong};
-ghost use Rattle.feature_core.specs.Ends.{pairs_of, open_way, open_ways};
+ghost use Rattle.feature_core.specs.Built.{pairs_of};
+ghost use Rattle.feature_core.specs.OpenWays.{open_way, open_ways};
 
 use crate::engine::{Ask, EdgeSource, Half, Offerer, Taken, Walk, walk_over};
 use guppy_packages::DependencyDirection;

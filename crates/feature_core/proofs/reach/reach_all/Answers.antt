@@ -1,6 +1,6 @@
 use Rattle.guppy_support.specs.Bits.{has}
 use Rattle.feature_core.specs.Walks.{was_accepted}
-use Rattle.feature_core.proofs.OpenWays.{reach_pairs}
+use Rattle.feature_core.proofs.OpenWayLemmas.{reach_pairs}
 use Rattle.feature_core.proofs.reach.reach_all.Goals as goal
 
 pub returns-clause-members : goal.returns-clause-members

@@ -1,4 +1,4 @@
-use Rattle.feature_core.proofs.OpenWays.{ends_are_nodes}
+use Rattle.feature_core.proofs.OpenWayLemmas.{ends_are_nodes}
 use Rattle.feature_core.proofs.reach.AllEdgesEdgeSource.edge_count.Goals as goal
 
 pub returns-clause-nodes : goal.returns-clause-nodes

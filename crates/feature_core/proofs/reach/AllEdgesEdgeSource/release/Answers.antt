@@ -1,8 +1,8 @@
 use Rattle.std.proofs.Common.{ℕ, List, ap, sym}
 use Rattle.std.specs.Prelude.{slice_get}
 use Rattle.feature_core.specs.Walks.{told}
-use Rattle.feature_core.specs.Ends.{open_ways}
-use Rattle.feature_core.proofs.OpenWays.{none_gated}
+use Rattle.feature_core.specs.OpenWays.{open_ways}
+use Rattle.feature_core.proofs.OpenWayLemmas.{none_gated}
 use Rattle.feature_core.proofs.reach.AllEdgesEdgeSource.release.Goals as goal
 
 pub returns-clause-taken : goal.returns-clause-taken

@@ -3,8 +3,8 @@ use Rattle.std.specs.Prelude.{slice_get}
 use Rattle.feature_core.specs.declared.engine.Taken.{Taken}
 use Rattle.feature_core.specs.declared.engine.Ask.TheVariants.{Nobody}
 use Rattle.feature_core.specs.Walks.{starting, told}
-use Rattle.feature_core.specs.Ends.{open_ways}
-use Rattle.feature_core.proofs.OpenWays.{number_read, starting_edge, told_edge}
+use Rattle.feature_core.specs.OpenWays.{open_ways}
+use Rattle.feature_core.proofs.OpenWayLemmas.{number_read, starting_edge, told_edge}
 use Rattle.feature_core.proofs.reach.AllEdgesEdgeSource.take.Goals as goal
 
 pub edge-requires : goal.edge-requires

@@ -1,14 +1,11 @@
--- The edges of a digraph by their ends: as pairs of nodes, and as ways that are open to all.
-use Rattle.std.specs.Prelude.{ℕ, List, map}
+-- The edges of a digraph as ways that are open to all.
+use Rattle.std.specs.Prelude.{map}
 use Rattle.guppy_support.specs.declared.digraph.Edge.{Edge}
 use Rattle.guppy_support.specs.Graph.{Graph}
 use Rattle.guppy_packages.specs.declared.direction.DependencyDirection.{DependencyDirection}
 use Rattle.guppy_packages.specs.declared.direction.DependencyDirection.TheVariants.{Forward, Reverse}
 use Rattle.feature_core.specs.declared.engine.Ask.TheVariants.{Nobody}
 use Rattle.feature_core.specs.Walks.{Way, Content}
-
-abbrev pub pairs_of : List Edge → List (ℕ × ℕ)
-pairs_of edges = map (λ e. (e.from, e.to)) edges
 
 -- an edge as the direction follows it, without asking
 abbrev pub open_way : DependencyDirection → Edge → Way

@@ -15,7 +15,8 @@ use Rattle.feature_core.specs.declared.engine.Taken.{Taken}
 use Rattle.feature_core.specs.Walks.{Way, IsWay, IsContent, Reach, numbers_where, starting, told, taken_of, is_gated}
 use Rattle.feature_core.specs.Pairs.{PairLeads, Along, ReachAlong}
 use Rattle.feature_core.specs.Pairs.Along.{nowhere, onward}
-use Rattle.feature_core.specs.Ends.{pairs_of, open_way, open_ways}
+use Rattle.feature_core.specs.Built.{pairs_of}
+use Rattle.feature_core.specs.OpenWays.{open_way, open_ways}
 use Rattle.feature_core.proofs.Answered.{clash}
 use Rattle.feature_core.proofs.Places.{got_map}
 use Rattle.feature_core.proofs.WayNumbers.{number_way}
