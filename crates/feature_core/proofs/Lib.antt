@@ -13,6 +13,7 @@ pub mod WalkEnds
 pub mod NodeLemmas
 pub mod LabelLemmas
 pub mod ReachLaws
+pub mod OpenWayLemmas
 pub mod NameLemmas
 pub mod GroupedLinks
 pub mod PushLemmas

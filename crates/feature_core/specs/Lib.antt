@@ -9,6 +9,7 @@ pub mod Walks
 pub mod Explanations
 pub mod Laws
 pub mod WalkProgress
+pub mod OpenWays
 pub mod Errors
 pub mod Built
 pub mod NamedLinks

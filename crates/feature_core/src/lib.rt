@@ -10,6 +10,7 @@ pub mod laws;
 mod named_links;
 mod nodes;
 mod numbers;
+mod reach;
 mod walk;
 
 pub use data::FeatureGraphData;
