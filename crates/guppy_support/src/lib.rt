@@ -8,6 +8,7 @@ mod marks;
 mod pack;
 mod plan;
 mod queue;
+mod start;
 
 pub use bit_set::{IxBitSet, Ones};
 pub use digraph::{Digraph, DigraphError, Edge};
