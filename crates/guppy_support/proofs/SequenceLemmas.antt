@@ -16,43 +16,9 @@ use Rattle.guppy_support.specs.Rows.{below}
 use Rattle.guppy_support.specs.Finish.{AreApart}
 use Rattle.guppy_support.specs.Ranks.{IsRanking}
 use Rattle.guppy_support.specs.Sequences.{Sequence, IsOrderOf, numbers_of, AreGrouped, rank_at, AreNumbered}
-use Rattle.guppy_support.proofs.Exists.{rank_same, path_node, search_below}
-
--- ---- distinct numbers below a bound
-
-any_at : (xs : List ℕ) (q : ℕ) → list_any (λ x. eqb q x) xs ≡ true → (k : ℕ) × (k < length xs) × (get_or xs k 0 ≡ q)
-any_at [] q h = absurd (let c : true ≡ false = sym h in cc)
-any_at (x ∷ xs) q h =
-    elim (eqb_tells q x) [
-      | inl t ↦ (0, omega arith, sym t.1)
-      | inr t ↦ let h' : list_any (λ x. eqb q x) xs ≡ true = rw t.0 at h in let r = any_at xs q h' in (suc r.0, omega (arith, r.1), r.2)
-    ]
-
-pub apart_short : (xs : List ℕ) (n : ℕ) → AreApart xs → ((i : ℕ) → i < length xs → get_or xs i 0 < n) → length xs ≤ n
-apart_short xs n apart inside =
-    length-le_from_distinct_below xs n
-    (IsDistinct-from_apart eqb xs (λ i j d l h.
-    ne_eqb (get_or xs i d) (get_or xs j d)
-    (λ e. apart i j l h (get_or_default xs i 0 d (omega arith) ∙ e ∙ sym (get_or_default xs j 0 d h)))))
-    (λ q any. let k = any_at xs q any in omega (arith, inside k.0 k.1, k.2))
-
-more_apart : (x : ℕ) (xs : List ℕ) → AreApart xs → ((k : ℕ) → k < length xs → get_or xs k 0 ≢ x) → AreApart (x ∷ xs)
-more_apart x xs apart none zero zero l h = absurd (omega arith)
-more_apart x xs apart none zero (suc j) l h = λ e. none j (omega arith) (sym e)
-more_apart x xs apart none (suc i) zero l h = absurd (omega arith)
-more_apart x xs apart none (suc i) (suc j) l h = apart i j (omega arith) (omega arith)
-
-more_inside : (x n : ℕ) (xs : List ℕ) → x < n → ((i : ℕ) → i < length xs → get_or xs i 0 < n) → (i : ℕ) → i < length (x ∷ xs) → get_or (x ∷ xs) i 0 < n
-more_inside x n xs lx inside zero h = lx
-more_inside x n xs lx inside (suc i) h = inside i (omega arith)
-
--- n distinct numbers below n are all of them
-pub apart_whole : (xs : List ℕ) (n : ℕ) → AreApart xs → ((i : ℕ) → i < length xs → get_or xs i 0 < n) → length xs ≡ n → (v : ℕ) → v < n → (k : ℕ) × (k < length xs) × (get_or xs k 0 ≡ v)
-apart_whole xs n apart inside long v lv =
-    elim (search_below (λ k. get_or xs k 0 ≡ v) (λ k. cases_eq (get_or xs k 0) v) (length xs)) [
-      | inl f ↦ (f.0, f.1, f.2)
-      | inr none ↦ absurd (omega (arith, long, apart_short (v ∷ xs) n (more_apart v xs apart none) (more_inside v n xs lv inside)))
-    ]
+use Rattle.guppy_support.proofs.PackLemmas.{below_step, below-le-length}
+use Rattle.guppy_support.proofs.ApartLemmas.{apart_whole}
+use Rattle.guppy_support.proofs.Exists.{rank_same, path_node}
 
 -- ---- along the order
 
@@ -218,3 +184,115 @@ module _ (g : Graph) (ok : IsDigraph g) (ranks : List ℕ) (r : IsRanking g rank
 
       pub rises_along : (i j : ℕ) → i < j → j < length list → get_or component (get_or list i 0) 0 ≤ get_or component (get_or list j 0) 0
       rises_along i j l h = omega (arith, put i (omega (arith, o.long)), put j (omega (arith, o.long)), number_rises i j (omega arith) (omega (arith, o.long)))
+
+-- ---- numbering one place more
+
+pub numbered_none : (list ranks : List ℕ) → AreNumbered list ranks [] 0
+numbered_none list ranks =
+    record {
+      none = λ e. refl;
+      first = λ h. absurd (omega arith);
+      last = λ i e. absurd (omega arith);
+      stays = λ i h. absurd (omega arith);
+      steps = λ i h. absurd (omega arith);
+    }
+
+pub numbered_more : (list ranks numbers : List ℕ) (count next : ℕ) → AreNumbered list ranks numbers count
+    → (length numbers ≡ 0 → next ≡ count + 1)
+    → ((i : ℕ) → i + 1 ≡ length numbers → rank_at list ranks i ≡ rank_at list ranks (length numbers) → next ≡ count)
+    → ((i : ℕ) → i + 1 ≡ length numbers → rank_at list ranks i ≢ rank_at list ranks (length numbers) → next ≡ count + 1)
+    → AreNumbered list ranks (numbers ++ (next - 1) ∷ []) next
+numbered_more list ranks numbers count next a first stays steps =
+    let n : ℕ = length numbers in
+    let long : length (numbers ++ (next - 1) ∷ []) ≡ n + 1 = omega (arith, length-append numbers ((next - 1) ∷ [])) in
+    let old : (i : ℕ) → i < n → get_or (numbers ++ (next - 1) ∷ []) i 0 ≡ get_or numbers i 0 = λ i h. get_or_append_left numbers ((next - 1) ∷ []) 0 i h in
+    let here : get_or (numbers ++ (next - 1) ∷ []) n 0 ≡ next - 1 = get_or_at numbers (next - 1) [] 0 n refl in
+    let positive : 0 < next =
+    elim (cases_eq n 0) [
+      | inl z ↦ omega (arith, first z)
+      | inr some ↦
+          let before = a.last (n - 1) (omega arith) in
+          elim (cases_eq (rank_at list ranks (n - 1)) (rank_at list ranks n)) [
+            | inl e ↦ omega (arith, before, stays (n - 1) (omega arith) e)
+            | inr ne ↦ omega (arith, before, steps (n - 1) (omega arith) ne)
+          ]
+    ]
+    in
+    record {
+      none = λ e. absurd (omega arith);
+      first = λ h.
+          elim (cases_eq n 0) [
+            | inl z ↦ let at : get_or (numbers ++ (next - 1) ∷ []) 0 0 ≡ next - 1 = rw z at here in omega (arith, at, first z, a.none z)
+            | inr some ↦ old 0 (omega arith) ∙ a.first (omega arith)
+          ];
+      last = λ i e. let is : i ≡ n = omega arith in rw is (omega (arith, here));
+      stays = λ i h e.
+          elim (cases_eq (i + 1) n) [
+            | inr ne ↦ old (i + 1) (omega arith) ∙ a.stays i (omega arith) e ∙ sym (old i (omega arith))
+            | inl is ↦ rw is (omega (arith, here, old i (omega arith), a.last i is, stays i is (rw is at e)))
+          ];
+      steps = λ i h ne.
+          elim (cases_eq (i + 1) n) [
+            | inr other ↦ old (i + 1) (omega arith) ∙ a.steps i (omega arith) ne ∙ ap (λ (k : ℕ). k + 1) (sym (old i (omega arith)))
+            | inl is ↦ rw is (omega (arith, here, old i (omega arith), a.last i is, steps i is (rw is at ne)))
+          ];
+    }
+
+-- one node more has its number
+pub scattered_more : (list numbers numbered : List ℕ) (k x y : ℕ) → k < length list → get_or list k 0 ≡ x → x < length numbered → get_or numbers k 0 ≡ y → AreApart list
+    → ((i : ℕ) → i < k → get_or numbered (get_or list i 0) 0 ≡ get_or numbers i 0)
+    → (i : ℕ) → i < k + 1 → get_or (set numbered x y) (get_or list i 0) 0 ≡ get_or numbers i 0
+scattered_more list numbers numbered k x y h lx inside ny apart before i l =
+    elim (cases_eq i k) [
+      | inl e ↦ rw (e, lx, get_or-set_same numbered x y 0 inside) (sym ny)
+      | inr ne ↦ rw (get_or-set_other numbered x (get_or list i 0) y 0 (λ e. apart i k (omega arith) h (e ∙ sym lx))) (before i (omega arith))
+    ]
+
+-- ---- the nodes of one component
+
+-- where the numbers ascend, those that are c stand together, behind those below c
+pub run_of : (f : ℕ → ℕ) (xs : List ℕ) (c : ℕ) → ((i j : ℕ) → i < j → j < length xs → f (get_or xs i 0) ≤ f (get_or xs j 0))
+    → take (below (c + 1) (map f xs) - below c (map f xs)) (drop (below c (map f xs)) xs) ≡ filter (λ v. eqb (f v) c) xs
+run_of f [] c rising = refl
+run_of f (x ∷ xs) c rising =
+    let rest = run_of f xs c (λ i j l h. rising (suc i) (suc j) (omega arith) (omega arith)) in
+    let above : (i : ℕ) → i < length xs → f x ≤ f (get_or xs i 0) = λ i h. rising 0 (suc i) (omega arith) (omega arith) in
+    elim (cases_order (f x) c) [
+      | inl e ↦
+          let none : below c (map f xs) ≡ 0 = below_none f xs c (λ i h. omega (arith, above i h)) in
+          let rest' : take (below (c + 1) (map f xs) - 0) (drop 0 xs) ≡ filter (λ v. eqb (f v) c) xs = rw none at rest in
+          let z : below (c + 1) (map f xs) - 0 ≡ below (c + 1) (map f xs) = omega arith in
+          let z' : 1 + below (c + 1) (map f xs) - 0 ≡ suc (below (c + 1) (map f xs)) = omega arith in
+          rw (le-ltb (f x) c (omega arith), lt-ltb (f x) (c + 1) (omega arith), eq-eqb (f x) c e, none, z') (ap (λ (l : List ℕ). x ∷ l) (rw z at rest'))
+      | inr r ↦
+          elim r [
+            | inl less ↦
+                let z : 1 + below (c + 1) (map f xs) - (1 + below c (map f xs)) ≡ below (c + 1) (map f xs) - below c (map f xs) = omega arith in
+                let s : 1 + below c (map f xs) ≡ suc (below c (map f xs)) = omega arith in
+                rw (lt-ltb (f x) c less, lt-ltb (f x) (c + 1) (omega arith), ne_eqb (f x) c (λ e. omega arith), z, s) rest
+            | inr more ↦
+                rw (le-ltb (f x) c (omega arith), le-ltb (f x) (c + 1) (omega arith), ne_eqb (f x) c (λ e. omega arith)) (step (below c (map f xs)) (below (c + 1) (map f xs))
+                (below_none f xs c (λ i h. omega (arith, above i h))) (below_none f xs (c + 1) (λ i h. omega (arith, above i h))) rest)
+          ]
+    ]
+  where
+    below_none : (f : ℕ → ℕ) (xs : List ℕ) (c : ℕ) → ((i : ℕ) → i < length xs → c ≤ f (get_or xs i 0)) → below c (map f xs) ≡ 0
+    below_none f [] c h = refl
+    below_none f (x ∷ xs) c h = rw (le-ltb (f x) c (h 0 (omega arith))) (omega (arith, below_none f xs c (λ i l. h (suc i) (omega arith))))
+
+    step : (a b : ℕ) → a ≡ 0 → b ≡ 0 → take (b - a) (drop a xs) ≡ filter (λ v. eqb (f v) c) xs → take (0 + b - (0 + a)) (drop (0 + a) (x ∷ xs)) ≡ filter (λ v. eqb (f v) c) xs
+    step a b za zb e = rw (za, zb) (rw (za, zb) at e)
+
+-- where the numbers ascend along the list, counting those below each number groups it
+pub grouped : (count : ℕ) (list component numbers begins : List ℕ) → numbers_of list component ≡ numbers
+    → ((i j : ℕ) → i < j → j < length list → get_or component (get_or list i 0) 0 ≤ get_or component (get_or list j 0) 0)
+    → length begins ≡ count + 1 → ((c : ℕ) → c ≤ count → get_or begins c 0 ≡ below c numbers) → AreGrouped count list component begins
+grouped count list component numbers begins are rising long begin =
+    let f : ℕ → ℕ = λ v. get_or component v 0 in
+    let at : (c : ℕ) → c ≤ count → get_or begins c 0 ≡ below c (map f list) = λ c h. begin c h ∙ ap (λ (ns : List ℕ). below c ns) (sym are) in
+    record {
+      long = long;
+      rising = λ c h. omega (arith, at c (omega arith), at (c + 1) (omega arith), below_step c (c + 1) (map f list) (omega arith));
+      within = λ c h. omega (arith, at c h, below-le-length c (map f list), length-map list f);
+      run = λ c h. rw (at c (omega arith), at (c + 1) (omega arith)) (run_of f list c rising);
+    }

@@ -1,9 +1,8 @@
 -- What an order says: the list T, the component of each node, and how many components there are.
-use Rattle.std.specs.Prelude.{◌≡◌, ◌≢◌, ℕ, ◌+◌, ◌-◌, ◌<◌, ◌≤◌, List, length, map, slice_index}
+use Rattle.std.specs.Prelude.{◌≡◌, ◌≢◌, ℕ, ◌+◌, ◌-◌, ◌<◌, ◌≤◌, ◌==◌, List, length, map, filter, slice_index, slice_range}
 use Rattle.guppy_support.specs.Paths.{SameComponent}
 use Rattle.guppy_support.specs.Graph.{Graph}
 use Rattle.guppy_support.specs.Orders.{IsOrder}
-use Rattle.guppy_support.specs.Rows.{below}
 
 pub record Sequence : Type 0 where
   pub list : List ℕ
@@ -27,11 +26,12 @@ pub record IsOrderOf (g : Graph) (o : Sequence) : Type 0 where
 abbrev pub numbers_of : List ℕ → List ℕ → List ℕ
 numbers_of list component = map (λ v. slice_index component v) list
 
--- the components lie together in the list, and that of number c begins at place c of `begins`
-pub record AreGrouped (list component begins : List ℕ) : Type 0 where
-  pub some : 0 < length begins
-  pub begin : (c : ℕ) → c < length begins → slice_index begins c ≡ below c (numbers_of list component)
-  pub rising : (i j : ℕ) → i < j → j < length list → slice_index component (slice_index list i) ≤ slice_index component (slice_index list j)
+-- the components lie together in the list: that of number c stands from place c of `begins` up to the next
+pub record AreGrouped (count : ℕ) (list component begins : List ℕ) : Type 0 where
+  pub long : length begins ≡ count + 1
+  pub rising : (c : ℕ) → c < count → slice_index begins c ≤ slice_index begins (c + 1)
+  pub within : (c : ℕ) → c ≤ count → slice_index begins c ≤ length list
+  pub run : (c : ℕ) → c < count → slice_range list (slice_index begins c) (slice_index begins (c + 1)) ≡ filter (λ v. slice_index component v == c) list
 
 -- the rank of the node at place i
 abbrev pub rank_at : List ℕ → List ℕ → ℕ → ℕ

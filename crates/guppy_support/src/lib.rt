@@ -5,6 +5,7 @@ mod bit_set;
 mod digraph;
 mod finish;
 mod marks;
+mod order;
 mod pack;
 mod plan;
 mod queue;
@@ -12,3 +13,4 @@ mod start;
 
 pub use bit_set::{IxBitSet, Ones};
 pub use digraph::{Digraph, DigraphError, Edge};
+pub use order::Order;
