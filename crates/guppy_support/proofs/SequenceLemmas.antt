@@ -17,27 +17,13 @@ use Rattle.guppy_support.specs.Finish.{AreApart}
 use Rattle.guppy_support.specs.Ranks.{IsRanking}
 use Rattle.guppy_support.specs.Sequences.{Sequence, IsOrderOf, numbers_of, AreGrouped, rank_at, AreNumbered}
 use Rattle.guppy_support.proofs.PackLemmas.{below_step, below-le-length}
+use Rattle.guppy_support.proofs.OrderLemmas.{listed_before, order_below, order_apart}
 use Rattle.guppy_support.proofs.ApartLemmas.{apart_whole}
 use Rattle.guppy_support.proofs.Exists.{rank_same, path_node}
 
 -- ---- along the order
 
 module _ (g : Graph) (ok : IsDigraph g) (ranks : List ℕ) (r : IsRanking g ranks) (list : List ℕ) (o : IsOrder g.edges g.nodes list) where
-  listed_before : (i j : ℕ) → i < j → j < g.nodes → Contains (take j list) (get_or list i 0)
-  listed_before i j l h =
-      let few : i < length (take j list) = omega (arith, length-take j list, o.long) in
-      let read : get_or (take j list) i 0 ≡ get_or list i 0 = get_or-take j list i 0 l in
-      rw read at (Contains-get_or (take j list) i 0 few)
-
-  pub order_below : (i : ℕ) → i < g.nodes → get_or list i 0 < g.nodes
-  order_below i h = (o.next i h).available.node
-
-  pub order_apart : AreApart list
-  order_apart i j l h =
-      λ e.
-      let hn : j < g.nodes = omega (arith, o.long) in
-      (o.next j hn).available.fresh (rw e at (listed_before i j l hn))
-
   -- between two nodes of one component stand nodes of it alone
   pub together : (i k j : ℕ) → i < k → k < j → j < g.nodes → rank_at list ranks i ≡ rank_at list ranks j → rank_at list ranks i ≡ rank_at list ranks k
   together i k j lk lj h same =
@@ -47,15 +33,15 @@ module _ (g : Graph) (ok : IsDigraph g) (ranks : List ℕ) (r : IsRanking g rank
         | inl e ↦ e
         | inr ne ↦
             absurd (
-            let there = (o.next k hk).available.whole (get_or list i 0) (get_or list j 0) (listed_before i k lk hk)
-            (r.same (get_or list i 0) (get_or list j 0) (order_below i hi) (order_below j h) same)
+            let there = (o.next k hk).available.whole (get_or list i 0) (get_or list j 0) (listed_before o i k lk hk)
+            (r.same (get_or list i 0) (get_or list j 0) (order_below o i hi) (order_below o j h) same)
             (λ s. ne (rank_same g ok ranks r s)) in
             let place = there.0 in
             let few : place < k = omega (arith, there.1, length-take k list) in
             let read : get_or list place 0 ≡ get_or list j 0 =
             sym (get_or-take k list place 0 few) ∙ get_or_default (take k list) place 0 (get_or list j 0) there.1 ∙ there.2
             in
-            order_apart place j (omega arith) (omega (arith, o.long)) read)
+            order_apart o place j (omega arith) (omega (arith, o.long)) read)
       ]
 
   module _ (numbers : List ℕ) (count : ℕ) (a : AreNumbered list ranks numbers count) (all : length numbers ≡ g.nodes) where
@@ -146,7 +132,7 @@ module _ (g : Graph) (ok : IsDigraph g) (ranks : List ℕ) (r : IsRanking g rank
     module _ (component : List ℕ) (long : length component ≡ g.nodes) (put : (i : ℕ) → i < g.nodes → get_or component (get_or list i 0) 0 ≡ get_or numbers i 0) where
       place_of : (v : ℕ) → v < g.nodes → (k : ℕ) × (k < g.nodes) × (get_or list k 0 ≡ v)
       place_of v h =
-          let p = apart_whole list g.nodes order_apart (λ i l. order_below i (omega (arith, o.long))) o.long v h in
+          let p = apart_whole list g.nodes (order_apart o) (λ i l. order_below o i (omega (arith, o.long))) o.long v h in
           (p.0, omega (arith, p.1, o.long), p.2)
 
       number_of : (v : ℕ) (h : v < g.nodes) → get_or component v 0 ≡ get_or numbers (place_of v h).0 0
@@ -171,7 +157,7 @@ module _ (g : Graph) (ok : IsDigraph g) (ranks : List ℕ) (r : IsRanking g rank
                 number_of x hx ∙ same_number px.0 py.0 px.1 py.1 (rank_of x hx ∙ rank_same g ok ranks r s ∙ sym (rank_of y hy)) ∙ sym (number_of y hy);
             rising = λ i j l h. omega (arith, put i (omega arith), put j h, number_rises i j (omega arith) h);
             below = λ v h. let p = place_of v h in omega (arith, number_of v h, number_below p.0 p.1);
-            each = λ c h. let f = number_each c h in (get_or list f.0 0, order_below f.0 f.1, put f.0 f.1 ∙ f.2);
+            each = λ c h. let f = number_each c h in (get_or list f.0 0, order_below o f.0 f.1, put f.0 f.1 ∙ f.2);
           }
 
       pub numbers_are : numbers_of list component ≡ numbers

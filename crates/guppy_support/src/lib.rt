@@ -4,6 +4,7 @@
 mod bit_set;
 mod digraph;
 mod finish;
+pub mod laws;
 mod marks;
 mod order;
 mod pack;
@@ -14,3 +15,6 @@ mod start;
 pub use bit_set::{IxBitSet, Ones};
 pub use digraph::{Digraph, DigraphError, Edge};
 pub use order::Order;
+
+#[cfg(test)]
+mod tests;
