@@ -1,7 +1,7 @@
 use Rattle.std.proofs.Common.{rules, ◌≡◌, ◌≢◌, ◌<◌, ◌^◌, ℕ, get_or, length, arith, sym}
 use Rattle.std.proofs.lemmas.List.{get_or_read}
 use Rattle.guppy_support.proofs.FirstLemmas.{room, entering_add}
-use Rattle.guppy_support.proofs.plan.add_entering.Goals as goal
+use Rattle.guppy_support.proofs.start.add_entering.Goals as goal
 
 pub overflow_add-index_mut : goal.overflow_add-index_mut
 overflow_add-index_mut c =

@@ -1,6 +1,6 @@
 use Rattle.std.proofs.Common.{◌≡◌, ℕ}
 use Rattle.guppy_support.proofs.FirstLemmas.{firsts_more}
-use Rattle.guppy_support.proofs.plan.add_start.Goals as goal
+use Rattle.guppy_support.proofs.start.add_start.Goals as goal
 
 pub returns : goal.returns
 returns c =

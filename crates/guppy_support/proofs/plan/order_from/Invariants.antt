@@ -1,6 +1,6 @@
 use Rattle.std.proofs.Common.{◌-◌, ℕ, length}
 use Rattle.guppy_support.specs.Plans.{IsPauseIn}
-use Rattle.guppy_support.proofs.plan.order.Given as goal
+use Rattle.guppy_support.proofs.plan.order_from.Given as goal
 
 abbrev pub invariant-loop-plan : goal.invariant-loop-plan
 invariant-loop-plan l = record { pause : IsPauseIn l.graph l.ranks l.plan }
