@@ -7,3 +7,4 @@ pub mod Asking
 pub mod WalkLoops
 pub mod WalkEnds
 pub mod ReachLaws
+pub mod Listed

@@ -1,4 +1,5 @@
 pub mod Walks
 pub mod Explanations
 pub mod Laws
+pub mod Listed
 pub mod WalkProgress
