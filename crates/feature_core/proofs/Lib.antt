@@ -1,3 +1,7 @@
+pub mod Places
+pub mod AddsLemmas
+pub mod PartLemmas
+pub mod LeastKeys
 pub mod Answered
 pub mod Reaches
 pub mod Runs
@@ -6,5 +10,7 @@ pub mod WalkMoves
 pub mod Asking
 pub mod WalkLoops
 pub mod WalkEnds
+pub mod NodeLemmas
+pub mod LabelLemmas
 pub mod ReachLaws
 pub mod Listed

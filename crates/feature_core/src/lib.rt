@@ -2,4 +2,7 @@
 #![tactic(auto)]
 
 pub mod engine;
+mod key;
 pub mod laws;
+mod nodes;
+mod numbers;

@@ -1,0 +1,5 @@
+pub mod Derived
+pub mod Listed
+pub mod Made
+pub mod Searched
+pub mod Texts
