@@ -17,3 +17,4 @@ pub mod OpenWayLemmas
 pub mod NameLemmas
 pub mod GroupedLinks
 pub mod PushLemmas
+pub mod Listed
