@@ -18,3 +18,5 @@ pub mod NameLemmas
 pub mod GroupedLinks
 pub mod PushLemmas
 pub mod Listed
+pub mod PairLemmas
+pub mod RequestLemmas

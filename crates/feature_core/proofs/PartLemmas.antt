@@ -71,7 +71,7 @@ feature_back t n p name h = let s = node_back t n p (named name) h in go s s.pla
         absurd (kinds_apart m.0 name m.2))
         (get_cases (map (λ f. named f.name) s.row.features) (map (λ d. optional d) s.row.optional_names) k (named name) at)
 
-list_any_there : {X : Type 0} (p : X → Bool) (xs : List X) (k : ℕ) (x : X) → slice_get xs k ≡ Some x → IsTrue (p x) → IsTrue (list_any p xs)
+pub list_any_there : {X : Type 0} (p : X → Bool) (xs : List X) (k : ℕ) (x : X) → slice_get xs k ≡ Some x → IsTrue (p x) → IsTrue (list_any p xs)
 list_any_there p [] k x h i = cc
 list_any_there p (y ∷ ys) zero x h i =
     let e : y ≡ x = cc in
@@ -82,16 +82,16 @@ list_any_there p (y ∷ ys) (suc k) x h i = rw (list_any_there p ys k x h i) (or
     or_true true = refl
     or_true false = refl
 
-record IsPassing {X : Type 0} (p : X → Bool) (xs : List X) : Type 0 where
-  place : ℕ
-  element : X
-  there : slice_get xs place ≡ Some element
-  passes : IsTrue (p element)
+pub record IsPassing {X : Type 0} (p : X → Bool) (xs : List X) : Type 0 where
+  pub place : ℕ
+  pub element : X
+  pub there : slice_get xs place ≡ Some element
+  pub passes : IsTrue (p element)
 
 passing_later : {X : Type 0} (p : X → Bool) (y : X) (ys : List X) → IsPassing p ys → IsPassing p (y ∷ ys)
 passing_later p y ys h = record { place = suc h.place; element = h.element; there = h.there; passes = h.passes }
 
-list_any_back : {X : Type 0} (p : X → Bool) (xs : List X) → IsTrue (list_any p xs) → IsPassing p xs
+pub list_any_back : {X : Type 0} (p : X → Bool) (xs : List X) → IsTrue (list_any p xs) → IsPassing p xs
 list_any_back p [] h = cc
 list_any_back p (y ∷ ys) h = go (p y) refl h (λ i. list_any_back p ys i)
   where

@@ -16,7 +16,7 @@ use Rattle.feature_core.specs.Links.{IsPackage, IsLink, numbered, links_named, h
 use Rattle.feature_core.specs.NamedLinks.{link_numbers}
 use Rattle.feature_core.specs.Nodes.{NodeAt, first_node, labels_of}
 use Rattle.feature_core.specs.declared.key.Key.{Key}
-use Rattle.feature_core.specs.Parts.{key, over_rank, IsToFirst, IsTo, IsOver, IsOverLink, IsBeside, IsOfItem, IsOfItemAt, IsOfFeatureAt, IsOfPackageAt}
+use Rattle.feature_core.specs.Parts.{key, over_rank, IsToFirst, IsTo, IsOver, IsOverLink, IsBeside, IsOfItem, IsOfItemAt, IsOfFeatureAt, IsOfPackageAt, IsOfLinkAt, IsOfTables}
 use Rattle.feature_core.proofs.AddsLemmas.{Adds-nothing, Adds-then, Adds-as, Adds-turn, Adds-start, place_of_element, element_at_place, place_below, Contains-first, Contains-later, Contains-cases, Contains-none}
 
 -- a key to the node of a label, where its number is told
@@ -310,3 +310,15 @@ package_at t p first count table a b c is e n h i =
 
 pub packages_within : (t : Tables) (p : ℕ) (x : Key) → IsOfPackageAt t p x → p < length t.packages
 packages_within t p x h = place_below t.packages p h.0 h.1
+
+pub links_within : (t : Tables) (k : ℕ) (x : Key) → IsOfLinkAt t k x → k < length t.links
+links_within t k x h = place_below t.links k h.0 h.1
+
+-- the keys of the packages, then those of the links, from none on
+pub all_of_tables : (t : Tables) (a b c : List Key) → a ≡ [] → Adds (λ x. (p : ℕ) × IsOfPackageAt t p x) a b → Adds (λ x. (k : ℕ) × IsOfLinkAt t k x) b c → (x : Key) → Contains c x ↔ IsOfTables t x
+all_of_tables t a b c e f g x =
+    let all : Adds (λ x. ((p : ℕ) × IsOfPackageAt t p x) ⊎ ((k : ℕ) × IsOfLinkAt t k x)) a c = Adds-then (λ x. (p : ℕ) × IsOfPackageAt t p x) (λ x. (k : ℕ) × IsOfLinkAt t k x) a b c f g in
+    (
+      (λ h. ⊎_elim (λ i. absurd (Contains-none x (subst (λ z. Contains z x) e i))) (λ i. i) (all.nothing_else x h)),
+      (λ h. all.added x h),
+    )

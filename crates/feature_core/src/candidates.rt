@@ -1,5 +1,5 @@
 //! The candidates for edges, as keys, part by part of the tables.
-ghost use Rattle.std.specs.Prelude.{◌≡◌, ◌+◌, ◌<◌, ◌^◌, ◌↔◌, ◌&&◌, if◌then◌else◌, ℕ, OnOk, IfOk, IsFalse, Some, length, slice_get};
+ghost use Rattle.std.specs.Prelude.{◌≡◌, ◌+◌, ◌<◌, ◌^◌, ◌↔◌, ◌&&◌, if◌then◌else◌, ℕ, Contains, OnOk, IfOk, IsFalse, Some, length, slice_get};
 ghost use Rattle.std.specs.List.{list_any};
 ghost use Rattle.guppy_packages.specs.Tables.{LinkTable};
 ghost use Rattle.feature_labels.specs.declared.link_declarations.LinkDeclarations.TheVariants.{Optional};
@@ -9,11 +9,13 @@ ghost use Rattle.guppy_packages.specs.Metadata.{package_graph_of, package_table_
 ghost use Rattle.guppy_packages.specs.NamedFeature.{feature_table};
 ghost use Rattle.guppy_packages.specs.Stored.{declared};
 ghost use Rattle.feature_labels.specs.Names.LabelName.{base, named, optional};
+ghost use Rattle.feature_core.specs.declared.key.Key.{Key as KeyValue};
 ghost use Rattle.feature_core.specs.Adds.{Adds, Below};
 ghost use Rattle.feature_core.specs.Nodes.{NodeAt, first_node, labels_of};
 ghost use Rattle.feature_core.specs.NamedLinks.{AreNamedLinks};
 ghost use Rattle.feature_core.specs.Parts.{key, over_rank, IsToFirst, IsOverLink, start_of, IsOver, IsBeside, IsOfItem, IsOfItemAt, IsOfFeatureAt, IsOfPackageAt, IsRequest, IsOfDeclarationAt, IsOfLinkAt, IsOfTables};
 
+use crate::declarations::push_links;
 use crate::key::Key;
 use crate::named_links::{LinkGroups, named_links, numbers_of};
 use crate::numbers::Numbers;
@@ -21,7 +23,7 @@ use guppy_packages::{Declaration, NamedFeature, NamedFeatureDep, PackageLink, Pa
 use std::alloc::{AllocError, Global};
 
 /// Adds a key to the node, where there is one.
-fn push_to(
+pub(crate) fn push_to(
     keys: &mut Vec<Key>,
     from: usize,
     to: Option<usize>,
@@ -244,3 +246,14 @@ fn push_packages(
     Ok(())
 }
 
+
+/// The keys of all candidates.
+pub(crate) fn candidates(alloc: Global, numbers: Numbers<'_>) -> Result<Vec<Key>, AllocError>
+    ensures { IfOk result (λ keys. (x : KeyValue) → Contains keys.items x ↔ IsOfTables numbers.entry.graph.now x) }
+{
+    let groups = named_links(alloc, numbers.graph)?;
+    let mut keys = Vec::new(alloc);
+    push_packages(&mut keys, numbers, &groups)?;
+    push_links(&mut keys, numbers)?;
+    Ok(keys)
+}

@@ -3,6 +3,7 @@
 
 mod candidates;
 mod data;
+mod declarations;
 pub mod engine;
 mod error;
 mod key;
