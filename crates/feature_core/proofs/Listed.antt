@@ -6,7 +6,7 @@ use Rattle.std.proofs.lemmas.List.Elements.{All-head, All-tail}
 use Rattle.std.proofs.lemmas.Option.{slice_get-map, slice_get-get_or}
 use Rattle.std.specs.Option.{option_map}
 use Rattle.feature_core.specs.declared.engine.Taken.{Taken}
-use Rattle.feature_core.specs.Walks.{Way, Content, IsWay, IsContent, numbers_where, told, taken_of}
+use Rattle.feature_core.specs.Walks.{Way, Content, IsWay, EndsAreNodes, numbers_where, told, taken_of}
 use Rattle.feature_core.specs.Listed.{ListedWay, way_of, AreWithin}
 
 abbrev IsWithin : ℕ → ListedWay → Type 0
@@ -19,7 +19,7 @@ ends_at nodes (v ∷ vs) h zero w q =
     subst (λ (x : Way). (x.start < nodes) × (x.far < nodes) × (x.gate < nodes)) same (All-head (IsWithin nodes) v vs h)
 ends_at nodes (v ∷ vs) h (suc e) w q = ends_at nodes vs (All-tail (IsWithin nodes) v vs h) e w q
 
-pub listed_content : (nodes : ℕ) (ways : List ListedWay) → AreWithin nodes ways → IsContent (record { nodes = nodes; ways = map way_of ways })
+pub listed_content : (nodes : ℕ) (ways : List ListedWay) → AreWithin nodes ways → EndsAreNodes (record { nodes = nodes; ways = map way_of ways })
 listed_content nodes ways h e w is = let r = ends_at nodes ways h e w is in (r.0, r.1, λ _. r.2)
 
 -- the scan stands at a way that passes, with none left to skip
