@@ -71,10 +71,12 @@ module _ (from : ℕ) (name : Text) (x : ℕ) where
           let fails : (p == from) && bytes_eq d name ≡ false = sym (this_key p d k.0 t) ∙ u in
           let xs : List ℕ = found_numbers p d es in
           sym (ap (λ b. if b then xs ++ x ∷ [] else xs) fails)
+
       there : (b : Bool) (j : ℕ) → is_under from name k.0 ≡ false → is_under p d k.0 ≡ b → found_numbers p d (set_value_at es j w) ≡ one_more p d (found_numbers p d es)
           → option_map_or (λ z. z.items) (cond b (Some k.1) (lookup (is_under p d) (set_value_at es j w))) [] ≡ one_more p d (option_map_or (λ z. z.items) (cond b (Some k.1) (lookup (is_under p d) es)) [])
       there true j t u more = sym (ap (λ b. if b then k.1.items ++ x ∷ [] else k.1.items) (other_key p d k.0 t u))
       there false j t u more = more
+
       go : (b : Bool) → is_under from name k.0 ≡ b → (j : ℕ) → cond (not b) (1 + position_or_len (is_under from name) (keys_of es)) 0 ≡ j → slice_get (values_of (k ∷ es)) j ≡ Some v
           → ((j : ℕ) → position_or_len (is_under from name) (keys_of es) ≡ j → slice_get (values_of es) j ≡ Some v → found_numbers p d (set_value_at es j w) ≡ one_more p d (found_numbers p d es))
           → found_numbers p d (set_value_at (k ∷ es) j w) ≡ one_more p d (found_numbers p d (k ∷ es))
@@ -89,6 +91,7 @@ module _ (from : ℕ) (name : Text) (x : ℕ) where
     where
       same : is_under p d key ≡ ((p == from) && bytes_eq d name)
       same = ap (λ z. (p == z) && bytes_eq d key.1.now) f ∙ ap (λ z. (p == from) && bytes_eq d z) n
+
       go : (b : Bool) → is_under p d key ≡ b → option_map_or (λ z. z.items) (cond b (Some w) None) [] ≡ one_more p d []
       go true t = e ∙ sym (ap (λ b. if b then x ∷ [] else []) (sym same ∙ t))
       go false t = sym (ap (λ b. if b then x ∷ [] else []) (sym same ∙ t))
@@ -98,6 +101,7 @@ module _ (from : ℕ) (name : Text) (x : ℕ) where
           → option_map_or (λ z. z.items) (cond b (Some k.1) (lookup (is_under p d) (es ++ (key, w) ∷ []))) [] ≡ one_more p d (option_map_or (λ z. z.items) (cond b (Some k.1) (lookup (is_under p d) es)) [])
       there true t u more = sym (ap (λ b. if b then k.1.items ++ x ∷ [] else k.1.items) (other_key p d k.0 t u))
       there false t u more = more
+
       go : (b : Bool) → is_under from name k.0 ≡ b → cond b (Some k.1) (lookup (is_under from name) es) ≡ None → (lookup (is_under from name) es ≡ None → found_numbers p d (es ++ (key, w) ∷ []) ≡ one_more p d (found_numbers p d es))
           → found_numbers p d (k ∷ es ++ (key, w) ∷ []) ≡ one_more p d (found_numbers p d (k ∷ es))
       go true t a more = cc
@@ -174,8 +178,10 @@ numbers_next t n link p d h =
   where
     before_kept : List (ℕ × LinkTable)
     before_kept = filter (λ l. (l.1.from == p) && bytes_eq l.1.name d) (numbered 0 (take n t.links))
+
     swapped : (link.from == p) && bytes_eq link.name d ≡ ((p == link.from) && bytes_eq d link.name)
     swapped = ap (λ z. z && bytes_eq link.name d) (number_swap link.from p) ∙ ap (λ z. (p == link.from) && z) (text_swap link.name d)
+
     last : (b : Bool) → (link.from == p) && bytes_eq link.name d ≡ b → map (λ l. l.0) before_kept ++ map {A = ℕ × LinkTable} (λ l. l.0) (cond b ((n, link) ∷ []) []) ≡ (if (p == link.from) && bytes_eq d link.name then numbers_before t n p d ++ n ∷ [] else numbers_before t n p d)
     last true e = sym (ap (λ b. if b then numbers_before t n p d ++ n ∷ [] else numbers_before t n p d) (sym swapped ∙ e))
     last false e = append-none (map (λ l. l.0) before_kept) ∙ sym (ap (λ b. if b then numbers_before t n p d ++ n ∷ [] else numbers_before t n p d) (sym swapped ∙ e))

@@ -52,8 +52,10 @@ ascending (k ∷ kept) h = AllPairs-cons IsBefore (k.from, k.to) (pairs_of (map 
   where
     AllPairs-first : (x : Key) (xs : List Key) → AllPairs Before (x ∷ xs) → All (Before x) xs
     AllPairs-first x xs h k d l = h 0 (suc k) d (omega arith) (omega arith)
+
     AllPairs-later : (x : Key) (xs : List Key) → AllPairs Before (x ∷ xs) → AllPairs Before xs
     AllPairs-later x xs h i j d l m = h (suc i) (suc j) d (omega arith) (omega arith)
+
     after : (x : Key) (xs : List Key) → All (Before x) xs → All (IsBefore (x.from, x.to)) (pairs_of (map edge_of xs))
     after x xs h = All-map (IsBefore (x.from, x.to)) (λ e. (e.from, e.to)) (map edge_of xs) (All-map (λ e. IsBefore (x.from, x.to) (e.from, e.to)) edge_of xs h)
 

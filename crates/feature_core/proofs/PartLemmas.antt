@@ -123,6 +123,7 @@ later_label table k label h is = ⊎_elim
   where
     apart_named : (d : Text) → named d ≡ base → ⊥
     apart_named d e = cc
+
     apart_optional : (d : Text) → optional d ≡ base → ⊥
     apart_optional d e = cc
 
@@ -221,8 +222,10 @@ module _ (t : Tables) (differ : NamesDiffer t) where
     where
       item : (weaker : Bool) → weak ≡ weaker → HasItem t link.from f (slash_item link.name g weaker)
       item weaker e = subst (λ z. HasItem t link.from f (slash_item link.name g z)) e (subst (λ z. HasItem t link.from f (slash_item z g weak)) (sym name) (subst (λ z. HasItem t z f (slash_item d g weak)) (sym from) h))
+
       leads : (weaker : Bool) → weak ≡ weaker → LeadsOver t u w weaker k link
       leads weaker e = record { f = f; g = g; has_item = item weaker e; from_node = subst (λ z. NodeAt t u z (named f)) (sym from) nu; is_link = is; to_node = nw }
+
       go : (b : Bool) → weak && has_declaration Optional link ≡ b → StandsFor t x
       go true e =
           let both_true = both weak (has_declaration Optional link) e in
@@ -281,6 +284,7 @@ module _ (t : Tables) (differ : NamesDiffer t) where
         to_node = nw;
         is_edge = refl;
       }
+
       go : (b : Bool) → d.optional ≡ b → StandsFor t x
       go true e = stands t u w 7 k j (section (over Optional (requesting asked Optional) ((k, link) ∷ []))) x eq (of_optional (section_of Optional (λ l. optional l.name) e (optional_start link d e))) refl
       go false e = stands t u w 7 k j (section (over Required (requesting asked Required) ((k, link) ∷ []))) x eq (of_required (section_of Required (λ l. base) (not_false d.optional e) (required_start link d (not_false d.optional e)))) refl

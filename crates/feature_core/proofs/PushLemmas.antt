@@ -317,8 +317,7 @@ links_within t k x h = place_below t.links k h.0 h.1
 -- the keys of the packages, then those of the links, from none on
 pub all_of_tables : (t : Tables) (a b c : List Key) → a ≡ [] → Adds (λ x. (p : ℕ) × IsOfPackageAt t p x) a b → Adds (λ x. (k : ℕ) × IsOfLinkAt t k x) b c → (x : Key) → Contains c x ↔ IsOfTables t x
 all_of_tables t a b c e f g x =
-    let all : Adds (λ x. ((p : ℕ) × IsOfPackageAt t p x) ⊎ ((k : ℕ) × IsOfLinkAt t k x)) a c = Adds-then (λ x. (p : ℕ) × IsOfPackageAt t p x) (λ x. (k : ℕ) × IsOfLinkAt t k x) a b c f g in
-    (
+    let all : Adds (λ x. ((p : ℕ) × IsOfPackageAt t p x) ⊎ ((k : ℕ) × IsOfLinkAt t k x)) a c = Adds-then (λ x. (p : ℕ) × IsOfPackageAt t p x) (λ x. (k : ℕ) × IsOfLinkAt t k x) a b c f g in (
       (λ h. ⊎_elim (λ i. absurd (Contains-none x (subst (λ z. Contains z x) e i))) (λ i. i) (all.nothing_else x h)),
       (λ h. all.added x h),
     )

@@ -61,7 +61,9 @@ fn push_to_first(keys: &mut Vec<Key>, first: usize, count: usize) -> Result<(), 
 fn is_any_optional(declarations: &[Declaration]) -> bool
     ensures { result ≡ list_any (λ d. (declared d).optional) declarations.now }
 {
-    declarations.iter().any(|declaration| declaration.optional())
+    declarations
+        .iter()
+        .any(|declaration| declaration.optional())
 }
 
 /// The rank of an edge over a link, where the item is weak or not and a declaration of the link is optional or none is.
@@ -190,7 +192,15 @@ fn push_feature(
     ensures { OnOk result (Adds (λ x. (j : ℕ) × IsOfItemAt numbers.entry.graph.now from metadata.entry.package_ix (feature_table feature.now) j x) keys.old.items keys.new.items) }
 {
     for ix in 0..feature.item_count() {
-        push_item(keys, numbers, groups, metadata, from, feature.name(), feature.item(ix))?;
+        push_item(
+            keys,
+            numbers,
+            groups,
+            metadata,
+            from,
+            feature.name(),
+            feature.item(ix),
+        )?;
     }
     Ok(())
 }
@@ -245,7 +255,6 @@ fn push_packages(
     }
     Ok(())
 }
-
 
 /// The keys of all candidates.
 pub(crate) fn candidates(alloc: Global, numbers: Numbers<'_>) -> Result<Vec<Key>, AllocError>

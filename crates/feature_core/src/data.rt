@@ -8,13 +8,16 @@ ghost use Rattle.feature_core.specs.Keys.{edge_of};
 ghost use Rattle.feature_core.specs.Pairs.{IsPairList, PairLeads, ReachAlong};
 ghost use Rattle.feature_core.specs.Built.{IsBuilt, NodeNamed, pairs_of};
 
+#[cfg(test)]
+mod tests;
+
 use crate::candidates::candidates;
 use crate::error::Error;
 use crate::key::{Key, keep_least};
 use crate::nodes::{NodeTable, node_table};
 use crate::numbers::Numbers;
-use feature_labels::{FeatureId, FeatureLabel};
 use crate::reach::reach_all;
+use feature_labels::{FeatureId, FeatureLabel};
 use guppy_packages::{DependencyDirection, PackageGraph, PackageMetadata};
 use guppy_support::{Digraph, Edge, IxBitSet};
 use std::alloc::{AllocError, Global};
@@ -41,7 +44,11 @@ impl Model for FeatureGraphData {
 }
 
 /// The digraph of the pairs that have a candidate.
-fn pair_digraph(alloc: Global, graph: &PackageGraph, table: &NodeTable) -> Result<Digraph, AllocError>
+fn pair_digraph(
+    alloc: Global,
+    graph: &PackageGraph,
+    table: &NodeTable,
+) -> Result<Digraph, AllocError>
     requires firsts { table.now.firsts.items ≡ first_nodes graph.now }
     requires packages { table.now.packages.items ≡ node_packages graph.now }
     ensures nodes { IfOk result (λ d. d.nodes ≡ length table.now.packages.items) }
@@ -88,7 +95,11 @@ fn numbers_in<'a>(graph: &'a PackageGraph, table: &'a NodeTable) -> Numbers<'a>
 }
 
 /// The node of a label of a package, where the package has the label.
-fn number_of(numbers: Numbers<'_>, metadata: PackageMetadata<'_>, label: FeatureLabel<'_>) -> Option<usize>
+fn number_of(
+    numbers: Numbers<'_>,
+    metadata: PackageMetadata<'_>,
+    label: FeatureLabel<'_>,
+) -> Option<usize>
     requires { package_graph_of metadata ≡ numbers.graph.now }
     ensures { (n : ℕ) → (result ≡ Some n) ↔ NodeAt numbers.entry.graph.now n metadata.entry.package_ix (label_of label.entry) }
 {

@@ -29,17 +29,35 @@ fn push_requests(
 {
     push_to(keys, from, Some(numbers.base(metadata)), 7, link, place)?;
     if declaration.default_features() {
-        push_to(keys, from, numbers.named(metadata, "default"), 7, link, place)?;
+        push_to(
+            keys,
+            from,
+            numbers.named(metadata, "default"),
+            7,
+            link,
+            place,
+        )?;
     }
     let names = declaration.features();
     for ix in 0..names.len() {
-        push_to(keys, from, numbers.named(metadata, names[ix].as_str()), 7, link, place)?;
+        push_to(
+            keys,
+            from,
+            numbers.named(metadata, names[ix].as_str()),
+            7,
+            link,
+            place,
+        )?;
     }
     Ok(())
 }
 
 /// The node that a declaration of a link starts from.
-fn start<'g>(numbers: Numbers<'g>, link: PackageLink<'g>, declaration: &Declaration) -> Option<usize>
+fn start<'g>(
+    numbers: Numbers<'g>,
+    link: PackageLink<'g>,
+    declaration: &Declaration,
+) -> Option<usize>
     requires { link_graph_of link ≡ numbers.graph.now }
     ensures { (n : ℕ) → (result ≡ Some n) ↔ NodeAt numbers.entry.graph.now n (link_table_of link.entry).from (start_of (link_table_of link.entry) (declared declaration.now)) }
 {

@@ -38,7 +38,13 @@ pub(crate) fn named_links(alloc: Global, graph: &PackageGraph) -> Result<LinkGro
     let mut groups = IndexMap::new(alloc);
     for ix in 0..graph.link_count() {
         let link = graph.link(ix);
-        note(alloc, &mut groups, link.from().package_ix(), link.dep_name(), ix)?;
+        note(
+            alloc,
+            &mut groups,
+            link.from().package_ix(),
+            link.dep_name(),
+            ix,
+        )?;
     }
     Ok(groups)
 }
