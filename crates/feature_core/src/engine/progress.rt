@@ -117,7 +117,7 @@ fn take_one<S: EdgeSource, O: Offerer>(
     ensures taken { IsTrue result → (e : ℕ)
         × (slice_get (starting (S.content source.old) node) place ≡ Some e)
         × TakesEdge (S.content source.old) O.gives node e
-            offerer.old (findings found.old) met.old offerer.new (findings found.new) met.new }
+        offerer.old (findings found.old) met.old offerer.new (findings found.new) met.new }
     ensures ended { IsFalse result → (slice_get (starting (S.content source.old) node) place ≡ None)
         × (offerer.new ≡ offerer.old) × (findings found.new ≡ findings found.old) × (met.new ≡ met.old) }
 {
@@ -172,7 +172,7 @@ fn release_one<S: EdgeSource, O: Offerer>(
     ensures taken { IsTrue result → (e : ℕ)
         × (slice_get (releasing (S.content source.old) node) place ≡ Some e)
         × FreesEdge (S.content source.old) O.gives node e
-            offerer.old (findings found.old) met.old offerer.new (findings found.new) met.new }
+        offerer.old (findings found.old) met.old offerer.new (findings found.new) met.new }
     ensures ended { IsFalse result → (slice_get (releasing (S.content source.old) node) place ≡ None)
         × (offerer.new ≡ offerer.old) × (findings found.new ≡ findings found.old) × (met.new ≡ met.old) }
 {

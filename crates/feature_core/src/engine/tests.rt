@@ -296,7 +296,10 @@ fn members_are_explained(rt: HostRuntime) -> Result<(), Fail> {
         };
         assert!(rt; steps.contains(&step));
     }
-    for node in [(3, StepReason::Edge(1)), (4, StepReason::Offer(2, Half::Full))] {
+    for node in [
+        (3, StepReason::Edge(1)),
+        (4, StepReason::Offer(2, Half::Full)),
+    ] {
         let step = Step {
             node: node.0,
             reason: node.1,
