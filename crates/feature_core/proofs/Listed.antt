@@ -1,12 +1,12 @@
 -- Edges in a list as a source.
-use Rattle.std.proofs.Common.{◌≡◌, ℕ, zero, suc, ◌+◌, ◌-◌, ◌<◌, ◌≤◌, Bool, true, false, ◌&&◌, List, [], ◌∷◌, Option, Some, None, length, drop, get_or, map, refl, sym, ◌∙◌, ap, subst, arith, add-one}
-use Rattle.std.specs.Prelude.{IsTrue, IsFalse, slice_get, ◌==◌, if◌then◌else◌, All}
+use Rattle.std.proofs.Common.{◌≡◌, ℕ, zero, suc, ◌<◌, Bool, List, [], ◌∷◌, Option, Some, length, drop, get_or, map, refl, sym, ◌∙◌, ap, subst}
+use Rattle.std.specs.Prelude.{IsTrue, slice_get}
 use Rattle.std.proofs.Math.Seq.{drop-cons}
 use Rattle.std.proofs.lemmas.List.Elements.{All-head, All-tail}
 use Rattle.std.proofs.lemmas.Option.{slice_get-map, slice_get-get_or}
 use Rattle.std.specs.Option.{option_map}
 use Rattle.feature_core.specs.declared.engine.Taken.{Taken}
-use Rattle.feature_core.specs.Walks.{Way, Content, IsWay, EndsAreNodes, numbers_where, told, taken_of}
+use Rattle.feature_core.specs.Walks.{Way, EndsAreNodes, numbers_where, told, taken_of}
 use Rattle.feature_core.specs.Listed.{ListedWay, way_of, AreWithin}
 
 abbrev IsWithin : ℕ → ListedWay → Type 0

@@ -1,6 +1,5 @@
-use Rattle.std.proofs.Common.{◌≡◌, ℕ, List, Option, Some, drop, map, get_or, sym, ◌&&◌, refl, ap, subst, ◌∙◌}
+use Rattle.std.proofs.Common.{◌≡◌, ℕ, List, Option, Some, drop, map, get_or, sym, ◌&&◌, subst, ◌∙◌}
 use Rattle.std.specs.Prelude.{◌==◌, slice_get}
-use Rattle.std.proofs.lemmas.Bool.{eq-eqb}
 use Rattle.feature_core.specs.declared.engine.Taken.{Taken}
 use Rattle.feature_core.specs.declared.engine.Ask.TheVariants as asks
 use Rattle.feature_core.specs.Walks.{Way, numbers_where, told, is_gated}

@@ -1,4 +1,4 @@
-use Rattle.std.proofs.Common.{◌≡◌, ◌+◌, ◌≤◌, ℕ, ◌&&◌, length, map, drop}
+use Rattle.std.proofs.Common.{◌≡◌, ◌&&◌, map, drop}
 use Rattle.std.specs.Prelude.{slice_get, ◌==◌}
 use Rattle.feature_core.specs.Walks.{numbers_where, is_gated}
 use Rattle.feature_core.specs.Listed.{way_of}
