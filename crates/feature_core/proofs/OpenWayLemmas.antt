@@ -12,7 +12,7 @@ use Rattle.guppy_packages.specs.declared.direction.DependencyDirection.TheVarian
 use Rattle.feature_core.specs.declared.engine.Half.{Half}
 use Rattle.feature_core.specs.declared.engine.Ask.TheVariants as asks
 use Rattle.feature_core.specs.declared.engine.Taken.{Taken}
-use Rattle.feature_core.specs.Walks.{Way, IsWay, IsContent, Reach, numbers_where, starting, told, taken_of, is_gated}
+use Rattle.feature_core.specs.Walks.{Way, IsWay, EndsAreNodes, Reach, numbers_where, starting, told, taken_of, is_gated}
 use Rattle.feature_core.specs.Pairs.{PairLeads, Along, ReachAlong}
 use Rattle.feature_core.specs.Pairs.Along.{nowhere, onward}
 use Rattle.feature_core.specs.Built.{pairs_of}
@@ -71,7 +71,7 @@ ways_within : (direction : DependencyDirection) (n : ℕ) (e : Edge) → e.from 
 ways_within Forward n e from to = (from, to, λ t. absurd (clash t refl))
 ways_within Reverse n e from to = (to, from, λ t. absurd (clash t refl))
 
-pub ends_are_nodes : (direction : DependencyDirection) (g : Graph) → IsDigraph g → IsContent (open_ways direction g)
+pub ends_are_nodes : (direction : DependencyDirection) (g : Graph) → IsDigraph g → EndsAreNodes (open_ways direction g)
 ends_are_nodes direction g sound k w is =
     let e = way_edge direction g k w is in
     let within : k < length g.edges = slice_get_within g.edges k e.0 e.1 in

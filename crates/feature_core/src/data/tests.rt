@@ -7,7 +7,7 @@ use std::process::Abort;
 use std::test::Fail;
 
 macro_rules! package {
-    ($id:expr, $in_workspace:expr) => {
+    ($id:expr, $in_workspace:expr $(,)?) => {
         Row::Package {
             id: $id,
             in_workspace: $in_workspace,
@@ -16,7 +16,7 @@ macro_rules! package {
 }
 
 macro_rules! feature {
-    ($name:expr, $items:expr) => {
+    ($name:expr, $items:expr $(,)?) => {
         Row::Feature {
             name: $name,
             items: $items,
@@ -25,7 +25,7 @@ macro_rules! feature {
 }
 
 macro_rules! dep {
-    ($name:expr, $target:expr, $kind:expr, $optional:expr, $platform:expr, $default:expr, $features:expr) => {
+    ($name:expr, $target:expr, $kind:expr, $optional:expr, $platform:expr, $default:expr, $features:expr $(,)?) => {
         Row::Dep {
             name: $name,
             target: $target,
