@@ -3,6 +3,7 @@ pub mod EachAfter
 pub mod Firsts
 pub mod ItemLemmas
 pub mod Joined
+pub mod LinkRanges
 pub mod Lists
 pub mod Passes
 pub mod Sections

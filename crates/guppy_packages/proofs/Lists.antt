@@ -1,5 +1,5 @@
 -- Searches over mapped lists.
-use Rattle.std.proofs.Common.{◌≡◌, ℕ, zero, suc, ◌+◌, ◌<◌, List, [], ◌∷◌, Bool, Some, map, refl, ap, length, drop, get_or, add-one, drop-cons}
+use Rattle.std.proofs.Common.{◌≡◌, ℕ, zero, suc, ◌+◌, ◌<◌, List, [], ◌∷◌, Bool, Some, map, refl, ap, length, drop, get_or, add-one, drop-cons, arith}
 use Rattle.std.proofs.lemmas.List.{drop-map, length-map}
 use Rattle.std.specs.Prelude.{position, slice_get}
 use Rattle.std.specs.List.{position_or_len, list_any, list_all}
@@ -29,3 +29,16 @@ slice_get-map f (y ∷ ys) (suc i) x h = slice_get-map f ys i x h
 -- the items of `map f xs` from i on
 pub drop_map_get : {X Y : Type 0} (f : X → Y) (xs : List X) (i : ℕ) (d : X) → i < length xs → drop i (map f xs) ≡ f (get_or xs i d) ∷ drop (i + 1) (map f xs)
 drop_map_get f xs i d h = rw (drop-map f i xs, drop-map f (i + 1) xs, add-one, drop-cons xs i d h)
+
+-- an item of `map f xs` comes from the one at its place
+pub map_at : {X Y : Type 0} (f : X → Y) (xs : List X) (k : ℕ) (y : Y) → slice_get (map f xs) k ≡ Some y → (x : X) × (k < length xs) × (get_or xs k x ≡ x) × (y ≡ f x)
+map_at f [] k y h = cc
+map_at f (x ∷ xs) zero y h =
+    let same : y ≡ f x = cc in
+    (x, omega arith, refl, same)
+map_at f (x ∷ xs) (suc k) y h =
+    let more = map_at f xs k y h in
+    (more.0, step k (length xs) more.1, more.2, more.3)
+  where
+    step : (a b : ℕ) → a < b → suc a < suc b
+    step a b h = omega arith

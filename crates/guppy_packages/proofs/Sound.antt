@@ -1,8 +1,10 @@
 -- What holds of the tables of rows that have no fault.
+use Rattle.std.proofs.Common.{get_or}
 use Rattle.std.proofs.Common.{◌≡◌, ◌⊎◌, inl, inr, ℕ, zero, suc, ◌+◌, ◌-◌, ◌<◌, ◌≤◌, List, [], ◌∷◌, ◌++◌, Bool, true, false, cond, ◌||◌, Option, None, Some, Ok, Err, map, length, refl, ap, sym, ◌∙◌, subst, arith, append_assoc, if◌then◌else◌}
 use Rattle.std.specs.Prelude.{nat_lt, position, slice_get, ◌==◌, ◌&&◌}
 use Rattle.std.specs.List.{cons_option, list_any, position_or_len}
 use Rattle.std.specs.Option.{option_map, option_map_or}
+use Rattle.std.specs.List.Sorted.{IsNonDecreasingBy}
 use Rattle.std.specs.Str.{bytes_eq}
 use Rattle.std.specs.Cmp.Lexicographic.{bytes_decides}
 use Rattle.std.proofs.lemmas.Bool.{eq-eqb, eqb-true, ne_eqb}
@@ -150,11 +152,17 @@ record HasEnds (m n : ℕ) (l : LinkTable) : Type 0 where
   pub to : l.to < n
   pub declared : 0 < length l.declarations
 
+-- each link leaves the package of no later one
+abbrev AreOrdered : List LinkTable → Type 0
+AreOrdered [] = Unit {0}
+AreOrdered (l ∷ ls) = AllIn (λ m. l.from ≤ m.from) ls × AreOrdered ls
+
 -- what holds of the packages and the links so far, where there are n packages in all
 record Fair (n : ℕ) (ps : List PackageTable) (ls : List LinkTable) : Type 0 where
   pub ids : AreApart bytes_eq (map (λ p. p.id) ps)
   pub features : AllIn (λ p. AreApart bytes_eq (map (λ f. f.name) p.features)) ps
   pub links : AllIn (HasEnds (length ps) n) ls
+  pub ordered : AreOrdered ls
   pub optional : (i : ℕ) (p : PackageTable) (name : Text) → slice_get ps i ≡ Some p → has_name name p.optional_names ≡ has_optional_link i name ls
 
 more_packages : (m k n : ℕ) (ls : List LinkTable) → m ≤ k → AllIn (HasEnds m n) ls → AllIn (HasEnds k n) ls
@@ -170,11 +178,43 @@ no_link m n name (l ∷ ls) a =
     let other : (m == l.from) ≡ false = ne_eqb m l.from (λ e. absurd (omega (arith, a.0.from))) in
     rw other (no_link m n name ls a.1)
 
+add_link-ordered : (from to : ℕ) (name : Text) (d : Declared) (ls new : List LinkTable) → AllIn (λ l. l.from ≤ from) ls → AreOrdered ls → add_link from to name d ls ≡ Ok new → AreOrdered new
+add_link-ordered from to name d [] new a o h =
+    let same : record { from = from; to = to; name = name; declarations = d ∷ [] } ∷ [] ≡ new = cc in
+    subst AreOrdered same (tt, tt)
+add_link-ordered from to name d (l ∷ ls) new a o h = go (joins from to l) (bytes_eq name l.name) (add_link from to name d ls) refl h (λ more e. add_link-ordered from to name d ls more a.1 o.1 e)
+  where
+    go : (b n : Bool) (r : Outcome (List LinkTable)) → add_link from to name d ls ≡ r
+        → (if b then (if n then Ok (record l { declarations = l.declarations ++ d ∷ [] } ∷ ls) else Err OtherName) else result_map (λ rest. l ∷ rest) r) ≡ Ok new
+        → ((more : List LinkTable) → add_link from to name d ls ≡ Ok more → AreOrdered more) → AreOrdered new
+    go true true r e h more =
+        let same : record l { declarations = l.declarations ++ d ∷ [] } ∷ ls ≡ new = cc in
+        subst AreOrdered same o
+    go true false r e h more = cc
+    go false n (Ok rest) e h more =
+        let same : l ∷ rest ≡ new = cc in
+        subst AreOrdered same (add_link-keeps (λ m. l.from ≤ m.from) from to name d (λ m p. p) a.0 ls rest o.0 e, more rest e)
+    go false n (Err f) e h more = cc
+
+-- the same, by places
+ordered_by : (ls : List LinkTable) → AreOrdered ls → IsNonDecreasingBy (λ l. l.from) ls
+ordered_by [] o i j d le h = absurd (omega arith)
+ordered_by (l ∷ ls) o zero zero d le h = omega arith
+ordered_by (l ∷ ls) o zero (suc j) d le h = All_get ls o.0 j d (omega arith)
+  where
+    All_get : (ms : List LinkTable) → AllIn (λ m. l.from ≤ m.from) ms → (j : ℕ) (d : LinkTable) → j < length ms → l.from ≤ (get_or ms j d).from
+    All_get [] a j d h = absurd (omega arith)
+    All_get (m ∷ ms) a zero d h = a.0
+    All_get (m ∷ ms) a (suc j) d h = All_get ms a.1 j d (omega arith)
+ordered_by (l ∷ ls) o (suc i) zero d le h = absurd (omega arith)
+ordered_by (l ∷ ls) o (suc i) (suc j) d le h = ordered_by ls o.1 i j d (omega arith) (omega arith)
+
 fair_package : (n : ℕ) (ps : List PackageTable) (ls : List LinkTable) (id : Text) (w : Bool) → Fair n ps ls → list_any (λ p. bytes_eq id p.id) ps ≡ false → Fair n (ps ++ with_rows id w [] ∷ []) ls
 fair_package n ps ls id w fair new = record {
   ids = rw (map-append (λ p. p.id) ps (with_rows id w [] ∷ [])) (AreApart-push bytes_eq (map (λ p. p.id) ps) id fair.ids (list_any-map (λ p. p.id) (bytes_eq id) ps ∙ new));
   features = AllIn-push (λ p. AreApart bytes_eq (map (λ f. f.name) p.features)) ps (with_rows id w []) fair.features tt;
   links = more_packages (length ps) (length (ps ++ with_rows id w [] ∷ [])) n ls (simp length-append (omega arith)) fair.links;
+  ordered = fair.ordered;
   optional = λ i p name h. elim (at_push ps (with_rows id w []) i p h) [
     | inl e ↦ fair.optional i p name e
     | inr e ↦ rw (e.0, e.1) (sym (no_link (length ps) n name ls fair.links))
@@ -188,6 +228,7 @@ fair_feature n ps ls name items fair new = record {
   features = AllIn-map_last (λ p. AreApart bytes_eq (map (λ f. f.name) p.features)) (grown (a_feature name items)) ps fair.features
       (λ p at a. rw (map-append (λ f. f.name) p.features (record { name = name; items = items } ∷ [])) (AreApart-push bytes_eq (map (λ f. f.name) p.features) name a (list_any-map (λ f. f.name) (bytes_eq name) p.features ∙ new p at)));
   links = more_packages (length ps) (length (map_last (grown (a_feature name items)) ps)) n ls (rw (length-map_last (grown (a_feature name items)) ps) (omega arith)) fair.links;
+  ordered = fair.ordered;
   optional = λ i p m h.
       let at = at_map_last (grown (a_feature name items)) ps i p h in
       let same : p.optional_names ≡ at.0.optional_names = elim at.2 [ inl e ↦ ap (λ q. q.optional_names) e.1 | inr e ↦ ap (λ q. q.optional_names) e.1 ] in
@@ -227,9 +268,13 @@ fair_dep n ps ls new to name target d fair some within added = record {
   ids = rw (map-map_last (λ p. p.id) (grown (a_dep name target d)) ps (kept d.optional)) fair.ids;
   features = AllIn-map_last (λ p. AreApart bytes_eq (map (λ f. f.name) p.features)) (grown (a_dep name target d)) ps fair.features (λ p at a. features_kept d.optional p a);
   links = add_link-keeps (HasEnds (length (map_last (grown (a_dep name target d)) ps)) n) (length ps - 1) to name d longer begins ls new (more_packages (length ps) (length (map_last (grown (a_dep name target d)) ps)) n ls (rw (length-map_last (grown (a_dep name target d)) ps) (omega arith)) fair.links) added;
+  ordered = add_link-ordered (length ps - 1) to name d ls new (AllIn-weaker (HasEnds (length ps) n) (λ l. l.from ≤ length ps - 1) ls (λ l e. before_last l e.from) fair.links) fair.ordered added;
   optional = λ i p m h. optional i p m (at_map_last (grown (a_dep name target d)) ps i p h);
 }
   where
+    before_last : (l : LinkTable) → l.from < length ps → l.from ≤ length ps - 1
+    before_last l h = omega arith
+
     kept : (b : Bool) (p : PackageTable) → (add_name name b p).id ≡ p.id
     kept true p = refl
     kept false p = refl
@@ -322,7 +367,7 @@ module _ (packages : List PackageTable) where
 
   fair_all : (rows : List RowText) → faults_by row_fault rows ≡ [] → faults_by (link_fault packages) rows ≡ [] → IsFair rows
   fair_all rows p q =
-      fair_rows [] rows (record { ids = tt; features = tt; links = tt; optional = λ i p name h. cc }) (sym (each_after-is (error_at row_fault) rows) ∙ p) (sym (each_after-is (error_at (link_fault packages)) rows) ∙ q)
+      fair_rows [] rows (record { ids = tt; features = tt; links = tt; ordered = tt; optional = λ i p name h. cc }) (sym (each_after-is (error_at row_fault) rows) ∙ p) (sym (each_after-is (error_at (link_fault packages)) rows) ∙ q)
 
 bytes_self : (x : Text) → bytes_eq x x ≡ true
 bytes_self x = (bytes_decides x x).1 refl
@@ -354,5 +399,6 @@ tables_sound rows p q =
       pairs = AreApart-no_repeats same_pair pair_self (map pair_of (links_of (dependencies_of (packages_of rows) rows))) (pairs_apart (dependencies_of (packages_of rows) rows));
       ends = λ k l h. let e = AllIn-at (HasEnds (length (packages_of rows)) (length (packages_of rows))) (links_of (dependencies_of (packages_of rows) rows)) fair.links k l h in (e.from, e.to);
       declarations = λ k l h. (AllIn-at (HasEnds (length (packages_of rows)) (length (packages_of rows))) (links_of (dependencies_of (packages_of rows) rows)) fair.links k l h).declared;
+      order = ordered_by (links_of (dependencies_of (packages_of rows) rows)) fair.ordered;
       optional = fair.optional;
     }

@@ -1,4 +1,9 @@
 -- The tables that the maps hold.
+use Rattle.std.proofs.Common.{ℕ, zero, suc, [], ◌∷◌, Some, ap, get_or, refl}
+use Rattle.std.proofs.lemmas.List.Quantifiers.{position-Some}
+use Rattle.std.specs.Prelude.{slice_get}
+use Rattle.std.specs.Cmp.Lexicographic.{bytes_decides}
+use Rattle.guppy_packages.specs.Tables.{PackageTable}
 use Rattle.std.proofs.Common.{◌≡◌, List, map, sym, ◌∙◌}
 use Rattle.std.specs.Prelude.{position, nat_eq}
 use Rattle.std.specs.Map.{keys_of}
@@ -13,3 +18,15 @@ use Rattle.guppy_packages.proofs.Lists.{position-map}
 -- the map's index of an id is its place
 pub place_of_key : (id : Text) (es : List (Text × PackageData)) → package_place id (map package_table es) ≡ position (pointwise nat_eq id) (keys_of es)
 place_of_key id es = position-map package_table (λ p. bytes_eq id p.id) es ∙ sym (position-map (λ x. x.0) (bytes_eq id) es)
+
+get_or-slice_get : {X : Type 0} (xs : List X) (i : ℕ) (x : X) → slice_get xs i ≡ Some x → get_or xs i x ≡ x
+get_or-slice_get [] i x h = refl
+get_or-slice_get (y ∷ ys) zero x h = cc
+get_or-slice_get (y ∷ ys) (suc i) x h = get_or-slice_get ys i x h
+
+-- the package at the place of an id has it
+pub id_at_place : (id : Text) (packages : List PackageTable) (i : ℕ) (p : PackageTable) → package_place id packages ≡ Some i → slice_get packages i ≡ Some p → p.id ≡ id
+id_at_place id packages i p place at =
+    let found = position-Some (λ p. bytes_eq id p.id) packages i p place in
+    let same : get_or packages i p ≡ p = get_or-slice_get packages i p at in
+    sym ((bytes_decides id p.id).0 (ap (λ q. bytes_eq id q.id) (sym same) ∙ found.1))

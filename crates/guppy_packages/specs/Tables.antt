@@ -1,6 +1,7 @@
 -- The tables of a package graph: the packages in the order of their rows, and the links between them.
-use Rattle.std.specs.Prelude.{◌≡◌, ◌<◌, ◌==◌, ◌&&◌, ℕ, List, Bool, Option, Some, true, false, length, map, position, slice_get}
+use Rattle.std.specs.Prelude.{◌≡◌, ◌↔◌, ◌<◌, ◌≤◌, ◌==◌, ◌&&◌, ℕ, List, Bool, Option, Some, true, false, length, map, position, slice_get}
 use Rattle.std.specs.List.{list_any, list_all}
+use Rattle.std.specs.List.Sorted.{IsNonDecreasingBy}
 use Rattle.std.specs.Str.{bytes_eq}
 use Rattle.guppy_packages.specs.Rows.{Text, Declared}
 use Rattle.guppy_packages.specs.declared.row.DependencyKind.{DependencyKind}
@@ -61,6 +62,12 @@ pair_of l = (l.from, l.to)
 abbrev pub HasNoRepeats : {X : Type 0} → List X → Type 0
 HasNoRepeats {X} xs = (i j : ℕ) (x : X) → slice_get xs i ≡ Some x → slice_get xs j ≡ Some x → i ≡ j
 
+-- exactly the links of the numbers from first up to end leave this package
+pub record AreLinksFrom (links : List LinkTable) (from first end : ℕ) : Type 0 where
+  pub ascend : first ≤ end
+  pub within : end ≤ length links
+  pub exactly : (k : ℕ) (l : LinkTable) → slice_get links k ≡ Some l → (l.from ≡ from) ↔ ((first ≤ k) × (k < end))
+
 -- whether one of the links leaves this package under this name with an optional declaration
 abbrev pub has_optional_link : ℕ → Text → List LinkTable → Bool
 has_optional_link from name links = list_any (λ l. (from == l.from) && bytes_eq name l.name && list_any (λ d. d.optional) l.declarations) links
@@ -73,4 +80,5 @@ pub record AreTables (t : Tables) : Type 0 where
   pub pairs : HasNoRepeats (map pair_of t.links)
   pub ends : (k : ℕ) (l : LinkTable) → slice_get t.links k ≡ Some l → (l.from < length t.packages) × (l.to < length t.packages)
   pub declarations : (k : ℕ) (l : LinkTable) → slice_get t.links k ≡ Some l → 0 < length l.declarations
+  pub order : IsNonDecreasingBy (λ l. l.from) t.links
   pub optional : (i : ℕ) (p : PackageTable) (name : Text) → slice_get t.packages i ≡ Some p → has_name name p.optional_names ≡ has_optional_link i name t.links

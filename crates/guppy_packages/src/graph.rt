@@ -1,6 +1,6 @@
 //! The package graph.
-ghost use Rattle.std.specs.Prelude.{◌≡◌, ◌<◌, Some, None, length, slice_get, MatchResult};
-ghost use Rattle.guppy_packages.specs.Tables.{package_place, AreTables};
+ghost use Rattle.std.specs.Prelude.{◌≡◌, ◌<◌, Some, None, length, nat_le, nat_lt, slice_get, IfOk, MatchResult};
+ghost use Rattle.guppy_packages.specs.Tables.{package_place, AreLinksFrom, AreTables};
 
 use crate::link::PackageLink;
 use crate::metadata::{PackageMetadata, UnknownPackageId};
@@ -8,6 +8,7 @@ use crate::package_id::PackageId;
 use crate::stored::{LinkData, PackageData};
 use indexmap::IndexMap;
 use std::marker::Model;
+use std::ops::Range;
 
 /// Packages with their features, and the links between them. A contract sees it as its tables.
 #[derive(Drop)]
@@ -29,7 +30,7 @@ impl Model for PackageGraph {
 }
 
 impl PackageGraph {
-    ghost use Rattle.guppy_packages.specs.Metadata.{package_graph_of, package_table_of, link_graph_of, link_table_of};
+    ghost use Rattle.guppy_packages.specs.Metadata.{package_graph_of, package_id_of, package_table_of, link_graph_of, link_table_of};
 
     /// What holds of the tables of every package graph.
     pub fn facts(&self)
@@ -78,11 +79,29 @@ impl PackageGraph {
         }
     }
 
+    /// The numbers of the links that leave the package of this number. Links stand in the order of the packages that they leave.
+    pub(crate) fn links_from(&self, package_ix: usize) -> Range<usize>
+        ensures { AreLinksFrom self.now.links package_ix result.start result.end }
+    {
+        let first = self.links.partition_point(
+            |pair: &(usize, usize), _: &LinkData| -> bool
+                ensures { result ≡ nat_lt pair.now.0 package_ix }
+            { pair.0 < package_ix },
+        );
+        let end = self.links.partition_point(
+            |pair: &(usize, usize), _: &LinkData| -> bool
+                ensures { result ≡ nat_le pair.now.0 package_ix }
+            { pair.0 <= package_ix },
+        );
+        first..end
+    }
+
     /// The package with this id, or an error where there is none.
     pub fn metadata(&self, id: &PackageId) -> Result<PackageMetadata<'_>, UnknownPackageId>
-        ensures { MatchResult result
+        ensures found { MatchResult result
             (λ m. (package_graph_of m ≡ self.now) × (package_place id.now self.now.packages ≡ Some m.package_ix))
             (λ _. package_place id.now self.now.packages ≡ None) }
+        ensures id { IfOk result (λ m. package_id_of m ≡ id.now) }
     {
         match self.packages.get_index_of(id) {
             Some(ix) => Ok(self.package(ix)),

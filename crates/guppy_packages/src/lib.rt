@@ -13,6 +13,8 @@ mod platform;
 mod row;
 mod row_error;
 mod stored;
+#[cfg(test)]
+mod tests;
 
 pub use direction::DependencyDirection;
 pub use graph::PackageGraph;

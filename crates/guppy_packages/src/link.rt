@@ -54,6 +54,7 @@ impl<'g> PackageLink<'g> {
     pub fn from(self) -> PackageMetadata<'g>
         ensures graph { package_graph_of result ≡ link_graph_of self.entry }
         ensures number { result.package_ix ≡ (link_table_of self.entry).from }
+        ensures package { slice_get (link_graph_of self.entry).packages (link_table_of self.entry).from ≡ Some (package_table_of result) }
     {
         self.graph.facts();
         self.graph.package(self.pair.0)
@@ -63,6 +64,7 @@ impl<'g> PackageLink<'g> {
     pub fn to(self) -> PackageMetadata<'g>
         ensures graph { package_graph_of result ≡ link_graph_of self.entry }
         ensures number { result.package_ix ≡ (link_table_of self.entry).to }
+        ensures package { slice_get (link_graph_of self.entry).packages (link_table_of self.entry).to ≡ Some (package_table_of result) }
     {
         self.graph.facts();
         self.graph.package(self.pair.1)
@@ -86,6 +88,6 @@ impl<'g> PackageLink<'g> {
     pub fn dev_only(self) -> bool
         ensures { result ≡ is_dev_only (link_table_of self.entry) }
     {
-        are_for_development(self.contents.declarations.as_slice())
+        are_for_development(self.declarations())
     }
 }

@@ -3,12 +3,13 @@ ghost use Rattle.std.specs.Prelude.{◌≡◌, Some, slice_get, map, codes};
 ghost use Rattle.std.specs.String.{string_bytes};
 ghost use Rattle.guppy_packages.specs.NamedFeature.{feature_table};
 ghost use Rattle.guppy_packages.specs.Stored.{package_table};
-ghost use Rattle.guppy_packages.specs.Tables.{feature_place, optional_place, has_feature};
+ghost use Rattle.guppy_packages.specs.Tables.{feature_place, optional_place, has_feature, AreLinksFrom};
 
 use crate::graph::PackageGraph;
 use crate::named_feature::NamedFeature;
 use crate::package_id::PackageId;
 use crate::stored::PackageData;
+use std::ops::Range;
 
 /// No package has the id.
 #[derive(Clone, Copy, PartialEq, Eq, Debug)]
@@ -113,5 +114,12 @@ impl<'g> PackageMetadata<'g> {
         ensures { result ≡ optional_place name.now (package_table_of self.entry).optional_names }
     {
         self.contents.optional_names.get_index_of(name)
+    }
+
+    /// The numbers of the links that leave it, ascending.
+    pub fn direct_links(self) -> Range<usize>
+        ensures { AreLinksFrom (package_graph_of self.entry).links self.entry.package_ix result.start result.end }
+    {
+        self.graph.links_from(self.package_ix)
     }
 }
