@@ -1,24 +1,20 @@
 -- One edge is passed.
-use Rattle.std.proofs.Common.{◌≡◌, ◌≢◌, ℕ, zero, suc, ◌+◌, ◌-◌, ◌<◌, ◌≤◌, ◌⊎◌, inl, inr, Bool, true, false, List, [], ◌∷◌, ◌++◌, length, get_or, map, set, refl, ap, sym, ◌∙◌, subst, arith, Contains, add-one, slice_get, Some}
+use Rattle.std.proofs.Common.{◌≡◌, ◌≢◌, ℕ, suc, ◌+◌, ◌-◌, ◌<◌, ◌≤◌, ◌⊎◌, inl, inr, Bool, true, false, List, [], ◌∷◌, ◌++◌, length, get_or, set, ap, sym, ◌∙◌, arith, add-one, slice_get, Some}
 use Rattle.std.proofs.lemmas.Option.{slice_get-get_or}
 use Rattle.std.proofs.lemmas.List.{get_or-map}
 use Rattle.guppy_support.proofs.PlaceLemmas.{places_within}
 use Rattle.guppy_support.proofs.SearchLemmas.{place_inside, edge_to}
-use Rattle.std.proofs.lemmas.Bool.{cases_eq, cases_lt, cases_Bool}
+use Rattle.std.proofs.lemmas.Bool.{cases_eq}
 use Rattle.guppy_support.specs.declared.digraph.Edge.{Edge}
-use Rattle.guppy_support.specs.Graph.{Graph, IsDigraph, sources, targets}
+use Rattle.guppy_support.specs.Graph.{Graph, IsDigraph, sources}
 use Rattle.guppy_support.specs.Rows.{places}
-use Rattle.guppy_support.specs.Orders.{IsNext}
-use Rattle.guppy_support.specs.Ranks.{IsRanking}
 use Rattle.guppy_support.specs.Queues.{Joins}
-use Rattle.guppy_support.specs.Heads.{IsDone, IsHead, IsWholeBut, IsEntered}
-use Rattle.guppy_support.specs.Plans.{is_fresh, is_left, IsPlan, IsRun, IsAt, IsWithin, IsChosen, IsSetup, IsOutEdge, IsFirst, StartsGrow, AreStarts, AreReady, AreCut, TakesFresh, IsBegun, IsWaiting}
-use Rattle.guppy_support.proofs.HeadLemmas.{next_within, next_start, done_cases}
-use Rattle.guppy_support.proofs.PlanLemmas.{holds_of, entered_of, zero_of}
+use Rattle.guppy_support.specs.Heads.{IsDone}
+use Rattle.guppy_support.specs.Plans.{is_left, IsRun, IsAt, IsWithin, IsChosen, IsSetup, IsOutEdge, StartsGrow, AreStarts, AreReady}
 use Rattle.guppy_support.proofs.CountLemmas.{tally_same}
 use Rattle.guppy_support.proofs.RowLemmas.{done_same, done_kept, left_step, left_end, Steps}
 use Rattle.guppy_support.proofs.GroupLemmas.{first_head}
-use Rattle.guppy_support.proofs.StepLemmas.{plan_mark, plan_cut, run_mark, pass_outside, pass_held, pass_idle, starts_more, starts_same, run_held}
+use Rattle.guppy_support.proofs.StepLemmas.{plan_mark, plan_cut, pass_outside, pass_held, pass_idle, starts_more, starts_same, run_held}
 
 pub ready_joins : (k b : ℕ) (old new : List ℕ) → k ≡ 0 → Joins old b new → AreReady k b old new
 ready_joins k b old new z j = record { kept = j.kept; now = λ q. j.has; only = λ y c. elim (j.only y c) [ inl e ↦ inl (e, z) | inr o ↦ inr o ] }

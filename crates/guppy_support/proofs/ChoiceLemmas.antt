@@ -1,14 +1,12 @@
 -- Which node is chosen.
-use Rattle.std.proofs.Common.{◌≡◌, ◌≢◌, ℕ, zero, suc, ◌+◌, ◌-◌, ◌<◌, ◌≤◌, ◌⊎◌, inl, inr, Bool, true, false, not, List, [], ◌∷◌, ◌++◌, length, get_or, map, set, take, refl, ap, sym, ◌∙◌, subst, arith, Contains}
-use Rattle.std.proofs.lemmas.Bool.{cases_eq, cases_lt, cases_Bool}
-use Rattle.guppy_support.specs.Graph.{Graph, IsDigraph}
-use Rattle.guppy_support.specs.Orders.{IsNext, IsAvailable, IsOrder}
-use Rattle.guppy_support.specs.Paths.{HasEdge}
+use Rattle.std.proofs.Common.{◌≡◌, ℕ, suc, ◌<◌, inl, inr, Bool, true, false, not, List, [], length, get_or, set, refl, ap, sym, ◌∙◌, arith, Contains}
+use Rattle.std.proofs.lemmas.Bool.{cases_Bool}
+use Rattle.guppy_support.specs.Graph.{Graph}
+use Rattle.guppy_support.specs.Orders.{IsOrder}
 use Rattle.guppy_support.proofs.FaultLemmas.{nodes_of_edge}
-use Rattle.guppy_support.specs.Ranks.{IsRanking}
-use Rattle.guppy_support.proofs.MarkLemmas.{contains_cases, place_of}
-use Rattle.guppy_support.specs.Heads.{IsDone, AreHolds, IsHead, IsWholeBut, IsEntered}
-use Rattle.guppy_support.specs.Plans.{is_fresh, IsPlan, IsRun, IsWithin, IsChosen, IsSetup, IsPause, AreFilled, AreCut, TakesFresh, IsBegun, IsWaiting, RowWaits}
+use Rattle.guppy_support.proofs.MarkLemmas.{place_of}
+use Rattle.guppy_support.specs.Heads.{IsDone, IsHead, IsEntered}
+use Rattle.guppy_support.specs.Plans.{is_fresh, IsRun, IsWithin, IsChosen, IsSetup, IsPause, AreFilled, AreCut, TakesFresh, IsBegun, IsWaiting, RowWaits}
 use Rattle.guppy_support.specs.Rows.{places}
 use Rattle.guppy_support.proofs.PlaceLemmas.{places_within}
 use Rattle.guppy_support.proofs.GroupLemmas.{row_complete}

@@ -1,7 +1,7 @@
 -- Counts of edges that are left.
-use Rattle.std.proofs.Common.{◌≡◌, ◌≢◌, ℕ, zero, suc, ◌+◌, ◌-◌, ◌<◌, ◌≤◌, ◌⊎◌, inl, inr, Bool, true, false, cond, ◌&&◌, List, [], ◌∷◌, length, get_or, set, refl, ap, sym, ◌∙◌, subst, arith, get_or-set_same, get_or-set_other}
+use Rattle.std.proofs.Common.{◌≡◌, ◌≢◌, ℕ, zero, suc, ◌+◌, ◌<◌, inl, inr, Bool, true, false, ◌&&◌, List, length, get_or, set, refl, sym, ◌∙◌, arith, get_or-set_same, get_or-set_other}
 use Rattle.std.proofs.Math.ListN.{length-set}
-use Rattle.std.proofs.lemmas.Bool.{cases_eq, cases_lt, cases_Bool}
+use Rattle.std.proofs.lemmas.Bool.{cases_eq, cases_Bool}
 use Rattle.guppy_support.specs.Counts.{count_below, IsTally}
 
 pub count_same : (t s : ℕ → Bool) (n : ℕ) → ((i : ℕ) → i < n → t i ≡ s i) → count_below t n ≡ count_below s n

@@ -1,9 +1,9 @@
 -- What a list of edges without a fault is.
-use Rattle.std.proofs.Common.{◌≡◌, ◌≢◌, ℕ, zero, suc, ◌+◌, ◌-◌, ◌<◌, ◌≤◌, List, refl, sym, ◌∙◌, ap, subst, length, get_or, ◌⊎◌, inl, inr, arith, Contains}
+use Rattle.std.proofs.Common.{◌≡◌, ℕ, zero, suc, ◌+◌, ◌-◌, ◌<◌, ◌≤◌, List, refl, sym, ◌∙◌, ap, length, get_or, ◌⊎◌, inl, inr, arith}
 use Rattle.std.proofs.lemmas.Bool.{cases_eq, cases_order}
-use Rattle.std.proofs.lemmas.List.{get_or-map, length-map, get_or_read}
+use Rattle.std.proofs.lemmas.List.{get_or-map, length-map}
 use Rattle.guppy_support.specs.declared.digraph.Edge.{Edge}
-use Rattle.guppy_support.specs.Graph.{Graph, IsDigraph, JoinsNodes, IsBefore, ComesAfter, IsSound, sources, targets, source_of, target_of}
+use Rattle.guppy_support.specs.Graph.{Graph, IsDigraph, IsBefore, ComesAfter, IsSound, sources, targets, source_of, target_of}
 use Rattle.guppy_support.specs.Paths.{HasEdge}
 
 pub source_is : (es : List Edge) (k : ℕ) (e : Edge) → k < length es → e ≡ get_or es k e → source_of es k ≡ e.from

@@ -1,21 +1,19 @@
 -- The first counts.
-use Rattle.std.proofs.Common.{◌≡◌, ◌≢◌, ℕ, zero, suc, ◌+◌, ◌-◌, ◌<◌, ◌≤◌, ◌⊎◌, inl, inr, Bool, true, false, cond, ◌&&◌, eqb, not, List, [], ◌∷◌, length, get_or, map, set, refl, ap, sym, ◌∙◌, subst, arith, Contains, slice_get, Some, nat_lt, replicate}
+use Rattle.std.proofs.Common.{◌≡◌, ◌≢◌, ℕ, zero, suc, ◌+◌, ◌<◌, ◌≤◌, ◌⊎◌, inl, inr, Bool, true, false, ◌&&◌, eqb, not, List, [], length, get_or, map, set, refl, ap, sym, ◌∙◌, arith, Contains, slice_get, Some, nat_lt, replicate}
 use Rattle.std.proofs.Math.ListN.{length-set}
 use Rattle.std.proofs.lemmas.Bool.{cases_eq, cases_lt, cases_Bool, eq-eqb, lt-ltb, le-ltb}
 use Rattle.std.proofs.lemmas.Option.{slice_get-get_or}
 use Rattle.std.proofs.lemmas.List.{get_or-map, get_or-replicate, get_or_past, length-replicate}
-use Rattle.std.proofs.lemmas.List.Elements.{Contains-get_or}
 use Rattle.guppy_support.specs.declared.digraph.Edge.{Edge}
 use Rattle.guppy_support.specs.Graph.{Graph, IsDigraph, sources, targets}
-use Rattle.guppy_support.specs.Paths.{HasEdge}
 use Rattle.guppy_support.proofs.FaultLemmas.{nodes_of_edge}
-use Rattle.guppy_support.specs.Counts.{count_below, IsTally, enters, holds}
+use Rattle.guppy_support.specs.Counts.{count_below, enters, holds}
 use Rattle.guppy_support.specs.Plans.{IsSetup, IsEdge, AreEntering, AreHolding, AreFirsts, IsFirst, IsWaiting, IsPause, is_fresh}
 use Rattle.guppy_support.specs.Heads.{IsDone, IsHead}
 use Rattle.guppy_support.specs.Rows.{places}
 use Rattle.guppy_support.specs.Queues.{Joins}
 use Rattle.guppy_support.proofs.GroupLemmas.{first_head, row_complete}
-use Rattle.guppy_support.proofs.CountLemmas.{count_same, count_fewer, count_zero, tally_skip, tally_add, tally_same, count_full}
+use Rattle.guppy_support.proofs.CountLemmas.{count_zero, tally_skip, tally_add, tally_same, count_full}
 use Rattle.guppy_support.proofs.PlanLemmas.{eqb_false, edge_of_number}
 
 lt_other : (i p : ℕ) → i ≢ p → nat_lt i (p + 1) ≡ nat_lt i p

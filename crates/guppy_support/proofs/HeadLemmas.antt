@@ -1,11 +1,9 @@
 -- The head of a component that may go on is next.
-use Rattle.std.proofs.Common.{◌≡◌, ◌≢◌, ℕ, zero, suc, ◌+◌, ◌<◌, ◌≤◌, ◌⊎◌, inl, inr, Bool, true, false, List, [], ◌∷◌, ◌++◌, length, get_or, refl, ap, sym, ◌∙◌, subst, arith, Contains}
-use Rattle.std.proofs.lemmas.Bool.{cases_eq, cases_lt, cases_Bool, cases_order}
+use Rattle.std.proofs.Common.{◌≡◌, ℕ, ◌<◌, ◌≤◌, ◌⊎◌, inl, inr, Bool, true, false, List, get_or, sym, ◌∙◌, arith, Contains}
+use Rattle.std.proofs.lemmas.Bool.{cases_eq, cases_lt, cases_Bool}
 use Rattle.guppy_support.specs.Graph.{Graph, IsDigraph}
-use Rattle.guppy_support.specs.Paths.{HasEdge, SameComponent}
-use Rattle.guppy_support.specs.Orders.{IsHeld, IsAvailable, IsNext}
+use Rattle.guppy_support.specs.Orders.{IsAvailable, IsNext}
 use Rattle.guppy_support.proofs.FaultLemmas.{nodes_of_edge}
-use Rattle.guppy_support.proofs.PathLemmas.{same_turned}
 use Rattle.guppy_support.specs.Ranks.{IsRanking}
 use Rattle.guppy_support.specs.Heads.{IsDone, AreMarks, AreHolds, IsHead, IsWholeBut, IsEntered}
 use Rattle.guppy_support.proofs.Exists.{rank_same, path_node}

@@ -1,18 +1,17 @@
 -- Edges and orders.
-use Rattle.std.proofs.Common.{◌≡◌, ◌≢◌, ℕ, zero, suc, ◌+◌, ◌-◌, ◌<◌, ◌≤◌, ◌⊎◌, inl, inr, List, length, get_or, map, take, refl, ap, sym, ◌∙◌, arith, Contains, ◌↔◌}
+use Rattle.std.proofs.Common.{◌≡◌, ◌≢◌, ℕ, zero, suc, ◌+◌, ◌-◌, ◌<◌, ◌⊎◌, inl, inr, List, length, get_or, map, take, sym, ◌∙◌, arith, Contains}
 use Rattle.std.specs.List.{range_with_len}
 use Rattle.std.proofs.lemmas.Bool.{cases_eq, cases_lt}
-use Rattle.std.proofs.lemmas.List.{get_or-take, length-take, get_or_default}
 use Rattle.std.proofs.lemmas.List.FromFn.{length-map-range_with_len, get_or-map-range_with_len}
 use Rattle.guppy_support.specs.declared.digraph.Edge.{Edge}
 use Rattle.guppy_support.specs.Graph.{Graph, IsDigraph}
-use Rattle.guppy_support.specs.Paths.{HasEdge, HasFirmEdge, Path, nowhere, onward, SameComponent, OnCycle}
-use Rattle.guppy_support.specs.Orders.{IsOrder, IsHeld}
-use Rattle.guppy_support.specs.Sequences.{Sequence, IsOrderOf, component_of}
-use Rattle.guppy_support.specs.Laws.{FirmPath, firm_edge, firm_onward, HasNoFirmCycle, OneOrder, ComponentsFollowEdges, FirmEdgesFollow, CyclesAreComponents, CyclesAreMutual}
+use Rattle.guppy_support.specs.Paths.{HasEdge, HasFirmEdge, Path, nowhere, onward, SameComponent}
+use Rattle.guppy_support.specs.Orders.{IsHeld}
+use Rattle.guppy_support.specs.Sequences.{component_of}
+use Rattle.guppy_support.specs.Laws.{FirmPath, firm_edge, firm_onward, OneOrder, ComponentsFollowEdges, FirmEdgesFollow, CyclesAreComponents, CyclesAreMutual}
 use Rattle.guppy_support.proofs.FaultLemmas.{nodes_of_edge}
 use Rattle.guppy_support.proofs.PathLemmas.{same_self, same_joined, cycle_from_same, same_from_cycle}
-use Rattle.guppy_support.proofs.OrderLemmas.{same_order, order_apart, place_before}
+use Rattle.guppy_support.proofs.OrderLemmas.{same_order, place_before}
 use Rattle.guppy_support.proofs.ApartLemmas.{apart_short}
 
 pub one_order : OneOrder

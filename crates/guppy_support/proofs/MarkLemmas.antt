@@ -1,18 +1,18 @@
 -- The steps of the second walk.
-use Rattle.std.proofs.Common.{◌≡◌, ◌≢◌, ℕ, zero, suc, ◌+◌, ◌-◌, ◌<◌, ◌≤◌, ◌⊎◌, inl, inr, Bool, true, false, List, [], ◌∷◌, ◌++◌, length, get_or, take, set, refl, ap, sym, ◌∙◌, subst, arith, Contains, get_or-set_same, get_or-set_other, length-append, Some, slice_get}
+use Rattle.std.proofs.Common.{◌≡◌, ◌≢◌, ℕ, zero, suc, ◌+◌, ◌<◌, ◌≤◌, ◌⊎◌, inl, inr, Bool, true, false, List, [], ◌∷◌, ◌++◌, length, get_or, take, set, ap, sym, ◌∙◌, arith, Contains, get_or-set_same, get_or-set_other, Some, slice_get}
 use Rattle.std.proofs.Math.ListN.{length-set}
 use Rattle.std.proofs.lemmas.Bool.{cases_eq, cases_lt, cases_order}
-use Rattle.std.proofs.lemmas.List.{get_or-map, length-map, get_or_append_left, get_or_at, get_or_default, get_or-take, length-take}
-use Rattle.std.proofs.lemmas.List.Elements.{Contains-push, Contains-push_cases, Contains-append_left, Contains-get_or}
+use Rattle.std.proofs.lemmas.List.{get_or-map, length-map, get_or_default, get_or-take, length-take}
+use Rattle.std.proofs.lemmas.List.Elements.{Contains-push, Contains-append_left, Contains-get_or}
 use Rattle.guppy_support.specs.Graph.{Graph, IsDigraph, targets, source_at}
 use Rattle.guppy_support.specs.Rows.{places}
 use Rattle.guppy_support.specs.declared.digraph.Edge.{Edge}
 use Rattle.guppy_support.proofs.PlaceLemmas.{places_within, edge_into_at}
 use Rattle.guppy_support.proofs.FaultLemmas.{nodes_of_edge}
 use Rattle.std.proofs.lemmas.Option.{slice_get-get_or}
-use Rattle.guppy_support.specs.Paths.{HasEdge, Path, nowhere, onward, SameComponent}
-use Rattle.guppy_support.proofs.PathLemmas.{join, one_edge}
-use Rattle.guppy_support.specs.Finish.{LeadsOn, IsFinishOrder, AreApart}
+use Rattle.guppy_support.specs.Paths.{HasEdge, Path, nowhere, onward}
+use Rattle.guppy_support.proofs.PathLemmas.{join}
+use Rattle.guppy_support.specs.Finish.{IsFinishOrder, AreApart}
 use Rattle.guppy_support.specs.Search.{IsSeen}
 use Rattle.guppy_support.specs.Marks.{IsTied, AreMarked, AreSpread}
 use Rattle.guppy_support.specs.Ranks.{IsRanking}

@@ -1,10 +1,10 @@
 -- There is one order at most.
-use Rattle.std.proofs.Common.{◌≡◌, ℕ, zero, suc, ◌+◌, ◌<◌, ◌≤◌, ◌⊎◌, inl, inr, List, length, take, get_or, refl, ap, sym, ◌∙◌, subst, arith, add-one, Contains, ◌≢◌}
+use Rattle.std.proofs.Common.{◌≡◌, ℕ, zero, suc, ◌<◌, ◌≤◌, inl, inr, List, length, take, get_or, refl, sym, ◌∙◌, subst, arith, add-one, Contains, ◌≢◌}
 use Rattle.std.proofs.lemmas.Bool.{cases_order, cases_lt}
 use Rattle.std.proofs.lemmas.List.{take_more_same, take_all, get_or-take, length-take, get_or_default}
 use Rattle.std.proofs.lemmas.List.Elements.{Contains-get_or}
 use Rattle.guppy_support.specs.declared.digraph.Edge.{Edge}
-use Rattle.guppy_support.specs.Orders.{IsAvailable, IsNext, IsOrder}
+use Rattle.guppy_support.specs.Orders.{IsNext, IsOrder}
 
 pub same_next : {es : List Edge} {n : ℕ} {listed : List ℕ} {u v : ℕ} → IsNext es n listed u → IsNext es n listed v → u ≡ v
 same_next {u = u} {v = v} p q =

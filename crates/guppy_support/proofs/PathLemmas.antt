@@ -1,8 +1,8 @@
 -- Paths join, and components are classes.
-use Rattle.std.proofs.Common.{◌≡◌, ℕ, List}
+use Rattle.std.proofs.Common.{ℕ, List}
 use Rattle.guppy_support.specs.declared.digraph.Edge.{Edge}
 use Rattle.guppy_support.specs.Paths.{HasEdge, Path, nowhere, onward, SameComponent, OnCycle}
-use Rattle.std.proofs.Common.{◌⊎◌, inl, inr, ◌≢◌, refl, subst, sym}
+use Rattle.std.proofs.Common.{◌≢◌, refl, sym}
 
 pub join : {es : List Edge} {a b c : ℕ} → Path es a b → Path es b c → Path es a c
 join nowhere q = q

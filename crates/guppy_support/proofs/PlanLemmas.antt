@@ -1,17 +1,16 @@
 -- What the counts of a plan say.
-use Rattle.std.proofs.Common.{◌≡◌, ◌≢◌, ℕ, zero, suc, ◌+◌, ◌-◌, ◌<◌, ◌≤◌, ◌⊎◌, inl, inr, Bool, true, false, cond, ◌&&◌, ◌||◌, eqb, not, List, [], ◌∷◌, length, get_or, map, set, refl, ap, sym, ◌∙◌, subst, arith, Contains}
-use Rattle.std.proofs.lemmas.Bool.{cases_eq, cases_lt, cases_Bool, eq-eqb, not-true}
+use Rattle.std.proofs.Common.{◌≡◌, ◌≢◌, ℕ, ◌<◌, inl, inr, Bool, true, false, ◌&&◌, eqb, not, List, length, get_or, map, refl, ap, sym, ◌∙◌, arith}
+use Rattle.std.proofs.lemmas.Bool.{cases_Bool, eq-eqb, not-true}
 use Rattle.std.proofs.lemmas.Bool.Decides.{eqb_tells}
-use Rattle.std.proofs.lemmas.List.{get_or-map, length-map}
+use Rattle.std.proofs.lemmas.List.{get_or-map}
 use Rattle.std.proofs.lemmas.List.Elements.{Contains-get_or}
 use Rattle.guppy_support.specs.declared.digraph.Edge.{Edge}
 use Rattle.guppy_support.specs.Graph.{Graph, IsDigraph, sources, targets}
-use Rattle.guppy_support.specs.Paths.{HasEdge, HasFirmEdge, SameComponent}
-use Rattle.guppy_support.specs.Orders.{IsHeld}
+use Rattle.guppy_support.specs.Paths.{HasEdge, HasFirmEdge}
 use Rattle.guppy_support.proofs.FaultLemmas.{nodes_of_edge}
 use Rattle.guppy_support.specs.Ranks.{IsRanking}
-use Rattle.guppy_support.specs.Counts.{count_below, IsTally, enters, holds}
-use Rattle.guppy_support.specs.Heads.{IsDone, AreMarks, AreHolds, IsEntered}
+use Rattle.guppy_support.specs.Counts.{IsTally, enters, holds}
+use Rattle.guppy_support.specs.Heads.{AreMarks, AreHolds, IsEntered}
 use Rattle.guppy_support.specs.Plans.{is_fresh}
 use Rattle.guppy_support.proofs.CountLemmas.{count_none, count_some, count_zero}
 use Rattle.guppy_support.proofs.Exists.{rank_same, firm_is_edge}

@@ -1,13 +1,13 @@
 -- Each place stands once in its row.
-use Rattle.std.proofs.Common.{◌≡◌, ◌≢◌, ℕ, zero, suc, ◌+◌, ◌-◌, ◌<◌, ◌≤◌, ◌⊎◌, inl, inr, Bool, true, false, cond, ◌&&◌, ◌||◌, eqb, not, List, [], ◌∷◌, length, get_or, drop, set, refl, ap, sym, ◌∙◌, subst, arith, Contains, get_or-set_same, get_or-set_other}
-use Rattle.std.proofs.lemmas.Bool.{cases_eq, cases_lt, cases_Bool, eq-eqb}
+use Rattle.std.proofs.Common.{◌≡◌, ◌≢◌, ℕ, zero, suc, ◌+◌, ◌<◌, ◌≤◌, ◌⊎◌, inl, inr, Bool, true, false, ◌||◌, eqb, List, [], ◌∷◌, length, get_or, drop, set, refl, sym, arith, get_or-set_same, get_or-set_other}
+use Rattle.std.proofs.lemmas.Bool.{cases_eq, cases_Bool, eq-eqb}
 use Rattle.std.proofs.lemmas.Bool.Decides.{eqb_tells}
 use Rattle.guppy_support.specs.declared.digraph.Edge.{Edge}
 use Rattle.guppy_support.specs.Graph.{sources}
 use Rattle.guppy_support.specs.Rows.{places_from, places}
 use Rattle.guppy_support.specs.Heads.{IsDone}
 use Rattle.guppy_support.specs.Plans.{is_fresh, is_left, has}
-use Rattle.guppy_support.proofs.PlanLemmas.{eqb_false, eqb_true}
+use Rattle.guppy_support.proofs.PlanLemmas.{eqb_false}
 
 pub or_true : (x : Bool) → (x || true) ≡ true
 or_true true = refl

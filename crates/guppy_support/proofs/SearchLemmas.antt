@@ -1,18 +1,18 @@
 -- The steps of the first walk.
-use Rattle.std.proofs.Common.{◌≡◌, ◌≢◌, ℕ, zero, suc, ◌+◌, ◌-◌, ◌<◌, ◌≤◌, ◌⊎◌, inl, inr, Bool, true, false, List, [], ◌∷◌, ◌++◌, length, get_or, take, set, refl, ap, sym, ◌∙◌, subst, arith, Contains, get_or-set_same, get_or-set_other, length-append, Some, None, slice_get}
+use Rattle.std.proofs.Common.{◌≡◌, ℕ, ◌+◌, ◌-◌, ◌<◌, inl, inr, Bool, true, false, List, [], ◌∷◌, ◌++◌, length, get_or, take, set, refl, ap, sym, ◌∙◌, subst, arith, Contains, get_or-set_same, get_or-set_other, length-append, Some, slice_get}
 use Rattle.std.proofs.Math.ListN.{length-set}
 use Rattle.std.proofs.lemmas.Bool.{cases_eq, cases_lt}
 use Rattle.std.proofs.lemmas.List.{get_or-map, get_or_read, length-map, get_or_append_left, get_or_at, get_or_default, take_at, take-append-le}
 use Rattle.std.proofs.lemmas.List.Elements.{Contains-push, Contains-push_cases, Contains-append_left, Contains-get_or}
 use Rattle.guppy_support.specs.Graph.{Graph, IsDigraph, sources, target_at}
 use Rattle.guppy_support.specs.Rows.{places}
-use Rattle.guppy_support.specs.Paths.{HasEdge, Path, nowhere, onward}
+use Rattle.guppy_support.specs.Paths.{HasEdge, Path, nowhere}
 use Rattle.guppy_support.proofs.PathLemmas.{join, one_edge}
 use Rattle.guppy_support.proofs.PlaceLemmas.{edge_at, edge_found, places_within}
 use Rattle.guppy_support.specs.declared.digraph.Edge.{Edge}
 use Rattle.std.proofs.lemmas.Option.{slice_get-get_or}
 use Rattle.guppy_support.proofs.FaultLemmas.{nodes_of_edge}
-use Rattle.guppy_support.specs.Finish.{LeadsOn, IsFinishOrder, AreApart}
+use Rattle.guppy_support.specs.Finish.{IsFinishOrder, AreApart}
 use Rattle.guppy_support.specs.Search.{IsSeen, LeadTo, IsSearch}
 
 pub at_left : (xs : List ℕ) (x i : ℕ) → i < length xs → get_or (xs ++ x ∷ []) i 0 ≡ get_or xs i 0

@@ -1,21 +1,14 @@
 -- Components are numbered along the order.
-use Rattle.std.proofs.Common.{◌≡◌, ◌≢◌, ℕ, zero, suc, ◌+◌, ◌-◌, ◌<◌, ◌≤◌, ◌⊎◌, inl, inr, Bool, true, false, ◌||◌, cond, eqb, List, [], ◌∷◌, ◌++◌, length, get_or, map, take, drop, set, refl, ap, sym, ◌∙◌, subst, arith, Contains, get_or-set_same, get_or-set_other}
-use Rattle.std.specs.Prelude.{filter, nat_lt}
-use Rattle.std.specs.List.{list_any}
-use Rattle.std.proofs.Math.ListN.{length-set}
+use Rattle.std.proofs.Common.{◌≡◌, ◌≢◌, ℕ, zero, suc, ◌+◌, ◌-◌, ◌<◌, ◌≤◌, inl, inr, eqb, List, [], ◌∷◌, ◌++◌, length, get_or, map, take, drop, set, refl, ap, sym, ◌∙◌, arith, get_or-set_same, get_or-set_other}
+use Rattle.std.specs.Prelude.{filter}
 use Rattle.std.proofs.lemmas.Bool.{cases_eq, cases_lt, cases_order, eq-eqb, ne_eqb, lt-ltb, le-ltb}
-use Rattle.std.proofs.lemmas.Bool.Decides.{eqb_tells}
 use Rattle.std.proofs.lemmas.List.{get_or-take, get_or-map, length-map, length-take, ext_get_or, get_or_append_left, get_or_at, length-append, get_or_default}
-use Rattle.std.proofs.lemmas.List.Elements.{Contains-get_or}
-use Rattle.std.proofs.lemmas.Map.Keys.{IsDistinct-from_apart}
-use Rattle.std.proofs.lemmas.Map.Steps.{length-le_from_distinct_below}
 use Rattle.guppy_support.specs.Graph.{Graph, IsDigraph}
-use Rattle.guppy_support.specs.Paths.{SameComponent}
 use Rattle.guppy_support.specs.Orders.{IsOrder}
 use Rattle.guppy_support.specs.Rows.{below}
 use Rattle.guppy_support.specs.Finish.{AreApart}
 use Rattle.guppy_support.specs.Ranks.{IsRanking}
-use Rattle.guppy_support.specs.Sequences.{Sequence, IsOrderOf, numbers_of, AreGrouped, rank_at, AreNumbered}
+use Rattle.guppy_support.specs.Sequences.{IsOrderOf, numbers_of, AreGrouped, rank_at, AreNumbered}
 use Rattle.guppy_support.proofs.PackLemmas.{below_step, below-le-length}
 use Rattle.guppy_support.proofs.OrderLemmas.{listed_before, order_below, order_apart}
 use Rattle.guppy_support.proofs.ApartLemmas.{apart_whole}

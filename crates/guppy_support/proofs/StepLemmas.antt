@@ -1,5 +1,5 @@
 -- What a mark and the passing of an edge do to a plan.
-use Rattle.std.proofs.Common.{◌≡◌, ◌≢◌, ℕ, zero, suc, ◌+◌, ◌-◌, ◌<◌, ◌≤◌, ◌⊎◌, inl, inr, Bool, true, false, cond, ◌&&◌, ◌||◌, eqb, not, List, [], ◌∷◌, ◌++◌, length, get_or, take, map, set, refl, ap, sym, ◌∙◌, subst, arith, Contains, get_or-set_same, get_or-set_other, length-append}
+use Rattle.std.proofs.Common.{◌≡◌, ◌≢◌, ℕ, suc, ◌+◌, ◌<◌, ◌⊎◌, inl, inr, Bool, true, false, ◌&&◌, eqb, not, List, [], ◌∷◌, ◌++◌, length, get_or, take, map, set, refl, ap, sym, ◌∙◌, arith, get_or-set_same, get_or-set_other, length-append}
 use Rattle.std.proofs.Math.ListN.{length-set}
 use Rattle.std.proofs.lemmas.Bool.{cases_eq, cases_lt, cases_Bool, eq-eqb}
 use Rattle.std.proofs.lemmas.List.{get_or_append_left, get_or_at, length-map, take-append-le, take_all}
@@ -9,12 +9,12 @@ use Rattle.guppy_support.specs.Graph.{Graph, sources, targets}
 use Rattle.guppy_support.specs.Rows.{places}
 use Rattle.guppy_support.specs.Orders.{IsNext}
 use Rattle.guppy_support.specs.Queues.{Joins}
-use Rattle.guppy_support.specs.Counts.{count_below, IsTally, enters, holds}
-use Rattle.guppy_support.specs.Heads.{IsDone, AreMarks, IsHead, IsWholeBut}
-use Rattle.guppy_support.specs.Plans.{is_fresh, is_left, IsBegun, IsWaiting, IsPlan, IsRun, AreCut, AreStarts, AreReady}
+use Rattle.guppy_support.specs.Counts.{count_below, enters, holds}
+use Rattle.guppy_support.specs.Heads.{IsDone, IsHead}
+use Rattle.guppy_support.specs.Plans.{is_fresh, is_left, IsBegun, IsPlan, IsRun, AreCut, AreStarts, AreReady}
 use Rattle.guppy_support.proofs.CountLemmas.{count_fewer, tally_same, tally_skip, tally_pass}
-use Rattle.guppy_support.proofs.PlanLemmas.{eqb_false, eqb_true}
-use Rattle.guppy_support.proofs.RowLemmas.{done_same, done_kept, done_which, left_start, Steps, or_true}
+use Rattle.guppy_support.proofs.PlanLemmas.{eqb_false}
+use Rattle.guppy_support.proofs.RowLemmas.{done_same, done_kept, done_which, left_start, Steps}
 
 -- a head stays one while no new node comes into its component, and the counts there stay
 pub head_same : (n : ℕ) (ranks held held' : List ℕ) (done done' : List Bool) (x : ℕ) → IsHead n ranks held done x → ¬ IsDone done' x

@@ -3,7 +3,7 @@ use Rattle.std.specs.Prelude.{◌≡◌, ◌≢◌, ◌↔◌, ℕ, ◌<◌, Lis
 use Rattle.guppy_support.specs.declared.digraph.Edge.{Edge}
 use Rattle.guppy_support.specs.Graph.{Graph, IsDigraph}
 use Rattle.guppy_support.specs.Paths.{HasEdge, HasFirmEdge, SameComponent, OnCycle}
-use Rattle.guppy_support.specs.Orders.{IsOrder, IsAvailable}
+use Rattle.guppy_support.specs.Orders.{IsOrder}
 use Rattle.guppy_support.specs.Sequences.{Sequence, IsOrderOf}
 
 -- a path, not empty, over edges that aren't dev-only

@@ -1,5 +1,5 @@
 -- What the second walk knows on the way.
-use Rattle.std.specs.Prelude.{◌≡◌, ◌≢◌, ℕ, ◌+◌, ◌-◌, ◌*◌, ◌<◌, ◌≤◌, Bool, true, cond, sum_by, List, length, take, slice_index, Contains}
+use Rattle.std.specs.Prelude.{◌≡◌, ℕ, ◌+◌, ◌-◌, ◌*◌, ◌<◌, ◌≤◌, Bool, cond, sum_by, List, length, take, slice_index, Contains}
 use Rattle.guppy_support.specs.Paths.{HasEdge, Path, SameComponent}
 use Rattle.guppy_support.specs.Graph.{Graph}
 use Rattle.guppy_support.specs.Search.{IsSeen}

@@ -1,5 +1,5 @@
 -- Paths and components of a list of edges.
-use Rattle.std.specs.Prelude.{◌≡◌, ℕ, Bool, true, List, Contains}
+use Rattle.std.specs.Prelude.{◌≡◌, ℕ, true, List, Contains}
 use Rattle.guppy_support.specs.declared.digraph.Edge.{Edge}
 
 -- some edge leads from a to b

@@ -1,5 +1,5 @@
 -- What is known between two nodes of the order.
-use Rattle.std.specs.Prelude.{◌≡◌, ◌≢◌, ℕ, ◌+◌, ◌-◌, ◌<◌, ◌≤◌, ◌⊎◌, Bool, true, false, ◌||◌, ◌==◌, not, List, [], ◌∷◌, length, map, nat_lt, set, take, drop, slice_index, slice_index_or, Contains}
+use Rattle.std.specs.Prelude.{◌≡◌, ◌≢◌, ℕ, ◌+◌, ◌<◌, ◌≤◌, ◌⊎◌, Bool, true, false, ◌||◌, ◌==◌, not, List, [], ◌∷◌, length, map, nat_lt, set, take, drop, slice_index, slice_index_or, Contains}
 use Rattle.guppy_support.specs.declared.digraph.Edge.{Edge}
 use Rattle.guppy_support.specs.Graph.{Graph, IsDigraph, sources, targets}
 use Rattle.guppy_support.specs.Rows.{places}

@@ -1,7 +1,8 @@
 //! Sets of numbers below a bound, 64 numbers to a word.
-ghost use Rattle.std.specs.Prelude.{◌≡◌, ℕ, ◌+◌, ◌*◌, ◌-◌, ◌^◌, ◌<◌, ◌≤◌, ◌||◌, ◌&&◌, ◌==◌, not, false, true, [], ◌∷◌, length, map, zip, IfOk, MatchOption, replicate, slice_set, count_by, bit_and, bit_or, bit_xor, nat_eq};
+ghost use Rattle.std.specs.Prelude.{◌≡◌, ℕ, ◌+◌, ◌*◌, ◌-◌, ◌^◌, ◌<◌, ◌≤◌, ◌||◌, ◌&&◌, ◌==◌, not, false, true, [], ◌∷◌, length, map, zip, IfOk, IfSome, Some, MatchOption, replicate, slice_set, count_by, bit_and, bit_or, bit_xor, nat_eq};
 ghost use mathlib.Core.Bool.{beq};
-ghost use Rattle.std.specs.Iterator.{YieldsFirst, item_count};
+ghost use Rattle.std.specs.Iterator.{YieldsFirst, UpTo, item_count};
+ghost use Rattle.std.specs.Iterator.SizeHint.{IsWithinCount};
 ghost use Rattle.std.specs.Cmp.{partial_equiv_from_equiv, bool_eq_equiv};
 ghost use Rattle.std.specs.Cmp.Lexicographic.{pointwise, lists_equiv};
 ghost use Rattle.guppy_support.specs.Bits.{has, members, members_from, one_alone, Fit};
@@ -272,7 +273,11 @@ impl<'a> Iterator for Ones<'a> {
         Some(number)
     }
 
-    fn size_hint(&self) -> (usize, Option<usize>) {
+    fn size_hint(&self) -> (usize, Option<usize>)
+        ensures exact { result ≡ (length self.now, Some (length self.now)) }
+        ensures lower { IsWithinCount result.0 (item_count (λ s. s) self.now) }
+        ensures upper { IfSome result.1 (UpTo (item_count (λ s. s) self.now)) }
+    {
         (self.left, Some(self.left))
     }
 }

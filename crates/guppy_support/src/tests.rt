@@ -38,7 +38,7 @@ fn shown(
 }
 
 #[test]
-fn orders_of_small_digraphs(rt: HostRuntime) -> Result<(), AllocError> {
+fn orders_of_trees_and_cycles(rt: HostRuntime) -> Result<(), AllocError> {
     // no edge is dev-only, and there is no cycle
     let tree = [
         (1, 0, true),
@@ -74,7 +74,11 @@ fn orders_of_small_digraphs(rt: HostRuntime) -> Result<(), AllocError> {
         shown(&rt, rt.alloc(), 7, &cycle)?.as_str(),
         " 2:0 6:1 1:2 4:2 5:2 3:3 0:4"
     );
+    Ok(())
+}
 
+#[test]
+fn orders_inside_components(rt: HostRuntime) -> Result<(), AllocError> {
     // two nodes, of which one depends on the other only for its tests
     let pair = [(0, 1, true), (1, 0, false)];
     assert_eq!(rt; shown(&rt, rt.alloc(), 2, &pair)?.as_str(), " 0:0 1:0");
@@ -190,7 +194,7 @@ fn sets_over_several_words(rt: HostRuntime) -> Result<(), AllocError> {
     Ok(())
 }
 
-// One cycle, one chain and a chain of small cycles, too long for recursion.
+// One cycle and one chain, too long for recursion.
 #[test]
 fn large_digraphs(rt: HostRuntime) -> Result<(), AllocError> {
     let mut cycle = Vec::new(rt.alloc());
@@ -215,6 +219,12 @@ fn large_digraphs(rt: HostRuntime) -> Result<(), AllocError> {
     let graph = Digraph::new(rt.alloc(), 800000, &chain).expect(&rt, "the edges are sound");
     let order = Order::new(rt.alloc(), &graph)?;
     assert_eq!(rt; order.component_count(), 800000);
+    Ok(())
+}
+
+// A chain of small cycles.
+#[test]
+fn many_components(rt: HostRuntime) -> Result<(), AllocError> {
     let mut pairs = Vec::new(rt.alloc());
     for first in 0..100000usize {
         if first > 0 {

@@ -1,8 +1,8 @@
-use Rattle.std.proofs.Common.{◌≡◌, ◌+◌, ◌-◌, ◌<◌, ◌≤◌, ◌⊎◌, inl, inr, ℕ, List, length, get_or, arith, refl, sym}
+use Rattle.std.proofs.Common.{◌≡◌, ◌-◌, ◌<◌, ℕ, List, length, get_or, arith, refl, sym}
 use Rattle.std.proofs.lemmas.Bool.{true≢false}
-use Rattle.std.specs.Prelude.{IsTrue, false, true}
+use Rattle.std.specs.Prelude.{false}
 use Rattle.guppy_support.specs.declared.digraph.Edge.{Edge}
-use Rattle.guppy_support.specs.Graph.{IsRefused, for_its_ends, for_its_place, JoinsNodes, IsSound, ComesAfter, IsBefore}
+use Rattle.guppy_support.specs.Graph.{for_its_ends, for_its_place, JoinsNodes}
 use Rattle.guppy_support.proofs.FaultLemmas.{source_read, target_read, comes_after, is_before_read, sound_more}
 use Rattle.guppy_support.proofs.digraph.first_fault.Goals as goal
 use Rattle.guppy_support.proofs.digraph.first_fault.Goals.{then-edge-nodes-via-then-edge-nodes, then-edge-nodes-via-else-edge-nodes+then-edge-nodes-2, then-place-gt0+else-not-is_before, else-place-gt0}

@@ -1,6 +1,5 @@
-use Rattle.std.proofs.Common.{ℕ, ◌<◌, rules, arith}
+use Rattle.std.proofs.Common.{rules}
 use Rattle.guppy_support.proofs.SearchLemmas.{finished}
-use Rattle.guppy_support.specs.Search.{IsSeen}
 use Rattle.guppy_support.proofs.finish.finish_order.Goals as goal
 
 pub returns-clause-order : goal.returns-clause-order

@@ -1,5 +1,4 @@
-use Rattle.std.proofs.Common.{rules, ◌≡◌, ℕ, get_or, arith, sym, refl, ◌∙◌}
-use Rattle.guppy_support.specs.Marks.{AreMarked}
+use Rattle.std.proofs.Common.{◌≡◌, arith}
 use Rattle.guppy_support.proofs.MarkLemmas.{ranked, ranking}
 use Rattle.guppy_support.proofs.ApartLemmas.{apart_short}
 use Rattle.guppy_support.proofs.marks.ranks_from.Goals as goal

@@ -1,4 +1,4 @@
-use Rattle.std.proofs.Common.{◌≡◌, ℕ, ◌+◌, ◌<◌, ◌≤◌, length, slice_index}
+use Rattle.std.proofs.Common.{◌+◌, ◌≤◌, length}
 use Rattle.guppy_support.specs.Marks.{AreMarkedIn}
 use Rattle.guppy_support.proofs.marks.ranks_from.Given as goal
 

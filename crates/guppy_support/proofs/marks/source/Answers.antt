@@ -1,4 +1,3 @@
-use Rattle.std.proofs.Common.{rules, ◌≡◌, ◌<◌, length, get_or}
 use Rattle.guppy_support.proofs.MarkLemmas.{into_inside, edge_from}
 use Rattle.guppy_support.proofs.marks.source.Goals as goal
 

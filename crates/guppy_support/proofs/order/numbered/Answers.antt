@@ -1,6 +1,6 @@
-use Rattle.std.proofs.Common.{◌≡◌, ◌≢◌, ◌+◌, ◌-◌, ◌<◌, ◌≤◌, ◌⊎◌, inl, inr, ℕ, List, length, arith, ap, sym, ◌∙◌, length-append, [], ◌∷◌}
+use Rattle.std.proofs.Common.{◌≡◌, ◌≢◌, ◌+◌, ◌-◌, ◌≤◌, inl, inr, ℕ, List, length, arith, sym, length-append, [], ◌∷◌}
 use Rattle.std.proofs.lemmas.Bool.{cases_eq}
-use Rattle.guppy_support.specs.Sequences.{rank_at, AreNumbered}
+use Rattle.guppy_support.specs.Sequences.{rank_at}
 use Rattle.guppy_support.proofs.SequenceLemmas.{numbered_more}
 use Rattle.guppy_support.proofs.order.numbered.Goals as goal
 

@@ -1,4 +1,4 @@
-use Rattle.std.proofs.Common.{◌≡◌, ◌≢◌, ℕ, ◌+◌, ◌<◌, length, slice_index}
+use Rattle.std.proofs.Common.{◌≢◌, ℕ, ◌<◌, slice_index}
 use Rattle.guppy_support.proofs.plan.first_of.Given as goal
 
 abbrev pub invariant-loop-place : goal.invariant-loop-place

@@ -1,4 +1,4 @@
-use Rattle.std.proofs.Common.{◌-◌, ℕ, length}
+use Rattle.std.proofs.Common.{◌-◌, length}
 use Rattle.guppy_support.specs.Plans.{IsPauseIn}
 use Rattle.guppy_support.proofs.plan.order_from.Given as goal
 

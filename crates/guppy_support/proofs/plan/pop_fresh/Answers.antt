@@ -1,4 +1,4 @@
-use Rattle.std.proofs.Common.{rules, ◌≡◌, ℕ, true, false, sym, ◌∙◌, []}
+use Rattle.std.proofs.Common.{rules}
 use Rattle.guppy_support.proofs.plan.pop_fresh.Goals as goal
 
 pub bounds-done-number : goal.bounds-done-number

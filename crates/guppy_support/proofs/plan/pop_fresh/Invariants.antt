@@ -1,4 +1,4 @@
-use Rattle.std.proofs.Common.{◌≡◌, ℕ, ◌+◌, ◌<◌, ◌⊎◌, length, Contains}
+use Rattle.std.proofs.Common.{ℕ, length, Contains}
 use Rattle.guppy_support.specs.Heads.{IsDone}
 use Rattle.guppy_support.proofs.plan.pop_fresh.Given as goal
 

@@ -1,4 +1,3 @@
-use Rattle.std.proofs.Common.{rules, ◌≡◌, ℕ, get_or}
 use Rattle.guppy_support.proofs.AtLemmas.{ready_joins}
 use Rattle.guppy_support.proofs.plan.wait.Goals as goal
 

@@ -1,4 +1,4 @@
-use Rattle.std.proofs.Common.{◌≡◌, ◌<◌, ℕ, length, slice_index, Contains}
+use Rattle.std.proofs.Common.{◌≡◌, ◌<◌, ℕ, slice_index, Contains}
 use Rattle.guppy_support.proofs.plan.waiting.Given as goal
 
 abbrev pub invariant-loop-place : goal.invariant-loop-place

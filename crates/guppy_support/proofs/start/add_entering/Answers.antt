@@ -1,4 +1,4 @@
-use Rattle.std.proofs.Common.{rules, ◌≡◌, ◌≢◌, ◌<◌, ◌^◌, ℕ, get_or, length, arith, sym}
+use Rattle.std.proofs.Common.{rules, ◌<◌, ◌^◌, get_or, length, arith, sym}
 use Rattle.std.proofs.lemmas.List.{get_or_read}
 use Rattle.guppy_support.proofs.FirstLemmas.{room, entering_add}
 use Rattle.guppy_support.proofs.start.add_entering.Goals as goal

@@ -1,6 +1,6 @@
-use Rattle.std.proofs.Common.{rules, ◌≡◌, ◌≢◌, ◌<◌, ◌^◌, ◌⊎◌, inl, inr, ℕ, get_or, length, arith, sym}
+use Rattle.std.proofs.Common.{rules, ◌<◌, ◌^◌, length, arith, sym}
 use Rattle.std.proofs.lemmas.List.{get_or_read}
-use Rattle.guppy_support.proofs.FirstLemmas.{room_held, holding_add, holding_skip}
+use Rattle.guppy_support.proofs.FirstLemmas.{room_held, holding_add}
 use Rattle.guppy_support.proofs.start.add_holding.Goals as goal
 
 pub overflow_add-index_mut : goal.overflow_add-index_mut

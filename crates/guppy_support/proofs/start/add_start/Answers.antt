@@ -1,4 +1,3 @@
-use Rattle.std.proofs.Common.{◌≡◌, ℕ}
 use Rattle.guppy_support.proofs.FirstLemmas.{firsts_more}
 use Rattle.guppy_support.proofs.start.add_start.Goals as goal
 

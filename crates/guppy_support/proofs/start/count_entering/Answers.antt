@@ -1,4 +1,4 @@
-use Rattle.std.proofs.Common.{rules, ◌≡◌, ℕ, length, arith, ap, ◌∙◌, replicate, get_or}
+use Rattle.std.proofs.Common.{length, arith, ap, ◌∙◌}
 use Rattle.std.proofs.lemmas.List.{get_or-replicate, length-replicate}
 use Rattle.guppy_support.proofs.FirstLemmas.{entering_none}
 use Rattle.guppy_support.proofs.start.count_entering.Goals as goal

@@ -1,4 +1,3 @@
-use Rattle.std.proofs.Common.{ℕ}
 use Rattle.guppy_support.specs.Plans.{AreHolding}
 use Rattle.guppy_support.proofs.start.count_holding.Given as goal
 

@@ -1,7 +1,6 @@
-use Rattle.std.proofs.Common.{◌≡◌, ◌<◌, ℕ, length, arith, get_or}
+use Rattle.std.proofs.Common.{◌<◌, length, arith}
 use Rattle.guppy_support.specs.Rows.{places}
 use Rattle.guppy_support.proofs.PlaceLemmas.{places_within}
-use Rattle.guppy_support.proofs.FirstLemmas.{firsts_none}
 use Rattle.guppy_support.proofs.start.first_starts.Goals as goal
 
 pub add_start-requires-clause-nodes : goal.add_start-requires-clause-nodes

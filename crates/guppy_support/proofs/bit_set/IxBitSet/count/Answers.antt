@@ -1,4 +1,4 @@
-use Rattle.std.proofs.Common.{◌≡◌, ◌≤◌, ◌<◌, ◌^◌, ◌*◌, ◌+◌, ◌∙◌, ap, sym, get_or, ℕ, List, Bool, arith, refl, length}
+use Rattle.std.proofs.Common.{◌≡◌, ◌<◌, ◌^◌, ◌*◌, ◌+◌, ◌∙◌, ap, sym, get_or, ℕ, List, arith, refl, length}
 use Rattle.std.specs.Prelude.{count_ones}
 use Rattle.guppy_support.specs.Bits.{bits_of}
 use Rattle.guppy_support.proofs.BitLemmas.{ticks, ticks_more, ticks_all, ticks_le}

@@ -1,4 +1,4 @@
-use Rattle.std.proofs.Common.{rules, ◌≡◌, ◌<◌, ◌/◌, ◌%◌, length, get_or, set, true, ap, sym, ◌∙◌, arith, vec_len}
+use Rattle.std.proofs.Common.{rules, ◌≡◌, ◌<◌, ◌/◌, length, get_or, set, true, ap, ◌∙◌, arith, vec_len}
 use Rattle.std.proofs.lemmas.List.{get_or_read}
 use Rattle.guppy_support.proofs.BitLemmas.{size_is, with_bit_words, with_bit_view}
 use Rattle.guppy_support.proofs.bit_set.IxBitSet.insert.Goals as goal

@@ -1,4 +1,4 @@
-use Rattle.std.proofs.Common.{rules, ◌≡◌, ◌<◌, ◌≤◌, ◌/◌, ◌%◌, ◌^◌, ◌*◌, ◌+◌, ℕ, List, Bool, length, get_or, ap, sym, ◌∙◌, arith, vec_len}
+use Rattle.std.proofs.Common.{rules, ◌≡◌, ◌<◌, ◌≤◌, ◌/◌, ◌%◌, ◌^◌, ◌*◌, ◌+◌, ℕ, List, Bool, length, get_or, ap, arith, vec_len}
 use Rattle.std.proofs.lemmas.List.{get_or_read}
 use Rattle.std.specs.Int.{w64, trailing_zeros}
 use Rattle.guppy_support.specs.Bits.{AreWords, bits_of, word_bit}

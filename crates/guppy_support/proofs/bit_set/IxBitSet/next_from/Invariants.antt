@@ -1,4 +1,4 @@
-use Rattle.std.proofs.Common.{◌≡◌, ◌≤◌, ◌<◌, ◌*◌, ◌/◌, ℕ}
+use Rattle.std.proofs.Common.{◌≡◌, ◌≤◌, ◌<◌, ◌*◌, ℕ}
 use Rattle.guppy_support.specs.Bits.{word_bit}
 use Rattle.guppy_support.proofs.bit_set.IxBitSet.next_from.Given as goal
 

@@ -1,4 +1,4 @@
-use Rattle.std.proofs.Common.{◌≡◌, ◌∙◌, sym, arith}
+use Rattle.std.proofs.Common.{◌∙◌, sym, arith}
 use Rattle.guppy_support.proofs.BitLemmas.{length-members}
 use Rattle.guppy_support.proofs.bit_set.IxBitSet.ones.Goals as goal
 

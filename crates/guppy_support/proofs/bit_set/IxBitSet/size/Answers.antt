@@ -1,4 +1,4 @@
-use Rattle.std.proofs.Common.{◌≡◌, length, ap, sym, ◌∙◌}
+use Rattle.std.proofs.Common.{length, ap, sym, ◌∙◌}
 use Rattle.guppy_support.proofs.BitLemmas.{length-bits_of}
 use Rattle.guppy_support.proofs.bit_set.IxBitSet.size.Goals as goal
 

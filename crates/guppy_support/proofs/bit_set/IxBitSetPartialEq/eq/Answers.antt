@@ -1,7 +1,7 @@
 use Rattle.std.proofs.Common.{◌≡◌, ◌∙◌, sym, ap, ℕ, List, Bool}
 use Rattle.std.specs.Cmp.Lexicographic.{pointwise}
 use mathlib.Core.Bool.{beq}
-use Rattle.guppy_support.specs.Bits.{bits_of, Fit, AreWords}
+use Rattle.guppy_support.specs.Bits.{bits_of, Fit}
 use Rattle.guppy_support.proofs.BitLemmas.{size_is, equal_by_words, unequal_sizes}
 use Rattle.guppy_support.proofs.bit_set.IxBitSetPartialEq.eq.Goals as goal
 

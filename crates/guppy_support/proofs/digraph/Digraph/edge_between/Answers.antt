@@ -1,9 +1,7 @@
-use Rattle.std.proofs.Common.{◌≡◌, ◌+◌, ◌-◌, ◌<◌, ◌≤◌, ◌/◌, ◌⊎◌, inl, inr, ◌∙◌, sym, ap, ℕ, List, length, get_or, arith, refl}
+use Rattle.std.proofs.Common.{◌+◌, ◌-◌, ◌<◌, ◌/◌, inl, inr, sym, ap, length, arith, refl}
 use Rattle.std.proofs.lemmas.Bool.{cases_lt}
-use Rattle.guppy_support.specs.declared.digraph.Edge.{Edge}
-use Rattle.guppy_support.specs.Graph.{Graph, IsDigraph, IsBefore, IsEdgeAt}
-use Rattle.guppy_support.specs.Paths.{HasEdge}
-use Rattle.guppy_support.proofs.FaultLemmas.{IsBelow, IsAbove, source_is, target_is, below_too, above_too, no_edge_between, same_pairs}
+use Rattle.guppy_support.specs.Graph.{Graph}
+use Rattle.guppy_support.proofs.FaultLemmas.{IsBelow, IsAbove, source_is, target_is, below_too, above_too, no_edge_between}
 use Rattle.guppy_support.proofs.digraph.Digraph.edge_between.Goals as goal
 
 pub loop-low-preserved-then-is_before : goal.loop-low-preserved-then-is_before

@@ -1,4 +1,4 @@
-use Rattle.std.proofs.Common.{◌≡◌, ◌<◌, ◌-◌, Some, ap, ◌∙◌, rules, vec_len, length, get_or}
+use Rattle.std.proofs.Common.{◌≡◌, ◌-◌, Some, ap, ◌∙◌, rules, vec_len, length, get_or}
 use Rattle.guppy_support.proofs.SearchLemmas.{closed_last}
 use Rattle.guppy_support.proofs.finish.Search.close.Goals as goal
 

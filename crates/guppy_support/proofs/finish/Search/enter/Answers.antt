@@ -1,4 +1,3 @@
-use Rattle.std.proofs.Common.{sym}
 use Rattle.guppy_support.proofs.SearchLemmas.{enter}
 use Rattle.guppy_support.proofs.finish.Search.enter.Goals as goal
 

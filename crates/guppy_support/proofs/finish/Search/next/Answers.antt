@@ -1,4 +1,4 @@
-use Rattle.std.proofs.Common.{rules, ◌≡◌, ℕ, [], ◌+◌, ◌-◌, ◌<◌, ◌≤◌, length, slice_index, ◌∷◌, ◌++◌, arith, sym, Some, slice_get}
+use Rattle.std.proofs.Common.{◌-◌, length, slice_index, arith}
 use Rattle.guppy_support.specs.Rows.{places}
 use Rattle.guppy_support.specs.Graph.{sources}
 use Rattle.guppy_support.proofs.SearchLemmas.{place_inside, edge_to, next_place}

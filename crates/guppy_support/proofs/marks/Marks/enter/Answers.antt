@@ -1,4 +1,4 @@
-use Rattle.std.proofs.Common.{◌≡◌, ◌<◌, Bool, true, false, get_or, arith, length}
+use Rattle.std.proofs.Common.{◌≡◌, ◌<◌, true, false, get_or, arith, length}
 use Rattle.std.proofs.lemmas.List.{get_or_read}
 use Rattle.guppy_support.proofs.MarkLemmas.{enter_mark}
 use Rattle.guppy_support.proofs.marks.Marks.enter.Goals as goal

@@ -1,5 +1,4 @@
-use Rattle.std.proofs.Common.{rules, ◌≡◌, ℕ, ◌<◌, ◌+◌, length, get_or, arith, sym, refl, ◌∙◌}
-use Rattle.guppy_support.specs.Marks.{AreSpread}
+use Rattle.std.proofs.Common.{rules, ◌≡◌, length, get_or, refl}
 use Rattle.guppy_support.proofs.MarkLemmas.{spread_start, tie_root, spread_done}
 use Rattle.guppy_support.proofs.marks.Marks.mark_from.Goals as goal
 

@@ -1,9 +1,8 @@
-use Rattle.std.proofs.Common.{rules, ◌≡◌, ℕ, ◌<◌, ◌+◌, length, get_or, arith, sym, refl, ◌∙◌}
+use Rattle.std.proofs.Common.{◌≡◌, length, get_or, arith, refl}
 use Rattle.guppy_support.specs.Paths.{HasEdge}
-use Rattle.guppy_support.specs.Graph.{targets, source_at}
+use Rattle.guppy_support.specs.Graph.{targets}
 use Rattle.guppy_support.specs.Rows.{places}
 use Rattle.guppy_support.proofs.PlaceLemmas.{edge_into_found}
-use Rattle.guppy_support.specs.Search.{IsSeen}
 use Rattle.guppy_support.proofs.MarkLemmas.{tie_more, pass_mark}
 use Rattle.guppy_support.proofs.marks.Marks.pass.Goals as goal
 

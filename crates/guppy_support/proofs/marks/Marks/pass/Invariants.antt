@@ -1,4 +1,4 @@
-use Rattle.std.proofs.Common.{◌≡◌, ℕ, ◌+◌, ◌<◌, ◌≤◌, length, slice_index}
+use Rattle.std.proofs.Common.{◌≡◌, ℕ, ◌<◌, ◌≤◌, length, slice_index}
 use Rattle.guppy_support.specs.Search.{IsSeen}
 use Rattle.guppy_support.specs.Marks.{AreSpreadIn, marks_left}
 use Rattle.guppy_support.specs.Graph.{source_at}

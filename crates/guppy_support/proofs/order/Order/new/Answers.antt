@@ -1,5 +1,4 @@
-use Rattle.std.proofs.Common.{◌≡◌, ◌+◌, ◌<◌, ◌≤◌, ◌∙◌, ap, sym, ℕ, List, length, get_or, arith}
-use Rattle.guppy_support.specs.Graph.{Graph}
+use Rattle.std.proofs.Common.{◌≡◌, ◌<◌, ◌≤◌, ◌∙◌, ap, ℕ, List, length, get_or, arith}
 use Rattle.guppy_support.specs.Rows.{below}
 use Rattle.guppy_support.specs.Sequences.{AreNumbered}
 use Rattle.guppy_support.proofs.SequenceLemmas.{number_below, numbers_are, rises_along, order_of, grouped}

@@ -1,4 +1,4 @@
-use Rattle.std.proofs.Common.{◌≡◌, ◌<◌, ℕ, length, arith, ap, get_or}
+use Rattle.std.proofs.Common.{◌<◌, length, arith, ap, get_or}
 use Rattle.guppy_support.specs.Rows.{places}
 use Rattle.guppy_support.proofs.PlaceLemmas.{places_within}
 use Rattle.guppy_support.proofs.ChoiceLemmas.{choose_start, order_end, filled}

@@ -1,4 +1,4 @@
-use Rattle.std.proofs.Common.{◌≤◌, ◌-◌, ℕ, length}
+use Rattle.std.proofs.Common.{◌≤◌, ◌-◌, length}
 use Rattle.guppy_support.specs.Plans.{IsWithinIn}
 use Rattle.guppy_support.proofs.plan.Plan.finish.Given as goal
 

@@ -1,4 +1,4 @@
-use Rattle.std.proofs.Common.{◌≡◌, ◌≤◌, length, arith, ap}
+use Rattle.std.proofs.Common.{length, arith, ap}
 use Rattle.guppy_support.proofs.AtLemmas.{at_end}
 use Rattle.guppy_support.proofs.plan.Plan.list.Goals as goal
 

@@ -1,4 +1,4 @@
-use Rattle.std.proofs.Common.{◌≡◌, ◌<◌, length, arith, ap}
+use Rattle.std.proofs.Common.{length, arith, ap}
 use Rattle.guppy_support.proofs.ChoiceLemmas.{choose_ready, choose_rest, within_end}
 use Rattle.guppy_support.proofs.plan.Plan.next_within.Goals as goal
 

@@ -1,4 +1,4 @@
-use Rattle.std.proofs.Common.{rules, ◌≡◌, inl, inr, arith}
+use Rattle.std.proofs.Common.{rules, inl, inr}
 use Rattle.guppy_support.proofs.AtLemmas.{idle_next}
 use Rattle.guppy_support.proofs.plan.Plan.pass.Goals.{else-edge-via-then-edge+else-edge-node, else-edge-via-else-edge}
 use Rattle.guppy_support.proofs.plan.Plan.pass.Goals as goal

@@ -1,4 +1,4 @@
-use Rattle.std.proofs.Common.{map, ℕ}
+use Rattle.std.proofs.Common.{map}
 use Rattle.std.specs.BinaryHeap.{heap_items}
 use Rattle.std.proofs.lemmas.List.Sorted.{IsPermutation-map}
 use Rattle.guppy_support.proofs.QueueLemmas.{joins}
