@@ -2,7 +2,7 @@ use Rattle.std.proofs.Common.{◌≡◌, ℕ, ◌<◌, Bool, true, false, List, 
 use Rattle.std.specs.Prelude.{IsTrue, slice_get}
 use Rattle.feature_core.specs.declared.engine.Half.{Half}
 use Rattle.feature_core.specs.declared.engine.Taken.{Taken}
-use Rattle.feature_core.specs.Walks.{Content, Way, Call, IsWay, IsContent, has_half, GoesAlong, AreOffers, MayAsk, numbers_where, told, taken_of}
+use Rattle.feature_core.specs.Walks.{Content, Way, Call, IsWay, EndsAreNodes, has_half, GoesAlong, AreOffers, MayAsk, numbers_where, told, taken_of}
 use Rattle.feature_core.specs.WalkProgress.{Findings, Asks}
 use Rattle.feature_core.proofs.WayNumbers.{number_way}
 use Rattle.feature_core.proofs.WalkMoves.{call_of}
@@ -56,5 +56,5 @@ pub unseen : (c : Content) (p : Way → Bool) (place : ℕ) → told c (slice_ge
 unseen c p place h = none_at c p place (slice_get (numbers_where p 0 c.ways) place) refl h
 
 -- what is told of an edge leads to a node
-pub far_within : (c : Content) (p : Way → Bool) (place : ℕ) (taken : Taken) → IsContent c → told c (slice_get (numbers_where p 0 c.ways) place) ≡ Some taken → taken.far < c.nodes
+pub far_within : (c : Content) (p : Way → Bool) (place : ℕ) (taken : Taken) → EndsAreNodes c → told c (slice_get (numbers_where p 0 c.ways) place) ≡ Some taken → taken.far < c.nodes
 far_within c p place taken ends h = let k = seen c p place taken h in (ends taken.edge _ k.3).1

@@ -44,8 +44,10 @@ from_missing test o k (y ∷ ys) x h e t = ⊎_elim (λ i. none_some o i.1) (λ 
   where
     none_some : (o : ℕ) → ◌≡◌ {A = Option ℕ} (Some o) None → ⊥
     none_some o h = cc
+
     apart : (b : Bool) → b ≡ true → b ≡ false → ⊥
     apart b h i = cc
+
     next : (k : ℕ) → slice_get (y ∷ ys) k ≡ Some x → (test y ≡ false) × (position_from test (o + 1) ys ≡ None) → ((j : ℕ) → slice_get ys j ≡ Some x → ⊥) → ⊥
     next zero e i more =
         let same : y ≡ x = cc in
@@ -139,8 +141,7 @@ module _ (t : Tables) (p : ℕ) (table : PackageTable) (is : IsPackage t p table
   pub named_found : AreTables t → (name : Text) (k m : ℕ) → feature_place name table.features ≡ Some k → m ≡ first_node t p + (1 + k) → (n : ℕ) → (◌≡◌ {A = Option ℕ} (Some m) (Some n)) ↔ NodeAt t n p (named name)
   named_found tables name k m h e n =
       let q = position_there (λ f. bytes_eq name f.name) k table.features h in
-      let same : q.element.name ≡ name = sym ((bytes_decides name q.element.name).0 q.passes) in
-      (
+      let same : q.element.name ≡ name = sym ((bytes_decides name q.element.name).0 q.passes) in (
         (λ i.
             let at : NodeAt t (first_node t p + suc k) p (named q.element.name) = node_there t p (suc k) table (named q.element.name) is (named_label table k q.element q.there) in
             let is_n : first_node t p + suc k ≡ n = let z : m ≡ n = same_some m n i in omega arith in
@@ -171,8 +172,7 @@ module _ (t : Tables) (p : ℕ) (table : PackageTable) (is : IsPackage t p table
   optional_found tables name k m h e n =
       let q = position_there (bytes_eq name) k table.optional_names h in
       let same : q.element ≡ name = sym ((bytes_decides name q.element).0 q.passes) in
-      let there : slice_get table.optional_names k ≡ Some name = q.there ∙ ap Some same in
-      (
+      let there : slice_get table.optional_names k ≡ Some name = q.there ∙ ap Some same in (
         (λ i.
             let at : NodeAt t (first_node t p + suc (length table.features + k)) p (optional name) = node_there t p (suc (length table.features + k)) table (optional name) is (optional_label table k name there) in
             let is_n : first_node t p + suc (length table.features + k) ≡ n = let z : m ≡ n = same_some m n i in omega arith in
@@ -234,3 +234,16 @@ place_fits t p k table few is l = let b = node_below t p k table is l in omega (
 -- the tables of a package, where its graph is known
 pub package_there : (t g : Tables) (p : ℕ) (table : PackageTable) → g ≡ t → slice_get g.packages p ≡ Some table → IsPackage t p table
 package_there t g p table e h = subst (λ z. slice_get z.packages p ≡ Some table) e h
+
+-- the nodes of a package end no later than all nodes
+pub labels_total : (t : Tables) (p : ℕ) (table : PackageTable) → length (node_places t) < 2 ^ 64 → IsPackage t p table → first_node t p + length (labels_of table) < 2 ^ 64
+labels_total t p table few is =
+    let l : length (labels_of table) ≡ 1 + length table.features + length table.optional_names = length_labels table in
+    let b = node_below t p (length table.features + length table.optional_names) table is (omega arith) in
+    omega (arith, b, few)
+
+pub labels_counted : (table : PackageTable) (features names : ℕ) → features ≡ length table.features → names ≡ length table.optional_names → 1 + features + names ≡ length (labels_of table)
+labels_counted table features names f n = omega (arith, length_labels table)
+
+pub feature_below : (table : PackageTable) (k : ℕ) → k < length table.features → 1 + k < length (labels_of table)
+feature_below table k l = omega (arith, length_labels table)

@@ -13,4 +13,10 @@ pub mod WalkEnds
 pub mod NodeLemmas
 pub mod LabelLemmas
 pub mod ReachLaws
+pub mod OpenWayLemmas
 pub mod NameLemmas
+pub mod GroupedLinks
+pub mod PushLemmas
+pub mod Listed
+pub mod PairLemmas
+pub mod RequestLemmas

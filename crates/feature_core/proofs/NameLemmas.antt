@@ -82,8 +82,7 @@ id_at t p table id is e = slice_get-map (λ q. q.id) t.packages p ∙ ap (option
 pub found_name : (t : Tables) (id : Text) (p n : ℕ) (label : LabelName) → AreTables t → package_place id t.packages ≡ Some p → NodeAt t n p label ↔ NodeNamed t n (id, label)
 found_name t id p n label tables h =
     let q = position_there (λ z. bytes_eq id z.id) p t.packages h in
-    let same : q.element.id ≡ id = sym ((bytes_decides id q.element.id).0 q.passes) in
-    (
+    let same : q.element.id ≡ id = sym ((bytes_decides id q.element.id).0 q.passes) in (
       (λ i. node_name t n p label q.element q.there i ∙ ap (λ z. Some (z, label)) same),
       (λ i.
           let m = named_node t n (id, label) i in
@@ -108,8 +107,7 @@ base_found t p m e at n = (
 pub numbered_name : (t g : Tables) (id told : Text) (p n : ℕ) (label said : LabelName) (P : Type 0) → g ≡ t → told ≡ id → said ≡ label → AreTables t → package_place told t.packages ≡ Some p → (P ↔ NodeAt g n p said) → (P ↔ NodeNamed t n (id, label))
 numbered_name t g id told p n label said P same_graph same_id same_label tables h both =
     let f = found_name t told p n said tables h in
-    let name : (told, said) ≡ (id, label) = cc in
-    (
+    let name : (told, said) ≡ (id, label) = cc in (
       (λ i. subst (λ z. NodeNamed t n z) name (f.0 (subst (λ z. NodeAt z n p said) same_graph (both.0 i)))),
       (λ i. both.1 (subst (λ z. NodeAt z n p said) (sym same_graph) (f.1 (subst (λ z. NodeNamed t n z) (sym name) i)))),
     )

@@ -42,7 +42,7 @@ numbers_alone : {B : Type 0} (q : ℕ) (ys : List B) → map {A = ℕ × B} (λ 
 numbers_alone q [] = refl
 numbers_alone q (y ∷ ys) = ap (λ z. q ∷ z) (numbers_alone q ys)
 
-append-none : {X : Type 0} (xs : List X) → xs ++ [] ≡ xs
+pub append-none : {X : Type 0} (xs : List X) → xs ++ [] ≡ xs
 append-none [] = refl
 append-none (x ∷ xs) = ap (λ z. x ∷ z) (append-none xs)
 
@@ -102,7 +102,7 @@ firsts_next t p n before after b a e =
 pub packages_pushed : (t : Tables) (p q : ℕ) (table : PackageTable) (before after : List ℕ) → before ≡ packages_before t p → after ≡ before ++ replicate (length (labels_of table)) q → q ≡ p → slice_get t.packages p ≡ Some table → after ≡ packages_before t (p + 1)
 packages_pushed t p q table before after b a same at = a ∙ ap (λ z. before ++ replicate (length (labels_of table)) z) same ∙ ap (λ z. z ++ replicate (length (labels_of table)) p) b ∙ sym (packages_next t p table at)
 
-take-all : {X : Type 0} (xs : List X) → take (length xs) xs ≡ xs
+pub take-all : {X : Type 0} (xs : List X) → take (length xs) xs ≡ xs
 take-all [] = refl
 take-all (x ∷ xs) = ap (λ z. x ∷ z) (take-all xs)
 

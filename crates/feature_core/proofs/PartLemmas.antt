@@ -71,7 +71,7 @@ feature_back t n p name h = let s = node_back t n p (named name) h in go s s.pla
         absurd (kinds_apart m.0 name m.2))
         (get_cases (map (λ f. named f.name) s.row.features) (map (λ d. optional d) s.row.optional_names) k (named name) at)
 
-list_any_there : {X : Type 0} (p : X → Bool) (xs : List X) (k : ℕ) (x : X) → slice_get xs k ≡ Some x → IsTrue (p x) → IsTrue (list_any p xs)
+pub list_any_there : {X : Type 0} (p : X → Bool) (xs : List X) (k : ℕ) (x : X) → slice_get xs k ≡ Some x → IsTrue (p x) → IsTrue (list_any p xs)
 list_any_there p [] k x h i = cc
 list_any_there p (y ∷ ys) zero x h i =
     let e : y ≡ x = cc in
@@ -82,16 +82,16 @@ list_any_there p (y ∷ ys) (suc k) x h i = rw (list_any_there p ys k x h i) (or
     or_true true = refl
     or_true false = refl
 
-record IsPassing {X : Type 0} (p : X → Bool) (xs : List X) : Type 0 where
-  place : ℕ
-  element : X
-  there : slice_get xs place ≡ Some element
-  passes : IsTrue (p element)
+pub record IsPassing {X : Type 0} (p : X → Bool) (xs : List X) : Type 0 where
+  pub place : ℕ
+  pub element : X
+  pub there : slice_get xs place ≡ Some element
+  pub passes : IsTrue (p element)
 
 passing_later : {X : Type 0} (p : X → Bool) (y : X) (ys : List X) → IsPassing p ys → IsPassing p (y ∷ ys)
 passing_later p y ys h = record { place = suc h.place; element = h.element; there = h.there; passes = h.passes }
 
-list_any_back : {X : Type 0} (p : X → Bool) (xs : List X) → IsTrue (list_any p xs) → IsPassing p xs
+pub list_any_back : {X : Type 0} (p : X → Bool) (xs : List X) → IsTrue (list_any p xs) → IsPassing p xs
 list_any_back p [] h = cc
 list_any_back p (y ∷ ys) h = go (p y) refl h (λ i. list_any_back p ys i)
   where
@@ -123,6 +123,7 @@ later_label table k label h is = ⊎_elim
   where
     apart_named : (d : Text) → named d ≡ base → ⊥
     apart_named d e = cc
+
     apart_optional : (d : Text) → optional d ≡ base → ⊥
     apart_optional d e = cc
 
@@ -221,8 +222,10 @@ module _ (t : Tables) (differ : NamesDiffer t) where
     where
       item : (weaker : Bool) → weak ≡ weaker → HasItem t link.from f (slash_item link.name g weaker)
       item weaker e = subst (λ z. HasItem t link.from f (slash_item link.name g z)) e (subst (λ z. HasItem t link.from f (slash_item z g weak)) (sym name) (subst (λ z. HasItem t z f (slash_item d g weak)) (sym from) h))
+
       leads : (weaker : Bool) → weak ≡ weaker → LeadsOver t u w weaker k link
       leads weaker e = record { f = f; g = g; has_item = item weaker e; from_node = subst (λ z. NodeAt t u z (named f)) (sym from) nu; is_link = is; to_node = nw }
+
       go : (b : Bool) → weak && has_declaration Optional link ≡ b → StandsFor t x
       go true e =
           let both_true = both weak (has_declaration Optional link) e in
@@ -281,6 +284,7 @@ module _ (t : Tables) (differ : NamesDiffer t) where
         to_node = nw;
         is_edge = refl;
       }
+
       go : (b : Bool) → d.optional ≡ b → StandsFor t x
       go true e = stands t u w 7 k j (section (over Optional (requesting asked Optional) ((k, link) ∷ []))) x eq (of_optional (section_of Optional (λ l. optional l.name) e (optional_start link d e))) refl
       go false e = stands t u w 7 k j (section (over Required (requesting asked Required) ((k, link) ∷ []))) x eq (of_required (section_of Required (λ l. base) (not_false d.optional e) (required_start link d (not_false d.optional e)))) refl

@@ -96,7 +96,7 @@ from_more I every (v ∷ vs) n m q t = elim (or_cases (I v.start && leads every 
   | inr p ↦ or_right (I v.start && leads every v.start m) (from_some I every vs m) (from_more I every vs n m q p)
 ]
 
--- law 3: each least set is within the reach over all edges
+-- each least set is within the reach over all edges
 pub least_within : (c : Content) (I : ℕ → Bool) (A : ℕ → Half → Bool) (n : ℕ) → Least c I A n → Reach c I every n
 least_within c I A n least =
     let S = λ (k : ℕ). I k || from_some I c.ways c.ways k in

@@ -80,7 +80,7 @@ closed_reach c I A run complete agrees =
       offered = λ e h w is half a s g. reach_more c I (was_accepted run) e w is (open_by (was_accepted run) e w.ask h half (made_accepted A run agrees e h (all_made c I run complete e h w is half s g) a)) s;
     }
 
--- clause 5 from the others
+-- what a complete legal run reached is the least closed set
 pub members_least : (c : Content) (I : ℕ → Bool) (M : ℕ → Bool) (run : List Call) → IsLegal c I run → IsComplete c I run → ((n : ℕ) → IsTrue (M n) ↔ Reach c I (was_accepted run) n) → (A : ℕ → Half → Bool) → Agrees A run → (n : ℕ) → IsTrue (M n) ↔ Least c I A n
 members_least c I M run legal complete members A agrees n =
     let closed = closed_reach c I A run complete agrees in
@@ -94,7 +94,7 @@ members_least c I M run legal complete members A agrees n =
       }),
     )
 
--- law 5
+-- two runs with which one set agrees: what the one reached, the other did
 pub one_result_lem : (c : Content) (I : ℕ → Bool) (A : ℕ → Half → Bool) (run other : List Call) → IsLegal c I run → IsComplete c I other → Agrees A run → Agrees A other → (n : ℕ) → Reach c I (was_accepted run) n → Reach c I (was_accepted other) n
 one_result_lem c I A run other legal complete agrees agrees' =
     reach_closed c I A (Reach c I (was_accepted other)) (closed_reach c I A other complete agrees') run legal agrees

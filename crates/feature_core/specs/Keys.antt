@@ -1,5 +1,6 @@
 -- Candidates as keys, and the least of each pair.
-use Rattle.std.specs.Prelude.{◌≡◌, ℕ, ◌<◌, ◌≤◌, ◌⊎◌, List, Contains, All, AllPairs, Bool, ◌==◌, ◌&&◌}
+use Rattle.std.specs.Prelude.{◌≡◌, ℕ, ◌<◌, ◌≤◌, ◌⊎◌, List, Contains, All, AllPairs, Bool, true, ◌==◌, ◌&&◌}
+use Rattle.guppy_support.specs.declared.digraph.Edge.{Edge}
 use Rattle.feature_core.specs.declared.key.Key.{Key}
 
 -- by from, then to
@@ -25,3 +26,7 @@ pub record AreLeast (keys kept : List Key) : Type 0 where
   pub ascends : AllPairs IsBefore kept
   pub from_keys : (a : Key) → Contains kept a → Contains keys a
   pub each : (b : Key) → Contains keys b → IsServed kept b
+
+-- the edge of a key's pair
+abbrev pub edge_of : Key → Edge
+edge_of k = record { from = k.from; to = k.to; non_dev = true }

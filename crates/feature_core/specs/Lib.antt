@@ -8,6 +8,9 @@ pub mod Parts
 pub mod Walks
 pub mod Explanations
 pub mod Laws
+pub mod Listed
 pub mod WalkProgress
+pub mod OpenWays
 pub mod Errors
 pub mod Built
+pub mod NamedLinks

@@ -71,3 +71,7 @@ IsOfLinkAt t k x = (link : LinkTable) × IsLink t k link × ((j : ℕ) × IsOfDe
 -- by some part of the tables
 abbrev pub IsOfTables : Tables → Key → Type 0
 IsOfTables t x = ((p : ℕ) × IsOfPackageAt t p x) ⊎ ((k : ℕ) × IsOfLinkAt t k x)
+
+-- from u to the named feature g of the target of link k
+abbrev pub IsOverLink : Tables → ℕ → Text → Bool → ℕ → Key → Type 0
+IsOverLink t u g weak k x = (link : LinkTable) × IsLink t k link × IsTo t u link.to (named g) (over_rank weak link) k 0 x

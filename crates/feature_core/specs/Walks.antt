@@ -1,5 +1,6 @@
 -- Walks over edges, some of which are offered before they are followed.
-use Rattle.std.specs.Prelude.{◌≡◌, ℕ, suc, if◌then◌else◌, Bool, true, false, List, [], ◌∷◌, Option, Some, None, slice_get, IsTrue, IsFalse, ◌&&◌, ◌||◌, ◌==◌, ◌<◌, ◌↔◌, count_by}
+use Rattle.std.specs.Prelude.{◌≡◌, ℕ, suc, if◌then◌else◌, Bool, true, false, List, [], ◌∷◌, Option, Some, None, slice_get, IsTrue, IsFalse, ◌&&◌, ◌||◌, ◌==◌, ◌+◌, ◌*◌, ◌<◌, ◌≤◌, ◌↔◌, count_by}
+use Rattle.guppy_support.specs.Bits.{has}
 use Rattle.feature_core.specs.declared.engine.Half.{Half}
 use Rattle.feature_core.specs.declared.engine.Half.TheVariants.{Full, Required, Optional}
 use Rattle.feature_core.specs.declared.engine.Ask.{Ask}
@@ -13,6 +14,7 @@ pub record Way : Type 0 where
   pub ask : Ask
   pub gate : ℕ
 
+-- the edges that a walk may follow, by number
 pub record Content : Type 0 where
   pub nodes : ℕ
   pub ways : List Way
@@ -61,6 +63,7 @@ is_half Optional Full = false
 is_half Optional Required = false
 is_half Optional Optional = true
 
+-- whether the call is of this offer
 abbrev pub is_of : Call → ℕ → Half → Bool
 is_of call e h = (call.edge == e) && is_half call.half h
 
@@ -98,10 +101,12 @@ pub record IsDue (c : Content) (I : ℕ → Bool) (run : List Call) (e : ℕ) (h
   pub fresh : IsFalse (was_made run e h)
   pub turn : IsTrue (has_turn way.ask h) → IsTrue (was_made run e Required)
 
+-- each call's offer is due after the calls before it
 abbrev pub IsLegal : Content → (ℕ → Bool) → List Call → Type 0
 IsLegal c I [] = Unit {0}
 IsLegal c I (call ∷ before) = IsDue c I before call.edge call.half × IsLegal c I before
 
+-- no offer is due at the end
 abbrev pub IsComplete : Content → (ℕ → Bool) → List Call → Type 0
 IsComplete c I run = (e : ℕ) (h : Half) → IsDue c I run e h → ⊥
 
@@ -110,6 +115,7 @@ abbrev pub Agrees : (ℕ → Half → Bool) → List Call → Type 0
 Agrees A [] = Unit {0}
 Agrees A (call ∷ before) = (A call.edge call.half ≡ call.answer) × Agrees A before
 
+-- a set that holds the initial nodes, and the far end of each unconditional edge and of each offer in A that can be made
 pub record IsClosed (c : Content) (I : ℕ → Bool) (A : ℕ → Half → Bool) (S : ℕ → Type 0) : Type 0 where
   pub initial : (n : ℕ) → IsTrue (I n) → S n
   pub unasked : (e : ℕ) (w : Way) → IsWay c e w → w.ask ≡ asks.Nobody → S w.start → S w.far
@@ -137,6 +143,7 @@ pub record IsWalk {O : Type 0} (c : Content) (I : ℕ → Bool) (gives : O → �
   pub members : (n : ℕ) → IsTrue (M n) ↔ Reach c I (was_accepted run) n
   pub least : (A : ℕ → Half → Bool) → Agrees A run → (n : ℕ) → IsTrue (M n) ↔ Least c I A n
 
+-- whether the number stands in the list
 abbrev pub is_in : List ℕ → ℕ → Bool
 is_in [] n = false
 is_in (x ∷ xs) n = (x == n) || is_in xs n
@@ -146,8 +153,8 @@ abbrev pub is_gated : Ask → Bool
 is_gated ask = has_gate ask Optional
 
 -- the ends of each edge are nodes, and so is its gate where a half waits for it
-abbrev pub IsContent : Content → Type 0
-IsContent c = (e : ℕ) (w : Way) → IsWay c e w → (w.start < c.nodes) × (w.far < c.nodes) × (IsTrue (is_gated w.ask) → w.gate < c.nodes)
+abbrev pub EndsAreNodes : Content → Type 0
+EndsAreNodes c = (e : ℕ) (w : Way) → IsWay c e w → (w.start < c.nodes) × (w.far < c.nodes) × (IsTrue (is_gated w.ask) → w.gate < c.nodes)
 
 -- the numbers from `first` on of the ways that pass, ascending
 abbrev pub numbers_where : (Way → Bool) → ℕ → List Way → List ℕ
@@ -171,6 +178,7 @@ abbrev pub told : Content → Option ℕ → Option Taken
 told c None = None
 told c (Some e) = taken_of e (slice_get c.ways e)
 
+-- each call is of an edge and a half that the edge has
 abbrev pub AreOffers : Content → List Call → Type 0
 AreOffers c [] = Unit {0}
 AreOffers c (call ∷ before) = ((w : Way) × IsWay c call.edge w × IsTrue (has_half w.ask call.half)) × AreOffers c before
@@ -179,9 +187,15 @@ AreOffers c (call ∷ before) = ((w : Way) × IsWay c call.edge w × IsTrue (has
 abbrev pub MayAsk : {O : Type 0} → (O → ℕ → Half → Type 0) → (O → ℕ → Half → Bool → O → Type 0) → Content → O → Type 0
 MayAsk {O} can gives c s = (run : List Call) (t : O) → AreOffers c run → GoesAlong gives s run t → (e : ℕ) (h : Half) (w : Way) → IsWay c e w → IsTrue (has_half w.ask h) → can t e h
 
--- how many edges start in the set, and how many have their gate in it
+-- how many edges start in the set
 abbrev pub edges_from : Content → (ℕ → Bool) → ℕ
 edges_from c M = count_by (λ w. M w.start) c.ways
 
+-- of how many edges a half waits for a gate in the set
 abbrev pub edges_gated_by : Content → (ℕ → Bool) → ℕ
 edges_gated_by c M = count_by (λ w. is_gated w.ask && M w.gate) c.ways
+
+-- the reads of a walk: each edge of a member, and at most two more for each member and one for each edge that it gates
+pub record ReadsAreBounded (c : Content) (members : List Bool) (before after : ℕ) : Type 0 where
+  pub least : before + edges_from c (has members) ≤ after
+  pub most : after ≤ before + 2 * count_by (λ b. b) members + edges_from c (has members) + edges_gated_by c (has members)

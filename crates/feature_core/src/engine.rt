@@ -2,7 +2,7 @@
 
 ghost use Rattle.std.specs.Prelude.{◌≡◌, ◌+◌, ◌*◌, ◌^◌, ◌<◌, ◌≤◌, ℕ, Bool, List, IfOk, OnErr, length, slice_get, count_by};
 ghost use Rattle.guppy_support.specs.Bits.{has};
-ghost use Rattle.feature_core.specs.Walks.{Content, IsContent, IsWalk, LegalRun, MayAsk, starting, releasing, told, edges_from, edges_gated_by};
+ghost use Rattle.feature_core.specs.Walks.{Content, EndsAreNodes, IsWalk, LegalRun, MayAsk, starting, releasing, told, ReadsAreBounded};
 ghost use Rattle.feature_core.specs.Explanations.{IsExplainedWalk};
 ghost use Rattle.feature_core.specs.declared.engine.Half.{Half};
 
@@ -68,7 +68,7 @@ pub trait EdgeSource {
     /// How many edges there are.
     fn edge_count(&self) -> usize
         ensures count { result ≡ length (content self.now).ways }
-        ensures nodes { IsContent (content self.now) };
+        ensures nodes { EndsAreNodes (content self.now) };
 
     /// The edge at this place, from 0, among those that start at the node, by ascending number.
     fn take(&mut self, start: usize, place: usize) -> Option<Taken>
@@ -127,9 +127,10 @@ pub fn walk_explained<S: EdgeSource, O: Offerer>(
     requires may { MayAsk O.can_offer O.gives (S.content source.old) offerer.old }
     ensures content { S.content source.new ≡ S.content source.old }
     ensures size { IfOk result (λ r. length r.0.members ≡ (S.content source.old).nodes) }
-    ensures walk { IfOk result (λ r. IsExplainedWalk (S.content source.old) (has initials.now) O.gives offerer.old offerer.new (has r.0.members) r.1.items r.2.items) }
-    ensures least_reads { IfOk result (λ r. S.reads source.old + edges_from (S.content source.old) (has r.0.members) ≤ S.reads source.new) }
-    ensures most_reads { IfOk result (λ r. let M = has r.0.members in let c = S.content source.old in S.reads source.new ≤ S.reads source.old + (2 * count_by (λ b. b) r.0.members + edges_from c M + edges_gated_by c M)) }
+    ensures walk { IfOk result (λ r. IsExplainedWalk (S.content source.old) (has initials.now) O.gives
+        offerer.old offerer.new (has r.0.members) r.1.items r.2.items) }
+    ensures reads { IfOk result (λ r. ReadsAreBounded (S.content source.old) r.0.members
+        (S.reads source.old) (S.reads source.new)) }
     ensures err { OnErr result (LegalRun (S.content source.old) (has initials.now) O.gives offerer.old offerer.new) }
 {
     let edges = source.edge_count();
@@ -164,11 +165,15 @@ pub fn walk_over<S: EdgeSource, O: Offerer>(
     requires may { MayAsk O.can_offer O.gives (S.content source.old) offerer.old }
     ensures content { S.content source.new ≡ S.content source.old }
     ensures size { IfOk result (λ walk. length walk.members ≡ (S.content source.old).nodes) }
-    ensures walk { IfOk result (λ walk. IsWalk (S.content source.old) (has initials.now) O.gives offerer.old offerer.new (has walk.members)) }
-    ensures least_reads { IfOk result (λ walk. S.reads source.old + edges_from (S.content source.old) (has walk.members) ≤ S.reads source.new) }
-    ensures most_reads { IfOk result (λ walk. let M = has walk.members in let c = S.content source.old in S.reads source.new ≤ S.reads source.old + (2 * count_by (λ b. b) walk.members + edges_from c M + edges_gated_by c M)) }
+    ensures walk { IfOk result (λ walk. IsWalk (S.content source.old) (has initials.now) O.gives
+        offerer.old offerer.new (has walk.members)) }
+    ensures reads { IfOk result (λ walk. ReadsAreBounded (S.content source.old) walk.members
+        (S.reads source.old) (S.reads source.new)) }
     ensures err { OnErr result (LegalRun (S.content source.old) (has initials.now) O.gives offerer.old offerer.new) }
 {
     let (walk, _steps, _refused) = walk_explained(alloc, source, initials, offerer)?;
     Ok(walk)
 }
+
+#[cfg(test)]
+mod tests;

@@ -1,13 +1,17 @@
 //! The feature graph of package tables, and walks over it.
 #![tactic(auto)]
 
+mod candidates;
 mod data;
+mod declarations;
 pub mod engine;
 mod error;
 mod key;
 pub mod laws;
+mod named_links;
 mod nodes;
 mod numbers;
+mod reach;
 mod walk;
 
 pub use data::FeatureGraphData;

@@ -70,4 +70,26 @@ impl<'g> Numbers<'g> {
             None => None,
         }
     }
+
+    /// The named feature at a place of a package's features.
+    pub(crate) fn feature(self, metadata: PackageMetadata<'g>, place: usize) -> usize
+        requires graph { package_graph_of metadata ≡ self.graph.now }
+        requires place { place < length (package_table_of metadata).features }
+        ensures { result ≡ first_node self.entry.graph.now metadata.entry.package_ix + 1 + place }
+    {
+        let _ix = metadata.package_ix();
+        self.number(metadata, 1 + place)
+    }
+
+    /// How many nodes a package has.
+    pub(crate) fn node_count(self, metadata: PackageMetadata<'g>) -> usize
+        requires { package_graph_of metadata ≡ self.graph.now }
+        ensures count { result ≡ length (labels_of (package_table_of metadata.entry)) }
+        ensures fits { first_node self.entry.graph.now metadata.entry.package_ix + result < 2 ^ 64 }
+    {
+        let _ix = metadata.package_ix();
+        let features = metadata.named_features().len();
+        let names = metadata.optional_deps().len();
+        1 + features + names
+    }
 }

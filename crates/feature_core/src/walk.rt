@@ -24,5 +24,6 @@ pub fn walk_all(
     ensures reach { IfOk result (λ set. (t : Tables) → IsBuilt t built.now → (n : ℕ) → IsTrue (has set n) ↔ Reach t direction (has initials.now) n) }
     ensures refused { IfErr result (λ e. e ≡ Error.Memory) }
 {
-    Err(Error::Memory)
+    let set = built.reach(alloc, direction, initials)?;
+    Ok(set)
 }

@@ -9,18 +9,15 @@ use Rattle.std.proofs.lemmas.Cmp.{then_total, on_total, nat_cmp_total, eq_by_cmp
 use Rattle.std.proofs.lemmas.Bool.Decides.{Decides-and}
 use Rattle.std.proofs.lemmas.Slice.Eq.{slice_eq-Decides}
 use Rattle.guppy_packages.specs.Rows.{Text}
-use Rattle.feature_labels.specs.Names.{LabelName, label_cmp, id_cmp}
+use Rattle.feature_labels.specs.Names.{LabelName, kind_of, kind_rank, label_cmp, id_cmp}
 use Rattle.feature_labels.specs.Names.LabelName.{base, named, optional}
 
 -- whether two labels are the same
 abbrev pub label_eq : LabelName → LabelName → Bool
 label_eq = eq_by_cmp label_cmp
 
--- the place of the kind
 label_rank : LabelName → ℕ
-label_rank base = 0
-label_rank (named _) = 1
-label_rank (optional _) = 2
+label_rank label = kind_rank (kind_of label)
 
 label_name : LabelName → Text
 label_name base = []

@@ -27,8 +27,7 @@ pub fn label_order(a: FeatureLabel<'_>, b: FeatureLabel<'_>) -> Ordering
 pub fn label_hash(a: FeatureLabel<'_>, b: FeatureLabel<'_>)
     ensures { label_of a.entry ≡ label_of b.entry →
         ⟦<FeatureLabel<'static> as Hash>⟧.hash_input a.entry ≡ ⟦<FeatureLabel<'static> as Hash>⟧.hash_input b.entry }
-{
-}
+{}
 
 /// The order of labels is total.
 pub fn label_order_is_total()
@@ -67,8 +66,7 @@ pub fn id_order(a: FeatureId<'_>, b: FeatureId<'_>) -> Ordering
 pub fn id_hash(a: FeatureId<'_>, b: FeatureId<'_>)
     ensures { id_of a.entry ≡ id_of b.entry →
         ⟦<FeatureId<'static> as Hash>⟧.hash_input a.entry ≡ ⟦<FeatureId<'static> as Hash>⟧.hash_input b.entry }
-{
-}
+{}
 
 /// The order of ids is total.
 pub fn id_order_is_total()

@@ -1,21 +1,21 @@
 -- The first counts.
-use Rattle.std.proofs.Common.{◌≡◌, ◌≢◌, ℕ, zero, suc, ◌+◌, ◌-◌, ◌<◌, ◌≤◌, ◌⊎◌, inl, inr, Bool, true, false, cond, ◌&&◌, eqb, not, List, [], ◌∷◌, length, get_or, map, set, refl, ap, sym, ◌∙◌, subst, arith, Contains, slice_get, Some, nat_lt}
+use Rattle.std.proofs.Common.{◌≡◌, ◌≢◌, ℕ, zero, suc, ◌+◌, ◌-◌, ◌<◌, ◌≤◌, ◌⊎◌, inl, inr, Bool, true, false, cond, ◌&&◌, eqb, not, List, [], ◌∷◌, length, get_or, map, set, refl, ap, sym, ◌∙◌, subst, arith, Contains, slice_get, Some, nat_lt, replicate}
 use Rattle.std.proofs.Math.ListN.{length-set}
 use Rattle.std.proofs.lemmas.Bool.{cases_eq, cases_lt, cases_Bool, eq-eqb, lt-ltb, le-ltb}
 use Rattle.std.proofs.lemmas.Option.{slice_get-get_or}
-use Rattle.std.proofs.lemmas.List.{get_or-map}
+use Rattle.std.proofs.lemmas.List.{get_or-map, get_or-replicate, get_or_past, length-replicate}
 use Rattle.std.proofs.lemmas.List.Elements.{Contains-get_or}
 use Rattle.guppy_support.specs.declared.digraph.Edge.{Edge}
 use Rattle.guppy_support.specs.Graph.{Graph, IsDigraph, sources, targets}
 use Rattle.guppy_support.specs.Paths.{HasEdge}
 use Rattle.guppy_support.proofs.FaultLemmas.{nodes_of_edge}
 use Rattle.guppy_support.specs.Counts.{count_below, IsTally, enters, holds}
-use Rattle.guppy_support.specs.Plans.{IsSetup, IsEdge, AreEntering, AreHolding, AreFirsts, IsFirst, IsWaiting}
+use Rattle.guppy_support.specs.Plans.{IsSetup, IsEdge, AreEntering, AreHolding, AreFirsts, IsFirst, IsWaiting, IsPause, is_fresh}
 use Rattle.guppy_support.specs.Heads.{IsDone, IsHead}
 use Rattle.guppy_support.specs.Rows.{places}
 use Rattle.guppy_support.specs.Queues.{Joins}
 use Rattle.guppy_support.proofs.GroupLemmas.{first_head, row_complete}
-use Rattle.guppy_support.proofs.CountLemmas.{count_same, count_fewer, count_zero, tally_skip, tally_add}
+use Rattle.guppy_support.proofs.CountLemmas.{count_same, count_fewer, count_zero, tally_skip, tally_add, tally_same, count_full}
 use Rattle.guppy_support.proofs.PlanLemmas.{eqb_false, edge_of_number}
 
 lt_other : (i p : ℕ) → i ≢ p → nat_lt i (p + 1) ≡ nat_lt i p
@@ -99,6 +99,21 @@ entering_none g ranks counts long z =
       tally = λ c h. z c h ∙ sym (count_zero (λ i. nat_lt i 0 && enters g.edges ranks c i) (length g.edges) (λ i l. rw (le-ltb i 0 (omega arith)) refl));
     }
 
+pub holding_none : (g : Graph) (ranks counts : List ℕ) → length counts ≡ g.nodes → ((v : ℕ) → v < length counts → get_or counts v 0 ≡ 0) → AreHolding g ranks 0 counts
+holding_none g ranks counts long z =
+    record {
+      long = long;
+      tally = λ c h. z c h ∙ sym (count_zero (λ i. nat_lt i 0 && holds g.edges ranks c i) (length g.edges) (λ i l. rw (le-ltb i 0 (omega arith)) refl));
+    }
+
+-- before the first component none is among the starts
+pub firsts_none : (ranks outside held : List ℕ) → AreFirsts ranks outside held 0 []
+firsts_none ranks outside held =
+    record {
+      waits = λ c h some z. absurd (omega arith);
+      only = λ x cx. absurd (omega (arith, cx.1));
+    }
+
 pub firsts_more : (ranks outside held : List ℕ) (k x : ℕ) (old new : List ℕ) → AreFirsts ranks outside held k old → get_or outside k 0 ≡ 0 → IsFirst (places k ranks) held x → Joins old x new → AreFirsts ranks outside held (k + 1) new
 firsts_more ranks outside held k x old new a z f j =
     record {
@@ -179,3 +194,45 @@ module _ (g : Graph) (ranks : List ℕ) (s : IsSetup g ranks) (i a b : ℕ) (fir
                   ]
             ]) (λ j ne. lt_other j i ne) c.tally;
       }
+
+none_done : (n v : ℕ) → ¬ IsDone (replicate n false) v
+none_done n v d =
+    elim (cases_lt v n) [
+      | inl l ↦ absurd (let c : false ≡ true = sym (get_or-replicate n v false false l) ∙ d in cc)
+      | inr p ↦ absurd (let c : false ≡ true = sym (get_or_past (replicate n false) v false (omega (arith, length-replicate n false))) ∙ d in cc)
+    ]
+
+fresh_now : (n v : ℕ) → not (get_or (replicate n false) v false) ≡ true
+fresh_now n v =
+    elim (cases_lt v n) [
+      | inl l ↦ rw (get_or-replicate n v false false l) refl
+      | inr p ↦ rw (get_or_past (replicate n false) v false (omega (arith, length-replicate n false))) refl
+    ]
+
+-- with every count made and nothing listed, the first plan stands
+pub first_pause : (g : Graph) (ranks : List ℕ) → IsSetup g ranks → (outside held starts : List ℕ) → AreEntering g ranks (length g.edges) outside → AreHolding g ranks (length g.edges) held → AreFirsts ranks outside held g.nodes starts
+    → IsPause g ranks [] (replicate g.nodes false) outside held starts
+first_pause g ranks s outside held starts entering holding firsts =
+    let done : List Bool = replicate g.nodes false in
+    let wait = firsts_wait g.nodes ranks outside held done starts s.ranking.long s.small (none_done g.nodes) firsts in
+    let left : (i : ℕ) → i < length g.edges → is_fresh g.edges done i ≡ nat_lt i (length g.edges) =
+    λ i l. fresh_now g.nodes (get_or (sources g.edges) i 0) ∙ sym (lt-ltb i (length g.edges) l)
+    in
+    record {
+      plan = record {
+        nodes = λ a ca. absurd (omega (arith, ca.1));
+        marks = record { marked = λ v cv. absurd (omega (arith, cv.1)); listed_one = λ v d. absurd (none_done g.nodes v d) };
+        done_long = length-replicate g.nodes false;
+        counted = omega (arith, count_full (λ i. not (get_or done i false)) g.nodes (λ i l. fresh_now g.nodes i));
+        outside_long = entering.long;
+        held_long = holding.long;
+        entering = tally_same outside (length g.edges) (λ i. nat_lt i (length g.edges)) (is_fresh g.edges done) (enters g.edges ranks) left entering.tally;
+        holding = tally_same held (length g.edges) (λ i. nat_lt i (length g.edges)) (is_fresh g.edges done) (holds g.edges ranks) left holding.tally;
+        ordered = λ k l. absurd (omega arith);
+        entered = λ a d. absurd (none_done g.nodes a d);
+        waiting = λ u lu fresh z. inr (wait.0 u lu z);
+        starts_nodes = λ x cx. (wait.1 x cx).0.node;
+        starting = λ x cx. inr (wait.1 x cx);
+      };
+      whole = λ c a b da lb fb same. absurd (none_done g.nodes a da);
+    }

@@ -140,7 +140,8 @@ fn finish_order(alloc: Global, graph: &Digraph) -> Result<Vec<usize>, AllocError
 
 /// The rank of each node's component: ranks never fall along an edge.
 pub(crate) fn component_ranks(alloc: Global, graph: &Digraph) -> Result<Vec<usize>, AllocError>
-    ensures { IfOk result (λ ranks. IsRanking graph.now ranks.items) }
+    ensures ranking { IfOk result (λ ranks. IsRanking graph.now ranks.items) }
+    ensures small { IfOk result (λ ranks. (v : ℕ) → v < graph.now.nodes → slice_index ranks.items v < graph.now.nodes) }
 {
     let order = finish_order(alloc, graph)?;
     ranks_from(alloc, graph, &order)

@@ -4,10 +4,17 @@
 mod bit_set;
 mod digraph;
 mod finish;
+pub mod laws;
 mod marks;
+mod order;
 mod pack;
 mod plan;
 mod queue;
+mod start;
 
 pub use bit_set::{IxBitSet, Ones};
 pub use digraph::{Digraph, DigraphError, Edge};
+pub use order::Order;
+
+#[cfg(test)]
+mod tests;

@@ -124,7 +124,8 @@ pub(crate) fn ranks_from(
 ) -> Result<Vec<usize>, AllocError>
     requires order { IsFinishOrder graph.now order.now }
     requires apart { AreApart order.now }
-    ensures { IfOk result (λ ranks. IsRanking graph.now ranks.items) }
+    ensures ranking { IfOk result (λ ranks. IsRanking graph.now ranks.items) }
+    ensures small { IfOk result (λ ranks. (v : ℕ) → v < graph.now.nodes → slice_index ranks.items v < graph.now.nodes) }
 {
     graph.facts();
     let mut marks = Marks {

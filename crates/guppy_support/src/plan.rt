@@ -1,10 +1,10 @@
 //! The order of the nodes.
-ghost use Rattle.std.specs.Prelude.{◌≡◌, ◌≢◌, ℕ, [], ◌∷◌, ◌++◌, ◌+◌, ◌-◌, ◌<◌, ◌≤◌, length, slice_index, slice_set, IfSome, IfNone, IfOk, OnOk, Contains, set, true, replicate};
+ghost use Rattle.std.specs.Prelude.{◌≡◌, ◌≢◌, ℕ, [], ◌∷◌, ◌++◌, ◌+◌, ◌-◌, ◌<◌, ◌≤◌, length, slice_index, slice_set, IfSome, IfNone, IfOk, OnOk, Contains, set, true};
 ghost use Rattle.guppy_support.specs.Graph.{IsDigraph, sources};
 ghost use Rattle.guppy_support.specs.Rows.{places, IsPacked};
 ghost use Rattle.guppy_support.specs.Orders.{IsOrder};
 ghost use Rattle.guppy_support.specs.Heads.{IsDone};
-ghost use Rattle.guppy_support.specs.Plans.{TakesFresh, IsFirst, StartsGrow, AreReady, IsSetup, IsOutEdge, IsAtIn, IsWithinIn, IsChosenIn, IsPauseIn, RowWaits, IsEdge, AreEntering, AreFirsts};
+ghost use Rattle.guppy_support.specs.Plans.{TakesFresh, IsFirst, StartsGrow, AreReady, IsSetup, IsOutEdge, IsAtIn, IsWithinIn, IsChosenIn, IsPauseIn, RowWaits};
 ghost use Rattle.guppy_support.specs.Queues.{Joins};
 
 use crate::digraph::{Digraph, Edge};
@@ -12,15 +12,23 @@ use crate::pack::Rows;
 use crate::queue::Queue;
 use std::alloc::{AllocError, Global};
 
+/// What is known between two nodes of the order.
 #[derive(Drop)]
-struct Plan {
-    listed: Vec<usize>,
-    done: Vec<bool>,
-    outside: Vec<usize>,
-    held: Vec<usize>,
-    starts: Queue,
-    ready: Queue,
-    rest: Queue,
+pub(crate) struct Plan {
+    /// The nodes listed so far.
+    pub(crate) listed: Vec<usize>,
+    /// Which nodes are listed.
+    pub(crate) done: Vec<bool>,
+    /// How many edges from nodes that aren't listed enter each component.
+    pub(crate) outside: Vec<usize>,
+    /// How many edges hold each node.
+    pub(crate) held: Vec<usize>,
+    /// The heads of the components that may begin.
+    pub(crate) starts: Queue,
+    /// The nodes of the component at hand that aren't held.
+    pub(crate) ready: Queue,
+    /// All nodes of the component at hand.
+    pub(crate) rest: Queue,
 }
 
 /// Takes the least number that isn't done.
@@ -39,7 +47,7 @@ fn pop_fresh(queue: &mut Queue, done: &[bool]) -> Option<usize>
 }
 
 /// The first node of the row with no hold, or else the first.
-fn first_of(row: &[usize], held: &[usize]) -> usize
+pub(crate) fn first_of(row: &[usize], held: &[usize]) -> usize
     requires some { 0 < length row.now }
     requires nodes { (j : ℕ) → j < length row.now → slice_index row.now j < length held.now }
     ensures { IsFirst row.now held.now result }
@@ -90,7 +98,7 @@ fn leave_held(held: &mut Vec<usize>, ready: &mut Queue, node: usize) -> Result<(
 }
 
 /// The row of the component of that rank.
-fn row<'a>(groups: &'a Rows, ranks: &[usize], rank: usize, nodes: usize) -> &'a [usize]
+pub(crate) fn row<'a>(groups: &'a Rows, ranks: &[usize], rank: usize, nodes: usize) -> &'a [usize]
     requires rank { rank < nodes }
     requires packed { IsPacked nodes ranks.now groups.now.begins.items groups.now.numbers.items }
     ensures { result.now ≡ places rank ranks.now }
@@ -335,7 +343,7 @@ fn waiting(alloc: Global, row: &[usize], held: &[usize]) -> Result<(Queue, Queue
 }
 
 /// The order of the nodes, from the counts.
-fn order(
+pub(crate) fn order_from(
     alloc: Global,
     graph: &Digraph,
     ranks: &[usize],
@@ -353,72 +361,4 @@ fn order(
         plan.finish(graph, ranks, groups, ranks[start])?;
     }
     Ok(plan.listed)
-}
-
-/// The edge of that number.
-fn edge_at(graph: &Digraph, number: usize) -> Edge
-    requires { number < length graph.now.edges }
-    ensures { IsEdge graph.now number result.from result.to result.non_dev }
-{
-    graph.facts();
-    graph.edge(number)
-}
-
-/// Counts an edge for the component that it enters.
-fn add_entering(counts: &mut Vec<usize>, graph: &Digraph, ranks: &[usize], number: usize)
-    requires setup { IsSetup graph.now ranks.now }
-    requires number { number < length graph.now.edges }
-    requires counted { AreEntering graph.now ranks.now number counts.old.items }
-    ensures { AreEntering graph.now ranks.now (number + 1) counts.new.items }
-{
-    let _edges = graph.edge_count();
-    let edge = edge_at(graph, number);
-    if ranks[edge.from] == ranks[edge.to] {
-        return;
-    }
-    counts[ranks[edge.to]] += 1;
-}
-
-fn zeroes(alloc: Global, count: usize) -> Result<Vec<usize>, AllocError>
-    ensures { IfOk result (λ v. v.items ≡ replicate count 0) }
-{
-    vec![in alloc; 0usize; count]
-}
-
-/// How many edges enter each component.
-fn count_entering(alloc: Global, graph: &Digraph, ranks: &[usize]) -> Result<Vec<usize>, AllocError>
-    requires setup { IsSetup graph.now ranks.now }
-    ensures { IfOk result (λ counts. AreEntering graph.now ranks.now (length graph.now.edges) counts.items) }
-{
-    let mut counts = zeroes(alloc, graph.node_count())?;
-    for number in 0..graph.edge_count() {
-        add_entering(&mut counts, graph, ranks, number);
-    }
-    Ok(counts)
-}
-
-/// Adds the first node of the component of that rank, if there is one and no edge enters it.
-fn add_start(
-    starts: &mut Queue,
-    members: &[usize],
-    ranks: &[usize],
-    outside: &[usize],
-    held: &[usize],
-    rank: usize,
-) -> Result<(), AllocError>
-    requires rank { rank < length outside.now }
-    requires members { members.now ≡ places rank ranks.now }
-    requires nodes { (j : ℕ) → j < length members.now → slice_index members.now j < length held.now }
-    requires firsts { AreFirsts ranks.now outside.now held.now rank starts.old }
-    ensures { OnOk result (AreFirsts ranks.now outside.now held.now (rank + 1) starts.new) }
-{
-    let _ranks = ranks.len();
-    if outside[rank] != 0 {
-        return Ok(());
-    }
-    if members.is_empty() {
-        return Ok(());
-    }
-    starts.push(first_of(members, held))?;
-    Ok(())
 }

@@ -1,2 +1,7 @@
-//! Tests that cross the crates.
+//! Tests that cross the crates: small row files, and what the program answers for them.
 #![tactic(auto)]
+
+#[cfg(test)]
+mod fixtures;
+#[cfg(test)]
+mod program;

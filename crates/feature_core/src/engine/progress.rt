@@ -2,7 +2,7 @@
 
 ghost use Rattle.std.specs.Prelude.{Some, None, ◌≡◌, ◌+◌, ◌^◌, ◌<◌, ◌≤◌, ℕ, suc, Bool, false, List, IsTrue, IsFalse, OnOk, OnErr, length, slice_get};
 ghost use Rattle.guppy_support.specs.Bits.{has};
-ghost use Rattle.feature_core.specs.Walks.{Content, IsContent, LegalRun, MayAsk, starting, releasing};
+ghost use Rattle.feature_core.specs.Walks.{Content, EndsAreNodes, LegalRun, MayAsk, starting, releasing};
 ghost use Rattle.feature_core.specs.Explanations.{nodes_of};
 ghost use Rattle.feature_core.specs.WalkProgress.{IsListed, HasRoom, Asks, Comes, findings, noted, TakesEdge, FreesEdge, Extends, TakesAll, FreesAll, TakesStopped, FreesStopped, Begun, IsDone, reads_of};
 
@@ -63,7 +63,8 @@ fn offer_if<O: Offerer>(
     ensures listed { IsListed (findings found.new) }
     ensures room { (k : ℕ) → HasRoom (suc k) found.old → HasRoom k found.new }
     ensures size { length found.new.members ≡ length found.old.members }
-    ensures asked { Asks O.gives wanted edge half far offerer.old (findings found.old) offerer.new (findings found.new) }
+    ensures asked { Asks O.gives wanted edge half far
+        offerer.old (findings found.old) offerer.new (findings found.new) }
 {
     if !wanted {
         return;
@@ -98,7 +99,7 @@ fn take_one<S: EdgeSource, O: Offerer>(
     node: usize,
     place: usize,
 ) -> bool
-    requires nodes { IsContent (S.content source.old) }
+    requires nodes { EndsAreNodes (S.content source.old) }
     requires node { node < (S.content source.old).nodes }
     requires few { S.reads source.old < 2 ^ 100 }
     requires may { MayAsk O.can_offer O.gives (S.content source.old) offerer.old }
@@ -113,8 +114,12 @@ fn take_one<S: EdgeSource, O: Offerer>(
     ensures edges { length met.new ≡ length met.old }
     ensures listed { IsListed (findings found.new) }
     ensures grown { Extends (findings found.old) (findings found.new) }
-    ensures taken { IsTrue result → (e : ℕ) × (slice_get (starting (S.content source.old) node) place ≡ Some e) × TakesEdge (S.content source.old) O.gives node e offerer.old (findings found.old) met.old offerer.new (findings found.new) met.new }
-    ensures ended { IsFalse result → (slice_get (starting (S.content source.old) node) place ≡ None) × (offerer.new ≡ offerer.old) × (findings found.new ≡ findings found.old) × (met.new ≡ met.old) }
+    ensures taken { IsTrue result → (e : ℕ)
+        × (slice_get (starting (S.content source.old) node) place ≡ Some e)
+        × TakesEdge (S.content source.old) O.gives node e
+        offerer.old (findings found.old) met.old offerer.new (findings found.new) met.new }
+    ensures ended { IsFalse result → (slice_get (starting (S.content source.old) node) place ≡ None)
+        × (offerer.new ≡ offerer.old) × (findings found.new ≡ findings found.old) × (met.new ≡ met.old) }
 {
     match source.take(node, place) {
         None => false,
@@ -149,7 +154,7 @@ fn release_one<S: EdgeSource, O: Offerer>(
     node: usize,
     place: usize,
 ) -> bool
-    requires nodes { IsContent (S.content source.old) }
+    requires nodes { EndsAreNodes (S.content source.old) }
     requires node { node < (S.content source.old).nodes }
     requires few { S.reads source.old < 2 ^ 100 }
     requires may { MayAsk O.can_offer O.gives (S.content source.old) offerer.old }
@@ -164,8 +169,12 @@ fn release_one<S: EdgeSource, O: Offerer>(
     ensures edges { length met.new ≡ length met.old }
     ensures listed { IsListed (findings found.new) }
     ensures grown { Extends (findings found.old) (findings found.new) }
-    ensures taken { IsTrue result → (e : ℕ) × (slice_get (releasing (S.content source.old) node) place ≡ Some e) × FreesEdge (S.content source.old) O.gives node e offerer.old (findings found.old) met.old offerer.new (findings found.new) met.new }
-    ensures ended { IsFalse result → (slice_get (releasing (S.content source.old) node) place ≡ None) × (offerer.new ≡ offerer.old) × (findings found.new ≡ findings found.old) × (met.new ≡ met.old) }
+    ensures taken { IsTrue result → (e : ℕ)
+        × (slice_get (releasing (S.content source.old) node) place ≡ Some e)
+        × FreesEdge (S.content source.old) O.gives node e
+        offerer.old (findings found.old) met.old offerer.new (findings found.new) met.new }
+    ensures ended { IsFalse result → (slice_get (releasing (S.content source.old) node) place ≡ None)
+        × (offerer.new ≡ offerer.old) × (findings found.new ≡ findings found.old) × (met.new ≡ met.old) }
 {
     match source.release(node, place) {
         None => false,
@@ -185,7 +194,7 @@ fn take_all<S: EdgeSource, O: Offerer>(
     met: &mut IxBitSet,
     node: usize,
 ) -> Result<(), AllocError>
-    requires nodes { IsContent (S.content source.old) }
+    requires nodes { EndsAreNodes (S.content source.old) }
     requires node { node < (S.content source.old).nodes }
     requires long { length (S.content source.old).ways < 2 ^ 64 }
     requires few { S.reads source.old + length (S.content source.old).ways < 2 ^ 100 }
@@ -194,14 +203,17 @@ fn take_all<S: EdgeSource, O: Offerer>(
     requires edges { length met.old ≡ length (S.content source.old).ways }
     requires listed { IsListed (findings found.old) }
     ensures same { S.content source.new ≡ S.content source.old }
-    ensures read { OnOk result (S.reads source.new ≡ S.reads source.old + (length (starting (S.content source.old) node) + 1)) }
+    ensures read { OnOk result (S.reads source.new
+        ≡ S.reads source.old + (length (starting (S.content source.old) node) + 1)) }
     ensures may { MayAsk O.can_offer O.gives (S.content source.old) offerer.new }
     ensures members { length found.new.members ≡ length found.old.members }
     ensures edges { length met.new ≡ length met.old }
     ensures listed { IsListed (findings found.new) }
     ensures grown { Extends (findings found.old) (findings found.new) }
-    ensures taken { OnOk result (TakesAll (S.content source.old) O.gives node offerer.old (findings found.old) met.old offerer.new (findings found.new) met.new) }
-    ensures err { OnErr result (TakesStopped (S.content source.old) O.gives node offerer.old (findings found.old) met.old offerer.new) }
+    ensures taken { OnOk result (TakesAll (S.content source.old) O.gives node
+        offerer.old (findings found.old) met.old offerer.new (findings found.new) met.new) }
+    ensures err { OnErr result (TakesStopped (S.content source.old) O.gives node
+        offerer.old (findings found.old) met.old offerer.new) }
 {
     let mut place = 0;
     make_room(found)?;
@@ -220,7 +232,7 @@ fn release_all<S: EdgeSource, O: Offerer>(
     met: &mut IxBitSet,
     node: usize,
 ) -> Result<(), AllocError>
-    requires nodes { IsContent (S.content source.old) }
+    requires nodes { EndsAreNodes (S.content source.old) }
     requires node { node < (S.content source.old).nodes }
     requires long { length (S.content source.old).ways < 2 ^ 64 }
     requires few { S.reads source.old + length (S.content source.old).ways < 2 ^ 100 }
@@ -229,14 +241,17 @@ fn release_all<S: EdgeSource, O: Offerer>(
     requires edges { length met.old ≡ length (S.content source.old).ways }
     requires listed { IsListed (findings found.old) }
     ensures same { S.content source.new ≡ S.content source.old }
-    ensures read { OnOk result (S.reads source.new ≡ S.reads source.old + (length (releasing (S.content source.old) node) + 1)) }
+    ensures read { OnOk result (S.reads source.new
+        ≡ S.reads source.old + (length (releasing (S.content source.old) node) + 1)) }
     ensures may { MayAsk O.can_offer O.gives (S.content source.old) offerer.new }
     ensures members { length found.new.members ≡ length found.old.members }
     ensures edges { length met.new ≡ length met.old }
     ensures listed { IsListed (findings found.new) }
     ensures grown { Extends (findings found.old) (findings found.new) }
-    ensures taken { OnOk result (FreesAll (S.content source.old) O.gives node offerer.old (findings found.old) met.old offerer.new (findings found.new) met.new) }
-    ensures err { OnErr result (FreesStopped (S.content source.old) O.gives node offerer.old (findings found.old) met.old offerer.new) }
+    ensures taken { OnOk result (FreesAll (S.content source.old) O.gives node
+        offerer.old (findings found.old) met.old offerer.new (findings found.new) met.new) }
+    ensures err { OnErr result (FreesStopped (S.content source.old) O.gives node
+        offerer.old (findings found.old) met.old offerer.new) }
 {
     let mut place = 0;
     make_room(found)?;
@@ -271,7 +286,7 @@ pub(super) fn walk_members<S: EdgeSource, O: Offerer>(
     found: &mut Found,
     met: &mut IxBitSet,
 ) -> Result<(), AllocError>
-    requires nodes { IsContent (S.content source.old) }
+    requires nodes { EndsAreNodes (S.content source.old) }
     requires long { length (S.content source.old).ways < 2 ^ 64 }
     requires few { S.reads source.old < 2 ^ 99 }
     requires may { MayAsk O.can_offer O.gives (S.content source.old) offerer.old }
@@ -283,10 +298,13 @@ pub(super) fn walk_members<S: EdgeSource, O: Offerer>(
     requires blank { Begun (λ _. false) (findings found.old) }
     ensures same { S.content source.new ≡ S.content source.old }
     ensures members { length found.new.members ≡ length initials.now }
-    ensures read { OnOk result (S.reads source.new ≡ S.reads source.old + reads_of (S.content source.old) (nodes_of found.new.steps.items)) }
+    ensures read { OnOk result (S.reads source.new
+        ≡ S.reads source.old + reads_of (S.content source.old) (nodes_of found.new.steps.items)) }
     ensures listed { IsListed (findings found.new) }
-    ensures done { OnOk result (IsDone (S.content source.old) (has initials.now) O.gives offerer.old (nodes_of found.new.steps.items) offerer.new (findings found.new) met.new) }
-    ensures err { OnErr result (LegalRun (S.content source.old) (has initials.now) O.gives offerer.old offerer.new) }
+    ensures done { OnOk result (IsDone (S.content source.old) (has initials.now) O.gives offerer.old
+        (nodes_of found.new.steps.items) offerer.new (findings found.new) met.new) }
+    ensures err { OnErr result (LegalRun (S.content source.old) (has initials.now) O.gives
+        offerer.old offerer.new) }
 {
     begin(found, initials)?;
     let mut next = 0;

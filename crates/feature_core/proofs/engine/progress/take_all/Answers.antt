@@ -1,7 +1,7 @@
 use Rattle.std.proofs.Common.{◌≡◌, ◌<◌, suc, ℕ, Bool, List, Some, None, length, refl, sym, ◌∙◌, ap, subst, arith, add-one}
 use Rattle.std.specs.Prelude.{slice_get, ◌==◌}
 use Rattle.std.proofs.lemmas.Option.{slice_get_within}
-use Rattle.feature_core.specs.Walks.{Content, Way, IsContent, starting, MayAsk}
+use Rattle.feature_core.specs.Walks.{Content, Way, EndsAreNodes, starting, MayAsk}
 use Rattle.feature_core.specs.WalkProgress.{Findings, findings, IsListed, Extends, TakesEdge}
 use Rattle.feature_core.proofs.WayNumbers.{length_numbers_le}
 use Rattle.feature_core.proofs.WalkLoops.{TakesFirst, takes_none, takes_more, takes_whole, takes_stopped, same_findings, extends_refl, extends_trans, whole_at, on_err}
@@ -29,7 +29,7 @@ edges-init g c =
     }
 
 pub take_one-requires-clause-nodes : goal.take_one-requires-clause-nodes
-take_one-requires-clause-nodes g c = subst IsContent (sym c.edges.invariant.same) c.requires.nodes
+take_one-requires-clause-nodes g c = subst EndsAreNodes (sym c.edges.invariant.same) c.requires.nodes
 
 pub take_one-requires-clause-few : goal.take_one-requires-clause-few
 take_one-requires-clause-few g c =

@@ -6,7 +6,7 @@ use Rattle.std.specs.Option.{option_map}
 use Rattle.guppy_support.specs.Bits.{has}
 use Rattle.feature_core.specs.declared.engine.Step.{Step}
 use Rattle.feature_core.specs.declared.engine.progress.Found.{Found}
-use Rattle.feature_core.specs.Walks.{Content, Way, IsContent, starting, releasing, MayAsk}
+use Rattle.feature_core.specs.Walks.{Content, Way, EndsAreNodes, starting, releasing, MayAsk}
 use Rattle.feature_core.specs.WalkProgress.{Findings, findings, TakesAll, FreesAll, TakesStopped, FreesStopped, reads_of}
 use Rattle.feature_core.proofs.WalkEnds.{done_more, stopped_taking, stopped_freeing, reads_more, started_none, take_extends, longer, reads_bound, reads_none}
 use Rattle.feature_core.proofs.WalkLoops.{extends_trans, take-length, on_err}
@@ -35,7 +35,7 @@ members-init g c =
     }
 
 pub take_all-requires-clause-nodes : goal.take_all-requires-clause-nodes
-take_all-requires-clause-nodes g c = subst IsContent (sym c.members.invariant.same) c.requires.nodes
+take_all-requires-clause-nodes g c = subst EndsAreNodes (sym c.members.invariant.same) c.requires.nodes
 
 pub returns-in_err-take_all-clause-err : goal.returns-in_err-take_all-clause-err
 returns-in_err-take_all-clause-err g c =
@@ -47,7 +47,7 @@ returns-in_err-take_all-clause-err g c =
     on_err c.from_residual-in_err-take_all.result (stopped_taking con (has c.args.initials.now) g.O.Offerer.gives c.args.offerer.now c.members.offerer c.take_all.new.offerer f c.members.met c.members.next node here c.members.invariant.done stopped)
 
 pub release_all-requires-clause-nodes : goal.release_all-requires-clause-nodes
-release_all-requires-clause-nodes g c = subst IsContent (sym (c.take_all.ensures.same ∙ c.members.invariant.same)) c.requires.nodes
+release_all-requires-clause-nodes g c = subst EndsAreNodes (sym (c.take_all.ensures.same ∙ c.members.invariant.same)) c.requires.nodes
 
 pub release_all-requires-clause-few : goal.release_all-requires-clause-few
 release_all-requires-clause-few g c =

@@ -1,0 +1,187 @@
+-- What the declarations of a link add.
+use Rattle.std.proofs.Common.{◌≡◌, ℕ, ◌+◌, ◌<◌, ◌⊎◌, inl, inr, ⊎_elim, List, length, map, get_or, Bool, true, false, cond, refl, ap, sym, ◌∙◌, subst, arith, Option, Some, None}
+use Rattle.std.specs.Prelude.{slice_get, IsTrue, ◌||◌, ◌&&◌, ◌↔◌, codes}
+use Rattle.std.specs.Str.{bytes_eq}
+use Rattle.std.specs.List.{list_any}
+use Rattle.std.specs.Option.{option_map}
+use Rattle.std.specs.Cmp.Lexicographic.{bytes_decides}
+use Rattle.std.proofs.lemmas.List.{length-map}
+use Rattle.std.proofs.lemmas.Option.{slice_get-map, slice_get_read, slice_get_within}
+use Rattle.guppy_packages.specs.Rows.{Text, Declared}
+use Rattle.guppy_packages.specs.Tables.{LinkTable, Tables}
+use Rattle.feature_labels.specs.Names.{LabelName}
+use Rattle.feature_labels.specs.Names.LabelName.{base, named, optional}
+use Rattle.feature_core.specs.Adds.{Adds, Below}
+use Rattle.feature_core.specs.Nodes.{NodeAt, first_node}
+use Rattle.feature_core.specs.Links.{IsLink}
+use Rattle.feature_core.specs.Candidates.{requests}
+use Rattle.feature_core.specs.declared.key.Key.{Key}
+use Rattle.feature_core.specs.Parts.{key, IsTo, start_of, IsRequest, IsOfDeclarationAt, IsOfLinkAt}
+use Rattle.feature_core.proofs.Places.{got_same}
+use Rattle.feature_core.proofs.PartLemmas.{base_back, list_any_there, list_any_back}
+use Rattle.feature_core.proofs.AddsLemmas.{Adds-nothing, Adds-then, Adds-as, Adds-turn}
+
+-- from u to a node that was looked up
+abbrev pub IsToFound : ℕ → Option ℕ → ℕ → ℕ → ℕ → Key → Type 0
+IsToFound u to rank source place x = (w : ℕ) × (to ≡ Some w) × (x ≡ key u w rank source place)
+
+-- what was looked up is this label of package p, where that is a node
+abbrev pub IsFound : Tables → ℕ → LabelName → Option ℕ → Type 0
+IsFound t p label to = (n : ℕ) → (to ≡ Some n) ↔ NodeAt t n p label
+
+pub found_adds : (t : Tables) (u p : ℕ) (label : LabelName) (rank source place : ℕ) (to : Option ℕ) (a b : List Key) → IsFound t p label to → Adds (IsToFound u to rank source place) a b → Adds (IsTo t u p label rank source place) a b
+found_adds t u p label rank source place to a b found h =
+    Adds-as (IsToFound u to rank source place) (IsTo t u p label rank source place) a b (λ x i. (i.0, (found i.0).0 i.1, i.2)) (λ x i. (i.0, (found i.0).1 i.1, i.2)) h
+
+pub base_found : (t : Tables) (p first : ℕ) → first ≡ first_node t p → NodeAt t first p base → IsFound t p base (Some first)
+base_found t p first is node n = (λ e. subst (λ z. NodeAt t z p base) (got_same first n e) node, λ h. ap Some (is ∙ sym (base_back t n p h)))
+
+-- the element at a place of what is made of each element
+pub mapped_at : {X Y : Type 0} (f : X → Y) (xs : List X) (ys : List Y) (i : ℕ) (x : X) → map f xs ≡ ys → i < length xs → x ≡ get_or xs i x → slice_get ys i ≡ Some (f x)
+mapped_at f xs ys i x e l h =
+    subst (λ z. slice_get z i ≡ Some (f x)) e (slice_get-map f xs i ∙ ap (option_map f) (slice_get_read xs (length xs) i x refl l h))
+
+pub mapped_length : {X Y : Type 0} (f : X → Y) (xs : List X) (ys : List Y) → map f xs ≡ ys → length xs ≡ length ys
+mapped_length f xs ys e = sym (length-map xs f) ∙ ap length e
+
+-- to the default feature, where d asks for it
+abbrev pub IsByDefault : Tables → ℕ → ℕ → ℕ → ℕ → Declared → Key → Type 0
+IsByDefault t u p k j d x = IsTrue d.default_features × IsTo t u p (named (codes "default")) 7 k j x
+
+-- to the i-th feature that d lists
+abbrev pub IsListed : Tables → ℕ → ℕ → ℕ → ℕ → Declared → ℕ → Key → Type 0
+IsListed t u p k j d i x = (g : Text) × (slice_get d.features i ≡ Some g) × IsTo t u p (named g) 7 k j x
+
+pub with_default : (t : Tables) (u p k j : ℕ) (d : Declared) (to : Option ℕ) (a b : List Key) → d.default_features ≡ true → IsFound t p (named (codes "default")) to → Adds (IsToFound u to 7 k j) a b → Adds (IsByDefault t u p k j d) a b
+with_default t u p k j d to a b asks found h =
+    Adds-as (IsTo t u p (named (codes "default")) 7 k j) (IsByDefault t u p k j d) a b (λ x i. (asks, i)) (λ x i. i.1) (found_adds t u p (named (codes "default")) 7 k j to a b found h)
+
+not_both : (b : Bool) → b ≡ true → b ≡ false → ⊥
+not_both true e f = cc
+not_both false e f = cc
+
+pub without_default : (t : Tables) (u p k j : ℕ) (d : Declared) (a : List Key) → d.default_features ≡ false → Adds (IsByDefault t u p k j d) a a
+without_default t u p k j d a unasked = Adds-nothing (IsByDefault t u p k j d) a (λ x h. not_both d.default_features h.0 unasked)
+
+-- one more of the features that d lists
+pub listed_turn : (t : Tables) (u p k j : ℕ) (d : Declared) (i : ℕ) (g : Text) (to : Option ℕ) (a b c : List Key) → slice_get d.features i ≡ Some g → IsFound t p (named g) to → Adds (Below i (IsListed t u p k j d)) a b → Adds (IsToFound u to 7 k j) b c → Adds (Below (i + 1) (IsListed t u p k j d)) a c
+listed_turn t u p k j d i g to a b c at found before h =
+    Adds-turn (IsListed t u p k j d) i a b c before
+    (Adds-as (IsTo t u p (named g) 7 k j) (IsListed t u p k j d i) b c
+    (λ x h. (g, at, h))
+    (λ x h. subst (λ z. IsTo t u p (named z) 7 k j x) (got_same h.0 g (sym h.1 ∙ at)) h.2)
+    (found_adds t u p (named g) 7 k j to b c found h))
+
+or_left : (a b : Bool) → a ≡ true → a || b ≡ true
+or_left true b h = refl
+or_left false b h = cc
+
+or_right : (a b : Bool) → b ≡ true → a || b ≡ true
+or_right true b h = refl
+or_right false b h = h
+
+or_cases : (a b : Bool) → a || b ≡ true → (a ≡ true) ⊎ (b ≡ true)
+or_cases true b h = inl refl
+or_cases false b h = inr h
+
+and_true : (a b : Bool) → a ≡ true → b ≡ true → a && b ≡ true
+and_true true b h i = i
+and_true false b h i = cc
+
+and_cases : (a b : Bool) → a && b ≡ true → (a ≡ true) × (b ≡ true)
+and_cases true b h = (refl, h)
+and_cases false b h = cc
+
+-- the base, the default feature where d asks for it, and the features that d lists
+abbrev IsAsked : Tables → ℕ → ℕ → ℕ → ℕ → Declared → ℕ → Key → Type 0
+IsAsked t u p k j d i x = (IsTo t u p base 7 k j x ⊎ IsByDefault t u p k j d x) ⊎ Below i (IsListed t u p k j d) x
+
+module _ (t : Tables) (u p k j : ℕ) (d : Declared) where
+  asked_there : (i : ℕ) (x : Key) → IsAsked t u p k j d i x → IsRequest t u p k j d x
+  asked_there i x h = ⊎_elim
+      (λ e. ⊎_elim
+      (λ b. (base, refl, b))
+      (λ f. (named (codes "default"), or_right (list_any (λ z. bytes_eq (codes "default") z) d.features) (d.default_features && bytes_eq (codes "default") (codes "default")) (and_true d.default_features (bytes_eq (codes "default") (codes "default")) f.0 ((bytes_decides (codes "default") (codes "default")).1 refl)), f.1))
+      e)
+      (λ e. let g = e.2.0 in
+      (named g, or_left (list_any (λ z. bytes_eq g z) d.features) (d.default_features && bytes_eq g (codes "default")) (list_any_there (λ z. bytes_eq g z) d.features e.0 g e.2.1 ((bytes_decides g g).1 refl)), e.2.2))
+      h
+
+  asked_back : (i : ℕ) (x : Key) → length d.features ≡ i → IsRequest t u p k j d x → IsAsked t u p k j d i x
+  asked_back i x long h = go h.0 h.1 h.2
+    where
+      go : (asked : LabelName) → IsTrue (requests d asked) → IsTo t u p asked 7 k j x → IsAsked t u p k j d i x
+      go base r to = inl (inl to)
+      go (optional n) r to = absurd (not_both false r refl)
+      go (named g) r to = ⊎_elim
+          (λ e.
+          let f = list_any_back (λ z. bytes_eq g z) d.features e in
+          let same : g ≡ f.element = (bytes_decides g f.element).0 f.passes in
+          inr (f.place, subst (λ n. f.place < n) long (slice_get_within d.features f.place f.element f.there), (f.element, f.there, subst (λ z. IsTo t u p (named z) 7 k j x) same to)))
+          (λ e.
+          let f = and_cases d.default_features (bytes_eq g (codes "default")) e in
+          let same : g ≡ codes "default" = (bytes_decides g (codes "default")).0 f.1 in
+          inl (inr (f.0, subst (λ z. IsTo t u p (named z) 7 k j x) same to)))
+          (or_cases (list_any (λ z. bytes_eq g z) d.features) (d.default_features && bytes_eq g (codes "default")) r)
+
+  -- all that d requests
+  pub requested : (i : ℕ) (a b c e : List Key) → length d.features ≡ i → Adds (IsTo t u p base 7 k j) a b → Adds (IsByDefault t u p k j d) b c → Adds (Below i (IsListed t u p k j d)) c e → Adds (IsRequest t u p k j d) a e
+  requested i a b c e long first second third =
+      Adds-as (IsAsked t u p k j d i) (IsRequest t u p k j d) a e (asked_there i) (λ x h. asked_back i x long h)
+      (Adds-then (λ x. IsTo t u p base 7 k j x ⊎ IsByDefault t u p k j d x) (Below i (IsListed t u p k j d)) a c e
+      (Adds-then (IsTo t u p base 7 k j) (IsByDefault t u p k j d) a b c first second) third)
+
+-- a declaration that is not optional starts from the base
+pub start_found : (t : Tables) (link : LinkTable) (d : Declared) (p first : ℕ) → d.optional ≡ false → p ≡ link.from → first ≡ first_node t p → NodeAt t first p base → IsFound t link.from (start_of link d) (Some first)
+start_found t link d p first required q is node =
+    subst (λ label. IsFound t link.from label (Some first)) (sym (ap (λ b. cond b (optional link.name) base) required))
+    (subst (λ z. IsFound t z base (Some first)) q (base_found t p first is node))
+
+-- by declaration j of link k
+abbrev pub IsOfDeclaration : Tables → ℕ → ℕ → Key → Type 0
+IsOfDeclaration t k j x = (link : LinkTable) × IsLink t k link × IsOfDeclarationAt t k link j x
+
+-- by declaration d, which is the j-th of link k
+abbrev IsByStart : Tables → ℕ → ℕ → LinkTable → Declared → Key → Type 0
+IsByStart t k j link d x = (u : ℕ) × NodeAt t u link.from (start_of link d) × IsRequest t u link.to k j d x
+
+the_declaration : (t : Tables) (k j : ℕ) (link : LinkTable) (d : Declared) (x : Key) → IsLink t k link → slice_get link.declarations j ≡ Some d → IsOfDeclaration t k j x → IsByStart t k j link d x
+the_declaration t k j link d x is at h =
+    let e : h.0 ≡ link = got_same h.0 link (sym h.1 ∙ is) in
+    let m : slice_get link.declarations j ≡ Some h.2.0 = subst (λ l. slice_get l.declarations j ≡ Some h.2.0) e h.2.1 in
+    let f : h.2.0 ≡ d = got_same h.2.0 d (sym m ∙ at) in
+    subst (λ z. IsByStart t k j link z x) f (subst (λ l. IsByStart t k j l h.2.0 x) e h.2.2)
+
+-- a declaration that starts nowhere adds nothing
+pub no_start : (t : Tables) (k j : ℕ) (link : LinkTable) (d : Declared) (start : Option ℕ) (a : List Key) → IsLink t k link → slice_get link.declarations j ≡ Some d → IsFound t link.from (start_of link d) start → start ≡ None → Adds (IsOfDeclaration t k j) a a
+no_start t k j link d start a is at found none = Adds-nothing (IsOfDeclaration t k j) a (λ x h.
+    let s = the_declaration t k j link d x is at h in
+    apart s.0 (sym none ∙ (found s.0).1 s.1))
+  where
+    apart : (n : ℕ) → ◌≡◌ {A = Option ℕ} None (Some n) → ⊥
+    apart n e = cc
+
+pub by_start : (t : Tables) (k j : ℕ) (link : LinkTable) (d : Declared) (start : Option ℕ) (u p : ℕ) (a b : List Key) → IsLink t k link → slice_get link.declarations j ≡ Some d → IsFound t link.from (start_of link d) start → start ≡ Some u → p ≡ link.to → Adds (IsRequest t u p k j d) a b → Adds (IsOfDeclaration t k j) a b
+by_start t k j link d start u p a b is at found some q h =
+    Adds-as (IsRequest t u link.to k j d) (IsOfDeclaration t k j) a b
+    (λ x i. (link, is, (d, at, (u, (found u).0 some, i))))
+    (λ x i.
+    let s = the_declaration t k j link d x is at i in
+    subst (λ v. IsRequest t v link.to k j d x) (got_same s.0 u (sym ((found s.0).1 s.1) ∙ some)) s.2)
+    (subst (λ z. Adds (IsRequest t u z k j d) a b) q h)
+
+-- a declaration of link k
+pub declaration_place : (t : Tables) (k j n : ℕ) (link other : LinkTable) → IsLink t k link → n ≡ length link.declarations → j < n → IsLink t k other → j < length other.declarations
+declaration_place t k j n link other is long l same =
+    subst (λ z. j < length z.declarations) (got_same link other (sym is ∙ same)) (subst (λ m. j < m) long l)
+
+-- all declarations of link k
+pub of_link : (t : Tables) (k n : ℕ) (link : LinkTable) (a b : List Key) → IsLink t k link → n ≡ length link.declarations → Adds (Below n (IsOfDeclaration t k)) a b → Adds (IsOfLinkAt t k) a b
+of_link t k n link a b is long h =
+    Adds-as (Below n (IsOfDeclaration t k)) (IsOfLinkAt t k) a b
+    (λ x i. (i.2.0, i.2.1, (i.0, i.2.2)))
+    (λ x i.
+    let e : i.0 ≡ link = got_same i.0 link (sym i.1 ∙ is) in
+    let l : i.2.0 < length i.0.declarations = slice_get_within i.0.declarations i.2.0 i.2.1.0 i.2.1.1 in
+    (i.2.0, subst (λ m. i.2.0 < m) (sym long) (subst (λ z. i.2.0 < length z.declarations) e l), (i.0, i.1, i.2.1)))
+    h

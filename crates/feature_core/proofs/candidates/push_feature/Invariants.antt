@@ -1,0 +1,7 @@
+use Rattle.guppy_packages.specs.NamedFeature.{feature_table}
+use Rattle.feature_core.specs.Adds.{Adds, Below}
+use Rattle.feature_core.specs.Parts.{IsOfItemAt}
+use Rattle.feature_core.proofs.candidates.push_feature.Given as goal
+
+abbrev pub invariant-loop-ix : goal.invariant-loop-ix
+invariant-loop-ix l = Adds (Below l.ix (IsOfItemAt l.numbers.graph.now l.from l.metadata.package_ix (feature_table l.feature))) l.initial.keys.items l.keys.items

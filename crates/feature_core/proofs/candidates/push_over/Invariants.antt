@@ -1,0 +1,6 @@
+use Rattle.feature_core.specs.Adds.{Adds, Below}
+use Rattle.feature_core.proofs.PushLemmas.{OverAt}
+use Rattle.feature_core.proofs.candidates.push_over.Given as goal
+
+abbrev pub invariant-loop-place : goal.invariant-loop-place
+invariant-loop-place l = Adds (Below l.place (OverAt l.numbers.graph.now l.from l.feature l.weak l.links)) l.initial.keys.items l.keys.items

@@ -1,0 +1,6 @@
+use Rattle.feature_core.specs.Adds.{Adds, Below}
+use Rattle.feature_core.proofs.RequestLemmas.{IsOfDeclaration}
+use Rattle.feature_core.proofs.declarations.push_link.Given as goal
+
+abbrev pub invariant-loop-place : goal.invariant-loop-place
+invariant-loop-place l = Adds (Below l.place (IsOfDeclaration l.numbers.graph.now l.ix)) l.initial.keys.items l.keys.items

@@ -1,0 +1,35 @@
+use Rattle.std.proofs.Common.{◌≡◌, ◌∙◌, ◌<◌, sym, refl, arith, length, subst, List, Some}
+use Rattle.std.specs.String.{string_bytes}
+use Rattle.std.specs.Prelude.{slice_get}
+use Rattle.guppy_packages.specs.Stored.{declared}
+use Rattle.feature_labels.specs.Names.LabelName.{base}
+use Rattle.feature_core.specs.Adds.{Adds}
+use Rattle.feature_core.specs.declared.key.Key.{Key}
+use Rattle.feature_core.proofs.RequestLemmas.{mapped_at, mapped_length, listed_turn, requested, found_adds, base_found, with_default, without_default, IsByDefault}
+use Rattle.feature_core.proofs.declarations.push_requests.Goals.{then-default_features+in_ok-push_to-2, else-default_features}
+use Rattle.feature_core.proofs.declarations.push_requests.Goals as goal
+
+pub loop-ix-preserved : goal.loop-ix-preserved
+loop-ix-preserved c =
+    let d = declared c.args.declaration.now in
+    let name = c.index-names-ix.result in
+    let at = mapped_at string_bytes c.features-names.result.now d.features c.loop-ix.ix name c.features-names.ensures (omega arith) c.index-names-ix.is in
+    listed_turn c.args.numbers.graph.now c.args.from c.args.metadata.package_ix c.args.link c.args.place d c.loop-ix.ix c.as_str.result.now c.named-in-loop-ix.result
+    c.if-default_features.keys.items c.loop-ix.keys.items c.push_to-in-loop-ix.new.keys.items
+    (subst (λ z. slice_get d.features c.loop-ix.ix ≡ Some z) (sym c.as_str.ensures.value) at)
+    c.named-in-loop-ix.ensures c.loop-ix.invariant c.in_ok-push_to-3.ensures
+
+pub returns : goal.returns
+returns c =
+    let t = c.args.numbers.graph.now in
+    let p = c.args.metadata.package_ix in
+    let d = declared c.args.declaration.now in
+    let long = mapped_length string_bytes c.features-names.result.now d.features c.features-names.ensures in
+    let second : Adds (IsByDefault t c.args.from p c.args.link c.args.place d) c.push_to.new.keys.items c.if-default_features.keys.items = elim c.if-default_features.branch [
+      | then-default_features+in_ok-push_to-2 w ↦ subst (λ z. Adds (IsByDefault t c.args.from p c.args.link c.args.place d) c.push_to.new.keys.items z.items) (sym w.keys-is) (with_default t c.args.from p c.args.link c.args.place d w.named.result c.push_to.new.keys.items w.push_to-then-default_features.new.keys.items (sym w.if-default_features.ensures) w.named.ensures w.in_ok-push_to-2.ensures)
+      | else-default_features w ↦ subst (λ z. Adds (IsByDefault t c.args.from p c.args.link c.args.place d) c.push_to.new.keys.items z.items) (sym w.keys-is) (without_default t c.args.from p c.args.link c.args.place d c.push_to.new.keys.items (sym w.if-default_features.ensures))
+    ] in
+    requested t c.args.from p c.args.link c.args.place d c.loop-ix.ix c.args.keys.now.items c.push_to.new.keys.items c.if-default_features.keys.items c.loop-ix.keys.items
+    (omega (arith, long))
+    (found_adds t c.args.from p base 7 c.args.link c.args.place (Some c.base.result) c.args.keys.now.items c.push_to.new.keys.items (base_found t p c.base.result c.base.ensures.number c.base.ensures.node) c.in_ok-push_to.ensures)
+    second c.loop-ix.invariant

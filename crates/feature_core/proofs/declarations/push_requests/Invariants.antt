@@ -1,0 +1,7 @@
+use Rattle.guppy_packages.specs.Stored.{declared}
+use Rattle.feature_core.specs.Adds.{Adds, Below}
+use Rattle.feature_core.proofs.RequestLemmas.{IsListed}
+use Rattle.feature_core.proofs.declarations.push_requests.Given as goal
+
+abbrev pub invariant-loop-ix : goal.invariant-loop-ix
+invariant-loop-ix l = Adds (Below l.ix (IsListed l.numbers.graph.now l.from l.metadata.package_ix l.link l.place (declared l.declaration))) l.initial.keys.items l.keys.items

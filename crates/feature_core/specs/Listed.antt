@@ -1,0 +1,14 @@
+-- A source whose edges stand in a list, for tests.
+use Rattle.std.specs.Prelude.{ℕ, ◌<◌, List, All}
+use Rattle.feature_core.specs.declared.engine.Ask.{Ask}
+use Rattle.feature_core.specs.Walks.{Way}
+
+-- a start, a far end, what is asked, and a gate
+abbrev pub ListedWay : Type 0
+ListedWay = ℕ × ℕ × Ask × ℕ
+
+abbrev pub way_of : ListedWay → Way
+way_of w = record { start = w.0; far = w.1; ask = w.2; gate = w.3 }
+
+abbrev pub AreWithin : ℕ → List ListedWay → Type 0
+AreWithin nodes ways = All (λ w. (w.0 < nodes) × (w.1 < nodes) × (w.3 < nodes)) ways

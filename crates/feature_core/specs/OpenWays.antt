@@ -1,0 +1,17 @@
+-- The edges of a digraph as ways that are open to all.
+use Rattle.std.specs.Prelude.{map}
+use Rattle.guppy_support.specs.declared.digraph.Edge.{Edge}
+use Rattle.guppy_support.specs.Graph.{Graph}
+use Rattle.guppy_packages.specs.declared.direction.DependencyDirection.{DependencyDirection}
+use Rattle.guppy_packages.specs.declared.direction.DependencyDirection.TheVariants.{Forward, Reverse}
+use Rattle.feature_core.specs.declared.engine.Ask.TheVariants.{Nobody}
+use Rattle.feature_core.specs.Walks.{Way, Content}
+
+-- an edge as the direction follows it, without asking
+abbrev pub open_way : DependencyDirection → Edge → Way
+open_way Forward e = record { start = e.from; far = e.to; ask = Nobody; gate = 0 }
+open_way Reverse e = record { start = e.to; far = e.from; ask = Nobody; gate = 0 }
+
+-- all edges, as the direction follows them
+abbrev pub open_ways : DependencyDirection → Graph → Content
+open_ways direction g = record { nodes = g.nodes; ways = map (open_way direction) g.edges }

@@ -1,0 +1,268 @@
+//! The candidates for edges, as keys, part by part of the tables.
+ghost use Rattle.std.specs.Prelude.{◌≡◌, ◌+◌, ◌<◌, ◌^◌, ◌↔◌, ◌&&◌, if◌then◌else◌, ℕ, Contains, OnOk, IfOk, IsFalse, Some, length, slice_get};
+ghost use Rattle.std.specs.List.{list_any};
+ghost use Rattle.guppy_packages.specs.Tables.{LinkTable};
+ghost use Rattle.feature_labels.specs.declared.link_declarations.LinkDeclarations.TheVariants.{Optional};
+ghost use Rattle.feature_core.specs.Links.{IsLink, has_declaration};
+ghost use Rattle.guppy_packages.specs.Items.{Item, item_of};
+ghost use Rattle.guppy_packages.specs.Metadata.{package_graph_of, package_table_of, link_graph_of, link_table_of};
+ghost use Rattle.guppy_packages.specs.NamedFeature.{feature_table};
+ghost use Rattle.guppy_packages.specs.Stored.{declared};
+ghost use Rattle.feature_labels.specs.Names.LabelName.{base, named, optional};
+ghost use Rattle.feature_core.specs.declared.key.Key.{Key as KeyValue};
+ghost use Rattle.feature_core.specs.Adds.{Adds, Below};
+ghost use Rattle.feature_core.specs.Nodes.{NodeAt, first_node, labels_of};
+ghost use Rattle.feature_core.specs.NamedLinks.{AreNamedLinks};
+ghost use Rattle.feature_core.specs.Parts.{key, over_rank, IsToFirst, IsOverLink, start_of, IsOver, IsBeside, IsOfItem, IsOfItemAt, IsOfFeatureAt, IsOfPackageAt, IsRequest, IsOfDeclarationAt, IsOfLinkAt, IsOfTables};
+
+use crate::declarations::push_links;
+use crate::key::Key;
+use crate::named_links::{LinkGroups, named_links, numbers_of};
+use crate::numbers::Numbers;
+use guppy_packages::{Declaration, NamedFeature, NamedFeatureDep, PackageLink, PackageMetadata};
+use std::alloc::{AllocError, Global};
+
+/// Adds a key to the node, where there is one.
+pub(crate) fn push_to(
+    keys: &mut Vec<Key>,
+    from: usize,
+    to: Option<usize>,
+    rank: u8,
+    source: usize,
+    place: usize,
+) -> Result<(), AllocError>
+    ensures { OnOk result (Adds (λ x. (w : ℕ) × (to ≡ Some w) × (x ≡ key from w rank source place)) keys.old.items keys.new.items) }
+{
+    if let Some(to) = to {
+        keys.push(Key {
+            from,
+            to,
+            rank,
+            source,
+            place,
+        })?;
+    }
+    Ok(())
+}
+
+/// Adds a key from each node of a package past the first to the first.
+fn push_to_first(keys: &mut Vec<Key>, first: usize, count: usize) -> Result<(), AllocError>
+    requires some { 0 < count }
+    requires fits { first + count < 2 ^ 64 }
+    ensures { OnOk result (Adds (Below count (IsToFirst first)) keys.old.items keys.new.items) }
+{
+    for place in 1..count {
+        push_to(keys, first + place, Some(first), 1, 0, 0)?;
+    }
+    Ok(())
+}
+
+/// Whether a declaration is optional.
+fn is_any_optional(declarations: &[Declaration]) -> bool
+    ensures { result ≡ list_any (λ d. (declared d).optional) declarations.now }
+{
+    declarations
+        .iter()
+        .any(|declaration| declaration.optional())
+}
+
+/// The rank of an edge over a link, where the item is weak or not and a declaration of the link is optional or none is.
+fn slash_rank(weak: bool, optional: bool) -> u8
+    ensures { result ≡ (if weak && optional then 6 else 4) }
+{
+    if weak && optional { 6 } else { 4 }
+}
+
+/// The rank of an edge over a link, where the item is weak or not.
+fn rank_over(link: PackageLink<'_>, weak: bool) -> u8
+    ensures { result ≡ over_rank weak (link_table_of link.entry) }
+{
+    slash_rank(weak, is_any_optional(link.declarations()))
+}
+
+/// Adds a key to the feature of a link's target, where it has the feature.
+fn push_over_link(
+    keys: &mut Vec<Key>,
+    numbers: Numbers<'_>,
+    from: usize,
+    feature: &str,
+    weak: bool,
+    ix: usize,
+) -> Result<(), AllocError>
+    requires { ix < length numbers.graph.now.links }
+    ensures { OnOk result (Adds (IsOverLink numbers.entry.graph.now from feature.now weak ix) keys.old.items keys.new.items) }
+{
+    let link = numbers.graph.link(ix);
+    let to = numbers.named(link.to(), feature);
+    push_to(keys, from, to, rank_over(link, weak), ix, 0)?;
+    Ok(())
+}
+
+/// Adds a key to the feature of each target of a package's links under a name.
+fn push_over(
+    keys: &mut Vec<Key>,
+    numbers: Numbers<'_>,
+    links: &[usize],
+    from: usize,
+    feature: &str,
+    weak: bool,
+) -> Result<(), AllocError>
+    requires { (i k : ℕ) → slice_get links.now i ≡ Some k → k < length numbers.graph.now.links }
+    ensures { OnOk result (Adds (λ x. (i k : ℕ) × (slice_get links.now i ≡ Some k) × IsOverLink numbers.entry.graph.now from feature.now weak k x) keys.old.items keys.new.items) }
+{
+    for place in 0..links.len() {
+        push_over_link(keys, numbers, from, feature, weak, links[place])?;
+    }
+    Ok(())
+}
+
+/// Adds the keys of a strong item beside those over links: to the optional dependency, and to the feature of its name.
+fn push_beside(
+    keys: &mut Vec<Key>,
+    numbers: Numbers<'_>,
+    metadata: PackageMetadata<'_>,
+    from: usize,
+    feature_name: &str,
+    dep_name: &str,
+) -> Result<(), AllocError>
+    requires { package_graph_of metadata ≡ numbers.graph.now }
+    ensures { OnOk result (Adds (IsBeside numbers.entry.graph.now from metadata.entry.package_ix feature_name.now dep_name.now) keys.old.items keys.new.items) }
+{
+    let Some(dependency) = numbers.optional(metadata, dep_name) else {
+        return Ok(());
+    };
+    push_to(keys, from, Some(dependency), 5, 0, 0)?;
+    if dep_name != feature_name {
+        push_to(keys, from, numbers.named(metadata, dep_name), 5, 0, 0)?;
+    }
+    Ok(())
+}
+
+/// Adds the keys of an item of a feature.
+fn push_item(
+    keys: &mut Vec<Key>,
+    numbers: Numbers<'_>,
+    groups: &LinkGroups<'_>,
+    metadata: PackageMetadata<'_>,
+    from: usize,
+    feature_name: &str,
+    item: &str,
+) -> Result<(), AllocError>
+    requires graph { package_graph_of metadata ≡ numbers.graph.now }
+    requires links { AreNamedLinks numbers.graph.now groups.now }
+    ensures { OnOk result (Adds (IsOfItem numbers.entry.graph.now from metadata.entry.package_ix feature_name.now (item_of item.now)) keys.old.items keys.new.items) }
+{
+    match NamedFeatureDep::from_cargo_string(item) {
+        NamedFeatureDep::NamedFeature(feature) => {
+            if feature != feature_name {
+                push_to(keys, from, numbers.named(metadata, feature), 2, 0, 0)?;
+            }
+            Ok(())
+        }
+        NamedFeatureDep::OptionalDependency(name) => {
+            push_to(keys, from, numbers.optional(metadata, name), 3, 0, 0)?;
+            Ok(())
+        }
+        NamedFeatureDep::DependencyNamedFeature {
+            dep_name,
+            feature,
+            weak,
+        } => {
+            let links = numbers_of(groups, metadata.package_ix(), dep_name);
+            push_over(keys, numbers, links, from, feature, weak)?;
+            if !weak {
+                push_beside(keys, numbers, metadata, from, feature_name, dep_name)?;
+            }
+            Ok(())
+        }
+    }
+}
+
+/// Adds the keys of the items of a feature.
+fn push_feature(
+    keys: &mut Vec<Key>,
+    numbers: Numbers<'_>,
+    groups: &LinkGroups<'_>,
+    metadata: PackageMetadata<'_>,
+    from: usize,
+    feature: &NamedFeature,
+) -> Result<(), AllocError>
+    requires graph { package_graph_of metadata ≡ numbers.graph.now }
+    requires links { AreNamedLinks numbers.graph.now groups.now }
+    ensures { OnOk result (Adds (λ x. (j : ℕ) × IsOfItemAt numbers.entry.graph.now from metadata.entry.package_ix (feature_table feature.now) j x) keys.old.items keys.new.items) }
+{
+    for ix in 0..feature.item_count() {
+        push_item(
+            keys,
+            numbers,
+            groups,
+            metadata,
+            from,
+            feature.name(),
+            feature.item(ix),
+        )?;
+    }
+    Ok(())
+}
+
+/// Adds the keys of the items of a package's features.
+fn push_features(
+    keys: &mut Vec<Key>,
+    numbers: Numbers<'_>,
+    groups: &LinkGroups<'_>,
+    metadata: PackageMetadata<'_>,
+) -> Result<(), AllocError>
+    requires graph { package_graph_of metadata ≡ numbers.graph.now }
+    requires links { AreNamedLinks numbers.graph.now groups.now }
+    ensures { OnOk result (Adds (λ x. (k : ℕ) × IsOfFeatureAt numbers.entry.graph.now metadata.entry.package_ix (package_table_of metadata.entry) k x) keys.old.items keys.new.items) }
+{
+    let features = metadata.named_features();
+    for ix in 0..features.len() {
+        let from = numbers.feature(metadata, ix);
+        push_feature(keys, numbers, groups, metadata, from, &features[ix])?;
+    }
+    Ok(())
+}
+
+/// Adds the keys of a package: to its base, and by the items of its features.
+fn push_package(
+    keys: &mut Vec<Key>,
+    numbers: Numbers<'_>,
+    groups: &LinkGroups<'_>,
+    metadata: PackageMetadata<'_>,
+) -> Result<(), AllocError>
+    requires graph { package_graph_of metadata ≡ numbers.graph.now }
+    requires links { AreNamedLinks numbers.graph.now groups.now }
+    ensures { OnOk result (Adds (IsOfPackageAt numbers.entry.graph.now metadata.entry.package_ix) keys.old.items keys.new.items) }
+{
+    let _ix = metadata.package_ix();
+    push_to_first(keys, numbers.base(metadata), numbers.node_count(metadata))?;
+    push_features(keys, numbers, groups, metadata)?;
+    Ok(())
+}
+
+/// Adds the keys of all packages.
+fn push_packages(
+    keys: &mut Vec<Key>,
+    numbers: Numbers<'_>,
+    groups: &LinkGroups<'_>,
+) -> Result<(), AllocError>
+    requires { AreNamedLinks numbers.graph.now groups.now }
+    ensures { OnOk result (Adds (λ x. (p : ℕ) × IsOfPackageAt numbers.entry.graph.now p x) keys.old.items keys.new.items) }
+{
+    for ix in 0..numbers.graph.package_count() {
+        push_package(keys, numbers, groups, numbers.graph.package(ix))?;
+    }
+    Ok(())
+}
+
+/// The keys of all candidates.
+pub(crate) fn candidates(alloc: Global, numbers: Numbers<'_>) -> Result<Vec<Key>, AllocError>
+    ensures { IfOk result (λ keys. (x : KeyValue) → Contains keys.items x ↔ IsOfTables numbers.entry.graph.now x) }
+{
+    let groups = named_links(alloc, numbers.graph)?;
+    let mut keys = Vec::new(alloc);
+    push_packages(&mut keys, numbers, &groups)?;
+    push_links(&mut keys, numbers)?;
+    Ok(keys)
+}

@@ -1,0 +1,284 @@
+-- Components are numbered along the order.
+use Rattle.std.proofs.Common.{◌≡◌, ◌≢◌, ℕ, zero, suc, ◌+◌, ◌-◌, ◌<◌, ◌≤◌, ◌⊎◌, inl, inr, Bool, true, false, ◌||◌, cond, eqb, List, [], ◌∷◌, ◌++◌, length, get_or, map, take, drop, set, refl, ap, sym, ◌∙◌, subst, arith, Contains, get_or-set_same, get_or-set_other}
+use Rattle.std.specs.Prelude.{filter, nat_lt}
+use Rattle.std.specs.List.{list_any}
+use Rattle.std.proofs.Math.ListN.{length-set}
+use Rattle.std.proofs.lemmas.Bool.{cases_eq, cases_lt, cases_order, eq-eqb, ne_eqb, lt-ltb, le-ltb}
+use Rattle.std.proofs.lemmas.Bool.Decides.{eqb_tells}
+use Rattle.std.proofs.lemmas.List.{get_or-take, get_or-map, length-map, length-take, ext_get_or, get_or_append_left, get_or_at, length-append, get_or_default}
+use Rattle.std.proofs.lemmas.List.Elements.{Contains-get_or}
+use Rattle.std.proofs.lemmas.Map.Keys.{IsDistinct-from_apart}
+use Rattle.std.proofs.lemmas.Map.Steps.{length-le_from_distinct_below}
+use Rattle.guppy_support.specs.Graph.{Graph, IsDigraph}
+use Rattle.guppy_support.specs.Paths.{SameComponent}
+use Rattle.guppy_support.specs.Orders.{IsOrder}
+use Rattle.guppy_support.specs.Rows.{below}
+use Rattle.guppy_support.specs.Finish.{AreApart}
+use Rattle.guppy_support.specs.Ranks.{IsRanking}
+use Rattle.guppy_support.specs.Sequences.{Sequence, IsOrderOf, numbers_of, AreGrouped, rank_at, AreNumbered}
+use Rattle.guppy_support.proofs.PackLemmas.{below_step, below-le-length}
+use Rattle.guppy_support.proofs.OrderLemmas.{listed_before, order_below, order_apart}
+use Rattle.guppy_support.proofs.ApartLemmas.{apart_whole}
+use Rattle.guppy_support.proofs.Exists.{rank_same, path_node}
+
+-- ---- along the order
+
+module _ (g : Graph) (ok : IsDigraph g) (ranks : List ℕ) (r : IsRanking g ranks) (list : List ℕ) (o : IsOrder g.edges g.nodes list) where
+  -- between two nodes of one component stand nodes of it alone
+  pub together : (i k j : ℕ) → i < k → k < j → j < g.nodes → rank_at list ranks i ≡ rank_at list ranks j → rank_at list ranks i ≡ rank_at list ranks k
+  together i k j lk lj h same =
+      let hk : k < g.nodes = omega arith in
+      let hi : i < g.nodes = omega arith in
+      elim (cases_eq (rank_at list ranks i) (rank_at list ranks k)) [
+        | inl e ↦ e
+        | inr ne ↦
+            absurd (
+            let there = (o.next k hk).available.whole (get_or list i 0) (get_or list j 0) (listed_before o i k lk hk)
+            (r.same (get_or list i 0) (get_or list j 0) (order_below o i hi) (order_below o j h) same)
+            (λ s. ne (rank_same g ok ranks r s)) in
+            let place = there.0 in
+            let few : place < k = omega (arith, there.1, length-take k list) in
+            let read : get_or list place 0 ≡ get_or list j 0 =
+            sym (get_or-take k list place 0 few) ∙ get_or_default (take k list) place 0 (get_or list j 0) there.1 ∙ there.2
+            in
+            order_apart o place j (omega arith) (omega (arith, o.long)) read)
+      ]
+
+  module _ (numbers : List ℕ) (count : ℕ) (a : AreNumbered list ranks numbers count) (all : length numbers ≡ g.nodes) where
+    number_step : (i : ℕ) → i + 1 < g.nodes → (get_or numbers i 0 ≤ get_or numbers (i + 1) 0) × (get_or numbers (i + 1) 0 ≤ get_or numbers i 0 + 1)
+    number_step i h =
+        let h' : i + 1 < length numbers = omega arith in
+        elim (cases_eq (rank_at list ranks i) (rank_at list ranks (i + 1))) [
+          | inl e ↦ let s = a.stays i h' e in (omega arith, omega arith)
+          | inr ne ↦ let s = a.steps i h' ne in (omega arith, omega arith)
+        ]
+
+    number_along : (i d : ℕ) → i + d < g.nodes → get_or numbers i 0 ≤ get_or numbers (i + d) 0
+    number_along i zero h = let e : i + 0 ≡ i = omega arith in rw e (omega arith)
+    number_along i (suc d) h =
+        let e : i + suc d ≡ i + d + 1 = omega arith in
+        rw e (omega (arith, number_along i d (omega arith), (number_step (i + d) (omega arith)).0))
+
+    pub number_rises : (i j : ℕ) → i ≤ j → j < g.nodes → get_or numbers i 0 ≤ get_or numbers j 0
+    number_rises i j le h = let e : i + (j - i) ≡ j = omega arith in rw e at (number_along i (j - i) (omega arith))
+
+    rank_number : (i d : ℕ) → i + d < g.nodes → rank_at list ranks i ≡ rank_at list ranks (i + d) → get_or numbers i 0 ≡ get_or numbers (i + d) 0
+    rank_number i zero h e = let z : i + 0 ≡ i = omega arith in rw z refl
+    rank_number i (suc d) h e =
+        let z : i + suc d ≡ i + d + 1 = omega arith in
+        let middle : rank_at list ranks i ≡ rank_at list ranks (i + d) =
+        elim (cases_eq d 0) [
+          | inl none ↦ let w : i + d ≡ i = omega arith in rw w refl
+          | inr some ↦ together i (i + d) (i + suc d) (omega arith) (omega arith) h e
+        ]
+        in
+        let last : rank_at list ranks (i + d) ≡ rank_at list ranks (i + d + 1) = sym middle ∙ rw z at e in
+        let s = a.stays (i + d) (omega arith) last in
+        rw z (rank_number i d (omega arith) middle ∙ sym s)
+
+    number_rank : (i d : ℕ) → i + d < g.nodes → get_or numbers i 0 ≡ get_or numbers (i + d) 0 → rank_at list ranks i ≡ rank_at list ranks (i + d)
+    number_rank i zero h e = let z : i + 0 ≡ i = omega arith in rw z refl
+    number_rank i (suc d) h e =
+        let z : i + suc d ≡ i + d + 1 = omega arith in
+        let e' : get_or numbers i 0 ≡ get_or numbers (i + d + 1) 0 = rw z at e in
+        let low = number_along i d (omega arith) in
+        let step = number_step (i + d) (omega arith) in
+        let before : get_or numbers i 0 ≡ get_or numbers (i + d) 0 = omega (arith, low, step.0, e') in
+        let last : rank_at list ranks (i + d) ≡ rank_at list ranks (i + d + 1) =
+        elim (cases_eq (rank_at list ranks (i + d)) (rank_at list ranks (i + d + 1))) [
+          | inl same ↦ same
+          | inr ne ↦ absurd (omega (arith, a.steps (i + d) (omega arith) ne, before, e'))
+        ]
+        in
+        rw z (number_rank i d (omega arith) before ∙ last)
+
+    pub same_number : (i j : ℕ) → i < g.nodes → j < g.nodes → rank_at list ranks i ≡ rank_at list ranks j → get_or numbers i 0 ≡ get_or numbers j 0
+    same_number i j hi hj e =
+        elim (cases_lt i j) [
+          | inl l ↦ let z : i + (j - i) ≡ j = omega arith in rw z at (rank_number i (j - i) (omega arith) (rw z e))
+          | inr ge ↦ let z : j + (i - j) ≡ i = omega arith in sym (rw z at (rank_number j (i - j) (omega arith) (rw z (sym e))))
+        ]
+
+    pub same_rank : (i j : ℕ) → i < g.nodes → j < g.nodes → get_or numbers i 0 ≡ get_or numbers j 0 → rank_at list ranks i ≡ rank_at list ranks j
+    same_rank i j hi hj e =
+        elim (cases_lt i j) [
+          | inl l ↦ let z : i + (j - i) ≡ j = omega arith in rw z at (number_rank i (j - i) (omega arith) (rw z e))
+          | inr ge ↦ let z : j + (i - j) ≡ i = omega arith in sym (rw z at (number_rank j (i - j) (omega arith) (rw z (sym e))))
+        ]
+
+    pub number_below : (i : ℕ) → i < g.nodes → get_or numbers i 0 < count
+    number_below i h = omega (arith, number_rises i (g.nodes - 1) (omega arith) (omega arith), a.last (g.nodes - 1) (omega arith))
+
+    -- each number up to that of place i stands at some place
+    number_found : (i c : ℕ) → i < g.nodes → c ≤ get_or numbers i 0 → (j : ℕ) × (j < g.nodes) × (get_or numbers j 0 ≡ c)
+    number_found zero c h le = (0, h, omega (arith, a.first (omega arith)))
+    number_found (suc i) c h le =
+        elim (cases_lt (get_or numbers i 0) c) [
+          | inr low ↦ number_found i c (omega arith) low
+          | inl high ↦
+              let z : suc i ≡ i + 1 = omega arith in
+              let le' : c ≤ get_or numbers (i + 1) 0 = rw z at le in
+              (suc i, h, rw z (omega (arith, (number_step i (omega arith)).1, le')))
+        ]
+
+    pub number_each : (c : ℕ) → c < count → (j : ℕ) × (j < g.nodes) × (get_or numbers j 0 ≡ c)
+    number_each c h =
+        elim (cases_eq g.nodes 0) [
+          | inl none ↦ absurd (omega (arith, a.none (omega arith)))
+          | inr some ↦ number_found (g.nodes - 1) c (omega arith) (omega (arith, a.last (g.nodes - 1) (omega arith)))
+        ]
+
+    -- each node has the number of its place
+    module _ (component : List ℕ) (long : length component ≡ g.nodes) (put : (i : ℕ) → i < g.nodes → get_or component (get_or list i 0) 0 ≡ get_or numbers i 0) where
+      place_of : (v : ℕ) → v < g.nodes → (k : ℕ) × (k < g.nodes) × (get_or list k 0 ≡ v)
+      place_of v h =
+          let p = apart_whole list g.nodes (order_apart o) (λ i l. order_below o i (omega (arith, o.long))) o.long v h in
+          (p.0, omega (arith, p.1, o.long), p.2)
+
+      number_of : (v : ℕ) (h : v < g.nodes) → get_or component v 0 ≡ get_or numbers (place_of v h).0 0
+      number_of v h = let p = place_of v h in ap (λ (x : ℕ). get_or component x 0) (sym p.2) ∙ put p.0 p.1
+
+      rank_of : (v : ℕ) (h : v < g.nodes) → rank_at list ranks (place_of v h).0 ≡ get_or ranks v 0
+      rank_of v h = ap (λ (x : ℕ). get_or ranks x 0) (place_of v h).2
+
+      pub order_of : IsOrderOf g (record { list = list; component = component; count = count })
+      order_of =
+          record {
+            order = o;
+            long = long;
+            apart = λ x y hx hy e.
+                let px = place_of x hx in
+                let py = place_of y hy in
+                r.same x y hx hy (sym (rank_of x hx) ∙ same_rank px.0 py.0 px.1 py.1 (sym (number_of x hx) ∙ e ∙ number_of y hy) ∙ rank_of y hy);
+            same = λ x y hx s.
+                let hy = path_node g ok ranks r s.there hx in
+                let px = place_of x hx in
+                let py = place_of y hy in
+                number_of x hx ∙ same_number px.0 py.0 px.1 py.1 (rank_of x hx ∙ rank_same g ok ranks r s ∙ sym (rank_of y hy)) ∙ sym (number_of y hy);
+            rising = λ i j l h. omega (arith, put i (omega arith), put j h, number_rises i j (omega arith) h);
+            below = λ v h. let p = place_of v h in omega (arith, number_of v h, number_below p.0 p.1);
+            each = λ c h. let f = number_each c h in (get_or list f.0 0, order_below o f.0 f.1, put f.0 f.1 ∙ f.2);
+          }
+
+      pub numbers_are : numbers_of list component ≡ numbers
+      numbers_are =
+          let same_length : length (numbers_of list component) ≡ g.nodes = length-map list (λ (v : ℕ). get_or component v 0) ∙ o.long in
+          ext_get_or 0 (numbers_of list component) numbers (omega arith)
+          (λ i l.
+          let h : i < g.nodes = omega arith in
+          get_or-map (λ (v : ℕ). get_or component v 0) list i 0 0 (omega (arith, o.long)) ∙ put i h)
+
+      pub rises_along : (i j : ℕ) → i < j → j < length list → get_or component (get_or list i 0) 0 ≤ get_or component (get_or list j 0) 0
+      rises_along i j l h = omega (arith, put i (omega (arith, o.long)), put j (omega (arith, o.long)), number_rises i j (omega arith) (omega (arith, o.long)))
+
+-- ---- numbering one place more
+
+pub numbered_none : (list ranks : List ℕ) → AreNumbered list ranks [] 0
+numbered_none list ranks =
+    record {
+      none = λ e. refl;
+      first = λ h. absurd (omega arith);
+      last = λ i e. absurd (omega arith);
+      stays = λ i h. absurd (omega arith);
+      steps = λ i h. absurd (omega arith);
+    }
+
+pub numbered_more : (list ranks numbers : List ℕ) (count next : ℕ) → AreNumbered list ranks numbers count
+    → (length numbers ≡ 0 → next ≡ count + 1)
+    → ((i : ℕ) → i + 1 ≡ length numbers → rank_at list ranks i ≡ rank_at list ranks (length numbers) → next ≡ count)
+    → ((i : ℕ) → i + 1 ≡ length numbers → rank_at list ranks i ≢ rank_at list ranks (length numbers) → next ≡ count + 1)
+    → AreNumbered list ranks (numbers ++ (next - 1) ∷ []) next
+numbered_more list ranks numbers count next a first stays steps =
+    let n : ℕ = length numbers in
+    let long : length (numbers ++ (next - 1) ∷ []) ≡ n + 1 = omega (arith, length-append numbers ((next - 1) ∷ [])) in
+    let old : (i : ℕ) → i < n → get_or (numbers ++ (next - 1) ∷ []) i 0 ≡ get_or numbers i 0 = λ i h. get_or_append_left numbers ((next - 1) ∷ []) 0 i h in
+    let here : get_or (numbers ++ (next - 1) ∷ []) n 0 ≡ next - 1 = get_or_at numbers (next - 1) [] 0 n refl in
+    let positive : 0 < next =
+    elim (cases_eq n 0) [
+      | inl z ↦ omega (arith, first z)
+      | inr some ↦
+          let before = a.last (n - 1) (omega arith) in
+          elim (cases_eq (rank_at list ranks (n - 1)) (rank_at list ranks n)) [
+            | inl e ↦ omega (arith, before, stays (n - 1) (omega arith) e)
+            | inr ne ↦ omega (arith, before, steps (n - 1) (omega arith) ne)
+          ]
+    ]
+    in
+    record {
+      none = λ e. absurd (omega arith);
+      first = λ h.
+          elim (cases_eq n 0) [
+            | inl z ↦ let at : get_or (numbers ++ (next - 1) ∷ []) 0 0 ≡ next - 1 = rw z at here in omega (arith, at, first z, a.none z)
+            | inr some ↦ old 0 (omega arith) ∙ a.first (omega arith)
+          ];
+      last = λ i e. let is : i ≡ n = omega arith in rw is (omega (arith, here));
+      stays = λ i h e.
+          elim (cases_eq (i + 1) n) [
+            | inr ne ↦ old (i + 1) (omega arith) ∙ a.stays i (omega arith) e ∙ sym (old i (omega arith))
+            | inl is ↦ rw is (omega (arith, here, old i (omega arith), a.last i is, stays i is (rw is at e)))
+          ];
+      steps = λ i h ne.
+          elim (cases_eq (i + 1) n) [
+            | inr other ↦ old (i + 1) (omega arith) ∙ a.steps i (omega arith) ne ∙ ap (λ (k : ℕ). k + 1) (sym (old i (omega arith)))
+            | inl is ↦ rw is (omega (arith, here, old i (omega arith), a.last i is, steps i is (rw is at ne)))
+          ];
+    }
+
+-- one node more has its number
+pub scattered_more : (list numbers numbered : List ℕ) (k x y : ℕ) → k < length list → get_or list k 0 ≡ x → x < length numbered → get_or numbers k 0 ≡ y → AreApart list
+    → ((i : ℕ) → i < k → get_or numbered (get_or list i 0) 0 ≡ get_or numbers i 0)
+    → (i : ℕ) → i < k + 1 → get_or (set numbered x y) (get_or list i 0) 0 ≡ get_or numbers i 0
+scattered_more list numbers numbered k x y h lx inside ny apart before i l =
+    elim (cases_eq i k) [
+      | inl e ↦ rw (e, lx, get_or-set_same numbered x y 0 inside) (sym ny)
+      | inr ne ↦ rw (get_or-set_other numbered x (get_or list i 0) y 0 (λ e. apart i k (omega arith) h (e ∙ sym lx))) (before i (omega arith))
+    ]
+
+-- ---- the nodes of one component
+
+-- where the numbers ascend, those that are c stand together, behind those below c
+pub run_of : (f : ℕ → ℕ) (xs : List ℕ) (c : ℕ) → ((i j : ℕ) → i < j → j < length xs → f (get_or xs i 0) ≤ f (get_or xs j 0))
+    → take (below (c + 1) (map f xs) - below c (map f xs)) (drop (below c (map f xs)) xs) ≡ filter (λ v. eqb (f v) c) xs
+run_of f [] c rising = refl
+run_of f (x ∷ xs) c rising =
+    let rest = run_of f xs c (λ i j l h. rising (suc i) (suc j) (omega arith) (omega arith)) in
+    let above : (i : ℕ) → i < length xs → f x ≤ f (get_or xs i 0) = λ i h. rising 0 (suc i) (omega arith) (omega arith) in
+    elim (cases_order (f x) c) [
+      | inl e ↦
+          let none : below c (map f xs) ≡ 0 = below_none f xs c (λ i h. omega (arith, above i h)) in
+          let rest' : take (below (c + 1) (map f xs) - 0) (drop 0 xs) ≡ filter (λ v. eqb (f v) c) xs = rw none at rest in
+          let z : below (c + 1) (map f xs) - 0 ≡ below (c + 1) (map f xs) = omega arith in
+          let z' : 1 + below (c + 1) (map f xs) - 0 ≡ suc (below (c + 1) (map f xs)) = omega arith in
+          rw (le-ltb (f x) c (omega arith), lt-ltb (f x) (c + 1) (omega arith), eq-eqb (f x) c e, none, z') (ap (λ (l : List ℕ). x ∷ l) (rw z at rest'))
+      | inr r ↦
+          elim r [
+            | inl less ↦
+                let z : 1 + below (c + 1) (map f xs) - (1 + below c (map f xs)) ≡ below (c + 1) (map f xs) - below c (map f xs) = omega arith in
+                let s : 1 + below c (map f xs) ≡ suc (below c (map f xs)) = omega arith in
+                rw (lt-ltb (f x) c less, lt-ltb (f x) (c + 1) (omega arith), ne_eqb (f x) c (λ e. omega arith), z, s) rest
+            | inr more ↦
+                rw (le-ltb (f x) c (omega arith), le-ltb (f x) (c + 1) (omega arith), ne_eqb (f x) c (λ e. omega arith)) (step (below c (map f xs)) (below (c + 1) (map f xs))
+                (below_none f xs c (λ i h. omega (arith, above i h))) (below_none f xs (c + 1) (λ i h. omega (arith, above i h))) rest)
+          ]
+    ]
+  where
+    below_none : (f : ℕ → ℕ) (xs : List ℕ) (c : ℕ) → ((i : ℕ) → i < length xs → c ≤ f (get_or xs i 0)) → below c (map f xs) ≡ 0
+    below_none f [] c h = refl
+    below_none f (x ∷ xs) c h = rw (le-ltb (f x) c (h 0 (omega arith))) (omega (arith, below_none f xs c (λ i l. h (suc i) (omega arith))))
+
+    step : (a b : ℕ) → a ≡ 0 → b ≡ 0 → take (b - a) (drop a xs) ≡ filter (λ v. eqb (f v) c) xs → take (0 + b - (0 + a)) (drop (0 + a) (x ∷ xs)) ≡ filter (λ v. eqb (f v) c) xs
+    step a b za zb e = rw (za, zb) (rw (za, zb) at e)
+
+-- where the numbers ascend along the list, counting those below each number groups it
+pub grouped : (count : ℕ) (list component numbers begins : List ℕ) → numbers_of list component ≡ numbers
+    → ((i j : ℕ) → i < j → j < length list → get_or component (get_or list i 0) 0 ≤ get_or component (get_or list j 0) 0)
+    → length begins ≡ count + 1 → ((c : ℕ) → c ≤ count → get_or begins c 0 ≡ below c numbers) → AreGrouped count list component begins
+grouped count list component numbers begins are rising long begin =
+    let f : ℕ → ℕ = λ v. get_or component v 0 in
+    let at : (c : ℕ) → c ≤ count → get_or begins c 0 ≡ below c (map f list) = λ c h. begin c h ∙ ap (λ (ns : List ℕ). below c ns) (sym are) in
+    record {
+      long = long;
+      rising = λ c h. omega (arith, at c (omega arith), at (c + 1) (omega arith), below_step c (c + 1) (map f list) (omega arith));
+      within = λ c h. omega (arith, at c h, below-le-length c (map f list), length-map list f);
+      run = λ c h. rw (at c (omega arith), at (c + 1) (omega arith)) (run_of f list c rising);
+    }
