@@ -1,2 +1,20 @@
 //! The feature graph: queries and sets of features.
 #![tactic(auto)]
+
+mod graph;
+mod ids;
+mod listing;
+mod metadata;
+mod query;
+mod set;
+
+pub use feature_core::{Error, FeatureGraphData};
+pub use feature_labels::feature_list;
+pub use feature_labels::{
+    DisplayFeatures, FeatureId, FeatureKind, FeatureLabel, FeatureList, LinkDeclarations,
+};
+pub use graph::{FeatureGraph, FeatureGraphExt};
+pub use guppy_packages::DependencyDirection;
+pub use metadata::FeatureMetadata;
+pub use query::FeatureQuery;
+pub use set::FeatureSet;

@@ -1,0 +1,5 @@
+mod Decisions
+mod CandidateDecisions
+mod BuiltLemmas
+mod PackageLemmas
+mod SetLemmas

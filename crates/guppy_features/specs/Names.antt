@@ -1,0 +1,77 @@
+-- What a graph has, by the names of packages and features, and the features that a list of names stands for.
+use Rattle.std.specs.Prelude.{◌≡◌, ◌↔◌, ◌<◌, ℕ, List, Bool, Some, IsTrue, Contains, slice_get, length}
+use Rattle.guppy_support.specs.Bits.{has}
+use Rattle.guppy_packages.specs.Rows.{Text}
+use Rattle.guppy_packages.specs.Tables.{PackageTable, Tables}
+use Rattle.feature_labels.specs.Names.{LabelName}
+use Rattle.feature_labels.specs.Lists.{Ascends, SameLabels}
+use Rattle.feature_core.specs.Nodes.{nodes, labels_of}
+use Rattle.feature_core.specs.Built.{NodeNamed}
+use Rattle.feature_core.specs.Pairs.{IsPairList}
+use Rattle.feature_core.specs.Errors.{Refusal, unknown_package, unknown_feature, internal_error, no_memory}
+
+-- the graph has a feature of this name
+abbrev pub HasFeature : Tables → Text × LabelName → Type 0
+HasFeature t name = (n : ℕ) × NodeNamed t n name
+
+-- the graph has a package of this id
+abbrev pub HasPackage : Tables → Text → Type 0
+HasPackage t id = (table : PackageTable) × Contains t.packages table × (table.id ≡ id)
+
+-- the graph has all of these features
+abbrev pub AreKnown : Tables → List (Text × LabelName) → Type 0
+AreKnown t names = (k : ℕ) (name : Text × LabelName) → slice_get names k ≡ Some name → HasFeature t name
+
+-- the first of these names that the graph lacks
+pub record IsFirstUnknown (t : Tables) (names : List (Text × LabelName)) (name : Text × LabelName) : Type 0 where
+  pub place : ℕ
+  pub at : slice_get names place ≡ Some name
+  pub unknown : ¬ HasFeature t name
+  pub before : (k : ℕ) (other : Text × LabelName) → k < place → slice_get names k ≡ Some other → HasFeature t other
+
+-- why a list of names was refused: for the first unknown one, or for want of memory where all are known
+abbrev pub RefusesNames : Tables → List (Text × LabelName) → Refusal → Type 0
+RefusesNames t names (unknown_feature name) = IsFirstUnknown t names name
+RefusesNames t names no_memory = AreKnown t names
+RefusesNames t names (unknown_package id) = ⊥
+RefusesNames t names (internal_error from to) = ⊥
+
+-- why the id of a package was refused
+abbrev pub RefusesPackage : Tables → Text → Refusal → Type 0
+RefusesPackage t id (unknown_package other) = (other ≡ id) × (¬ HasPackage t id)
+RefusesPackage t id no_memory = HasPackage t id
+RefusesPackage t id (unknown_feature name) = ⊥
+RefusesPackage t id (internal_error from to) = ⊥
+
+-- why the name of a feature was refused
+abbrev pub RefusesName : Tables → Text × LabelName → Refusal → Type 0
+RefusesName t name refusal = (refusal ≡ unknown_feature name) × (¬ HasFeature t name)
+
+-- one of these names is that of the node
+abbrev pub IsAmong : Tables → List (Text × LabelName) → ℕ → Type 0
+IsAmong t names n = (k : ℕ) × (name : Text × LabelName) × (slice_get names k ≡ Some name) × NodeNamed t n name
+
+-- the members are the nodes of these names, and no other
+pub record HoldsExactly (t : Tables) (members : List Bool) (names : List (Text × LabelName)) : Type 0 where
+  pub size : length members ≡ length (nodes t)
+  pub exact : (n : ℕ) → IsTrue (has members n) ↔ IsAmong t names n
+
+-- whether the feature of this name, which the graph has, is a member
+pub record TellsMember (t : Tables) (members : List Bool) (name : Text × LabelName) (answer : Bool) : Type 0 where
+  pub known : HasFeature t name
+  pub tells : (n : ℕ) → NodeNamed t n name → answer ≡ has members n
+
+-- all features of the package of this id, sorted and each once
+pub record ListsPackage (t : Tables) (id : Text) (list : Text × List LabelName) : Type 0 where
+  pub table : PackageTable
+  pub is_package : Contains t.packages table
+  pub named : table.id ≡ id
+  pub of_package : list.0 ≡ id
+  pub labels : SameLabels (labels_of table) list.1
+  pub ascends : Ascends list.1
+
+-- how many pairs of nodes have a candidate
+pub record IsLinkCount (t : Tables) (count : ℕ) : Type 0 where
+  pub pairs : List (ℕ × ℕ)
+  pub is_list : IsPairList t pairs
+  pub counted : count ≡ length pairs

@@ -1,0 +1,248 @@
+//! Feature graphs.
+ghost use Rattle.std.specs.Prelude.{◌≡◌, ◌↔◌, ◌<◌, ℕ, Some, IsTrue, IfSome, IfOk, IfErr, true, false, length, map, replicate};
+ghost use Rattle.guppy_support.specs.Bits.{has};
+ghost use Rattle.feature_labels.specs.Names.{id_of};
+ghost use Rattle.feature_core.specs.Built.{IsBuilt, NodeNamed};
+ghost use Rattle.feature_core.specs.Errors.{refusal_of};
+ghost use Rattle.feature_core.specs.Nodes.{nodes};
+ghost use Rattle.feature_core.specs.Pairs.{Reach};
+ghost use Rattle.guppy_features.specs.Names.{AreKnown, HasFeature, RefusesName, RefusesNames, RefusesPackage, HoldsExactly, ListsPackage, IsLinkCount};
+
+use crate::ids::{first_unknown, set_of_ids};
+use crate::listing::package_list;
+use crate::metadata::{FeatureMetadata, label_in};
+use crate::query::FeatureQuery;
+use crate::set::FeatureSet;
+use feature_core::{Error, FeatureGraphData, walk_all};
+use feature_labels::{FeatureId, FeatureList};
+use guppy_packages::{DependencyDirection, PackageGraph, PackageId};
+use guppy_support::IxBitSet;
+use std::alloc::Global;
+use std::fmt;
+
+/// The feature graph of a package graph: a view of the packages and of what was built of them.
+#[derive(Clone, Copy)]
+pub struct FeatureGraph<'g> {
+    pub(crate) graph: &'g PackageGraph,
+    pub(crate) built: &'g FeatureGraphData,
+    pub ghost is_built: { ∥ IsBuilt graph.now built.now ∥₁ },
+}
+
+/// Feature graphs of package graphs.
+pub trait FeatureGraphExt {
+    ghost use Rattle.guppy_packages.specs.Tables.{Tables};
+    ghost use Rattle.guppy_features.specs.Views.{graph_of};
+
+    ghost tables: { Self → Tables };
+
+    /// The feature graph, by what was built of this package graph.
+    fn feature_graph<'g>(&'g self, built: &'g FeatureGraphData) -> FeatureGraph<'g>
+        requires { IsBuilt (tables self.now) built.now }
+        ensures { graph_of result ≡ record { tables = tables self.now; built = built.now } };
+}
+
+impl FeatureGraphExt for PackageGraph {
+    ghost tables = { λ graph. graph };
+
+    fn feature_graph<'g>(&'g self, built: &'g FeatureGraphData) -> FeatureGraph<'g> {
+        FeatureGraph { graph: self, built }
+    }
+}
+
+impl<'g> FeatureGraph<'g> {
+    ghost use Rattle.guppy_features.specs.Views.{graph_of, tables_of_graph, stamp_of, feature_name_of, feature_tables_of};
+
+    /// The package graph.
+    pub fn package_graph(&self) -> &'g PackageGraph
+        ensures { result.now ≡ tables_of_graph self.now }
+    {
+        self.graph
+    }
+
+    /// The stamp that the graph was built under.
+    pub fn stamp(&self) -> u64
+        ensures { result ≡ stamp_of self.now }
+    {
+        self.built.stamp()
+    }
+
+    /// How many features there are.
+    pub fn feature_count(&self) -> usize
+        ensures { result ≡ length (nodes (tables_of_graph self.now)) }
+    {
+        self.built.node_count()
+    }
+
+    /// How many links there are between features.
+    pub fn link_count(&self) -> usize
+        ensures { IsLinkCount (tables_of_graph self.now) result }
+    {
+        self.built.edge_count()
+    }
+
+    /// The node of a feature, where the graph has it.
+    pub(crate) fn node(&self, id: FeatureId<'_>) -> Option<usize>
+        ensures named { (n : ℕ) → (result ≡ Some n) ↔ NodeNamed (tables_of_graph self.now) n (id_of id.entry) }
+        ensures within { IfSome result (λ n. n < length (nodes (tables_of_graph self.now))) }
+    {
+        self.built.node(self.graph, id)
+    }
+
+    /// The nodes that are reached from the initial ones over all edges, those included.
+    pub(crate) fn walk(
+        &self,
+        alloc: Global,
+        direction: DependencyDirection,
+        initials: &IxBitSet,
+    ) -> Result<IxBitSet, Error<'static>>
+        requires { length initials.now ≡ length (nodes (tables_of_graph self.now)) }
+        ensures size { IfOk result (λ set. length set ≡ length (nodes (tables_of_graph self.now))) }
+        ensures reach { IfOk result (λ set. (n : ℕ) → IsTrue (has set n) ↔ Reach (tables_of_graph self.now) direction (has initials.now) n) }
+        ensures refused { IfErr result (λ e. e ≡ Error.Memory) }
+    {
+        walk_all(alloc, self.built, direction, initials)
+    }
+
+    /// Whether the graph has the feature.
+    pub fn contains(&self, id: FeatureId<'_>) -> bool
+        ensures { IsTrue result ↔ HasFeature (tables_of_graph self.now) (id_of id.entry) }
+    {
+        self.node(id).is_some()
+    }
+
+    /// The feature of this id, or an error where the graph doesn't have it.
+    pub fn metadata<'a>(&self, id: FeatureId<'a>) -> Result<FeatureMetadata<'g>, Error<'a>>
+        ensures graph { IfOk result (λ m. feature_tables_of m ≡ tables_of_graph self.now) }
+        ensures name { IfOk result (λ m. feature_name_of m ≡ id_of id.entry) }
+        ensures known { IfOk result (λ m. HasFeature (tables_of_graph self.now) (id_of id.entry)) }
+        ensures refused { IfErr result (λ e. RefusesName (tables_of_graph self.now) (id_of id.entry) (refusal_of e)) }
+    {
+        self.graph.facts();
+        let Ok(package) = self.graph.metadata(id.package_id()) else {
+            return Err(Error::UnknownFeatureId(id));
+        };
+        match label_in(package, id.label()) {
+            Some(label) => Ok(FeatureMetadata { package, label }),
+            None => Err(Error::UnknownFeatureId(id)),
+        }
+    }
+}
+
+impl<'g> FeatureGraph<'g> {
+    ghost use Rattle.guppy_features.specs.Views.{graph_of, tables_of_graph};
+
+    /// All features of the package of this id, or an error where no package has it.
+    pub fn all_features_for<'a>(
+        &self,
+        alloc: Global,
+        package_id: &'a PackageId,
+    ) -> Result<FeatureList<'g>, Error<'a>>
+        ensures listed { IfOk result (λ list. ListsPackage (tables_of_graph self.now) package_id.now list) }
+        ensures refused { IfErr result (λ e. RefusesPackage (tables_of_graph self.now) package_id.now (refusal_of e)) }
+    {
+        let Ok(package) = self.graph.metadata(package_id) else {
+            return Err(Error::UnknownPackageId(package_id));
+        };
+        match package_list(alloc, package) {
+            Ok(list) => Ok(list),
+            Err(_) => Err(Error::Memory),
+        }
+    }
+
+    /// The set of all features. The only error is want of memory.
+    pub fn resolve_all(&self, alloc: Global) -> Result<FeatureSet<'g>, Error<'static>>
+        ensures graph { IfOk result (λ set. set.graph ≡ graph_of self.now) }
+        ensures members { IfOk result (λ set. set.members ≡ replicate (length (nodes (tables_of_graph self.now))) true) }
+        ensures refused { IfErr result (λ e. e ≡ Error.Memory) }
+    {
+        let members = IxBitSet::full(alloc, self.feature_count())?;
+        Ok(FeatureSet::new(*self, members))
+    }
+
+    /// The set of no feature. The only error is want of memory.
+    pub fn resolve_none(&self, alloc: Global) -> Result<FeatureSet<'g>, Error<'static>>
+        ensures graph { IfOk result (λ set. set.graph ≡ graph_of self.now) }
+        ensures members { IfOk result (λ set. set.members ≡ replicate (length (nodes (tables_of_graph self.now))) false) }
+        ensures refused { IfErr result (λ e. e ≡ Error.Memory) }
+    {
+        let members = IxBitSet::empty(alloc, self.feature_count())?;
+        Ok(FeatureSet::new(*self, members))
+    }
+
+    /// The set of exactly these features, with no base added. The first id of the list that the graph doesn't have is
+    /// an error, found before memory is asked for.
+    pub fn resolve_ids<'a>(
+        &self,
+        alloc: Global,
+        feature_ids: &[FeatureId<'a>],
+    ) -> Result<FeatureSet<'g>, Error<'a>>
+        ensures graph { IfOk result (λ set. set.graph ≡ graph_of self.now) }
+        ensures known { IfOk result (λ set. AreKnown (tables_of_graph self.now) (map id_of feature_ids.now)) }
+        ensures members { IfOk result (λ set. HoldsExactly (tables_of_graph self.now) set.members (map id_of feature_ids.now)) }
+        ensures refused { IfErr result (λ e. RefusesNames (tables_of_graph self.now) (map id_of feature_ids.now) (refusal_of e)) }
+    {
+        if let Some(id) = first_unknown(*self, feature_ids) {
+            return Err(Error::UnknownFeatureId(id));
+        }
+        let members = set_of_ids(alloc, *self, feature_ids)?;
+        Ok(FeatureSet::new(*self, members))
+    }
+
+    /// The query that follows edges this way from these features. The first id of the list that the graph doesn't have
+    /// is an error, found before memory is asked for.
+    pub fn query_directed<'a>(
+        &self,
+        alloc: Global,
+        feature_ids: &[FeatureId<'a>],
+        direction: DependencyDirection,
+    ) -> Result<FeatureQuery<'g>, Error<'a>>
+        ensures graph { IfOk result (λ query. query.graph ≡ graph_of self.now) }
+        ensures direction { IfOk result (λ query. query.direction ≡ direction) }
+        ensures known { IfOk result (λ query. AreKnown (tables_of_graph self.now) (map id_of feature_ids.now)) }
+        ensures initials { IfOk result (λ query. HoldsExactly (tables_of_graph self.now) query.initials (map id_of feature_ids.now)) }
+        ensures refused { IfErr result (λ e. RefusesNames (tables_of_graph self.now) (map id_of feature_ids.now) (refusal_of e)) }
+    {
+        let initials = self.resolve_ids(alloc, feature_ids)?;
+        Ok(FeatureQuery::new(initials, direction))
+    }
+
+    /// The query that follows edges from these features to what they need. Unknown ids are refused as in
+    /// `query_directed`.
+    pub fn query_forward<'a>(
+        &self,
+        alloc: Global,
+        feature_ids: &[FeatureId<'a>],
+    ) -> Result<FeatureQuery<'g>, Error<'a>>
+        ensures graph { IfOk result (λ query. query.graph ≡ graph_of self.now) }
+        ensures direction { IfOk result (λ query. query.direction ≡ DependencyDirection.Forward) }
+        ensures known { IfOk result (λ query. AreKnown (tables_of_graph self.now) (map id_of feature_ids.now)) }
+        ensures initials { IfOk result (λ query. HoldsExactly (tables_of_graph self.now) query.initials (map id_of feature_ids.now)) }
+        ensures refused { IfErr result (λ e. RefusesNames (tables_of_graph self.now) (map id_of feature_ids.now) (refusal_of e)) }
+    {
+        self.query_directed(alloc, feature_ids, DependencyDirection::Forward)
+    }
+
+    /// The query that follows edges from these features to what needs them. Unknown ids are refused as in
+    /// `query_directed`.
+    pub fn query_reverse<'a>(
+        &self,
+        alloc: Global,
+        feature_ids: &[FeatureId<'a>],
+    ) -> Result<FeatureQuery<'g>, Error<'a>>
+        ensures graph { IfOk result (λ query. query.graph ≡ graph_of self.now) }
+        ensures direction { IfOk result (λ query. query.direction ≡ DependencyDirection.Reverse) }
+        ensures known { IfOk result (λ query. AreKnown (tables_of_graph self.now) (map id_of feature_ids.now)) }
+        ensures initials { IfOk result (λ query. HoldsExactly (tables_of_graph self.now) query.initials (map id_of feature_ids.now)) }
+        ensures refused { IfErr result (λ e. RefusesNames (tables_of_graph self.now) (map id_of feature_ids.now) (refusal_of e)) }
+    {
+        self.query_directed(alloc, feature_ids, DependencyDirection::Reverse)
+    }
+}
+
+impl fmt::Debug for FeatureGraph<'_> {
+    fn fmt<W: fmt::Write>(&self, f: &mut fmt::Formatter<W>) -> fmt::Result {
+        f.debug_struct("FeatureGraph")
+            .field("feature_count", &self.feature_count())
+            .finish()
+    }
+}
