@@ -1,1 +1,2 @@
 pub mod KeptBytes
+pub mod LineLemmas

@@ -1,9 +1,11 @@
 //! The engine of the program: from the bytes of a row file to the bytes of an answer.
 #![tactic(auto)]
 
+mod cuts;
 mod devices;
 mod engine;
 mod fault;
+mod lines;
 
 pub use devices::{ByteInput, ByteOutput, Failed, FromReader, ToWriter};
 pub use fault::Fault;
