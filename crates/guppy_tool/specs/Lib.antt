@@ -1,3 +1,5 @@
 pub mod Devices
 pub mod Status
 pub mod Lines
+pub mod Faults
+pub mod Reading

@@ -6,6 +6,7 @@ mod devices;
 mod engine;
 mod fault;
 mod lines;
+mod reading;
 
 pub use devices::{ByteInput, ByteOutput, Failed, FromReader, ToWriter};
 pub use fault::Fault;
