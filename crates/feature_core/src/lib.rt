@@ -1,2 +1,6 @@
 //! The feature graph of package tables, and walks over it.
 #![tactic(auto)]
+
+pub mod engine;
+mod key;
+pub mod laws;

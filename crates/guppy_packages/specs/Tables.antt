@@ -1,6 +1,10 @@
 -- The tables of a package graph: the packages in the order of their rows, and the links between them.
-use Rattle.std.specs.Prelude.{ℕ, List, Bool}
+use Rattle.std.specs.Prelude.{◌≡◌, ◌↔◌, ◌<◌, ℕ, List, Bool, Option, Some, IsTrue, true, false, Contains, length, map, position, slice_get}
+use Rattle.std.specs.List.{list_any, list_all}
+use Rattle.std.specs.Str.{bytes_eq}
 use Rattle.guppy_packages.specs.Rows.{Text, Declared}
+use Rattle.guppy_packages.specs.declared.row.DependencyKind.{DependencyKind}
+use Rattle.guppy_packages.specs.declared.row.DependencyKind.TheVariants.{Normal, Build, Development}
 
 -- a named feature and its items, in row order
 pub record FeatureTable : Type 0 where
@@ -24,3 +28,51 @@ pub record LinkTable : Type 0 where
 pub record Tables : Type 0 where
   pub packages : List PackageTable
   pub links : List LinkTable
+
+-- the first place of an id, of a feature's name and of an optional name
+abbrev pub package_place : Text → List PackageTable → Option ℕ
+package_place id packages = position (λ p. bytes_eq id p.id) packages
+
+abbrev pub feature_place : Text → List FeatureTable → Option ℕ
+feature_place name features = position (λ f. bytes_eq name f.name) features
+
+abbrev pub optional_place : Text → List Text → Option ℕ
+optional_place name names = position (bytes_eq name) names
+
+abbrev pub has_feature : Text → List FeatureTable → Bool
+has_feature name features = list_any (λ f. bytes_eq name f.name) features
+
+abbrev pub is_development : DependencyKind → Bool
+is_development Normal = false
+is_development Build = false
+is_development Development = true
+
+-- every declaration is for development
+abbrev pub is_dev_only : LinkTable → Bool
+is_dev_only l = list_all (λ d. is_development d.kind) l.declarations
+
+abbrev pub pair_of : LinkTable → ℕ × ℕ
+pair_of l = (l.from, l.to)
+
+-- nothing stands at two places
+abbrev pub HasNoRepeats : {X : Type 0} → List X → Type 0
+HasNoRepeats {X} xs = (i j : ℕ) (x : X) → slice_get xs i ≡ Some x → slice_get xs j ≡ Some x → i ≡ j
+
+-- one of the links leaves this package under this name with an optional declaration
+pub record HasOptionalLink (links : List LinkTable) (from : ℕ) (name : Text) : Type 0 where
+  pub place : ℕ
+  pub link : LinkTable
+  pub at : slice_get links place ≡ Some link
+  pub leaves : link.from ≡ from
+  pub named : link.name ≡ name
+  pub optional : IsTrue (list_any (λ d. d.optional) link.declarations)
+
+-- what holds of the tables of rows
+pub record AreTables (t : Tables) : Type 0 where
+  pub ids : HasNoRepeats (map (λ p. p.id) t.packages)
+  pub features : (i : ℕ) (p : PackageTable) → slice_get t.packages i ≡ Some p → HasNoRepeats (map (λ f. f.name) p.features)
+  pub optional_names : (i : ℕ) (p : PackageTable) → slice_get t.packages i ≡ Some p → HasNoRepeats p.optional_names
+  pub pairs : HasNoRepeats (map pair_of t.links)
+  pub ends : (k : ℕ) (l : LinkTable) → slice_get t.links k ≡ Some l → (l.from < length t.packages) × (l.to < length t.packages)
+  pub declarations : (k : ℕ) (l : LinkTable) → slice_get t.links k ≡ Some l → 0 < length l.declarations
+  pub optional : (i : ℕ) (p : PackageTable) (name : Text) → slice_get t.packages i ≡ Some p → Contains p.optional_names name ↔ HasOptionalLink t.links i name

@@ -1,8 +1,24 @@
 //! Package rows, their tables, package ids and links.
 #![tactic(auto)]
 
+mod direction;
+mod graph;
+mod items;
+mod link;
+mod metadata;
+mod named_feature;
 mod package_id;
+mod platform;
 mod row;
+mod stored;
 
+pub use direction::DependencyDirection;
+pub use graph::PackageGraph;
+pub use items::NamedFeatureDep;
+pub use link::PackageLink;
+pub use metadata::{PackageMetadata, UnknownPackageId};
+pub use named_feature::NamedFeature;
 pub use package_id::PackageId;
+pub use platform::{PlatformStatus, PlatformStatusImpl, Spec};
 pub use row::{DependencyKind, Row};
+pub use stored::Declaration;

@@ -1,0 +1,13 @@
+pub mod Places
+pub mod AddsLemmas
+pub mod PartLemmas
+pub mod LeastKeys
+pub mod Answered
+pub mod Reaches
+pub mod Runs
+pub mod WayNumbers
+pub mod WalkMoves
+pub mod Asking
+pub mod WalkLoops
+pub mod WalkEnds
+pub mod WithinAll

@@ -1,0 +1,50 @@
+use Rattle.std.proofs.Common.{rules, arith, ℕ, ◌<◌, ◌≤◌, ◌⊎◌, inl, inr, ⊎_elim, ◌≡◌, sym, ◌∙◌, Bool, true, false, List, Result, Ok, Err, IsSorted, AllPairs, refl, length, cond}
+use Rattle.std.specs.Ordering.{is_lt, nat_cmp, ordering_then}
+use Rattle.std.specs.Prelude.{nat_lt, ◌==◌, slice_index_or}
+use Rattle.std.specs.declared.cmp.Ordering.{Ordering}
+use Rattle.std.specs.declared.cmp.Ordering.TheVariants.{Less, Equal, Greater}
+use Rattle.std.specs.Result.{OnOk}
+use Rattle.std.proofs.lemmas.Bool.Decides.{nat_tests}
+use Rattle.std.proofs.lemmas.List.Sorted.{sorted_far, ranks_by}
+use Rattle.feature_core.specs.declared.key.Key.{Key}
+use Rattle.feature_core.specs.contracts.key.KeyOrd.TheImpl.{cmp-value}
+use Rattle.feature_core.specs.contracts.key.KeyOrd.TheImpl.Laws.{total-law}
+use Rattle.feature_core.specs.Keys.{IsUpTo}
+use Rattle.feature_core.proofs.key.sort_keys.Goals as goal
+
+lex : (l e : Bool) (o : Ordering) → is_lt (ordering_then (cond l Less (cond e Equal Greater)) o) ≡ false → (l ≡ false) × ((e ≡ false) ⊎ (is_lt o ≡ false))
+lex true e o h = cc
+lex false true o h = (refl, inr h)
+lex false false o h = (refl, inl refl)
+
+up_to : (x y : ℕ) → nat_lt x y ≡ false → y ≤ x
+up_to x y h = grind (arith, nat_tests)
+
+apart : (x y : ℕ) → y ≤ x → (x == y) ≡ false → y < x
+apart x y h e = grind (arith, nat_tests)
+
+below_or : (x y : ℕ) → y ≤ x → (y < x) ⊎ (y ≡ x)
+below_or x y h = grind arith
+
+-- x isn't less than y, in the first field or by the others
+ordered : (x y : ℕ) (o : Ordering) → is_lt (ordering_then (nat_cmp x y) o) ≡ false → (y < x) ⊎ ((y ≡ x) × (is_lt o ≡ false))
+ordered x y o h =
+    let k : (nat_lt x y ≡ false) × (((x == y) ≡ false) ⊎ (is_lt o ≡ false)) = lex (nat_lt x y) (x == y) o h in
+    let up : y ≤ x = up_to x y k.0 in
+    ⊎_elim (λ e. inl (apart x y up e)) (λ e. ⊎_elim (λ z. inl z) (λ z. inr (z, e)) (below_or x y up)) k.1
+
+no_less : (x y : ℕ) (o : Ordering) → is_lt (ordering_then (nat_cmp x y) o) ≡ false → y ≤ x
+no_less x y o h = up_to x y (lex (nat_lt x y) (x == y) o h).0
+
+up_from : (a b : Key) → is_lt ((cmp-value).it b a) ≡ false → IsUpTo a b
+up_from a b h =
+    ⊎_elim (λ z. inl (inl z))
+    (λ z. ⊎_elim (λ y. inl (inr (z.0, y))) (λ y. inr ((z.0, y.0), no_less b.rank a.rank (ordering_then (nat_cmp b.source a.source) (nat_cmp b.place a.place)) y.1))
+    (ordered b.to a.to (ordering_then (nat_cmp b.rank a.rank) (ordering_then (nat_cmp b.source a.source) (nat_cmp b.place a.place))) z.1))
+    (ordered b.from a.from (ordering_then (nat_cmp b.to a.to) (ordering_then (nat_cmp b.rank a.rank) (ordering_then (nat_cmp b.source a.source) (nat_cmp b.place a.place)))) h)
+
+all_up : (keys : List Key) → IsSorted (cmp-value).it keys → AllPairs IsUpTo keys
+all_up keys s i j d l m = up_from (slice_index_or keys i d) (slice_index_or keys j d) (sorted_far (λ x y. is_lt ((cmp-value).it x y)) (ranks_by total-law (λ x. x)) keys s i j d (omega arith) m)
+
+pub returns-clause-sorted : goal.returns-clause-sorted
+returns-clause-sorted c = all_up _ c.sort_unstable.ensures.sorted

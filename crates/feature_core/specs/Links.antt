@@ -1,0 +1,86 @@
+-- The link of an edge: which declarations it covers, and its status for each kind.
+use Rattle.std.specs.Prelude.{◌≡◌, ℕ, ◌+◌, List, [], ◌∷◌, Bool, true, false, not, ◌&&◌, ◌||◌, ◌==◌, Option, None, Some, map, filter, filter_map, flat_map, slice_get, if◌then◌else◌}
+use Rattle.std.specs.List.{list_any}
+use Rattle.std.specs.Option.{is_some}
+use Rattle.std.specs.Str.{bytes_eq}
+use Rattle.guppy_packages.specs.Rows.{Text, Declared}
+use Rattle.guppy_packages.specs.Tables.{PackageTable, LinkTable, Tables}
+use Rattle.guppy_packages.specs.declared.row.DependencyKind.{DependencyKind}
+use Rattle.guppy_packages.specs.declared.row.DependencyKind.TheVariants.{Normal, Build, Development}
+use Rattle.feature_labels.specs.declared.link_declarations.LinkDeclarations.{LinkDeclarations}
+use Rattle.feature_labels.specs.declared.link_declarations.LinkDeclarations.TheVariants.{Unsplit, Required, Optional}
+
+-- package p of the tables, and link k
+abbrev pub IsPackage : Tables → ℕ → PackageTable → Type 0
+IsPackage t p table = slice_get t.packages p ≡ Some table
+
+abbrev pub IsLink : Tables → ℕ → LinkTable → Type 0
+IsLink t k link = slice_get t.links k ≡ Some link
+
+pub data Status : Type 0 where
+  never : Status
+  always : Status
+  on_specs : List Text → Status
+
+-- by first appearance, without repeats
+abbrev pub distinct : List Text → List Text
+distinct [] = []
+distinct (x ∷ xs) = x ∷ filter (λ y. not (bytes_eq x y)) (distinct xs)
+
+abbrev pub of_specs : List Text → Status
+of_specs [] = never
+of_specs (x ∷ xs) = on_specs (distinct (x ∷ xs))
+
+-- always where one platform is; never where there is none
+abbrev pub joined : List (Option Text) → Status
+joined platforms = if list_any (λ p. not (is_some p)) platforms then always else of_specs (filter_map (λ p. p) platforms)
+
+abbrev pub is_kind : DependencyKind → DependencyKind → Bool
+is_kind Normal Normal = true
+is_kind Normal Build = false
+is_kind Normal Development = false
+is_kind Build Normal = false
+is_kind Build Build = true
+is_kind Build Development = false
+is_kind Development Normal = false
+is_kind Development Build = false
+is_kind Development Development = true
+
+-- the declarations that a link covers
+abbrev pub includes : LinkDeclarations → Declared → Bool
+includes Unsplit d = true
+includes Required d = not d.optional
+includes Optional d = d.optional
+
+pub record LinkFacts : Type 0 where
+  pub declarations : LinkDeclarations
+  pub normal : Status
+  pub build : Status
+  pub dev : Status
+  pub package_links : List ℕ
+
+-- the status of a kind, over those declarations of these package links that pass
+abbrev pub status_of : DependencyKind → (Declared → Bool) → List (ℕ × LinkTable) → Status
+status_of kind passes links = joined (flat_map (λ l. map (λ d. d.platform) (filter (λ d. passes d && is_kind kind d.kind) l.1.declarations)) links)
+
+-- the link over those declarations of these package links that pass
+abbrev pub over : LinkDeclarations → (Declared → Bool) → List (ℕ × LinkTable) → LinkFacts
+over which passes links = record {
+  declarations = which;
+  normal = status_of Normal passes links;
+  build = status_of Build passes links;
+  dev = status_of Development passes links;
+  package_links = map (λ l. l.0) (filter (λ l. list_any passes l.1.declarations) links);
+}
+
+-- links with their numbers, from k on
+abbrev pub numbered : ℕ → List LinkTable → List (ℕ × LinkTable)
+numbered k [] = []
+numbered k (l ∷ ls) = (k, l) ∷ numbered (k + 1) ls
+
+-- the links of package p that have this name
+abbrev pub links_named : Tables → ℕ → Text → List (ℕ × LinkTable)
+links_named t p name = filter (λ l. (l.1.from == p) && bytes_eq l.1.name name) (numbered 0 t.links)
+
+abbrev pub has_declaration : LinkDeclarations → LinkTable → Bool
+has_declaration which link = list_any (λ d. includes which d) link.declarations

@@ -1,0 +1,31 @@
+-- The nodes, package by package: the base, then the named features, then the names of optional declarations.
+use Rattle.std.specs.Prelude.{◌≡◌, ℕ, ◌+◌, List, [], ◌∷◌, ◌++◌, Option, Some, map, slice_get, flat_map, length, take}
+use Rattle.guppy_packages.specs.Rows.{Text}
+use Rattle.guppy_packages.specs.Tables.{PackageTable, Tables}
+use Rattle.feature_labels.specs.Names.{LabelName}
+use Rattle.feature_labels.specs.Names.LabelName.{base, named, optional}
+
+-- the labels of a package, in the order of their nodes
+abbrev pub labels_of : PackageTable → List LabelName
+labels_of table = base ∷ (map (λ f. named f.name) table.features ++ map (λ d. optional d) table.optional_names)
+
+-- the names of the nodes
+abbrev pub nodes : Tables → List (Text × LabelName)
+nodes t = flat_map (λ p. map (λ l. (p.id, l)) (labels_of p)) t.packages
+
+-- what f gives for each element, beside the element's number, from q on
+abbrev pub spread : {A B : Type 0} → (A → List B) → ℕ → List A → List (ℕ × B)
+spread f q [] = []
+spread f q (x ∷ xs) = map (λ y. (q, y)) (f x) ++ spread f (q + 1) xs
+
+-- the package number and the label of each node
+abbrev pub node_places : Tables → List (ℕ × LabelName)
+node_places t = spread labels_of 0 t.packages
+
+-- node n is this label of package p
+abbrev pub NodeAt : Tables → ℕ → ℕ → LabelName → Type 0
+NodeAt t n p label = slice_get (node_places t) n ≡ Some (p, label)
+
+-- how many nodes the packages before p have, which is the number of p's base
+abbrev pub first_node : Tables → ℕ → ℕ
+first_node t p = length (flat_map labels_of (take p t.packages))

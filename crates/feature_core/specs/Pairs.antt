@@ -1,0 +1,32 @@
+-- The pairs of nodes that have a candidate, and what is reached over them.
+use Rattle.std.specs.Prelude.{◌≡◌, ℕ, ◌<◌, ◌⊎◌, ◌↔◌, List, Bool, IsTrue, Contains, AllPairs}
+use Rattle.guppy_packages.specs.Tables.{Tables}
+use Rattle.guppy_packages.specs.declared.row.DependencyDirection.{DependencyDirection}
+use Rattle.guppy_packages.specs.declared.row.DependencyDirection.TheVariants.{Forward, Reverse}
+use Rattle.feature_core.specs.Candidates.{Edge, Candidate}
+
+abbrev pub HasCandidate : Tables → ℕ → ℕ → Type 0
+HasCandidate t u w = (e : Edge) × Candidate t u w e
+
+-- by from, then to
+abbrev pub IsBefore : ℕ × ℕ → ℕ × ℕ → Type 0
+IsBefore a b = (a.0 < b.0) ⊎ ((a.0 ≡ b.0) × (a.1 < b.1))
+
+-- exactly the pairs that have a candidate, ascending
+pub record IsPairList (t : Tables) (pairs : List (ℕ × ℕ)) : Type 0 where
+  pub ascends : AllPairs IsBefore pairs
+  pub exact : (u w : ℕ) → Contains pairs (u, w) ↔ HasCandidate t u w
+
+-- an edge leads from u to w, as the direction follows it
+abbrev pub LeadsTo : Tables → DependencyDirection → ℕ → ℕ → Type 0
+LeadsTo t Forward u w = HasCandidate t u w
+LeadsTo t Reverse u w = HasCandidate t w u
+
+-- a path over edges, possibly empty
+pub data Path (t : Tables) (direction : DependencyDirection) : ℕ → ℕ → Type 0 where
+  nowhere : {u : ℕ} → Path t direction u u
+  onward : {u v w : ℕ} → LeadsTo t direction u v → Path t direction v w → Path t direction u w
+
+-- the node is at the end of a path from one of these
+abbrev pub Reach : Tables → DependencyDirection → (ℕ → Bool) → ℕ → Type 0
+Reach t direction initials w = (u : ℕ) × IsTrue (initials u) × Path t direction u w

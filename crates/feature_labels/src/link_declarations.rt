@@ -1,0 +1,31 @@
+//! Which declarations of a dependency a link stands for.
+ghost use Rattle.std.specs.Prelude.{◌≡◌, ◌↔◌, ◌⊎◌, IsTrue};
+
+/// Which declarations of a dependency a link covers: all, or one half.
+#[derive(Clone, Copy, Debug, PartialEq, Eq, Hash)]
+pub enum LinkDeclarations {
+    /// The required and the optional declarations.
+    Unsplit,
+
+    /// The required declarations alone.
+    Required,
+
+    /// The optional declarations alone.
+    Optional,
+}
+
+impl LinkDeclarations {
+    /// Whether the required declarations are covered.
+    pub fn includes_required(self) -> bool
+        ensures { IsTrue result ↔ ((self ≡ LinkDeclarations.Unsplit) ⊎ (self ≡ LinkDeclarations.Required)) }
+    {
+        matches!(self, LinkDeclarations::Unsplit | LinkDeclarations::Required)
+    }
+
+    /// Whether the optional declarations are covered.
+    pub fn includes_optional(self) -> bool
+        ensures { IsTrue result ↔ ((self ≡ LinkDeclarations.Unsplit) ⊎ (self ≡ LinkDeclarations.Optional)) }
+    {
+        matches!(self, LinkDeclarations::Unsplit | LinkDeclarations::Optional)
+    }
+}

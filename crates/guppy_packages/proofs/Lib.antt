@@ -1,0 +1,3 @@
+pub mod ItemLemmas
+pub mod Lists
+pub mod StoredLemmas

@@ -1,0 +1,22 @@
+-- The packages and links of a graph, without where they lie in memory.
+use Rattle.guppy_packages.specs.Rows.{Text}
+use Rattle.guppy_packages.specs.Tables.{Tables, PackageTable, LinkTable}
+use Rattle.guppy_packages.specs.Stored.{package_table, link_table}
+use Rattle.guppy_packages.specs.declared.metadata.PackageMetadata.{PackageMetadata}
+use Rattle.guppy_packages.specs.declared.link.PackageLink.{PackageLink}
+
+abbrev pub package_id_of : PackageMetadata → Text
+package_id_of m = m.id.now
+
+-- the tables that the package is of, and its own
+abbrev pub package_graph_of : PackageMetadata → Tables
+package_graph_of m = m.graph.now
+
+abbrev pub package_table_of : PackageMetadata → PackageTable
+package_table_of m = package_table (m.id.now, m.contents.now)
+
+abbrev pub link_graph_of : PackageLink → Tables
+link_graph_of l = l.graph.now
+
+abbrev pub link_table_of : PackageLink → LinkTable
+link_table_of l = link_table (l.pair, l.contents.now)

@@ -1,0 +1,26 @@
+-- The tables that a package graph holds.
+use Rattle.std.specs.Prelude.{ℕ, List, map}
+use Rattle.std.specs.String.{string_bytes}
+use Rattle.indexmap.specs.IndexMap.{IndexMap}
+use Rattle.guppy_packages.specs.Rows.{Text, Declared}
+use Rattle.guppy_packages.specs.Tables.{PackageTable, LinkTable}
+use Rattle.guppy_packages.specs.NamedFeature.{feature_table}
+use Rattle.guppy_packages.specs.Platform.{platform_text}
+use Rattle.guppy_packages.specs.declared.stored.Declaration.{Declaration}
+use Rattle.guppy_packages.specs.declared.stored.PackageData.{PackageData}
+use Rattle.guppy_packages.specs.declared.stored.LinkData.{LinkData}
+
+abbrev pub declared : Declaration → Declared
+declared d = record { kind = d.kind; optional = d.optional; platform = platform_text d.platform; default_features = d.default_features; features = map string_bytes d.features.items }
+
+abbrev pub package_table : Text × PackageData → PackageTable
+package_table e = record { id = e.0; in_workspace = e.1.in_workspace; features = map feature_table e.1.features.keys; optional_names = map string_bytes e.1.optional_names.keys }
+
+abbrev pub package_tables : {S : Type 0} → IndexMap Text PackageData S → List PackageTable
+package_tables m = map package_table m.entries
+
+abbrev pub link_table : (ℕ × ℕ) × LinkData → LinkTable
+link_table e = record { from = e.0.0; to = e.0.1; name = string_bytes e.1.name; declarations = map declared e.1.declarations.items }
+
+abbrev pub link_tables : {S : Type 0} → IndexMap (ℕ × ℕ) LinkData S → List LinkTable
+link_tables m = map link_table m.entries

@@ -1,0 +1,86 @@
+//! Platform statuses.
+ghost use Rattle.std.specs.Prelude.{◌≡◌, IsTrue, ◌↔◌, IfOk};
+ghost use Rattle.guppy_packages.specs.Platform.{Status, spec_text, status_of, impl_status, always_status, never_status, IsPresent};
+
+use std::alloc::{AllocError, Global};
+
+/// The spec of a platform, an opaque text.
+#[derive(PartialEq, Eq, Debug, Drop)]
+pub struct Spec {
+    text: String,
+}
+
+impl Spec {
+    /// The spec of this text.
+    pub fn new(alloc: Global, text: &str) -> Result<Spec, AllocError>
+        ensures { IfOk result (λ spec. spec_text spec ≡ text.now) }
+    {
+        Ok(Spec {
+            text: String::from_str(alloc, text)?,
+        })
+    }
+
+    /// The text.
+    pub fn text(&self) -> &str
+        ensures { result.now ≡ spec_text self.now }
+    {
+        self.text.as_str()
+    }
+}
+
+/// A platform status that owns its specs. No spec at all is never.
+#[derive(PartialEq, Eq, Debug, Drop)]
+pub enum PlatformStatusImpl {
+    Always,
+    Specs(Vec<Spec>),
+}
+
+/// On which platforms something is enabled.
+#[derive(Clone, Copy, PartialEq, Eq, Debug)]
+pub enum PlatformStatus<'g> {
+    /// On none.
+    Never,
+    /// On the platforms of these specs, at least one.
+    PlatformDependent(&'g [Spec]),
+    /// On all.
+    Always,
+}
+
+impl<'g> PlatformStatus<'g> {
+    /// The status that is held: an empty list of specs is never.
+    pub fn new(specs: &'g PlatformStatusImpl) -> Self
+        ensures { status_of result ≡ impl_status specs.now }
+    {
+        match specs {
+            PlatformStatusImpl::Always => PlatformStatus::Always,
+            PlatformStatusImpl::Specs(specs) => {
+                if specs.is_empty() {
+                    PlatformStatus::Never
+                } else {
+                    PlatformStatus::PlatformDependent(specs.as_slice())
+                }
+            }
+        }
+    }
+
+    /// Whether it is never.
+    pub fn is_never(self) -> bool
+        ensures { IsTrue result ↔ (status_of self.entry ≡ never_status) }
+    {
+        matches!(&self, PlatformStatus::Never)
+    }
+
+    /// Whether it is always.
+    pub fn is_always(self) -> bool
+        ensures { IsTrue result ↔ (status_of self.entry ≡ always_status) }
+    {
+        matches!(&self, PlatformStatus::Always)
+    }
+
+    /// Whether it is not never.
+    pub fn is_present(self) -> bool
+        ensures { IsTrue result ↔ IsPresent (status_of self.entry) }
+    {
+        !self.is_never()
+    }
+}
