@@ -1,3 +1,4 @@
 pub mod KeptBytes
 pub mod LineLemmas
+pub mod EachLemmas
 pub mod RowLemmas

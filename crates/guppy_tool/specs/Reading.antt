@@ -1,12 +1,10 @@
 -- From the fields of lines to rows.
-use Rattle.std.specs.Prelude.{ℕ, List, [], ◌∷◌, Bool, true, false, Option, None, Some, Result, Ok, Err, find, is_none, if◌then◌else◌, codes}
-use Rattle.std.specs.List.{filter_map}
-use Rattle.std.specs.Option.{option_map_or}
+use Rattle.std.specs.Prelude.{ℕ, List, [], ◌∷◌, Bool, true, false, Option, None, Some, Result, if◌then◌else◌, codes}
 use Rattle.std.specs.Str.{bytes_eq}
 use Rattle.guppy_packages.specs.Rows.{Text, RowText, a_package, a_feature, a_dep}
 use Rattle.guppy_packages.specs.declared.row.DependencyKind.{DependencyKind}
 use Rattle.guppy_packages.specs.declared.row.DependencyKind.TheVariants.{Normal, Build, Development}
-use Rattle.guppy_tool.specs.Faults.{Refusal, malformed}
+use Rattle.guppy_tool.specs.Faults.{Refusal, malformed, each_or}
 
 -- one of two words
 abbrev pub choice : Text → Text → Text → Option Bool
@@ -53,5 +51,4 @@ row_of (word ∷ fields) =
 
 -- the rows of the lines, or the first malformed line
 abbrev pub rows_of : List (ℕ × List Text) → Result (List RowText) Refusal
-rows_of lines =
-    option_map_or (λ line. Err (malformed line.0)) (find (λ line. is_none (row_of line.1)) lines) (Ok (filter_map (λ line. row_of line.1) lines))
+rows_of = each_or (λ line. row_of line.1) (λ line. malformed line.0)
