@@ -3,7 +3,7 @@ use Rattle.std.proofs.Common.{◌≡◌, ℕ, ◌≤◌, ◌++◌, List, [], ◌
 use Rattle.std.proofs.Math.ListN.{drop_of_length-le}
 use Rattle.std.specs.List.{filter_map, cons_option}
 use Rattle.std.specs.Option.{option_map_or}
-use Rattle.guppy_tool.specs.Faults.{Refusal, each_or}
+use Rattle.guppy_tool.specs.Faults.{Refusal, each_or, IfNotMemory, usage, bad_id, cannot_read, not_text, malformed, no_package, duplicate_package, duplicate_feature, unknown_target, other_name, unknown_package, unknown_feature, out_of_memory, cannot_write}
 
 abbrev pub with_first : {B : Type 0} → Refusal → Option B → Result (List B) Refusal → Result (List B) Refusal
 with_first refusal None rest = Err refusal
@@ -51,3 +51,20 @@ pub none_left : {A B : Type 0} (f : A → Option B) (refusal : A → Refusal) (f
     → with_front front (each_or f refusal (drop i all)) ≡ each_or f refusal all → each_or f refusal all ≡ Ok front
 none_left f refusal front i all past given =
     sym given ∙ ap (λ ys. with_front front (each_or f refusal ys)) (drop_of_length-le all past) ∙ ap Ok (append-nil front)
+
+-- what follows from a claim that want of memory doesn't make
+pub if_not_memory : (r : Refusal) (P Q : Type 0) → (P → Q) → IfNotMemory r P → IfNotMemory r Q
+if_not_memory out_of_memory P Q f h = tt
+if_not_memory usage P Q f h = f h
+if_not_memory (bad_id word) P Q f h = f h
+if_not_memory cannot_read P Q f h = f h
+if_not_memory not_text P Q f h = f h
+if_not_memory (malformed n) P Q f h = f h
+if_not_memory (no_package n) P Q f h = f h
+if_not_memory (duplicate_package n) P Q f h = f h
+if_not_memory (duplicate_feature n) P Q f h = f h
+if_not_memory (unknown_target n) P Q f h = f h
+if_not_memory (other_name n) P Q f h = f h
+if_not_memory (unknown_package id) P Q f h = f h
+if_not_memory (unknown_feature id) P Q f h = f h
+if_not_memory cannot_write P Q f h = f h

@@ -2,3 +2,4 @@ pub mod KeptBytes
 pub mod LineLemmas
 pub mod EachLemmas
 pub mod RowLemmas
+pub mod WordLemmas

@@ -3,3 +3,4 @@ pub mod Status
 pub mod Lines
 pub mod Faults
 pub mod Reading
+pub mod Words

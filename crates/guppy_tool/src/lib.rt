@@ -7,6 +7,8 @@ mod engine;
 mod fault;
 mod lines;
 mod reading;
+mod words;
 
 pub use devices::{ByteInput, ByteOutput, Failed, FromReader, ToWriter};
 pub use fault::Fault;
+pub use words::{Command, GivenId, parse_words};
