@@ -11,3 +11,4 @@ pub mod Asking
 pub mod WalkLoops
 pub mod WalkEnds
 pub mod WithinAll
+pub mod NodeLemmas

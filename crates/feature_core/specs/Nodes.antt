@@ -1,5 +1,6 @@
 -- The nodes, package by package: the base, then the named features, then the names of optional declarations.
 use Rattle.std.specs.Prelude.{◌≡◌, ℕ, ◌+◌, List, [], ◌∷◌, ◌++◌, Option, Some, map, slice_get, flat_map, length, take}
+use Rattle.std.specs.List.{range_with_len}
 use Rattle.guppy_packages.specs.Rows.{Text}
 use Rattle.guppy_packages.specs.Tables.{PackageTable, Tables}
 use Rattle.feature_labels.specs.Names.{LabelName}
@@ -29,3 +30,11 @@ NodeAt t n p label = slice_get (node_places t) n ≡ Some (p, label)
 -- how many nodes the packages before p have, which is the number of p's base
 abbrev pub first_node : Tables → ℕ → ℕ
 first_node t p = length (flat_map labels_of (take p t.packages))
+
+-- the first node of each package
+abbrev pub first_nodes : Tables → List ℕ
+first_nodes t = map (first_node t) (range_with_len 0 (length t.packages))
+
+-- the package of each node
+abbrev pub node_packages : Tables → List ℕ
+node_packages t = map (λ x. x.0) (node_places t)

@@ -4,3 +4,4 @@
 pub mod engine;
 mod key;
 pub mod laws;
+mod nodes;

@@ -1,3 +1,4 @@
+pub mod Graph
 pub mod Items
 pub mod Metadata
 pub mod NamedFeature

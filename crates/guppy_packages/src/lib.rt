@@ -10,6 +10,7 @@ mod named_feature;
 mod package_id;
 mod platform;
 mod row;
+mod row_error;
 mod stored;
 
 pub use direction::DependencyDirection;
@@ -21,4 +22,5 @@ pub use named_feature::NamedFeature;
 pub use package_id::PackageId;
 pub use platform::{PlatformStatus, PlatformStatusImpl, Spec};
 pub use row::{DependencyKind, Row};
+pub use row_error::{RowError, RowFault};
 pub use stored::Declaration;

@@ -1,12 +1,22 @@
 -- The bits of words.
-use Rattle.std.proofs.Common.{◌≡◌, ◌≢◌, ℕ, zero, suc, ◌+◌, ◌-◌, ◌*◌, ◌/◌, ◌%◌, ◌^◌, ◌<◌, ◌≤◌, ◌⊎◌, inl, inr, Bool, true, false, ◌||◌, ◌&&◌, ◌==◌, eqb, List, [], ◌∷◌, length, get_or, set, refl, ap, sym, ◌∙◌, subst, arith, bit_or, bit_and, min, max, get_or-set_same, get_or-set_other, replicate, w64}
+use Rattle.std.proofs.Common.{◌≡◌, ◌≢◌, ℕ, zero, suc, ◌+◌, ◌-◌, ◌*◌, ◌/◌, ◌%◌, ◌^◌, ◌<◌, ◌≤◌, ◌⊎◌, inl, inr, Bool, true, false, ◌||◌, ◌&&◌, ◌==◌, eqb, List, [], ◌∷◌, ◌++◌, length, get_or, set, refl, ap, sym, ◌∙◌, subst, arith, bit_or, bit_and, min, max, get_or-set_same, get_or-set_other, replicate, w64, cond, zero-add, add-zero}
 use Rattle.std.proofs.Math.ListN.{length-set}
-use Rattle.std.proofs.lemmas.Bool.{cases_eq, cases_lt, eq-eqb}
-use Rattle.std.proofs.lemmas.List.{get_or_past, length-replicate, get_or-replicate}
+use Rattle.std.proofs.lemmas.Bool.{cases_eq, cases_lt, ne_eqb}
+use Rattle.std.proofs.lemmas.List.{get_or_past, length-replicate, get_or-replicate, get_or-map, length-map, ext_get_or, map-id}
 use Rattle.std.proofs.lemmas.List.FromFn.{length-map-range_with_len, get_or-map-range_with_len, fill_by_all}
-use Rattle.std.proofs.lemmas.Nat.Bits.{bit_at_or, bit_at_and, bit_at_set_same, bit_at_set_other, bit_at-lt, bit_at-zero}
-use Rattle.std.specs.Int.{bit_at}
-use Rattle.guppy_support.specs.Bits.{has, word_bit, bits_of, members_from, AreWords, AreEither}
+use Rattle.std.proofs.lemmas.Nat.Bits.{bit_at_or, bit_at_and, bit_at_set_same, bit_at_set_other, bit_at_xor, bit_at_ones, bit_at_ones_above, same_from_bits_below, bit_at-lt, bit_at-zero, bit_at_above, bit_at-trailing_zeros}
+use Rattle.std.specs.Int.{bit_at, trailing_zeros}
+use Rattle.std.specs.Prelude.{map, zip, not, count_by, count_ones, bit_xor, nat_eq, filter}
+use Rattle.std.specs.List.{range_with_len}
+use Rattle.std.specs.Simd.Lanes.{mask_l}
+use Rattle.std.specs.Cmp.{booleans_Decides}
+use Rattle.std.specs.Cmp.Lexicographic.{pointwise, pointwise_decides, bytes_decides, unequal}
+use mathlib.Core.Bool.{beq, true≢false}
+use Rattle.std.proofs.lemmas.Nat.{one_shl, shr_le, shr-shr, div-mul-add, mod-mul-add}
+use Rattle.std.proofs.lemmas.Simd.{mask_l-lt, bit_mask_l, ones-mask_l}
+use Rattle.std.proofs.lemmas.List.Sums.{sum_by-cons, sum_by-append, length-filter, count_by-le-length}
+use Rattle.std.proofs.lemmas.Slice.Zip.{get_or-zip, length-zip}
+use Rattle.guppy_support.specs.Bits.{has, word_bit, bits_of, members_from, AreWords, one_alone, Fit}
 
 pub length-bits_of : (n : ℕ) (words : List ℕ) → length (bits_of n words) ≡ n
 length-bits_of n words = length-map-range_with_len (λ k. word_bit words k == 1) 0 n
@@ -44,6 +54,7 @@ with_bit_words n words k h a =
     let inside : k / 64 < length words = omega (arith, a.long) in
     record {
       long = length-set words (k / 64) _ ∙ a.long;
+      fits = a.fits;
       clear = λ j le. let ne : j ≢ k = omega arith in with_bit_other words k j inside ne ∙ a.clear j le;
     }
 
@@ -57,35 +68,6 @@ with_bit_view n words k h a =
       | inl e ↦ rw (e, get_or-set_same (bits_of n words) k true false (omega arith), with_bit_same words k inside) refl
       | inr ne ↦ rw (get_or-set_other (bits_of n words) k j true false ne, with_bit_other words k j inside ne) (has-bits_of n words j lj)
     ]))
-
-max_test : (x y : ℕ) → x < 2 → y < 2 → (max x y == 1) ≡ ((x == 1) || (y == 1))
-max_test zero zero hx hy = refl
-max_test zero (suc zero) hx hy = refl
-max_test (suc zero) zero hx hy = refl
-max_test (suc zero) (suc zero) hx hy = refl
-max_test zero (suc (suc y)) hx hy = absurd (omega arith)
-max_test (suc zero) (suc (suc y)) hx hy = absurd (omega arith)
-max_test (suc (suc x)) y hx hy = absurd (omega arith)
-
-either_bit : (a b words : List ℕ) (k : ℕ) → AreEither a b words → length a ≡ length b → word_bit words k ≡ max (word_bit a k) (word_bit b k)
-either_bit a b words k e same =
-    elim (cases_lt (k / 64) (length a)) [
-      | inl l ↦ rw (e.each (k / 64) l) (bit_at_or (get_or a (k / 64) 0) (get_or b (k / 64) 0) (k % 64))
-      | inr p ↦
-          rw (get_or_past words (k / 64) 0 (omega (arith, e.long)), get_or_past a (k / 64) 0 p, get_or_past b (k / 64) 0 (omega arith), bit_at-zero (k % 64)) refl
-    ]
-
-pub either_words : (n : ℕ) (a b words : List ℕ) → AreWords n a → AreWords n b → AreEither a b words → AreWords n words
-either_words n a b words wa wb e =
-    record {
-      long = e.long ∙ wa.long;
-      clear = λ k le. either_bit a b words k e (wa.long ∙ sym wb.long) ∙ rw (wa.clear k le, wb.clear k le) refl;
-    }
-
-pub either_has : (n : ℕ) (a b words : List ℕ) (k : ℕ) → AreWords n a → AreWords n b → AreEither a b words → k < n → has (bits_of n words) k ≡ (has (bits_of n a) k || has (bits_of n b) k)
-either_has n a b words k wa wb e h =
-    rw (has-bits_of n words k h, has-bits_of n a k h, has-bits_of n b k h, either_bit a b words k e (wa.long ∙ sym wb.long))
-    (max_test (word_bit a k) (word_bit b k) (bit_at-lt _ _) (bit_at-lt _ _))
 
 pub empty_view : (n m : ℕ) (words : List ℕ) → words ≡ replicate m 0 → bits_of n words ≡ replicate n false
 empty_view n m words e =
@@ -120,3 +102,388 @@ pub members_from_end : (set : List Bool) (n : ℕ) → length set ≤ n → memb
 members_from_end xs n h = let z : length xs - n ≡ 0 = omega arith in rw z refl
 
 pub ruleset member_steps = (members_from_yes, members_from_no, members_from_end)
+
+-- ---- bits of one word
+
+-- a bit is 0 or 1, and the test tells which
+pub bit_cases : (b : ℕ) → b < 2 → (b ≡ 0) ⊎ (b ≡ 1)
+bit_cases b h = elim (cases_lt b 1) [ inl l ↦ inl (omega arith) | inr p ↦ inr (omega arith) ]
+
+pub bit_none : (b : ℕ) → b < 2 → (b == 1) ≡ false → b ≡ 0
+bit_none zero h e = refl
+bit_none (suc zero) h e = absurd (true≢false e)
+bit_none (suc (suc b)) h e = absurd (omega arith)
+
+-- bit j of word i
+pub word_bit_at : (words : List ℕ) (i j : ℕ) → j < 64 → word_bit words (i * 64 + j) ≡ bit_at (get_or words i 0) j
+word_bit_at words i j h =
+    let place : (i * 64 + j) / 64 ≡ i = div-mul-add i 64 j h in
+    let rest : (i * 64 + j) % 64 ≡ j = mod-mul-add i 64 j h in
+    rw (place, rest) refl
+
+-- ---- sets that agree on each number are equal
+
+pub same_sets : (xs ys : List Bool) → length xs ≡ length ys → ((k : ℕ) → has xs k ≡ has ys k) → xs ≡ ys
+same_sets xs ys l each = ext_get_or false xs ys l (λ i h. each i)
+
+pub has_past : (set : List Bool) (k : ℕ) → length set ≤ k → has set k ≡ false
+has_past s k h = get_or_past s k false h
+
+-- ---- the full set
+
+abbrev pub full_words : ℕ → List ℕ
+full_words n = set (replicate (n / 64 + 1) (2 ^ 64 - 1)) (n / 64) (1 * 2 ^ (n % 64) % 2 ^ 64 - 1)
+
+full_bit : (n k : ℕ) → k < n → word_bit (full_words n) k ≡ 1
+full_bit n k h =
+    let low : n % 64 < 64 = omega arith in
+    let room : n / 64 < length (replicate (n / 64 + 1) (2 ^ 64 - 1)) = omega (arith, length-replicate (n / 64 + 1) (2 ^ 64 - 1)) in
+    elim (cases_eq (k / 64) (n / 64)) [
+      | inl e ↦
+          rw (e, get_or-set_same (replicate (n / 64 + 1) (2 ^ 64 - 1)) (n / 64) (1 * 2 ^ (n % 64) % 2 ^ 64 - 1) 0 room, one_shl (n % 64) 64 low)
+          (bit_at_ones (n % 64) (k % 64) (omega arith))
+      | inr ne ↦
+          rw (get_or-set_other (replicate (n / 64 + 1) (2 ^ 64 - 1)) (n / 64) (k / 64) (1 * 2 ^ (n % 64) % 2 ^ 64 - 1) 0 ne, get_or-replicate (n / 64 + 1) (k / 64) (2 ^ 64 - 1) 0 (omega arith))
+          (bit_at_ones 64 (k % 64) (omega arith))
+    ]
+
+full_clear : (n k : ℕ) → n ≤ k → word_bit (full_words n) k ≡ 0
+full_clear n k h =
+    let low : n % 64 < 64 = omega arith in
+    let room : n / 64 < length (replicate (n / 64 + 1) (2 ^ 64 - 1)) = omega (arith, length-replicate (n / 64 + 1) (2 ^ 64 - 1)) in
+    elim (cases_eq (k / 64) (n / 64)) [
+      | inl e ↦
+          rw (e, get_or-set_same (replicate (n / 64 + 1) (2 ^ 64 - 1)) (n / 64) (1 * 2 ^ (n % 64) % 2 ^ 64 - 1) 0 room, one_shl (n % 64) 64 low)
+          (bit_at_ones_above (n % 64) (k % 64) (omega arith))
+      | inr ne ↦
+          rw (get_or-set_other (replicate (n / 64 + 1) (2 ^ 64 - 1)) (n / 64) (k / 64) (1 * 2 ^ (n % 64) % 2 ^ 64 - 1) 0 ne, get_or_past (replicate (n / 64 + 1) (2 ^ 64 - 1)) (k / 64) 0 (omega (arith, length-replicate (n / 64 + 1) (2 ^ 64 - 1))))
+          (bit_at-zero (k % 64))
+    ]
+
+pub full_are_words : (n : ℕ) → n < 2 ^ 64 → AreWords n (full_words n)
+full_are_words n h =
+    record {
+      long = length-set (replicate (n / 64 + 1) (2 ^ 64 - 1)) (n / 64) _ ∙ length-replicate (n / 64 + 1) (2 ^ 64 - 1);
+      fits = h;
+      clear = full_clear n;
+    }
+
+pub full_view : (n : ℕ) → bits_of n (full_words n) ≡ replicate n true
+full_view n =
+    sym (same_bits (replicate n true) n (full_words n) (length-replicate n true)
+    (λ k h. rw (get_or-replicate n k true false h, full_bit n k h) refl))
+
+pub empty_are_words : (n : ℕ) → n < 2 ^ 64 → AreWords n (replicate (n / 64 + 1) 0)
+empty_are_words n f =
+    record {
+      long = length-replicate (n / 64 + 1) 0;
+      fits = f;
+      clear = λ k h. elim (cases_lt (k / 64) (n / 64 + 1)) [
+        | inl l ↦ rw (get_or-replicate {A = ℕ} (n / 64 + 1) (k / 64) 0 0 l) (bit_at-zero (k % 64))
+        | inr p ↦ rw (get_or_past {X = ℕ} (replicate (n / 64 + 1) 0) (k / 64) 0 (omega (arith, length-replicate {A = ℕ} (n / 64 + 1) 0))) (bit_at-zero (k % 64))
+      ];
+    }
+
+-- ---- the words of an operation on two sets
+
+-- the words of an operation that takes each pair of bits by the test t
+pub record Combines (op : ℕ → ℕ → ℕ) (t : Bool → Bool → Bool) : Type 0 where
+  pub none : t false false ≡ false
+  pub bits : (x y j : ℕ) → (bit_at (op x y) j == 1) ≡ t (bit_at x j == 1) (bit_at y j == 1)
+
+abbrev pub combined : (ℕ → ℕ → ℕ) → List ℕ → List ℕ → List ℕ
+combined op a b = map (λ (p : ℕ × ℕ). op p.0 p.1) (zip a b)
+
+combined_bit : (op : ℕ → ℕ → ℕ) (t : Bool → Bool → Bool) → Combines op t → (a b : List ℕ) → length a ≡ length b → (k : ℕ) → (word_bit (combined op a b) k == 1) ≡ t (word_bit a k == 1) (word_bit b k == 1)
+combined_bit op t c a b same k =
+    elim (cases_lt (k / 64) (length a)) [
+      | inl l ↦
+          let m : k / 64 < length b = omega arith in
+          let long : k / 64 < length (zip a b) = omega (arith, length-zip a b) in
+          rw (get_or-map (λ (p : ℕ × ℕ). op p.0 p.1) (zip a b) (k / 64) (0, 0) 0 long, get_or-zip a b (k / 64) (0, 0) l m)
+          (c.bits (get_or a (k / 64) 0) (get_or b (k / 64) 0) (k % 64))
+      | inr p ↦
+          rw (get_or_past (combined op a b) (k / 64) 0 (omega (arith, length-map (zip a b) (λ (p : ℕ × ℕ). op p.0 p.1), length-zip a b)), get_or_past a (k / 64) 0 p, get_or_past b (k / 64) 0 (omega arith), bit_at-zero (k % 64))
+          (sym c.none)
+    ]
+
+pub combined_words : (op : ℕ → ℕ → ℕ) (t : Bool → Bool → Bool) → Combines op t → (n : ℕ) (a b : List ℕ) → AreWords n a → AreWords n b → AreWords n (combined op a b)
+combined_words op t c n a b wa wb =
+    record {
+      long = length-map (zip a b) (λ (p : ℕ × ℕ). op p.0 p.1) ∙ omega (arith, length-zip a b, wa.long, wb.long);
+      fits = wa.fits;
+      clear = λ k h. bit_none (word_bit (combined op a b) k) (bit_at-lt _ _) (combined_bit op t c a b (wa.long ∙ sym wb.long) k ∙ rw (wa.clear k h, wb.clear k h) c.none);
+    }
+
+pub combined_has : (op : ℕ → ℕ → ℕ) (t : Bool → Bool → Bool) → Combines op t → (n : ℕ) (a b : List ℕ) → AreWords n a → AreWords n b → (k : ℕ) → has (bits_of n (combined op a b)) k ≡ t (has (bits_of n a) k) (has (bits_of n b) k)
+combined_has op t c n a b wa wb k =
+    elim (cases_lt k n) [
+      | inl h ↦ rw (has-bits_of n (combined op a b) k h, has-bits_of n a k h, has-bits_of n b k h) (combined_bit op t c a b (wa.long ∙ sym wb.long) k)
+      | inr p ↦
+          rw (has_past (bits_of n (combined op a b)) k (omega (arith, length-bits_of n (combined op a b))), has_past (bits_of n a) k (omega (arith, length-bits_of n a)), has_past (bits_of n b) k (omega (arith, length-bits_of n b)))
+          (sym c.none)
+    ]
+
+-- a fact on two bits, from the four cases
+on_bits : (P : ℕ → ℕ → Type 0) → P 0 0 → P 0 1 → P 1 0 → P 1 1 → (x y : ℕ) → x < 2 → y < 2 → P x y
+on_bits P a b c d zero zero h k = a
+on_bits P a b c d zero (suc zero) h k = b
+on_bits P a b c d (suc zero) zero h k = c
+on_bits P a b c d (suc zero) (suc zero) h k = d
+on_bits P a b c d x (suc (suc y)) h k = absurd (omega arith)
+on_bits P a b c d (suc (suc x)) y h k = absurd (omega arith)
+
+pub combines_or : Combines bit_or (λ x y. x || y)
+combines_or =
+    record {
+      none = refl;
+      bits = λ x y j. rw (bit_at_or x y j) (on_bits (λ a b. (max a b == 1) ≡ ((a == 1) || (b == 1))) refl refl refl refl (bit_at x j) (bit_at y j) (bit_at-lt x j) (bit_at-lt y j));
+    }
+
+pub combines_and : Combines bit_and (λ x y. x && y)
+combines_and =
+    record {
+      none = refl;
+      bits = λ x y j. rw (bit_at_and x y j) (on_bits (λ a b. (min a b == 1) ≡ ((a == 1) && (b == 1))) refl refl refl refl (bit_at x j) (bit_at y j) (bit_at-lt x j) (bit_at-lt y j));
+    }
+
+pub combines_but : Combines (λ x y. bit_and x (bit_xor x y)) (λ x y. x && not y)
+combines_but =
+    record {
+      none = refl;
+      bits = λ x y j.
+          rw (bit_at_and x (bit_xor x y) j, bit_at_xor x y j)
+          (on_bits (λ a b. (min a ((a + b) % 2) == 1) ≡ ((a == 1) && not (b == 1))) refl refl refl refl (bit_at x j) (bit_at y j) (bit_at-lt x j) (bit_at-lt y j));
+    }
+
+pub combines_xor : Combines bit_xor one_alone
+combines_xor =
+    record {
+      none = refl;
+      bits = λ x y j. rw (bit_at_xor x y j) (on_bits (λ a b. ((a + b) % 2 == 1) ≡ one_alone (a == 1) (b == 1)) refl refl refl refl (bit_at x j) (bit_at y j) (bit_at-lt x j) (bit_at-lt y j));
+    }
+
+-- ---- equality by words
+
+same_bit : (x y : ℕ) → x < 2 → y < 2 → (x == 1) ≡ (y == 1) → x ≡ y
+same_bit x y hx hy t = on_bits (λ a b. (a == 1) ≡ (b == 1) → a ≡ b) (λ _. refl) (λ q. absurd (true≢false (sym q))) (λ q. absurd (true≢false q)) (λ _. refl) x y hx hy t
+
+same_words : (n : ℕ) (a b : List ℕ) → AreWords n a → AreWords n b → Fit a → Fit b → bits_of n a ≡ bits_of n b → a ≡ b
+same_words n a b wa wb fa fb e =
+    ext_get_or 0 a b (wa.long ∙ sym wb.long)
+    (λ i h. same_from_bits_below 64 (get_or a i 0) (get_or b i 0) (fa i) (fb i)
+    (λ j l. sym (word_bit_at a i j l) ∙ bits_agree (i * 64 + j) ∙ word_bit_at b i j l))
+  where
+    bits_agree : (k : ℕ) → word_bit a k ≡ word_bit b k
+    bits_agree k =
+        elim (cases_lt k n) [
+          | inl h ↦ same_bit (word_bit a k) (word_bit b k) (bit_at-lt _ _) (bit_at-lt _ _) (sym (has-bits_of n a k h) ∙ ap (λ (s : List Bool). has s k) e ∙ has-bits_of n b k h)
+          | inr p ↦ wa.clear k p ∙ sym (wb.clear k p)
+        ]
+
+same_tests : (a b : Bool) → (a ≡ true → b ≡ true) → (b ≡ true → a ≡ true) → a ≡ b
+same_tests true true f g = refl
+same_tests true false f g = sym (f refl)
+same_tests false true f g = g refl
+same_tests false false f g = refl
+
+pub equal_by_words : (n : ℕ) (a b : List ℕ) → AreWords n a → AreWords n b → Fit a → Fit b → pointwise nat_eq a b ≡ pointwise beq (bits_of n a) (bits_of n b)
+equal_by_words n a b wa wb fa fb =
+    same_tests (pointwise nat_eq a b) (pointwise beq (bits_of n a) (bits_of n b))
+    (λ e. let words : a ≡ b = (bytes_decides a b).0 e in (pointwise_decides booleans_Decides (bits_of n a) (bits_of n b)).1 (rw words refl))
+    (λ e. (bytes_decides a b).1 (same_words n a b wa wb fa fb ((pointwise_decides booleans_Decides (bits_of n a) (bits_of n b)).0 e)))
+
+pub unequal_sizes : (xs ys : List Bool) (n m : ℕ) → n ≡ length xs → m ≡ length ys → n ≢ m → nat_eq n m ≡ pointwise beq xs ys
+unequal_sizes xs ys n m l k ne = ne_eqb n m ne ∙ sym (unequal beq xs ys (λ e. ne (l ∙ e ∙ sym k)))
+
+-- ---- counting by words
+
+range_cat : {X : Type 0} (f : ℕ → X) (a n m : ℕ) → map f (range_with_len a (n + m)) ≡ map f (range_with_len a n) ++ map f (range_with_len (a + n) m)
+range_cat f a zero m = rw (zero-add m, add-zero a) refl
+range_cat f a (suc n) m =
+    let shift : a + 1 + n ≡ a + suc n = omega arith in
+    let count : suc n + m ≡ suc (n + m) = omega arith in
+    rw count (ap (λ xs. f a ∷ xs) (rw shift at (range_cat f (a + 1) n m)))
+
+abbrev pub ticks : List Bool → ℕ
+ticks xs = count_by (λ b. b) xs
+
+no_ticks : (f : ℕ → Bool) (a m : ℕ) → ((k : ℕ) → a ≤ k → f k ≡ false) → ticks (map f (range_with_len a m)) ≡ 0
+no_ticks f a zero h = refl
+no_ticks f a (suc m) h =
+    sum_by-cons (λ (b : Bool). cond b 1 0) (f a) (map f (range_with_len (a + 1) m))
+    ∙ rw (h a (omega arith), zero-add) (no_ticks f (a + 1) m (λ k l. h k (omega arith)))
+
+-- the bits of one word
+word_bits : ℕ → List Bool
+word_bits w = map (λ k. bit_at w k == 1) (range_with_len 0 64)
+
+word_is_mask : (w : ℕ) → w < 2 ^ 64 → mask_l (map (λ k. bit_at w k == 1) (range_with_len 0 64)) ≡ w
+word_is_mask w h =
+    let ms = map (λ k. bit_at w k == 1) (range_with_len 0 64) in
+    let long : length ms ≡ 64 = length-map-range_with_len (λ k. bit_at w k == 1) 0 64 in
+    same_from_bits_below 64 (mask_l ms) w (subst (λ (n : ℕ). mask_l ms < 2 ^ n) long (mask_l-lt ms)) h
+    (λ i l. bit_mask_l ms i ∙ rw (get_or-map-range_with_len (λ k. bit_at w k == 1) 0 64 i i false l (omega arith))
+    (on_bits (λ a b. cond (a == 1) 1 0 ≡ a) refl refl refl refl (bit_at w i) 0 (bit_at-lt w i) (omega arith)))
+
+pub ticks_of_word : (w : ℕ) → w < 2 ^ 64 → ticks (map (λ k. bit_at w k == 1) (range_with_len 0 64)) ≡ count_ones w
+ticks_of_word w h =
+    let ms = map (λ k. bit_at w k == 1) (range_with_len 0 64) in
+    sym (ones-mask_l (λ b. b) ms) ∙ ap count_ones (ap mask_l (map-id ms) ∙ word_is_mask w h)
+
+-- the bits of one more word
+pub ticks_more : (words : List ℕ) (i : ℕ) → get_or words i 0 < 2 ^ 64 → ticks (bits_of ((i + 1) * 64) words) ≡ ticks (bits_of (i * 64) words) + count_ones (get_or words i 0)
+ticks_more words i h =
+    let f : ℕ → Bool = λ k. word_bit words k == 1 in
+    let g : ℕ → Bool = λ k. bit_at (get_or words i 0) k == 1 in
+    let more : (i + 1) * 64 ≡ i * 64 + 64 = omega arith in
+    let last : map f (range_with_len (i * 64) 64) ≡ map g (range_with_len 0 64) =
+    fill_by_all g (map f (range_with_len (i * 64) 64)) 64 false (length-map-range_with_len f (i * 64) 64)
+    (λ k l. get_or-map-range_with_len f (i * 64) 64 k (i * 64 + k) false l refl ∙ ap (λ (b : ℕ). b == 1) (word_bit_at words i k l)) in
+    ap (λ (n : ℕ). ticks (map f (range_with_len 0 n))) more ∙ ap ticks (range_cat f 0 (i * 64) 64)
+    ∙ sum_by-append (λ (b : Bool). cond b 1 0) (map f (range_with_len 0 (i * 64))) (map f (range_with_len (0 + i * 64) 64))
+    ∙ ap (λ (n : ℕ). ticks (bits_of (i * 64) words) + ticks (map f (range_with_len n 64))) (zero-add (i * 64))
+    ∙ ap (λ (xs : List Bool). ticks (bits_of (i * 64) words) + ticks xs) last
+    ∙ ap (λ (n : ℕ). ticks (bits_of (i * 64) words) + n) (ticks_of_word (get_or words i 0) h)
+
+-- the bits past the last number add nothing
+pub ticks_past : (n m : ℕ) (words : List ℕ) → AreWords n words → n ≤ m → ticks (bits_of m words) ≡ ticks (bits_of n words)
+ticks_past n m words w le =
+    let f : ℕ → Bool = λ k. word_bit words k == 1 in
+    let d : ℕ = m - n in
+    let more : m ≡ n + d = omega arith in
+    ap (λ (k : ℕ). ticks (map f (range_with_len 0 k))) more ∙ ap ticks (range_cat f 0 n d)
+    ∙ sum_by-append (λ (b : Bool). cond b 1 0) (map f (range_with_len 0 n)) (map f (range_with_len (0 + n) d))
+    ∙ ap (λ (k : ℕ). ticks (bits_of n words) + k) (no_ticks f (0 + n) d (λ k past. rw (w.clear k (omega arith)) refl))
+    ∙ add-zero (ticks (bits_of n words))
+
+pub ticks_all : (n : ℕ) (words : List ℕ) → AreWords n words → ticks (bits_of (length words * 64) words) ≡ ticks (bits_of n words)
+ticks_all n words w = ticks_past n (length words * 64) words w (omega (arith, w.long))
+
+-- no more numbers than the size
+pub ticks_le : (n m : ℕ) (words : List ℕ) → AreWords n words → ticks (bits_of m words) ≤ n
+ticks_le n m words w =
+    elim (cases_lt m n) [
+      | inl l ↦ omega (arith, count_by-le-length (λ b. b) (bits_of m words), length-bits_of m words)
+      | inr p ↦ omega (arith, ticks_past n m words w p, count_by-le-length (λ b. b) (bits_of n words), length-bits_of n words)
+    ]
+
+-- how many numbers a set has is how long their list is
+pub length-members : (set : List Bool) → length (members_from set 0) ≡ ticks set
+length-members s =
+    let z : length s - 0 ≡ length s = omega arith in
+    ap (λ (n : ℕ). length (filter (λ k. has s k) (range_with_len 0 n))) z
+    ∙ length-filter (λ k. has s k) (range_with_len 0 (length s))
+    ∙ count_by_of_map (range_with_len 0 (length s))
+    ∙ ap ticks (sym (fill_by_all (λ k. has s k) s (length s) false refl (λ k h. refl)))
+  where
+    count_by_of_map : (ks : List ℕ) → count_by (λ k. has s k) ks ≡ ticks (map (λ k. has s k) ks)
+    count_by_of_map [] = refl
+    count_by_of_map (k ∷ ks) =
+        sum_by-cons (λ (j : ℕ). cond (has s j) 1 0) k ks ∙ ap (λ (n : ℕ). cond (has s k) 1 0 + n) (count_by_of_map ks)
+        ∙ sym (sum_by-cons (λ (b : Bool). cond b 1 0) (has s k) (map (λ j. has s j) ks))
+
+-- ---- the next number of a set
+
+pub members_from_skip : (set : List Bool) (n d : ℕ) → ((j : ℕ) → n ≤ j → j < n + d → has set j ≡ false) → members_from set n ≡ members_from set (n + d)
+members_from_skip s n zero none = ap (λ (k : ℕ). members_from s k) (sym (add-zero n))
+members_from_skip s n (suc d) none =
+    let shift : n + 1 + d ≡ n + suc d = omega arith in
+    elim (cases_lt n (length s)) [
+      | inl h ↦ members_from_no s n (n + 1) refl h (none n (omega arith) (omega arith)) ∙ rw shift at (members_from_skip s (n + 1) d (λ j a b. none j (omega arith) (omega arith)))
+      | inr p ↦ members_from_end s n p ∙ sym (members_from_end s (n + suc d) (omega arith))
+    ]
+
+-- the k that is found: its bit is set, and none before it from `from` on
+pub record IsNext (set : List Bool) (from k : ℕ) : Type 0 where
+  pub after : from ≤ k
+  pub inside : k < length set
+  pub list : members_from set from ≡ k ∷ members_from set (k + 1)
+
+pub next_found : (n : ℕ) (words : List ℕ) (now : List Bool) (from k : ℕ) → AreWords n words → bits_of n words ≡ now → from ≤ k → word_bit words k ≡ 1 → ((j : ℕ) → from ≤ j → j < k → word_bit words j ≡ 0) → IsNext now from k
+next_found n words now from k w e le one none =
+    let size = size_is n words now e in
+    let inside : k < n =
+    elim (cases_lt k n) [
+      | inl h ↦ h
+      | inr p ↦ absurd (omega (arith, one, w.clear k p))
+    ] in
+    let within : k < length now = omega arith in
+    let d : from + (k - from) ≡ k = omega arith in
+    let skip : members_from now from ≡ members_from now k =
+    rw d at (members_from_skip now from (k - from) (λ j a b. has_is n words now j e (omega arith) ∙ rw (none j a (omega arith)) refl)) in
+    record {
+      after = le;
+      inside = within;
+      list = skip ∙ members_from_yes now k (k + 1) refl within (has_is n words now k e within ∙ rw one refl);
+    }
+
+pub next_none : (n : ℕ) (words : List ℕ) (now : List Bool) (from : ℕ) → AreWords n words → bits_of n words ≡ now → from ≤ n → ((j : ℕ) → from ≤ j → j < length words * 64 → word_bit words j ≡ 0) → members_from now from ≡ []
+next_none n words now from w e le none =
+    let size = size_is n words now e in
+    let d : from + (n - from) ≡ n = omega arith in
+    rw d at (members_from_skip now from (n - from) (λ j a b. has_is n words now j e (omega arith) ∙ rw (none j a (omega (arith, w.long))) refl))
+    ∙ members_from_end now n (omega arith)
+
+-- the bits of a word that is shifted
+pub shifted_bit : (w s j : ℕ) → bit_at (w / 2 ^ s) j ≡ bit_at w (s + j)
+shifted_bit w s j = ap (λ (x : ℕ). x % 2) (shr-shr w s j)
+
+-- bit j of the word of `from`
+pub bit_in_word : (words : List ℕ) (from j : ℕ) → from % 64 + j < 64 → word_bit words (from + j) ≡ bit_at (get_or words (from / 64) 0) (from % 64 + j)
+bit_in_word words from j h =
+    let place : from + j ≡ from / 64 * 64 + (from % 64 + j) = omega arith in
+    rw place (word_bit_at words (from / 64) (from % 64 + j) h)
+
+-- the first word, from `from` on, isn't 0: its lowest bit is the next number
+pub next_in_first : (n : ℕ) (words : List ℕ) (now : List Bool) (from w : ℕ) → AreWords n words → bits_of n words ≡ now → get_or words (from / 64) 0 < 2 ^ 64 → w ≡ get_or words (from / 64) 0 / 2 ^ (from % 64) → 0 < w → (from % 64 + trailing_zeros w64 w < 64) × IsNext now from (from + trailing_zeros w64 w)
+next_in_first n words now from w a e fits is some =
+    let word : ℕ = get_or words (from / 64) 0 in
+    let bound : w < 2 ^ 64 = omega (arith, is, shr_le word (from % 64)) in
+    let low = bit_at-trailing_zeros w64 w some bound in
+    let t : ℕ = trailing_zeros w64 w in
+    let bit : bit_at word (from % 64 + t) ≡ 1 = sym (shifted_bit word (from % 64) t) ∙ ap (λ (x : ℕ). bit_at x t) (sym is) ∙ low.1 in
+    let inside : from % 64 + t < 64 =
+    elim (cases_lt (from % 64 + t) 64) [
+      | inl h ↦ h
+      | inr p ↦ absurd (omega (arith, bit, bit_at_above word 64 (from % 64 + t) fits p))
+    ] in (
+      inside,
+      next_found n words now from (from + t) a e (omega arith) (bit_in_word words from t inside ∙ bit)
+          (λ j from_j j_below.
+          let there : from + (j - from) ≡ j = omega arith in
+          rw (← there) (bit_in_word words from (j - from) (omega arith) ∙ sym (shifted_bit word (from % 64) (j - from)) ∙ ap (λ (x : ℕ). bit_at x (j - from)) (sym is) ∙ low.2 (j - from) (omega arith))),
+    )
+
+-- the first word has none: no bit from `from` to its end
+pub none_in_first : (words : List ℕ) (from : ℕ) → get_or words (from / 64) 0 / 2 ^ (from % 64) ≡ 0 → (j : ℕ) → from ≤ j → j < (from / 64 + 1) * 64 → word_bit words j ≡ 0
+none_in_first words from is j from_j j_below =
+    let there : from + (j - from) ≡ j = omega arith in
+    rw (← there) (bit_in_word words from (j - from) (omega arith) ∙ sym (shifted_bit (get_or words (from / 64) 0) (from % 64) (j - from)) ∙ rw is (bit_at-zero (j - from)))
+
+-- a later word isn't 0, and those before it are
+pub next_in_later : (n : ℕ) (words : List ℕ) (now : List Bool) (from p : ℕ) → AreWords n words → bits_of n words ≡ now → get_or words p 0 < 2 ^ 64 → from ≤ p * 64 → ((j : ℕ) → from ≤ j → j < p * 64 → word_bit words j ≡ 0) → 0 < get_or words p 0 → (trailing_zeros w64 (get_or words p 0) < 64) × IsNext now from (p * 64 + trailing_zeros w64 (get_or words p 0))
+next_in_later n words now from p a e fits le none some =
+    let word : ℕ = get_or words p 0 in
+    let low = bit_at-trailing_zeros w64 word some fits in
+    let t : ℕ = trailing_zeros w64 word in (
+      low.0,
+      next_found n words now from (p * 64 + t) a e (omega arith) (word_bit_at words p t low.0 ∙ low.1)
+          (λ j from_j j_below.
+          elim (cases_lt j (p * 64)) [
+            | inl h ↦ none j from_j h
+            | inr past ↦
+                let there : p * 64 + (j - p * 64) ≡ j = omega arith in
+                rw (← there) (word_bit_at words p (j - p * 64) (omega arith) ∙ low.2 (j - p * 64) (omega arith))
+          ]),
+    )
+
+-- a later word is 0
+pub none_in_later : (words : List ℕ) (from p : ℕ) → get_or words p 0 ≡ 0 → ((j : ℕ) → from ≤ j → j < p * 64 → word_bit words j ≡ 0) → (j : ℕ) → from ≤ j → j < (p + 1) * 64 → word_bit words j ≡ 0
+none_in_later words from p is none j from_j j_below =
+    elim (cases_lt j (p * 64)) [
+      | inl h ↦ none j from_j h
+      | inr past ↦
+          let there : p * 64 + (j - p * 64) ≡ j = omega arith in
+          rw (← there) (word_bit_at words p (j - p * 64) (omega arith) ∙ rw is (bit_at-zero (j - p * 64)))
+    ]

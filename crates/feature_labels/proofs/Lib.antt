@@ -1,0 +1,4 @@
+pub mod Derived
+pub mod Listed
+pub mod Made
+pub mod Searched

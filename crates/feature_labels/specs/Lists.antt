@@ -1,0 +1,37 @@
+-- Lists of labels of one package.
+use Rattle.std.specs.Prelude.{List, ◌↔◌, Option, Some, None, codes, map}
+use Rattle.std.specs.List.{Contains, join_by}
+use Rattle.std.specs.List.Sorted.{IsStrictlySortedBy}
+use Rattle.guppy_packages.specs.Rows.{Text}
+use Rattle.feature_labels.specs.Names.{LabelName, label_of, label_cmp, label_text}
+use Rattle.feature_labels.specs.Names.LabelName.{base, named, optional}
+use Rattle.feature_labels.specs.declared.display_features.DisplayFeatures.{DisplayFeatures}
+
+-- each label is below those after it
+abbrev pub Ascends : List LabelName → Type 0
+Ascends labels = IsStrictlySortedBy label_cmp labels
+
+-- the same labels, in any order and however often
+abbrev pub SameLabels : List LabelName → List LabelName → Type 0
+SameLabels labels others = (label : LabelName) → Contains labels label ↔ Contains others label
+
+-- the ids of the package's features with these labels
+abbrev pub ids_in : Text → List LabelName → List (Text × LabelName)
+ids_in id labels = map (λ label. (id, label)) labels
+
+abbrev pub name_if_named : LabelName → Option Text
+name_if_named base = None
+name_if_named (named name) = Some name
+name_if_named (optional _) = None
+
+abbrev pub name_if_optional : LabelName → Option Text
+name_if_optional base = None
+name_if_optional (named _) = None
+name_if_optional (optional name) = Some name
+
+-- the labels' texts with `, ` between two neighbours
+abbrev pub joined : List LabelName → Text
+joined labels = join_by label_text (codes ", ") labels
+
+abbrev pub labels_shown : DisplayFeatures → List LabelName
+labels_shown shown = map label_of shown.0.now

@@ -1,0 +1,62 @@
+-- The orders of labels and ids are total, and what they do not tell apart is equal.
+use Rattle.std.specs.Prelude.{ℕ, Bool, ◌≡◌, [], refl}
+use Rattle.std.specs.Bool.{Decides}
+use Rattle.std.specs.Cmp.{IsTotalOrder, IsEquivalence}
+use Rattle.std.specs.Cmp.Lexicographic.{slice_cmp, bytes_decides, texts_ties, on_texts}
+use Rattle.std.specs.Ordering.{nat_cmp, on, then_cmp, eq_by_cmp}
+use Rattle.std.proofs.Common.{subst, ap}
+use Rattle.std.proofs.lemmas.Cmp.{then_total, on_total, nat_cmp_total, eq_by_cmp_equiv}
+use Rattle.guppy_packages.specs.Rows.{Text}
+use Rattle.feature_labels.specs.Names.{LabelName, label_cmp, id_cmp}
+use Rattle.feature_labels.specs.Names.LabelName.{base, named, optional}
+
+-- whether two labels are the same
+abbrev pub label_eq : LabelName → LabelName → Bool
+label_eq = eq_by_cmp label_cmp
+
+-- the place of the kind
+label_rank : LabelName → ℕ
+label_rank base = 0
+label_rank (named _) = 1
+label_rank (optional _) = 2
+
+label_name : LabelName → Text
+label_name base = []
+label_name (named name) = name
+label_name (optional name) = name
+
+label_cmp-by_rank : (a b : LabelName) → then_cmp (on label_rank nat_cmp) (on label_name (slice_cmp nat_cmp)) a b ≡ label_cmp a b
+unfolding label_rank label_name
+label_cmp-by_rank base base = refl
+label_cmp-by_rank base (named _) = refl
+label_cmp-by_rank base (optional _) = refl
+label_cmp-by_rank (named _) base = refl
+label_cmp-by_rank (named _) (named _) = refl
+label_cmp-by_rank (named _) (optional _) = refl
+label_cmp-by_rank (optional _) base = refl
+label_cmp-by_rank (optional _) (named _) = refl
+label_cmp-by_rank (optional _) (optional _) = refl
+
+pub label_cmp_total : IsTotalOrder label_cmp
+label_cmp_total = subst IsTotalOrder (λ i a b. label_cmp-by_rank a b i) (then_total (on_total label_rank nat_cmp_total) (on_texts label_name))
+
+pub label_eq_equiv : IsEquivalence label_eq
+label_eq_equiv = eq_by_cmp_equiv label_cmp_total
+
+pub id_cmp_total : IsTotalOrder id_cmp
+id_cmp_total = then_total (on_texts (λ (id : Text × LabelName). id.0)) (on_total (λ (id : Text × LabelName). id.1) label_cmp_total)
+
+-- texts that compare `Equal` are equal
+text_eq-Decides : (s t : Text) → Decides (eq_by_cmp (slice_cmp nat_cmp) s t) (s ≡ t)
+text_eq-Decides s t = let P : Bool → Type 0 = λ r. Decides r (s ≡ t) in subst P (texts_ties s t) (bytes_decides s t)
+
+pub label_eq-Decides : (a b : LabelName) → Decides (label_eq a b) (a ≡ b)
+label_eq-Decides base base = (λ _. refl, λ _. refl)
+label_eq-Decides base (named _) = (λ e. cc, λ e. cc)
+label_eq-Decides base (optional _) = (λ e. cc, λ e. cc)
+label_eq-Decides (named _) base = (λ e. cc, λ e. cc)
+label_eq-Decides (named s) (named t) = let d = text_eq-Decides s t in (λ e. ap named (d.0 e), λ e. d.1 (cc))
+label_eq-Decides (named _) (optional _) = (λ e. cc, λ e. cc)
+label_eq-Decides (optional _) base = (λ e. cc, λ e. cc)
+label_eq-Decides (optional _) (named _) = (λ e. cc, λ e. cc)
+label_eq-Decides (optional s) (optional t) = let d = text_eq-Decides s t in (λ e. ap optional (d.0 e), λ e. d.1 (cc))

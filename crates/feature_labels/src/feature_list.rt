@@ -1,0 +1,159 @@
+//! A sorted list of features of one package, with no feature twice.
+ghost use Rattle.std.specs.Prelude.{◌≡◌, ◌↔◌, IfOk, IsTrue, map};
+ghost use Rattle.std.specs.List.{Contains, filter_map};
+ghost use Rattle.guppy_packages.specs.Metadata.{package_id_of};
+ghost use Rattle.feature_labels.specs.Names.{label_of};
+ghost use Rattle.feature_labels.specs.Names.LabelName.{base, named, optional};
+ghost use Rattle.feature_labels.specs.Lists.{Ascends, SameLabels, ids_in, name_if_named, name_if_optional, labels_shown};
+
+mod iterators;
+
+use crate::display_features::DisplayFeatures;
+use crate::feature_label::FeatureLabel;
+use guppy_packages::PackageMetadata;
+pub use iterators::{IntoIter, Iter, NamedFeatures, OptionalDeps};
+use std::alloc::{AllocError, Global};
+use std::fmt;
+use std::marker::Model;
+
+/// A sorted list of features of one package, with no feature twice.
+///
+/// A contract sees it as the text of the package's id and the labels.
+#[derive(Drop)]
+pub struct FeatureList<'g> {
+    package: PackageMetadata<'g>,
+    labels: Vec<FeatureLabel<'g>>,
+}
+
+impl<'g> Model for FeatureList<'g> {
+    ghost use Rattle.std.specs.Prelude.{List, map};
+    ghost use Rattle.guppy_packages.specs.Rows.{Text};
+    ghost use Rattle.feature_labels.specs.Names.{LabelName};
+
+    ghost Value = { Text × List LabelName };
+
+    ghost use Rattle.guppy_packages.specs.Metadata.{package_id_of};
+    ghost use Rattle.feature_labels.specs.Names.{label_of};
+    ghost use Rattle.feature_labels.specs.Lists.{Ascends};
+
+    ghost view = { λ list. (package_id_of list.package, map label_of list.labels.items) };
+
+    ghost invariant = { λ list. Ascends (map label_of list.labels.items) };
+}
+
+impl<'g> FeatureList<'g> {
+    /// The list of these labels, sorted and each once. Whether the package has them isn't asked.
+    pub fn new(
+        alloc: Global,
+        package: PackageMetadata<'g>,
+        labels: &[FeatureLabel<'g>],
+    ) -> Result<FeatureList<'g>, AllocError>
+        ensures of_package { IfOk result (λ list. list.0 ≡ package_id_of «package».entry) }
+        ensures same { IfOk result (λ list. SameLabels (map label_of labels.now) list.1) }
+        ensures ascends { IfOk result (λ list. Ascends list.1) }
+    {
+        let mut labels = labels.to_vec(alloc)?;
+        labels.sort_unstable();
+        labels.dedup();
+        Ok(FeatureList { package, labels })
+    }
+
+    /// The package of the features.
+    pub fn package(&self) -> &PackageMetadata<'g>
+        ensures { package_id_of result.now ≡ self.now.0 }
+    {
+        &self.package
+    }
+
+    /// Whether the list has this label.
+    pub fn contains(&self, label: FeatureLabel<'_>) -> bool
+        ensures { IsTrue result ↔ Contains self.now.1 (label_of label.entry) }
+    {
+        self.labels.binary_search(&label).is_ok()
+    }
+
+    /// Whether the list has the base feature, which stands for the package with no feature enabled.
+    pub fn has_base(&self) -> bool
+        ensures { IsTrue result ↔ Contains self.now.1 base }
+    {
+        self.contains(FeatureLabel::Base)
+    }
+
+    /// Whether the list has the feature of this name.
+    pub fn has_named_feature(&self, feature_name: &str) -> bool
+        ensures { IsTrue result ↔ Contains self.now.1 (named feature_name.now) }
+    {
+        self.contains(FeatureLabel::Named(feature_name))
+    }
+
+    /// Whether the list has the optional dependency of this name.
+    pub fn has_optional_dependency(&self, dep_name: &str) -> bool
+        ensures { IsTrue result ↔ Contains self.now.1 (optional dep_name.now) }
+    {
+        self.contains(FeatureLabel::OptionalDependency(dep_name))
+    }
+
+    /// The labels, ascending.
+    pub fn labels(&self) -> &[FeatureLabel<'g>]
+        ensures value { map label_of result.now ≡ self.now.1 }
+        ensures ascends { Ascends self.now.1 }
+    {
+        self.labels.as_slice()
+    }
+
+    /// The names of the named features, ascending.
+    pub fn named_features<'a>(&'a self) -> NamedFeatures<'g, 'a>
+        ensures { result ≡ filter_map name_if_named self.now.1 }
+    {
+        NamedFeatures::new(self.labels())
+    }
+
+    /// The names of the optional dependencies, ascending.
+    pub fn optional_deps<'a>(&'a self) -> OptionalDeps<'g, 'a>
+        ensures { result ≡ filter_map name_if_optional self.now.1 }
+    {
+        OptionalDeps::new(self.labels())
+    }
+
+    /// The ids of the features, in the order of the labels.
+    pub fn iter<'a>(&'a self) -> Iter<'g, 'a>
+        ensures { result ≡ ids_in self.now.0 self.now.1 }
+    {
+        Iter::new(self)
+    }
+
+    /// Prints the labels, with `, ` between two of them.
+    pub fn display_features<'a>(&'a self) -> DisplayFeatures<'g, 'a>
+        ensures { labels_shown result ≡ self.now.1 }
+    {
+        DisplayFeatures::new(self.labels())
+    }
+
+    /// The labels, ascending.
+    pub fn into_labels(self) -> Vec<FeatureLabel<'g>>
+        ensures value { map label_of result.items ≡ self.entry.1 }
+        ensures ascends { Ascends self.entry.1 }
+    {
+        let FeatureList { package: _, labels } = self;
+        labels
+    }
+
+    /// An equal list.
+    pub fn try_clone(&self, alloc: Global) -> Result<FeatureList<'g>, AllocError>
+        ensures { IfOk result (λ list. list ≡ self.now) }
+    {
+        Ok(FeatureList {
+            package: self.package,
+            labels: self.labels.as_slice().to_vec(alloc)?,
+        })
+    }
+}
+
+impl fmt::Debug for FeatureList<'_> {
+    fn fmt<W: fmt::Write>(&self, f: &mut fmt::Formatter<W>) -> fmt::Result {
+        f.debug_struct("FeatureList")
+            .field("package", self.package.id())
+            .field("labels", &self.display_features())
+            .finish()
+    }
+}

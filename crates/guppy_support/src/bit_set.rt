@@ -1,0 +1,284 @@
+//! Sets of numbers below a bound, 64 numbers to a word.
+ghost use Rattle.std.specs.Prelude.{◌≡◌, ℕ, ◌+◌, ◌*◌, ◌-◌, ◌^◌, ◌<◌, ◌≤◌, ◌||◌, ◌&&◌, ◌==◌, not, false, true, [], ◌∷◌, length, map, zip, IfOk, MatchOption, replicate, slice_set, count_by, bit_and, bit_or, bit_xor, nat_eq};
+ghost use mathlib.Core.Bool.{beq};
+ghost use Rattle.std.specs.Iterator.{YieldsFirst, item_count};
+ghost use Rattle.std.specs.Cmp.{partial_equiv_from_equiv, bool_eq_equiv};
+ghost use Rattle.std.specs.Cmp.Lexicographic.{pointwise, lists_equiv};
+ghost use Rattle.guppy_support.specs.Bits.{has, members, members_from, one_alone, Fit};
+
+use std::alloc::{AllocError, Global};
+use std::marker::Model;
+
+/// A set of numbers below a bound, its size.
+#[derive(Debug, Drop)]
+pub struct IxBitSet {
+    size: usize,
+    words: Vec<u64>,
+}
+
+impl Model for IxBitSet {
+    ghost use Rattle.std.specs.Prelude.{List, Bool};
+    ghost use Rattle.guppy_support.specs.Bits.{bits_of, AreWords};
+
+    ghost Value = { List Bool };
+
+    ghost view = { λ s. bits_of s.size s.words.items };
+
+    ghost invariant = { λ s. AreWords s.size s.words.items };
+}
+
+impl IxBitSet {
+    /// The set of no number below `size`.
+    pub fn empty(alloc: Global, size: usize) -> Result<IxBitSet, AllocError>
+        ensures { IfOk result (λ set. set ≡ replicate size false) }
+    {
+        let words = copies(alloc, 0, size / 64 + 1)?;
+        Ok(IxBitSet { size, words })
+    }
+
+    /// The set of all numbers below `size`.
+    pub fn full(alloc: Global, size: usize) -> Result<IxBitSet, AllocError>
+        ensures { IfOk result (λ set. set ≡ replicate size true) }
+    {
+        let mut words = copies(alloc, u64::MAX, size / 64 + 1)?;
+        words[size / 64] = (1 << (size % 64)) - 1;
+        Ok(IxBitSet { size, words })
+    }
+
+    /// A set of the same numbers below the same bound.
+    pub fn try_clone(&self, alloc: Global) -> Result<IxBitSet, AllocError>
+        ensures { IfOk result (λ set. set ≡ self.now) }
+    {
+        let words = self.words.iter().copied().collect(alloc)?;
+        Ok(IxBitSet {
+            size: self.size,
+            words,
+        })
+    }
+
+    /// The bound: each number of the set is below it.
+    pub fn size(&self) -> usize
+        ensures { result ≡ length self.now }
+    {
+        self.size
+    }
+
+    /// Whether the set has the number.
+    pub fn contains(&self, number: usize) -> bool
+        requires { number < length self.now }
+        ensures { result ≡ has self.now number }
+    {
+        (self.words[number / 64] >> (number % 64)) & 1 == 1
+    }
+
+    /// Puts the number into the set.
+    pub fn insert(&mut self, number: usize)
+        requires { number < length self.old }
+        ensures { self.new ≡ slice_set self.old number true }
+    {
+        self.words[number / 64] |= 1 << (number % 64);
+    }
+
+    /// How many numbers the set has.
+    pub fn count(&self) -> usize
+        ensures { result ≡ count_by (λ b. b) self.now }
+    {
+        let mut count = 0;
+        for word in self.words.iter() {
+            count += word.count_ones() as usize;
+        }
+        count
+    }
+
+    /// The numbers of the set, ascending.
+    pub fn ones(&self) -> Ones<'_>
+        ensures { result ≡ members self.now }
+    {
+        Ones {
+            set: self,
+            next: 0,
+            left: self.count(),
+        }
+    }
+
+    /// The numbers that are in either set, below the bound of both.
+    pub fn union(&self, alloc: Global, other: &IxBitSet) -> Result<IxBitSet, AllocError>
+        requires { length self.now ≡ length other.now }
+        ensures size { IfOk result (λ set. length set ≡ length self.now) }
+        ensures members { IfOk result (λ set. (k : ℕ) → has set k ≡ (has self.now k || has other.now k)) }
+    {
+        let words = either(alloc, &self.words, &other.words)?;
+        Ok(IxBitSet {
+            size: self.size,
+            words,
+        })
+    }
+
+    /// The numbers that are in both sets, below the bound of both.
+    pub fn intersection(&self, alloc: Global, other: &IxBitSet) -> Result<IxBitSet, AllocError>
+        requires { length self.now ≡ length other.now }
+        ensures size { IfOk result (λ set. length set ≡ length self.now) }
+        ensures members { IfOk result (λ set. (k : ℕ) → has set k ≡ (has self.now k && has other.now k)) }
+    {
+        let words = both(alloc, &self.words, &other.words)?;
+        Ok(IxBitSet {
+            size: self.size,
+            words,
+        })
+    }
+
+    /// The numbers of this set that the other set lacks, below the bound of both.
+    pub fn difference(&self, alloc: Global, other: &IxBitSet) -> Result<IxBitSet, AllocError>
+        requires { length self.now ≡ length other.now }
+        ensures size { IfOk result (λ set. length set ≡ length self.now) }
+        ensures members { IfOk result (λ set. (k : ℕ) → has set k ≡ (has self.now k && not (has other.now k))) }
+    {
+        let words = first_alone(alloc, &self.words, &other.words)?;
+        Ok(IxBitSet {
+            size: self.size,
+            words,
+        })
+    }
+
+    /// The numbers that are in one of the sets and not in the other, below the bound of both.
+    pub fn symmetric_difference(
+        &self,
+        alloc: Global,
+        other: &IxBitSet,
+    ) -> Result<IxBitSet, AllocError>
+        requires { length self.now ≡ length other.now }
+        ensures size { IfOk result (λ set. length set ≡ length self.now) }
+        ensures members { IfOk result (λ set. (k : ℕ) → has set k ≡ one_alone (has self.now k) (has other.now k)) }
+    {
+        let words = exactly_one(alloc, &self.words, &other.words)?;
+        Ok(IxBitSet {
+            size: self.size,
+            words,
+        })
+    }
+
+    // The least number of the set from `from` on.
+    fn next_from(&self, from: usize) -> Option<usize>
+        requires { from ≤ length self.now }
+        ensures fits { length self.now < 2 ^ 64 }
+        ensures least { MatchOption result (members_from self.now from ≡ []) (λ k. (from ≤ k) × (k < length self.now) × (members_from self.now from ≡ k ∷ members_from self.now (k + 1))) }
+    {
+        let first = from / 64;
+        let word = self.words[first] >> (from % 64);
+        if word != 0 {
+            return Some(from + word.trailing_zeros() as usize);
+        }
+        for place in first + 1..self.words.len() {
+            let word = self.words[place];
+            if word != 0 {
+                return Some(place * 64 + word.trailing_zeros() as usize);
+            }
+        }
+        None
+    }
+}
+
+/// Equal are sets of the same numbers below the same bound.
+impl PartialEq for IxBitSet {
+    ghost eq = { pointwise beq };
+
+    ghost laws = { partial_equiv_from_equiv (lists_equiv bool_eq_equiv) };
+
+    fn eq(&self, other: &IxBitSet) -> bool {
+        self.size == other.size && same_words(&self.words, &other.words)
+    }
+}
+
+impl Eq for IxBitSet {
+    ghost laws = { lists_equiv bool_eq_equiv };
+}
+
+// So many copies of a word.
+fn copies(alloc: Global, word: u64, count: usize) -> Result<Vec<u64>, AllocError>
+    ensures { IfOk result (λ words. words.items ≡ replicate count word) }
+{
+    vec![in alloc; word; count]
+}
+
+fn same_words(mine: &[u64], its: &[u64]) -> bool
+    ensures same { result ≡ pointwise nat_eq mine.now its.now }
+    ensures mine_fit { Fit mine.now }
+    ensures its_fit { Fit its.now }
+{
+    mine == its
+}
+
+// The bits that either word has.
+fn either(alloc: Global, mine: &[u64], its: &[u64]) -> Result<Vec<u64>, AllocError>
+    ensures { IfOk result (λ words. words.items ≡ map (λ p. bit_or p.0 p.1) (zip mine.now its.now)) }
+{
+    mine.iter().zip(its).map(|(a, b)| *a | *b).collect(alloc)
+}
+
+// The bits that both words have.
+fn both(alloc: Global, mine: &[u64], its: &[u64]) -> Result<Vec<u64>, AllocError>
+    ensures { IfOk result (λ words. words.items ≡ map (λ p. bit_and p.0 p.1) (zip mine.now its.now)) }
+{
+    mine.iter().zip(its).map(|(a, b)| *a & *b).collect(alloc)
+}
+
+// The bits of the first word that the second lacks.
+fn first_alone(alloc: Global, mine: &[u64], its: &[u64]) -> Result<Vec<u64>, AllocError>
+    ensures { IfOk result (λ words. words.items ≡ map (λ p. bit_and p.0 (bit_xor p.0 p.1)) (zip mine.now its.now)) }
+{
+    mine.iter()
+        .zip(its)
+        .map(|(a, b)| *a & (*a ^ *b))
+        .collect(alloc)
+}
+
+// The bits that one word has and the other lacks.
+fn exactly_one(alloc: Global, mine: &[u64], its: &[u64]) -> Result<Vec<u64>, AllocError>
+    ensures { IfOk result (λ words. words.items ≡ map (λ p. bit_xor p.0 p.1) (zip mine.now its.now)) }
+{
+    mine.iter().zip(its).map(|(a, b)| *a ^ *b).collect(alloc)
+}
+
+/// The numbers of a set that are left, ascending.
+#[derive(Debug, Drop)]
+pub struct Ones<'a> {
+    set: &'a IxBitSet,
+    next: usize,
+    left: usize,
+}
+
+impl<'a> Model for Ones<'a> {
+    ghost use Rattle.std.specs.Prelude.{List, ℕ, ◌≡◌, ◌≤◌, length};
+    ghost use Rattle.guppy_support.specs.Bits.{members_from};
+
+    ghost Value = { List ℕ };
+
+    ghost view = { λ s. members_from s.set.now s.next };
+
+    ghost invariant = { λ s. (s.next ≤ length s.set.now) × (s.left ≡ length (members_from s.set.now s.next)) };
+}
+
+impl<'a> Iterator for Ones<'a> {
+    type Item = usize;
+
+    ghost next_gives = { YieldsFirst (λ s. s) };
+
+    ghost remaining = { item_count (λ s. s) };
+
+    fn next(&mut self) -> Option<usize> {
+        let number = self.set.next_from(self.next)?;
+        self.next = number + 1;
+        self.left -= 1;
+        Some(number)
+    }
+
+    fn size_hint(&self) -> (usize, Option<usize>) {
+        (self.left, Some(self.left))
+    }
+}
+
+impl<'a> ExactSizeIterator for Ones<'a> {
+    fn len(&self) -> usize {
+        self.left
+    }
+}

@@ -1,0 +1,187 @@
+//! A digraph, and its edges by each end.
+ghost use Rattle.std.specs.Prelude.{◌≡◌, ℕ, ◌+◌, ◌-◌, ◌<◌, ◌≤◌, length, slice_get, Some, None, IfOk, IfErr, IfSome, IfNone, IsTrue, ◌↔◌};
+ghost use Rattle.guppy_support.specs.Graph.{IsDigraph, IsRefused, IsEdgeAt, IsBefore, sources, targets};
+ghost use Rattle.guppy_support.specs.Paths.{HasEdge};
+ghost use Rattle.guppy_support.specs.Rows.{places};
+
+use crate::pack::{Rows, pack_rows};
+use std::alloc::{AllocError, Global};
+use std::marker::Model;
+
+/// An edge of a digraph. `non_dev` says that it isn't dev-only: such an edge orders its two ends inside a component.
+#[derive(Clone, Copy, Debug, Drop, PartialEq, Eq)]
+pub struct Edge {
+    pub from: usize,
+    pub to: usize,
+    pub non_dev: bool,
+}
+
+/// Why a list of edges makes no digraph.
+#[derive(Clone, Copy, Debug, Drop, PartialEq, Eq)]
+pub enum DigraphError {
+    /// An end of an edge isn't below the number of nodes.
+    BadNode,
+    /// An edge doesn't come after the one before it, by source and then by target.
+    Unsorted,
+    /// Memory ran out.
+    Memory,
+}
+
+/// Nodes, which are the numbers below a count, and edges, which ascend by source and then by target.
+#[derive(Debug, Drop)]
+pub struct Digraph {
+    nodes: usize,
+    edges: Vec<Edge>,
+    outward: Rows,
+    inward: Rows,
+}
+
+impl Model for Digraph {
+    ghost use Rattle.guppy_support.specs.Graph.{Graph, IsDigraph, sources, targets};
+    ghost use Rattle.guppy_support.specs.Rows.{IsPacked};
+
+    ghost Value = { Graph };
+
+    ghost view = { λ d. record { nodes = d.nodes; edges = d.edges.items } };
+
+    ghost invariant = { λ d.
+        IsDigraph (record { nodes = d.nodes; edges = d.edges.items })
+        × IsPacked d.nodes (sources d.edges.items) d.outward.begins.items d.outward.numbers.items
+        × IsPacked d.nodes (targets d.edges.items) d.inward.begins.items d.inward.numbers.items };
+}
+
+impl Digraph {
+    /// The digraph of these edges. They are examined in order, each edge's ends before its place; the first fault is the error.
+    pub fn new(alloc: Global, nodes: usize, edges: &[Edge]) -> Result<Digraph, DigraphError>
+        ensures made { IfOk result (λ g. g ≡ record { nodes = nodes; edges = edges.now }) }
+        ensures sound { IfOk result (λ g. IsDigraph g) }
+        ensures refused { IfErr result (λ e. IsRefused nodes edges.now e) }
+    {
+        if let Some(fault) = first_fault(nodes, edges) {
+            return Err(fault);
+        }
+        match Digraph::built(alloc, nodes, edges) {
+            Ok(graph) => Ok(graph),
+            Err(_) => Err(DigraphError::Memory),
+        }
+    }
+
+    fn built(alloc: Global, nodes: usize, edges: &[Edge]) -> Result<Digraph, AllocError>
+        requires { IsDigraph (record { nodes = nodes; edges = edges.now }) }
+        ensures { IfOk result (λ g. g ≡ record { nodes = nodes; edges = edges.now }) }
+    {
+        let from = sources_of(alloc, edges)?;
+        let to = targets_of(alloc, edges)?;
+        Ok(Digraph {
+            nodes,
+            edges: Vec::from_slice(alloc, edges)?,
+            outward: pack_rows(alloc, nodes, &from)?,
+            inward: pack_rows(alloc, nodes, &to)?,
+        })
+    }
+
+    /// How many nodes there are.
+    pub fn node_count(&self) -> usize
+        ensures { result ≡ self.now.nodes }
+    {
+        self.nodes
+    }
+
+    /// How many edges there are.
+    pub fn edge_count(&self) -> usize
+        ensures { result ≡ length self.now.edges }
+    {
+        self.edges.len()
+    }
+
+    /// Does nothing: its contract is what is true of each digraph.
+    pub fn facts(&self)
+        ensures { IsDigraph self.now }
+    {
+        let _nodes = self.nodes;
+    }
+
+    /// The edge of that number.
+    pub fn edge(&self, number: usize) -> Edge
+        requires { number < length self.now.edges }
+        ensures { slice_get self.now.edges number ≡ Some result }
+    {
+        self.edges[number]
+    }
+
+    /// The number of the edge that leads from one node to the other, by binary search.
+    pub fn edge_between(&self, from: usize, to: usize) -> Option<usize>
+        ensures some { IfSome result (IsEdgeAt self.now.edges from to) }
+        ensures none { IfNone result (¬ HasEdge self.now.edges from to) }
+    {
+        let mut low = 0;
+        let mut high = self.edges.len();
+        while low < high {
+            let middle = low + (high - low) / 2;
+            let edge = self.edges[middle];
+            if is_before((edge.from, edge.to), (from, to)) {
+                low = middle + 1;
+            } else if is_before((from, to), (edge.from, edge.to)) {
+                high = middle;
+            } else {
+                return Some(middle);
+            }
+        }
+        None
+    }
+
+    /// The numbers of the edges that leave the node, ascending.
+    pub fn out_edges(&self, node: usize) -> &[usize]
+        requires { node < self.now.nodes }
+        ensures { result.now ≡ places node (sources self.now.edges) }
+    {
+        &self.outward.numbers[self.outward.begins[node]..self.outward.begins[node + 1]]
+    }
+
+    /// The numbers of the edges that enter the node, ascending.
+    pub fn in_edges(&self, node: usize) -> &[usize]
+        requires { node < self.now.nodes }
+        ensures { result.now ≡ places node (targets self.now.edges) }
+    {
+        &self.inward.numbers[self.inward.begins[node]..self.inward.begins[node + 1]]
+    }
+}
+
+// The first fault of the edges, want of memory aside.
+fn first_fault(nodes: usize, edges: &[Edge]) -> Option<DigraphError>
+    ensures some { IfSome result (λ e. IsRefused nodes edges.now e) }
+    ensures none { IfNone result (IsDigraph (record { nodes = nodes; edges = edges.now })) }
+{
+    for place in 0..edges.len() {
+        let edge = edges[place];
+        if edge.from >= nodes || edge.to >= nodes {
+            return Some(DigraphError::BadNode);
+        }
+        if place > 0 {
+            let last = edges[place - 1];
+            if !is_before((last.from, last.to), (edge.from, edge.to)) {
+                return Some(DigraphError::Unsorted);
+            }
+        }
+    }
+    None
+}
+
+// Whether the first pair comes before the other.
+fn is_before(first: (usize, usize), other: (usize, usize)) -> bool
+    ensures { IsTrue result ↔ IsBefore first.0 first.1 other.0 other.1 }
+{
+    first.0 < other.0 || (first.0 == other.0 && first.1 < other.1)
+}
+
+fn sources_of(alloc: Global, edges: &[Edge]) -> Result<Vec<usize>, AllocError>
+    ensures { IfOk result (λ from. from.items ≡ sources edges.now) }
+{
+    edges.iter().map(|edge| edge.from).collect(alloc)
+}
+
+fn targets_of(alloc: Global, edges: &[Edge]) -> Result<Vec<usize>, AllocError>
+    ensures { IfOk result (λ to. to.items ≡ targets edges.now) }
+{
+    edges.iter().map(|edge| edge.to).collect(alloc)
+}
