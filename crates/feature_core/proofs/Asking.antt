@@ -1,16 +1,13 @@
-use Rattle.std.proofs.Common.{◌≡◌, ◌≢◌, ℕ, zero, suc, ◌+◌, ◌-◌, ◌<◌, ◌≤◌, Bool, true, false, not, ◌&&◌, ◌||◌, ◌⊎◌, List, [], ◌∷◌, ◌++◌, Option, Some, None, length, refl, sym, ◌∙◌, ap, subst, inl, inr, arith}
-use Rattle.std.specs.Prelude.{IsTrue, IsFalse, slice_get, ◌==◌}
-use Rattle.std.proofs.lemmas.Option.{slice_get_within}
+use Rattle.std.proofs.Common.{◌≡◌, ℕ, ◌<◌, Bool, true, false, List, [], ◌∷◌, ◌++◌, Option, Some, None, refl, sym, ◌∙◌, ap, subst, arith}
+use Rattle.std.specs.Prelude.{IsTrue, slice_get}
 use Rattle.feature_core.specs.declared.engine.Half.{Half}
-use Rattle.feature_core.specs.declared.engine.Half.TheVariants.{Full, Required, Optional}
-use Rattle.feature_core.specs.declared.engine.Ask.{Ask}
 use Rattle.feature_core.specs.declared.engine.Taken.{Taken}
-use Rattle.feature_core.specs.Walks.{Content, Way, Call, IsWay, has_half, Steps, AreOffers, MayAsk, numbers_where, told, taken_of}
-use Rattle.feature_core.specs.WalkProgress.{Field, Asks}
-use Rattle.feature_core.proofs.WayNumbers.{Numbers, number_way}
+use Rattle.feature_core.specs.Walks.{Content, Way, Call, IsWay, IsContent, has_half, GoesAlong, AreOffers, MayAsk, numbers_where, told, taken_of}
+use Rattle.feature_core.specs.WalkProgress.{Findings, Asks}
+use Rattle.feature_core.proofs.WayNumbers.{number_way}
 use Rattle.feature_core.proofs.WalkMoves.{call_of}
 
-steps_before : {O : Type 0} (gives : O → ℕ → Half → Bool → O → Type 0) (s : O) (e : ℕ) (h : Half) (b : Bool) (t : O) (run : List Call) (u : O) → gives s e h b t → Steps gives t run u → Steps gives s (run ++ call_of e h b ∷ []) u
+steps_before : {O : Type 0} (gives : O → ℕ → Half → Bool → O → Type 0) (s : O) (e : ℕ) (h : Half) (b : Bool) (t : O) (run : List Call) (u : O) → gives s e h b t → GoesAlong gives t run u → GoesAlong gives s (run ++ call_of e h b ∷ []) u
 steps_before gives s e h b t [] u g p = (s, refl, subst (λ x. gives s e h b x) p g)
 steps_before gives s e h b t (call ∷ before) u g (m, st, g') = (m, steps_before gives s e h b t before m g st, g')
 
@@ -19,7 +16,7 @@ offers_before c [] e h b w is half a = ((w, is, half), tt)
 offers_before c (call ∷ before) e h b w is half (one, a) = (one, offers_before c before e h b w is half a)
 
 -- after an offer each offer may be made still
-pub may_after : {O : Type 0} (can : O → ℕ → Half → Type 0) (gives : O → ℕ → Half → Bool → O → Type 0) (c : Content) (want : Bool) (e : ℕ) (h : Half) (far : ℕ) (s : O) (f : Field) (t : O) (g : Field) (w : Way) → IsWay c e w → (IsTrue want → IsTrue (has_half w.ask h)) → Asks gives want e h far s f t g → MayAsk can gives c s → MayAsk can gives c t
+pub may_after : {O : Type 0} (can : O → ℕ → Half → Type 0) (gives : O → ℕ → Half → Bool → O → Type 0) (c : Content) (want : Bool) (e : ℕ) (h : Half) (far : ℕ) (s : O) (f : Findings) (t : O) (g : Findings) (w : Way) → IsWay c e w → (IsTrue want → IsTrue (has_half w.ask h)) → Asks gives want e h far s f t g → MayAsk can gives c s → MayAsk can gives c t
 may_after can gives c false e h far s f t g w is half (p, q) may = subst (λ x. MayAsk can gives c x) (sym p) may
 may_after can gives c true e h far s f t g w is half (b, step, q) may =
     λ run u offers steps. may (run ++ call_of e h b ∷ []) u (offers_before c run e h b w is (half refl) offers) (steps_before gives s e h b t run u step steps)
@@ -57,3 +54,7 @@ none_at c p place (Some e) q h =
 
 pub unseen : (c : Content) (p : Way → Bool) (place : ℕ) → told c (slice_get (numbers_where p 0 c.ways) place) ≡ None → slice_get (numbers_where p 0 c.ways) place ≡ None
 unseen c p place h = none_at c p place (slice_get (numbers_where p 0 c.ways) place) refl h
+
+-- what is told of an edge leads to a node
+pub far_within : (c : Content) (p : Way → Bool) (place : ℕ) (taken : Taken) → IsContent c → told c (slice_get (numbers_where p 0 c.ways) place) ≡ Some taken → taken.far < c.nodes
+far_within c p place taken ends h = let k = seen c p place taken h in (ends taken.edge _ k.3).1

@@ -10,5 +10,7 @@ pub mod WalkMoves
 pub mod Asking
 pub mod WalkLoops
 pub mod WalkEnds
-pub mod WithinAll
 pub mod NodeLemmas
+pub mod LabelLemmas
+pub mod ReachLaws
+pub mod NameLemmas

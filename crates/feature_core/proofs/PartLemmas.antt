@@ -127,7 +127,7 @@ later_label table k label h is = ⊎_elim
     apart_optional d e = cc
 
 -- a node labelled base is its package's first
-base_back : (t : Tables) (n p : ℕ) → NodeAt t n p base → n ≡ first_node t p
+pub base_back : (t : Tables) (n p : ℕ) → NodeAt t n p base → n ≡ first_node t p
 base_back t n p h = let s = node_back t n p base h in go s s.place s.is_place s.is
   where
     go : (s : IsSpread labels_of t.packages n p base) (k : ℕ) → slice_get (labels_of s.row) k ≡ Some base → n ≡ first_node t p + k → n ≡ first_node t p

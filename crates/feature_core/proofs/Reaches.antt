@@ -1,10 +1,10 @@
-use Rattle.std.proofs.Common.{◌≡◌, ℕ, Bool, true, false, ◌&&◌, ◌||◌, ◌⊎◌, List, [], ◌∷◌, ◌++◌, Some, refl, sym, ◌∙◌, ap, subst, inl, inr, arith}
-use Rattle.std.specs.Prelude.{IsTrue, IsFalse, slice_get}
+use Rattle.std.proofs.Common.{◌≡◌, ℕ, Bool, ◌&&◌, ◌⊎◌, List, [], ◌∷◌, ◌++◌, Some, refl, sym, ◌∙◌, subst, inl, inr}
+use Rattle.std.specs.Prelude.{IsTrue}
 use Rattle.feature_core.specs.declared.engine.Half.{Half}
 use Rattle.feature_core.specs.declared.engine.Half.TheVariants.{Full, Required, Optional}
 use Rattle.feature_core.specs.declared.engine.Ask.{Ask}
 use Rattle.feature_core.specs.declared.engine.Ask.TheVariants as asks
-use Rattle.feature_core.specs.Walks.{Content, Way, Call, IsWay, has_half, is_open, Path, Reach}
+use Rattle.feature_core.specs.Walks.{Content, Way, IsWay, has_half, is_open, Path, Reach}
 use Rattle.feature_core.proofs.Answered.{or_cases, or_left, or_right, and_both, and_intro, clash}
 
 -- a number has one way

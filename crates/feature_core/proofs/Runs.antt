@@ -1,10 +1,10 @@
-use Rattle.std.proofs.Common.{◌≡◌, ℕ, Bool, true, false, ◌&&◌, ◌||◌, ◌⊎◌, List, [], ◌∷◌, ◌++◌, Some, refl, sym, ◌∙◌, ap, subst, inl, inr, arith}
-use Rattle.std.specs.Prelude.{IsTrue, IsFalse, slice_get, ◌↔◌}
+use Rattle.std.proofs.Common.{ℕ, Bool, ◌&&◌, List, [], ◌∷◌, refl, sym, ◌∙◌, subst, inl, inr}
+use Rattle.std.specs.Prelude.{IsTrue, IsFalse, ◌↔◌}
 use Rattle.feature_core.specs.declared.engine.Half.{Half}
 use Rattle.feature_core.specs.declared.engine.Half.TheVariants.{Full, Required, Optional}
 use Rattle.feature_core.specs.declared.engine.Ask.{Ask}
 use Rattle.feature_core.specs.declared.engine.Ask.TheVariants as asks
-use Rattle.feature_core.specs.Walks.{Content, Way, Call, IsWay, has_half, has_gate, has_turn, is_open, Path, Reach, was_made, was_accepted, is_of, IsDue, IsLegal, IsComplete, Agrees, IsClosed, Least}
+use Rattle.feature_core.specs.Walks.{Content, Way, Call, IsWay, has_half, has_gate, has_turn, Reach, was_made, was_accepted, is_of, IsDue, IsLegal, IsComplete, Agrees, IsClosed, Least}
 use Rattle.feature_core.proofs.Answered.{decide, or_cases, or_left, or_right, and_both, and_intro, clash, is_of_same}
 use Rattle.feature_core.proofs.Reaches.{same_way, reach_more, reach_in, open_cases, open_by, open_nobody}
 

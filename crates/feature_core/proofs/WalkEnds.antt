@@ -1,5 +1,5 @@
-use Rattle.std.proofs.Common.{◌≡◌, ◌≢◌, ℕ, zero, suc, ◌+◌, ◌-◌, ◌*◌, ◌<◌, ◌≤◌, Bool, true, false, not, ◌&&◌, ◌||◌, ◌⊎◌, List, [], ◌∷◌, ◌++◌, Option, Some, None, length, take, refl, sym, ◌∙◌, ap, subst, inl, inr, arith, append_assoc, length-append, length-take, cond}
-use Rattle.std.specs.Prelude.{IsTrue, IsFalse, slice_get, slice_index, ◌==◌, count_by, ◌↔◌}
+use Rattle.std.proofs.Common.{◌≡◌, ◌≢◌, ℕ, zero, suc, ◌+◌, ◌*◌, ◌<◌, ◌≤◌, Bool, true, false, not, ◌&&◌, ◌||◌, ◌⊎◌, List, [], ◌∷◌, ◌++◌, Some, length, take, refl, sym, ◌∙◌, ap, subst, inl, inr, arith, length-append, length-take, cond}
+use Rattle.std.specs.Prelude.{IsTrue, IsFalse, slice_get, ◌==◌, count_by, ◌↔◌}
 use Rattle.std.proofs.lemmas.Bool.{eqb-true, eq-eqb}
 use Rattle.std.proofs.lemmas.List.{take-append-le}
 use Rattle.std.proofs.lemmas.List.Sums.{count_by-le-length, sum_by-cons}
@@ -10,16 +10,17 @@ use Rattle.feature_core.specs.declared.engine.Ask.{Ask}
 use Rattle.feature_core.specs.declared.engine.Ask.TheVariants as asks
 use Rattle.guppy_support.specs.Bits.{has, members}
 use Rattle.std.specs.List.{range_with_len}
-use Rattle.feature_core.specs.Walks.{edges_from, edges_gated_by, Content, Way, Call, IsWay, Reach, IsDue, IsComplete, IsWalk, was_made, was_accepted, has_half, has_gate, is_gated, is_in, numbers_where, starting, releasing}
+use Rattle.feature_core.specs.Walks.{edges_from, edges_gated_by, Content, Way, IsWay, Reach, IsDue, IsWalk, LegalRun, was_accepted, has_gate, is_gated, is_in, numbers_where, starting, releasing}
 use Rattle.feature_core.specs.declared.engine.Step.{Step}
 use Rattle.feature_core.specs.declared.engine.StepReason.{StepReason}
-use Rattle.feature_core.specs.declared.engine.StepReason.TheVariants.{Initial, Edge, Offer}
-use Rattle.std.specs.Prelude.{map, filter}
-use Rattle.feature_core.specs.WalkProgress.{Explains, IsExplainedWalk, IsReason, Field, noted, IsAt, Distinct, Extends, TakesAll, FreesAll, missing, of_way, passes, reads_of, IsDone, Begun}
+use Rattle.feature_core.specs.declared.engine.StepReason.TheVariants.{Initial}
+use Rattle.std.specs.Prelude.{filter}
+use Rattle.feature_core.specs.Explanations.{IsReason, HasReasons, Distinct, nodes_of, IsExplainedWalk}
+use Rattle.feature_core.specs.WalkProgress.{Findings, noted, Extends, TakesAll, FreesAll, TakesStopped, FreesStopped, of_way, passes, reads_of, IsDone, Begun}
 use Rattle.feature_core.proofs.Answered.{decide, clash, or_left, or_right, or_cases, and_both, and_intro}
-use Rattle.feature_core.proofs.Reaches.{same_way, reach_in, open_cases}
+use Rattle.feature_core.proofs.Reaches.{reach_in, open_cases}
 use Rattle.feature_core.proofs.Runs.{members_least}
-use Rattle.feature_core.proofs.WayNumbers.{number_way, number_in, numbers_distinct, not_before, is_in_at, take_is_in, length-numbers, count_by_same, count_by_either}
+use Rattle.feature_core.proofs.WayNumbers.{number_way, number_in, not_before, is_in_at, take_is_in, length-numbers, count_by_same, count_by_either}
 use Rattle.feature_core.proofs.WalkLoops.{at_same, eqb_swap}
 use Rattle.feature_core.proofs.WalkMoves.{noted_ordered, noted_distinct, noted_named}
 use Rattle.feature_core.proofs.WayNumbers.{marked_set, marked_grows, marked_cases, snoc_cases}
@@ -79,24 +80,35 @@ listed order order' next node k (more, q) here =
     ap (λ (xs : List ℕ). is_in (take (suc next) xs) k) q ∙ (ap (λ (xs : List ℕ). is_in xs k) (take-append-le (suc next) order more h') ∙ (take_is_in order next node k here ∙ ap (λ (b : Bool). is_in (take next order) k || b) (eqb_swap node k)))
 
 module _ {O : Type 0} (c : Content) (I : ℕ → Bool) (gives : O → ℕ → Half → Bool → O → Type 0) (s0 : O) where
-  -- one more member is done
-  pub done_more : (s t u : O) (f g h : Field) (counts counts' counts'' : List ℕ) (next node : ℕ) → slice_get f.order next ≡ Some node → IsDone c I gives s0 (take next f.order) s f counts → TakesAll c gives node s f counts t g counts' → FreesAll c gives node t g counts' u h counts'' → Extends f h → IsDone c I gives s0 (take (suc next) h.order) u h counts''
-  done_more s t u f g h counts counts' counts'' next node here done takes frees grown =
-      let xs = take next f.order in
-      let out : IsFalse (is_in xs node) = not_before f.order next node done.core.distinct here in
-      let member : IsTrue (has f.marks node) = done.core.ordered node ∙ is_in_at f.order next node here in
-      let T = passes c (λ (w : Way). is_in xs w.start) in
-      let G = passes c (λ (w : Way). is_gated w.ask && is_in xs w.gate) in
-      let untaken = λ (e : ℕ) (q : IsTrue (is_in (starting c node) e)).
+  -- the edges of a member that is next were not taken or released yet
+  untaken : (xs : List ℕ) (node : ℕ) → IsFalse (is_in xs node) → (e : ℕ) → IsTrue (is_in (starting c node) e) → IsFalse (passes c (λ w. is_in xs w.start) e)
+  untaken xs node out e q =
       let way = way_of c (λ (w : Way). w.start == node) e q in
-      let r : IsFalse (T e) = passes_way c (λ (w : Way). is_in xs w.start) e way.0 way.1 ∙ (ap (is_in xs) (eqb-true way.0.start node way.2) ∙ out) in r in
-      let unfreed = λ (e : ℕ) (q : IsTrue (is_in (releasing c node) e)).
+      passes_way c (λ (w : Way). is_in xs w.start) e way.0 way.1 ∙ (ap (is_in xs) (eqb-true way.0.start node way.2) ∙ out)
+
+  unfreed : (xs : List ℕ) (node : ℕ) → IsFalse (is_in xs node) → (e : ℕ) → IsTrue (is_in (releasing c node) e) → IsFalse (passes c (λ w. is_gated w.ask && is_in xs w.gate) e)
+  unfreed xs node out e q =
       let way = way_of c (λ (w : Way). is_gated w.ask && (w.gate == node)) e q in
       let both = and_both (is_gated way.0.ask) (way.0.gate == node) way.2 in
-      let r : IsFalse (G e) = passes_way c (λ (w : Way). is_gated w.ask && is_in xs w.gate) e way.0 way.1 ∙ and_none (is_gated way.0.ask) (is_in xs way.0.gate) (ap (is_in xs) (eqb-true way.0.gate node both.1) ∙ out) in r in
-      let one = takes I s0 T G untaken member done in
-      let two = frees I s0 (λ (e : ℕ). is_in (starting c node) e || T e) G unfreed one.0 one.1 in
-      at_same c gives I s0 (λ (e : ℕ). is_in (starting c node) e || T e) (λ (e : ℕ). is_in (releasing c node) e || G e) (passes c (λ w. is_in (take (suc next) h.order) w.start)) (passes c (λ w. is_gated w.ask && is_in (take (suc next) h.order) w.gate)) u h counts''
+      passes_way c (λ (w : Way). is_gated w.ask && is_in xs w.gate) e way.0 way.1 ∙ and_none (is_gated way.0.ask) (is_in xs way.0.gate) (ap (is_in xs) (eqb-true way.0.gate node both.1) ∙ out)
+
+  -- the member that is next
+  is_member : (s : O) (f : Findings) (met : List Bool) (next node : ℕ) → slice_get f.order next ≡ Some node → IsDone c I gives s0 (take next f.order) s f met → IsTrue (has f.members node)
+  is_member s f met next node here done = done.core.ordered node ∙ is_in_at f.order next node here
+
+  is_new : (s : O) (f : Findings) (met : List Bool) (next node : ℕ) → slice_get f.order next ≡ Some node → IsDone c I gives s0 (take next f.order) s f met → IsFalse (is_in (take next f.order) node)
+  is_new s f met next node here done = not_before f.order next node done.core.distinct here
+
+  -- one more member is done
+  pub done_more : (s t u : O) (f g h : Findings) (met met' met'' : List Bool) (next node : ℕ) → slice_get f.order next ≡ Some node → IsDone c I gives s0 (take next f.order) s f met → TakesAll c gives node s f met t g met' → FreesAll c gives node t g met' u h met'' → Extends f h → IsDone c I gives s0 (take (suc next) h.order) u h met''
+  done_more s t u f g h met met' met'' next node here done takes frees grown =
+      let xs = take next f.order in
+      let out = is_new s f met next node here done in
+      let T = passes c (λ (w : Way). is_in xs w.start) in
+      let G = passes c (λ (w : Way). is_gated w.ask && is_in xs w.gate) in
+      let one = takes I s0 T G (untaken xs node out) (is_member s f met next node here done) done in
+      let two = frees I s0 (λ (e : ℕ). is_in (starting c node) e || T e) G (unfreed xs node out) one.0 one.1 in
+      at_same c gives I s0 (λ (e : ℕ). is_in (starting c node) e || T e) (λ (e : ℕ). is_in (releasing c node) e || G e) (passes c (λ w. is_in (take (suc next) h.order) w.start)) (passes c (λ w. is_gated w.ask && is_in (take (suc next) h.order) w.gate)) u h met''
       (λ e w is. passes_way c (λ (v : Way). is_in (take (suc next) h.order) v.start) e w is
       ∙ (listed f.order h.order next node w.start grown here
       ∙ (or_comm (is_in xs w.start) (w.start == node)
@@ -107,43 +119,61 @@ module _ {O : Type 0} (c : Content) (I : ℕ → Bool) (gives : O → ℕ → Ha
       ∙ sym (ap (λ (b : Bool). b || G e) (number_in (λ (v : Way). is_gated v.ask && (v.gate == node)) 0 c.ways e e w (omega arith) is) ∙ ap (λ (b : Bool). (is_gated w.ask && (w.gate == node)) || b) (passes_way c (λ (v : Way). is_gated v.ask && is_in xs v.gate) e w is)))))
       two.1
 
+  -- where it stops at a member's edges, what was called is a legal run
+  pub stopped_taking : (s t : O) (f : Findings) (met : List Bool) (next node : ℕ) → slice_get f.order next ≡ Some node → IsDone c I gives s0 (take next f.order) s f met → TakesStopped c gives node s f met t → LegalRun c I gives s0 t
+  stopped_taking s t f met next node here done stopped =
+      let xs = take next f.order in
+      stopped I s0 (passes c (λ w. is_in xs w.start)) (passes c (λ w. is_gated w.ask && is_in xs w.gate)) (untaken xs node (is_new s f met next node here done)) (is_member s f met next node here done) done
+
+  pub stopped_freeing : (s t u : O) (f g : Findings) (met met' : List Bool) (next node : ℕ) → slice_get f.order next ≡ Some node → IsDone c I gives s0 (take next f.order) s f met → TakesAll c gives node s f met t g met' → FreesStopped c gives node t g met' u → LegalRun c I gives s0 u
+  stopped_freeing s t u f g met met' next node here done takes stopped =
+      let xs = take next f.order in
+      let out = is_new s f met next node here done in
+      let T = passes c (λ (w : Way). is_in xs w.start) in
+      let G = passes c (λ (w : Way). is_gated w.ask && is_in xs w.gate) in
+      let one = takes I s0 T G (untaken xs node out) (is_member s f met next node here done) done in
+      stopped I s0 (λ e. is_in (starting c node) e || T e) G (unfreed xs node out) one.0 one.1
+
   -- when all members are done, the walk is whole
-  pub finished : (s : O) (f : Field) (counts : List ℕ) → IsDone c I gives s0 f.order s f counts → IsWalk c I gives s0 s (has f.marks)
-  finished s f counts done =
+  pub finished : (s : O) (f : Findings) (met : List Bool) → IsDone c I gives s0 f.order s f met → IsWalk c I gives s0 s (has f.members)
+  finished s f met done =
       let run = done.run in
       let T = passes c (λ (w : Way). is_in f.order w.start) in
       let G = passes c (λ (w : Way). is_gated w.ask && is_in f.order w.gate) in
-      let started = λ (e : ℕ) (w : Way) (is : IsWay c e w) (m : IsTrue (has f.marks w.start)).
+      let started = λ (e : ℕ) (w : Way) (is : IsWay c e w) (m : IsTrue (has f.members w.start)).
       let r : IsTrue (T e) = passes_way c (λ (v : Way). is_in f.order v.start) e w is ∙ (sym (done.core.ordered w.start) ∙ m) in r in
-      let reached = reach_in c I (was_accepted run) (λ n. IsTrue (has f.marks n)) done.core.initial (λ e w is op m. elim (open_cases (was_accepted run) e w.ask op) [
+      let reached = reach_in c I (was_accepted run) (λ n. IsTrue (has f.members n)) done.core.initial (λ e w is op m. elim (open_cases (was_accepted run) e w.ask op) [
         | inl p ↦ done.unasked e w is p (started e w is m)
         | inr p ↦ done.accepted e p.0 w is p.2
       ]) in
       let complete = λ (e : ℕ) (h : Half) (due : IsDue c I run e h).
       let r : ⊥ = clash (done.made e h due.way due.is_way due.half ∙ and_intro (T e) (not (has_gate due.way.ask h) || G e) (started e due.way due.is_way (reached due.way.start due.start)) (gate_met (has_gate due.way.ask h) (G e) (λ q.
       passes_way c (λ (v : Way). is_gated v.ask && is_in f.order v.gate) e due.way due.is_way ∙ and_intro (is_gated due.way.ask) (is_in f.order due.way.gate) (gate_gated due.way.ask h q) (sym (done.core.ordered due.way.gate) ∙ reached due.way.gate (due.gate q))))) due.fresh in r in
-      let members = λ (n : ℕ). let r : IsTrue (has f.marks n) ↔ Reach c I (was_accepted run) n = (done.core.sound n, reached n) in r in
+      let members = λ (n : ℕ). let r : IsTrue (has f.members n) ↔ Reach c I (was_accepted run) n = (done.core.sound n, reached n) in r in
       record {
         run = run;
         calls = done.core.calls;
         legal = done.core.legal;
         complete = complete;
         members = members;
-        least = members_least c I (has f.marks) run done.core.legal complete members;
+        least = members_least c I (has f.members) run done.core.legal complete members;
       }
 
-  pub finished_explained : (s : O) (f : Field) (counts : List ℕ) → IsDone c I gives s0 f.order s f counts → f.order ≡ map (λ x. x.node) f.steps → IsExplainedWalk c I gives s0 s (has f.marks) f.steps
+  pub finished_explained : (s : O) (f : Findings) (met : List Bool) → IsDone c I gives s0 f.order s f met → IsExplainedWalk c I gives s0 s (has f.members) f.steps f.refused
   unfolding finished
-  finished_explained s f counts done named =
+  finished_explained s f met done =
       record {
-        walk = finished s f counts done;
-        listed = λ n. done.core.ordered n ∙ ap (λ (xs : List ℕ). is_in xs n) named;
-        once = subst Distinct named done.core.distinct;
-        explained = subst (λ (xs : List ℕ). Explains c I (was_accepted done.run) xs f.steps) named done.core.explained;
+        walk = finished s f met done;
+        explanation = record {
+          once = subst Distinct done.core.named done.core.distinct;
+          reasons = subst (λ (xs : List ℕ). HasReasons c I (was_accepted done.run) xs f.steps) done.core.named done.core.explained;
+        };
+        listed = λ n. done.core.ordered n ∙ ap (λ (xs : List ℕ). is_in xs n) done.core.named;
+        refused_in_order = done.core.told;
       }
 
-  pub started_none : (s : O) (f : Field) (counts : List ℕ) → s0 ≡ s → Begun I f → ((e : ℕ) → e < length c.ways → slice_index counts e ≡ 2) → IsDone c I gives s0 [] s f counts
-  started_none s f counts same begun two =
+  pub started_none : (s : O) (f : Findings) (met : List Bool) → s0 ≡ s → Begun I f → ((e : ℕ) → IsFalse (has met e)) → IsDone c I gives s0 [] s f met
+  started_none s f met same begun unmet =
       record {
         run = [];
         core = record {
@@ -155,16 +185,17 @@ module _ {O : Type 0} (c : Content) (I : ℕ → Bool) (gives : O → ℕ → Ha
           distinct = begun.distinct;
           named = begun.named;
           explained = λ k step q. let r = begun.reasons k step q in subst (λ (why : StepReason). IsReason c I (was_accepted []) (take k f.order) step.node why) (sym r.0) r.1;
+          told = begun.silent;
         };
         accepted = λ e h w is a. absurd (clash a refl);
         started = λ e w is t. absurd (clash t (passes_way c (λ v. false) e w is));
         freed = λ e w is t. absurd (clash t (passes_way c (λ v. is_gated v.ask && false) e w is ∙ and_none (is_gated w.ask) false refl));
         unasked = λ e w is p t. absurd (clash t (passes_way c (λ v. false) e w is));
         made = λ e h w is given. let f : passes c (λ v. false) e ≡ false = passes_way c (λ v. false) e w is in rw f refl;
-        counted = λ e w is q.
+        came = λ e w is q.
             let f : passes c (λ v. false) e ≡ false = passes_way c (λ v. false) e w is in
             let g : passes c (λ v. is_gated v.ask && false) e ≡ false = passes_way c (λ v. is_gated v.ask && false) e w is ∙ and_none (is_gated w.ask) false refl in
-            rw (f, g) (two e (slice_get_within c.ways e w is));
+            rw (f, g) (unmet e);
       }
 
 length_more : (order : List ℕ) (next node : ℕ) → slice_get order next ≡ Some node → length (take (suc next) order) ≡ length (take next order) + 1
@@ -219,18 +250,19 @@ pub in_member : (set : List Bool) (n : ℕ) → IsTrue (is_in (members set) n) �
 in_member set n t = (and_both (has set n) (is_in (range_with_len 0 (length set)) n) (sym (in_filter (λ (k : ℕ). has set k) (range_with_len 0 (length set)) n) ∙ t)).0
 
 -- the initial nodes but those that are left were noted, and no others
-pub record BegunBut (I : List Bool) (rest : List ℕ) (f : Field) : Type 0 where
-  pub named : f.order ≡ map (λ s. s.node) f.steps
+pub record BegunBut (I : List Bool) (rest : List ℕ) (f : Findings) : Type 0 where
+  pub named : f.order ≡ nodes_of f.steps
   pub reasons : (k : ℕ) (step : Step) → slice_get f.steps k ≡ Some step → (step.reason ≡ Initial) × IsTrue (has I step.node)
-  pub initial : (n : ℕ) → IsTrue (has I n) → IsTrue (has f.marks n) ⊎ IsTrue (is_in rest n)
+  pub initial : (n : ℕ) → IsTrue (has I n) → IsTrue (has f.members n) ⊎ IsTrue (is_in rest n)
   pub left : (n : ℕ) → IsTrue (is_in rest n) → IsTrue (has I n)
-  pub only : (n : ℕ) → IsTrue (has f.marks n) → IsTrue (has I n)
-  pub ordered : (n : ℕ) → has f.marks n ≡ is_in f.order n
+  pub only : (n : ℕ) → IsTrue (has f.members n) → IsTrue (has I n)
+  pub ordered : (n : ℕ) → has f.members n ≡ is_in f.order n
   pub distinct : Distinct f.order
+  pub silent : f.refused ≡ []
 
-noted_reasons : (I : List Bool) (f : Field) (i : ℕ) → IsTrue (has I i) → ((k : ℕ) (step : Step) → slice_get f.steps k ≡ Some step → (step.reason ≡ Initial) × IsTrue (has I step.node)) → (k : ℕ) (step : Step) → slice_get (noted f i Initial).steps k ≡ Some step → (step.reason ≡ Initial) × IsTrue (has I step.node)
+noted_reasons : (I : List Bool) (f : Findings) (i : ℕ) → IsTrue (has I i) → ((k : ℕ) (step : Step) → slice_get f.steps k ≡ Some step → (step.reason ≡ Initial) × IsTrue (has I step.node)) → (k : ℕ) (step : Step) → slice_get (noted f i Initial).steps k ≡ Some step → (step.reason ≡ Initial) × IsTrue (has I step.node)
 noted_reasons I f i t b =
-    elim (decide (has f.marks i)) [
+    elim (decide (has f.members i)) [
       | inl m ↦ rw m b
       | inr m ↦ rw m (λ k step h. elim (snoc_cases f.steps (record { node = i; reason = Initial }) k step h) [
         | inl p ↦ b k step p
@@ -239,7 +271,7 @@ noted_reasons I f i t b =
     ]
 
 -- before the first
-pub begun_none : (I : List Bool) (f : Field) → Begun (λ _. false) f → BegunBut I (members I) f
+pub begun_none : (I : List Bool) (f : Findings) → Begun (λ _. false) f → BegunBut I (members I) f
 begun_none I f b =
     record {
       named = b.named;
@@ -249,40 +281,42 @@ begun_none I f b =
       only = λ n m. absurd (clash (b.only n m) refl);
       ordered = b.ordered;
       distinct = b.distinct;
+      silent = b.silent;
     }
 
 -- the next that is left
-pub next_initial : (I : List Bool) (i : ℕ) (rest : List ℕ) (f : Field) → BegunBut I (i ∷ rest) f → IsTrue (has I i)
+pub next_initial : (I : List Bool) (i : ℕ) (rest : List ℕ) (f : Findings) → BegunBut I (i ∷ rest) f → IsTrue (has I i)
 next_initial I i rest f b = b.left i (or_left (i == i) (is_in rest i) (eq-eqb i i refl))
 
-pub begun_note : (I : List Bool) (i : ℕ) (rest : List ℕ) (f : Field) → i < length f.marks → BegunBut I (i ∷ rest) f → BegunBut I rest (noted f i Initial)
+pub begun_note : (I : List Bool) (i : ℕ) (rest : List ℕ) (f : Findings) → i < length f.members → BegunBut I (i ∷ rest) f → BegunBut I rest (noted f i Initial)
 begun_note I i rest f h b =
     let t = next_initial I i rest f b in
     record {
       named = noted_named f i Initial b.named;
       reasons = noted_reasons I f i t b.reasons;
       initial = λ n m. elim (b.initial n m) [
-        | inl p ↦ inl (marked_grows f.marks i n h p)
+        | inl p ↦ inl (marked_grows f.members i n h p)
         | inr p ↦ elim (or_cases (i == n) (is_in rest n) p) [
-          | inl q ↦ inl (subst (λ (k : ℕ). IsTrue (has (noted f i Initial).marks k)) (eqb-true i n q) (marked_set f.marks i h))
+          | inl q ↦ inl (subst (λ (k : ℕ). IsTrue (has (noted f i Initial).members k)) (eqb-true i n q) (marked_set f.members i h))
           | inr q ↦ inr q
         ]
       ];
       left = λ n m. b.left n (or_right (i == n) (is_in rest n) m);
-      only = λ n m. elim (marked_cases f.marks i n m) [ inl p ↦ subst (λ (k : ℕ). IsTrue (has I k)) (sym p) t | inr p ↦ b.only n p ];
+      only = λ n m. elim (marked_cases f.members i n m) [ inl p ↦ subst (λ (k : ℕ). IsTrue (has I k)) (sym p) t | inr p ↦ b.only n p ];
       ordered = noted_ordered f i Initial h b.ordered;
       distinct = noted_distinct f i Initial b.ordered b.distinct;
+      silent = b.silent;
     }
 
 -- after the last
-pub begun_all : (I : List Bool) (f : Field) → BegunBut I [] f → Begun (has I) f
+pub begun_all : (I : List Bool) (f : Findings) → BegunBut I [] f → Begun (has I) f
 begun_all I f b =
-    record { named = b.named; reasons = b.reasons; initial = λ n m. elim (b.initial n m) [ inl p ↦ p | inr p ↦ absurd (clash p refl) ]; only = b.only; ordered = b.ordered; distinct = b.distinct }
+    record { named = b.named; reasons = b.reasons; initial = λ n m. elim (b.initial n m) [ inl p ↦ p | inr p ↦ absurd (clash p refl) ]; only = b.only; ordered = b.ordered; distinct = b.distinct; silent = b.silent }
 
-pub take_extends : (f g : Field) (k : ℕ) → k ≤ length f.order → Extends f g → take k g.order ≡ take k f.order
+pub take_extends : (f g : Findings) (k : ℕ) → k ≤ length f.order → Extends f g → take k g.order ≡ take k f.order
 take_extends f g k h (more, q) = ap (take k) q ∙ take-append-le k f.order more h
 
-pub longer : (f g : Field) → Extends f g → length f.order ≤ length g.order
+pub longer : (f g : Findings) → Extends f g → length f.order ≤ length g.order
 longer f g (more, q) = omega (arith, length-append f.order more, ap length q)
 
 -- a bound on the reads
@@ -304,6 +338,8 @@ reads_none c = omega (arith, no_count (λ (w : Way). false) (λ w. refl) c.ways,
 -- the reads by the members in place of their list
 pub reads_members : (c : Content) (M : ℕ → Bool) (order : List ℕ) → ((n : ℕ) → M n ≡ is_in order n) → reads_of c order ≡ 2 * length order + edges_from c M + edges_gated_by c M
 reads_members c M order same =
-    omega (arith,
+    omega (
+      arith,
       count_by_same (λ (w : Way). is_in order w.start) (λ (w : Way). M w.start) (λ w. sym (same w.start)) c.ways,
-      count_by_same (λ (w : Way). is_gated w.ask && is_in order w.gate) (λ (w : Way). is_gated w.ask && M w.gate) (λ w. ap (λ (b : Bool). is_gated w.ask && b) (sym (same w.gate))) c.ways)
+      count_by_same (λ (w : Way). is_gated w.ask && is_in order w.gate) (λ (w : Way). is_gated w.ask && M w.gate) (λ w. ap (λ (b : Bool). is_gated w.ask && b) (sym (same w.gate))) c.ways,
+    )

@@ -1,12 +1,12 @@
-use Rattle.std.proofs.Common.{◌≡◌, ◌≢◌, ℕ, zero, suc, ◌+◌, ◌<◌, ◌≤◌, Bool, true, false, cond, ◌&&◌, ◌||◌, ◌⊎◌, List, [], ◌∷◌, ◌++◌, Option, Some, None, length, get_or, take, set, refl, sym, ◌∙◌, ap, subst, inl, inr, arith, get_or-set_other, get_or-set_same}
+use Rattle.std.proofs.Common.{◌≡◌, ◌≢◌, ℕ, zero, suc, ◌+◌, ◌<◌, ◌≤◌, Bool, true, false, cond, ◌||◌, ◌⊎◌, List, [], ◌∷◌, ◌++◌, Some, length, take, refl, sym, ◌∙◌, ap, subst, inl, inr, arith, get_or-set_other, get_or-set_same}
 use Rattle.std.specs.Prelude.{IsTrue, IsFalse, slice_get, slice_set, ◌==◌, count_by, if◌then◌else◌}
 use Rattle.std.proofs.lemmas.List.Sums.{count_by-le-length, sum_by-cons}
 use Rattle.std.proofs.lemmas.Bool.{eqb-true, eq-eqb}
 use Rattle.std.proofs.lemmas.Bool.Decides.{eqb_tells}
 use Rattle.guppy_support.specs.Bits.{has}
-use Rattle.feature_core.specs.Walks.{Content, Way, Call, IsWay, numbers_where, starting, is_in}
-use Rattle.feature_core.specs.WalkProgress.{Field, noted, Distinct}
-use Rattle.feature_core.proofs.Answered.{decide, or_cases, or_left, or_right, and_both, and_intro, clash}
+use Rattle.feature_core.specs.Walks.{Way, numbers_where, is_in}
+use Rattle.feature_core.specs.Explanations.{Distinct}
+use Rattle.feature_core.proofs.Answered.{decide, or_cases, or_left, or_right, clash}
 
 pub marked_set : (marks : List Bool) (n : ℕ) → n < length marks → IsTrue (has (slice_set marks n true) n)
 marked_set marks n h = rw get_or-set_same refl

@@ -6,4 +6,8 @@ pub mod Adds
 pub mod Keys
 pub mod Parts
 pub mod Walks
+pub mod Explanations
+pub mod Laws
 pub mod WalkProgress
+pub mod Errors
+pub mod Built

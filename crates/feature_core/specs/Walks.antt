@@ -1,4 +1,5 @@
-use Rattle.std.specs.Prelude.{◌≡◌, ◌+◌, ℕ, zero, suc, slice_index_or, if◌then◌else◌, Bool, true, false, List, [], ◌∷◌, Option, Some, None, slice_get, IsTrue, IsFalse, ◌&&◌, ◌||◌, ◌==◌, not, ◌<◌, ◌≤◌, ◌↔◌, ◌⊎◌, length, count_by}
+-- Walks over edges, some of which are offered before they are followed.
+use Rattle.std.specs.Prelude.{◌≡◌, ℕ, suc, if◌then◌else◌, Bool, true, false, List, [], ◌∷◌, Option, Some, None, slice_get, IsTrue, IsFalse, ◌&&◌, ◌||◌, ◌==◌, ◌<◌, ◌↔◌, count_by}
 use Rattle.feature_core.specs.declared.engine.Half.{Half}
 use Rattle.feature_core.specs.declared.engine.Half.TheVariants.{Full, Required, Optional}
 use Rattle.feature_core.specs.declared.engine.Ask.{Ask}
@@ -119,14 +120,18 @@ abbrev pub Least : Content → (ℕ → Bool) → (ℕ → Half → Bool) → �
 Least c I A n = (S : ℕ → Bool) → IsClosed c I A (λ k. IsTrue (S k)) → IsTrue (S n)
 
 -- the states of an offerer along the run
-abbrev pub Steps : {O : Type 0} → (O → ℕ → Half → Bool → O → Type 0) → O → List Call → O → Type 0
-Steps gives s [] t = s ≡ t
-Steps {O} gives s (call ∷ before) t = (m : O) × Steps gives s before m × gives m call.edge call.half call.answer t
+abbrev pub GoesAlong : {O : Type 0} → (O → ℕ → Half → Bool → O → Type 0) → O → List Call → O → Type 0
+GoesAlong gives s [] t = s ≡ t
+GoesAlong {O} gives s (call ∷ before) t = (m : O) × GoesAlong gives s before m × gives m call.edge call.half call.answer t
+
+-- a legal run of calls leads the offerer from one state to the other
+abbrev pub LegalRun : {O : Type 0} → Content → (ℕ → Bool) → (O → ℕ → Half → Bool → O → Type 0) → O → O → Type 0
+LegalRun c I gives s t = (run : List Call) × GoesAlong gives s run t × IsLegal c I run
 
 -- what a walk that found memory did
 pub record IsWalk {O : Type 0} (c : Content) (I : ℕ → Bool) (gives : O → ℕ → Half → Bool → O → Type 0) (s t : O) (M : ℕ → Bool) : Type 0 where
   pub run : List Call
-  pub calls : Steps gives s run t
+  pub calls : GoesAlong gives s run t
   pub legal : IsLegal c I run
   pub complete : IsComplete c I run
   pub members : (n : ℕ) → IsTrue (M n) ↔ Reach c I (was_accepted run) n
@@ -140,9 +145,9 @@ is_in (x ∷ xs) n = (x == n) || is_in xs n
 abbrev pub is_gated : Ask → Bool
 is_gated ask = has_gate ask Optional
 
--- the ends of an edge that one follows are nodes
+-- the ends of each edge are nodes, and so is its gate where a half waits for it
 abbrev pub IsContent : Content → Type 0
-IsContent c = (e : ℕ) (w : Way) → IsWay c e w → w.far < c.nodes
+IsContent c = (e : ℕ) (w : Way) → IsWay c e w → (w.start < c.nodes) × (w.far < c.nodes) × (IsTrue (is_gated w.ask) → w.gate < c.nodes)
 
 -- the numbers from `first` on of the ways that pass, ascending
 abbrev pub numbers_where : (Way → Bool) → ℕ → List Way → List ℕ
@@ -172,7 +177,7 @@ AreOffers c (call ∷ before) = ((w : Way) × IsWay c call.edge w × IsTrue (has
 
 -- every offer may be made, in every state that offers lead to
 abbrev pub MayAsk : {O : Type 0} → (O → ℕ → Half → Type 0) → (O → ℕ → Half → Bool → O → Type 0) → Content → O → Type 0
-MayAsk {O} can gives c s = (run : List Call) (t : O) → AreOffers c run → Steps gives s run t → (e : ℕ) (h : Half) (w : Way) → IsWay c e w → IsTrue (has_half w.ask h) → can t e h
+MayAsk {O} can gives c s = (run : List Call) (t : O) → AreOffers c run → GoesAlong gives s run t → (e : ℕ) (h : Half) (w : Way) → IsWay c e w → IsTrue (has_half w.ask h) → can t e h
 
 -- how many edges start in the set, and how many have their gate in it
 abbrev pub edges_from : Content → (ℕ → Bool) → ℕ

@@ -1,7 +1,7 @@
 -- Lists that are sorted, without repeats and searched, seen through a function of their elements.
-use Rattle.std.proofs.Common.{◌≡◌, ℕ, ◌+◌, ◌<◌, List, [], ◌∷◌, ◌↔◌, Bool, true, false, Result, Ok, Err, IsTrue, length, map, get_or, refl, ap, ◌∙◌, arith, cond, inl, inr}
+use Rattle.std.proofs.Common.{◌≡◌, ℕ, ◌+◌, ◌<◌, ◌≤◌, List, [], ◌∷◌, ◌↔◌, Bool, true, false, Option, Some, None, Result, Ok, Err, IsTrue, length, map, get_or, refl, ap, ◌∙◌, arith, cond, inl, inr}
 use Rattle.std.specs.Cmp.{IsTotalOrder}
-use Rattle.std.specs.List.{Contains, dedup, dedup_from}
+use Rattle.std.specs.List.{AllByRecursion, Contains, cons_option, dedup, dedup_from, filter_map}
 use Rattle.std.specs.List.Sorted.{IsSorted, IsStrictlySortedBy, IsBinarySearchResult, IsSearchInRange, IsNonDecreasingBy}
 use Rattle.std.specs.Ordering.{ordering_index}
 use Rattle.std.specs.Result.{is_ok}
@@ -68,3 +68,24 @@ found_from_search {K} {R} o exact ks k s (Err i) below h =
           let at : R (get_or ks has.0 k) k ≡ Equal = ap (λ y. R y k) has.2 ∙ itself in
           absurd (elim (cases_lt has.0 i) [ inl before ↦ (let less : R (get_or ks has.0 k) k ≡ Less = parts.0 has.0 k (omega arith) before in cc) | inr from ↦ (let greater : R (get_or ks has.0 k) k ≡ Greater = parts.1 has.0 k from has.1 in cc) ]),
     )
+
+-- a partial function gives no more than there are elements
+pub length_filter_map_le : {K X : Type 0} (h : K → Option X) (ks : List K) → length (filter_map h ks) ≤ length ks
+length_filter_map_le h [] = omega arith
+length_filter_map_le {K} {X} h (k ∷ ks) =
+    let rest = length_filter_map_le h ks in
+    elim (h k) as (λ o. length (cons_option o (filter_map h ks)) ≤ length (k ∷ ks)) [ None ↦ omega arith | Some x ↦ omega arith ]
+
+-- what a partial function that keeps the order gives of ascending elements ascends
+below_kept : {K X : Type 0} (R : K → K → Ordering) (S : X → X → Ordering) (h : K → Option X) → ((a b : K) (x y : X) → h a ≡ Some x → h b ≡ Some y → R a b ≡ Less → S x y ≡ Less) → (k : K) (x : X) → h k ≡ Some x → (ks : List K) → AllByRecursion (λ each. R k each ≡ Less) ks → AllByRecursion (λ each. S x each ≡ Less) (filter_map h ks)
+below_kept R S h keeps k x is [] below = tt
+below_kept {K} {X} R S h keeps k x is (j ∷ ks) below =
+    let rest = below_kept R S h keeps k x is ks below.1 in
+    elim (h j) as (λ o. h j ≡ o → AllByRecursion (λ (each : X). S x each ≡ Less) (cons_option o (filter_map h ks))) [ None ↦ λ _. rest | Some y ↦ λ at. (keeps k j x y is at below.0, rest) ] refl
+
+pub IsStrictlySortedBy-filter_map : {K X : Type 0} (R : K → K → Ordering) (S : X → X → Ordering) (h : K → Option X) → ((a b : K) (x y : X) → h a ≡ Some x → h b ≡ Some y → R a b ≡ Less → S x y ≡ Less) → (ks : List K) → IsStrictlySortedBy R ks → IsStrictlySortedBy S (filter_map h ks)
+unfolding IsStrictlySortedBy
+IsStrictlySortedBy-filter_map R S h keeps [] rises = tt
+IsStrictlySortedBy-filter_map {K} {X} R S h keeps (k ∷ ks) rises =
+    let rest = IsStrictlySortedBy-filter_map R S h keeps ks rises.1 in
+    elim (h k) as (λ o. h k ≡ o → IsStrictlySortedBy S (cons_option o (filter_map h ks))) [ None ↦ λ _. rest | Some x ↦ λ is. (below_kept R S h keeps k x is ks rises.0, rest) ] refl

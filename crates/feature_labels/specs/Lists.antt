@@ -2,6 +2,8 @@
 use Rattle.std.specs.Prelude.{List, ◌↔◌, Option, Some, None, codes, map}
 use Rattle.std.specs.List.{Contains, join_by}
 use Rattle.std.specs.List.Sorted.{IsStrictlySortedBy}
+use Rattle.std.specs.Cmp.Lexicographic.{slice_cmp}
+use Rattle.std.specs.Ordering.{nat_cmp}
 use Rattle.guppy_packages.specs.Rows.{Text}
 use Rattle.feature_labels.specs.Names.{LabelName, label_of, label_cmp, label_text}
 use Rattle.feature_labels.specs.Names.LabelName.{base, named, optional}
@@ -10,6 +12,10 @@ use Rattle.feature_labels.specs.declared.display_features.DisplayFeatures.{Displ
 -- each label is below those after it
 abbrev pub Ascends : List LabelName → Type 0
 Ascends labels = IsStrictlySortedBy label_cmp labels
+
+-- each text is below those after it
+abbrev pub TextsAscend : List Text → Type 0
+TextsAscend texts = IsStrictlySortedBy (slice_cmp nat_cmp) texts
 
 -- the same labels, in any order and however often
 abbrev pub SameLabels : List LabelName → List LabelName → Type 0

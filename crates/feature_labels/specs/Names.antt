@@ -1,5 +1,5 @@
 -- Labels and ids as values, without where their texts lie, with the texts that are printed and the orders.
-use Rattle.std.specs.Prelude.{◌++◌, codes}
+use Rattle.std.specs.Prelude.{ℕ, ◌++◌, codes}
 use Rattle.std.specs.declared.cmp.Ordering.{Ordering}
 use Rattle.std.specs.declared.cmp.Ordering.TheVariants.{Less, Equal, Greater}
 use Rattle.std.specs.Ordering.{nat_cmp, ordering_then}
@@ -26,6 +26,12 @@ abbrev pub kind_of : LabelName → FeatureKind
 kind_of base = kind.Base
 kind_of (named _) = kind.Named
 kind_of (optional _) = kind.OptionalDependency
+
+-- the place of the kind: the base, then the named features, then the optional dependencies
+abbrev pub kind_rank : FeatureKind → ℕ
+kind_rank kind.Base = 0
+kind_rank kind.Named = 1
+kind_rank kind.OptionalDependency = 2
 
 -- the text of the package's id, and the label
 abbrev pub id_of : FeatureId → Text × LabelName

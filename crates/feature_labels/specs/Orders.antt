@@ -1,11 +1,13 @@
 -- The orders of labels and ids are total, and what they do not tell apart is equal.
-use Rattle.std.specs.Prelude.{ℕ, Bool, ◌≡◌, [], refl}
+use Rattle.std.specs.Prelude.{ℕ, Bool, ◌&&◌, ◌≡◌, List, [], nat_eq, refl}
 use Rattle.std.specs.Bool.{Decides}
 use Rattle.std.specs.Cmp.{IsTotalOrder, IsEquivalence}
-use Rattle.std.specs.Cmp.Lexicographic.{slice_cmp, bytes_decides, texts_ties, on_texts}
+use Rattle.std.specs.Cmp.Lexicographic.{slice_cmp, pointwise, bytes_decides, texts_ties, on_texts, on_texts_equal}
 use Rattle.std.specs.Ordering.{nat_cmp, on, then_cmp, eq_by_cmp}
 use Rattle.std.proofs.Common.{subst, ap}
-use Rattle.std.proofs.lemmas.Cmp.{then_total, on_total, nat_cmp_total, eq_by_cmp_equiv}
+use Rattle.std.proofs.lemmas.Cmp.{then_total, on_total, nat_cmp_total, eq_by_cmp_equiv, and_equiv, on_equiv, lists_equiv}
+use Rattle.std.proofs.lemmas.Bool.Decides.{Decides-and}
+use Rattle.std.proofs.lemmas.Slice.Eq.{slice_eq-Decides}
 use Rattle.guppy_packages.specs.Rows.{Text}
 use Rattle.feature_labels.specs.Names.{LabelName, label_cmp, id_cmp}
 use Rattle.feature_labels.specs.Names.LabelName.{base, named, optional}
@@ -60,3 +62,17 @@ label_eq-Decides (named _) (optional _) = (λ e. cc, λ e. cc)
 label_eq-Decides (optional _) base = (λ e. cc, λ e. cc)
 label_eq-Decides (optional _) (named _) = (λ e. cc, λ e. cc)
 label_eq-Decides (optional s) (optional t) = let d = text_eq-Decides s t in (λ e. ap optional (d.0 e), λ e. d.1 (cc))
+
+-- whether two lists are of one package and have the same labels
+abbrev pub list_eq : Text × List LabelName → Text × List LabelName → Bool
+list_eq a b = pointwise nat_eq a.0 b.0 && pointwise label_eq a.1 b.1
+
+pub list_eq_equiv : IsEquivalence list_eq
+list_eq_equiv = and_equiv (on_texts_equal (λ (list : Text × List LabelName). list.0)) (on_equiv (λ (list : Text × List LabelName). list.1) (lists_equiv label_eq_equiv))
+
+pub list_eq-Decides : (a b : Text × List LabelName) → Decides (list_eq a b) (a ≡ b)
+list_eq-Decides a b =
+    let ids : Decides (pointwise nat_eq a.0 b.0) (a.0 ≡ b.0) = bytes_decides a.0 b.0 in
+    let labels : Decides (pointwise label_eq a.1 b.1) (a.1 ≡ b.1) = slice_eq-Decides label_eq-Decides a.1 b.1 (pointwise label_eq a.1 b.1) refl in
+    let both = Decides-and (pointwise nat_eq a.0 b.0) (pointwise label_eq a.1 b.1) ids labels in
+    (λ e. (λ i. ((both.0 e).0 i, (both.0 e).1 i)), λ e. both.1 (ap (λ list. list.0) e, ap (λ list. list.1) e))

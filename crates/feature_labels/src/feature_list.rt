@@ -4,7 +4,9 @@ ghost use Rattle.std.specs.List.{Contains, filter_map};
 ghost use Rattle.guppy_packages.specs.Metadata.{package_id_of};
 ghost use Rattle.feature_labels.specs.Names.{label_of};
 ghost use Rattle.feature_labels.specs.Names.LabelName.{base, named, optional};
-ghost use Rattle.feature_labels.specs.Lists.{Ascends, SameLabels, ids_in, name_if_named, name_if_optional, labels_shown};
+ghost use Rattle.feature_labels.specs.Lists.{Ascends, SameLabels, TextsAscend, ids_in, name_if_named, name_if_optional, labels_shown};
+ghost use Rattle.feature_labels.specs.Orders.{list_eq, list_eq_equiv};
+ghost use Rattle.std.specs.Cmp.{partial_equiv_from_equiv};
 
 mod iterators;
 
@@ -102,15 +104,19 @@ impl<'g> FeatureList<'g> {
     }
 
     /// The names of the named features, ascending.
+    #[tactic(auto, using(crate::proofs::Texts::names_ascend))]
     pub fn named_features<'a>(&'a self) -> NamedFeatures<'g, 'a>
-        ensures { result ≡ filter_map name_if_named self.now.1 }
+        ensures value { result ≡ filter_map name_if_named self.now.1 }
+        ensures ascends { TextsAscend result }
     {
         NamedFeatures::new(self.labels())
     }
 
     /// The names of the optional dependencies, ascending.
+    #[tactic(auto, using(crate::proofs::Texts::optional_names_ascend))]
     pub fn optional_deps<'a>(&'a self) -> OptionalDeps<'g, 'a>
-        ensures { result ≡ filter_map name_if_optional self.now.1 }
+        ensures value { result ≡ filter_map name_if_optional self.now.1 }
+        ensures ascends { TextsAscend result }
     {
         OptionalDeps::new(self.labels())
     }
@@ -144,9 +150,27 @@ impl<'g> FeatureList<'g> {
     {
         Ok(FeatureList {
             package: self.package,
-            labels: self.labels.as_slice().to_vec(alloc)?,
+            labels: self.labels().to_vec(alloc)?,
         })
     }
+}
+
+/// Lists are equal where they are of one package, by its id, and have the same labels.
+impl PartialEq for FeatureList<'_> {
+    ghost eq = { list_eq };
+
+    ghost laws = { partial_equiv_from_equiv list_eq_equiv };
+
+    fn eq(&self, other: &Self) -> bool
+        ensures value { result ≡ list_eq self.now other.now }
+        ensures same { IsTrue result ↔ (self.now ≡ other.now) }
+    {
+        self.package.id() == other.package.id() && self.labels == other.labels
+    }
+}
+
+impl Eq for FeatureList<'_> {
+    ghost laws = { list_eq_equiv };
 }
 
 impl fmt::Debug for FeatureList<'_> {

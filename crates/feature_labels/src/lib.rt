@@ -5,6 +5,7 @@ mod display_features;
 mod feature_id;
 mod feature_label;
 pub mod feature_list;
+pub mod laws;
 mod link_declarations;
 
 pub use display_features::DisplayFeatures;

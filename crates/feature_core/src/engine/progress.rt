@@ -1,36 +1,54 @@
-//! One walk under way: what it reached, and the members whose edges it took.
+//! A walk under way: what it found, and the conditions of its edges that have come.
 
-ghost use Rattle.std.specs.Prelude.{map, Some, None, ◌≡◌, ◌≢◌, ◌+◌, ◌-◌, ◌*◌, ◌^◌, ◌<◌, ◌≤◌, ℕ, Bool, false, List, IsTrue, IsFalse, length, slice_get, slice_index};
+ghost use Rattle.std.specs.Prelude.{Some, None, ◌≡◌, ◌+◌, ◌^◌, ◌<◌, ◌≤◌, ℕ, suc, Bool, false, List, IsTrue, IsFalse, OnOk, OnErr, length, slice_get};
 ghost use Rattle.guppy_support.specs.Bits.{has};
-ghost use Rattle.feature_core.specs.Walks.{Content, IsContent, MayAsk, starting, releasing};
-ghost use Rattle.feature_core.specs.WalkProgress.{HasRoom, Asks, Lowers, field, noted, TakesEdge, FreesEdge, Extends, TakesAll, FreesAll, Begun, IsDone, reads_of};
+ghost use Rattle.feature_core.specs.Walks.{Content, IsContent, LegalRun, MayAsk, starting, releasing};
+ghost use Rattle.feature_core.specs.Explanations.{nodes_of};
+ghost use Rattle.feature_core.specs.WalkProgress.{IsListed, HasRoom, Asks, Comes, findings, noted, TakesEdge, FreesEdge, Extends, TakesAll, FreesAll, TakesStopped, FreesStopped, Begun, IsDone, reads_of};
 
 use super::{Ask, EdgeSource, Half, Offerer, Step, StepReason};
 use guppy_support::IxBitSet;
+use std::alloc::AllocError;
 
-/// What a walk reached: as a set, and in order with what first reached it.
+/// What a walk found: the members, as a set and in order with what first reached each, and the refused offers.
 #[derive(Drop)]
 pub(super) struct Found {
-    pub(super) marks: IxBitSet,
-    pub(super) order: Vec<Step>,
+    pub(super) members: IxBitSet,
+    pub(super) steps: Vec<Step>,
+    pub(super) refused: Vec<(usize, Half)>,
 }
 
-fn note(found: &mut Found, node: usize, reason: StepReason)
-    requires node { node < length found.old.marks }
-    requires room { HasRoom found.old }
-    ensures room { HasRoom found.new }
-    ensures size { length found.new.marks ≡ length found.old.marks }
-    ensures noted { field found.new ≡ noted (field found.old) node reason }
+/// Makes room for what one edge can add.
+fn make_room(found: &mut Found) -> Result<(), AllocError>
+    ensures room { OnOk result (HasRoom 2 found.new) }
+    ensures members { found.new.members ≡ found.old.members }
+    ensures steps { found.new.steps.items ≡ found.old.steps.items }
+    ensures refused { found.new.refused.items ≡ found.old.refused.items }
 {
-    if found.marks.contains(node) {
+    found.steps.reserve(2)?;
+    found.refused.reserve(2)?;
+    Ok(())
+}
+
+/// Lists the node where it is no member yet.
+fn note(found: &mut Found, node: usize, reason: StepReason)
+    requires node { node < length found.old.members }
+    requires listed { IsListed (findings found.old) }
+    requires room { HasRoom 1 found.old }
+    ensures listed { IsListed (findings found.new) }
+    ensures room { (k : ℕ) → HasRoom (suc k) found.old → HasRoom k found.new }
+    ensures size { length found.new.members ≡ length found.old.members }
+    ensures noted { findings found.new ≡ noted (findings found.old) node reason }
+{
+    if found.members.contains(node) {
         return;
     }
-    found.marks.insert(node);
-    found.order.push_reserved(Step { node, reason });
+    found.members.insert(node);
+    found.steps.push_reserved(Step { node, reason });
 }
 
-/// Makes the offer where it is wanted, and notes the far end where it is accepted.
-fn ask_if<O: Offerer>(
+/// Makes the offer where it is wanted, and lists the far end, or the refusal.
+fn offer_if<O: Offerer>(
     wanted: bool,
     offerer: &mut O,
     found: &mut Found,
@@ -39,66 +57,73 @@ fn ask_if<O: Offerer>(
     far: usize,
 )
     requires may { IsTrue wanted → O.can_offer offerer.old edge half }
-    requires node { far < length found.old.marks }
-    requires room { HasRoom found.old }
-    ensures room { HasRoom found.new }
-    ensures size { length found.new.marks ≡ length found.old.marks }
-    ensures asked { Asks O.gives wanted edge half far offerer.old (field found.old) offerer.new (field found.new) }
+    requires node { far < length found.old.members }
+    requires listed { IsListed (findings found.old) }
+    requires room { HasRoom 1 found.old }
+    ensures listed { IsListed (findings found.new) }
+    ensures room { (k : ℕ) → HasRoom (suc k) found.old → HasRoom k found.new }
+    ensures size { length found.new.members ≡ length found.old.members }
+    ensures asked { Asks O.gives wanted edge half far offerer.old (findings found.old) offerer.new (findings found.new) }
 {
     if !wanted {
         return;
     }
     if offerer.offer(edge, half) {
         note(found, far, StepReason::Offer(edge, half));
+    } else {
+        found.refused.push_reserved((edge, half));
     }
 }
 
-/// Lowers the count of missing conditions where the edge has one; whether none is missing now.
-fn lower(counts: &mut [u8], edge: usize, counted: bool) -> bool
-    requires { edge < length counts.old }
-    ensures { Lowers counted edge counts.old result counts.new }
+/// Notes that the start or the gate of an edge was reached, where its optional half waits for both; whether nothing
+/// is missing now.
+fn is_ready(met: &mut IxBitSet, edge: usize, gated: bool) -> bool
+    requires { edge < length met.old }
+    ensures { Comes gated edge met.old result met.new }
 {
-    if !counted {
+    if !gated {
         return true;
     }
-    let nothing = counts[edge] <= 1;
-    counts[edge] = counts[edge].saturating_sub(1);
-    nothing
+    let ready = met.contains(edge);
+    met.insert(edge);
+    ready
 }
 
-/// Takes one edge of a member and makes what is due by it; whether there was one.
+/// Takes one edge of a member and makes the offers that are due by it; whether there was one.
 fn take_one<S: EdgeSource, O: Offerer>(
     source: &mut S,
     offerer: &mut O,
     found: &mut Found,
-    counts: &mut [u8],
+    met: &mut IxBitSet,
     node: usize,
     place: usize,
 ) -> bool
-    requires ends { IsContent (S.content source.old) }
+    requires nodes { IsContent (S.content source.old) }
     requires node { node < (S.content source.old).nodes }
     requires few { S.reads source.old < 2 ^ 100 }
     requires may { MayAsk O.can_offer O.gives (S.content source.old) offerer.old }
-    requires nodes { length found.old.marks ≡ (S.content source.old).nodes }
-    requires edges { length counts.old ≡ length (S.content source.old).ways }
-    requires room { HasRoom found.old }
+    requires members { length found.old.members ≡ (S.content source.old).nodes }
+    requires edges { length met.old ≡ length (S.content source.old).ways }
+    requires listed { IsListed (findings found.old) }
+    requires room { HasRoom 2 found.old }
     ensures same { S.content source.new ≡ S.content source.old }
     ensures read { S.reads source.new ≡ S.reads source.old + 1 }
     ensures may { MayAsk O.can_offer O.gives (S.content source.old) offerer.new }
-    ensures nodes { length found.new.marks ≡ length found.old.marks }
-    ensures room { HasRoom found.new }
-    ensures grown { Extends (field found.old) (field found.new) }
-    ensures taken { IsTrue result → (e : ℕ) × (slice_get (starting (S.content source.old) node) place ≡ Some e) × TakesEdge (S.content source.old) O.gives node e offerer.old (field found.old) counts.old offerer.new (field found.new) counts.new }
-    ensures ended { IsFalse result → (slice_get (starting (S.content source.old) node) place ≡ None) × (offerer.new ≡ offerer.old) × (field found.new ≡ field found.old) × (counts.new ≡ counts.old) }
+    ensures members { length found.new.members ≡ length found.old.members }
+    ensures edges { length met.new ≡ length met.old }
+    ensures listed { IsListed (findings found.new) }
+    ensures grown { Extends (findings found.old) (findings found.new) }
+    ensures taken { IsTrue result → (e : ℕ) × (slice_get (starting (S.content source.old) node) place ≡ Some e) × TakesEdge (S.content source.old) O.gives node e offerer.old (findings found.old) met.old offerer.new (findings found.new) met.new }
+    ensures ended { IsFalse result → (slice_get (starting (S.content source.old) node) place ≡ None) × (offerer.new ≡ offerer.old) × (findings found.new ≡ findings found.old) × (met.new ≡ met.old) }
 {
     match source.take(node, place) {
         None => false,
         Some(taken) => {
             match taken.ask {
                 Ask::Nobody => note(found, taken.far, StepReason::Edge(taken.edge)),
-                Ask::Full => ask_if(true, offerer, found, taken.edge, Half::Full, taken.far),
+                Ask::Full => offer_if(true, offerer, found, taken.edge, Half::Full, taken.far),
                 Ask::Weak { required, gated } => {
-                    ask_if(
+                    offer_if(
                         required,
                         offerer,
                         found,
@@ -106,8 +131,8 @@ fn take_one<S: EdgeSource, O: Offerer>(
                         Half::Required,
                         taken.far,
                     );
-                    let ready = lower(counts, taken.edge, gated);
-                    ask_if(ready, offerer, found, taken.edge, Half::Optional, taken.far);
+                    let ready = is_ready(met, taken.edge, gated);
+                    offer_if(ready, offerer, found, taken.edge, Half::Optional, taken.far);
                 }
             }
             true
@@ -115,36 +140,38 @@ fn take_one<S: EdgeSource, O: Offerer>(
     }
 }
 
-/// Releases one edge of a gate and makes the half that is due by it; whether there was one.
+/// Releases one edge of a gate and makes the offer that is due by it; whether there was one.
 fn release_one<S: EdgeSource, O: Offerer>(
     source: &mut S,
     offerer: &mut O,
     found: &mut Found,
-    counts: &mut [u8],
+    met: &mut IxBitSet,
     node: usize,
     place: usize,
 ) -> bool
-    requires ends { IsContent (S.content source.old) }
+    requires nodes { IsContent (S.content source.old) }
     requires node { node < (S.content source.old).nodes }
     requires few { S.reads source.old < 2 ^ 100 }
     requires may { MayAsk O.can_offer O.gives (S.content source.old) offerer.old }
-    requires nodes { length found.old.marks ≡ (S.content source.old).nodes }
-    requires edges { length counts.old ≡ length (S.content source.old).ways }
-    requires room { HasRoom found.old }
+    requires members { length found.old.members ≡ (S.content source.old).nodes }
+    requires edges { length met.old ≡ length (S.content source.old).ways }
+    requires listed { IsListed (findings found.old) }
+    requires room { HasRoom 2 found.old }
     ensures same { S.content source.new ≡ S.content source.old }
     ensures read { S.reads source.new ≡ S.reads source.old + 1 }
     ensures may { MayAsk O.can_offer O.gives (S.content source.old) offerer.new }
-    ensures nodes { length found.new.marks ≡ length found.old.marks }
-    ensures room { HasRoom found.new }
-    ensures grown { Extends (field found.old) (field found.new) }
-    ensures taken { IsTrue result → (e : ℕ) × (slice_get (releasing (S.content source.old) node) place ≡ Some e) × FreesEdge (S.content source.old) O.gives node e offerer.old (field found.old) counts.old offerer.new (field found.new) counts.new }
-    ensures ended { IsFalse result → (slice_get (releasing (S.content source.old) node) place ≡ None) × (offerer.new ≡ offerer.old) × (field found.new ≡ field found.old) × (counts.new ≡ counts.old) }
+    ensures members { length found.new.members ≡ length found.old.members }
+    ensures edges { length met.new ≡ length met.old }
+    ensures listed { IsListed (findings found.new) }
+    ensures grown { Extends (findings found.old) (findings found.new) }
+    ensures taken { IsTrue result → (e : ℕ) × (slice_get (releasing (S.content source.old) node) place ≡ Some e) × FreesEdge (S.content source.old) O.gives node e offerer.old (findings found.old) met.old offerer.new (findings found.new) met.new }
+    ensures ended { IsFalse result → (slice_get (releasing (S.content source.old) node) place ≡ None) × (offerer.new ≡ offerer.old) × (findings found.new ≡ findings found.old) × (met.new ≡ met.old) }
 {
     match source.release(node, place) {
         None => false,
         Some(taken) => {
-            let ready = lower(counts, taken.edge, true);
-            ask_if(ready, offerer, found, taken.edge, Half::Optional, taken.far);
+            let ready = is_ready(met, taken.edge, true);
+            offer_if(ready, offerer, found, taken.edge, Half::Optional, taken.far);
             true
         }
     }
@@ -155,28 +182,34 @@ fn take_all<S: EdgeSource, O: Offerer>(
     source: &mut S,
     offerer: &mut O,
     found: &mut Found,
-    counts: &mut [u8],
+    met: &mut IxBitSet,
     node: usize,
-)
-    requires ends { IsContent (S.content source.old) }
+) -> Result<(), AllocError>
+    requires nodes { IsContent (S.content source.old) }
     requires node { node < (S.content source.old).nodes }
+    requires long { length (S.content source.old).ways < 2 ^ 64 }
     requires few { S.reads source.old + length (S.content source.old).ways < 2 ^ 100 }
     requires may { MayAsk O.can_offer O.gives (S.content source.old) offerer.old }
-    requires nodes { length found.old.marks ≡ (S.content source.old).nodes }
-    requires edges { length counts.old ≡ length (S.content source.old).ways }
-    requires room { HasRoom found.old }
+    requires members { length found.old.members ≡ (S.content source.old).nodes }
+    requires edges { length met.old ≡ length (S.content source.old).ways }
+    requires listed { IsListed (findings found.old) }
     ensures same { S.content source.new ≡ S.content source.old }
-    ensures read { S.reads source.new ≡ S.reads source.old + (length (starting (S.content source.old) node) + 1) }
+    ensures read { OnOk result (S.reads source.new ≡ S.reads source.old + (length (starting (S.content source.old) node) + 1)) }
     ensures may { MayAsk O.can_offer O.gives (S.content source.old) offerer.new }
-    ensures nodes { length found.new.marks ≡ length found.old.marks }
-    ensures room { HasRoom found.new }
-    ensures grown { Extends (field found.old) (field found.new) }
-    ensures taken { TakesAll (S.content source.old) O.gives node offerer.old (field found.old) counts.old offerer.new (field found.new) counts.new }
+    ensures members { length found.new.members ≡ length found.old.members }
+    ensures edges { length met.new ≡ length met.old }
+    ensures listed { IsListed (findings found.new) }
+    ensures grown { Extends (findings found.old) (findings found.new) }
+    ensures taken { OnOk result (TakesAll (S.content source.old) O.gives node offerer.old (findings found.old) met.old offerer.new (findings found.new) met.new) }
+    ensures err { OnErr result (TakesStopped (S.content source.old) O.gives node offerer.old (findings found.old) met.old offerer.new) }
 {
     let mut place = 0;
-    'edges: while take_one(source, offerer, found, counts, node, place) {
+    make_room(found)?;
+    'edges: while take_one(source, offerer, found, met, node, place) {
+        make_room(found)?;
         place += 1;
     }
+    Ok(())
 }
 
 /// Releases all edges of a gate.
@@ -184,72 +217,84 @@ fn release_all<S: EdgeSource, O: Offerer>(
     source: &mut S,
     offerer: &mut O,
     found: &mut Found,
-    counts: &mut [u8],
+    met: &mut IxBitSet,
     node: usize,
-)
-    requires ends { IsContent (S.content source.old) }
+) -> Result<(), AllocError>
+    requires nodes { IsContent (S.content source.old) }
     requires node { node < (S.content source.old).nodes }
+    requires long { length (S.content source.old).ways < 2 ^ 64 }
     requires few { S.reads source.old + length (S.content source.old).ways < 2 ^ 100 }
     requires may { MayAsk O.can_offer O.gives (S.content source.old) offerer.old }
-    requires nodes { length found.old.marks ≡ (S.content source.old).nodes }
-    requires edges { length counts.old ≡ length (S.content source.old).ways }
-    requires room { HasRoom found.old }
+    requires members { length found.old.members ≡ (S.content source.old).nodes }
+    requires edges { length met.old ≡ length (S.content source.old).ways }
+    requires listed { IsListed (findings found.old) }
     ensures same { S.content source.new ≡ S.content source.old }
-    ensures read { S.reads source.new ≡ S.reads source.old + (length (releasing (S.content source.old) node) + 1) }
+    ensures read { OnOk result (S.reads source.new ≡ S.reads source.old + (length (releasing (S.content source.old) node) + 1)) }
     ensures may { MayAsk O.can_offer O.gives (S.content source.old) offerer.new }
-    ensures nodes { length found.new.marks ≡ length found.old.marks }
-    ensures room { HasRoom found.new }
-    ensures grown { Extends (field found.old) (field found.new) }
-    ensures taken { FreesAll (S.content source.old) O.gives node offerer.old (field found.old) counts.old offerer.new (field found.new) counts.new }
+    ensures members { length found.new.members ≡ length found.old.members }
+    ensures edges { length met.new ≡ length met.old }
+    ensures listed { IsListed (findings found.new) }
+    ensures grown { Extends (findings found.old) (findings found.new) }
+    ensures taken { OnOk result (FreesAll (S.content source.old) O.gives node offerer.old (findings found.old) met.old offerer.new (findings found.new) met.new) }
+    ensures err { OnErr result (FreesStopped (S.content source.old) O.gives node offerer.old (findings found.old) met.old offerer.new) }
 {
     let mut place = 0;
-    'edges: while release_one(source, offerer, found, counts, node, place) {
+    make_room(found)?;
+    'edges: while release_one(source, offerer, found, met, node, place) {
+        make_room(found)?;
         place += 1;
     }
+    Ok(())
 }
 
 /// Notes the initial nodes.
-fn begin(found: &mut Found, initials: &IxBitSet)
-    requires room { HasRoom found.old }
-    requires nodes { length found.old.marks ≡ length initials.now }
-    requires blank { Begun (λ _. false) (field found.old) }
-    ensures room { HasRoom found.new }
-    ensures nodes { length found.new.marks ≡ length initials.now }
-    ensures begun { Begun (has initials.now) (field found.new) }
+fn begin(found: &mut Found, initials: &IxBitSet) -> Result<(), AllocError>
+    requires members { length found.old.members ≡ length initials.now }
+    requires listed { IsListed (findings found.old) }
+    requires blank { Begun (λ _. false) (findings found.old) }
+    ensures members { length found.new.members ≡ length initials.now }
+    ensures listed { IsListed (findings found.new) }
+    ensures begun { OnOk result (Begun (has initials.now) (findings found.new)) }
 {
     for node in initials.ones() {
+        make_room(found)?;
         note(found, node, StepReason::Initial);
     }
+    Ok(())
 }
 
-/// Takes and releases the edges of each member, in the order in which they were found.
+/// Takes and releases the edges of each member, in the order in which the members were reached.
 pub(super) fn walk_members<S: EdgeSource, O: Offerer>(
     source: &mut S,
     initials: &IxBitSet,
     offerer: &mut O,
     found: &mut Found,
-    counts: &mut [u8],
-)
-    requires ends { IsContent (S.content source.old) }
+    met: &mut IxBitSet,
+) -> Result<(), AllocError>
+    requires nodes { IsContent (S.content source.old) }
+    requires long { length (S.content source.old).ways < 2 ^ 64 }
     requires few { S.reads source.old < 2 ^ 99 }
     requires may { MayAsk O.can_offer O.gives (S.content source.old) offerer.old }
     requires size { length initials.now ≡ (S.content source.old).nodes }
-    requires nodes { length found.old.marks ≡ length initials.now }
-    requires edges { length counts.old ≡ length (S.content source.old).ways }
-    requires two { (e : ℕ) → e < length counts.old → slice_index counts.old e ≡ 2 }
-    requires room { HasRoom found.old }
-    requires blank { Begun (λ _. false) (field found.old) }
+    requires members { length found.old.members ≡ length initials.now }
+    requires edges { length met.old ≡ length (S.content source.old).ways }
+    requires unmet { (e : ℕ) → IsFalse (has met.old e) }
+    requires listed { IsListed (findings found.old) }
+    requires blank { Begun (λ _. false) (findings found.old) }
     ensures same { S.content source.new ≡ S.content source.old }
-    ensures read { S.reads source.new ≡ S.reads source.old + reads_of (S.content source.old) (map (λ s. s.node) found.new.order.items) }
-    ensures room { HasRoom found.new }
-    ensures done { IsDone (S.content source.old) (has initials.now) O.gives offerer.old (map (λ s. s.node) found.new.order.items) offerer.new (field found.new) counts.new }
+    ensures members { length found.new.members ≡ length initials.now }
+    ensures read { OnOk result (S.reads source.new ≡ S.reads source.old + reads_of (S.content source.old) (nodes_of found.new.steps.items)) }
+    ensures listed { IsListed (findings found.new) }
+    ensures done { OnOk result (IsDone (S.content source.old) (has initials.now) O.gives offerer.old (nodes_of found.new.steps.items) offerer.new (findings found.new) met.new) }
+    ensures err { OnErr result (LegalRun (S.content source.old) (has initials.now) O.gives offerer.old offerer.new) }
 {
-    begin(found, initials);
+    begin(found, initials)?;
     let mut next = 0;
-    'members: while next < found.order.len() {
-        let node = found.order[next].node;
-        take_all(source, offerer, found, counts, node);
-        release_all(source, offerer, found, counts, node);
+    'members: while next < found.steps.len() {
+        let node = found.steps[next].node;
+        take_all(source, offerer, found, met, node)?;
+        release_all(source, offerer, found, met, node)?;
         next += 1;
     }
+    Ok(())
 }

@@ -1,7 +1,8 @@
 //! The iterators over a list of features. Each is seen as the list of what it has left.
-ghost use Rattle.std.specs.Prelude.{◌≡◌, map};
+ghost use Rattle.std.specs.Prelude.{◌≡◌, IsSome, IfSome, Some, length, map};
 ghost use Rattle.std.specs.List.{filter_map};
-ghost use Rattle.std.specs.Iterator.{YieldsFirstBy, item_count};
+ghost use Rattle.std.specs.Iterator.{YieldsFirstBy, UpTo, item_count};
+ghost use Rattle.std.specs.Iterator.SizeHint.{IsWithinCount};
 ghost use Rattle.feature_labels.specs.Names.{id_of, label_of};
 ghost use Rattle.feature_labels.specs.Lists.{ids_in, name_if_named, name_if_optional};
 
@@ -58,7 +59,11 @@ impl<'g, 'a> Iterator for Iter<'g, 'a> {
         Some(FeatureId::new(self.package_id, *label))
     }
 
-    fn size_hint(&self) -> (usize, Option<usize>) {
+    fn size_hint(&self) -> (usize, Option<usize>)
+        ensures lower { IsWithinCount result.0 (item_count (λ rest. rest) self.now) }
+        ensures upper { IfSome result.1 (UpTo (item_count (λ rest. rest) self.now)) }
+        ensures exact { result ≡ (length self.now, Some (length self.now)) }
+    {
         let len = self.len();
         (len, Some(len))
     }
@@ -129,7 +134,11 @@ impl<'g> Iterator for IntoIter<'g> {
         Some(FeatureId::new(self.package_id, label))
     }
 
-    fn size_hint(&self) -> (usize, Option<usize>) {
+    fn size_hint(&self) -> (usize, Option<usize>)
+        ensures lower { IsWithinCount result.0 (item_count (λ rest. rest) self.now) }
+        ensures upper { IfSome result.1 (UpTo (item_count (λ rest. rest) self.now)) }
+        ensures exact { result ≡ (length self.now, Some (length self.now)) }
+    {
         let len = self.len();
         (len, Some(len))
     }
@@ -200,6 +209,14 @@ impl<'g, 'a> Iterator for NamedFeatures<'g, 'a> {
         }
         None
     }
+
+    fn size_hint(&self) -> (usize, Option<usize>)
+        ensures lower { IsWithinCount result.0 (item_count (λ rest. rest) self.now) }
+        ensures upper { IfSome result.1 (UpTo (item_count (λ rest. rest) self.now)) }
+        ensures bounded { IsSome result.1 }
+    {
+        (0, Some(self.labels.len()))
+    }
 }
 
 impl<'g, 'a> FusedIterator for NamedFeatures<'g, 'a> {}
@@ -248,6 +265,14 @@ impl<'g, 'a> Iterator for OptionalDeps<'g, 'a> {
             }
         }
         None
+    }
+
+    fn size_hint(&self) -> (usize, Option<usize>)
+        ensures lower { IsWithinCount result.0 (item_count (λ rest. rest) self.now) }
+        ensures upper { IfSome result.1 (UpTo (item_count (λ rest. rest) self.now)) }
+        ensures bounded { IsSome result.1 }
+    {
+        (0, Some(self.labels.len()))
     }
 }
 

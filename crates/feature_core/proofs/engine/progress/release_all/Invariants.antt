@@ -1,6 +1,6 @@
-use Rattle.std.proofs.Common.{◌≡◌, ◌+◌, ◌-◌, ◌≤◌, ℕ, length}
+use Rattle.std.proofs.Common.{◌≡◌, ◌+◌, ◌-◌, ◌≤◌, length}
 use Rattle.feature_core.specs.Walks.{releasing, MayAsk}
-use Rattle.feature_core.specs.WalkProgress.{field, HasRoom, Extends}
+use Rattle.feature_core.specs.WalkProgress.{findings, HasRoom, IsListed, Extends}
 use Rattle.feature_core.proofs.WalkLoops.{FreesFirst}
 use Rattle.feature_core.proofs.engine.progress.release_all.Given as goal
 
@@ -12,10 +12,12 @@ invariant-edges g l =
       same : g.S.EdgeSource.content l.source ≡ c;
       read : g.S.EdgeSource.reads l.source ≡ g.S.EdgeSource.reads l.fn.source + l.place;
       may : MayAsk g.O.Offerer.can_offer g.O.Offerer.gives c l.offerer;
-      nodes : length l.found.marks ≡ length l.fn.found.marks;
-      room : HasRoom l.found;
-      grown : Extends (field l.fn.found) (field l.found);
-      taken : FreesFirst c g.O.Offerer.gives l.node l.place l.fn.offerer (field l.fn.found) l.fn.counts l.offerer (field l.found) l.counts;
+      members : length l.found.members ≡ length l.fn.found.members;
+      edges : length l.met ≡ length l.fn.met;
+      listed : IsListed (findings l.found);
+      room : HasRoom 2 l.found;
+      grown : Extends (findings l.fn.found) (findings l.found);
+      taken : FreesFirst c g.O.Offerer.gives l.node l.place l.fn.offerer (findings l.fn.found) l.fn.met l.offerer (findings l.found) l.met;
     }
 
 abbrev pub decreases-edges : goal.decreases-edges

@@ -1,0 +1,28 @@
+-- What is built of tables.
+use Rattle.std.specs.Prelude.{◌≡◌, ℕ, List, Some, map, slice_get}
+use Rattle.guppy_support.specs.declared.digraph.Edge.{Edge}
+use Rattle.guppy_packages.specs.Rows.{Text}
+use Rattle.guppy_packages.specs.Tables.{Tables}
+use Rattle.feature_labels.specs.Names.{LabelName}
+use Rattle.feature_core.specs.Nodes.{nodes, first_nodes, node_packages}
+use Rattle.feature_core.specs.Pairs.{IsPairList}
+
+-- the stamp that the caller gave, the first node of each package, the package of each node, and the pairs of the edges
+pub record Built : Type 0 where
+  pub stamp : ℕ
+  pub firsts : List ℕ
+  pub packages : List ℕ
+  pub pairs : List (ℕ × ℕ)
+
+-- it was built of these tables
+pub record IsBuilt (t : Tables) (b : Built) : Type 0 where
+  pub firsts : b.firsts ≡ first_nodes t
+  pub packages : b.packages ≡ node_packages t
+  pub pairs : IsPairList t b.pairs
+
+-- node n has this name: the id of its package, and its label
+abbrev pub NodeNamed : Tables → ℕ → Text × LabelName → Type 0
+NodeNamed t n name = slice_get (nodes t) n ≡ Some name
+
+abbrev pub pairs_of : List Edge → List (ℕ × ℕ)
+pairs_of edges = map (λ e. (e.from, e.to)) edges

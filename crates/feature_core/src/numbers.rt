@@ -1,0 +1,73 @@
+//! The number of each node, by its package and label.
+ghost use Rattle.std.specs.Prelude.{◌≡◌, ◌+◌, ◌<◌, ◌^◌, ◌↔◌, ℕ, Some, length, slice_index};
+ghost use Rattle.guppy_packages.specs.Metadata.{package_graph_of, package_table_of};
+ghost use Rattle.feature_labels.specs.Names.LabelName.{base, named, optional};
+ghost use Rattle.feature_core.specs.Nodes.{NodeAt, labels_of, first_node, first_nodes, node_places};
+
+use guppy_packages::{PackageGraph, PackageMetadata};
+
+/// A package graph with the first node of each package.
+#[derive(Clone, Copy)]
+pub(crate) struct Numbers<'g> {
+    pub(crate) graph: &'g PackageGraph,
+    pub(crate) firsts: &'g [usize],
+    pub(crate) ghost all_firsts: { firsts.now ≡ first_nodes graph.now },
+    pub(crate) ghost few_nodes: { length (node_places graph.now) < 2 ^ 64 },
+}
+
+/// The first node of a package.
+fn first_of(firsts: &[usize], ix: usize) -> usize
+    requires { ix < length firsts.now }
+    ensures { result ≡ slice_index firsts.now ix }
+{
+    firsts[ix]
+}
+
+impl<'g> Numbers<'g> {
+    /// The node at a place of a package.
+    fn number(self, metadata: PackageMetadata<'g>, place: usize) -> usize
+        requires graph { package_graph_of metadata ≡ self.graph.now }
+        requires place { place < length (labels_of (package_table_of metadata)) }
+        ensures { result ≡ first_node self.entry.graph.now metadata.entry.package_ix + place }
+    {
+        let ix = metadata.package_ix();
+        first_of(self.firsts, ix) + place
+    }
+
+    /// The base of a package.
+    pub(crate) fn base(self, metadata: PackageMetadata<'g>) -> usize
+        requires { package_graph_of metadata ≡ self.graph.now }
+        ensures number { result ≡ first_node self.entry.graph.now metadata.entry.package_ix }
+        ensures node { NodeAt self.entry.graph.now result metadata.entry.package_ix base }
+    {
+        let _ix = metadata.package_ix();
+        self.number(metadata, 0)
+    }
+
+    /// The named feature of a package, where it has one of this name.
+    pub(crate) fn named(self, metadata: PackageMetadata<'g>, name: &str) -> Option<usize>
+        requires { package_graph_of metadata ≡ self.graph.now }
+        ensures { (n : ℕ) → (result ≡ Some n) ↔ NodeAt self.entry.graph.now n metadata.entry.package_ix (named name.now) }
+    {
+        self.graph.facts();
+        let _ix = metadata.package_ix();
+        match metadata.feature_place(name) {
+            Some(place) => Some(self.number(metadata, 1 + place)),
+            None => None,
+        }
+    }
+
+    /// The optional dependency of a package, where it has one of this name.
+    pub(crate) fn optional(self, metadata: PackageMetadata<'g>, name: &str) -> Option<usize>
+        requires { package_graph_of metadata ≡ self.graph.now }
+        ensures { (n : ℕ) → (result ≡ Some n) ↔ NodeAt self.entry.graph.now n metadata.entry.package_ix (optional name.now) }
+    {
+        self.graph.facts();
+        let _ix = metadata.package_ix();
+        let features = metadata.named_features().len();
+        match metadata.optional_place(name) {
+            Some(place) => Some(self.number(metadata, 1 + features + place)),
+            None => None,
+        }
+    }
+}

@@ -1,0 +1,5 @@
+use Rattle.feature_labels.specs.Orders.{id_cmp_total}
+use Rattle.feature_labels.proofs.laws.id_order_is_total.Goals as goal
+
+pub returns : goal.returns
+returns c = id_cmp_total

@@ -1,0 +1,10 @@
+use Rattle.std.proofs.Common.{ℕ, ◌<◌, rules, arith}
+use Rattle.guppy_support.proofs.SearchLemmas.{finished}
+use Rattle.guppy_support.specs.Search.{IsSeen}
+use Rattle.guppy_support.proofs.finish.finish_order.Goals as goal
+
+pub returns-clause-order : goal.returns-clause-order
+returns-clause-order c =
+    let s = c.loop-root.search in
+    finished c.args.graph.now s.seen.items s.left.items s.opened.items s.closed.items c.loop-root.invariant.walk c.loop-root.invariant.none
+    (λ v h. c.loop-root.invariant.seen v (search rules))

@@ -1,0 +1,10 @@
+use Rattle.std.proofs.Common.{◌≡◌, ◌≤◌, length, arith, ap}
+use Rattle.guppy_support.proofs.AtLemmas.{at_end}
+use Rattle.guppy_support.proofs.plan.Plan.list.Goals as goal
+
+pub returns-clause-within : goal.returns-clause-within
+returns-clause-within c =
+    let l = ap length c.out_edges-place-end.ensures in
+    let p = c.loop-place.self in
+    at_end c.args.graph.now c.args.ranks.now c.args.node p.listed.items p.done.items p.outside.items p.held.items p.starts p.ready p.rest c.loop-place.place
+    (omega (arith, l, c.loop-place-test.false)) c.loop-place.invariant.at

@@ -1,0 +1,7 @@
+use Rattle.guppy_support.proofs.AtLemmas.{at_begin}
+use Rattle.guppy_support.proofs.plan.Plan.mark.Goals as goal
+
+pub returns-clause-at : goal.returns-clause-at
+returns-clause-at c =
+    rw c.in_ok-push.ensures.items
+    (at_begin c.args.graph.now c.args.ranks.now c.args.node c.args.self.now.listed.items c.args.self.now.done.items c.args.self.now.outside.items c.args.self.now.held.items c.args.self.now.starts c.args.self.now.ready c.args.self.now.rest c.requires.chosen)
