@@ -1,3 +1,11 @@
+pub mod Apart
+pub mod EachAfter
+pub mod Firsts
 pub mod ItemLemmas
+pub mod Joined
 pub mod Lists
+pub mod Passes
+pub mod Sections
+pub mod Sound
 pub mod StoredLemmas
+pub mod TakenLemmas

@@ -104,24 +104,34 @@ faults_by fault rows = each_after (λ before row. option_map (λ f. record { row
 abbrev pub faults_of : List RowText → List RowError
 faults_of rows = faults_by row_fault rows ++ faults_by (link_fault (packages_of rows)) rows
 
+-- the first fault, or x where there is none
+abbrev pub first_or : {X : Type 0} → List RowError → X → Result X RowError
+first_or [] x = Ok x
+first_or (e ∷ faults) x = Err e
+
 -- the tables of the rows, or the first fault
 abbrev pub tables_of : List RowText → Result Tables RowError
-tables_of rows =
-    option_map_or Err (slice_get (faults_of rows) 0) (Ok (record { packages = packages_of rows; links = links_of (dependencies_of (packages_of rows) rows) }))
+tables_of rows = first_or (faults_of rows) (record { packages = packages_of rows; links = links_of (dependencies_of (packages_of rows) rows) })
 
--- an error is the given one; want of memory can come at any point, and names row 0
-abbrev pub IsGivenError : RowError → Type 0 → Type 0
-IsGivenError e claim = IfNotMemory e.fault e.row claim
-  where
-    IfNotMemory : RowFault → ℕ → Type 0 → Type 0
-    IfNotMemory Memory row claim = row ≡ 0
-    IfNotMemory NoPackage row claim = claim
-    IfNotMemory DuplicatePackage row claim = claim
-    IfNotMemory DuplicateFeature row claim = claim
-    IfNotMemory UnknownTarget row claim = claim
-    IfNotMemory OtherName row claim = claim
+-- the row that is named: want of memory names row 0
+abbrev pub error_row : RowFault → ℕ → ℕ
+error_row Memory row = 0
+error_row NoPackage row = row
+error_row DuplicatePackage row = row
+error_row DuplicateFeature row = row
+error_row UnknownTarget row = row
+error_row OtherName row = row
 
--- a call answered what the rows give, seen by a view
+-- a fact for want of memory, and one for every other fault
+abbrev pub MatchMemory : RowFault → Type 0 → Type 0 → Type 0
+MatchMemory Memory P Q = P
+MatchMemory NoPackage P Q = Q
+MatchMemory DuplicatePackage P Q = Q
+MatchMemory DuplicateFeature P Q = Q
+MatchMemory UnknownTarget P Q = Q
+MatchMemory OtherName P Q = Q
+
+-- A call answered what the rows give, seen by a view. Want of memory can come at any point.
 abbrev pub Reads : {X Y : Type 0} → (X → Y) → Result X RowError → Result Y RowError → Type 0
 Reads view (Ok x) given = given ≡ Ok (view x)
-Reads view (Err e) given = IsGivenError e (given ≡ Err e)
+Reads view (Err e) given = MatchMemory e.fault (e.row ≡ 0) (given ≡ Err e)

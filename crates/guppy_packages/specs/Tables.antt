@@ -1,5 +1,5 @@
 -- The tables of a package graph: the packages in the order of their rows, and the links between them.
-use Rattle.std.specs.Prelude.{◌≡◌, ◌↔◌, ◌<◌, ℕ, List, Bool, Option, Some, IsTrue, true, false, Contains, length, map, position, slice_get}
+use Rattle.std.specs.Prelude.{◌≡◌, ◌<◌, ◌==◌, ◌&&◌, ℕ, List, Bool, Option, Some, true, false, length, map, position, slice_get}
 use Rattle.std.specs.List.{list_any, list_all}
 use Rattle.std.specs.Str.{bytes_eq}
 use Rattle.guppy_packages.specs.Rows.{Text, Declared}
@@ -47,6 +47,9 @@ is_development Normal = false
 is_development Build = false
 is_development Development = true
 
+abbrev pub has_name : Text → List Text → Bool
+has_name name names = list_any (bytes_eq name) names
+
 -- every declaration is for development
 abbrev pub is_dev_only : LinkTable → Bool
 is_dev_only l = list_all (λ d. is_development d.kind) l.declarations
@@ -58,14 +61,9 @@ pair_of l = (l.from, l.to)
 abbrev pub HasNoRepeats : {X : Type 0} → List X → Type 0
 HasNoRepeats {X} xs = (i j : ℕ) (x : X) → slice_get xs i ≡ Some x → slice_get xs j ≡ Some x → i ≡ j
 
--- one of the links leaves this package under this name with an optional declaration
-pub record HasOptionalLink (links : List LinkTable) (from : ℕ) (name : Text) : Type 0 where
-  pub place : ℕ
-  pub link : LinkTable
-  pub at : slice_get links place ≡ Some link
-  pub leaves : link.from ≡ from
-  pub named : link.name ≡ name
-  pub optional : IsTrue (list_any (λ d. d.optional) link.declarations)
+-- whether one of the links leaves this package under this name with an optional declaration
+abbrev pub has_optional_link : ℕ → Text → List LinkTable → Bool
+has_optional_link from name links = list_any (λ l. (from == l.from) && bytes_eq name l.name && list_any (λ d. d.optional) l.declarations) links
 
 -- what holds of the tables of rows
 pub record AreTables (t : Tables) : Type 0 where
@@ -75,4 +73,4 @@ pub record AreTables (t : Tables) : Type 0 where
   pub pairs : HasNoRepeats (map pair_of t.links)
   pub ends : (k : ℕ) (l : LinkTable) → slice_get t.links k ≡ Some l → (l.from < length t.packages) × (l.to < length t.packages)
   pub declarations : (k : ℕ) (l : LinkTable) → slice_get t.links k ≡ Some l → 0 < length l.declarations
-  pub optional : (i : ℕ) (p : PackageTable) (name : Text) → slice_get t.packages i ≡ Some p → Contains p.optional_names name ↔ HasOptionalLink t.links i name
+  pub optional : (i : ℕ) (p : PackageTable) (name : Text) → slice_get t.packages i ≡ Some p → has_name name p.optional_names ≡ has_optional_link i name t.links

@@ -12,8 +12,8 @@ use std::marker::Model;
 /// Packages with their features, and the links between them. A contract sees it as its tables.
 #[derive(Drop)]
 pub struct PackageGraph {
-    packages: IndexMap<PackageId, PackageData>,
-    links: IndexMap<(usize, usize), LinkData>,
+    pub(crate) packages: IndexMap<PackageId, PackageData>,
+    pub(crate) links: IndexMap<(usize, usize), LinkData>,
 }
 
 impl Model for PackageGraph {

@@ -1,6 +1,7 @@
 //! Package rows, their tables, package ids and links.
 #![tactic(auto)]
 
+mod building;
 mod direction;
 mod graph;
 mod items;

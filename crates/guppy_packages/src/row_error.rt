@@ -25,6 +25,22 @@ pub struct RowError {
     pub fault: RowFault,
 }
 
+impl RowError {
+    ghost use Rattle.std.specs.Prelude.{◌≡◌};
+    ghost use Rattle.guppy_packages.specs.Graph.{error_row};
+
+    /// A fault of this row.
+    pub(crate) fn new(row: usize, fault: RowFault) -> RowError
+        ensures fault { result.fault ≡ fault }
+        ensures row { result.row ≡ error_row fault row }
+    {
+        match fault {
+            RowFault::Memory => RowError { row: 0, fault },
+            _ => RowError { row, fault },
+        }
+    }
+}
+
 impl From<AllocError> for RowFault {
     ghost use Rattle.std.specs.Prelude.{◌≡◌};
     ghost use Rattle.guppy_packages.specs.declared.row_error.RowFault.TheVariants.{Memory};

@@ -1,0 +1,153 @@
+-- What the calls of the maps do to the tables.
+use Rattle.std.proofs.Common.{◌≡◌, ℕ, zero, suc, ◌+◌, ◌-◌, List, [], ◌∷◌, ◌++◌, Bool, true, false, cond, ◌||◌, not, Option, None, Some, Ok, Err, map, length, refl, ap, sym, ◌∙◌, arith, if◌then◌else◌, is_some}
+use Rattle.std.specs.Prelude.{slice_get, slice_set, position, nat_lt, ◌&&◌, ◌==◌}
+use Rattle.std.specs.List.{list_any, position_or_len}
+use Rattle.std.specs.Map.{lookup, keys_of, values_of}
+use Rattle.std.specs.String.{string_bytes}
+use Rattle.std.specs.Str.{bytes_eq}
+use Rattle.std.proofs.lemmas.List.{length-map}
+use Rattle.indexmap.specs.Layout.{set_value_at}
+use Rattle.indexmap.proofs.MapLemmas.{some_index}
+use Rattle.guppy_packages.specs.Rows.{Text, Declared}
+use Rattle.guppy_packages.specs.Tables.{LinkTable, PackageTable}
+use Rattle.guppy_packages.specs.Steps.{Outcome, Takes, add_link, add_name, change_last, joins, result_map, with_name}
+use Rattle.guppy_packages.specs.Stored.{declared, link_table, package_table}
+use Rattle.guppy_packages.specs.declared.row_error.RowFault.TheVariants.{NoPackage, DuplicatePackage, DuplicateFeature, UnknownTarget, OtherName, Memory}
+use Rattle.guppy_packages.specs.declared.stored.LinkData.{LinkData}
+use Rattle.guppy_packages.specs.declared.stored.PackageData.{PackageData}
+use Rattle.guppy_packages.proofs.Lists.{position_or_len-map, slice_get-map}
+
+-- a map has a key exactly where the list of its tables has an entry that passes
+pub lookup_any : {K V T : Type 0} (f : K × V → T) (test : K → Bool) (p : T → Bool) → ((e : K × V) → p (f e) ≡ test e.0) → (es : List (K × V)) → list_any p (map f es) ≡ is_some (lookup test es)
+lookup_any f test p same [] = refl
+lookup_any f test p same (e ∷ es) = go (test e.0) refl (lookup_any f test p same es)
+  where
+    go : (b : Bool) → test e.0 ≡ b → list_any p (map f es) ≡ is_some (lookup test es) → p (f e) || list_any p (map f es) ≡ is_some (cond b (Some e.1) (lookup test es))
+    go true t more = rw (same e, t)
+    go false t more = rw (same e, t) more
+
+pub none_of : {X : Type 0} (o : Option X) → is_some o ≡ false → o ≡ None
+none_of None h = refl
+none_of (Some x) h = cc
+
+-- a write by index to a map is a write to the list of its tables
+pub set_value_at-map : {K V T : Type 0} (f : K × V → T) (es : List (K × V)) (i : ℕ) (k : K) (v w : V) → slice_get es i ≡ Some (k, v) → map f (set_value_at es i w) ≡ slice_set (map f es) i (f (k, w))
+set_value_at-map f [] i k v w h = cc
+set_value_at-map f (e ∷ es) zero k v w h =
+    let same : e ≡ (k, v) = cc in
+    ap (λ x. f (x.0, w) ∷ map f es) same
+set_value_at-map f (e ∷ es) (suc i) k v w h = ap (λ l. f e ∷ l) (set_value_at-map f es i k v w h)
+
+-- a value of a map stands at a key
+pub entry_of : {K V : Type 0} (es : List (K × V)) (i : ℕ) (v : V) → slice_get (values_of es) i ≡ Some v → (k : K) × (slice_get es i ≡ Some (k, v))
+entry_of [] i v h = cc
+entry_of (e ∷ es) zero v h =
+    let same : e.1 ≡ v = cc in
+    (e.0, ap (λ x. Some (e.0, x)) same)
+entry_of (e ∷ es) (suc i) v h = entry_of es i v h
+
+-- what a call did to a part, for the whole
+pub Takes-map : {A B C : Type 0} (f : A → B) (new : A) (result : Outcome C) (given : Outcome A) → Takes new result given → Takes (f new) result (result_map f given)
+Takes-map f new (Ok x) given h = ap (result_map f) h
+Takes-map f new (Err NoPackage) given h = ap (result_map f) h
+Takes-map f new (Err DuplicatePackage) given h = ap (result_map f) h
+Takes-map f new (Err DuplicateFeature) given h = ap (result_map f) h
+Takes-map f new (Err UnknownTarget) given h = ap (result_map f) h
+Takes-map f new (Err OtherName) given h = ap (result_map f) h
+Takes-map f new (Err Memory) given h = tt
+
+-- a write to the last package
+pub last_changed : {C : Type 0} (es : List (Text × PackageData)) (v w : PackageData) (change : PackageTable → Outcome PackageTable) (result : Outcome C)
+    → slice_get (values_of es) (length es - 1) ≡ Some v
+    → ((id : Text) → Takes (package_table (id, w)) result (change (package_table (id, v))))
+    → Takes (map package_table (set_value_at es (length es - 1) w)) result (change_last change (map package_table es))
+last_changed es v w change result at taken =
+    let e = entry_of es (length es - 1) v at in
+    let written = set_value_at-map package_table es (length es - 1) e.0 v w e.1 in
+    rw (written, length-map es package_table, slice_get-map package_table es (length es - 1) (e.0, v) e.1) (Takes-map (slice_set (map package_table es) (length es - 1)) _ result _ (taken e.0))
+
+-- a Dep row in the first pass: the last package notes its name, or not
+pub name_noted : {C : Type 0} (es : List (Text × PackageData)) (v w : PackageData) (name : Text) (names : List Text) (optional : Bool) (result : Outcome C)
+    → slice_get (values_of es) (length es - 1) ≡ Some v → optional ≡ true
+    → ((id : Text) → package_table (id, w) ≡ record (package_table (id, v)) { optional_names = names })
+    → Takes names result (Ok (with_name name (map string_bytes v.optional_names.keys)))
+    → Takes (map package_table (set_value_at es (length es - 1) w)) result (change_last (λ p. Ok (add_name name optional p)) (map package_table es))
+name_noted es v w name names false result at o same taken = cc
+name_noted es v w name names true result at o same taken =
+    last_changed es v w (λ p. Ok (add_name name true p)) result at (λ id. rw (same id) (Takes-map (λ ns. record (package_table (id, v)) { optional_names = ns }) names result _ taken))
+
+pub not_noted : (es : List (Text × PackageData)) (v : PackageData) (name : Text) (optional : Bool)
+    → slice_get (values_of es) (length es - 1) ≡ Some v → optional ≡ false
+    → change_last (λ p. Ok (add_name name optional p)) (map package_table es) ≡ Ok (map package_table (set_value_at es (length es - 1) v))
+not_noted es v name true at o = cc
+not_noted es v name false at o = last_changed {C = ℕ} es v v (λ p. Ok p) (Ok 0) at (λ id. refl)
+
+result_map_if : {A B E : Type 0} (f : A → B) (b : Bool) (x : A) (e : E) → result_map f (if b then Ok x else Err e) ≡ (if b then Ok (f x) else Err e)
+result_map_if f true x e = refl
+result_map_if f false x e = refl
+
+module _ (from to : ℕ) (name : Text) (d : Declared) where
+  abbrev new_link : LinkTable
+  new_link = record { from = from; to = to; name = name; declarations = d ∷ [] }
+
+  -- no link has the pair
+  pub link_new : (ls : List LinkTable) → list_any (joins from to) ls ≡ false → add_link from to name d ls ≡ Ok (ls ++ new_link ∷ [])
+  link_new [] h = refl
+  link_new (l ∷ ls) h = go (joins from to l) refl h (λ p. link_new ls p)
+    where
+      go : (b : Bool) → joins from to l ≡ b → b || list_any (joins from to) ls ≡ false → (list_any (joins from to) ls ≡ false → add_link from to name d ls ≡ Ok (ls ++ new_link ∷ [])) → add_link from to name d (l ∷ ls) ≡ Ok (l ∷ (ls ++ new_link ∷ []))
+      go true t p more = cc
+      go false t p more = rw (t, more p)
+
+  -- the link of the pair, at its index
+  pub link_at : (ls : List LinkTable) (i : ℕ) (l : LinkTable) → position_or_len (joins from to) ls ≡ i → slice_get ls i ≡ Some l
+      → add_link from to name d ls ≡ (if bytes_eq name l.name then Ok (slice_set ls i (record l { declarations = l.declarations ++ d ∷ [] })) else Err OtherName)
+  link_at [] i l p g = cc
+  link_at (x ∷ ls) i l p g = go (joins from to x) refl i p g (λ j p g. link_at ls j l p g)
+    where
+      go : (b : Bool) → joins from to x ≡ b → (j : ℕ) → cond (not b) (1 + position_or_len (joins from to) ls) 0 ≡ j → slice_get (x ∷ ls) j ≡ Some l
+          → ((k : ℕ) → position_or_len (joins from to) ls ≡ k → slice_get ls k ≡ Some l → add_link from to name d ls ≡ (if bytes_eq name l.name then Ok (slice_set ls k (record l { declarations = l.declarations ++ d ∷ [] })) else Err OtherName))
+          → add_link from to name d (x ∷ ls) ≡ (if bytes_eq name l.name then Ok (slice_set (x ∷ ls) j (record l { declarations = l.declarations ++ d ∷ [] })) else Err OtherName)
+      go true t zero p g more =
+          let here : x ≡ l = cc in
+          rw (t, here)
+      go true t (suc j) p g more = absurd (omega arith)
+      go false t zero p g more = absurd (omega arith)
+      go false t (suc j) p g more =
+          let at : position_or_len (joins from to) ls ≡ j = omega arith in
+          rw (t, more j at g) (result_map_if (λ rest. x ∷ rest) (bytes_eq name l.name) _ OtherName)
+
+position_or_len-of : {X : Type 0} (p : X → Bool) (xs : List X) (i : ℕ) → position p xs ≡ Some i → position_or_len p xs ≡ i
+position_or_len-of p xs i h = go (nat_lt (position_or_len p xs) (length xs)) h
+  where
+    go : (b : Bool) → cond b (Some (position_or_len p xs)) None ≡ Some i → position_or_len p xs ≡ i
+    go true h = cc
+    go false h = cc
+
+module _ (from to : ℕ) (name : Text) (d : Declared) (es : List ((ℕ × ℕ) × LinkData)) where
+  abbrev pub at_pair : ℕ × ℕ → Bool
+  at_pair k = (from == k.0) && (to == k.1)
+
+  place : (i : ℕ) → Some i ≡ position at_pair (keys_of es) → (v : LinkData) → (g : slice_get (values_of es) i ≡ Some v)
+      → add_link from to name d (map link_table es) ≡ (if bytes_eq name (string_bytes v.name) then Ok (slice_set (map link_table es) i (record { from = (entry_of es i v g).0.0; to = (entry_of es i v g).0.1; name = string_bytes v.name; declarations = map declared v.declarations.items ++ d ∷ [] })) else Err OtherName)
+  place i p v g =
+      let e = entry_of es i v g in
+      let at : position_or_len (joins from to) (map link_table es) ≡ i = position_or_len-map link_table (joins from to) es ∙ sym (position_or_len-map (λ x. x.0) at_pair es) ∙ position_or_len-of at_pair (keys_of es) i (sym p) in
+      link_at from to name d (map link_table es) i (link_table (e.0, v)) at (slice_get-map link_table es i (e.0, v) e.1)
+
+  -- the map's index of the pair is that of the link: what joining it by the value w gives
+  pub found_link : (i : ℕ) (v w : LinkData) → Some i ≡ position at_pair (keys_of es) → slice_get (values_of es) i ≡ Some v
+      → string_bytes w.name ≡ string_bytes v.name → map declared w.declarations.items ≡ map declared v.declarations.items ++ d ∷ []
+      → bytes_eq name (string_bytes v.name) ≡ true → add_link from to name d (map link_table es) ≡ Ok (map link_table (set_value_at es i w))
+  found_link i v w p g n m t =
+      let e = entry_of es i v g in
+      rw (place i p v g, t, set_value_at-map link_table es i e.0 v w e.1, n, m)
+
+  pub other_link : (i : ℕ) (v : LinkData) → Some i ≡ position at_pair (keys_of es) → slice_get (values_of es) i ≡ Some v
+      → bytes_eq name (string_bytes v.name) ≡ false → add_link from to name d (map link_table es) ≡ Err OtherName
+  other_link i v p g t = rw (place i p v g, t)
+
+  pub missing_link : None ≡ position at_pair (keys_of es) → (list_any (joins from to) (map link_table es) ≡ false) × (lookup at_pair es ≡ None)
+  missing_link p =
+      let gone : is_some (lookup at_pair es) ≡ false = sym (some_index at_pair es) ∙ ap is_some (sym p) in
+      (lookup_any link_table at_pair (joins from to) (λ e. refl) es ∙ gone, none_of _ gone)
