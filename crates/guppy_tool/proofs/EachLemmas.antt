@@ -1,5 +1,5 @@
 -- A loop over items of which each gives something or refuses.
-use Rattle.std.proofs.Common.{◌≡◌, ℕ, ◌≤◌, ◌++◌, List, [], ◌∷◌, Result, Ok, Err, Option, None, Some, find, is_none, length, drop, cond, sym, ap, ◌∙◌, refl, append_assoc, append-nil}
+use Rattle.std.proofs.Common.{◌≡◌, ℕ, ◌≤◌, ◌++◌, List, [], ◌∷◌, Result, Ok, Err, Option, None, Some, find, is_none, length, drop, cond, sym, ap, ◌∙◌, refl, append_assoc, append-nil, suc}
 use Rattle.std.proofs.Math.ListN.{drop_of_length-le}
 use Rattle.std.specs.List.{filter_map, cons_option}
 use Rattle.std.specs.Option.{option_map_or}
@@ -68,3 +68,32 @@ if_not_memory (other_name n) P Q f h = f h
 if_not_memory (unknown_package id) P Q f h = f h
 if_not_memory (unknown_feature id) P Q f h = f h
 if_not_memory cannot_write P Q f h = f h
+
+first_length : {B : Type 0} (refusal : Refusal) (given : Option B) (rest : Result (List B) Refusal) (ys : List B) → with_first refusal given rest ≡ Ok ys → (zs : List B) × (rest ≡ Ok zs) × (length ys ≡ suc (length zs))
+first_length refusal None rest ys e = absurd (cc)
+first_length refusal (Some y) (Ok zs) ys e = let same : y ∷ zs ≡ ys = cc in (zs, refl, sym (ap length same))
+first_length refusal (Some y) (Err r) ys e = absurd (cc)
+
+-- as many as the items
+pub each_or-length : {A B : Type 0} (f : A → Option B) (refusal : A → Refusal) (xs : List A) (ys : List B) → each_or f refusal xs ≡ Ok ys → length ys ≡ length xs
+each_or-length f refusal [] ys e = let same : [] ≡ ys = cc in sym (ap length same)
+each_or-length f refusal (x ∷ xs) ys e =
+    let rest = first_length (refusal x) (f x) (each_or f refusal xs) ys (sym (each_or-cons f refusal x xs) ∙ e) in
+    rest.2 ∙ ap suc (each_or-length f refusal xs rest.0 rest.1)
+
+-- what holds in any case
+pub given_anyway : (r : Refusal) (P : Type 0) → P → IfNotMemory r P
+given_anyway out_of_memory P h = tt
+given_anyway usage P h = h
+given_anyway (bad_id word) P h = h
+given_anyway cannot_read P h = h
+given_anyway not_text P h = h
+given_anyway (malformed n) P h = h
+given_anyway (no_package n) P h = h
+given_anyway (duplicate_package n) P h = h
+given_anyway (duplicate_feature n) P h = h
+given_anyway (unknown_target n) P h = h
+given_anyway (other_name n) P h = h
+given_anyway (unknown_package id) P h = h
+given_anyway (unknown_feature id) P h = h
+given_anyway cannot_write P h = h

@@ -3,3 +3,5 @@ pub mod LineLemmas
 pub mod EachLemmas
 pub mod RowLemmas
 pub mod WordLemmas
+pub mod TableLemmas
+pub mod ListingLemmas

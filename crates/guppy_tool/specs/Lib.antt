@@ -4,3 +4,6 @@ pub mod Lines
 pub mod Faults
 pub mod Reading
 pub mod Words
+pub mod Output
+pub mod Answers
+pub mod Run
