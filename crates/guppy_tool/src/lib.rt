@@ -12,6 +12,11 @@ mod reading;
 mod tables;
 mod words;
 
+#[cfg(test)]
+mod test_devices;
+#[cfg(test)]
+mod tests;
+
 pub use devices::{ByteInput, ByteOutput, Failed, FromReader, ToWriter};
 pub use engine::run;
 pub use fault::Fault;
