@@ -10,12 +10,11 @@ mod lines;
 mod listing;
 mod reading;
 mod tables;
-mod words;
-
 #[cfg(test)]
 mod test_devices;
 #[cfg(test)]
 mod tests;
+mod words;
 
 pub use devices::{ByteInput, ByteOutput, Failed, FromReader, ToWriter};
 pub use engine::run;

@@ -10,8 +10,8 @@ ghost use Rattle.feature_labels.specs.Names.LabelName.{named, optional};
 ghost use Rattle.feature_core.specs.Nodes.{nodes, labels_of};
 
 use feature_labels::FeatureId;
-use guppy_support::IxBitSet;
 use guppy_packages::{NamedFeature, PackageGraph, PackageId, PackageMetadata};
+use guppy_support::IxBitSet;
 use std::alloc::{AllocError, Global};
 
 /// Adds the ids of named features of a package.

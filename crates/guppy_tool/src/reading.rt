@@ -80,7 +80,16 @@ fn feature<'a>(fields: &'a [&'a str]) -> Option<Row<'a>>
 fn dep<'a>(fields: &'a [&'a str]) -> Option<Row<'a>>
     ensures { option_map row_text result ≡ dep_row (texts fields.now) }
 {
-    let [name, target, of_kind, needed, at, with_defaults, features @ ..] = fields else {
+    let [
+        name,
+        target,
+        of_kind,
+        needed,
+        at,
+        with_defaults,
+        features @ ..,
+    ] = fields
+    else {
         return None;
     };
     let kind = kind(of_kind)?;

@@ -77,10 +77,7 @@ fn ids<'a>(alloc: Global, words: &[&'a str]) -> Result<Vec<GivenId<'a>>, Fault>
 ///
 /// `FILE resolve forward ID...` is the one form; all else is the usage fault. The first ID without a
 /// slash is a bad id.
-pub fn parse_words<'a>(
-    alloc: Global,
-    words: &[&'a str],
-) -> Result<(&'a str, Command<'a>), Fault>
+pub fn parse_words<'a>(alloc: Global, words: &[&'a str]) -> Result<(&'a str, Command<'a>), Fault>
     ensures { Gives (λ asked. (asked.0.now, command_of asked.1)) result (words_ask (texts words.now)) }
 {
     let [file, command, direction, arguments @ ..] = words else {
