@@ -1,5 +1,5 @@
 -- Bytes that stayed, and then were read or written.
-use Rattle.std.proofs.Common.{◌≡◌, ℕ, List, Option, None, Some, ◌++◌, ap, ◌∙◌, sym}
+use Rattle.std.proofs.Common.{ℕ, List, Option, None, Some, ◌++◌, ap, ◌∙◌, sym}
 use Rattle.std.specs.Io.KnownBytes.{Keeps, Consumes, Appends}
 
 pub kept_Consumes : (a b c : Option (List ℕ)) (bs : List ℕ) → Keeps a b → Consumes b c bs → Consumes a c bs

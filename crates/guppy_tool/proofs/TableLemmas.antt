@@ -1,7 +1,7 @@
 -- A faulty row and its line.
 use Rattle.std.proofs.Common.{◌≡◌, ℕ, ◌<◌, zero, suc, List, [], ◌∷◌, Result, Ok, Err, map, length, get_or, sym, ap, ◌∙◌, refl, arith}
 use Rattle.std.proofs.lemmas.List.{length-map}
-use Rattle.guppy_packages.specs.Rows.{RowText, Text, row_text}
+use Rattle.guppy_packages.specs.Rows.{Text, row_text}
 use Rattle.guppy_packages.specs.Graph.{tables_of, Reads}
 use Rattle.guppy_packages.specs.declared.row.Row.{Row}
 use Rattle.guppy_packages.specs.declared.row_error.RowError.{RowError}

@@ -1,12 +1,10 @@
 -- Where a word is cut.
-use Rattle.std.proofs.Common.{◌≡◌, ◌≢◌, ℕ, ◌+◌, ◌-◌, ◌<◌, ◌≤◌, List, ◌∷◌, Bool, true, false, not, Option, None, Some, Ok, Err, length, get_or, take, drop, sym, ap, ◌∙◌, subst, arith, cond, refl, suc, nat_eq, lit<}
-use Rattle.std.proofs.lemmas.List.{get_or-drop, length-drop, get_or_default}
+use Rattle.std.proofs.Common.{◌≡◌, ◌≢◌, ℕ, ◌+◌, ◌-◌, ◌<◌, List, ◌∷◌, Bool, true, false, not, Option, None, Some, Ok, Err, length, get_or, take, drop, sym, ap, ◌∙◌, subst, arith, cond, refl, nat_eq, lit<}
+use Rattle.std.proofs.lemmas.List.{get_or-drop, get_or_default}
 use Rattle.std.proofs.lemmas.List.Folds.{list_any_none, list_any-from_Any}
 use Rattle.std.proofs.lemmas.List.Sums.{suffix_len_is}
 use Rattle.std.proofs.lemmas.Bool.{eq-eqb, ne_eqb}
-use Rattle.std.proofs.lemmas.Str.{len_utf8_ascii}
-use Rattle.std.proofs.lemmas.Str.Pattern.{NoCharPasses-char, drop_at_char}
-use Rattle.std.proofs.lemmas.Grind.{common_steps}
+use Rattle.std.proofs.lemmas.Str.Pattern.{NoCharPasses-char}
 use Rattle.std.specs.List.{list_any, suffix_len, before_last, after_last}
 use Rattle.std.specs.Option.{option_map, MatchOption}
 use Rattle.std.specs.Borrow.{Bor}

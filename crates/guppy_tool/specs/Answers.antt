@@ -1,5 +1,5 @@
 -- What each command answers over the tables of a row file.
-use Rattle.std.specs.Prelude.{◌≡◌, ◌↔◌, ◌++◌, ℕ, List, ◌∷◌, [], Bool, Option, None, Some, Result, Ok, Err, IsTrue, IsFalse, Contains, not, filter, map, flat_map}
+use Rattle.std.specs.Prelude.{◌≡◌, ◌↔◌, ◌++◌, ℕ, List, ◌∷◌, [], Bool, Result, Ok, Err, IsTrue, Contains, filter, map, flat_map}
 use Rattle.std.specs.List.{enumerate_from}
 use Rattle.guppy_packages.specs.Rows.{Text}
 use Rattle.guppy_packages.specs.Tables.{Tables}

@@ -1,5 +1,5 @@
 -- What is answered for the bytes of a row file.
-use Rattle.std.specs.Prelude.{◌≡◌, ℕ, List, Result, Ok, Err, map, slice_index, if◌then◌else◌}
+use Rattle.std.specs.Prelude.{ℕ, List, Result, Ok, Err, map, slice_index, if◌then◌else◌}
 use Rattle.std.specs.Str.{is_utf8}
 use Rattle.guppy_packages.specs.Rows.{Text}
 use Rattle.guppy_packages.specs.Tables.{Tables}

@@ -1,5 +1,5 @@
 -- What a run writes for the bytes that it read, and how it ends.
-use Rattle.std.specs.Prelude.{◌≡◌, List, Option, ◌++◌, Bool, true, Result, Ok, Err, IfSome}
+use Rattle.std.specs.Prelude.{◌≡◌, Option, ◌++◌, Bool, true, Result, Ok, Err, IfSome}
 use Rattle.std.specs.Io.KnownBytes.{Keeps, Appends}
 use Rattle.guppy_packages.specs.Rows.{Text}
 use Rattle.guppy_packages.specs.Tables.{Tables}

@@ -1,4 +1,4 @@
-use Rattle.std.proofs.Common.{◌≡◌, ◌∙◌, sym, ◌+◌, ◌++◌, map, drop, true, false}
+use Rattle.std.proofs.Common.{◌∙◌, sym, map, drop}
 use Rattle.guppy_support.specs.Bits.{has}
 use Rattle.feature_labels.specs.Names.{id_of}
 use Rattle.guppy_tool.proofs.LineLemmas.{drop_map_at}

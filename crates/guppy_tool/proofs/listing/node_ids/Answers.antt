@@ -1,4 +1,4 @@
-use Rattle.std.proofs.Common.{◌≡◌, List, map, add-one, flat_map}
+use Rattle.std.proofs.Common.{List, map, add-one}
 use Rattle.guppy_packages.specs.Rows.{Text}
 use Rattle.guppy_packages.specs.Tables.{PackageTable}
 use Rattle.feature_labels.specs.Names.{LabelName}

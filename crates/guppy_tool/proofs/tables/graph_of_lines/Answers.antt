@@ -1,4 +1,4 @@
-use Rattle.std.proofs.Common.{◌≡◌, ◌<◌, arith, length}
+use Rattle.std.proofs.Common.{arith}
 use Rattle.guppy_packages.specs.Rows.{texts}
 use Rattle.guppy_tool.proofs.TableLemmas.{not_memory, row_there, refused_there}
 use Rattle.guppy_tool.proofs.tables.graph_of_lines.Goals as goal

@@ -1,10 +1,10 @@
-use Rattle.std.proofs.Common.{rules, ◌≡◌, ◌∙◌, ap, ℕ, List, ◌++◌, [], ◌∷◌, Err, map, arith, get_or, drop}
+use Rattle.std.proofs.Common.{◌≡◌, ◌++◌, [], ◌∷◌, map, arith, get_or, drop}
 use Rattle.std.proofs.lemmas.List.{get_or_default}
 use Rattle.std.proofs.lemmas.Result.{err_from_is_err_and}
 use Rattle.std.proofs.lemmas.Grind.{common_steps}
 use Rattle.guppy_packages.specs.Rows.{texts}
 use Rattle.guppy_tool.specs.Faults.{bad_id, refusal_of}
-use Rattle.guppy_tool.specs.Words.{given_of, id_in, ids_in}
+use Rattle.guppy_tool.specs.Words.{given_of, id_in}
 use Rattle.guppy_tool.proofs.EachLemmas.{one_given}
 use Rattle.guppy_tool.proofs.LineLemmas.{drop_map_at}
 use Rattle.guppy_tool.proofs.WordLemmas.{word_refused, an_id}

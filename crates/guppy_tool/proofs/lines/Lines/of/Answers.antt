@@ -1,7 +1,5 @@
 use Rattle.std.proofs.lemmas.List.{get_or_default}
-use Rattle.std.proofs.Common.{get_or, ◌+◌, ◌≡◌, ℕ, List, ◌++◌, [], ◌∷◌, rules, true, false}
-use Rattle.guppy_packages.specs.Rows.{texts}
-use Rattle.guppy_tool.specs.Lines.{line_texts, fields_in, is_skipped}
+use Rattle.std.proofs.Common.{get_or, ◌+◌, [], rules}
 use Rattle.guppy_tool.proofs.LineLemmas.{drop_map_at, skipped_line, kept_line}
 use Rattle.guppy_tool.proofs.lines.Lines.of.Goals as goal
 use Rattle.guppy_tool.proofs.lines.Lines.of.Goals.{then-not-skips+in_ok-push, else-not-skips}

@@ -1,7 +1,5 @@
-use Rattle.std.proofs.Common.{rules, arith, sym, subst, ap, ◌∙◌, ◌≡◌, ◌≤◌, ◌++◌, length, ℕ, List, vec_len, is_ok}
+use Rattle.std.proofs.Common.{arith, ap, ◌≡◌, ◌≤◌, ◌++◌, length, is_ok}
 use Rattle.std.proofs.lemmas.List.{length-map}
-use Rattle.std.proofs.lemmas.Grind.{common_steps}
-use Rattle.std.specs.List.{All}
 use Rattle.guppy_packages.specs.Rows.{texts}
 use Rattle.guppy_tool.specs.Lines.{fields_in}
 use Rattle.guppy_tool.proofs.LineLemmas.{line_pushed, longer, one_more_if}
