@@ -1,6 +1,44 @@
 //! The program `features FILE COMMAND ARGS`.
+//!
+//! FILE is the path of a row file, or `-` for standard input. The answer goes to standard output; a
+//! fault is one line on standard error, and the exit status says whether the words (2) or something
+//! else (1) was at fault.
 #![tactic(auto)]
 
-fn main(rt: HostRuntime) {
-    let _ = rt;
+use guppy_tool::{Fault, FromReader, ToWriter, parse_words, run};
+use std::fs::File;
+use std::io::ErrorKind;
+use std::process::ExitCode;
+use std::{env, io};
+
+/// Answers what the program's words ask for.
+fn answer(rt: &HostRuntime) -> Result<(), Fault> {
+    let arguments = match env::args(rt) {
+        Ok(arguments) => arguments,
+        Err(error) if error.kind() == ErrorKind::InvalidData => return Err(Fault::Usage),
+        Err(_) => return Err(Fault::Memory),
+    };
+    let owned: Vec<String> = arguments.skip(1).collect(rt.alloc())?;
+    let words: Vec<&str> = owned.iter().map(|word| word.as_str()).collect(rt.alloc())?;
+    let (file, command) = parse_words(rt.alloc(), &words)?;
+    let mut writer = ToWriter::new(io::writer(rt));
+    if file == "-" {
+        let mut reader = FromReader::new(rt.stdin());
+        return run(rt.alloc(), &command, &mut reader, &mut writer);
+    }
+    let Ok(opened) = File::open(rt, file) else {
+        return Err(Fault::CannotRead);
+    };
+    let mut reader = FromReader::new(opened);
+    run(rt.alloc(), &command, &mut reader, &mut writer)
+}
+
+fn main(rt: HostRuntime) -> ExitCode {
+    match answer(&rt) {
+        Ok(()) => ExitCode::SUCCESS,
+        Err(fault) => {
+            let _ = eprintln!(rt; "{fault}");
+            ExitCode::from(fault.status())
+        }
+    }
 }

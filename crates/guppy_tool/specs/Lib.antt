@@ -1,0 +1,9 @@
+pub mod Devices
+pub mod Status
+pub mod Lines
+pub mod Faults
+pub mod Reading
+pub mod Words
+pub mod Output
+pub mod Answers
+pub mod Run

@@ -1,0 +1,7 @@
+pub mod KeptBytes
+pub mod LineLemmas
+pub mod EachLemmas
+pub mod RowLemmas
+pub mod WordLemmas
+pub mod TableLemmas
+pub mod ListingLemmas

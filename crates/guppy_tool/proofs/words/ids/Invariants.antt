@@ -1,0 +1,9 @@
+use Rattle.std.proofs.Common.{◌≡◌, drop, map}
+use Rattle.guppy_packages.specs.Rows.{texts}
+use Rattle.guppy_tool.specs.Words.{given_of, ids_in}
+use Rattle.guppy_tool.proofs.EachLemmas.{with_front}
+use Rattle.guppy_tool.proofs.words.ids.Given as goal
+
+-- The ids so far, before those of the words to come, are the ids of all words.
+abbrev pub invariant-loop-word : goal.invariant-loop-word
+invariant-loop-word l = with_front (map given_of l.ids.items) (ids_in (drop l.word-index (texts l.words))) ≡ ids_in (texts l.words)

@@ -1,0 +1,55 @@
+-- Faults, with texts in place of strings.
+use Rattle.std.specs.Prelude.{◌≡◌, ℕ, List, Option, Result, Ok, Err, find, is_none}
+use Rattle.std.specs.List.{filter_map}
+use Rattle.std.specs.Option.{option_map_or}
+use Rattle.std.specs.String.{string_bytes}
+use Rattle.guppy_packages.specs.Rows.{Text}
+use Rattle.guppy_tool.specs.declared.fault.Fault.{Fault}
+use Rattle.guppy_tool.specs.declared.fault.Fault.TheVariants as fault
+
+-- why there is no answer; a number is that of a line
+pub data Refusal : Type 0 where
+  usage : Refusal
+  bad_id : Text → Refusal
+  cannot_read : Refusal
+  not_text : Refusal
+  malformed : ℕ → Refusal
+  no_package : ℕ → Refusal
+  duplicate_package : ℕ → Refusal
+  duplicate_feature : ℕ → Refusal
+  unknown_target : ℕ → Refusal
+  other_name : ℕ → Refusal
+  unknown_package : Text → Refusal
+  unknown_feature : Text → Refusal
+  out_of_memory : Refusal
+  cannot_write : Refusal
+
+abbrev pub refusal_of : Fault → Refusal
+refusal_of fault.Usage = usage
+refusal_of (fault.BadId argument) = bad_id (string_bytes argument)
+refusal_of fault.CannotRead = cannot_read
+refusal_of fault.NotText = not_text
+refusal_of (fault.Malformed line) = malformed line
+refusal_of (fault.NoPackage line) = no_package line
+refusal_of (fault.DuplicatePackage line) = duplicate_package line
+refusal_of (fault.DuplicateFeature line) = duplicate_feature line
+refusal_of (fault.UnknownTarget line) = unknown_target line
+refusal_of (fault.OtherName line) = other_name line
+refusal_of (fault.UnknownPackage id) = unknown_package (string_bytes id)
+refusal_of (fault.UnknownFeature id) = unknown_feature (string_bytes id)
+refusal_of fault.Memory = out_of_memory
+refusal_of fault.CannotWrite = cannot_write
+
+-- want of memory claims nothing
+abbrev pub IfNotMemory : Refusal → Type 0 → Type 0
+IfNotMemory out_of_memory claim = Unit {0}
+IfNotMemory _ claim = claim
+
+-- A call answered what is given, its value seen by a view.
+abbrev pub Gives : {X Y : Type 0} → (X → Y) → Result X Fault → Result Y Refusal → Type 0
+Gives view (Ok x) given = given ≡ Ok (view x)
+Gives view (Err e) given = IfNotMemory (refusal_of e) (given ≡ Err (refusal_of e))
+
+-- what f gives of each item, or the refusal of the first item of which it gives nothing
+abbrev pub each_or : {A B : Type 0} → (A → Option B) → (A → Refusal) → List A → Result (List B) Refusal
+each_or f refusal items = option_map_or (λ x. Err (refusal x)) (find (λ x. is_none (f x)) items) (Ok (filter_map f items))

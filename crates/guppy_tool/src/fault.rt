@@ -1,0 +1,73 @@
+//! Why the program gave no answer.
+use std::alloc::{AllocError, AllocFailed};
+use thiserror::Error;
+
+/// Why the program gave no answer; its Display is the line for standard error.
+#[derive(Debug, Drop, Error)]
+pub enum Fault {
+    #[error("usage: features FILE COMMAND ARGS")]
+    Usage,
+    #[error("bad id: {argument}")]
+    BadId { argument: String },
+    #[error("cannot read")]
+    CannotRead,
+    #[error("not UTF-8")]
+    NotText,
+    #[error("line {line}: malformed")]
+    Malformed { line: usize },
+    #[error("line {line}: no package")]
+    NoPackage { line: usize },
+    #[error("line {line}: duplicate package")]
+    DuplicatePackage { line: usize },
+    #[error("line {line}: duplicate feature")]
+    DuplicateFeature { line: usize },
+    #[error("line {line}: unknown target")]
+    UnknownTarget { line: usize },
+    #[error("line {line}: other name")]
+    OtherName { line: usize },
+    #[error("unknown package: {id}")]
+    UnknownPackage { id: String },
+    #[error("unknown feature: {id}")]
+    UnknownFeature { id: String },
+    #[error("out of memory")]
+    Memory,
+    #[error("cannot write")]
+    CannotWrite,
+}
+
+impl From<AllocError> for Fault {
+    ghost use Rattle.std.specs.Prelude.{◌≡◌};
+    ghost use Rattle.guppy_tool.specs.declared.fault.Fault.TheVariants.{Memory};
+
+    ghost from_gives = { λ _ fault. fault ≡ Memory };
+
+    fn from(_: AllocError) -> Fault {
+        Fault::Memory
+    }
+}
+
+impl<T: Drop> From<AllocFailed<T>> for Fault {
+    ghost use Rattle.std.specs.Prelude.{◌≡◌};
+    ghost use Rattle.guppy_tool.specs.declared.fault.Fault.TheVariants.{Memory};
+
+    ghost from_gives = { λ _ fault. fault ≡ Memory };
+
+    fn from(_: AllocFailed<T>) -> Fault {
+        Fault::Memory
+    }
+}
+
+impl Fault {
+    ghost use Rattle.std.specs.Prelude.{◌≡◌};
+    ghost use Rattle.guppy_tool.specs.Status.{status_of};
+
+    /// The exit status: 2 where the words are at fault, else 1.
+    pub fn status(&self) -> u8
+        ensures { result ≡ status_of self.now }
+    {
+        match self {
+            Fault::Usage | Fault::BadId { .. } => 2,
+            _ => 1,
+        }
+    }
+}

@@ -1,0 +1,92 @@
+//! What the words of the command line ask for.
+ghost use Rattle.std.specs.Prelude.{◌≡◌, ℕ, List, map};
+ghost use Rattle.std.specs.Option.{option_map};
+ghost use Rattle.guppy_packages.specs.Rows.{Text, texts};
+ghost use Rattle.feature_labels.specs.Names.{label_of, id_of, LabelName};
+ghost use Rattle.guppy_tool.specs.Faults.{Gives};
+ghost use Rattle.guppy_tool.specs.Words.{given_of, command_of, cut_at_last_slash as slash_cut, label_in, id_in, ids_in, words_ask, id_or_refusal};
+
+use crate::fault::Fault;
+use feature_labels::{FeatureId, FeatureLabel};
+use guppy_packages::{DependencyDirection, PackageId};
+use std::alloc::{AllocError, AllocFailed, Global};
+
+/// A feature as a word names it; nothing says that there is such a feature.
+#[derive(Drop)]
+pub struct GivenId<'a> {
+    pub package_id: PackageId,
+    pub label: FeatureLabel<'a>,
+}
+
+/// What the program is to print.
+#[derive(Drop)]
+pub enum Command<'a> {
+    /// The features to which the given ones lead in this direction, themselves among them.
+    Resolve {
+        direction: DependencyDirection,
+        ids: Vec<GivenId<'a>>,
+    },
+}
+
+/// The two parts of a word round its last slash.
+fn cut_at_last_slash(word: &str) -> Option<(&str, &str)>
+    ensures { option_map (λ parts. (parts.0.now, parts.1.now)) result ≡ slash_cut word.now }
+{
+    word.rsplit_once('/')
+}
+
+/// The label of a text: `[base]`, `dep:` and a name, or else a name.
+fn label(text: &str) -> FeatureLabel<'_>
+    ensures { label_of result ≡ label_in text.now }
+{
+    if text == "[base]" {
+        return FeatureLabel::Base;
+    }
+    match text.strip_prefix("dep:") {
+        Some(name) => FeatureLabel::OptionalDependency(name),
+        None => FeatureLabel::Named(text),
+    }
+}
+
+/// The id in a word, or the fault of a word that has no slash.
+fn id<'a>(alloc: Global, word: &'a str) -> Result<GivenId<'a>, Fault>
+    ensures { Gives given_of result (id_or_refusal word.now (id_in word.now)) }
+{
+    let Some((package_id, rest)) = cut_at_last_slash(word) else {
+        let argument = String::from_str(alloc, word)?;
+        return Err(Fault::BadId { argument });
+    };
+    Ok(GivenId {
+        package_id: PackageId::new(alloc, package_id)?,
+        label: label(rest),
+    })
+}
+
+/// The ids in the words, or the fault of the first word that is no id.
+fn ids<'a>(alloc: Global, words: &[&'a str]) -> Result<Vec<GivenId<'a>>, Fault>
+    ensures { Gives (λ ids. map given_of ids.items) result (ids_in (texts words.now)) }
+{
+    let mut ids = Vec::new(alloc);
+    for word in words {
+        ids.push(id(alloc, word)?)?;
+    }
+    Ok(ids)
+}
+
+/// The file and the command that the words after the program's name ask for.
+///
+/// `FILE resolve forward ID...` is the one form; all else is the usage fault. The first ID without a
+/// slash is a bad id.
+pub fn parse_words<'a>(alloc: Global, words: &[&'a str]) -> Result<(&'a str, Command<'a>), Fault>
+    ensures { Gives (λ asked. (asked.0.now, command_of asked.1)) result (words_ask (texts words.now)) }
+{
+    let [file, command, direction, arguments @ ..] = words else {
+        return Err(Fault::Usage);
+    };
+    if *command != "resolve" || *direction != "forward" {
+        return Err(Fault::Usage);
+    }
+    let ids = ids(alloc, arguments)?;
+    let direction = DependencyDirection::Forward;
+    Ok((file, Command::Resolve { direction, ids }))
+}
