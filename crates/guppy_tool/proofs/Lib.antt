@@ -5,3 +5,4 @@ pub mod RowLemmas
 pub mod WordLemmas
 pub mod TableLemmas
 pub mod ListingLemmas
+pub mod AnswerLemmas

@@ -1,5 +1,5 @@
 -- One more node, listed or not.
-use Rattle.std.proofs.Common.{◌≡◌, ℕ, ◌+◌, ◌++◌, List, [], ◌∷◌, Bool, true, false, map, filter, cond, sym, ap, ◌∙◌, append_assoc, append-nil, Some, suc, zero, take, flat_map}
+use Rattle.std.proofs.Common.{◌≡◌, ℕ, ◌+◌, ◌++◌, List, [], ◌∷◌, Bool, true, false, map, filter, cond, sym, ap, ◌∙◌, append_assoc, append-nil, Some, suc, zero, take, flat_map, length, get_or, ◌<◌, arith}
 use Rattle.std.proofs.lemmas.List.{map-append}
 use Rattle.std.proofs.lemmas.Simd.{map-map}
 use Rattle.std.specs.Prelude.{slice_get}
@@ -63,3 +63,9 @@ flat_map_more f (y ∷ xs) zero x h =
     let same : y ≡ x = cc in
     append-nil (f y) ∙ ap f same
 flat_map_more f (y ∷ xs) (suc i) x h = ap (λ l. f y ++ l) (flat_map_more f xs i x h) ∙ sym (append_assoc (f y) _ _)
+
+-- the name of a node, by the id at its place
+pub named_at : (ids : List FeatureId) (n : ℕ) (id : FeatureId) → n < length ids → id ≡ get_or ids n id → slice_get (map id_of ids) n ≡ Some (id_of id)
+named_at [] n id h e = absurd (omega arith)
+named_at (x ∷ ids) zero id h e = ap (λ y. Some (id_of y)) (sym e)
+named_at (x ∷ ids) (suc n) id h e = named_at ids n id (omega arith) e

@@ -6,9 +6,11 @@ use Rattle.guppy_packages.specs.Tables.{Tables}
 use Rattle.guppy_packages.specs.declared.direction.DependencyDirection.{DependencyDirection}
 use Rattle.feature_labels.specs.Names.{LabelName, id_text}
 use Rattle.feature_core.specs.Nodes.{nodes}
-use Rattle.feature_core.specs.Built.{NodeNamed}
+use Rattle.feature_core.specs.Errors as graph
+use Rattle.guppy_support.specs.Bits.{has}
+use Rattle.guppy_features.specs.Names.{AreKnown, IsFirstUnknown, HoldsExactly}
 use Rattle.feature_core.specs.Pairs.{Reach}
-use Rattle.guppy_tool.specs.Faults.{Refusal, unknown_feature}
+use Rattle.guppy_tool.specs.Faults.{Refusal, unknown_feature, out_of_memory, IfNotMemory}
 use Rattle.guppy_tool.specs.Words.{CommandText, resolve}
 
 -- ids, each ended by a line feed
@@ -19,28 +21,27 @@ listing ids = flat_map (λ id. id_text id ++ 10 ∷ []) ids
 abbrev pub at_places : {X : Type 0} → (ℕ → Bool) → List X → List X
 at_places passes xs = map (λ p. p.1) (filter (λ p. passes p.0) (enumerate_from 0 xs))
 
--- node n has one of these names
-abbrev pub IsOneOf : Tables → List (Text × LabelName) → ℕ → Type 0
-IsOneOf t ids n = (id : Text × LabelName) × NodeNamed t n id × Contains ids id
-
--- Every id names a node, and the text lists the nodes to which those nodes lead, in the order of their numbers.
+-- Every id names a feature, and the text lists the features to which those lead, in the order of the nodes.
 pub record Resolves (t : Tables) (direction : DependencyDirection) (ids : List (Text × LabelName)) (text : Text) : Type 0 where
-  pub known : (id : Text × LabelName) → Contains ids id → Contains (nodes t) id
-  pub initials : ℕ → Bool
-  pub given : (n : ℕ) → IsTrue (initials n) ↔ IsOneOf t ids n
-  pub members : ℕ → Bool
-  pub reached : (n : ℕ) → IsTrue (members n) ↔ Reach t direction initials n
-  pub lines : text ≡ listing (at_places members (nodes t))
+  pub known : AreKnown t ids
+  pub initials : List Bool
+  pub given : HoldsExactly t initials ids
+  pub members : List Bool
+  pub reached : (n : ℕ) → IsTrue (has members n) ↔ Reach t direction (has initials) n
+  pub lines : text ≡ listing (at_places (has members) (nodes t))
 
--- This id, the first of the ids that name no node, is named.
+-- The first of the ids that names no feature is named.
 pub record NamesUnknown (t : Tables) (ids : List (Text × LabelName)) (refusal : Refusal) : Type 0 where
-  pub before : List (Text × LabelName)
   pub id : Text × LabelName
-  pub after : List (Text × LabelName)
-  pub cut : ids ≡ before ++ id ∷ after
-  pub known : (other : Text × LabelName) → Contains before other → Contains (nodes t) other
-  pub unknown : Contains (nodes t) id → ⊥
+  pub first : IsFirstUnknown t ids id
   pub named : refusal ≡ unknown_feature (id_text id)
+
+-- a refusal of the feature graph's, in the program's terms
+abbrev pub IsToldAs : Refusal → graph.Refusal → Type 0
+IsToldAs refusal (graph.unknown_feature id) = IfNotMemory refusal (refusal ≡ unknown_feature (id_text id))
+IsToldAs refusal graph.no_memory = refusal ≡ out_of_memory
+IsToldAs refusal (graph.unknown_package id) = refusal ≡ out_of_memory
+IsToldAs refusal (graph.internal_error from to) = refusal ≡ out_of_memory
 
 -- what is answered over the tables: the text, or the first refusal
 abbrev pub IsOutput : CommandText → Tables → Result Text Refusal → Type 0

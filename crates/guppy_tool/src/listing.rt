@@ -1,5 +1,5 @@
 //! Feature ids in the order of the nodes, and their lines.
-ghost use Rattle.std.specs.Prelude.{◌≡◌, ◌++◌, ◌∷◌, [], IfOk, OnOk, length, map};
+ghost use Rattle.std.specs.Prelude.{◌≡◌, ◌++◌, ◌∷◌, [], ℕ, IfOk, OnOk, map};
 ghost use Rattle.guppy_support.specs.Bits.{has};
 ghost use Rattle.guppy_tool.specs.Answers.{listing, at_places};
 ghost use Rattle.std.specs.String.{string_bytes};
@@ -8,10 +8,11 @@ ghost use Rattle.guppy_packages.specs.NamedFeature.{feature_table};
 ghost use Rattle.feature_labels.specs.Names.{id_of, id_text};
 ghost use Rattle.feature_labels.specs.Names.LabelName.{named, optional};
 ghost use Rattle.feature_core.specs.Nodes.{nodes, labels_of};
+ghost use Rattle.feature_core.specs.Built.{NodeNamed};
+ghost use Rattle.guppy_features.specs.Names.{HasFeature};
 
-use feature_labels::FeatureId;
+use guppy_features::{FeatureId, FeatureSet};
 use guppy_packages::{NamedFeature, PackageGraph, PackageId, PackageMetadata};
-use guppy_support::IxBitSet;
 use std::alloc::{AllocError, Global};
 
 /// Adds the ids of named features of a package.
@@ -73,15 +74,26 @@ pub fn push_line(text: &mut String, id: FeatureId<'_>) -> Result<(), AllocError>
     writeln!(text, "{id}")
 }
 
+/// Whether the set has a feature that the graph has.
+fn holds(set: &FeatureSet, id: FeatureId<'_>) -> bool
+    requires { HasFeature set.now.graph.tables (id_of id.entry) }
+    ensures { (n : ℕ) → NodeNamed set.now.graph.tables n (id_of id.entry) → result ≡ has set.now.members n }
+{
+    match set.contains(id) {
+        Ok(answer) => answer,
+        Err(_) => unreachable!(),
+    }
+}
+
 /// The lines of the members, in the order of the nodes.
-pub fn list(alloc: Global, graph: &PackageGraph, members: &IxBitSet) -> Result<Vec<u8>, AllocError>
-    requires { length members.now ≡ length (nodes graph.now) }
-    ensures { IfOk result (λ text. text.items ≡ listing (at_places (has members.now) (nodes graph.now))) }
+pub fn list(alloc: Global, graph: &PackageGraph, set: &FeatureSet) -> Result<Vec<u8>, AllocError>
+    requires { set.now.graph.tables ≡ graph.now }
+    ensures { IfOk result (λ text. text.items ≡ listing (at_places (has set.now.members) (nodes graph.now))) }
 {
     let ids = node_ids(alloc, graph)?;
     let mut text = String::new(alloc);
-    for (node, id) in ids.iter().enumerate() {
-        if members.contains(node) {
+    for id in &ids {
+        if holds(set, *id) {
             push_line(&mut text, *id)?;
         }
     }

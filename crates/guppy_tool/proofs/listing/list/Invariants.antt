@@ -6,6 +6,6 @@ use Rattle.guppy_tool.proofs.ListingLemmas.{listed_from}
 use Rattle.guppy_tool.proofs.listing.list.Given as goal
 
 -- The text so far and the lines of the nodes to come are the lines of all nodes.
-abbrev pub invariant-loop-node : goal.invariant-loop-node
-invariant-loop-node l =
-    string_bytes l.text ++ listed_from (has l.members) l.node (drop l.node (map id_of l.id-items)) ≡ listed_from (has l.members) 0 (map id_of l.id-items)
+abbrev pub invariant-loop-id : goal.invariant-loop-id
+invariant-loop-id l =
+    string_bytes l.text ++ listed_from (has l.set.members) l.id-index (drop l.id-index (map id_of l.id-items)) ≡ listed_from (has l.set.members) 0 (map id_of l.id-items)
