@@ -106,7 +106,11 @@ const ROWS: [Row<'static>; 2] = [
     },
 ];
 
-fn check_printed(rt: &impl Abort, alloc: Global, package: PackageMetadata<'_>) -> Result<(), AllocError> {
+fn check_printed(
+    rt: &impl Abort,
+    alloc: Global,
+    package: PackageMetadata<'_>,
+) -> Result<(), AllocError> {
     let given = [
         FeatureLabel::Named("b"),
         FeatureLabel::OptionalDependency("a"),
@@ -120,14 +124,21 @@ fn check_printed(rt: &impl Abort, alloc: Global, package: PackageMetadata<'_>) -
     let debugged = format!(in alloc; "{:?}", list.display_features())?;
     assert_eq!(rt; debugged.as_str(), "[base], a, b, dep:a");
     let debugged = format!(in alloc; "{list:?}")?;
-    assert_eq!(rt; debugged.as_str(), "FeatureList { package: \"main\", labels: [base], a, b, dep:a }");
+    assert_eq!(rt;
+        debugged.as_str(),
+        "FeatureList { package: \"main\", labels: [base], a, b, dep:a }"
+    );
     let none = FeatureList::new(alloc, package, &[])?;
     let printed = format!(in alloc; "{}", none.display_features())?;
     assert_eq!(rt; printed.as_str(), "");
     Ok(())
 }
 
-fn check_members(rt: &impl Abort, alloc: Global, package: PackageMetadata<'_>) -> Result<(), AllocError> {
+fn check_members(
+    rt: &impl Abort,
+    alloc: Global,
+    package: PackageMetadata<'_>,
+) -> Result<(), AllocError> {
     let labels = [
         FeatureLabel::OptionalDependency("av"),
         FeatureLabel::Named("zz"),
@@ -135,9 +146,13 @@ fn check_members(rt: &impl Abort, alloc: Global, package: PackageMetadata<'_>) -
     ];
     let list = FeatureList::new(alloc, package, &labels)?;
     assert!(rt; list.package().id() == package.id());
-    assert!(rt; list.has_base() && list.has_named_feature("zz") && list.has_optional_dependency("av"));
+    assert!(rt;
+        list.has_base() && list.has_named_feature("zz") && list.has_optional_dependency("av")
+    );
     assert!(rt; !list.has_named_feature("av") && !list.has_optional_dependency("zz"));
-    assert!(rt; list.contains(FeatureLabel::Named("zz")) && !list.contains(FeatureLabel::Named("z")));
+    assert!(rt;
+        list.contains(FeatureLabel::Named("zz")) && !list.contains(FeatureLabel::Named("z"))
+    );
     let mut names = list.named_features();
     assert_eq!(rt; names.size_hint(), (0, Some(3)));
     assert!(rt; names.next() == Some("zz") && names.next() == None);
@@ -162,7 +177,11 @@ fn check_equal<'g>(
     Ok(())
 }
 
-fn check_ids(rt: &impl Abort, alloc: Global, package: PackageMetadata<'_>) -> Result<(), AllocError> {
+fn check_ids(
+    rt: &impl Abort,
+    alloc: Global,
+    package: PackageMetadata<'_>,
+) -> Result<(), AllocError> {
     let labels = [
         FeatureLabel::OptionalDependency("av"),
         FeatureLabel::Base,

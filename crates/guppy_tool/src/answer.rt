@@ -53,7 +53,10 @@ fn resolved(
         return Err(Fault::Memory);
     };
     let ids = ids_of(alloc, given)?;
-    let query = match graph.feature_graph(&built).query_directed(alloc, &ids, direction) {
+    let query = match graph
+        .feature_graph(&built)
+        .query_directed(alloc, &ids, direction)
+    {
         Ok(query) => query,
         Err(error) => return Err(fault_of(alloc, error)),
     };

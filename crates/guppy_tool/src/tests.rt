@@ -1,9 +1,9 @@
 //! Words, texts of faults and runs, with expected values from the format's rules.
 use crate::devices::{ByteInput, FromReader};
 use crate::fault::Fault;
+use crate::run;
 use crate::test_devices::{Interrupted, Sips, Trickle};
 use crate::words::{Command, parse_words};
-use crate::run;
 use feature_labels::FeatureLabel;
 use guppy_packages::DependencyDirection;
 use std::test::Fail;
@@ -19,7 +19,9 @@ feature\tunion
 
 #[test]
 fn reads_words(rt: HostRuntime) -> Result<(), Fail> {
-    let words = ["rows", "resolve", "forward", "a/b/c", "p/[base]", "p/dep:x", "/"];
+    let words = [
+        "rows", "resolve", "forward", "a/b/c", "p/[base]", "p/dep:x", "/",
+    ];
     let (file, command) = parse_words(rt.alloc(), &words)?;
     assert_eq!(rt; file, "rows");
     let Command::Resolve { direction, ids } = &command;
@@ -75,12 +77,28 @@ fn prints_faults(rt: HostRuntime) -> Result<(), Fail> {
         (Fault::NotText, "not UTF-8"),
         (Fault::Malformed { line: 3 }, "line 3: malformed"),
         (Fault::NoPackage { line: 3 }, "line 3: no package"),
-        (Fault::DuplicatePackage { line: 3 }, "line 3: duplicate package"),
-        (Fault::DuplicateFeature { line: 3 }, "line 3: duplicate feature"),
+        (
+            Fault::DuplicatePackage { line: 3 },
+            "line 3: duplicate package",
+        ),
+        (
+            Fault::DuplicateFeature { line: 3 },
+            "line 3: duplicate feature",
+        ),
         (Fault::UnknownTarget { line: 3 }, "line 3: unknown target"),
         (Fault::OtherName { line: 3 }, "line 3: other name"),
-        (Fault::UnknownPackage { id: String::from_str(alloc, "p")? }, "unknown package: p"),
-        (Fault::UnknownFeature { id: String::from_str(alloc, "p/f")? }, "unknown feature: p/f"),
+        (
+            Fault::UnknownPackage {
+                id: String::from_str(alloc, "p")?,
+            },
+            "unknown package: p",
+        ),
+        (
+            Fault::UnknownFeature {
+                id: String::from_str(alloc, "p/f")?,
+            },
+            "unknown feature: p/f",
+        ),
         (Fault::Memory, "out of memory"),
         (Fault::CannotWrite, "cannot write"),
     ];
@@ -117,11 +135,17 @@ fn ended(rt: &HostRuntime, bytes: &[u8], ids: &[&str], reads: usize) -> Result<S
 fn reads_every_byte(rt: HostRuntime) -> Result<(), Fail> {
     let cut = &F1.as_bytes()[..F1.len() - 1];
     for reads in 0..=F1.len() {
-        assert_eq!(rt; ended(&rt, F1.as_bytes(), &["x/x"], reads)?.as_str(), "cannot read");
+        assert_eq!(rt;
+            ended(&rt, F1.as_bytes(), &["x/x"], reads)?.as_str(),
+            "cannot read"
+        );
     }
     for bytes in [F1.as_bytes(), cut] {
         let text = ended(&rt, bytes, &["main/smallvec-union"], usize::MAX)?;
-        assert_eq!(rt; text.as_str(), "main/[base]\nmain/smallvec-union\nsv/[base]\nsv/union\n");
+        assert_eq!(rt;
+            text.as_str(),
+            "main/[base]\nmain/smallvec-union\nsv/[base]\nsv/union\n"
+        );
         assert_eq!(rt; ended(&rt, bytes, &[], usize::MAX)?.as_str(), "");
     }
     Ok(())
@@ -132,20 +156,41 @@ fn names_the_first_fault(rt: HostRuntime) -> Result<(), Fail> {
     let cases: [(&[u8], &str); 13] = [
         (b"package\tmain\tworkspace\xff\n", "not UTF-8"),
         (b"bogus\n\xff", "not UTF-8"),
-        (b"package\tp\tworkspace\npackage\tp\tworkspace\nbogus\n", "line 3: malformed"),
+        (
+            b"package\tp\tworkspace\npackage\tp\tworkspace\nbogus\n",
+            "line 3: malformed",
+        ),
         (b"package\tmain\tworkspace\r\n", "line 1: malformed"),
         (b"package\tp\tworkspace\tx\n", "line 1: malformed"),
-        (b"package\tp\tworkspace\npackage\tq\text", "line 2: malformed"),
+        (
+            b"package\tp\tworkspace\npackage\tq\text",
+            "line 2: malformed",
+        ),
         (b" \n", "line 1: malformed"),
         (b"# a comment\n\nfeature\tx\n", "line 3: no package"),
-        (b"package\tp\tworkspace\ndep\tq\tgone\tnormal\trequired\t*\tnodefault\npackage\tp\tworkspace\n", "line 3: duplicate package"),
-        (b"package\tp\tworkspace\nfeature\tf\nfeature\tf\n", "line 3: duplicate feature"),
-        (b"\npackage\tp\tworkspace\n#\ndep\tq\tzz\tnormal\trequired\t*\tnodefault\n", "line 4: unknown target"),
-        (b"package\tp\tworkspace\ndep\tq\tp\tnormal\trequired\t*\tnodefault\ndep\tr\tp\tdev\toptional\tx\tdefault\n", "line 3: other name"),
+        (
+            b"package\tp\tworkspace\ndep\tq\tgone\tnormal\trequired\t*\tnodefault\npackage\tp\tworkspace\n",
+            "line 3: duplicate package",
+        ),
+        (
+            b"package\tp\tworkspace\nfeature\tf\nfeature\tf\n",
+            "line 3: duplicate feature",
+        ),
+        (
+            b"\npackage\tp\tworkspace\n#\ndep\tq\tzz\tnormal\trequired\t*\tnodefault\n",
+            "line 4: unknown target",
+        ),
+        (
+            b"package\tp\tworkspace\ndep\tq\tp\tnormal\trequired\t*\tnodefault\ndep\tr\tp\tdev\toptional\tx\tdefault\n",
+            "line 3: other name",
+        ),
         (b"package\tp\tworkspace\n", "unknown feature: p/x"),
     ];
     for (bytes, text) in cases {
-        assert_eq!(rt; ended(&rt, bytes, &["p/[base]", "p/x", "p/y"], usize::MAX)?.as_str(), text);
+        assert_eq!(rt;
+            ended(&rt, bytes, &["p/[base]", "p/x", "p/y"], usize::MAX)?.as_str(),
+            text
+        );
     }
     Ok(())
 }

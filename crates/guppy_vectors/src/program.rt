@@ -1,6 +1,7 @@
 //! Runs of the program over bytes in memory, with answers that were worked out by hand.
 use crate::fixtures::{
-    BOTH_HALVES, CIRCLE_THROUGH_GATE, ID_WITH_A_SLASH, MISSING_FEATURE, OPTIONAL_AND_WEAK, TWO_WEAK_ITEMS,
+    BOTH_HALVES, CIRCLE_THROUGH_GATE, ID_WITH_A_SLASH, MISSING_FEATURE, OPTIONAL_AND_WEAK,
+    TWO_WEAK_ITEMS,
 };
 use guppy_tool::{FromReader, ToWriter, parse_words, run};
 use std::test::Fail;
@@ -34,18 +35,44 @@ fn resolved(rt: &HostRuntime, file: &str, ids: &[&str]) -> Result<String, Fail> 
 
 #[test]
 fn members_in_order_of_nodes(rt: HostRuntime) -> Result<(), Fail> {
-    let all_of_two_weak = "main/[base]\nmain/s\nmain/ep\nmain/eq\nmain/dep:p\nmain/dep:q\np/[base]\np/x\nq/[base]\nq/x\n";
-    let all_of_circle = "main/[base]\nmain/smallvec\nmain/smallvec-union\nmain/foo\nmain/dep:smallvec\nsv/[base]\nsv/union\n";
+    let all_of_two_weak =
+        "main/[base]\nmain/s\nmain/ep\nmain/eq\nmain/dep:p\nmain/dep:q\np/[base]\np/x\nq/[base]\nq/x\n";
+    let all_of_circle =
+        "main/[base]\nmain/smallvec\nmain/smallvec-union\nmain/foo\nmain/dep:smallvec\nsv/[base]\nsv/union\n";
     let cases: [(&str, &[&str], &str); 12] = [
-        (OPTIONAL_AND_WEAK, &["main/smallvec-union"], "main/[base]\nmain/smallvec-union\nsv/[base]\nsv/union\n"),
-        (OPTIONAL_AND_WEAK, &["main/foo", "main/foo"], "main/[base]\nmain/foo\n"),
-        (OPTIONAL_AND_WEAK, &["sv/[base]", "main/[base]"], "main/[base]\nsv/[base]\n"),
-        (OPTIONAL_AND_WEAK, &["main/dep:smallvec"], "main/[base]\nmain/dep:smallvec\nsv/[base]\n"),
+        (
+            OPTIONAL_AND_WEAK,
+            &["main/smallvec-union"],
+            "main/[base]\nmain/smallvec-union\nsv/[base]\nsv/union\n",
+        ),
+        (
+            OPTIONAL_AND_WEAK,
+            &["main/foo", "main/foo"],
+            "main/[base]\nmain/foo\n",
+        ),
+        (
+            OPTIONAL_AND_WEAK,
+            &["sv/[base]", "main/[base]"],
+            "main/[base]\nsv/[base]\n",
+        ),
+        (
+            OPTIONAL_AND_WEAK,
+            &["main/dep:smallvec"],
+            "main/[base]\nmain/dep:smallvec\nsv/[base]\n",
+        ),
         (OPTIONAL_AND_WEAK, &[], ""),
-        (BOTH_HALVES, &["main/weak"], "main/[base]\nmain/weak\nfoo/[base]\nfoo/std\n"),
+        (
+            BOTH_HALVES,
+            &["main/weak"],
+            "main/[base]\nmain/weak\nfoo/[base]\nfoo/std\n",
+        ),
         (CIRCLE_THROUGH_GATE, &["main/smallvec-union"], all_of_circle),
         (TWO_WEAK_ITEMS, &["main/s"], all_of_two_weak),
-        (MISSING_FEATURE, &["p/f"], "p/[base]\np/f\np/foo\np/dep:foo\nq/[base]\n"),
+        (
+            MISSING_FEATURE,
+            &["p/f"],
+            "p/[base]\np/f\np/foo\np/dep:foo\nq/[base]\n",
+        ),
         (ID_WITH_A_SLASH, &["a/b/c"], "a/b/[base]\na/b/c\n"),
         ("", &[], ""),
         ("# nothing\n\n", &[], ""),
@@ -59,9 +86,21 @@ fn members_in_order_of_nodes(rt: HostRuntime) -> Result<(), Fail> {
 #[test]
 fn faults_with_their_status(rt: HostRuntime) -> Result<(), Fail> {
     let cases: [(&str, &[&str], &str); 7] = [
-        (OPTIONAL_AND_WEAK, &["main/foo", "main/z", "main/y"], "1 unknown feature: main/z"),
-        (OPTIONAL_AND_WEAK, &["main/dep:foo"], "1 unknown feature: main/dep:foo"),
-        (OPTIONAL_AND_WEAK, &["none/[base]", "main/z"], "1 unknown feature: none/[base]"),
+        (
+            OPTIONAL_AND_WEAK,
+            &["main/foo", "main/z", "main/y"],
+            "1 unknown feature: main/z",
+        ),
+        (
+            OPTIONAL_AND_WEAK,
+            &["main/dep:foo"],
+            "1 unknown feature: main/dep:foo",
+        ),
+        (
+            OPTIONAL_AND_WEAK,
+            &["none/[base]", "main/z"],
+            "1 unknown feature: none/[base]",
+        ),
         ("feature\tx\n", &[], "1 line 1: no package"),
         (
             "package\tmain\tworkspace\ndep\tp\tsv\tnormal\trequired\t*\tnodefault\ndep\tq\tsv\tnormal\trequired\t*\tnodefault\npackage\tsv\texternal\n",
@@ -73,7 +112,11 @@ fn faults_with_their_status(rt: HostRuntime) -> Result<(), Fail> {
             &["p/z"],
             "1 line 3: duplicate package",
         ),
-        ("package\tp\tworkspace\tx\n", &["p/z"], "1 line 1: malformed"),
+        (
+            "package\tp\tworkspace\tx\n",
+            &["p/z"],
+            "1 line 1: malformed",
+        ),
     ];
     for (file, ids, line) in cases {
         assert_eq!(rt; resolved(&rt, file, ids)?.as_str(), line);
