@@ -33,93 +33,86 @@ fn resolved(rt: &HostRuntime, file: &str, ids: &[&str]) -> Result<String, Fail> 
     }
 }
 
+const ALL_OF_TWO_WEAK: &str =
+    "main/[base]\nmain/s\nmain/ep\nmain/eq\nmain/dep:p\nmain/dep:q\np/[base]\np/x\nq/[base]\nq/x\n";
+
+const ALL_OF_CIRCLE: &str =
+    "main/[base]\nmain/smallvec\nmain/smallvec-union\nmain/foo\nmain/dep:smallvec\nsv/[base]\nsv/union\n";
+
 #[test]
-fn members_in_order_of_nodes(rt: HostRuntime) -> Result<(), Fail> {
-    let all_of_two_weak =
-        "main/[base]\nmain/s\nmain/ep\nmain/eq\nmain/dep:p\nmain/dep:q\np/[base]\np/x\nq/[base]\nq/x\n";
-    let all_of_circle =
-        "main/[base]\nmain/smallvec\nmain/smallvec-union\nmain/foo\nmain/dep:smallvec\nsv/[base]\nsv/union\n";
-    let cases: [(&str, &[&str], &str); 12] = [
-        (
-            OPTIONAL_AND_WEAK,
-            &["main/smallvec-union"],
-            "main/[base]\nmain/smallvec-union\nsv/[base]\nsv/union\n",
-        ),
-        (
-            OPTIONAL_AND_WEAK,
-            &["main/foo", "main/foo"],
-            "main/[base]\nmain/foo\n",
-        ),
-        (
-            OPTIONAL_AND_WEAK,
-            &["sv/[base]", "main/[base]"],
-            "main/[base]\nsv/[base]\n",
-        ),
-        (
-            OPTIONAL_AND_WEAK,
-            &["main/dep:smallvec"],
-            "main/[base]\nmain/dep:smallvec\nsv/[base]\n",
-        ),
-        (OPTIONAL_AND_WEAK, &[], ""),
-        (
-            BOTH_HALVES,
-            &["main/weak"],
-            "main/[base]\nmain/weak\nfoo/[base]\nfoo/std\n",
-        ),
-        (CIRCLE_THROUGH_GATE, &["main/smallvec-union"], all_of_circle),
-        (TWO_WEAK_ITEMS, &["main/s"], all_of_two_weak),
-        (
-            MISSING_FEATURE,
-            &["p/f"],
-            "p/[base]\np/f\np/foo\np/dep:foo\nq/[base]\n",
-        ),
-        (ID_WITH_A_SLASH, &["a/b/c"], "a/b/[base]\na/b/c\n"),
-        ("", &[], ""),
-        ("# nothing\n\n", &[], ""),
-    ];
-    for (file, ids, text) in cases {
-        assert_eq!(rt; resolved(&rt, file, ids)?.as_str(), text);
-    }
+fn members_over_optional_and_weak(rt: HostRuntime) -> Result<(), Fail> {
+    let weak = resolved(&rt, OPTIONAL_AND_WEAK, &["main/smallvec-union"])?;
+    assert_eq!(rt;
+        weak.as_str(),
+        "main/[base]\nmain/smallvec-union\nsv/[base]\nsv/union\n"
+    );
+    let twice = resolved(&rt, OPTIONAL_AND_WEAK, &["main/foo", "main/foo"])?;
+    assert_eq!(rt; twice.as_str(), "main/[base]\nmain/foo\n");
+    let bases = resolved(&rt, OPTIONAL_AND_WEAK, &["sv/[base]", "main/[base]"])?;
+    assert_eq!(rt; bases.as_str(), "main/[base]\nsv/[base]\n");
+    let optional = resolved(&rt, OPTIONAL_AND_WEAK, &["main/dep:smallvec"])?;
+    assert_eq!(rt;
+        optional.as_str(),
+        "main/[base]\nmain/dep:smallvec\nsv/[base]\n"
+    );
     Ok(())
 }
 
 #[test]
-fn faults_with_their_status(rt: HostRuntime) -> Result<(), Fail> {
-    let cases: [(&str, &[&str], &str); 7] = [
-        (
-            OPTIONAL_AND_WEAK,
-            &["main/foo", "main/z", "main/y"],
-            "1 unknown feature: main/z",
-        ),
-        (
-            OPTIONAL_AND_WEAK,
-            &["main/dep:foo"],
-            "1 unknown feature: main/dep:foo",
-        ),
-        (
-            OPTIONAL_AND_WEAK,
-            &["none/[base]", "main/z"],
-            "1 unknown feature: none/[base]",
-        ),
-        ("feature\tx\n", &[], "1 line 1: no package"),
-        (
-            "package\tmain\tworkspace\ndep\tp\tsv\tnormal\trequired\t*\tnodefault\ndep\tq\tsv\tnormal\trequired\t*\tnodefault\npackage\tsv\texternal\n",
-            &["main/z"],
-            "1 line 3: other name",
-        ),
-        (
-            "package\tp\tworkspace\ndep\tq\tgone\tnormal\trequired\t*\tnodefault\npackage\tp\tworkspace\n",
-            &["p/z"],
-            "1 line 3: duplicate package",
-        ),
-        (
-            "package\tp\tworkspace\tx\n",
-            &["p/z"],
-            "1 line 1: malformed",
-        ),
-    ];
-    for (file, ids, line) in cases {
-        assert_eq!(rt; resolved(&rt, file, ids)?.as_str(), line);
-    }
+fn members_over_other_graphs(rt: HostRuntime) -> Result<(), Fail> {
+    let halves = resolved(&rt, BOTH_HALVES, &["main/weak"])?;
+    assert_eq!(rt;
+        halves.as_str(),
+        "main/[base]\nmain/weak\nfoo/[base]\nfoo/std\n"
+    );
+    let circle = resolved(&rt, CIRCLE_THROUGH_GATE, &["main/smallvec-union"])?;
+    assert_eq!(rt; circle.as_str(), ALL_OF_CIRCLE);
+    let two = resolved(&rt, TWO_WEAK_ITEMS, &["main/s"])?;
+    assert_eq!(rt; two.as_str(), ALL_OF_TWO_WEAK);
+    let missing = resolved(&rt, MISSING_FEATURE, &["p/f"])?;
+    assert_eq!(rt;
+        missing.as_str(),
+        "p/[base]\np/f\np/foo\np/dep:foo\nq/[base]\n"
+    );
+    let slash = resolved(&rt, ID_WITH_A_SLASH, &["a/b/c"])?;
+    assert_eq!(rt; slash.as_str(), "a/b/[base]\na/b/c\n");
+    Ok(())
+}
+
+#[test]
+fn members_of_nothing(rt: HostRuntime) -> Result<(), Fail> {
+    assert_eq!(rt; resolved(&rt, OPTIONAL_AND_WEAK, &[])?.as_str(), "");
+    assert_eq!(rt; resolved(&rt, "", &[])?.as_str(), "");
+    assert_eq!(rt; resolved(&rt, "# nothing\n\n", &[])?.as_str(), "");
+    Ok(())
+}
+
+#[test]
+fn unknown_features(rt: HostRuntime) -> Result<(), Fail> {
+    let first = resolved(&rt, OPTIONAL_AND_WEAK, &["main/foo", "main/z", "main/y"])?;
+    assert_eq!(rt; first.as_str(), "1 unknown feature: main/z");
+    let optional = resolved(&rt, OPTIONAL_AND_WEAK, &["main/dep:foo"])?;
+    assert_eq!(rt; optional.as_str(), "1 unknown feature: main/dep:foo");
+    let package = resolved(&rt, OPTIONAL_AND_WEAK, &["none/[base]", "main/z"])?;
+    assert_eq!(rt; package.as_str(), "1 unknown feature: none/[base]");
+    Ok(())
+}
+
+const OTHER_NAME: &str =
+    "package\tmain\tworkspace\ndep\tp\tsv\tnormal\trequired\t*\tnodefault\ndep\tq\tsv\tnormal\trequired\t*\tnodefault\npackage\tsv\texternal\n";
+
+const DUPLICATE: &str =
+    "package\tp\tworkspace\ndep\tq\tgone\tnormal\trequired\t*\tnodefault\npackage\tp\tworkspace\n";
+
+#[test]
+fn faults_of_rows(rt: HostRuntime) -> Result<(), Fail> {
+    let none = resolved(&rt, "feature\tx\n", &[])?;
+    assert_eq!(rt; none.as_str(), "1 line 1: no package");
+    let name = resolved(&rt, OTHER_NAME, &["main/z"])?;
+    assert_eq!(rt; name.as_str(), "1 line 3: other name");
+    let twice = resolved(&rt, DUPLICATE, &["p/z"])?;
+    assert_eq!(rt; twice.as_str(), "1 line 3: duplicate package");
+    let malformed = resolved(&rt, "package\tp\tworkspace\tx\n", &["p/z"])?;
+    assert_eq!(rt; malformed.as_str(), "1 line 1: malformed");
     Ok(())
 }
