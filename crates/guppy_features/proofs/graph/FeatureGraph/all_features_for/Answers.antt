@@ -6,15 +6,15 @@ use Rattle.guppy_features.proofs.PackageLemmas.{no_package, id_found}
 use Rattle.guppy_features.proofs.graph.FeatureGraph.all_features_for.Goals as goal
 
 pub returns-in_default-clause-refused : goal.returns-in_default-clause-refused
-returns-in_default-clause-refused c = (refl, no_package c.args.self.now.graph.now c.args.package_id.now c.in_default.ensures)
+returns-in_default-clause-refused c = (refl, no_package c.args.self.now.graph.now c.args.package_id.now c.in_default.ensures.found)
 
 pub returns-in-Ok-package_list-clause-listed : goal.returns-in-Ok-package_list-clause-listed
 returns-in-Ok-package_list-clause-listed c =
     let t = c.args.self.now.graph.now in
     let table = package_table_of c.in-Ok.package in
     let p = c.in-Ok.package.package_ix in
-    let is : IsPackage t p table = subst (λ z. IsPackage z p table) c.in-Ok.ensures.0 c.in-Ok.package.stands in
-    let id : table.id ≡ c.args.package_id.now = id_found t c.args.package_id.now p table c.in-Ok.ensures.1 is in
+    let is : IsPackage t p table = subst (λ z. IsPackage z p table) c.in-Ok.ensures.found.0 c.in-Ok.package.stands in
+    let id : table.id ≡ c.args.package_id.now = id_found t c.args.package_id.now p table c.in-Ok.ensures.found.1 is in
     let listed = c.in-Ok-package_list.ensures in
     record {
       table = table;
@@ -30,5 +30,5 @@ returns-in-Err-clause-refused c =
     let t = c.args.self.now.graph.now in
     let table = package_table_of c.in-Ok.package in
     let p = c.in-Ok.package.package_ix in
-    let is : IsPackage t p table = subst (λ z. IsPackage z p table) c.in-Ok.ensures.0 c.in-Ok.package.stands in
-    (table, element_at_place t.packages p table is, id_found t c.args.package_id.now p table c.in-Ok.ensures.1 is)
+    let is : IsPackage t p table = subst (λ z. IsPackage z p table) c.in-Ok.ensures.found.0 c.in-Ok.package.stands in
+    (table, element_at_place t.packages p table is, id_found t c.args.package_id.now p table c.in-Ok.ensures.found.1 is)
