@@ -76,7 +76,7 @@ pub fn push_line(text: &mut String, id: FeatureId<'_>) -> Result<(), AllocError>
 
 /// Whether the set has a feature that the graph has.
 fn holds(set: &FeatureSet, id: FeatureId<'_>) -> bool
-    requires { HasFeature set.now.graph.tables (id_of id.entry) }
+    requires { HasFeature set.now.graph.tables (id_of id) }
     ensures { (n : ℕ) → NodeNamed set.now.graph.tables n (id_of id.entry) → result ≡ has set.now.members n }
 {
     match set.contains(id) {
