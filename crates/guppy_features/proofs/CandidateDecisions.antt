@@ -1,6 +1,6 @@
 -- Whether a pair of nodes has a candidate can be found out from the tables.
-use Rattle.std.proofs.Common.{◌≡◌, ◌≢◌, ℕ, ◌⊎◌, inl, inr, ⊎_elim, List, [], ◌∷◌, Bool, true, false, Option, Some, None, refl, ap, sym, ◌∙◌, subst}
-use Rattle.std.specs.Prelude.{Contains, slice_get, IsTrue, IsFalse, ◌&&◌}
+use Rattle.std.proofs.Common.{◌≡◌, ◌≢◌, ℕ, inr, [], ◌∷◌, Bool, true, false, Option, Some, None, refl, ap, sym, ◌∙◌, subst}
+use Rattle.std.specs.Prelude.{Contains, slice_get, IsTrue}
 use Rattle.std.specs.List.{list_any}
 use Rattle.guppy_packages.specs.Rows.{Text}
 use Rattle.guppy_packages.specs.Tables.{FeatureTable, PackageTable, LinkTable, Tables}
@@ -15,7 +15,7 @@ use Rattle.feature_core.specs.Links.{IsLink, over, has_declaration}
 use Rattle.feature_core.specs.Candidates.{Edge, Candidate, HasItem, LeadsOver, IsSection, requesting, unsplit_of, by_name, to_base, to_feature, to_dependency, over_strong, over_weak, with_dependency, with_feature, of_required, of_optional, feature_to_base, named_feature, dep_colon, slash_full, slash_optional, slash_weak, section}
 use Rattle.feature_core.specs.Pairs.{HasCandidate}
 use Rattle.feature_core.proofs.Places.{got_same}
-use Rattle.guppy_features.proofs.Decisions.{Decided, decided_by, decided_both, decided_either, decided_not, decided_else, by_test, nat_decided, text_decided, is_true_decided, some_at, some_in}
+use Rattle.guppy_features.proofs.Decisions.{Decided, decided_by, decided_both, decided_not, decided_else, by_test, nat_decided, text_decided, is_true_decided, some_at, some_in}
 
 label_decided : (a b : LabelName) → Decided (a ≡ b)
 label_decided a b = by_test (label_eq a b) (a ≡ b) (label_eq-Decides a b)

@@ -1,10 +1,9 @@
 -- Facts that can be found out.
-use Rattle.std.proofs.Common.{◌≡◌, ℕ, zero, suc, ◌<◌, ◌⊎◌, inl, inr, ⊎_elim, List, ◌∷◌, [], Bool, true, false, Decides, Option, Some, None, refl, sym, subst, eqb, ltb}
+use Rattle.std.proofs.Common.{◌≡◌, ℕ, zero, suc, ◌⊎◌, inl, inr, ⊎_elim, List, ◌∷◌, [], Bool, true, false, Decides, Some, refl, subst, eqb}
 use Rattle.std.specs.Prelude.{Contains, slice_get, IsTrue}
 use Rattle.std.specs.Cmp.Lexicographic.{pointwise, bytes_decides}
 use Rattle.std.proofs.Math.Logic.{∥∥₁_elim}
 use Rattle.std.proofs.lemmas.Bool.Decides.{Decides-eqb}
-use Rattle.std.proofs.lemmas.Option.{slice_get_within}
 use Rattle.guppy_packages.specs.Rows.{Text}
 use Rattle.feature_core.proofs.AddsLemmas.{place_of_element, element_at_place}
 

@@ -1,7 +1,6 @@
 -- Packages and their labels, by what was asked for.
-use Rattle.std.proofs.Common.{◌≡◌, ℕ, zero, suc, ◌+◌, ◌<◌, ◌⊎◌, inl, inr, ⊎_elim, List, [], ◌∷◌, ◌++◌, length, map, Option, Some, None, refl, ap, sym, ◌∙◌, subst, arith, get_or}
-use Rattle.std.specs.Prelude.{Contains, slice_get, ◌↔◌, IsSome, is_some}
-use Rattle.std.specs.Option.{option_map}
+use Rattle.std.proofs.Common.{◌≡◌, ℕ, zero, suc, ◌+◌, ◌⊎◌, ⊎_elim, List, length, map, Some, None, refl, ap, sym, ◌∙◌, subst, get_or}
+use Rattle.std.specs.Prelude.{Contains, slice_get}
 use Rattle.std.specs.Str.{bytes_eq}
 use Rattle.std.specs.Cmp.Lexicographic.{bytes_decides}
 use Rattle.std.proofs.lemmas.Option.{slice_get-map, get_or_from_slice_get}
@@ -14,7 +13,7 @@ use Rattle.feature_core.specs.Nodes.{NodeAt, labels_of, first_node}
 use Rattle.feature_core.proofs.AddsLemmas.{place_of_element, element_at_place}
 use Rattle.feature_core.proofs.LabelLemmas.{position_there, position_missing, named_label, optional_label}
 use Rattle.feature_core.proofs.NameLemmas.{found_name, missing_name}
-use Rattle.feature_core.proofs.Places.{IsSpread, node_there, node_back, get_cases, got_map, got_same}
+use Rattle.feature_core.proofs.Places.{node_there, node_back, get_cases, got_map, got_same}
 use Rattle.guppy_features.specs.Names.{HasFeature, HasPackage}
 
 -- a label of a package is the base, or a named feature, or an optional dependency

@@ -1,5 +1,5 @@
 -- Sets of the nodes of names.
-use Rattle.std.proofs.Common.{◌≡◌, ◌≢◌, ℕ, zero, suc, ◌+◌, ◌<◌, ◌⊎◌, inl, inr, ⊎_elim, List, [], ◌∷◌, length, replicate, Bool, true, false, Option, Some, None, refl, ap, sym, ◌∙◌, subst, arith, get_or, map}
+use Rattle.std.proofs.Common.{◌≡◌, ◌≢◌, ℕ, zero, suc, ◌+◌, ◌<◌, ◌⊎◌, inl, inr, ⊎_elim, List, length, replicate, Bool, true, false, Option, Some, None, refl, ap, sym, ◌∙◌, subst, arith, get_or, map}
 use Rattle.std.specs.Option.{option_map}
 use Rattle.std.specs.Prelude.{slice_get, slice_set, ◌↔◌, IsTrue, is_some, IfSome, IfOk, Result, Ok, Err}
 use Rattle.std.proofs.lemmas.Bool.Decides.{eqb_tells}
@@ -14,7 +14,7 @@ use Rattle.feature_core.specs.Built.{NodeNamed}
 use Rattle.feature_core.specs.Nodes.{nodes}
 use Rattle.feature_core.specs.Pairs.{Reach}
 use Rattle.feature_core.proofs.WayNumbers.{marked_set, marked_grows, marked_cases}
-use Rattle.guppy_features.specs.Names.{HasFeature, AreKnown, IsFirstUnknown, IsAmong, HoldsExactly, TellsMember}
+use Rattle.guppy_features.specs.Names.{HasFeature, AreKnown, IsFirstUnknown, HoldsExactly, TellsMember}
 
 -- whether a number is what was found, as a look-up says it
 abbrev pub Finds : Option ℕ → (ℕ → Type 0) → Type 0

@@ -1,5 +1,5 @@
 -- Feature graphs, queries and sets as values, without where they lie in memory.
-use Rattle.std.specs.Prelude.{ℕ, List, Bool}
+use Rattle.std.specs.Prelude.{List, Bool}
 use Rattle.guppy_packages.specs.Tables.{Tables}
 use Rattle.guppy_packages.specs.declared.direction.DependencyDirection.{DependencyDirection}
 use Rattle.feature_core.specs.Built.{Built}

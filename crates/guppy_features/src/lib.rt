@@ -7,6 +7,8 @@ mod listing;
 mod metadata;
 mod query;
 mod set;
+#[cfg(test)]
+mod tests;
 
 pub use feature_core::{Error, FeatureGraphData};
 pub use feature_labels::{

@@ -1,10 +1,10 @@
 //! The labels of a package.
-ghost use Rattle.std.specs.Prelude.{◌≡◌, ◌∷◌, ◌++◌, [], OnOk, IfOk, map};
+ghost use Rattle.std.specs.Prelude.{◌≡◌, ◌++◌, OnOk, IfOk, map};
 ghost use Rattle.std.specs.String.{string_bytes};
 ghost use Rattle.guppy_packages.specs.Metadata.{package_id_of, package_table_of};
 ghost use Rattle.guppy_packages.specs.NamedFeature.{feature_table};
 ghost use Rattle.feature_labels.specs.Names.{label_of};
-ghost use Rattle.feature_labels.specs.Names.LabelName.{base, named, optional};
+ghost use Rattle.feature_labels.specs.Names.LabelName.{named, optional};
 ghost use Rattle.feature_labels.specs.Lists.{Ascends, SameLabels};
 ghost use Rattle.feature_core.specs.Nodes.{labels_of};
 

@@ -1,5 +1,5 @@
 //! Sets of features.
-ghost use Rattle.std.specs.Prelude.{◌≡◌, ◌↔◌, ◌+◌, IsTrue, MatchResult, [], count_by, length};
+ghost use Rattle.std.specs.Prelude.{◌≡◌, ◌↔◌, IsTrue, MatchResult, count_by, length};
 ghost use Rattle.feature_labels.specs.Names.{id_of};
 ghost use Rattle.feature_core.specs.Nodes.{nodes};
 ghost use Rattle.feature_core.specs.Errors.{refusal_of};

@@ -1,4 +1,4 @@
-use Rattle.std.proofs.Common.{rules, arith, ◌≡◌, ◌<◌, length, map}
+use Rattle.std.proofs.Common.{rules, arith, map}
 use Rattle.std.proofs.lemmas.List.{length-map}
 use Rattle.feature_labels.specs.Names.{id_of}
 use Rattle.guppy_features.specs.Views.{tables_of_graph}

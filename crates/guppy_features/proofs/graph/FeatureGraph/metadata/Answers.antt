@@ -1,5 +1,4 @@
-use Rattle.std.proofs.Common.{◌≡◌, ◌∙◌, refl, subst}
-use Rattle.guppy_packages.specs.Tables.{Tables}
+use Rattle.std.proofs.Common.{◌∙◌, refl, subst}
 use Rattle.guppy_packages.specs.Metadata.{package_table_of}
 use Rattle.feature_labels.specs.Names.{id_of, label_of}
 use Rattle.feature_core.specs.Links.{IsPackage}

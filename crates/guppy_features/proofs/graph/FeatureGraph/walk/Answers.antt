@@ -1,4 +1,4 @@
-use Rattle.std.proofs.Common.{◌≡◌, ◌∙◌, sym, length, ℕ, List, Bool, IsTrue}
+use Rattle.std.proofs.Common.{◌≡◌, ◌∙◌, sym, length, ℕ, IsTrue}
 use Rattle.std.specs.Prelude.{◌↔◌}
 use Rattle.guppy_support.specs.Bits.{has}
 use Rattle.guppy_packages.specs.Tables.{Tables}
