@@ -24,9 +24,9 @@ pair_decided a b = decided_by (decided_both (nat_decided a.0 b.0) (nat_decided a
 contains_decided : (pairs : List (ℕ × ℕ)) (pair : ℕ × ℕ) → Decided (Contains pairs pair)
 contains_decided pairs pair =
     decided_by
-      (some_in (λ z. z ≡ pair) (λ z. pair_decided z pair) pairs)
-      (λ h. subst (λ z. Contains pairs z) h.2 h.1)
-      (λ h. (pair, h, refl))
+    (some_in (λ z. z ≡ pair) (λ z. pair_decided z pair) pairs)
+    (λ h. subst (λ z. Contains pairs z) h.2 h.1)
+    (λ h. (pair, h, refl))
 
 pub built_given : (t : Tables) (b : Built) → ∥ IsBuilt t b ∥₁ → IsBuilt t b
 built_given t b h = record {

@@ -52,16 +52,16 @@ module _ (t : Tables) where
   some_item_of p f Q d None e = inr (λ h. let is = h.1.is_package in cc)
   some_item_of p f Q d (Some table) e =
       decided_by
-        (some_in
-          (λ (x : FeatureTable). (x.name ≡ f) × ((text : Text) × Contains x.items text × Q (item_of text)))
-          (λ x. decided_both (text_decided x.name f) (some_in (λ text. Q (item_of text)) (λ text. d (item_of text)) x.items))
-          table.features)
-        (λ h. (item_of h.2.1.0, record { table = table; is_package = e; feature = h.0; is_feature = h.1; name = h.2.0; text = h.2.1.0; is_item = h.2.1.1; says = refl }, h.2.1.2))
-        (λ h.
-            let i = h.1 in
-            let is = i.is_package in
-            let same : i.table ≡ table = cc in
-            (i.feature, subst (λ z. Contains z.features i.feature) same i.is_feature, (i.name, (i.text, i.is_item, subst Q (sym i.says) h.2))))
+      (some_in
+      (λ (x : FeatureTable). (x.name ≡ f) × ((text : Text) × Contains x.items text × Q (item_of text)))
+      (λ x. decided_both (text_decided x.name f) (some_in (λ text. Q (item_of text)) (λ text. d (item_of text)) x.items))
+      table.features)
+      (λ h. (item_of h.2.1.0, record { table = table; is_package = e; feature = h.0; is_feature = h.1; name = h.2.0; text = h.2.1.0; is_item = h.2.1.1; says = refl }, h.2.1.2))
+      (λ h.
+      let i = h.1 in
+      let is = i.is_package in
+      let same : i.table ≡ table = cc in
+      (i.feature, subst (λ z. Contains z.features i.feature) same i.is_feature, (i.name, (i.text, i.is_item, subst Q (sym i.says) h.2))))
 
   some_item : (p : ℕ) (f : Text) (Q : Item → Type 0) → ((item : Item) → Decided (Q item)) → Decided (SomeItem t p f Q)
   some_item p f Q d = some_item_of p f Q d (slice_get t.packages p) refl
@@ -69,9 +69,9 @@ module _ (t : Tables) where
   item_there : (p : ℕ) (f : Text) (item : Item) → Decided (HasItem t p f item)
   item_there p f item =
       decided_by
-        (some_item p f (λ z. z ≡ item) (λ z. item_decided z item))
-        (λ h. subst (λ z. HasItem t p f z) h.2 h.1)
-        (λ h. (item, h, refl))
+      (some_item p f (λ z. z ≡ item) (λ z. item_decided z item))
+      (λ h. subst (λ z. HasItem t p f z) h.2 h.1)
+      (λ h. (item, h, refl))
 
   -- feature f of package p has an item over dependency d
   abbrev HasOver : ℕ → Text → Text → Type 0
@@ -80,9 +80,9 @@ module _ (t : Tables) where
   over_there : (p : ℕ) (f d : Text) → Decided (HasOver p f d)
   over_there p f d =
       decided_by
-        (some_item p f (IsOver d) (over_decided d))
-        (λ h. (h.2.0, subst (λ z. HasItem t p f z) h.2.1 h.1))
-        (λ h. (slash_item d h.0 false, h.1, (h.0, refl)))
+      (some_item p f (IsOver d) (over_decided d))
+      (λ h. (h.2.0, subst (λ z. HasItem t p f z) h.2.1 h.1))
+      (λ h. (slash_item d h.0 false, h.1, (h.0, refl)))
 
   place_is : (n : ℕ) (p : ℕ) (l : LabelName) (o : Option (ℕ × LabelName)) → slice_get (node_places t) n ≡ o → Decided (NodeAt t n p l)
   place_is n p l None e = inr (λ h. cc)
@@ -95,13 +95,13 @@ module _ (t : Tables) where
   some_place_of n P d None e = inr (λ h. let at = h.2 in cc)
   some_place_of n P d (Some (q, m)) e =
       decided_by
-        (d q m)
-        (λ h. (q, m, e, h))
-        (λ h.
-            let both : (h.0, h.1) ≡ (q, m) = got_same (h.0, h.1) (q, m) (sym h.2 ∙ e) in
-            let same_package : h.0 ≡ q = ap (λ z. z.0) both in
-            let same_label : h.1 ≡ m = ap (λ z. z.1) both in
-            subst (λ z. P z m) same_package (subst (λ z. P h.0 z) same_label h.3))
+      (d q m)
+      (λ h. (q, m, e, h))
+      (λ h.
+      let both : (h.0, h.1) ≡ (q, m) = got_same (h.0, h.1) (q, m) (sym h.2 ∙ e) in
+      let same_package : h.0 ≡ q = ap (λ z. z.0) both in
+      let same_label : h.1 ≡ m = ap (λ z. z.1) both in
+      subst (λ z. P z m) same_package (subst (λ z. P h.0 z) same_label h.3))
 
   some_place : (n : ℕ) (P : ℕ → LabelName → Type 0) → ((p : ℕ) (l : LabelName) → Decided (P p l)) → Decided ((p : ℕ) × (l : LabelName) × NodeAt t n p l × P p l)
   some_place n P d = some_place_of n P d (slice_get (node_places t) n) refl
@@ -126,24 +126,24 @@ module _ (t : Tables) where
   at_feature : (n : ℕ) (P : ℕ → Text → Type 0) → ((p : ℕ) (f : Text) → Decided (P p f)) → Decided (AtFeature n P)
   at_feature n P d =
       decided_by
-        (some_place n (λ p l. (f : Text) × (l ≡ named f) × P p f) (λ p l. name_of_feature l (P p) (d p)))
-        (λ h. (h.0, h.3.0, subst (λ z. NodeAt t n h.0 z) h.3.1 h.2, h.3.2))
-        (λ h. (h.0, named h.1, h.2, (h.1, refl, h.3)))
+      (some_place n (λ p l. (f : Text) × (l ≡ named f) × P p f) (λ p l. name_of_feature l (P p) (d p)))
+      (λ h. (h.0, h.3.0, subst (λ z. NodeAt t n h.0 z) h.3.1 h.2, h.3.2))
+      (λ h. (h.0, named h.1, h.2, (h.1, refl, h.3)))
 
   at_dependency : (n : ℕ) (P : ℕ → Text → Type 0) → ((p : ℕ) (f : Text) → Decided (P p f)) → Decided (AtDependency n P)
   at_dependency n P d =
       decided_by
-        (some_place n (λ p l. (f : Text) × (l ≡ optional f) × P p f) (λ p l. name_of_dependency l (P p) (d p)))
-        (λ h. (h.0, h.3.0, subst (λ z. NodeAt t n h.0 z) h.3.1 h.2, h.3.2))
-        (λ h. (h.0, optional h.1, h.2, (h.1, refl, h.3)))
+      (some_place n (λ p l. (f : Text) × (l ≡ optional f) × P p f) (λ p l. name_of_dependency l (P p) (d p)))
+      (λ h. (h.0, h.3.0, subst (λ z. NodeAt t n h.0 z) h.3.1 h.2, h.3.2))
+      (λ h. (h.0, optional h.1, h.2, (h.1, refl, h.3)))
 
   -- some node is this label of package p
   some_node : (p : ℕ) (l : LabelName) → Decided ((n : ℕ) × NodeAt t n p l)
   some_node p l =
       decided_by
-        (some_at (λ (z : ℕ × LabelName). (z.0 ≡ p) × (z.1 ≡ l)) (λ z. decided_both (nat_decided z.0 p) (label_decided z.1 l)) (node_places t))
-        (λ h. (h.0, h.2 ∙ ap Some (λ i. (h.3.0 i, h.3.1 i))))
-        (λ h. (h.0, (p, l), h.1, (refl, refl)))
+      (some_at (λ (z : ℕ × LabelName). (z.0 ≡ p) × (z.1 ≡ l)) (λ z. decided_both (nat_decided z.0 p) (label_decided z.1 l)) (node_places t))
+      (λ h. (h.0, h.2 ∙ ap Some (λ i. (h.3.0 i, h.3.1 i))))
+      (λ h. (h.0, (p, l), h.1, (refl, refl)))
 
 module _ (t : Tables) (u w : ℕ) where
   abbrev ToBase : Type 0
@@ -158,8 +158,8 @@ module _ (t : Tables) (u w : ℕ) where
   to_feature_decided : Decided ToFeature
   to_feature_decided =
       at_feature t u (λ p f. AtFeature t w (λ q g. (q ≡ p) × ((g ≢ f) × HasItem t p f (feature_item g))))
-        (λ p f. at_feature t w (λ q g. (q ≡ p) × ((g ≢ f) × HasItem t p f (feature_item g)))
-          (λ q g. decided_both (nat_decided q p) (decided_both (decided_not (text_decided g f)) (item_there t p f (feature_item g)))))
+      (λ p f. at_feature t w (λ q g. (q ≡ p) × ((g ≢ f) × HasItem t p f (feature_item g)))
+      (λ q g. decided_both (nat_decided q p) (decided_both (decided_not (text_decided g f)) (item_there t p f (feature_item g)))))
 
   abbrev ToDependency : Type 0
   ToDependency = AtFeature t u (λ p f. AtDependency t w (λ q d. (q ≡ p) × HasItem t p f (optional_item d)))
@@ -167,8 +167,8 @@ module _ (t : Tables) (u w : ℕ) where
   to_dependency_decided : Decided ToDependency
   to_dependency_decided =
       at_feature t u (λ p f. AtDependency t w (λ q d. (q ≡ p) × HasItem t p f (optional_item d)))
-        (λ p f. at_dependency t w (λ q d. (q ≡ p) × HasItem t p f (optional_item d))
-          (λ q d. decided_both (nat_decided q p) (item_there t p f (optional_item d))))
+      (λ p f. at_dependency t w (λ q d. (q ≡ p) × HasItem t p f (optional_item d))
+      (λ q d. decided_both (nat_decided q p) (item_there t p f (optional_item d))))
 
   abbrev WithDependency : Type 0
   WithDependency = AtFeature t u (λ p f. AtDependency t w (λ q d. (q ≡ p) × HasOver t p f d))
@@ -176,8 +176,8 @@ module _ (t : Tables) (u w : ℕ) where
   with_dependency_decided : Decided WithDependency
   with_dependency_decided =
       at_feature t u (λ p f. AtDependency t w (λ q d. (q ≡ p) × HasOver t p f d))
-        (λ p f. at_dependency t w (λ q d. (q ≡ p) × HasOver t p f d)
-          (λ q d. decided_both (nat_decided q p) (over_there t p f d)))
+      (λ p f. at_dependency t w (λ q d. (q ≡ p) × HasOver t p f d)
+      (λ q d. decided_both (nat_decided q p) (over_there t p f d)))
 
   abbrev WithFeature : Type 0
   WithFeature = AtFeature t u (λ p f. AtFeature t w (λ q d. (q ≡ p) × ((d ≢ f) × (HasOver t p f d × ((n : ℕ) × NodeAt t n p (optional d))))))
@@ -185,8 +185,8 @@ module _ (t : Tables) (u w : ℕ) where
   with_feature_decided : Decided WithFeature
   with_feature_decided =
       at_feature t u (λ p f. AtFeature t w (λ q d. (q ≡ p) × ((d ≢ f) × (HasOver t p f d × ((n : ℕ) × NodeAt t n p (optional d))))))
-        (λ p f. at_feature t w (λ q d. (q ≡ p) × ((d ≢ f) × (HasOver t p f d × ((n : ℕ) × NodeAt t n p (optional d)))))
-          (λ q d. decided_both (nat_decided q p) (decided_both (decided_not (text_decided d f)) (decided_both (over_there t p f d) (some_node t p (optional d))))))
+      (λ p f. at_feature t w (λ q d. (q ≡ p) × ((d ≢ f) × (HasOver t p f d × ((n : ℕ) × NodeAt t n p (optional d)))))
+      (λ q d. decided_both (nat_decided q p) (decided_both (decided_not (text_decided d f)) (decided_both (over_there t p f d) (some_node t p (optional d))))))
 
   -- over a link, by an item that is weak or not
   abbrev OverLink : Bool → Type 0
@@ -195,11 +195,11 @@ module _ (t : Tables) (u w : ℕ) where
   over_link_decided : (weak : Bool) → Decided (OverLink weak)
   over_link_decided weak =
       some_at
-        (λ link. AtFeature t u (λ p f. AtFeature t w (λ q g. (p ≡ link.from) × ((q ≡ link.to) × HasItem t link.from f (slash_item link.name g weak)))))
-        (λ link. at_feature t u (λ p f. AtFeature t w (λ q g. (p ≡ link.from) × ((q ≡ link.to) × HasItem t link.from f (slash_item link.name g weak))))
-          (λ p f. at_feature t w (λ q g. (p ≡ link.from) × ((q ≡ link.to) × HasItem t link.from f (slash_item link.name g weak)))
-            (λ q g. decided_both (nat_decided p link.from) (decided_both (nat_decided q link.to) (item_there t link.from f (slash_item link.name g weak))))))
-        t.links
+      (λ link. AtFeature t u (λ p f. AtFeature t w (λ q g. (p ≡ link.from) × ((q ≡ link.to) × HasItem t link.from f (slash_item link.name g weak)))))
+      (λ link. at_feature t u (λ p f. AtFeature t w (λ q g. (p ≡ link.from) × ((q ≡ link.to) × HasItem t link.from f (slash_item link.name g weak))))
+      (λ p f. at_feature t w (λ q g. (p ≡ link.from) × ((q ≡ link.to) × HasItem t link.from f (slash_item link.name g weak)))
+      (λ q g. decided_both (nat_decided p link.from) (decided_both (nat_decided q link.to) (item_there t link.from f (slash_item link.name g weak))))))
+      t.links
 
   abbrev BySection : LinkDeclarations → (LinkTable → LabelName) → Type 0
   BySection which label = (k : ℕ) × (link : LinkTable) × IsLink t k link × (NodeAt t u link.from (label link) × ((q : ℕ) × (asked : LabelName) × NodeAt t w q asked × ((q ≡ link.to) × IsTrue (list_any (requesting asked which) link.declarations))))
@@ -207,11 +207,11 @@ module _ (t : Tables) (u w : ℕ) where
   section_decided : (which : LinkDeclarations) (label : LinkTable → LabelName) → Decided (BySection which label)
   section_decided which label =
       some_at
-        (λ link. NodeAt t u link.from (label link) × ((q : ℕ) × (asked : LabelName) × NodeAt t w q asked × ((q ≡ link.to) × IsTrue (list_any (requesting asked which) link.declarations))))
-        (λ link. decided_both (node_decided t u link.from (label link))
-          (some_place t w (λ q asked. (q ≡ link.to) × IsTrue (list_any (requesting asked which) link.declarations))
-            (λ q asked. decided_both (nat_decided q link.to) (is_true_decided (list_any (requesting asked which) link.declarations)))))
-        t.links
+      (λ link. NodeAt t u link.from (label link) × ((q : ℕ) × (asked : LabelName) × NodeAt t w q asked × ((q ≡ link.to) × IsTrue (list_any (requesting asked which) link.declarations))))
+      (λ link. decided_both (node_decided t u link.from (label link))
+      (some_place t w (λ q asked. (q ≡ link.to) × IsTrue (list_any (requesting asked which) link.declarations))
+      (λ q asked. decided_both (nat_decided q link.to) (is_true_decided (list_any (requesting asked which) link.declarations)))))
+      t.links
 
   moved : (p q : ℕ) (l : LabelName) → q ≡ p → NodeAt t w q l → NodeAt t w p l
   moved p q l e at = subst (λ z. NodeAt t w z l) e at
@@ -240,8 +240,7 @@ module _ (t : Tables) (u w : ℕ) where
   by_section : (which : LinkDeclarations) (label : LinkTable → LabelName) → (h : BySection which label) → (e : Edge) × IsSection t u w which label e
   by_section which label h =
       let link = h.1 in
-      let to = h.3.1 in
-      (
+      let to = h.3.1 in (
         section (over which (requesting to.1 which) ((h.0, link) ∷ [])),
         record { k = h.0; link = link; is_link = h.2; asked = to.1; is_requested = to.3.1; from_node = h.3.0; to_node = moved link.to to.0 to.1 to.3.0 to.2; is_edge = refl },
       )

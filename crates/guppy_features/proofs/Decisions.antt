@@ -52,13 +52,13 @@ pub some_at : {A : Type 0} (P : A → Type 0) → ((x : A) → Decided (P x)) �
 some_at P d [] = inr (λ h. let e = h.2 in cc)
 some_at P d (x ∷ xs) =
     ⊎_elim
-      (λ p. inl (0, x, refl, p))
-      (λ no. decided_by (some_at P d xs) (λ h. (suc h.0, h.1, h.2, h.3)) (λ h. next_place P x xs no h.0 h.1 h.2 h.3))
-      (d x)
+    (λ p. inl (0, x, refl, p))
+    (λ no. decided_by (some_at P d xs) (λ h. (suc h.0, h.1, h.2, h.3)) (λ h. next_place P x xs no h.0 h.1 h.2 h.3))
+    (d x)
 
 pub some_in : {A : Type 0} (P : A → Type 0) → ((x : A) → Decided (P x)) → (xs : List A) → Decided ((x : A) × Contains xs x × P x)
 some_in P d xs =
     decided_by
-      (some_at P d xs)
-      (λ h. (h.1, element_at_place xs h.0 h.1 h.2, h.3))
-      (λ h. let k = place_of_element xs h.0 h.1 in (k.0, h.0, k.1, h.2))
+    (some_at P d xs)
+    (λ h. (h.1, element_at_place xs h.0 h.1 h.2, h.3))
+    (λ h. let k = place_of_element xs h.0 h.1 in (k.0, h.0, k.1, h.2))

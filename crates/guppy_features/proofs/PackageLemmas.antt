@@ -1,5 +1,5 @@
 -- Packages and their labels, by what was asked for.
-use Rattle.std.proofs.Common.{◌≡◌, ℕ, zero, suc, ◌+◌, ◌⊎◌, ⊎_elim, List, length, map, Some, None, refl, ap, sym, ◌∙◌, subst, get_or}
+use Rattle.std.proofs.Common.{◌≡◌, ℕ, zero, suc, ◌+◌, ⊎_elim, List, length, map, Some, None, refl, ap, sym, ◌∙◌, subst, get_or}
 use Rattle.std.specs.Prelude.{Contains, slice_get}
 use Rattle.std.specs.Str.{bytes_eq}
 use Rattle.std.specs.Cmp.Lexicographic.{bytes_decides}
@@ -21,21 +21,21 @@ named_back : (table : PackageTable) (name : Text) (k : ℕ) → slice_get (label
 named_back table name zero e = let same : base ≡ named name = cc in cc
 named_back table name (suc k) e =
     ⊎_elim
-      (λ h. let m = got_map (λ (f : FeatureTable). named f.name) (slice_get table.features k) (named name) (sym (slice_get-map (λ (f : FeatureTable). named f.name) table.features k) ∙ h) in
-        let same = m.2 in (k, m.0, m.1, cc))
-      (λ h. let m = got_map (λ (d : Text). optional d) (slice_get table.optional_names h.0) (named name) (sym (slice_get-map (λ (d : Text). optional d) table.optional_names h.0) ∙ h.2) in
-        let same = m.2 in cc)
-      (get_cases (map (λ f. named f.name) table.features) (map (λ d. optional d) table.optional_names) k (named name) e)
+    (λ h. let m = got_map (λ (f : FeatureTable). named f.name) (slice_get table.features k) (named name) (sym (slice_get-map (λ (f : FeatureTable). named f.name) table.features k) ∙ h) in
+    let same = m.2 in (k, m.0, m.1, cc))
+    (λ h. let m = got_map (λ (d : Text). optional d) (slice_get table.optional_names h.0) (named name) (sym (slice_get-map (λ (d : Text). optional d) table.optional_names h.0) ∙ h.2) in
+    let same = m.2 in cc)
+    (get_cases (map (λ f. named f.name) table.features) (map (λ d. optional d) table.optional_names) k (named name) e)
 
 optional_back : (table : PackageTable) (name : Text) (k : ℕ) → slice_get (labels_of table) k ≡ Some (optional name) → (j : ℕ) × (slice_get table.optional_names j ≡ Some name)
 optional_back table name zero e = let same : base ≡ optional name = cc in cc
 optional_back table name (suc k) e =
     ⊎_elim
-      (λ h. let m = got_map (λ (f : FeatureTable). named f.name) (slice_get table.features k) (optional name) (sym (slice_get-map (λ (f : FeatureTable). named f.name) table.features k) ∙ h) in
-        let same = m.2 in cc)
-      (λ h. let m = got_map (λ (d : Text). optional d) (slice_get table.optional_names h.0) (optional name) (sym (slice_get-map (λ (d : Text). optional d) table.optional_names h.0) ∙ h.2) in
-        let same = m.2 in let name_is : m.0 ≡ name = cc in (h.0, m.1 ∙ ap Some name_is))
-      (get_cases (map (λ f. named f.name) table.features) (map (λ d. optional d) table.optional_names) k (optional name) e)
+    (λ h. let m = got_map (λ (f : FeatureTable). named f.name) (slice_get table.features k) (optional name) (sym (slice_get-map (λ (f : FeatureTable). named f.name) table.features k) ∙ h) in
+    let same = m.2 in cc)
+    (λ h. let m = got_map (λ (d : Text). optional d) (slice_get table.optional_names h.0) (optional name) (sym (slice_get-map (λ (d : Text). optional d) table.optional_names h.0) ∙ h.2) in
+    let same = m.2 in let name_is : m.0 ≡ name = cc in (h.0, m.1 ∙ ap Some name_is))
+    (get_cases (map (λ f. named f.name) table.features) (map (λ d. optional d) table.optional_names) k (optional name) e)
 
 pub has_base : (table : PackageTable) → Contains (labels_of table) base
 has_base table = element_at_place (labels_of table) 0 base refl

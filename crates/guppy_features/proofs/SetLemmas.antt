@@ -50,12 +50,12 @@ module _ (t : Tables) (names : List (Text × LabelName)) where
   pub known_more : (i : ℕ) (name : Text × LabelName) → slice_get names i ≡ Some name → KnownBelow t names i → HasFeature t name → KnownBelow t names (i + 1)
   known_more i name at known this k other below e =
       ⊎_elim
-        (λ before. known k other before e)
-        (λ is.
-            let there : slice_get names i ≡ Some other = subst (λ z. slice_get names z ≡ Some other) is e in
-            let same : name ≡ other = cc in
-            subst (HasFeature t) same this)
-        (last_or_before k i below)
+      (λ before. known k other before e)
+      (λ is.
+      let there : slice_get names i ≡ Some other = subst (λ z. slice_get names z ≡ Some other) is e in
+      let same : name ≡ other = cc in
+      subst (HasFeature t) same this)
+      (last_or_before k i below)
 
   pub all_known : (i : ℕ) → i ≡ length names → KnownBelow t names i → AreKnown t names
   all_known i whole known k name e = let within = slice_get_within names k name e in known k name (omega arith) e
@@ -83,9 +83,9 @@ module _ (t : Tables) (names : List (Text × LabelName)) where
     (λ h. ⊎_elim
         (λ below. (step n).1 (inl ((before n).1 (h.0, h.1, h.2, (h.3.0, below)))))
         (λ is.
-            let there : slice_get names i ≡ Some h.1 = subst (λ z. slice_get names z ≡ Some h.1) is h.2 in
-            let same : h.1 ≡ name = cc in
-            (step n).1 (inr (subst (NodeNamed t n) same h.3.0)))
+        let there : slice_get names i ≡ Some h.1 = subst (λ z. slice_get names z ≡ Some h.1) is h.2 in
+        let same : h.1 ≡ name = cc in
+        (step n).1 (inr (subst (NodeNamed t n) same h.3.0)))
         (last_or_before h.0 i h.3.1)),
   )
 

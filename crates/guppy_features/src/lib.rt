@@ -11,9 +11,9 @@ mod set;
 mod tests;
 
 pub use feature_core::{Error, FeatureGraphData};
-pub use feature_labels::feature_list;
 pub use feature_labels::{
     DisplayFeatures, FeatureId, FeatureKind, FeatureLabel, FeatureList, LinkDeclarations,
+    feature_list,
 };
 pub use graph::{FeatureGraph, FeatureGraphExt};
 pub use guppy_packages::DependencyDirection;

@@ -87,11 +87,7 @@ fn check_nodes(
 }
 
 /// Checks what the graph says of features that it has, and of those that it lacks.
-fn check_look_ups(
-    rt: &impl Abort,
-    alloc: Global,
-    features: FeatureGraph<'_>,
-) -> Result<(), Fail> {
+fn check_look_ups(rt: &impl Abort, alloc: Global, features: FeatureGraph<'_>) -> Result<(), Fail> {
     for (package, label) in NODES {
         let package = PackageId::new(alloc, package)?;
         let id = FeatureId::new(&package, label);
@@ -126,7 +122,12 @@ fn check_ids(rt: &impl Abort, alloc: Global, features: FeatureGraph<'_>) -> Resu
     let refused = features.query_forward(alloc, &unknown).err();
     assert!(rt; names_feature(refused, z));
     check_nodes(rt, alloc, &features.resolve_ids(alloc, &[foo, foo])?, &[3])?;
-    check_nodes(rt, alloc, &features.resolve_all(alloc)?, &[0, 1, 2, 3, 4, 5, 6])?;
+    check_nodes(
+        rt,
+        alloc,
+        &features.resolve_all(alloc)?,
+        &[0, 1, 2, 3, 4, 5, 6],
+    )?;
     check_nodes(rt, alloc, &features.resolve_none(alloc)?, &[])?;
     Ok(())
 }
@@ -154,7 +155,10 @@ fn check_lists(rt: &impl Abort, alloc: Global, features: FeatureGraph<'_>) -> Re
     let list = features.all_features_for(alloc, &main)?;
     let shown = list.display_features();
     let printed = format!(in alloc; "{shown}")?;
-    assert_eq!(rt; printed.as_str(), "[base], foo, smallvec, smallvec-union, dep:smallvec");
+    assert_eq!(rt;
+        printed.as_str(),
+        "[base], foo, smallvec, smallvec-union, dep:smallvec"
+    );
     let none = PackageId::new(alloc, "none")?;
     match features.all_features_for(alloc, &none) {
         Err(Error::UnknownPackageId(id)) => assert!(rt; id == &none),

@@ -15,16 +15,14 @@ returns-in-Some-clause-same c =
 
 pub returns-in-Some-clause-known : goal.returns-in-Some-clause-known
 returns-in-Some-clause-known c =
-    let table = package_table_of c.args.package in
-    (
+    let table = package_table_of c.args.package in (
       (λ e. subst (λ l. Contains (labels_of table) (label_of l)) (sym c.in-Named.is) (has_named table c.in-Named.name.now c.in-Some.place (sym c.in-Some.ensures))),
       (λ e. refl),
     )
 
 pub returns-in-None-clause-known : goal.returns-in-None-clause-known
 returns-in-None-clause-known c =
-    let table = package_table_of c.args.package in
-    (
+    let table = package_table_of c.args.package in (
       (λ e. cc),
       (λ k. absurd (has_no_named table c.in-Named.name.now (sym c.in-None.ensures) (subst (λ l. Contains (labels_of table) (label_of l)) c.in-Named.is k))),
     )
@@ -36,16 +34,14 @@ returns-in-Some-optional_place-clause-same c =
 
 pub returns-in-Some-optional_place-clause-known : goal.returns-in-Some-optional_place-clause-known
 returns-in-Some-optional_place-clause-known c =
-    let table = package_table_of c.args.package in
-    (
+    let table = package_table_of c.args.package in (
       (λ e. subst (λ l. Contains (labels_of table) (label_of l)) (sym c.in-OptionalDependency.is) (has_optional table c.in-OptionalDependency.name.now c.in-Some-optional_place.place (sym c.in-Some-optional_place.ensures))),
       (λ e. refl),
     )
 
 pub returns-in-None-optional_place-clause-known : goal.returns-in-None-optional_place-clause-known
 returns-in-None-optional_place-clause-known c =
-    let table = package_table_of c.args.package in
-    (
+    let table = package_table_of c.args.package in (
       (λ e. cc),
       (λ k. absurd (has_no_optional table c.in-OptionalDependency.name.now (sym c.in-None-optional_place.ensures) (subst (λ l. Contains (labels_of table) (label_of l)) c.in-OptionalDependency.is k))),
     )

@@ -16,16 +16,16 @@ pub returns-clause-size : goal.returns-clause-size
 returns-clause-size c =
     let graph = c.args.self.now in
     ok_map
-      (λ set. length set ≡ length graph.built.now.packages)
-      (λ set. length set ≡ length (nodes graph.graph.now))
-      c.walk_all.result c.walk_all.ensures.size
-      (λ set e. e ∙ built_count graph.graph.now graph.built.now graph.is_built)
+    (λ set. length set ≡ length graph.built.now.packages)
+    (λ set. length set ≡ length (nodes graph.graph.now))
+    c.walk_all.result c.walk_all.ensures.size
+    (λ set e. e ∙ built_count graph.graph.now graph.built.now graph.is_built)
 
 pub returns-clause-reach : goal.returns-clause-reach
 returns-clause-reach c =
     let graph = c.args.self.now in
     ok_map
-      (λ set. (t : Tables) → IsBuilt t graph.built.now → (n : ℕ) → IsTrue (has set n) ↔ Reach t c.args.direction (has c.args.initials.now) n)
-      (λ set. (n : ℕ) → IsTrue (has set n) ↔ Reach graph.graph.now c.args.direction (has c.args.initials.now) n)
-      c.walk_all.result c.walk_all.ensures.reach
-      (λ set h. h graph.graph.now (built_given graph.graph.now graph.built.now graph.is_built))
+    (λ set. (t : Tables) → IsBuilt t graph.built.now → (n : ℕ) → IsTrue (has set n) ↔ Reach t c.args.direction (has c.args.initials.now) n)
+    (λ set. (n : ℕ) → IsTrue (has set n) ↔ Reach graph.graph.now c.args.direction (has c.args.initials.now) n)
+    c.walk_all.result c.walk_all.ensures.reach
+    (λ set h. h graph.graph.now (built_given graph.graph.now graph.built.now graph.is_built))
