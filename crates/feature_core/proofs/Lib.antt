@@ -1,5 +1,6 @@
 pub mod Places
 pub mod AddsLemmas
+pub mod KeySays
 pub mod PartLemmas
 pub mod LeastKeys
 pub mod Answered
