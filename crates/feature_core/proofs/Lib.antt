@@ -21,3 +21,5 @@ pub mod PushLemmas
 pub mod Listed
 pub mod PairLemmas
 pub mod RequestLemmas
+pub mod Ranks
+pub mod EdgeLemmas

@@ -41,7 +41,7 @@ member_alike t b direction initials n P h both =
     let r = reach_alike t b direction initials n h in
     ((λ p. r.0 (both.0 p)), (λ q. both.1 (r.1 q)))
 
-names_differ : (t : Tables) → AreTables t → NamesDiffer t
+pub names_differ : (t : Tables) → AreTables t → NamesDiffer t
 names_differ t tables p table is i j f g a b e =
     let name_at : (k : ℕ) (h : FeatureTable) → slice_get table.features k ≡ Some h → slice_get (map (λ x. x.name) table.features) k ≡ Some h.name = λ k h at. slice_get-map (λ x. x.name) table.features k ∙ ap (option_map (λ x. x.name)) at in
     tables.features p table is i j f.name (name_at i f a) (name_at j g b ∙ ap Some (sym e))
