@@ -9,7 +9,7 @@ use Rattle.std.proofs.lemmas.List.Kept.{AllPairs-cons, Contains-from_dedup}
 use Rattle.std.specs.Prelude.{IsPermutation, IsSorted}
 use Rattle.std.proofs.lemmas.List.Sorted.{Contains-permutation, IsPermutation-sym, sorted_far, ranks_by}
 use Rattle.feature_core.specs.declared.key.Key.{Key}
-use Rattle.feature_core.specs.Keys.{IsBefore, IsPair, IsUpTo, IsServed, AreLeast}
+use Rattle.feature_core.specs.Keys.{IsBefore, IsPair, IsUpTo, IsNoLater, IsServed, AreLeast}
 
 abbrev pub same_pair : Key → Key → Bool
 same_pair a b = (a.from == b.from) && (a.to == b.to)
@@ -102,3 +102,12 @@ least_moved keys sorted kept moved h = record {
   from_keys = λ a i. Contains-permutation sorted keys a (IsPermutation-sym keys sorted moved) (h.from_keys a i);
   each = λ b i. h.each b (Contains-permutation keys sorted b moved i);
 }
+
+-- order by pair, rank, source and place is order by pair and rank
+no_later_up : (a b : Key) → IsNoLater a b → IsUpTo a b
+no_later_up a b (inl h) = inl h
+no_later_up a b (inr (pair, inl l)) = inr (pair, omega arith)
+no_later_up a b (inr (pair, inr (same, rest))) = inr (pair, omega arith)
+
+pub all_up_to : (keys : List Key) → AllPairs IsNoLater keys → AllPairs IsUpTo keys
+all_up_to keys h i j d l m = no_later_up (slice_index_or keys i d) (slice_index_or keys j d) (h i j d l m)

@@ -1,6 +1,7 @@
 pub mod Places
 pub mod AddsLemmas
 pub mod KeySays
+pub mod KeyRuns
 pub mod PartLemmas
 pub mod LeastKeys
 pub mod Answered

@@ -13,7 +13,7 @@ mod tests;
 
 use crate::candidates::candidates;
 use crate::error::Error;
-use crate::key::{Key, keep_least};
+use crate::key::{Key, keep_least, sort_keys};
 use crate::nodes::{NodeTable, node_table};
 use crate::numbers::Numbers;
 use crate::reach::reach_all;
@@ -56,6 +56,7 @@ fn pair_digraph(
 {
     graph.facts();
     let mut keys = candidates(alloc, numbers_in(graph, table))?;
+    sort_keys(&mut keys);
     keep_least(&mut keys);
     let edges = edges_of(alloc, &keys)?;
     match Digraph::new(alloc, table.packages.len(), &edges) {
