@@ -24,3 +24,4 @@ pub mod PairLemmas
 pub mod RequestLemmas
 pub mod Ranks
 pub mod EdgeLemmas
+pub mod SectionLemmas

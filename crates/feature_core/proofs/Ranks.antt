@@ -65,7 +65,7 @@ told t u w e (of_required s) = subst (λ x. Told t u w x) (sym s.is_edge) (inl (
 told t u w e (of_optional s) = subst (λ x. Told t u w x) (sym s.is_edge) (inr (subst (λ x. IsSection t u w Optional (λ link. optional link.name) x) s.is_edge s))
 
 -- one link a pair of packages
-same_link : (t : Tables) → AreTables t → (k j : ℕ) (l m : LinkTable) → IsLink t k l → IsLink t j m → l.from ≡ m.from → l.to ≡ m.to → (k ≡ j) × (l ≡ m)
+pub same_link : (t : Tables) → AreTables t → (k j : ℕ) (l m : LinkTable) → IsLink t k l → IsLink t j m → l.from ≡ m.from → l.to ≡ m.to → (k ≡ j) × (l ≡ m)
 same_link t tables k j l m a b p q =
     let pair : (m.from, m.to) ≡ (l.from, l.to) = cc in
     let at_k : slice_get (map pair_of t.links) k ≡ Some (l.from, l.to) = slice_get-map pair_of t.links k ∙ ap (option_map pair_of) a in
@@ -95,10 +95,10 @@ base_optional : (d : Text) → base ≡ optional d → ⊥
 base_optional d h = cc
 
 -- two names of one node
-same_home : (t : Tables) (n p q : ℕ) (x y : LabelName) → NodeAt t n p x → NodeAt t n q y → p ≡ q
+pub same_home : (t : Tables) (n p q : ℕ) (x y : LabelName) → NodeAt t n p x → NodeAt t n q y → p ≡ q
 same_home t n p q x y a b = ap (λ z. z.0) (same_got _ n (p, x) (q, y) a b)
 
-same_label : (t : Tables) (n p q : ℕ) (x y : LabelName) → NodeAt t n p x → NodeAt t n q y → x ≡ y
+pub same_label : (t : Tables) (n p q : ℕ) (x y : LabelName) → NodeAt t n p x → NodeAt t n q y → x ≡ y
 same_label t n p q x y a b = ap (λ z. z.1) (same_got _ n (p, x) (q, y) a b)
 
 same_colon : (t : Tables) (u w : ℕ) (l m : LinkFacts) → Colon t u w l → Colon t u w m → l ≡ m
