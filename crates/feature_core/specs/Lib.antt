@@ -16,3 +16,4 @@ pub mod Errors
 pub mod Built
 pub mod NamedLinks
 pub mod Values
+pub mod Collected

@@ -51,6 +51,10 @@ pub record LinkFacts : Type 0 where
 abbrev pub status_of : DependencyKind → (Declared → Bool) → List (ℕ × LinkTable) → Status
 status_of kind passes links = joined (flat_map (λ l. map (λ d. d.platform) (filter (λ d. passes d && is_kind kind d.kind) l.1.declarations)) links)
 
+-- the platforms of the declarations of a kind
+abbrev pub platforms_of : DependencyKind → List Declared → List (Option Text)
+platforms_of kind declarations = map (λ d. d.platform) (filter (λ d. is_kind kind d.kind) declarations)
+
 -- the link over those declarations of these package links that pass
 abbrev pub over : LinkDeclarations → (Declared → Bool) → List (ℕ × LinkTable) → LinkFacts
 over which passes links = record {

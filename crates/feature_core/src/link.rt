@@ -4,6 +4,8 @@ ghost use Rattle.std.specs.Option.{option_map};
 ghost use Rattle.guppy_packages.specs.Platform.{status_of};
 ghost use Rattle.feature_core.specs.Values.{link_facts, half_facts};
 
+mod statuses;
+
 use feature_labels::LinkDeclarations;
 use guppy_packages::{PlatformStatus, PlatformStatusImpl};
 use smallvec::SmallVec;
