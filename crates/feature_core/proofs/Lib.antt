@@ -25,3 +25,4 @@ pub mod RequestLemmas
 pub mod Ranks
 pub mod EdgeLemmas
 pub mod SectionLemmas
+pub mod StatusLemmas

@@ -15,3 +15,5 @@ pub mod OpenWays
 pub mod Errors
 pub mod Built
 pub mod NamedLinks
+pub mod Values
+pub mod Collected
