@@ -22,3 +22,4 @@ pub mod PairLemmas
 pub mod RequestLemmas
 pub mod Ranks
 pub mod EdgeLemmas
+pub mod NodeLabels
