@@ -26,3 +26,4 @@ pub mod Ranks
 pub mod EdgeLemmas
 pub mod SectionLemmas
 pub mod StatusLemmas
+pub mod NodeLabels

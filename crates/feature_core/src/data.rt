@@ -15,7 +15,7 @@ use crate::candidates::candidates;
 use crate::error::Error;
 use crate::key::{Key, keep_least, sort_keys};
 use crate::nodes::{NodeTable, node_table};
-use crate::numbers::Numbers;
+use crate::numbers::{Numbers, label_at};
 use crate::reach::reach_all;
 use feature_labels::{FeatureId, FeatureLabel};
 use guppy_packages::{DependencyDirection, PackageGraph, PackageMetadata};
@@ -180,6 +180,17 @@ impl FeatureGraphData {
             Ok(metadata) => number_of(numbers_in(graph, &self.table), metadata, id.label()),
             Err(_) => None,
         }
+    }
+
+    /// The id of a node. The data is built of this package graph.
+    pub fn id<'g>(&self, graph: &'g PackageGraph, ix: usize) -> FeatureId<'g>
+        requires built { IsBuilt graph.now self.now }
+        requires node { ix < length self.now.packages }
+        ensures { NodeNamed graph.now ix (id_of result) }
+    {
+        let metadata = graph.package(self.package_of(ix));
+        let label = label_at(graph, &self.table.firsts, &self.table.packages, ix);
+        FeatureId::new(metadata.id(), label)
     }
 }
 

@@ -420,6 +420,28 @@ fn nodes_by_name(rt: HostRuntime) -> Result<(), Fail> {
 }
 
 #[test]
+fn ids_of_nodes(rt: HostRuntime) -> Result<(), Fail> {
+    let graph = PackageGraph::from_rows(rt.alloc(), WEAK_ITEM_WITHOUT_REQUIRED_HALF)?;
+    let built = FeatureGraphData::build(rt.alloc(), &graph, 0)?;
+    let main = PackageId::new(rt.alloc(), "main")?;
+    let sv = PackageId::new(rt.alloc(), "sv")?;
+    let ids = [
+        FeatureId::base(&main),
+        FeatureId::named(&main, "smallvec"),
+        FeatureId::named(&main, "smallvec-union"),
+        FeatureId::named(&main, "foo"),
+        FeatureId::optional_dependency(&main, "smallvec"),
+        FeatureId::base(&sv),
+        FeatureId::named(&sv, "union"),
+    ];
+    assert_eq!(rt; built.node_count(), ids.len());
+    for ix in 0..built.node_count() {
+        assert_eq!(rt; Some(built.id(&graph, ix)), ids.get(ix).copied());
+    }
+    Ok(())
+}
+
+#[test]
 fn walks_both_ways(rt: HostRuntime) -> Result<(), Fail> {
     let graph = PackageGraph::from_rows(rt.alloc(), WEAK_ITEM_WITHOUT_REQUIRED_HALF)?;
     let built = FeatureGraphData::build(rt.alloc(), &graph, 0)?;
