@@ -25,5 +25,6 @@ pub mod RequestLemmas
 pub mod Ranks
 pub mod EdgeLemmas
 pub mod SectionLemmas
+pub mod KeyEdges
 pub mod StatusLemmas
 pub mod NodeLabels

@@ -176,12 +176,12 @@ module _ (t : Tables) (tables : AreTables t) (x : Key) (l : LinkFacts) (s : Says
   abbrev pub RequestsAt : ℕ → Type 0
   RequestsAt j = (d : Declared) × (slice_get s.link.declarations j ≡ Some d) × IsTrue (requesting s.asked s.which d)
 
-  module _ (keys sections run : List Key) (all : (y : Key) → Contains keys y ↔ IsOfTables t y) (ranks : AreOfRank 7 keys sections) (is_run : IsRun sections x.from x.to run) where
+  module _ (sections run : List Key) (requested : (y : Key) → Contains sections y ↔ (IsOfTables t y × (y.rank ≡ 7))) (is_run : IsRun sections x.from x.to run) where
     run_key : (y : Key) → Contains run y → IsOfLink y
     run_key y h =
         let i = (is_run.exact y).0 h in
-        let k = (ranks.exact y).0 i.0 in
-        of_link y ((all y).0 k.0) k.1 i.1 i.2
+        let k = (requested y).0 i.0 in
+        of_link y k.0 k.1 i.1 i.2
 
     -- the places of the run
     abbrev pub places : List ℕ
@@ -196,13 +196,13 @@ module _ (t : Tables) (tables : AreTables t) (x : Key) (l : LinkFacts) (s : Says
     pub place_back : (j : ℕ) → RequestsAt j → Contains places j
     place_back j h =
         let y = key x.from x.to 7 x.source j in
-        let at : Contains run y = (is_run.exact y).1 ((ranks.exact y).1 ((all y).1 (by_declaration j h.0 h.1 h.2), refl), refl, refl) in
+        let at : Contains run y = (is_run.exact y).1 ((requested y).1 (by_declaration j h.0 h.1 h.2, refl), refl, refl) in
         into_map (λ y. y.place) run y at
 
     of_pair : (y : Key) → Contains run y → IsOfPair x y
     of_pair y h =
         let i = (is_run.exact y).0 h in
-        (i.1, i.2, ((ranks.exact y).0 i.0).1, (run_key y h).source)
+        (i.1, i.2, ((requested y).0 i.0).1, (run_key y h).source)
 
     pub ascends : AllPairs (λ a b. a ≤ b) places
     ascends i j d l m =

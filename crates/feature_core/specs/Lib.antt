@@ -17,3 +17,4 @@ pub mod Built
 pub mod NamedLinks
 pub mod Values
 pub mod Collected
+pub mod Made

@@ -5,6 +5,7 @@ mod candidates;
 mod data;
 mod declarations;
 mod edge;
+mod edges;
 pub mod engine;
 mod error;
 mod key;
