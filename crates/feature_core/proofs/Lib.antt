@@ -21,3 +21,4 @@ pub mod Listed
 pub mod PairLemmas
 pub mod RequestLemmas
 pub mod StatusLemmas
+pub mod LinkLemmas
