@@ -28,3 +28,4 @@ pub mod SectionLemmas
 pub mod KeyEdges
 pub mod StatusLemmas
 pub mod NodeLabels
+pub mod LinkLemmas

@@ -4,6 +4,7 @@ ghost use Rattle.std.specs.Option.{option_map};
 ghost use Rattle.guppy_packages.specs.Platform.{status_of};
 ghost use Rattle.feature_core.specs.Values.{link_facts, half_facts};
 
+pub(crate) mod building;
 mod statuses;
 
 use feature_labels::LinkDeclarations;
