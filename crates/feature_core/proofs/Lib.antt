@@ -25,7 +25,10 @@ pub mod RequestLemmas
 pub mod Ranks
 pub mod EdgeLemmas
 pub mod SectionLemmas
+pub mod SectionPlaces
 pub mod KeyEdges
+pub mod MaterialLemmas
+pub mod ValueLemmas
 pub mod StatusLemmas
 pub mod NodeLabels
 pub mod LinkLemmas

@@ -1,219 +1,106 @@
--- The keys of a pair that a link's declarations request are those of the declarations that request it.
-use Rattle.std.proofs.Common.{◌≡◌, ℕ, ◌<◌, ◌≤◌, ◌⊎◌, inl, inr, ⊎_elim, List, [], ◌∷◌, map, length, get_or, Bool, true, false, cond, refl, ap, sym, ◌∙◌, subst, arith, Some}
-use Rattle.std.specs.Prelude.{Contains, AllPairs, ◌↔◌, IsTrue, IsFalse, slice_get, not, ◌&&◌}
-use Rattle.std.specs.List.{dedup}
-use Rattle.std.proofs.Common.{eqb}
-use Rattle.std.specs.List.Sorted.{IsSorted, IsStrictlyIncreasing}
-use Rattle.std.proofs.lemmas.List.Kept.{Contains-from_dedup, Contains-dedup_nat}
-use Rattle.std.proofs.lemmas.List.{get_or-map, length-map}
-use Rattle.guppy_packages.specs.Rows.{Text, Declared}
-use Rattle.guppy_packages.specs.Tables.{LinkTable, Tables, AreTables, PackageTable, FeatureTable}
-use Rattle.guppy_packages.specs.Items.{Item, feature_item, optional_item, slash_item, item_of}
-use Rattle.feature_labels.specs.Names.{LabelName}
-use Rattle.feature_labels.specs.Names.LabelName.{base, named, optional}
+-- The declarations that pass, by their places.
+use Rattle.std.proofs.Common.{◌≡◌, ℕ, zero, suc, ◌+◌, ◌<◌, ◌≤◌, ◌⊎◌, inl, inr, ⊎_elim, List, [], ◌∷◌, length, get_or, Bool, true, false, cond, Option, None, Some, map, refl, ap, sym, ◌∙◌, subst, arith}
+use Rattle.std.specs.Prelude.{filter, filter_map, slice_get, Contains, AllPairs, ◌↔◌, IsTrue}
+use Rattle.std.specs.List.{cons_option}
+use Rattle.guppy_packages.specs.Rows.{Declared}
+use Rattle.guppy_packages.specs.Tables.{LinkTable}
 use Rattle.feature_labels.specs.declared.link_declarations.LinkDeclarations.{LinkDeclarations}
-use Rattle.feature_labels.specs.declared.link_declarations.LinkDeclarations.TheVariants.{Unsplit, Required, Optional}
-use Rattle.feature_core.specs.Nodes.{NodeAt}
-use Rattle.feature_core.specs.Links.{LinkFacts, IsLink, includes, has_declaration}
-use Rattle.feature_core.specs.Candidates.{requests, requesting}
-use Rattle.feature_core.specs.declared.key.Key.{Key}
-use Rattle.feature_core.specs.Keys.{IsBefore, IsPair, IsNoLater, IsRun, AreOfRank}
-use Rattle.feature_core.specs.Parts.{key, over_rank, IsTo, IsOfItem, IsOfPackageAt, IsOfTables, start_of}
-use Rattle.std.proofs.lemmas.List.Elements.{Contains-get_or}
-use Rattle.feature_core.proofs.PushLemmas.{from_map, into_map}
-use Rattle.feature_core.proofs.KeySays.{SaysSection}
-use Rattle.feature_core.proofs.Ranks.{same_home, same_label, same_link}
+use Rattle.feature_core.specs.Links.{at_places, over, over_parts, over_places}
+use Rattle.feature_core.proofs.AddsLemmas.{Contains-first, Contains-later, Contains-cases, Contains-none}
+use Rattle.feature_core.proofs.LinkLemmas.{parts_of, over_of_parts}
 
--- a key that a declaration of a link requests
-record IsSectionKey (t : Tables) (y : Key) : Type 0 where
-  link : LinkTable
-  is_link : IsLink t y.source link
-  declared : Declared
-  at : slice_get link.declarations y.place ≡ Some declared
-  from_node : NodeAt t y.from link.from (start_of link declared)
-  asked : LabelName
-  is_requested : IsTrue (requests declared asked)
-  to_node : NodeAt t y.to link.to asked
+-- ascending, from low on
+abbrev IsFrom : ℕ → List ℕ → Type 0
+IsFrom low [] = Unit {0}
+IsFrom low (x ∷ xs) = (low ≤ x) × IsFrom (suc x) xs
 
-ranked : (y : Key) (u w rank source place : ℕ) → y ≡ key u w rank source place → y.rank ≡ 7 → rank ≡ 7
-ranked y u w rank source place is h = sym (ap (λ z. z.rank) is) ∙ h
+from_pairs : (low : ℕ) (xs : List ℕ) → ((d : ℕ) → 0 < length xs → low ≤ get_or xs 0 d) → AllPairs (λ a b. a < b) xs → IsFrom low xs
+from_pairs low [] first h = tt
+from_pairs low (x ∷ xs) first h = (first 0 (omega arith), from_pairs (suc x) xs (λ d l. h 0 1 d (omega arith) (omega arith)) (λ i j d l m. h (suc i) (suc j) d (omega arith) (omega arith)))
 
-over_rank_low : (b : Bool) → ◌≡◌ {A = ℕ} (cond b 6 4) 7 → ⊥
-over_rank_low true h = omega (arith, h)
-over_rank_low false h = omega (arith, h)
+at_least : (low : ℕ) (xs : List ℕ) (j : ℕ) → IsFrom low xs → Contains xs j → low ≤ j
+at_least low [] j f h = absurd (Contains-none j h)
+at_least low (x ∷ xs) j f h = ⊎_elim (λ e. omega (arith, e, f.0)) (λ e. omega (arith, f.0, at_least (suc x) xs j f.1 e)) (Contains-cases x xs j h)
 
-item_rank : (t : Tables) (u p : ℕ) (f : Text) (item : Item) (y : Key) → IsOfItem t u p f item y → y.rank ≡ 7 → ⊥
-item_rank t u p f (feature_item g) y h r = omega (arith, ranked y _ _ _ _ _ h.1.2 r)
-item_rank t u p f (optional_item d) y h r = omega (arith, ranked y _ _ _ _ _ h.2 r)
-item_rank t u p f (slash_item d g weak) y h r = ⊎_elim
-    (λ o. over_rank_low (weak && has_declaration Optional o.1.0) (ranked y _ _ _ _ _ o.1.4.2 r))
-    (λ o. ⊎_elim (λ i. omega (arith, ranked y _ _ _ _ _ i.2 r)) (λ i. omega (arith, ranked y _ _ _ _ _ i.2.2 r)) o.1)
-    h
+-- two such lists with the same members are one
+one_list : (low : ℕ) (xs ys : List ℕ) → IsFrom low xs → IsFrom low ys → ((j : ℕ) → Contains xs j → Contains ys j) → ((j : ℕ) → Contains ys j → Contains xs j) → xs ≡ ys
+one_list low [] [] f g there back = refl
+one_list low [] (y ∷ ys) f g there back = absurd (Contains-none y (back y (Contains-first y ys)))
+one_list low (x ∷ xs) [] f g there back = absurd (Contains-none x (there x (Contains-first x xs)))
+one_list low (x ∷ xs) (y ∷ ys) f g there back =
+    let same : x ≡ y = ⊎_elim (λ e. sym e) (λ a. ⊎_elim (λ e. e) (λ b. absurd (omega (arith, at_least (suc y) ys x g.1 a, at_least (suc x) xs y f.1 b))) (Contains-cases x xs y (back y (Contains-first y ys)))) (Contains-cases y ys x (there x (Contains-first x xs))) in
+    let rest : xs ≡ ys = one_list (suc x) xs ys f.1 (subst (λ z. IsFrom (suc z) ys) (sym same) g.1)
+    (λ j h. ⊎_elim (λ e. absurd (omega (arith, e, same, at_least (suc x) xs j f.1 h))) (λ k. k) (Contains-cases y ys j (there j (Contains-later x xs j h))))
+    (λ j h. ⊎_elim (λ e. absurd (omega (arith, e, same, at_least (suc y) ys j g.1 h))) (λ k. k) (Contains-cases x xs j (back j (Contains-later y ys j h)))) in
+    cc
 
-package_rank : (t : Tables) (p : ℕ) (y : Key) → IsOfPackageAt t p y → y.rank ≡ 7 → ⊥
-package_rank t p y h r = ⊎_elim
-    (λ b. omega (arith, ranked y _ _ _ _ _ b.2.1 r))
-    (λ b.
-    let feature : FeatureTable = b.1.0 in
-    let i = b.1.2 in
-    let text : Text = i.1.0 in
-    item_rank t _ p feature.name (item_of text) y i.1.2 r)
-    h.2
+module _ (passes : Declared → Bool) where
+  -- the places of those that pass, from q on
+  abbrev places_from : ℕ → List Declared → List ℕ
+  places_from q [] = []
+  places_from q (d ∷ ds) = cond (passes d) (q ∷ places_from (q + 1) ds) (places_from (q + 1) ds)
 
-section_key : (t : Tables) (y : Key) → IsOfTables t y → y.rank ≡ 7 → IsSectionKey t y
-section_key t y h r = ⊎_elim
-    (λ i. absurd (package_rank t i.0 y i.1 r))
-    (λ i.
-    let k : ℕ = i.0 in
-    let link : LinkTable = i.1.0 in
-    let is_link = i.1.1 in
-    let j : ℕ = i.1.2.0 in
-    let d : Declared = i.1.2.1.0 in
-    let at = i.1.2.1.1 in
-    let u : ℕ = i.1.2.1.2.0 in
-    let nu = i.1.2.1.2.1 in
-    let asked : LabelName = i.1.2.1.2.2.0 in
-    let req = i.1.2.1.2.2.1 in
-    let w : ℕ = i.1.2.1.2.2.2.0 in
-    let nw = i.1.2.1.2.2.2.1 in
-    let made : IsSectionKey t (key u w 7 k j) = record { link = link; is_link = is_link; declared = d; at = at; from_node = nu; asked = asked; is_requested = req; to_node = nw } in
-    subst (λ z. IsSectionKey t z) (sym i.1.2.1.2.2.2.2) made)
-    h
+  lower : (low high : ℕ) (xs : List ℕ) → low ≤ high → IsFrom high xs → IsFrom low xs
+  lower low high [] l f = tt
+  lower low high (x ∷ xs) l f = (omega (arith, f.0), f.1)
 
-start_required : (link : LinkTable) (d : Declared) → start_of link d ≡ base → IsTrue (not d.optional)
-start_required link d h = go d.optional refl h
-  where
-    go : (b : Bool) → d.optional ≡ b → cond b (optional link.name) base ≡ base → IsTrue (not b)
-    go true e i = cc
-    go false e i = refl
+  ascending : (q : ℕ) (ds : List Declared) → IsFrom q (places_from q ds)
+  ascending q [] = tt
+  ascending q (d ∷ ds) = go (passes d) (ascending (q + 1) ds)
+    where
+      go : (b : Bool) → IsFrom (q + 1) (places_from (q + 1) ds) → IsFrom q (cond b (q ∷ places_from (q + 1) ds) (places_from (q + 1) ds))
+      go true f = let e : q + 1 ≡ suc q = omega arith in (omega arith, subst (λ z. IsFrom z (places_from (q + 1) ds)) e f)
+      go false f = lower q (q + 1) (places_from (q + 1) ds) (omega arith) f
 
-start_optional : (link : LinkTable) (d : Declared) (name : Text) → start_of link d ≡ optional name → IsTrue d.optional
-start_optional link d name h = go d.optional refl h
-  where
-    go : (b : Bool) → d.optional ≡ b → cond b (optional link.name) base ≡ optional name → IsTrue b
-    go true e i = refl
-    go false e i = cc
+  at_all : (all : List Declared) (q : ℕ) (ds : List Declared) → ((j : ℕ) (d : Declared) → slice_get ds j ≡ Some d → slice_get all (q + j) ≡ Some d) → at_places all (places_from q ds) ≡ filter passes ds
+  at_all all q [] h = refl
+  at_all all q (d ∷ ds) h =
+      go (passes d) (at_all all (q + 1) ds (λ j m e. let same : q + suc j ≡ q + 1 + j = omega arith in subst (λ z. slice_get all z ≡ Some m) same (h (suc j) m e)))
+    where
+      here : slice_get all q ≡ Some d
+      here = let same : q + 0 ≡ q = omega arith in subst (λ z. slice_get all z ≡ Some d) same (h 0 d refl)
 
-of_required : (link : LinkTable) (d : Declared) → IsTrue (not d.optional) → start_of link d ≡ base
-of_required link d h = go d.optional refl h
-  where
-    go : (b : Bool) → d.optional ≡ b → IsTrue (not b) → cond b (optional link.name) base ≡ base
-    go true e i = cc
-    go false e i = refl
+      go : (b : Bool) → at_places all (places_from (q + 1) ds) ≡ filter passes ds → at_places all (cond b (q ∷ places_from (q + 1) ds) (places_from (q + 1) ds)) ≡ cond b (d ∷ filter passes ds) (filter passes ds)
+      go true more = ap (λ o. cons_option o (at_places all (places_from (q + 1) ds))) here ∙ ap (λ z. d ∷ z) more
+      go false more = more
 
-of_optional : (link : LinkTable) (d : Declared) → IsTrue d.optional → start_of link d ≡ optional link.name
-of_optional link d h = ap (λ b. cond b (optional link.name) base) h
+  passing_place : (q : ℕ) (ds : List Declared) (j : ℕ) → Contains (places_from q ds) j → (i : ℕ) × (j ≡ q + i) × ((d : Declared) × (slice_get ds i ≡ Some d) × (passes d ≡ true))
+  passing_place q [] j h = absurd (Contains-none j h)
+  passing_place q (d ∷ ds) j h = go (passes d) refl (λ e. let r = passing_place (q + 1) ds j e in (suc r.0, omega (arith, r.1), r.2)) h
+    where
+      go : (b : Bool) → passes d ≡ b → (Contains (places_from (q + 1) ds) j → (i : ℕ) × (j ≡ q + i) × ((m : Declared) × (slice_get (d ∷ ds) i ≡ Some m) × (passes m ≡ true)))
+          → Contains (cond b (q ∷ places_from (q + 1) ds) (places_from (q + 1) ds)) j → (i : ℕ) × (j ≡ q + i) × ((m : Declared) × (slice_get (d ∷ ds) i ≡ Some m) × (passes m ≡ true))
+      go true t later c = ⊎_elim (λ e. (0, omega (arith, e), (d, refl, t))) later (Contains-cases q (places_from (q + 1) ds) j c)
+      go false t later c = later c
 
-both : (a b : Bool) → a && b ≡ true → (a ≡ true) × (b ≡ true)
-both true b h = (refl, h)
-both false b h = cc
+  place_passing : (q : ℕ) (ds : List Declared) (i : ℕ) (d : Declared) → slice_get ds i ≡ Some d → passes d ≡ true → Contains (places_from q ds) (q + i)
+  place_passing q [] i d h p = cc
+  place_passing q (m ∷ ds) zero d h p =
+      let same : m ≡ d = cc in
+      let zeroth : q ≡ q + 0 = omega arith in
+      go (passes m) (ap passes same ∙ p) zeroth
+    where
+      go : (b : Bool) → b ≡ true → q ≡ q + 0 → Contains (cond b (q ∷ places_from (q + 1) ds) (places_from (q + 1) ds)) (q + 0)
+      go true t e = subst (λ z. Contains (q ∷ places_from (q + 1) ds) z) e (Contains-first q (places_from (q + 1) ds))
+      go false t e = cc
+  place_passing q (m ∷ ds) (suc i) d h p = go (passes m) (let e : q + 1 + i ≡ q + suc i = omega arith in subst (Contains (places_from (q + 1) ds)) e (place_passing (q + 1) ds i d h p))
+    where
+      go : (b : Bool) → Contains (places_from (q + 1) ds) (q + suc i) → Contains (cond b (q ∷ places_from (q + 1) ds) (places_from (q + 1) ds)) (q + suc i)
+      go true c = Contains-later q (places_from (q + 1) ds) (q + suc i) c
+      go false c = c
 
-joined_true : (a b : Bool) → a ≡ true → b ≡ true → a && b ≡ true
-joined_true true b h i = i
-joined_true false b h i = cc
+  -- these ascend, and are exactly the places of declarations that pass
+  pub record ArePassing (ds : List Declared) (places : List ℕ) : Type 0 where
+    pub ascend : AllPairs (λ a b. a < b) places
+    pub exact : (j : ℕ) → Contains places j ↔ ((d : Declared) × (slice_get ds j ≡ Some d) × IsTrue (passes d))
 
--- a key of the pair, of this rank and source
-abbrev IsOfPair : Key → Key → Type 0
-IsOfPair x y = (y.from ≡ x.from) × (y.to ≡ x.to) × (y.rank ≡ 7) × (y.source ≡ x.source)
+  pub passing_at : (ds : List Declared) (places : List ℕ) → ArePassing ds places → at_places ds places ≡ filter passes ds
+  passing_at ds places h =
+      ap (at_places ds) (one_list 0 places (places_from 0 ds) (from_pairs 0 places (λ d l. omega arith) h.ascend) (ascending 0 ds)
+      (λ j c. let r = (h.exact j).0 c in let e : 0 + j ≡ j = omega arith in subst (Contains (places_from 0 ds)) e (place_passing 0 ds j r.0 r.1 r.2))
+      (λ j c. let r = passing_place 0 ds j c in (h.exact j).1 (r.2.0, (let e : r.0 ≡ j = omega (arith, r.1) in subst (λ z. slice_get ds z ≡ Some r.2.0) e r.2.1), r.2.2)))
+      ∙ at_all ds 0 ds (λ j d e. let same : j ≡ 0 + j = omega arith in subst (λ z. slice_get ds z ≡ Some d) same e)
 
-later_place : (x a b : Key) → IsOfPair x a → IsOfPair x b → IsNoLater a b → a.place ≤ b.place
-later_place x a b (f, g, h, i) (p, q, r, o) (inl (inl e)) = absurd (omega (arith, e, f, p))
-later_place x a b (f, g, h, i) (p, q, r, o) (inl (inr e)) = absurd (omega (arith, e.1, g, q))
-later_place x a b (f, g, h, i) (p, q, r, o) (inr (e, inl k)) = absurd (omega (arith, k, h, r))
-later_place x a b (f, g, h, i) (p, q, r, o) (inr (e, inr (k, inl n))) = absurd (omega (arith, n, i, o))
-later_place x a b (f, g, h, i) (p, q, r, o) (inr (e, inr (k, inr n))) = n.1
-
-module _ (t : Tables) (tables : AreTables t) (x : Key) (l : LinkFacts) (s : SaysSection t x l) where
-  from_home : (z : LabelName) (p : ℕ) → NodeAt t x.from p z → p ≡ s.link.from
-  from_home z p n = ⊎_elim
-      (λ o. same_home t x.from p s.link.from z base n o.1)
-      (λ o. same_home t x.from p s.link.from z (optional s.link.name) n o.1)
-      s.start
-
-  covers : (d : Declared) → NodeAt t x.from s.link.from (start_of s.link d) → IsTrue (includes s.which d)
-  covers d n = ⊎_elim
-      (λ o. subst (λ z. IsTrue (includes z d)) (sym o.0) (start_required s.link d (same_label t x.from s.link.from s.link.from (start_of s.link d) base n o.1)))
-      (λ o. subst (λ z. IsTrue (includes z d)) (sym o.0) (start_optional s.link d s.link.name (same_label t x.from s.link.from s.link.from (start_of s.link d) (optional s.link.name) n o.1)))
-      s.start
-
-  starts : (d : Declared) → IsTrue (includes s.which d) → NodeAt t x.from s.link.from (start_of s.link d)
-  starts d i = ⊎_elim
-      (λ o. subst (λ z. NodeAt t x.from s.link.from z) (sym (of_required s.link d (subst (λ z. IsTrue (includes z d)) o.0 i))) o.1)
-      (λ o. subst (λ z. NodeAt t x.from s.link.from z) (sym (of_optional s.link d (subst (λ z. IsTrue (includes z d)) o.0 i))) o.1)
-      s.start
-
-  -- another key of the pair comes from the same link
-  record IsOfLink (y : Key) : Type 0 where
-    source : y.source ≡ x.source
-    declared : Declared
-    at : slice_get s.link.declarations y.place ≡ Some declared
-    passes : IsTrue (requesting s.asked s.which declared)
-
-  of_link : (y : Key) → IsOfTables t y → y.rank ≡ 7 → y.from ≡ x.from → y.to ≡ x.to → IsOfLink y
-  of_link y h r from to =
-      let k = section_key t y h r in
-      let start : NodeAt t x.from k.link.from (start_of k.link k.declared) = subst (λ z. NodeAt t z k.link.from (start_of k.link k.declared)) from k.from_node in
-      let end : NodeAt t x.to k.link.to k.asked = subst (λ z. NodeAt t z k.link.to k.asked) to k.to_node in
-      let left : k.link.from ≡ s.link.from = from_home (start_of k.link k.declared) k.link.from start in
-      let right : k.link.to ≡ s.link.to = same_home t x.to k.link.to s.link.to k.asked s.asked end s.to_node in
-      let one : (y.source ≡ x.source) × (k.link ≡ s.link) = same_link t tables y.source x.source k.link s.link k.is_link s.is_link left right in
-      let asked : k.asked ≡ s.asked = same_label t x.to k.link.to s.link.to k.asked s.asked end s.to_node in
-      let there : NodeAt t x.from s.link.from (start_of s.link k.declared) = subst (λ z. NodeAt t x.from z.from (start_of z k.declared)) one.1 start in
-      record {
-        source = one.0;
-        declared = k.declared;
-        at = subst (λ z. slice_get z.declarations y.place ≡ Some k.declared) one.1 k.at;
-        passes = joined_true (includes s.which k.declared) (requests k.declared s.asked) (covers k.declared there) (subst (λ z. IsTrue (requests k.declared z)) asked k.is_requested);
-      }
-
-  -- the key of a declaration that requests the label
-  by_declaration : (j : ℕ) (d : Declared) → slice_get s.link.declarations j ≡ Some d → IsTrue (requesting s.asked s.which d) → IsOfTables t (key x.from x.to 7 x.source j)
-  by_declaration j d at passes =
-      let p = both (includes s.which d) (requests d s.asked) passes in
-      inr (x.source, (s.link, s.is_link, (j, (d, at, (x.from, starts d p.0, (s.asked, p.1, (x.to, s.to_node, refl)))))))
-
-  -- some declaration of the link at this place requests the label
-  abbrev pub RequestsAt : ℕ → Type 0
-  RequestsAt j = (d : Declared) × (slice_get s.link.declarations j ≡ Some d) × IsTrue (requesting s.asked s.which d)
-
-  module _ (sections run : List Key) (requested : (y : Key) → Contains sections y ↔ (IsOfTables t y × (y.rank ≡ 7))) (is_run : IsRun sections x.from x.to run) where
-    run_key : (y : Key) → Contains run y → IsOfLink y
-    run_key y h =
-        let i = (is_run.exact y).0 h in
-        let k = (requested y).0 i.0 in
-        of_link y k.0 k.1 i.1 i.2
-
-    -- the places of the run
-    abbrev pub places : List ℕ
-    places = map (λ y. y.place) run
-
-    pub place_there : (j : ℕ) → Contains places j → RequestsAt j
-    place_there j h =
-        let y = from_map (λ y. y.place) run j h in
-        let o = run_key y.0 y.1 in
-        (o.declared, subst (λ z. slice_get s.link.declarations z ≡ Some o.declared) y.2 o.at, o.passes)
-
-    pub place_back : (j : ℕ) → RequestsAt j → Contains places j
-    place_back j h =
-        let y = key x.from x.to 7 x.source j in
-        let at : Contains run y = (is_run.exact y).1 ((requested y).1 (by_declaration j h.0 h.1 h.2, refl), refl, refl) in
-        into_map (λ y. y.place) run y at
-
-    of_pair : (y : Key) → Contains run y → IsOfPair x y
-    of_pair y h =
-        let i = (is_run.exact y).0 h in
-        (i.1, i.2, ((requested y).0 i.0).1, (run_key y h).source)
-
-    pub ascends : AllPairs (λ a b. a ≤ b) places
-    ascends i j d l m =
-        let long : length places ≡ length run = length-map run (λ y. y.place) in
-        let i_in : i < length run = omega (arith, l, m, long) in
-        let j_in : j < length run = omega (arith, m, long) in
-        let a = get_or run i x in
-        let b = get_or run j x in
-        let a_is : get_or places i d ≡ a.place = get_or-map (λ y. y.place) run i x d i_in in
-        let b_is : get_or places j d ≡ b.place = get_or-map (λ y. y.place) run j x d j_in in
-        let a_in : Contains run a = Contains-get_or run i x i_in in
-        let b_in : Contains run b = Contains-get_or run j x j_in in
-        let up : a.place ≤ b.place = later_place x a b (of_pair a a_in) (of_pair b b_in) (is_run.ordered i j x l j_in) in
-        omega (arith, a_is, b_is, up)
+  -- the link over the declarations of one package link that pass
+  pub passing_over : (which : LinkDeclarations) (k : ℕ) (link : LinkTable) (places : List ℕ) → ArePassing link.declarations places → over_places which k link places ≡ over which passes ((k, link) ∷ [])
+  passing_over which k link places h = ap (λ z. over_parts which ((k, z) ∷ [])) (passing_at link.declarations places h) ∙ over_of_parts which passes ((k, link) ∷ [])

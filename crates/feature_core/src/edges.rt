@@ -223,14 +223,20 @@ fn edge_of(alloc: Global, material: Material<'_, '_>, key: Key) -> Result<Featur
     ensures { IfOk result (λ edge. IsValueOf material.entry.graph.now (keys material.entry.weak.now) key (edge_facts edge)) }
 {
     material.graph.facts();
-    match key.rank {
-        1 => Ok(FeatureEdge::FeatureToBase),
-        2 => Ok(FeatureEdge::NamedFeature),
-        3 => colon_edge(alloc, material, key),
-        4 => full_edge(alloc, material, key),
-        5 => beside_edge(alloc, material, key),
-        6 => weak_edge(alloc, material, key),
-        _ => section_edge(alloc, material, key),
+    if key.rank == 1 {
+        Ok(FeatureEdge::FeatureToBase)
+    } else if key.rank == 2 {
+        Ok(FeatureEdge::NamedFeature)
+    } else if key.rank == 3 {
+        colon_edge(alloc, material, key)
+    } else if key.rank == 4 {
+        full_edge(alloc, material, key)
+    } else if key.rank == 5 {
+        beside_edge(alloc, material, key)
+    } else if key.rank == 6 {
+        weak_edge(alloc, material, key)
+    } else {
+        section_edge(alloc, material, key)
     }
 }
 
@@ -238,15 +244,15 @@ fn edge_of(alloc: Global, material: Material<'_, '_>, key: Key) -> Result<Featur
 pub(crate) fn edges_of(
     alloc: Global,
     material: Material<'_, '_>,
-    keys: &[Key],
+    kept: &[Key],
 ) -> Result<Vec<FeatureEdge>, AllocError>
     requires material { IsMaterial material }
-    requires of_tables { (i : ℕ) (x : KeyValue) → slice_get keys.now i ≡ Some x → IsOfTables material.graph.now x }
-    ensures { IfOk result (λ edges. AreValues material.entry.graph.now (keys material.entry.weak.now) keys.now (map edge_facts edges.items)) }
+    requires of_tables { (i : ℕ) (x : KeyValue) → slice_get kept.now i ≡ Some x → IsOfTables material.graph.now x }
+    ensures { IfOk result (λ edges. AreValues material.entry.graph.now (keys material.entry.weak.now) kept.now (map edge_facts edges.items)) }
 {
-    let mut edges = Vec::with_capacity(alloc, keys.len())?;
-    for ix in 0..keys.len() {
-        let edge = edge_of(alloc, material, keys[ix])?;
+    let mut edges = Vec::with_capacity(alloc, kept.len())?;
+    for ix in 0..kept.len() {
+        let edge = edge_of(alloc, material, kept[ix])?;
         edges.push(edge)?;
     }
     Ok(edges)
