@@ -20,3 +20,4 @@ pub mod PushLemmas
 pub mod Listed
 pub mod PairLemmas
 pub mod RequestLemmas
+pub mod WarningLemmas

@@ -14,3 +14,4 @@ pub mod OpenWays
 pub mod Errors
 pub mod Built
 pub mod NamedLinks
+pub mod Warnings

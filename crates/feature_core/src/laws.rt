@@ -1,10 +1,14 @@
-//! Laws of walks. Each function does nothing: its contract is the law, over the definitions alone.
+//! Laws of walks, and of equality of warnings. Each function's contract is the law; those of walks do nothing, and speak of
+//! the definitions alone.
 
 ghost use Rattle.std.specs.Prelude.{◌≡◌, ◌↔◌, ◌⊎◌, ◌||◌, ℕ, Bool, List, IsTrue, IsFalse};
 ghost use Rattle.feature_core.specs.Walks.{Content, Way, Call, IsWay, has_half, Reach, was_made, was_accepted, IsDue, IsLegal, IsComplete, Agrees, Least};
 ghost use Rattle.feature_core.specs.Laws.{every, only, Leads, AreReverse, IsUngated};
 ghost use Rattle.feature_core.specs.declared.engine.Half.{Half};
 ghost use Rattle.feature_core.specs.declared.engine.Half.TheVariants.{Required};
+ghost use Rattle.feature_core.specs.Warnings.{warning_of};
+
+use crate::warning::FeatureGraphWarning;
 
 /// A path over all edges leads from one node to another exactly if the second is in the reach of the first, and
 /// exactly if the first is in the reach of the second over the reverse edges.
@@ -54,3 +58,10 @@ pub fn required_half_is_due()
         → IsWay c e w → IsTrue (has_half w.ask Required) → Reach c I (was_accepted run) w.start
         → IsFalse (was_made run e Required) → IsDue c I run e Required }
 {}
+
+/// Two warnings are equal where they say the same, with the same texts.
+pub fn warning_equality(a: &FeatureGraphWarning, b: &FeatureGraphWarning) -> bool
+    ensures { IsTrue result ↔ (warning_of a.now ≡ warning_of b.now) }
+{
+    a == b
+}

@@ -13,7 +13,9 @@ mod nodes;
 mod numbers;
 mod reach;
 mod walk;
+mod warning;
 
 pub use data::FeatureGraphData;
 pub use error::Error;
 pub use walk::walk_all;
+pub use warning::FeatureGraphWarning;
