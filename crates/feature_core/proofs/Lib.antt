@@ -32,3 +32,4 @@ pub mod ValueLemmas
 pub mod StatusLemmas
 pub mod NodeLabels
 pub mod LinkLemmas
+pub mod WarningLemmas

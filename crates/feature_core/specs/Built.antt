@@ -6,19 +6,22 @@ use Rattle.guppy_packages.specs.Tables.{Tables}
 use Rattle.feature_labels.specs.Names.{LabelName}
 use Rattle.feature_core.specs.Nodes.{nodes, first_nodes, node_packages}
 use Rattle.feature_core.specs.Pairs.{IsPairList}
+use Rattle.feature_core.specs.Warnings.{Warning, warnings}
 
--- the stamp that the caller gave, the first node of each package, the package of each node, and the pairs of the edges
+-- the stamp that the caller gave, the first node of each package, the package of each node, the pairs of the edges, and the warnings
 pub record Built : Type 0 where
   pub stamp : ℕ
   pub firsts : List ℕ
   pub packages : List ℕ
   pub pairs : List (ℕ × ℕ)
+  pub warnings : List Warning
 
 -- it was built of these tables
 pub record IsBuilt (t : Tables) (b : Built) : Type 0 where
   pub firsts : b.firsts ≡ first_nodes t
   pub packages : b.packages ≡ node_packages t
   pub pairs : IsPairList t b.pairs
+  pub warnings : b.warnings ≡ warnings t
 
 -- node n has this name: the id of its package, and its label
 abbrev pub NodeNamed : Tables → ℕ → Text × LabelName → Type 0

@@ -18,3 +18,4 @@ pub mod NamedLinks
 pub mod Values
 pub mod Collected
 pub mod Made
+pub mod Warnings

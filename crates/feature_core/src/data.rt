@@ -7,6 +7,8 @@ ghost use Rattle.guppy_support.specs.Bits.{has};
 ghost use Rattle.feature_core.specs.Keys.{edge_of};
 ghost use Rattle.feature_core.specs.Pairs.{IsPairList, PairLeads, ReachAlong};
 ghost use Rattle.feature_core.specs.Built.{IsBuilt, NodeNamed, pairs_of};
+ghost use Rattle.feature_core.specs.NamedLinks.{AreNamedLinks};
+ghost use Rattle.feature_core.specs.Warnings.{warning_of};
 
 #[cfg(test)]
 mod tests;
@@ -14,31 +16,35 @@ mod tests;
 use crate::candidates::candidates;
 use crate::error::Error;
 use crate::key::{Key, keep_least, sort_keys};
+use crate::named_links::{LinkGroups, named_links};
 use crate::nodes::{NodeTable, node_table};
 use crate::numbers::{Numbers, label_at};
 use crate::reach::reach_all;
+use crate::warning::{FeatureGraphWarning, warnings};
 use feature_labels::{FeatureId, FeatureLabel};
 use guppy_packages::{DependencyDirection, PackageGraph, PackageMetadata};
 use guppy_support::{Digraph, Edge, IxBitSet};
 use std::alloc::{AllocError, Global};
 use std::marker::Model;
 
-/// The nodes and edges of a package graph's features. A contract sees the stamp, the table of nodes and the pairs of
-/// the edges.
+/// The nodes and edges of a package graph's features. A contract sees the stamp, the table of nodes, the pairs of
+/// the edges and the warnings.
 #[derive(Drop)]
 pub struct FeatureGraphData {
     stamp: u64,
     table: NodeTable,
     digraph: Digraph,
+    warnings: Vec<FeatureGraphWarning>,
 }
 
 impl Model for FeatureGraphData {
     ghost use Rattle.std.specs.Prelude.{◌≡◌, length};
     ghost use Rattle.feature_core.specs.Built.{Built, pairs_of};
+    ghost use Rattle.feature_core.specs.Warnings.{warnings_in};
 
     ghost Value = { Built };
 
-    ghost view = { λ d. record { stamp = d.stamp; firsts = d.table.firsts.items; packages = d.table.packages.items; pairs = pairs_of d.digraph.edges } };
+    ghost view = { λ d. record { stamp = d.stamp; firsts = d.table.firsts.items; packages = d.table.packages.items; pairs = pairs_of d.digraph.edges; warnings = warnings_in d.warnings } };
 
     ghost invariant = { λ d. d.digraph.nodes ≡ length d.table.packages.items };
 }
@@ -48,14 +54,16 @@ fn pair_digraph(
     alloc: Global,
     graph: &PackageGraph,
     table: &NodeTable,
+    groups: &LinkGroups<'_>,
 ) -> Result<Digraph, AllocError>
     requires firsts { table.now.firsts.items ≡ first_nodes graph.now }
     requires packages { table.now.packages.items ≡ node_packages graph.now }
+    requires links { AreNamedLinks graph.now groups.now }
     ensures nodes { IfOk result (λ d. d.nodes ≡ length table.now.packages.items) }
     ensures pairs { IfOk result (λ d. IsPairList graph.now (pairs_of d.edges)) }
 {
     graph.facts();
-    let mut keys = candidates(alloc, numbers_in(graph, table))?;
+    let mut keys = candidates(alloc, numbers_in(graph, table), groups)?;
     sort_keys(&mut keys);
     keep_least(&mut keys);
     let edges = edges_of(alloc, &keys)?;
@@ -123,11 +131,14 @@ impl FeatureGraphData {
         ensures refused { IfErr result (λ e. e ≡ Error.Memory) }
     {
         let table = node_table(alloc, graph)?;
-        let digraph = pair_digraph(alloc, graph, &table)?;
+        let groups = named_links(alloc, graph)?;
+        let digraph = pair_digraph(alloc, graph, &table, &groups)?;
+        let warnings = warnings(alloc, graph, &groups)?;
         Ok(FeatureGraphData {
             stamp,
             table,
             digraph,
+            warnings,
         })
     }
 
@@ -136,6 +147,13 @@ impl FeatureGraphData {
         ensures { result ≡ self.now.stamp }
     {
         self.stamp
+    }
+
+    /// What building noted: the items of features and then the listed names that ask for what is not there.
+    pub fn warnings(&self) -> &[FeatureGraphWarning]
+        ensures { map warning_of result.now ≡ self.now.warnings }
+    {
+        self.warnings.as_slice()
     }
 
     /// How many nodes there are.

@@ -1,4 +1,5 @@
-//! Laws of walks and of edges. Each function does nothing: its contract is the law, over the definitions alone.
+//! Laws of walks, of edges, and of equality of warnings. Each function's contract is the law; those of walks and edges do
+//! nothing, and speak of the definitions alone.
 
 ghost use Rattle.std.specs.Prelude.{◌≡◌, ◌↔◌, ◌⊎◌, ◌||◌, ℕ, Bool, List, IsTrue, IsFalse};
 ghost use Rattle.feature_core.specs.Walks.{Content, Way, Call, IsWay, has_half, Reach, was_made, was_accepted, IsDue, IsLegal, IsComplete, Agrees, Least};
@@ -6,7 +7,9 @@ ghost use Rattle.feature_core.specs.Laws.{every, only, Leads, AreReverse, IsUnga
 ghost use Rattle.feature_core.specs.declared.engine.Half.{Half};
 ghost use Rattle.feature_core.specs.declared.engine.Half.TheVariants.{Required};
 ghost use Rattle.feature_core.specs.Candidates.{Edge, Candidate, IsEdge, rank_of};
+ghost use Rattle.feature_core.specs.Warnings.{warning_of};
 
+use crate::warning::FeatureGraphWarning;
 use guppy_packages::PackageGraph;
 
 /// A path over all edges leads from one node to another exactly if the second is in the reach of the first, and
@@ -65,4 +68,11 @@ pub fn one_candidate(graph: &PackageGraph)
     ensures of_pair { (u w : ℕ) (e other : Edge) → IsEdge graph.now u w e → IsEdge graph.now u w other → e ≡ other }
 {
     graph.facts();
+}
+
+/// Two warnings are equal where they say the same, with the same texts.
+pub fn warning_equality(a: &FeatureGraphWarning, b: &FeatureGraphWarning) -> bool
+    ensures { IsTrue result ↔ (warning_of a.now ≡ warning_of b.now) }
+{
+    a == b
 }

@@ -16,9 +16,11 @@ mod nodes;
 mod numbers;
 mod reach;
 mod walk;
+mod warning;
 
 pub use data::FeatureGraphData;
 pub use edge::{FeatureEdge, SlashForm, WeakIndex, WeakSlashImpl};
 pub use error::Error;
 pub use link::{ConditionalLinkImpl, EnabledLink};
 pub use walk::walk_all;
+pub use warning::FeatureGraphWarning;
