@@ -33,3 +33,4 @@ pub mod StatusLemmas
 pub mod NodeLabels
 pub mod LinkLemmas
 pub mod WarningLemmas
+pub mod BuildLemmas

@@ -1,10 +1,11 @@
 -- The edges of keys, as they are made.
-use Rattle.std.specs.Prelude.{◌≡◌, ℕ, ◌↔◌, List, Contains, AllPairs, Some, slice_get, length}
+use Rattle.std.specs.Prelude.{◌≡◌, ℕ, ◌↔◌, List, Contains, AllPairs, Some, slice_get, length, not}
+use Rattle.guppy_support.specs.declared.digraph.Edge.{Edge as End}
 use Rattle.guppy_packages.specs.Tables.{Tables}
 use Rattle.feature_core.specs.Nodes.{first_nodes, node_packages}
 use Rattle.feature_core.specs.Candidates.{Edge, Candidate, rank_of}
-use Rattle.feature_core.specs.Edges.{EdgeFacts, facts_of}
-use Rattle.feature_core.specs.Keys.{IsNoLater}
+use Rattle.feature_core.specs.Edges.{EdgeFacts, facts_of, is_dev_only}
+use Rattle.feature_core.specs.Keys.{IsNoLater, AreLeast}
 use Rattle.feature_core.specs.NamedLinks.{AreNamedLinks}
 use Rattle.feature_core.specs.Parts.{IsOfTables}
 use Rattle.feature_core.specs.declared.key.Key.{Key}
@@ -29,3 +30,13 @@ pub record IsValueOf (t : Tables) (weak : List ℕ) (x : Key) (f : EdgeFacts) : 
 pub record AreValues (t : Tables) (weak : List ℕ) (keys : List Key) (facts : List EdgeFacts) : Type 0 where
   pub long : length facts ≡ length keys
   pub each : (i : ℕ) (x : Key) (f : EdgeFacts) → slice_get keys i ≡ Some x → slice_get facts i ≡ Some f → IsValueOf t weak x f
+
+-- the least keys of the tables
+pub record IsKept (t : Tables) (kept : List Key) : Type 0 where
+  pub keys : List Key
+  pub of_tables : (x : Key) → Contains keys x ↔ IsOfTables t x
+  pub least : AreLeast keys kept
+
+-- the ends of a key's edge, and whether it is more than dev-only
+abbrev pub edge_end : Key → EdgeFacts → End
+edge_end k f = record { from = k.from; to = k.to; non_dev = not (is_dev_only f) }

@@ -4,91 +4,54 @@ ghost use Rattle.guppy_packages.specs.Metadata.{package_graph_of, package_table_
 ghost use Rattle.feature_labels.specs.Names.{id_of, label_of};
 ghost use Rattle.feature_core.specs.Nodes.{NodeAt, nodes, first_node, first_nodes, node_packages, labels_of};
 ghost use Rattle.guppy_support.specs.Bits.{has};
-ghost use Rattle.feature_core.specs.Keys.{edge_of};
-ghost use Rattle.feature_core.specs.Pairs.{IsPairList, PairLeads, ReachAlong};
-ghost use Rattle.feature_core.specs.Built.{IsBuilt, NodeNamed, pairs_of};
-ghost use Rattle.feature_core.specs.NamedLinks.{AreNamedLinks};
+ghost use Rattle.feature_core.specs.Pairs.{PairLeads, ReachAlong};
+ghost use Rattle.feature_core.specs.Built.{IsBuilt, NodeNamed, ends_of, end_of};
 ghost use Rattle.feature_core.specs.Warnings.{warning_of};
 
 #[cfg(test)]
 mod tests;
 
-use crate::candidates::candidates;
+use crate::building::{EdgeTable, edge_table};
+use crate::edge::FeatureEdge;
 use crate::error::Error;
-use crate::key::{Key, keep_least, sort_keys};
-use crate::named_links::{LinkGroups, named_links};
+use crate::named_links::named_links;
 use crate::nodes::{NodeTable, node_table};
 use crate::numbers::{Numbers, label_at};
 use crate::reach::reach_all;
 use crate::warning::{FeatureGraphWarning, warnings};
 use feature_labels::{FeatureId, FeatureLabel};
 use guppy_packages::{DependencyDirection, PackageGraph, PackageMetadata};
-use guppy_support::{Digraph, Edge, IxBitSet};
+use guppy_support::{Digraph, IxBitSet};
+use indexmap::IndexMap;
 use std::alloc::{AllocError, Global};
 use std::marker::Model;
 
-/// The nodes and edges of a package graph's features. A contract sees the stamp, the table of nodes, the pairs of
-/// the edges and the warnings.
+/// The nodes and edges of a package graph's features. A contract sees the stamp, the table of nodes, the edges with what
+/// each says, the weak links with their gates, and the warnings.
 #[derive(Drop)]
 pub struct FeatureGraphData {
     stamp: u64,
     table: NodeTable,
     digraph: Digraph,
+    edges: Vec<FeatureEdge>,
+    weak: IndexMap<usize, usize>,
     warnings: Vec<FeatureGraphWarning>,
 }
 
 impl Model for FeatureGraphData {
-    ghost use Rattle.std.specs.Prelude.{◌≡◌, length};
-    ghost use Rattle.feature_core.specs.Built.{Built, pairs_of};
+    ghost use Rattle.std.specs.Prelude.{◌≡◌, length, map};
+    ghost use Rattle.feature_core.specs.Built.{Built, built_edges, end_of};
+    ghost use Rattle.feature_core.specs.Values.{edge_facts};
     ghost use Rattle.feature_core.specs.Warnings.{warnings_in};
 
     ghost Value = { Built };
 
-    ghost view = { λ d. record { stamp = d.stamp; firsts = d.table.firsts.items; packages = d.table.packages.items; pairs = pairs_of d.digraph.edges; warnings = warnings_in d.warnings } };
+    ghost view = { λ d. record { stamp = d.stamp; firsts = d.table.firsts.items; packages = d.table.packages.items; edges = built_edges d.digraph.edges (map edge_facts d.edges.items); weak = d.weak.entries; warnings = warnings_in d.warnings } };
 
-    ghost invariant = { λ d. d.digraph.nodes ≡ length d.table.packages.items };
-}
-
-/// The digraph of the pairs that have a candidate.
-fn pair_digraph(
-    alloc: Global,
-    graph: &PackageGraph,
-    table: &NodeTable,
-    groups: &LinkGroups<'_>,
-) -> Result<Digraph, AllocError>
-    requires firsts { table.now.firsts.items ≡ first_nodes graph.now }
-    requires packages { table.now.packages.items ≡ node_packages graph.now }
-    requires links { AreNamedLinks graph.now groups.now }
-    ensures nodes { IfOk result (λ d. d.nodes ≡ length table.now.packages.items) }
-    ensures pairs { IfOk result (λ d. IsPairList graph.now (pairs_of d.edges)) }
-{
-    graph.facts();
-    let mut keys = candidates(alloc, numbers_in(graph, table), groups)?;
-    sort_keys(&mut keys);
-    keep_least(&mut keys);
-    let edges = edges_of(alloc, &keys)?;
-    match Digraph::new(alloc, table.packages.len(), &edges) {
-        Ok(digraph) => Ok(digraph),
-        Err(_) => Err(AllocError),
-    }
-}
-
-/// An edge for each key.
-fn edges_of(alloc: Global, keys: &[Key]) -> Result<Vec<Edge>, AllocError>
-    ensures { IfOk result (λ edges. edges.items ≡ map edge_of keys.now) }
-{
-    keys.iter().map(|key| edge_of(*key)).collect(alloc)
-}
-
-/// The edge of a key's pair.
-fn edge_of(key: Key) -> Edge
-    ensures { result ≡ edge_of key }
-{
-    Edge {
-        from: key.from,
-        to: key.to,
-        non_dev: true,
-    }
+    ghost invariant = { λ d.
+        (d.digraph.nodes ≡ length d.table.packages.items)
+        × (length d.edges.items ≡ length d.digraph.edges)
+        × (d.digraph.edges ≡ map end_of (built_edges d.digraph.edges (map edge_facts d.edges.items))) };
 }
 
 /// The numbers of the nodes in this table.
@@ -132,12 +95,19 @@ impl FeatureGraphData {
     {
         let table = node_table(alloc, graph)?;
         let groups = named_links(alloc, graph)?;
-        let digraph = pair_digraph(alloc, graph, &table, &groups)?;
+        let edge_table = edge_table(alloc, numbers_in(graph, &table), &table, &groups)?;
         let warnings = warnings(alloc, graph, &groups)?;
+        let EdgeTable {
+            digraph,
+            edges,
+            weak,
+        } = edge_table;
         Ok(FeatureGraphData {
             stamp,
             table,
             digraph,
+            edges,
+            weak,
             warnings,
         })
     }
@@ -165,7 +135,7 @@ impl FeatureGraphData {
 
     /// How many edges there are.
     pub fn edge_count(&self) -> usize
-        ensures { result ≡ length self.now.pairs }
+        ensures { result ≡ length self.now.edges }
     {
         self.digraph.edge_count()
     }
@@ -222,7 +192,7 @@ impl FeatureGraphData {
     ) -> Result<IxBitSet, AllocError>
         requires { length initials.now ≡ length self.now.packages }
         ensures size { IfOk result (λ set. length set ≡ length self.now.packages) }
-        ensures members { IfOk result (λ set. (n : ℕ) → IsTrue (has set n) ↔ ReachAlong (PairLeads self.now.pairs direction) (has initials.now) n) }
+        ensures members { IfOk result (λ set. (n : ℕ) → IsTrue (has set n) ↔ ReachAlong (PairLeads (ends_of self.now.edges) direction) (has initials.now) n) }
     {
         let set = reach_all(alloc, &self.digraph, direction, initials)?;
         Ok(set)

@@ -1,6 +1,7 @@
 //! The feature graph of package tables, and walks over it.
 #![tactic(auto)]
 
+mod building;
 mod candidates;
 mod data;
 mod declarations;
@@ -17,6 +18,7 @@ mod numbers;
 mod reach;
 mod walk;
 mod warning;
+mod weak;
 
 pub use data::FeatureGraphData;
 pub use edge::{FeatureEdge, SlashForm, WeakIndex, WeakSlashImpl};
