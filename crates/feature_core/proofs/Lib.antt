@@ -22,3 +22,4 @@ pub mod PairLemmas
 pub mod RequestLemmas
 pub mod StatusLemmas
 pub mod LinkLemmas
+pub mod SectionLemmas
