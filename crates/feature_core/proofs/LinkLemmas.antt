@@ -1,21 +1,20 @@
 -- What is gathered of the declarations of links.
 use Rattle.std.proofs.Common.{◌≡◌, ℕ, zero, suc, ◌+◌, ◌<◌, ◌≤◌, List, [], ◌∷◌, ◌++◌, length, get_or, Bool, true, false, cond, Option, None, Some, map, take, refl, ap, sym, ◌∙◌, subst, arith, append_assoc, if◌then◌else◌, is_some}
-use Rattle.std.specs.Prelude.{filter, filter_map, flat_map, slice_get, ◌&&◌, ◌||◌}
+use Rattle.std.specs.Prelude.{filter, flat_map, slice_get, ◌&&◌, ◌||◌}
 use Rattle.std.specs.List.{list_any, cons_option}
 use Rattle.std.specs.Option.{option_map, option_map_or}
-use Rattle.std.proofs.lemmas.List.{map-append, append-nil, take_more, take_all}
+use Rattle.std.proofs.lemmas.List.{map-append, append-nil, take_more}
 use Rattle.std.proofs.lemmas.List.Folds.{list_any-append}
 use Rattle.std.proofs.lemmas.List.Elements.{filter_map-append, filter-append}
 use Rattle.guppy_packages.specs.Rows.{Text, Declared}
 use Rattle.guppy_packages.specs.Tables.{LinkTable, Tables}
 use Rattle.guppy_packages.specs.declared.row.DependencyKind.{DependencyKind}
 use Rattle.guppy_packages.specs.declared.row.DependencyKind.TheVariants.{Normal, Build, Development}
-use Rattle.guppy_packages.proofs.Lists.{list_any-map}
 use Rattle.feature_labels.specs.declared.link_declarations.LinkDeclarations.{LinkDeclarations}
 use Rattle.feature_labels.specs.declared.link_declarations.LinkDeclarations.TheVariants.{Unsplit}
 use Rattle.feature_core.specs.declared.link.statuses.KindCollectors.{KindCollectors}
 use Rattle.feature_core.specs.declared.link.building.LinkParts.{LinkParts}
-use Rattle.feature_core.specs.Links.{LinkFacts, IsLink, includes, is_kind, joined, platforms_of, status_of, over, over_parts, over_places, at_places, links_at, links_named, numbered, has_declaration}
+use Rattle.feature_core.specs.Links.{LinkFacts, IsLink, includes, is_kind, joined, platforms_of, status_of, over, over_parts, at_places, links_at, links_named, numbered, has_declaration}
 use Rattle.feature_core.specs.NamedLinks.{link_numbers}
 use Rattle.feature_core.specs.Candidates.{unsplit_of}
 use Rattle.feature_core.specs.Edges.{half_of, half_over}

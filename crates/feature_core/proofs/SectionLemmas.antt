@@ -1,13 +1,13 @@
 -- The declarations that pass, by their places.
-use Rattle.std.proofs.Common.{◌≡◌, ℕ, zero, suc, ◌+◌, ◌<◌, ◌≤◌, ◌⊎◌, inl, inr, ⊎_elim, List, [], ◌∷◌, length, get_or, Bool, true, false, cond, Option, None, Some, map, refl, ap, sym, ◌∙◌, subst, arith}
-use Rattle.std.specs.Prelude.{filter, filter_map, slice_get, Contains, AllPairs, ◌↔◌, IsTrue}
+use Rattle.std.proofs.Common.{◌≡◌, ℕ, zero, suc, ◌+◌, ◌<◌, ◌≤◌, ⊎_elim, List, [], ◌∷◌, length, get_or, Bool, true, false, cond, Some, refl, ap, sym, ◌∙◌, subst, arith}
+use Rattle.std.specs.Prelude.{filter, slice_get, Contains, AllPairs, ◌↔◌, IsTrue}
 use Rattle.std.specs.List.{cons_option}
 use Rattle.guppy_packages.specs.Rows.{Declared}
 use Rattle.guppy_packages.specs.Tables.{LinkTable}
 use Rattle.feature_labels.specs.declared.link_declarations.LinkDeclarations.{LinkDeclarations}
 use Rattle.feature_core.specs.Links.{at_places, over, over_parts, over_places}
 use Rattle.feature_core.proofs.AddsLemmas.{Contains-first, Contains-later, Contains-cases, Contains-none}
-use Rattle.feature_core.proofs.LinkLemmas.{parts_of, over_of_parts}
+use Rattle.feature_core.proofs.LinkLemmas.{over_of_parts}
 
 -- ascending, from low on
 abbrev IsFrom : ℕ → List ℕ → Type 0

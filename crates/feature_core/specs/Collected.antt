@@ -1,5 +1,5 @@
 -- What has been collected of the declarations of a link.
-use Rattle.std.specs.Prelude.{◌≡◌, ℕ, List, Bool, true, not, Option, map, filter, filter_map, flat_map}
+use Rattle.std.specs.Prelude.{◌≡◌, ℕ, List, true, not, Option, map, filter, filter_map, flat_map}
 use Rattle.std.specs.List.{list_any}
 use Rattle.std.specs.Option.{is_some}
 use Rattle.std.specs.Str.{bytes_eq}
@@ -7,7 +7,6 @@ use Rattle.std.specs.Borrow.{Bor}
 use Rattle.indexmap.specs.IndexSet.{IndexSet}
 use Rattle.guppy_packages.specs.Graph.{firsts}
 use Rattle.guppy_packages.specs.Rows.{Text, Declared}
-use Rattle.guppy_packages.specs.declared.row.DependencyKind.{DependencyKind}
 use Rattle.guppy_packages.specs.declared.row.DependencyKind.TheVariants.{Normal, Build, Development}
 use Rattle.feature_core.specs.declared.link.statuses.StatusCollector.{StatusCollector}
 use Rattle.feature_core.specs.declared.link.statuses.KindCollectors.{KindCollectors}

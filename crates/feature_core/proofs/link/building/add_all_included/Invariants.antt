@@ -1,10 +1,7 @@
-use Rattle.std.proofs.Common.{◌≡◌, List, ◌++◌, map, take}
+use Rattle.std.proofs.Common.{map, take}
 use Rattle.std.specs.Prelude.{filter}
-use Rattle.std.specs.List.{list_any}
-use Rattle.guppy_packages.specs.Rows.{Declared}
 use Rattle.guppy_packages.specs.Stored.{declared}
 use Rattle.feature_core.specs.Links.{includes}
-use Rattle.feature_core.specs.Collected.{HasKinds}
 use Rattle.feature_core.proofs.LinkLemmas.{Gathers}
 use Rattle.feature_core.proofs.link.building.add_all_included.Given as goal
 

@@ -1,4 +1,4 @@
-use Rattle.std.proofs.Common.{◌≡◌, ◌∙◌, ap, sym}
+use Rattle.std.proofs.Common.{◌≡◌, ◌∙◌, ap}
 use Rattle.feature_core.specs.Links.{over, includes, links_at}
 use Rattle.feature_core.specs.NamedLinks.{link_numbers}
 use Rattle.feature_core.proofs.LinkLemmas.{named_at}
