@@ -23,3 +23,4 @@ pub mod RequestLemmas
 pub mod Ranks
 pub mod EdgeLemmas
 pub mod NodeLabels
+pub mod WeakLemmas

@@ -15,3 +15,4 @@ pub mod OpenWays
 pub mod Errors
 pub mod Built
 pub mod NamedLinks
+pub mod Weak

@@ -13,6 +13,7 @@ mod nodes;
 mod numbers;
 mod reach;
 mod walk;
+mod weak;
 
 pub use data::FeatureGraphData;
 pub use error::Error;
