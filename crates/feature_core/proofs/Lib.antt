@@ -34,3 +34,4 @@ pub mod NodeLabels
 pub mod LinkLemmas
 pub mod WarningLemmas
 pub mod BuildLemmas
+pub mod WeakLemmas

@@ -33,7 +33,7 @@ pub record IsWithin (t : Tables) (n p : ℕ) : Type 0 where
   pub first : first_node t p ≤ n
   pub place : n - first_node t p < length (labels_of table)
 
-element_within : {X : Type 0} (xs : List X) (k : ℕ) → k < length xs → (x : X) × (slice_get xs k ≡ Some x)
+pub element_within : {X : Type 0} (xs : List X) (k : ℕ) → k < length xs → (x : X) × (slice_get xs k ≡ Some x)
 element_within [] k l = absurd (omega (arith, l))
 element_within (x ∷ xs) zero l = (x, refl)
 element_within (x ∷ xs) (suc k) l = element_within xs k (omega (arith, l))
