@@ -42,16 +42,16 @@ its_source x h = go (x.rank == 6) refl
     go false e = absurd (grind (arith, nat_tests))
 
 module _ (t : Tables) (tables : AreTables t) where
-  abbrev IsAll : List Key → Type 0
+  abbrev pub IsAll : List Key → Type 0
   IsAll kept = (x : Key) → Contains kept x → IsOfTables t x
 
-  head_all : (k : Key) (kept : List Key) → IsAll (k ∷ kept) → IsOfTables t k
+  pub head_all : (k : Key) (kept : List Key) → IsAll (k ∷ kept) → IsOfTables t k
   head_all k kept all = all k (Contains-first k kept)
 
-  tail_all : (k : Key) (kept : List Key) → IsAll (k ∷ kept) → IsAll kept
+  pub tail_all : (k : Key) (kept : List Key) → IsAll (k ∷ kept) → IsAll kept
   tail_all k kept all x c = all x (Contains-later k kept x c)
 
-  abbrev edge_of : (k : Key) → IsOfTables t k → StandsFor t k
+  abbrev pub edge_of : (k : Key) → IsOfTables t k → StandsFor t k
   edge_of k h = stands_for t (names_differ t tables) k h
 
   -- the edge that each key stands for
@@ -90,7 +90,7 @@ module _ (t : Tables) (tables : AreTables t) where
   edge_into (k ∷ kept) all y h =
       let s = edge_of k (head_all k kept all) in
       let rest = edge_list kept (tail_all k kept all) in
-      let x = (k.from, k.to, s.edge) in
+      let x : ℕ × ℕ × Edge = (k.from, k.to, s.edge) in
       ⊎_elim
       (λ e. subst (λ z. HasEdge (x ∷ rest) z) e (record { edge = s.edge; listed = Contains-first x rest; candidate = s.candidate; rank = s.rank }))
       (λ e. let r = edge_into kept (tail_all k kept all) y e in record { edge = r.edge; listed = Contains-later x rest (y.from, y.to, r.edge) r.listed; candidate = r.candidate; rank = r.rank })
