@@ -19,7 +19,7 @@ use crate::numbers::Numbers;
 use crate::reach::reach_all;
 use feature_labels::{FeatureId, FeatureLabel};
 use guppy_packages::{DependencyDirection, PackageGraph, PackageMetadata};
-use guppy_support::{Digraph, Edge, IxBitSet};
+use guppy_support::{Digraph, Edge, IxBitSet, collect_exactly};
 use std::alloc::{AllocError, Global};
 use std::marker::Model;
 
@@ -68,7 +68,7 @@ fn pair_digraph(
 fn edges_of(alloc: Global, keys: &[Key]) -> Result<Vec<Edge>, AllocError>
     ensures { IfOk result (λ edges. edges.items ≡ map edge_of keys.now) }
 {
-    keys.iter().map(|key| edge_of(*key)).collect(alloc)
+    collect_exactly(keys.iter().map(|key| edge_of(*key)), alloc)
 }
 
 /// The edge of a key's pair.
