@@ -21,7 +21,7 @@ use crate::nodes::NodeTable;
 use crate::numbers::Numbers;
 use crate::weak::weak_table;
 use guppy_packages::PackageGraph;
-use guppy_support::{Digraph, Edge};
+use guppy_support::{Digraph, Edge, collect_exactly};
 use indexmap::IndexMap;
 use std::alloc::{AllocError, Global};
 
@@ -73,10 +73,12 @@ fn edge_end(key: Key, edge: &FeatureEdge) -> Edge
 fn edge_ends(alloc: Global, kept: &[Key], edges: &[FeatureEdge]) -> Result<Vec<Edge>, AllocError>
     ensures { IfOk result (λ ends. ends.items ≡ map (λ p. edge_end p.0 (edge_facts p.1)) (zip kept.now edges.now)) }
 {
-    kept.iter()
-        .zip(edges.iter())
-        .map(|(key, edge)| edge_end(*key, edge))
-        .collect(alloc)
+    collect_exactly(
+        kept.iter()
+            .zip(edges.iter())
+            .map(|(key, edge)| edge_end(*key, edge)),
+        alloc,
+    )
 }
 
 /// The digraph of edges that are in order.

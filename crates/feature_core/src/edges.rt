@@ -22,6 +22,7 @@ use crate::named_links::LinkGroups;
 use crate::numbers::label_at;
 use feature_labels::{FeatureLabel, LinkDeclarations};
 use guppy_packages::PackageGraph;
+use guppy_support::collect_exactly;
 use indexmap::IndexMap;
 use std::alloc::{AllocError, Global};
 
@@ -77,7 +78,7 @@ fn link_to(
 fn places_of(alloc: Global, keys: &[Key]) -> Result<Vec<usize>, AllocError>
     ensures { IfOk result (λ places. places.items ≡ map (λ y. y.place) keys.now) }
 {
-    keys.iter().map(|key| key.place).collect(alloc)
+    collect_exactly(keys.iter().map(|key| key.place), alloc)
 }
 
 /// The places of the declarations that request a pair of nodes, ascending.

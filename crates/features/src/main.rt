@@ -5,6 +5,7 @@
 //! else (1) was at fault.
 #![tactic(auto)]
 
+use guppy_support::collect_exactly;
 use guppy_tool::{Fault, FromReader, ToWriter, parse_words, run};
 use std::fs::File;
 use std::io::ErrorKind;
@@ -18,8 +19,8 @@ fn answer(rt: &HostRuntime) -> Result<(), Fault> {
         Err(error) if error.kind() == ErrorKind::InvalidData => return Err(Fault::Usage),
         Err(_) => return Err(Fault::Memory),
     };
-    let owned: Vec<String> = arguments.skip(1).collect(rt.alloc())?;
-    let words: Vec<&str> = owned.iter().map(|word| word.as_str()).collect(rt.alloc())?;
+    let owned = collect_exactly(arguments.skip(1), rt.alloc())?;
+    let words = collect_exactly(owned.iter().map(|word| word.as_str()), rt.alloc())?;
     let (file, command) = parse_words(rt.alloc(), &words)?;
     let mut writer = ToWriter::new(io::writer(rt));
     if file == "-" {

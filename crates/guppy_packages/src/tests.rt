@@ -25,35 +25,39 @@ fn feature(name: &str) -> Row<'_> {
     Row::Feature { name, items: &[] }
 }
 
-fn has_fault(alloc: Global, rows: &[Row], row: usize, fault: RowFault) -> bool {
+/// Whether the rows have this fault, as the first. The error is want of memory.
+fn has_fault(alloc: Global, rows: &[Row], row: usize, fault: RowFault) -> Result<bool, RowError> {
     match PackageGraph::from_rows(alloc, rows) {
-        Ok(_) => false,
-        Err(error) => error == RowError { row, fault },
+        Ok(_) => Ok(false),
+        Err(error) if error.fault == RowFault::Memory => Err(error),
+        Err(error) => Ok(error == RowError { row, fault }),
     }
 }
 
 #[test]
-fn faults_of_links(rt: HostRuntime) {
+fn faults_of_links(rt: HostRuntime) -> Result<(), Fail> {
     let main = package("main");
     let sv = package("sv");
     let other = [main, dep("p", "sv", false), dep("q", "sv", false), sv];
-    assert!(rt; has_fault(rt.alloc(), &other, 2, RowFault::OtherName));
+    assert!(rt; has_fault(rt.alloc(), &other, 2, RowFault::OtherName)?);
     let gone = [main, dep("q", "gone", false), sv];
-    assert!(rt; has_fault(rt.alloc(), &gone, 1, RowFault::UnknownTarget));
+    assert!(rt; has_fault(rt.alloc(), &gone, 1, RowFault::UnknownTarget)?);
+    Ok(())
 }
 
 #[test]
-fn faults_of_rows(rt: HostRuntime) {
+fn faults_of_rows(rt: HostRuntime) -> Result<(), Fail> {
     let main = package("main");
     let feature = feature("x");
     let early = [dep("p", "main", false), main];
-    assert!(rt; has_fault(rt.alloc(), &early, 0, RowFault::NoPackage));
+    assert!(rt; has_fault(rt.alloc(), &early, 0, RowFault::NoPackage)?);
     let nameless = [feature, main];
-    assert!(rt; has_fault(rt.alloc(), &nameless, 0, RowFault::NoPackage));
+    assert!(rt; has_fault(rt.alloc(), &nameless, 0, RowFault::NoPackage)?);
     let twice = [main, dep("q", "gone", false), main];
-    assert!(rt; has_fault(rt.alloc(), &twice, 2, RowFault::DuplicatePackage));
+    assert!(rt; has_fault(rt.alloc(), &twice, 2, RowFault::DuplicatePackage)?);
     let again = [main, feature, package("sv"), feature, feature];
-    assert!(rt; has_fault(rt.alloc(), &again, 4, RowFault::DuplicateFeature));
+    assert!(rt; has_fault(rt.alloc(), &again, 4, RowFault::DuplicateFeature)?);
+    Ok(())
 }
 
 #[test]

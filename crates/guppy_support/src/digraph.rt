@@ -4,6 +4,7 @@ ghost use Rattle.guppy_support.specs.Graph.{IsDigraph, IsRefused, IsEdgeAt, IsBe
 ghost use Rattle.guppy_support.specs.Paths.{HasEdge};
 ghost use Rattle.guppy_support.specs.Rows.{places};
 
+use crate::collecting::collect_exactly;
 use crate::pack::{Rows, pack_rows};
 use std::alloc::{AllocError, Global};
 use std::marker::Model;
@@ -177,11 +178,11 @@ fn is_before(first: (usize, usize), other: (usize, usize)) -> bool
 fn sources_of(alloc: Global, edges: &[Edge]) -> Result<Vec<usize>, AllocError>
     ensures { IfOk result (λ from. from.items ≡ sources edges.now) }
 {
-    edges.iter().map(|edge| edge.from).collect(alloc)
+    collect_exactly(edges.iter().map(|edge| edge.from), alloc)
 }
 
 fn targets_of(alloc: Global, edges: &[Edge]) -> Result<Vec<usize>, AllocError>
     ensures { IfOk result (λ to. to.items ≡ targets edges.now) }
 {
-    edges.iter().map(|edge| edge.to).collect(alloc)
+    collect_exactly(edges.iter().map(|edge| edge.to), alloc)
 }

@@ -2,6 +2,7 @@
 #![tactic(auto)]
 
 mod bit_set;
+mod collecting;
 mod digraph;
 mod finish;
 pub mod laws;
@@ -13,6 +14,7 @@ mod queue;
 mod start;
 
 pub use bit_set::{IxBitSet, Ones};
+pub use collecting::collect_exactly;
 pub use digraph::{Digraph, DigraphError, Edge};
 pub use order::Order;
 

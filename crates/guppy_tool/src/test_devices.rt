@@ -1,8 +1,8 @@
 //! Devices over memory that are awkward in one way each.
-ghost use Rattle.std.specs.Prelude.{◌≡◌, Some, false};
+ghost use Rattle.std.specs.Prelude.{◌≡◌, Some, false, IfOk};
 
 use crate::devices::{ByteInput, ByteOutput, Failed};
-use std::alloc::Global;
+use std::alloc::{AllocError, Global};
 use std::io;
 use std::io::{ErrorKind, Read};
 
@@ -50,6 +50,9 @@ impl ByteInput for Trickle<'_> {
     }
 }
 
+/// How many bytes are taken before memory is wanted for them.
+const ROOM: usize = 256;
+
 /// Takes at most three bytes a call, and fails at the call after so many.
 #[derive(Drop)]
 pub struct Sips {
@@ -60,14 +63,14 @@ pub struct Sips {
 
 impl Sips {
     /// Fails at the call after this many.
-    pub fn new(alloc: Global, calls: usize) -> Self
-        ensures { result.has_failed ≡ false }
+    pub fn new(alloc: Global, calls: usize) -> Result<Self, AllocError>
+        ensures { IfOk result (λ s. s.has_failed ≡ false) }
     {
-        Sips {
-            taken: Vec::new(alloc),
+        Ok(Sips {
+            taken: Vec::with_capacity(alloc, ROOM)?,
             calls,
             has_failed: false,
-        }
+        })
     }
 }
 

@@ -1,5 +1,5 @@
 //! Words, texts of faults and runs, with expected values from the format's rules.
-use crate::devices::{ByteInput, FromReader};
+use crate::devices::{ByteInput, FromReader, ToWriter};
 use crate::fault::Fault;
 use crate::run;
 use crate::test_devices::{Interrupted, Sips, Trickle};
@@ -16,6 +16,12 @@ dep\tsmallvec\tsv\tnormal\toptional\t*\tnodefault
 package\tsv\texternal
 feature\tunion
 ";
+
+/// What `resolve forward` of `main/smallvec-union` answers over it.
+const WHOLE: &str = "main/[base]\nmain/smallvec-union\nsv/[base]\nsv/union\n";
+
+/// How many bytes that is.
+const ROOM: usize = 51;
 
 #[test]
 fn reads_words(rt: HostRuntime) -> Result<(), Fail> {
@@ -40,10 +46,11 @@ fn reads_words(rt: HostRuntime) -> Result<(), Fail> {
     Ok(())
 }
 
-/// The line and the status of the fault of these words.
+/// The line and the status of the fault of these words, unless that is want of memory.
 fn fault_of_words(rt: &HostRuntime, words: &[&str]) -> Result<(String, u8), Fail> {
     match parse_words(rt.alloc(), words) {
         Ok(_) => Err(Fail::from("no fault")),
+        Err(Fault::Memory) => Err(Fail::from("out of memory")),
         Err(fault) => Ok((format!(in rt.alloc(); "{fault}")?, fault.status())),
     }
 }
@@ -109,14 +116,14 @@ fn prints_faults(rt: HostRuntime) -> Result<(), Fail> {
     Ok(())
 }
 
-/// What a run over these bytes ends with: the text, or the fault's line.
+/// What a run over these bytes ends with: the text, or the fault's line, unless that is want of memory.
 fn ended(rt: &HostRuntime, bytes: &[u8], ids: &[&str], reads: usize) -> Result<String, Fail> {
     let alloc = rt.alloc();
     let mut words = vec![in alloc; "-", "resolve", "forward"]?;
     words.extend_from_slice(ids)?;
     let (_, command) = parse_words(alloc, &words)?;
     let mut reader = Trickle::new(bytes, reads);
-    let mut writer = Sips::new(alloc, usize::MAX);
+    let mut writer = Sips::new(alloc, usize::MAX)?;
     match run(alloc, &command, &mut reader, &mut writer) {
         Ok(()) => match String::from_utf8(writer.taken) {
             Ok(text) => Ok(text),
@@ -126,7 +133,10 @@ fn ended(rt: &HostRuntime, bytes: &[u8], ids: &[&str], reads: usize) -> Result<S
             if !writer.taken.is_empty() {
                 return Err(Fail::from("something was written"));
             }
-            Ok(format!(in alloc; "{fault}")?)
+            match fault {
+                Fault::Memory => Err(Fail::from("out of memory")),
+                fault => Ok(format!(in alloc; "{fault}")?),
+            }
         }
     }
 }
@@ -142,10 +152,7 @@ fn reads_every_byte(rt: HostRuntime) -> Result<(), Fail> {
     }
     for bytes in [F1.as_bytes(), cut] {
         let text = ended(&rt, bytes, &["main/smallvec-union"], usize::MAX)?;
-        assert_eq!(rt;
-            text.as_str(),
-            "main/[base]\nmain/smallvec-union\nsv/[base]\nsv/union\n"
-        );
+        assert_eq!(rt; text.as_str(), WHOLE);
         assert_eq!(rt; ended(&rt, bytes, &[], usize::MAX)?.as_str(), "");
     }
     Ok(())
@@ -197,16 +204,19 @@ fn names_the_first_fault(rt: HostRuntime) -> Result<(), Fail> {
 
 #[test]
 fn writes_a_beginning(rt: HostRuntime) -> Result<(), Fail> {
-    let whole = "main/[base]\nmain/smallvec-union\nsv/[base]\nsv/union\n";
     let words = ["-", "resolve", "forward", "main/smallvec-union"];
     let (_, command) = parse_words(rt.alloc(), &words)?;
-    for calls in 0..=whole.len().div_ceil(3) {
+    for calls in 0..=ROOM.div_ceil(3) {
         let mut reader = Trickle::new(F1.as_bytes(), usize::MAX);
-        let mut writer = Sips::new(rt.alloc(), calls);
+        let mut writer = Sips::new(rt.alloc(), calls)?;
         let answer = run(rt.alloc(), &command, &mut reader, &mut writer);
-        assert_eq!(rt; answer.is_ok(), calls * 3 >= whole.len());
-        assert!(rt; whole.as_bytes().starts_with(&writer.taken));
-        assert_eq!(rt; writer.taken.len(), whole.len().min(calls * 3));
+        if let Err(Fault::Memory) = answer {
+            assert!(rt; writer.taken.is_empty());
+            return Err(Fail::from("out of memory"));
+        }
+        assert_eq!(rt; answer.is_ok(), calls * 3 >= ROOM);
+        assert!(rt; WHOLE.as_bytes().starts_with(&writer.taken));
+        assert_eq!(rt; writer.taken.len(), ROOM.min(calls * 3));
     }
     Ok(())
 }
@@ -219,4 +229,40 @@ fn tries_again(rt: HostRuntime) -> Result<(), Fail> {
     let mut stuck = FromReader::new(Interrupted { times: usize::MAX });
     assert!(rt; stuck.read(&mut buf).is_err());
     Ok(())
+}
+
+/// Answers a command over the small file into the front of these bytes.
+fn answer_small(rt: &HostRuntime, rest: &mut &mut [u8]) -> Result<(), Fault> {
+    let words = ["-", "resolve", "forward", "main/smallvec-union"];
+    let (_, command) = parse_words(rt.alloc(), &words)?;
+    let mut reader = FromReader::new(F1.as_bytes());
+    let mut writer = ToWriter::new(rest);
+    run(rt.alloc(), &command, &mut reader, &mut writer)
+}
+
+/// Holds whichever one allocation is refused: a run that wants memory writes nothing, and one of two runs finds it.
+#[test]
+fn wants_memory(rt: HostRuntime) -> Result<(), Fail> {
+    let mut answered = false;
+    for _attempt in 0..2 {
+        let mut page = [0; ROOM];
+        let mut rest = page.as_mut_slice();
+        let ended = answer_small(&rt, &mut rest);
+        let left = rest.len();
+        match ended {
+            Ok(()) => {
+                assert_eq!(rt; left, 0);
+                assert_eq!(rt; page.as_slice(), WHOLE.as_bytes());
+                answered = true;
+            }
+            Err(fault) => {
+                assert!(rt; matches!(fault, Fault::Memory));
+                assert_eq!(rt; left, ROOM);
+            }
+        }
+    }
+    if answered {
+        return Ok(());
+    }
+    Err(Fail::from("out of memory"))
 }

@@ -3,16 +3,20 @@ use crate::fixtures::{
     BOTH_HALVES, CIRCLE_THROUGH_GATE, ID_WITH_A_SLASH, MISSING_FEATURE, OPTIONAL_AND_WEAK,
     TWO_WEAK_ITEMS,
 };
-use guppy_tool::{FromReader, ToWriter, parse_words, run};
+use guppy_tool::{Fault, FromReader, ToWriter, parse_words, run};
 use std::test::Fail;
 
-/// What `resolve forward` of these ids answers over a row file: the text, or the line and status of the fault.
+/// Room for each answer here, so that no write wants memory.
+const ROOM: usize = 1_024;
+
+/// What `resolve forward` of these ids answers over a row file: the text, or the line and status of the fault, unless
+/// that is want of memory.
 fn resolved(rt: &HostRuntime, file: &str, ids: &[&str]) -> Result<String, Fail> {
     let alloc = rt.alloc();
     let mut words = vec![in alloc; "-", "resolve", "forward"]?;
     words.extend_from_slice(ids)?;
     let (_, command) = parse_words(alloc, &words)?;
-    let mut text = Vec::new(alloc);
+    let mut text = Vec::with_capacity(alloc, ROOM)?;
     let ended = {
         let mut reader = FromReader::new(file.as_bytes());
         let mut writer = ToWriter::new(&mut text);
@@ -26,6 +30,9 @@ fn resolved(rt: &HostRuntime, file: &str, ids: &[&str]) -> Result<String, Fail> 
         Err(fault) => {
             if !text.is_empty() {
                 return Err(Fail::from("something was written"));
+            }
+            if let Fault::Memory = fault {
+                return Err(Fail::from("out of memory"));
             }
             let status = fault.status();
             Ok(format!(in alloc; "{status} {fault}")?)
