@@ -1,6 +1,7 @@
 pub mod Nodes
 pub mod Links
 pub mod Candidates
+pub mod Edges
 pub mod Pairs
 pub mod Adds
 pub mod Keys
@@ -14,3 +15,4 @@ pub mod OpenWays
 pub mod Errors
 pub mod Built
 pub mod NamedLinks
+pub mod Values

@@ -3,6 +3,8 @@ use Rattle.std.specs.Prelude.{◌≡◌, ℕ, ◌+◌, List, [], ◌∷◌, Bool
 use Rattle.std.specs.List.{list_any}
 use Rattle.std.specs.Option.{is_some}
 use Rattle.std.specs.Str.{bytes_eq}
+use Rattle.guppy_packages.specs.Graph.{firsts}
+use Rattle.guppy_packages.specs.Platform.{Status, always_status, status_by}
 use Rattle.guppy_packages.specs.Rows.{Text, Declared}
 use Rattle.guppy_packages.specs.Tables.{PackageTable, LinkTable, Tables}
 use Rattle.guppy_packages.specs.declared.row.DependencyKind.{DependencyKind}
@@ -17,23 +19,9 @@ IsPackage t p table = slice_get t.packages p ≡ Some table
 abbrev pub IsLink : Tables → ℕ → LinkTable → Type 0
 IsLink t k link = slice_get t.links k ≡ Some link
 
-pub data Status : Type 0 where
-  never : Status
-  always : Status
-  on_specs : List Text → Status
-
--- by first appearance, without repeats
-abbrev pub distinct : List Text → List Text
-distinct [] = []
-distinct (x ∷ xs) = x ∷ filter (λ y. not (bytes_eq x y)) (distinct xs)
-
-abbrev pub of_specs : List Text → Status
-of_specs [] = never
-of_specs (x ∷ xs) = on_specs (distinct (x ∷ xs))
-
--- always where one platform is; never where there is none
+-- Always where one platform is, never where there is none, and else the specs by first appearance, without repeats.
 abbrev pub joined : List (Option Text) → Status
-joined platforms = if list_any (λ p. not (is_some p)) platforms then always else of_specs (filter_map (λ p. p) platforms)
+joined platforms = if list_any (λ p. not (is_some p)) platforms then always_status else status_by (firsts bytes_eq (filter_map (λ p. p) platforms))
 
 abbrev pub is_kind : DependencyKind → DependencyKind → Bool
 is_kind Normal Normal = true

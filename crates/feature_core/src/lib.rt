@@ -4,10 +4,12 @@
 mod candidates;
 mod data;
 mod declarations;
+mod edge;
 pub mod engine;
 mod error;
 mod key;
 pub mod laws;
+mod link;
 mod named_links;
 mod nodes;
 mod numbers;
@@ -15,5 +17,7 @@ mod reach;
 mod walk;
 
 pub use data::FeatureGraphData;
+pub use edge::{FeatureEdge, SlashForm, WeakIndex, WeakSlashImpl};
 pub use error::Error;
+pub use link::{ConditionalLinkImpl, EnabledLink};
 pub use walk::walk_all;

@@ -1,6 +1,6 @@
 //! Platform statuses.
-ghost use Rattle.std.specs.Prelude.{◌≡◌, IsTrue, ◌↔◌, IfOk};
-ghost use Rattle.guppy_packages.specs.Platform.{Status, spec_text, status_of, impl_status, always_status, never_status, IsPresent};
+ghost use Rattle.std.specs.Prelude.{◌≡◌, IsTrue, ◌↔◌, IfOk, map};
+ghost use Rattle.guppy_packages.specs.Platform.{Status, spec_text, status_of, impl_status, platform_specs, always_status, never_status, IsPresent};
 
 use std::alloc::{AllocError, Global};
 
@@ -20,6 +20,13 @@ impl Spec {
         })
     }
 
+    /// An equal spec. It fails only where memory is refused.
+    pub fn try_clone(&self, alloc: Global) -> Result<Spec, AllocError>
+        ensures { IfOk result (λ spec. spec_text spec ≡ spec_text self.now) }
+    {
+        Spec::new(alloc, self.text())
+    }
+
     /// The text.
     pub fn text(&self) -> &str
         ensures { result.now ≡ spec_text self.now }
@@ -33,6 +40,32 @@ impl Spec {
 pub enum PlatformStatusImpl {
     Always,
     Specs(Vec<Spec>),
+}
+
+/// Equal specs, in the same order.
+fn copied(alloc: Global, specs: &[Spec]) -> Result<Vec<Spec>, AllocError>
+    ensures { IfOk result (λ copy. map spec_text copy.items ≡ map spec_text specs.now) }
+{
+    let mut all = Vec::with_capacity(alloc, specs.len())?;
+    for spec in specs {
+        all.push(spec.try_clone(alloc)?)?;
+    }
+    Ok(all)
+}
+
+impl PlatformStatusImpl {
+    /// An equal status, with specs of its own. It fails only where memory is refused.
+    pub fn try_clone(&self, alloc: Global) -> Result<PlatformStatusImpl, AllocError>
+        ensures specs { IfOk result (λ status. platform_specs status ≡ platform_specs self.now) }
+        ensures status { IfOk result (λ status. impl_status status ≡ impl_status self.now) }
+    {
+        match self {
+            PlatformStatusImpl::Always => Ok(PlatformStatusImpl::Always),
+            PlatformStatusImpl::Specs(specs) => {
+                Ok(PlatformStatusImpl::Specs(copied(alloc, specs.as_slice())?))
+            }
+        }
+    }
 }
 
 /// On which platforms something is enabled.

@@ -1,0 +1,92 @@
+-- The edges that are built, and the weak links that they name.
+use Rattle.std.specs.Prelude.{◌≡◌, ℕ, ◌⊎◌, ◌<◌, List, [], ◌∷◌, Bool, true, false, not, ◌==◌, ◌||◌, Option, None, Some, map, filter, filter_map, position, slice_get, Contains, AllPairs, ◌↔◌, if◌then◌else◌}
+use Rattle.std.specs.Option.{option_map_or, is_some}
+use Rattle.guppy_packages.specs.Tables.{LinkTable, Tables}
+use Rattle.feature_labels.specs.Names.LabelName.{optional}
+use Rattle.feature_labels.specs.declared.link_declarations.LinkDeclarations.{LinkDeclarations}
+use Rattle.feature_labels.specs.declared.link_declarations.LinkDeclarations.TheVariants.{Required, Optional}
+use Rattle.feature_core.specs.Nodes.{NodeAt}
+use Rattle.feature_core.specs.Links.{LinkFacts, IsLink, over, includes, has_declaration}
+use Rattle.feature_core.specs.Candidates.{Edge, feature_to_base, named_feature, dep_colon, slash_full, slash_optional, slash_weak, section, IsEdge}
+
+-- the number of a weak edge's weak link, and its halves
+pub record WeakFacts : Type 0 where
+  pub index : ℕ
+  pub required : Option LinkFacts
+  pub optional : Option LinkFacts
+
+-- what a built edge says
+pub data EdgeFacts : Type 0 where
+  base_edge : EdgeFacts
+  feature_edge : EdgeFacts
+  colon_edge : LinkFacts → EdgeFacts
+  strong_edge : LinkFacts → EdgeFacts
+  weak_edge : LinkFacts → WeakFacts → EdgeFacts
+  section_edge : LinkFacts → EdgeFacts
+
+-- by from, then to
+abbrev pub EdgeBefore : ℕ × ℕ × Edge → ℕ × ℕ × Edge → Type 0
+EdgeBefore a b = (a.0 < b.0) ⊎ ((a.0 ≡ b.0) × (a.1 < b.1))
+
+-- exactly the edges, ascending
+pub record IsEdgeList (t : Tables) (edges : List (ℕ × ℕ × Edge)) : Type 0 where
+  pub ascends : AllPairs EdgeBefore edges
+  pub exact : (u w : ℕ) (e : Edge) → Contains edges (u, w, e) ↔ IsEdge t u w e
+
+-- the package link that a weak edge names
+abbrev pub weak_link : Edge → Option ℕ
+weak_link feature_to_base = None
+weak_link named_feature = None
+weak_link (dep_colon l) = None
+weak_link (slash_full l) = None
+weak_link (slash_optional l) = None
+weak_link (slash_weak k l) = Some k
+weak_link (section l) = None
+
+-- each number once, by first appearance
+abbrev pub first_ones : List ℕ → List ℕ
+first_ones [] = []
+first_ones (x ∷ xs) = x ∷ filter (λ y. not (x == y)) (first_ones xs)
+
+-- the package links that weak edges name
+abbrev pub weak_links : List (ℕ × ℕ × Edge) → List ℕ
+weak_links edges = first_ones (filter_map (λ e. weak_link e.2) edges)
+
+-- the link over the covered declarations of one package link, where there is one
+abbrev pub half_over : LinkDeclarations → ℕ → LinkTable → Option LinkFacts
+half_over which k link = if has_declaration which link then Some (over which (λ d. includes which d) ((k, link) ∷ [])) else None
+
+abbrev pub half_of : Tables → LinkDeclarations → ℕ → Option LinkFacts
+half_of t which k = option_map_or (half_over which k) (slice_get t.links k) None
+
+-- the weak half of an edge that names package link k, where these are the weak links
+abbrev pub weak_facts : Tables → List ℕ → ℕ → WeakFacts
+weak_facts t weak k = record {
+  index = option_map_or (λ i. i) (position (λ j. k == j) weak) 0;
+  required = half_of t Required k;
+  optional = half_of t Optional k;
+}
+
+-- what is built of an edge
+abbrev pub facts_of : Tables → List ℕ → Edge → EdgeFacts
+facts_of t weak feature_to_base = base_edge
+facts_of t weak named_feature = feature_edge
+facts_of t weak (dep_colon l) = colon_edge l
+facts_of t weak (slash_full l) = strong_edge l
+facts_of t weak (slash_optional l) = strong_edge l
+facts_of t weak (slash_weak k l) = weak_edge l (weak_facts t weak k)
+facts_of t weak (section l) = section_edge l
+
+-- the gate of a weak link: the node of its optional dependency in its source
+pub record IsGate (t : Tables) (k gate : ℕ) : Type 0 where
+  pub link : LinkTable
+  pub is_link : IsLink t k link
+  pub node : NodeAt t gate link.from (optional link.name)
+
+-- the edges of the tables as they are built, and the package link and the gate of each weak link
+pub record AreBuilt (t : Tables) (edges : List (ℕ × ℕ × EdgeFacts)) (weak : List (ℕ × ℕ)) : Type 0 where
+  pub list : List (ℕ × ℕ × Edge)
+  pub are_edges : IsEdgeList t list
+  pub links : map (λ x. x.0) weak ≡ weak_links list
+  pub gates : (i k gate : ℕ) → slice_get weak i ≡ Some (k, gate) → IsGate t k gate
+  pub facts : edges ≡ map (λ e. (e.0, e.1, facts_of t (weak_links list) e.2)) list

@@ -1,0 +1,150 @@
+//! What an edge between two features says.
+ghost use Rattle.std.specs.Prelude.{◌≡◌, IfOk};
+ghost use Rattle.feature_core.specs.Values.{half_facts, weak_facts_of, slash_facts, edge_facts};
+
+use crate::link::{ConditionalLinkImpl, EnabledLink};
+use std::alloc::{AllocError, Global};
+
+/// The number of a weak link. Edges that name the same package link have the same one.
+#[derive(Clone, Copy, PartialEq, Eq, PartialOrd, Ord, Hash, Debug)]
+pub struct WeakIndex(usize);
+
+impl WeakIndex {
+    /// The weak link of this number.
+    pub(crate) fn new(index: usize) -> Self
+        ensures { result.0 ≡ index }
+    {
+        WeakIndex(index)
+    }
+
+    /// The number.
+    pub fn index(self) -> usize
+        ensures { result ≡ self.0 }
+    {
+        self.0
+    }
+}
+
+/// The halves of a weak edge, over the required and over the optional declarations of its package link.
+#[derive(Debug, Drop)]
+pub struct WeakSlashImpl {
+    required: EnabledLink,
+    optional: EnabledLink,
+    index: WeakIndex,
+}
+
+impl WeakSlashImpl {
+    /// The weak edge of these halves.
+    pub(crate) fn new(required: EnabledLink, optional: EnabledLink, index: WeakIndex) -> Self
+        ensures required { (weak_facts_of result).required ≡ half_facts required }
+        ensures optional { (weak_facts_of result).optional ≡ half_facts optional }
+        ensures index { (weak_facts_of result).index ≡ index.0 }
+    {
+        WeakSlashImpl {
+            required,
+            optional,
+            index,
+        }
+    }
+
+    /// The half over the required declarations.
+    pub fn required(&self) -> &EnabledLink
+        ensures { half_facts result.now ≡ (weak_facts_of self.now).required }
+    {
+        &self.required
+    }
+
+    /// The half over the optional declarations.
+    pub fn optional(&self) -> &EnabledLink
+        ensures { half_facts result.now ≡ (weak_facts_of self.now).optional }
+    {
+        &self.optional
+    }
+
+    /// The number of its weak link.
+    pub fn index(&self) -> WeakIndex
+        ensures { result.0 ≡ (weak_facts_of self.now).index }
+    {
+        self.index
+    }
+
+    /// An equal weak edge. It fails only where memory is refused.
+    pub fn try_clone(&self, alloc: Global) -> Result<WeakSlashImpl, AllocError>
+        ensures { IfOk result (λ weak. weak_facts_of weak ≡ weak_facts_of self.now) }
+    {
+        let required = self.required.try_clone(alloc)?;
+        let optional = self.optional.try_clone(alloc)?;
+        Ok(WeakSlashImpl {
+            required,
+            optional,
+            index: self.index,
+        })
+    }
+}
+
+/// Whether an item with a `/` waits for its dependency.
+#[derive(Debug, Drop)]
+pub enum SlashForm {
+    /// It asks for the dependency.
+    Strong,
+    /// Its optional half waits until the dependency is asked for elsewhere.
+    Weak(Box<WeakSlashImpl>),
+}
+
+impl SlashForm {
+    /// An equal form. It fails only where memory is refused.
+    pub fn try_clone(&self, alloc: Global) -> Result<SlashForm, AllocError>
+        ensures { IfOk result (λ form. slash_facts form ≡ slash_facts self.now) }
+    {
+        match self {
+            SlashForm::Strong => Ok(SlashForm::Strong),
+            SlashForm::Weak(weak) => {
+                let weak = weak.try_clone(alloc)?;
+                Ok(SlashForm::Weak(Box::new(alloc, weak)?))
+            }
+        }
+    }
+}
+
+/// What an edge says.
+#[derive(Debug, Drop)]
+pub enum FeatureEdge {
+    /// From a feature to the base of its package.
+    FeatureToBase,
+    /// From the base or an optional dependency of a package to what declarations of a link ask for.
+    DependenciesSection(ConditionalLinkImpl),
+    /// From a named feature to another one of its package.
+    NamedFeature,
+    /// From a named feature with an item `dep:d` to the optional dependency d.
+    NamedFeatureDepColon(ConditionalLinkImpl),
+    /// From a named feature with an item `d/g` or `d?/g`.
+    NamedFeatureWithSlash {
+        link: ConditionalLinkImpl,
+        slash: SlashForm,
+    },
+}
+
+impl FeatureEdge {
+    /// An equal edge. It fails only where memory is refused.
+    pub fn try_clone(&self, alloc: Global) -> Result<FeatureEdge, AllocError>
+        ensures { IfOk result (λ edge. edge_facts edge ≡ edge_facts self.now) }
+    {
+        match self {
+            FeatureEdge::FeatureToBase => Ok(FeatureEdge::FeatureToBase),
+            FeatureEdge::DependenciesSection(link) => {
+                let link = link.try_clone(alloc)?;
+                Ok(FeatureEdge::DependenciesSection(link))
+            }
+            FeatureEdge::NamedFeature => Ok(FeatureEdge::NamedFeature),
+            FeatureEdge::NamedFeatureDepColon(link) => {
+                let link = link.try_clone(alloc)?;
+                Ok(FeatureEdge::NamedFeatureDepColon(link))
+            }
+            FeatureEdge::NamedFeatureWithSlash { link, slash } => {
+                let link = link.try_clone(alloc)?;
+                let slash = slash.try_clone(alloc)?;
+                Ok(FeatureEdge::NamedFeatureWithSlash { link, slash })
+            }
+        }
+    }
+}

@@ -1,0 +1,103 @@
+//! What a conditional edge says of the package links that it stands for.
+ghost use Rattle.std.specs.Prelude.{◌≡◌, IfOk, option_copied};
+ghost use Rattle.std.specs.Option.{option_map};
+ghost use Rattle.guppy_packages.specs.Platform.{status_of};
+ghost use Rattle.feature_core.specs.Values.{link_facts, half_facts};
+
+use feature_labels::LinkDeclarations;
+use guppy_packages::{PlatformStatus, PlatformStatusImpl};
+use smallvec::SmallVec;
+use std::alloc::{AllocError, Global};
+
+/// The link of a conditional edge: which declarations it covers, on which platforms for each kind of dependency, and
+/// the package links that have one of them.
+#[derive(Debug, Drop)]
+pub struct ConditionalLinkImpl {
+    declarations: LinkDeclarations,
+    normal: PlatformStatusImpl,
+    build: PlatformStatusImpl,
+    dev: PlatformStatusImpl,
+    package_link_ixs: SmallVec<usize, 2>,
+}
+
+impl ConditionalLinkImpl {
+    /// Which declarations it covers: all, or one half.
+    pub fn declarations(&self) -> LinkDeclarations
+        ensures { result ≡ (link_facts self.now).declarations }
+    {
+        self.declarations
+    }
+
+    /// Where the covered declarations for normal use apply.
+    pub fn normal(&self) -> PlatformStatus<'_>
+        ensures { status_of result ≡ (link_facts self.now).normal }
+    {
+        PlatformStatus::new(&self.normal)
+    }
+
+    /// Where the covered declarations for build scripts apply.
+    pub fn build(&self) -> PlatformStatus<'_>
+        ensures { status_of result ≡ (link_facts self.now).build }
+    {
+        PlatformStatus::new(&self.build)
+    }
+
+    /// Where the covered declarations for development apply.
+    pub fn dev(&self) -> PlatformStatus<'_>
+        ensures { status_of result ≡ (link_facts self.now).dev }
+    {
+        PlatformStatus::new(&self.dev)
+    }
+
+    /// The numbers of the package links that have a covered declaration, ascending.
+    pub fn package_link_ixs(&self) -> &[usize]
+        ensures { result.now ≡ (link_facts self.now).package_links }
+    {
+        self.package_link_ixs.as_slice()
+    }
+
+    /// An equal link. It fails only where memory is refused.
+    pub fn try_clone(&self, alloc: Global) -> Result<ConditionalLinkImpl, AllocError>
+        ensures { IfOk result (λ link. link_facts link ≡ link_facts self.now) }
+    {
+        let normal = self.normal.try_clone(alloc)?;
+        let build = self.build.try_clone(alloc)?;
+        let dev = self.dev.try_clone(alloc)?;
+        let package_link_ixs = SmallVec::from_slice(alloc, self.package_link_ixs.as_slice())?;
+        Ok(ConditionalLinkImpl {
+            declarations: self.declarations,
+            normal,
+            build,
+            dev,
+            package_link_ixs,
+        })
+    }
+}
+
+/// The link of one half of a weak edge, where the half has a declaration.
+#[derive(Debug, Drop)]
+pub struct EnabledLink {
+    link: Option<ConditionalLinkImpl>,
+}
+
+impl EnabledLink {
+    /// The link, or none where the half has no declaration.
+    pub fn get(&self) -> Option<&ConditionalLinkImpl>
+        ensures { option_map link_facts (option_copied result) ≡ half_facts self.now }
+    {
+        self.link.as_ref()
+    }
+
+    /// An equal half. It fails only where memory is refused.
+    pub fn try_clone(&self, alloc: Global) -> Result<EnabledLink, AllocError>
+        ensures { IfOk result (λ half. half_facts half ≡ half_facts self.now) }
+    {
+        match &self.link {
+            Some(link) => {
+                let link = link.try_clone(alloc)?;
+                Ok(EnabledLink { link: Some(link) })
+            }
+            None => Ok(EnabledLink { link: None }),
+        }
+    }
+}
