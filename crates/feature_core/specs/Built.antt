@@ -1,10 +1,12 @@
 -- What is built of tables.
 use Rattle.std.specs.Prelude.{◌≡◌, ℕ, List, Some, map, slice_get}
+use Rattle.std.specs.List.{zip}
 use Rattle.guppy_support.specs.declared.digraph.Edge.{Edge}
 use Rattle.guppy_packages.specs.Rows.{Text}
 use Rattle.guppy_packages.specs.Tables.{Tables}
 use Rattle.feature_labels.specs.Names.{LabelName}
 use Rattle.feature_core.specs.Nodes.{nodes, first_nodes, node_packages}
+use Rattle.feature_core.specs.Edges.{EdgeFacts}
 use Rattle.feature_core.specs.Pairs.{IsPairList}
 
 -- the stamp that the caller gave, the first node of each package, the package of each node, and the pairs of the edges
@@ -26,3 +28,7 @@ NodeNamed t n name = slice_get (nodes t) n ≡ Some name
 
 abbrev pub pairs_of : List Edge → List (ℕ × ℕ)
 pairs_of edges = map (λ e. (e.from, e.to)) edges
+
+-- the edges of a digraph, with what each says
+abbrev pub built_edges : List Edge → List EdgeFacts → List (ℕ × ℕ × EdgeFacts)
+built_edges edges facts = map (λ p. (p.0.from, p.0.to, p.1)) (zip edges facts)

@@ -13,11 +13,14 @@ mod link;
 mod named_links;
 mod nodes;
 mod numbers;
+mod packed;
 mod reach;
+mod releases;
 mod walk;
 
 pub use data::FeatureGraphData;
 pub use edge::{FeatureEdge, SlashForm, WeakIndex, WeakSlashImpl};
 pub use error::Error;
 pub use link::{ConditionalLinkImpl, EnabledLink};
+pub use packed::Packed;
 pub use walk::walk_all;
