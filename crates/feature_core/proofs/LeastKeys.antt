@@ -9,7 +9,7 @@ use Rattle.std.proofs.lemmas.List.Kept.{AllPairs-cons, Contains-from_dedup}
 use Rattle.std.specs.Prelude.{IsPermutation, IsSorted}
 use Rattle.std.proofs.lemmas.List.Sorted.{Contains-permutation, IsPermutation-sym, sorted_far, ranks_by}
 use Rattle.feature_core.specs.declared.key.Key.{Key}
-use Rattle.feature_core.specs.Keys.{IsBefore, IsPair, IsUpTo, IsServed, AreLeast}
+use Rattle.feature_core.specs.Keys.{IsBefore, IsPair, IsUpTo, IsNoLater, IsServed, AreLeast}
 
 abbrev pub same_pair : Key → Key → Bool
 same_pair a b = (a.from == b.from) && (a.to == b.to)
@@ -40,13 +40,13 @@ Contains-first x xs = (0, omega arith, refl)
 Contains-later : {X : Type 0} (x : X) (xs : List X) (y : X) → Contains xs y → Contains (x ∷ xs) y
 Contains-later x xs y h = (suc h.0, omega arith, h.2)
 
-AllPairs-first : {X : Type 0} (R : X → X → Type 0) (x : X) (xs : List X) → AllPairs R (x ∷ xs) → All (R x) xs
+pub AllPairs-first : {X : Type 0} (R : X → X → Type 0) (x : X) (xs : List X) → AllPairs R (x ∷ xs) → All (R x) xs
 AllPairs-first R x xs h k d l = h 0 (suc k) d (omega arith) (omega arith)
 
-AllPairs-later : {X : Type 0} (R : X → X → Type 0) (x : X) (xs : List X) → AllPairs R (x ∷ xs) → AllPairs R xs
+pub AllPairs-later : {X : Type 0} (R : X → X → Type 0) (x : X) (xs : List X) → AllPairs R (x ∷ xs) → AllPairs R xs
 AllPairs-later R x xs h i j d l m = h (suc i) (suc j) d (omega arith) (omega arith)
 
-cond_has : {X : Type 0} (b : Bool) (P : X → Type 0) (x y : X) → (b ≡ true → P x) → (b ≡ false → P y) → P (cond b x y)
+pub cond_has : {X : Type 0} (b : Bool) (P : X → Type 0) (x y : X) → (b ≡ true → P x) → (b ≡ false → P y) → P (cond b x y)
 cond_has true P x y f g = f refl
 cond_has false P x y f g = g refl
 
@@ -102,3 +102,12 @@ least_moved keys sorted kept moved h = record {
   from_keys = λ a i. Contains-permutation sorted keys a (IsPermutation-sym keys sorted moved) (h.from_keys a i);
   each = λ b i. h.each b (Contains-permutation keys sorted b moved i);
 }
+
+-- order by pair, rank, source and place is order by pair and rank
+no_later_up : (a b : Key) → IsNoLater a b → IsUpTo a b
+no_later_up a b (inl h) = inl h
+no_later_up a b (inr (pair, inl l)) = inr (pair, omega arith)
+no_later_up a b (inr (pair, inr (same, rest))) = inr (pair, omega arith)
+
+pub all_up_to : (keys : List Key) → AllPairs IsNoLater keys → AllPairs IsUpTo keys
+all_up_to keys h i j d l m = no_later_up (slice_index_or keys i d) (slice_index_or keys j d) (h i j d l m)

@@ -1,5 +1,7 @@
 pub mod Places
 pub mod AddsLemmas
+pub mod KeySays
+pub mod KeyRuns
 pub mod PartLemmas
 pub mod LeastKeys
 pub mod Answered
@@ -23,3 +25,16 @@ pub mod PushLemmas
 pub mod Listed
 pub mod PairLemmas
 pub mod RequestLemmas
+pub mod Ranks
+pub mod EdgeLemmas
+pub mod SectionLemmas
+pub mod SectionPlaces
+pub mod KeyEdges
+pub mod MaterialLemmas
+pub mod ValueLemmas
+pub mod StatusLemmas
+pub mod NodeLabels
+pub mod LinkLemmas
+pub mod WarningLemmas
+pub mod BuildLemmas
+pub mod WeakLemmas

@@ -10,7 +10,11 @@ use Rattle.guppy_support.specs.Graph.{Graph, IsDigraph}
 use Rattle.guppy_packages.specs.declared.direction.DependencyDirection.{DependencyDirection}
 use Rattle.guppy_packages.specs.declared.direction.DependencyDirection.TheVariants.{Forward, Reverse}
 use Rattle.feature_core.specs.declared.engine.Taken.{Taken}
-use Rattle.feature_core.specs.Edges.{EdgeFacts}
+use Rattle.guppy_packages.specs.Tables.{Tables}
+use Rattle.feature_labels.specs.Names.{LabelName}
+use Rattle.feature_labels.specs.Names.LabelName.{optional}
+use Rattle.feature_core.specs.Nodes.{node_packages, node_places}
+use Rattle.feature_core.specs.Edges.{EdgeFacts, AreBuilt}
 use Rattle.feature_core.specs.Edges.EdgeFacts.{base_edge, feature_edge, colon_edge, strong_edge, weak_edge, section_edge}
 use Rattle.feature_core.specs.Walks.{Way, Content, IsWay, EndsAreNodes, numbers_where, starting, releasing, told, taken_of, is_gated, is_in}
 use Rattle.feature_core.specs.OpenWays.{open_way, open_ways}
@@ -179,3 +183,11 @@ forward_read Reverse g fs weak released gate place found f tied is = absurd (cc)
 pub reverse_read : (direction : DependencyDirection) (g : Graph) (fs : List EdgeFacts) (weak : List (ℕ × ℕ)) (gate place : ℕ) → direction ≡ Reverse → slice_get (releasing (content direction g.nodes (built_edges g.edges fs) weak) gate) place ≡ None
 reverse_read Forward g fs weak gate place f = absurd (cc)
 reverse_read Reverse g fs weak gate place f = ap (λ (xs : List ℕ). slice_get xs place) (none_waits weak gate 0 g.edges fs)
+
+-- the gates that are built are nodes
+pub built_gates : (t : Tables) (edges : List (ℕ × ℕ × EdgeFacts)) (weak : List (ℕ × ℕ)) (nodes : ℕ) → AreBuilt t edges weak → nodes ≡ length (node_packages t) → GatesAreNodes nodes weak
+built_gates t edges weak nodes built n i d l =
+    let x : ℕ × ℕ = get_or weak i d in
+    let gate = built.gates i x.0 x.1 (slice_get-get_or weak i d l) in
+    let within : x.1 < length (node_places t) = slice_get_within (node_places t) x.1 (gate.link.from, optional gate.link.name) gate.node in
+    omega (arith, length-map (node_places t) (λ (p : ℕ × LabelName). p.0))

@@ -17,7 +17,7 @@ use Rattle.feature_core.specs.Parts.{IsOfTables}
 use Rattle.feature_core.specs.Links.{IsPackage}
 use Rattle.feature_core.proofs.PushLemmas.{from_map, into_map}
 use Rattle.feature_core.proofs.PartLemmas.{NamesDiffer, contributed, stands_for}
-use Rattle.feature_core.specs.Built.{Built, IsBuilt, pairs_of}
+use Rattle.feature_core.specs.Built.{Built, IsBuilt, pairs_of, ends_of}
 
 -- a path over steps that are all steps of another kind
 pub Along-weaker : (P Q : ℕ → ℕ → Type 0) → ((u w : ℕ) → P u w → Q u w) → (u w : ℕ) → Along P u w → Along Q u w
@@ -29,19 +29,19 @@ pub leads_alike : (t : Tables) (pairs : List (ℕ × ℕ)) (direction : Dependen
 leads_alike t pairs Forward h u w = h.exact u w
 leads_alike t pairs Reverse h u w = h.exact w u
 
-pub reach_alike : (t : Tables) (b : Built) (direction : DependencyDirection) (initials : ℕ → Bool) (n : ℕ) → IsBuilt t b → ReachAlong (PairLeads b.pairs direction) initials n ↔ Reach t direction initials n
+pub reach_alike : (t : Tables) (b : Built) (direction : DependencyDirection) (initials : ℕ → Bool) (n : ℕ) → IsBuilt t b → ReachAlong (PairLeads (ends_of b.edges) direction) initials n ↔ Reach t direction initials n
 reach_alike t b direction initials n h = (
-  (λ r. (r.0, r.1, Along-weaker (PairLeads b.pairs direction) (LeadsTo t direction) (λ u w. (leads_alike t b.pairs direction h.pairs u w).0) r.0 n r.2)),
-  (λ r. (r.0, r.1, Along-weaker (LeadsTo t direction) (PairLeads b.pairs direction) (λ u w. (leads_alike t b.pairs direction h.pairs u w).1) r.0 n r.2)),
+  (λ r. (r.0, r.1, Along-weaker (PairLeads (ends_of b.edges) direction) (LeadsTo t direction) (λ u w. (leads_alike t (ends_of b.edges) direction h.pairs u w).0) r.0 n r.2)),
+  (λ r. (r.0, r.1, Along-weaker (LeadsTo t direction) (PairLeads (ends_of b.edges) direction) (λ u w. (leads_alike t (ends_of b.edges) direction h.pairs u w).1) r.0 n r.2)),
 )
 
 -- what is reached over the pairs is what is reached over the edges
-pub member_alike : (t : Tables) (b : Built) (direction : DependencyDirection) (initials : ℕ → Bool) (n : ℕ) (P : Type 0) → IsBuilt t b → (P ↔ ReachAlong (PairLeads b.pairs direction) initials n) → (P ↔ Reach t direction initials n)
+pub member_alike : (t : Tables) (b : Built) (direction : DependencyDirection) (initials : ℕ → Bool) (n : ℕ) (P : Type 0) → IsBuilt t b → (P ↔ ReachAlong (PairLeads (ends_of b.edges) direction) initials n) → (P ↔ Reach t direction initials n)
 member_alike t b direction initials n P h both =
     let r = reach_alike t b direction initials n h in
     ((λ p. r.0 (both.0 p)), (λ q. both.1 (r.1 q)))
 
-names_differ : (t : Tables) → AreTables t → NamesDiffer t
+pub names_differ : (t : Tables) → AreTables t → NamesDiffer t
 names_differ t tables p table is i j f g a b e =
     let name_at : (k : ℕ) (h : FeatureTable) → slice_get table.features k ≡ Some h → slice_get (map (λ x. x.name) table.features) k ≡ Some h.name = λ k h at. slice_get-map (λ x. x.name) table.features k ∙ ap (option_map (λ x. x.name)) at in
     tables.features p table is i j f.name (name_at i f a) (name_at j g b ∙ ap Some (sym e))

@@ -18,6 +18,7 @@ use Rattle.feature_core.specs.Candidates.{Edge, rank_of, Candidate, HasItem, Lea
 use Rattle.feature_core.specs.Pairs.{HasCandidate}
 use Rattle.feature_core.specs.declared.key.Key.{Key}
 use Rattle.feature_core.specs.Parts.{key, over_rank, IsToFirst, IsTo, IsOver, IsBeside, IsOfItem, IsOfItemAt, IsOfFeatureAt, IsOfPackageAt, start_of, IsRequest, IsOfDeclarationAt, IsOfLinkAt, IsOfTables}
+use Rattle.feature_core.proofs.KeySays.{Says}
 use Rattle.feature_core.proofs.Places.{IsSpread, node_there, node_back, get_left, get_right, get_cases, got_map, got_same}
 use Rattle.feature_core.proofs.AddsLemmas.{place_of_element, element_at_place, place_below}
 
@@ -141,17 +142,18 @@ pub record IsKeyOf (u w : ℕ) (e : Edge) (x : Key) : Type 0 where
   pub to : x.to ≡ w
   pub rank : x.rank ≡ rank_of e
 
--- a candidate for which the key stands
+-- a candidate for which the key stands, and what the key tells of it
 pub record StandsFor (t : Tables) (x : Key) : Type 0 where
   pub edge : Edge
   pub candidate : Candidate t x.from x.to edge
   pub rank : x.rank ≡ rank_of edge
+  pub says : Says t x edge
 
 is_key : (u w rank source place : ℕ) (e : Edge) → rank ≡ rank_of e → IsKeyOf u w e (key u w rank source place)
 is_key u w rank source place e h = record { from = refl; to = refl; rank = h }
 
-stands : (t : Tables) (u w rank source place : ℕ) (e : Edge) (x : Key) → x ≡ key u w rank source place → Candidate t u w e → rank ≡ rank_of e → StandsFor t x
-stands t u w rank source place e x is c r = subst (λ z. StandsFor t z) (sym is) (record { edge = e; candidate = c; rank = r })
+stands : (t : Tables) (u w rank source place : ℕ) (e : Edge) (x : Key) → x ≡ key u w rank source place → Candidate t u w e → rank ≡ rank_of e → Says t (key u w rank source place) e → StandsFor t x
+stands t u w rank source place e x is c r says = subst (λ z. StandsFor t z) (sym is) (record { edge = e; candidate = c; rank = r; says = says })
 
 module _ (t : Tables) (differ : NamesDiffer t) where
   -- a key that a package contributes
@@ -230,19 +232,20 @@ module _ (t : Tables) (differ : NamesDiffer t) where
       go true e =
           let both_true = both weak (has_declaration Optional link) e in
           stands t u w (over_rank weak link) k 0 (slash_weak k (unsplit_of k link)) x eq (over_weak k link (leads true both_true.0) both_true.1 refl) (over_weakly weak link e)
-      go false e = stands t u w (over_rank weak link) k 0 (slash_full (unsplit_of k link)) x eq (over_strong k link weak (leads weak refl) e refl) (over_strongly weak link e)
+          (record { number = refl; over = record { link = link; is_link = is; is = refl }; optional = record { link = link; is_link = is; has = both_true.1 } })
+      go false e = stands t u w (over_rank weak link) k 0 (slash_full (unsplit_of k link)) x eq (over_strong k link weak (leads weak refl) e refl) (over_strongly weak link e) (record { link = link; is_link = is; is = refl })
 
   -- what an item contributes stands for a candidate
   by_item : (u p : ℕ) (f : Text) (item : Item) (x : Key) → HasItem t p f item → NodeAt t u p (named f) → IsOfItem t u p f item x → StandsFor t x
-  by_item u p f (feature_item g) x h nu of = stands t u of.1.0 2 0 0 named_feature x of.1.2 (to_feature p f g h of.0 nu of.1.1 refl) refl
-  by_item u p f (optional_item d) x h nu of = stands t u of.0 3 0 0 (dep_colon (by_name t p Unsplit d)) x of.2 (to_dependency p f d h nu of.1 refl) refl
+  by_item u p f (feature_item g) x h nu of = stands t u of.1.0 2 0 0 named_feature x of.1.2 (to_feature p f g h of.0 nu of.1.1 refl) refl tt
+  by_item u p f (optional_item d) x h nu of = stands t u of.0 3 0 0 (dep_colon (by_name t p Unsplit d)) x of.2 (to_dependency p f d h nu of.1 refl) refl (record { p = p; d = d; to_node = of.1; is = refl })
   by_item u p f (slash_item d g weak) x h nu of = ⊎_elim
       (λ o. over_link u o.1.4.0 p o.0 f d g weak o.1.0 x h nu o.1.1 o.1.2 o.1.3 o.1.4.1 o.1.4.2)
       (λ o.
       let strong : HasItem t p f (slash_item d g false) = subst (λ z. HasItem t p f (slash_item d g z)) o.0 h in
       ⊎_elim
-      (λ i. stands t u i.0 5 0 0 (slash_optional (by_name t p Optional d)) x i.2 (with_dependency p f d g strong nu i.1 refl) refl)
-      (λ i. stands t u i.2.0 5 0 0 (slash_optional (by_name t p Optional d)) x i.2.2 (with_feature p i.1.0 f d g strong nu i.1.1 i.0 i.2.1 refl) refl)
+      (λ i. stands t u i.0 5 0 0 (slash_optional (by_name t p Optional d)) x i.2 (with_dependency p f d g strong nu i.1 refl) refl (record { p = p; d = d; to_node = inl i.1; is = refl }))
+      (λ i. stands t u i.2.0 5 0 0 (slash_optional (by_name t p Optional d)) x i.2.2 (with_feature p i.1.0 f d g strong nu i.1.1 i.0 i.2.1 refl) refl (record { p = p; d = d; to_node = inr i.2.1; is = refl }))
       o.1)
       of
 
@@ -250,7 +253,7 @@ module _ (t : Tables) (differ : NamesDiffer t) where
   by_base p zero table x h l i = absurd (omega (arith, i.0))
   by_base p (suc k) table x h l i =
       let s = within (labels_of table) (suc k) l in
-      stands t (first_node t p + suc k) (first_node t p) 1 0 0 feature_to_base x i.1 (to_base p s.0 (node_there t p (suc k) table s.0 h s.1) (later_label table k s.0 s.1) (base_node t p table h) refl) refl
+      stands t (first_node t p + suc k) (first_node t p) 1 0 0 feature_to_base x i.1 (to_base p s.0 (node_there t p (suc k) table s.0 h s.1) (later_label table k s.0 s.1) (base_node t p table h) refl) refl tt
     where
       within : {X : Type 0} (xs : List X) (k : ℕ) → k < length xs → (y : X) × (slice_get xs k ≡ Some y)
       within [] k l = absurd (omega (arith, l))
@@ -287,7 +290,9 @@ module _ (t : Tables) (differ : NamesDiffer t) where
 
       go : (b : Bool) → d.optional ≡ b → StandsFor t x
       go true e = stands t u w 7 k j (section (over Optional (requesting asked Optional) ((k, link) ∷ []))) x eq (of_optional (section_of Optional (λ l. optional l.name) e (optional_start link d e))) refl
+          (record { which = Optional; link = link; asked = asked; is_link = is; to_node = nw; start = inr (refl, subst (λ z. NodeAt t u link.from z) (optional_start link d e) nu); is = refl })
       go false e = stands t u w 7 k j (section (over Required (requesting asked Required) ((k, link) ∷ []))) x eq (of_required (section_of Required (λ l. base) (not_false d.optional e) (required_start link d (not_false d.optional e)))) refl
+          (record { which = Required; link = link; asked = asked; is_link = is; to_node = nw; start = inl (refl, subst (λ z. NodeAt t u link.from z) (required_start link d (not_false d.optional e)) nu); is = refl })
 
   by_link : (k : ℕ) (x : Key) → IsOfLinkAt t k x → StandsFor t x
   by_link k x h =

@@ -1,26 +1,36 @@
 -- What is built of tables.
-use Rattle.std.specs.Prelude.{◌≡◌, ℕ, List, Some, map, slice_get}
+use Rattle.std.specs.Prelude.{◌≡◌, ℕ, List, Some, map, not, slice_get}
 use Rattle.std.specs.List.{zip}
 use Rattle.guppy_support.specs.declared.digraph.Edge.{Edge}
 use Rattle.guppy_packages.specs.Rows.{Text}
 use Rattle.guppy_packages.specs.Tables.{Tables}
 use Rattle.feature_labels.specs.Names.{LabelName}
 use Rattle.feature_core.specs.Nodes.{nodes, first_nodes, node_packages}
-use Rattle.feature_core.specs.Edges.{EdgeFacts}
+use Rattle.feature_core.specs.Edges.{EdgeFacts, AreBuilt, is_dev_only}
 use Rattle.feature_core.specs.Pairs.{IsPairList}
+use Rattle.feature_core.specs.Warnings.{Warning, warnings}
 
--- the stamp that the caller gave, the first node of each package, the package of each node, and the pairs of the edges
+-- the stamp that the caller gave, the first node of each package, the package of each node, the edges by from, then to,
+-- the package link and the gate of each weak link, and the warnings
 pub record Built : Type 0 where
   pub stamp : ℕ
   pub firsts : List ℕ
   pub packages : List ℕ
-  pub pairs : List (ℕ × ℕ)
+  pub edges : List (ℕ × ℕ × EdgeFacts)
+  pub weak : List (ℕ × ℕ)
+  pub warnings : List Warning
+
+-- the two nodes of each edge
+abbrev pub ends_of : List (ℕ × ℕ × EdgeFacts) → List (ℕ × ℕ)
+ends_of edges = map (λ e. (e.0, e.1)) edges
 
 -- it was built of these tables
 pub record IsBuilt (t : Tables) (b : Built) : Type 0 where
   pub firsts : b.firsts ≡ first_nodes t
   pub packages : b.packages ≡ node_packages t
-  pub pairs : IsPairList t b.pairs
+  pub pairs : IsPairList t (ends_of b.edges)
+  pub edges : ∥ AreBuilt t b.edges b.weak ∥₁
+  pub warnings : b.warnings ≡ warnings t
 
 -- node n has this name: the id of its package, and its label
 abbrev pub NodeNamed : Tables → ℕ → Text × LabelName → Type 0
@@ -32,3 +42,7 @@ pairs_of edges = map (λ e. (e.from, e.to)) edges
 -- the edges of a digraph, with what each says
 abbrev pub built_edges : List Edge → List EdgeFacts → List (ℕ × ℕ × EdgeFacts)
 built_edges edges facts = map (λ p. (p.0.from, p.0.to, p.1)) (zip edges facts)
+
+-- the edge of a digraph: its two nodes, and whether it is more than dev-only
+abbrev pub end_of : ℕ × ℕ × EdgeFacts → Edge
+end_of e = record { from = e.0; to = e.1; non_dev = not (is_dev_only e.2) }

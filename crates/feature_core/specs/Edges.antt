@@ -1,6 +1,7 @@
 -- The edges that are built, and the weak links that they name.
-use Rattle.std.specs.Prelude.{◌≡◌, ℕ, ◌⊎◌, ◌<◌, List, [], ◌∷◌, Bool, true, false, not, ◌==◌, ◌||◌, Option, None, Some, map, filter, filter_map, position, slice_get, Contains, AllPairs, ◌↔◌, if◌then◌else◌}
+use Rattle.std.specs.Prelude.{◌≡◌, ℕ, ◌⊎◌, ◌<◌, List, [], ◌∷◌, Bool, true, false, not, ◌==◌, ◌||◌, ◌&&◌, Option, None, Some, map, filter, filter_map, position, slice_get, Contains, AllPairs, ◌↔◌, if◌then◌else◌}
 use Rattle.std.specs.Option.{option_map_or, is_some}
+use Rattle.guppy_packages.specs.Platform.{Status, never_status, always_status, spec_status}
 use Rattle.guppy_packages.specs.Tables.{LinkTable, Tables}
 use Rattle.feature_labels.specs.Names.LabelName.{optional}
 use Rattle.feature_labels.specs.declared.link_declarations.LinkDeclarations.{LinkDeclarations}
@@ -90,3 +91,24 @@ pub record AreBuilt (t : Tables) (edges : List (ℕ × ℕ × EdgeFacts)) (weak 
   pub links : map (λ x. x.0) weak ≡ weak_links list
   pub gates : (i k gate : ℕ) → slice_get weak i ≡ Some (k, gate) → IsGate t k gate
   pub facts : edges ≡ map (λ e. (e.0, e.1, facts_of t (weak_links list) e.2)) list
+
+-- the link of a conditional edge
+abbrev pub full_link : EdgeFacts → Option LinkFacts
+full_link base_edge = None
+full_link feature_edge = None
+full_link (colon_edge l) = Some l
+full_link (strong_edge l) = Some l
+full_link (weak_edge l halves) = Some l
+full_link (section_edge l) = Some l
+
+abbrev pub is_never : Status → Bool
+is_never never_status = true
+is_never always_status = false
+is_never (spec_status specs) = false
+
+abbrev pub is_dev_link : LinkFacts → Bool
+is_dev_link l = is_never l.normal && is_never l.build
+
+-- conditional, and its link is neither normal nor for builds
+abbrev pub is_dev_only : EdgeFacts → Bool
+is_dev_only f = option_map_or is_dev_link (full_link f) false

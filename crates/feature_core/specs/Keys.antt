@@ -1,5 +1,5 @@
 -- Candidates as keys, and the least of each pair.
-use Rattle.std.specs.Prelude.{◌≡◌, ℕ, ◌<◌, ◌≤◌, ◌⊎◌, List, Contains, All, AllPairs, Bool, true, ◌==◌, ◌&&◌}
+use Rattle.std.specs.Prelude.{◌≡◌, ℕ, ◌<◌, ◌≤◌, ◌⊎◌, List, Contains, All, AllPairs, Bool, true, ◌==◌, ◌&&◌, ◌||◌, ◌↔◌, nat_lt, nat_le}
 use Rattle.guppy_support.specs.declared.digraph.Edge.{Edge}
 use Rattle.feature_core.specs.declared.key.Key.{Key}
 
@@ -13,6 +13,27 @@ IsPair a b = (a.from ≡ b.from) × (a.to ≡ b.to)
 -- before, or of the same pair and of no higher rank
 abbrev pub IsUpTo : Key → Key → Type 0
 IsUpTo a b = IsBefore a b ⊎ (IsPair a b × (a.rank ≤ b.rank))
+
+-- before, or of the same pair and no later by rank, source and place
+abbrev pub IsNoLater : Key → Key → Type 0
+IsNoLater a b = IsBefore a b ⊎ (IsPair a b × ((a.rank < b.rank) ⊎ ((a.rank ≡ b.rank) × ((a.source < b.source) ⊎ ((a.source ≡ b.source) × (a.place ≤ b.place))))))
+
+-- whether the key's pair comes before this one, or is no later
+abbrev pub is_pair_below : ℕ → ℕ → Key → Bool
+is_pair_below from to y = nat_lt y.from from || ((y.from == from) && nat_lt y.to to)
+
+abbrev pub is_pair_up_to : ℕ → ℕ → Key → Bool
+is_pair_up_to from to y = nat_lt y.from from || ((y.from == from) && nat_le y.to to)
+
+-- exactly the keys of one pair, in order
+pub record IsRun (keys : List Key) (from to : ℕ) (run : List Key) : Type 0 where
+  pub ordered : AllPairs IsNoLater run
+  pub exact : (y : Key) → Contains run y ↔ (Contains keys y × (y.from ≡ from) × (y.to ≡ to))
+
+-- exactly the keys of this rank, in order
+pub record AreOfRank (rank : ℕ) (keys some : List Key) : Type 0 where
+  pub ordered : AllPairs IsNoLater some
+  pub exact : (y : Key) → Contains some y ↔ (Contains keys y × (y.rank ≡ rank))
 
 -- a kept key of the pair, of no higher rank
 pub record IsServed (kept : List Key) (b : Key) : Type 0 where

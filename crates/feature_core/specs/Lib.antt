@@ -2,6 +2,7 @@ pub mod Nodes
 pub mod Links
 pub mod Candidates
 pub mod Edges
+pub mod Weak
 pub mod Pairs
 pub mod Adds
 pub mod Keys
@@ -18,3 +19,6 @@ pub mod Errors
 pub mod Built
 pub mod NamedLinks
 pub mod Values
+pub mod Collected
+pub mod Made
+pub mod Warnings

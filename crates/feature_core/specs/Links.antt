@@ -1,7 +1,7 @@
 -- The link of an edge: which declarations it covers, and its status for each kind.
 use Rattle.std.specs.Prelude.{◌≡◌, ℕ, ◌+◌, List, [], ◌∷◌, Bool, true, false, not, ◌&&◌, ◌||◌, ◌==◌, Option, None, Some, map, filter, filter_map, flat_map, slice_get, if◌then◌else◌}
 use Rattle.std.specs.List.{list_any}
-use Rattle.std.specs.Option.{is_some}
+use Rattle.std.specs.Option.{is_some, option_map}
 use Rattle.std.specs.Str.{bytes_eq}
 use Rattle.guppy_packages.specs.Graph.{firsts}
 use Rattle.guppy_packages.specs.Platform.{Status, always_status, status_by}
@@ -51,6 +51,10 @@ pub record LinkFacts : Type 0 where
 abbrev pub status_of : DependencyKind → (Declared → Bool) → List (ℕ × LinkTable) → Status
 status_of kind passes links = joined (flat_map (λ l. map (λ d. d.platform) (filter (λ d. passes d && is_kind kind d.kind) l.1.declarations)) links)
 
+-- the platforms of the declarations of a kind
+abbrev pub platforms_of : DependencyKind → List Declared → List (Option Text)
+platforms_of kind declarations = map (λ d. d.platform) (filter (λ d. is_kind kind d.kind) declarations)
+
 -- the link over those declarations of these package links that pass
 abbrev pub over : LinkDeclarations → (Declared → Bool) → List (ℕ × LinkTable) → LinkFacts
 over which passes links = record {
@@ -60,6 +64,28 @@ over which passes links = record {
   dev = status_of Development passes links;
   package_links = map (λ l. l.0) (filter (λ l. list_any passes l.1.declarations) links);
 }
+
+-- the link over these declarations of package links
+abbrev pub over_parts : LinkDeclarations → List (ℕ × List Declared) → LinkFacts
+over_parts which parts = record {
+  declarations = which;
+  normal = joined (platforms_of Normal (flat_map (λ x. x.1) parts));
+  build = joined (platforms_of Build (flat_map (λ x. x.1) parts));
+  dev = joined (platforms_of Development (flat_map (λ x. x.1) parts));
+  package_links = map (λ x. x.0) (filter (λ x. list_any (λ d. true) x.1) parts);
+}
+
+-- the declarations at these places
+abbrev pub at_places : List Declared → List ℕ → List Declared
+at_places declarations places = filter_map (λ j. slice_get declarations j) places
+
+-- the link over the declarations of one package link at these places
+abbrev pub over_places : LinkDeclarations → ℕ → LinkTable → List ℕ → LinkFacts
+over_places which k link places = over_parts which ((k, at_places link.declarations places) ∷ [])
+
+-- the links of these numbers, with their numbers
+abbrev pub links_at : Tables → List ℕ → List (ℕ × LinkTable)
+links_at t numbers = filter_map (λ k. option_map (λ l. (k, l)) (slice_get t.links k)) numbers
 
 -- links with their numbers, from k on
 abbrev pub numbered : ℕ → List LinkTable → List (ℕ × LinkTable)

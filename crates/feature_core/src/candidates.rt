@@ -17,7 +17,7 @@ ghost use Rattle.feature_core.specs.Parts.{key, over_rank, IsToFirst, IsOverLink
 
 use crate::declarations::push_links;
 use crate::key::Key;
-use crate::named_links::{LinkGroups, named_links, numbers_of};
+use crate::named_links::{LinkGroups, numbers_of};
 use crate::numbers::Numbers;
 use guppy_packages::{Declaration, NamedFeature, NamedFeatureDep, PackageLink, PackageMetadata};
 use std::alloc::{AllocError, Global};
@@ -257,12 +257,16 @@ fn push_packages(
 }
 
 /// The keys of all candidates.
-pub(crate) fn candidates(alloc: Global, numbers: Numbers<'_>) -> Result<Vec<Key>, AllocError>
+pub(crate) fn candidates(
+    alloc: Global,
+    numbers: Numbers<'_>,
+    groups: &LinkGroups<'_>,
+) -> Result<Vec<Key>, AllocError>
+    requires { AreNamedLinks numbers.graph.now groups.now }
     ensures { IfOk result (λ keys. (x : KeyValue) → Contains keys.items x ↔ IsOfTables numbers.entry.graph.now x) }
 {
-    let groups = named_links(alloc, numbers.graph)?;
     let mut keys = Vec::new(alloc);
-    push_packages(&mut keys, numbers, &groups)?;
+    push_packages(&mut keys, numbers, groups)?;
     push_links(&mut keys, numbers)?;
     Ok(keys)
 }

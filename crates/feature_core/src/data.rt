@@ -4,82 +4,60 @@ ghost use Rattle.guppy_packages.specs.Metadata.{package_graph_of, package_table_
 ghost use Rattle.feature_labels.specs.Names.{id_of, label_of};
 ghost use Rattle.feature_core.specs.Nodes.{NodeAt, nodes, first_node, first_nodes, node_packages, labels_of};
 ghost use Rattle.guppy_support.specs.Bits.{has};
-ghost use Rattle.feature_core.specs.Keys.{edge_of};
-ghost use Rattle.feature_core.specs.Pairs.{IsPairList, PairLeads, ReachAlong};
-ghost use Rattle.feature_core.specs.Built.{IsBuilt, NodeNamed, pairs_of};
+ghost use Rattle.feature_core.specs.Pairs.{PairLeads, ReachAlong};
+ghost use Rattle.feature_core.specs.Built.{IsBuilt, NodeNamed, ends_of, end_of};
+ghost use Rattle.feature_core.specs.Warnings.{warning_of};
+ghost use Rattle.feature_core.specs.Ways.{content};
 
 #[cfg(test)]
 mod tests;
 
-use crate::candidates::candidates;
+use crate::building::{EdgeTable, edge_table};
+use crate::edge::FeatureEdge;
 use crate::error::Error;
-use crate::key::{Key, keep_least};
+use crate::named_links::named_links;
 use crate::nodes::{NodeTable, node_table};
-use crate::numbers::Numbers;
+use crate::numbers::{Numbers, label_at};
+use crate::packed::Packed;
 use crate::reach::reach_all;
+use crate::releases::release_table;
+use crate::warning::{FeatureGraphWarning, warnings};
 use feature_labels::{FeatureId, FeatureLabel};
 use guppy_packages::{DependencyDirection, PackageGraph, PackageMetadata};
-use guppy_support::{Digraph, Edge, IxBitSet};
+use guppy_support::{Digraph, IxBitSet};
+use indexmap::IndexMap;
 use std::alloc::{AllocError, Global};
 use std::marker::Model;
 
-/// The nodes and edges of a package graph's features. A contract sees the stamp, the table of nodes and the pairs of
-/// the edges.
+/// The nodes and edges of a package graph's features. A contract sees the stamp, the table of nodes, the edges with what
+/// each says, the weak links with their gates, and the warnings.
 #[derive(Drop)]
 pub struct FeatureGraphData {
     stamp: u64,
     table: NodeTable,
     digraph: Digraph,
+    edges: Vec<FeatureEdge>,
+    weak: IndexMap<usize, usize>,
+    released: Vec<(usize, usize)>,
+    warnings: Vec<FeatureGraphWarning>,
 }
 
 impl Model for FeatureGraphData {
-    ghost use Rattle.std.specs.Prelude.{◌≡◌, length};
-    ghost use Rattle.feature_core.specs.Built.{Built, pairs_of};
+    ghost use Rattle.std.specs.Prelude.{◌≡◌, length, map};
+    ghost use Rattle.feature_core.specs.Built.{Built, built_edges, end_of};
+    ghost use Rattle.feature_core.specs.Values.{edge_facts};
+    ghost use Rattle.feature_core.specs.Releases.{AreTied};
+    ghost use Rattle.feature_core.specs.Warnings.{warnings_in};
 
     ghost Value = { Built };
 
-    ghost view = { λ d. record { stamp = d.stamp; firsts = d.table.firsts.items; packages = d.table.packages.items; pairs = pairs_of d.digraph.edges } };
+    ghost view = { λ d. record { stamp = d.stamp; firsts = d.table.firsts.items; packages = d.table.packages.items; edges = built_edges d.digraph.edges (map edge_facts d.edges.items); weak = d.weak.entries; warnings = warnings_in d.warnings } };
 
-    ghost invariant = { λ d. d.digraph.nodes ≡ length d.table.packages.items };
-}
-
-/// The digraph of the pairs that have a candidate.
-fn pair_digraph(
-    alloc: Global,
-    graph: &PackageGraph,
-    table: &NodeTable,
-) -> Result<Digraph, AllocError>
-    requires firsts { table.now.firsts.items ≡ first_nodes graph.now }
-    requires packages { table.now.packages.items ≡ node_packages graph.now }
-    ensures nodes { IfOk result (λ d. d.nodes ≡ length table.now.packages.items) }
-    ensures pairs { IfOk result (λ d. IsPairList graph.now (pairs_of d.edges)) }
-{
-    graph.facts();
-    let mut keys = candidates(alloc, numbers_in(graph, table))?;
-    keep_least(&mut keys);
-    let edges = edges_of(alloc, &keys)?;
-    match Digraph::new(alloc, table.packages.len(), &edges) {
-        Ok(digraph) => Ok(digraph),
-        Err(_) => Err(AllocError),
-    }
-}
-
-/// An edge for each key.
-fn edges_of(alloc: Global, keys: &[Key]) -> Result<Vec<Edge>, AllocError>
-    ensures { IfOk result (λ edges. edges.items ≡ map edge_of keys.now) }
-{
-    keys.iter().map(|key| edge_of(*key)).collect(alloc)
-}
-
-/// The edge of a key's pair.
-fn edge_of(key: Key) -> Edge
-    ensures { result ≡ edge_of key }
-{
-    Edge {
-        from: key.from,
-        to: key.to,
-        non_dev: true,
-    }
+    ghost invariant = { λ d.
+        (d.digraph.nodes ≡ length d.table.packages.items)
+        × (length d.edges.items ≡ length d.digraph.edges)
+        × (d.digraph.edges ≡ map end_of (built_edges d.digraph.edges (map edge_facts d.edges.items)))
+        × AreTied d.digraph (map edge_facts d.edges.items) d.weak.entries d.released.items };
 }
 
 /// The numbers of the nodes in this table.
@@ -122,11 +100,23 @@ impl FeatureGraphData {
         ensures refused { IfErr result (λ e. e ≡ Error.Memory) }
     {
         let table = node_table(alloc, graph)?;
-        let digraph = pair_digraph(alloc, graph, &table)?;
+        let groups = named_links(alloc, graph)?;
+        let edge_table = edge_table(alloc, numbers_in(graph, &table), &table, &groups)?;
+        let released = release_table(alloc, &edge_table.edges, &edge_table.weak)?;
+        let warnings = warnings(alloc, graph, &groups)?;
+        let EdgeTable {
+            digraph,
+            edges,
+            weak,
+        } = edge_table;
         Ok(FeatureGraphData {
             stamp,
             table,
             digraph,
+            edges,
+            weak,
+            released,
+            warnings,
         })
     }
 
@@ -135,6 +125,13 @@ impl FeatureGraphData {
         ensures { result ≡ self.now.stamp }
     {
         self.stamp
+    }
+
+    /// What building noted: the items of features and then the listed names that ask for what is not there.
+    pub fn warnings(&self) -> &[FeatureGraphWarning]
+        ensures { map warning_of result.now ≡ self.now.warnings }
+    {
+        self.warnings.as_slice()
     }
 
     /// How many nodes there are.
@@ -146,7 +143,7 @@ impl FeatureGraphData {
 
     /// How many edges there are.
     pub fn edge_count(&self) -> usize
-        ensures { result ≡ length self.now.pairs }
+        ensures { result ≡ length self.now.edges }
     {
         self.digraph.edge_count()
     }
@@ -180,6 +177,17 @@ impl FeatureGraphData {
             Err(_) => None,
         }
     }
+
+    /// The id of a node. The data is built of this package graph.
+    pub fn id<'g>(&self, graph: &'g PackageGraph, ix: usize) -> FeatureId<'g>
+        requires built { IsBuilt graph.now self.now }
+        requires node { ix < length self.now.packages }
+        ensures { NodeNamed graph.now ix (id_of result) }
+    {
+        let metadata = graph.package(self.package_of(ix));
+        let label = label_at(graph, &self.table.firsts, &self.table.packages, ix);
+        FeatureId::new(metadata.id(), label)
+    }
 }
 
 impl FeatureGraphData {
@@ -192,9 +200,22 @@ impl FeatureGraphData {
     ) -> Result<IxBitSet, AllocError>
         requires { length initials.now ≡ length self.now.packages }
         ensures size { IfOk result (λ set. length set ≡ length self.now.packages) }
-        ensures members { IfOk result (λ set. (n : ℕ) → IsTrue (has set n) ↔ ReachAlong (PairLeads self.now.pairs direction) (has initials.now) n) }
+        ensures members { IfOk result (λ set. (n : ℕ) → IsTrue (has set n) ↔ ReachAlong (PairLeads (ends_of self.now.edges) direction) (has initials.now) n) }
     {
         let set = reach_all(alloc, &self.digraph, direction, initials)?;
         Ok(set)
+    }
+
+    /// Its edges as a source of walks, as the direction follows them.
+    pub(crate) fn packed(&self, direction: DependencyDirection) -> Packed<'_>
+        ensures { result ≡ record { holds = content direction (length self.now.packages) self.now.edges self.now.weak; reads = 0 } }
+    {
+        Packed::over(
+            &self.digraph,
+            &self.edges,
+            &self.weak,
+            &self.released,
+            direction,
+        )
     }
 }

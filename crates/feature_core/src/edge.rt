@@ -1,6 +1,8 @@
 //! What an edge between two features says.
-ghost use Rattle.std.specs.Prelude.{◌≡◌, IfOk};
-ghost use Rattle.feature_core.specs.Values.{half_facts, weak_facts_of, slash_facts, edge_facts};
+ghost use Rattle.std.specs.Prelude.{◌≡◌, IfOk, option_copied};
+ghost use Rattle.std.specs.Option.{option_map};
+ghost use Rattle.feature_core.specs.Edges.{full_link, is_dev_only};
+ghost use Rattle.feature_core.specs.Values.{link_facts, half_facts, weak_facts_of, slash_facts, edge_facts};
 
 use crate::link::{ConditionalLinkImpl, EnabledLink};
 use std::alloc::{AllocError, Global};
@@ -125,6 +127,28 @@ pub enum FeatureEdge {
 }
 
 impl FeatureEdge {
+    /// The full link of a conditional edge.
+    fn full_link(&self) -> Option<&ConditionalLinkImpl>
+        ensures { option_map link_facts (option_copied result) ≡ full_link (edge_facts self.now) }
+    {
+        match self {
+            FeatureEdge::FeatureToBase | FeatureEdge::NamedFeature => None,
+            FeatureEdge::DependenciesSection(link)
+            | FeatureEdge::NamedFeatureDepColon(link)
+            | FeatureEdge::NamedFeatureWithSlash { link, slash: _ } => Some(link),
+        }
+    }
+
+    /// Whether it is conditional, and its link is neither for normal use nor for builds.
+    pub(crate) fn is_dev_only(&self) -> bool
+        ensures { result ≡ is_dev_only (edge_facts self.now) }
+    {
+        match self.full_link() {
+            Some(link) => link.is_dev_only(),
+            None => false,
+        }
+    }
+
     /// An equal edge. It fails only where memory is refused.
     pub fn try_clone(&self, alloc: Global) -> Result<FeatureEdge, AllocError>
         ensures { IfOk result (λ edge. edge_facts edge ≡ edge_facts self.now) }

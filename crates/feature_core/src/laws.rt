@@ -1,10 +1,16 @@
-//! Laws of walks. Each function does nothing: its contract is the law, over the definitions alone.
+//! Laws of walks, of edges, and of equality of warnings. Each function's contract is the law; those of walks and edges do
+//! nothing, and speak of the definitions alone.
 
 ghost use Rattle.std.specs.Prelude.{◌≡◌, ◌↔◌, ◌⊎◌, ◌||◌, ℕ, Bool, List, IsTrue, IsFalse};
 ghost use Rattle.feature_core.specs.Walks.{Content, Way, Call, IsWay, has_half, Reach, was_made, was_accepted, IsDue, IsLegal, IsComplete, Agrees, Least};
 ghost use Rattle.feature_core.specs.Laws.{every, only, Leads, AreReverse, IsUngated};
 ghost use Rattle.feature_core.specs.declared.engine.Half.{Half};
 ghost use Rattle.feature_core.specs.declared.engine.Half.TheVariants.{Required};
+ghost use Rattle.feature_core.specs.Candidates.{Edge, Candidate, IsEdge, rank_of};
+ghost use Rattle.feature_core.specs.Warnings.{warning_of};
+
+use crate::warning::FeatureGraphWarning;
+use guppy_packages::PackageGraph;
 
 /// A path over all edges leads from one node to another exactly if the second is in the reach of the first, and
 /// exactly if the first is in the reach of the second over the reverse edges.
@@ -54,3 +60,19 @@ pub fn required_half_is_due()
         → IsWay c e w → IsTrue (has_half w.ask Required) → Reach c I (was_accepted run) w.start
         → IsFalse (was_made run e Required) → IsDue c I run e Required }
 {}
+
+/// Candidates for the edge of one pair of nodes that have one rank are equal, so a pair has at most one edge.
+pub fn one_candidate(graph: &PackageGraph)
+    ensures of_rank { (u w : ℕ) (e other : Edge) → Candidate graph.now u w e → Candidate graph.now u w other
+        → rank_of e ≡ rank_of other → e ≡ other }
+    ensures of_pair { (u w : ℕ) (e other : Edge) → IsEdge graph.now u w e → IsEdge graph.now u w other → e ≡ other }
+{
+    graph.facts();
+}
+
+/// Two warnings are equal where they say the same, with the same texts.
+pub fn warning_equality(a: &FeatureGraphWarning, b: &FeatureGraphWarning) -> bool
+    ensures { IsTrue result ↔ (warning_of a.now ≡ warning_of b.now) }
+{
+    a == b
+}

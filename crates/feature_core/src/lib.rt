@@ -1,10 +1,12 @@
 //! The feature graph of package tables, and walks over it.
 #![tactic(auto)]
 
+mod building;
 mod candidates;
 mod data;
 mod declarations;
 mod edge;
+mod edges;
 pub mod engine;
 mod error;
 mod key;
@@ -16,11 +18,14 @@ mod numbers;
 mod packed;
 mod reach;
 mod releases;
-mod walk;
+mod walks;
+mod warning;
+mod weak;
 
 pub use data::FeatureGraphData;
 pub use edge::{FeatureEdge, SlashForm, WeakIndex, WeakSlashImpl};
 pub use error::Error;
 pub use link::{ConditionalLinkImpl, EnabledLink};
 pub use packed::Packed;
-pub use walk::walk_all;
+pub use walks::{walk, walk_all};
+pub use warning::FeatureGraphWarning;

@@ -2,7 +2,13 @@
 ghost use Rattle.std.specs.Prelude.{◌≡◌, IfOk, option_copied};
 ghost use Rattle.std.specs.Option.{option_map};
 ghost use Rattle.guppy_packages.specs.Platform.{status_of};
+ghost use Rattle.feature_core.specs.Edges.{is_dev_link};
 ghost use Rattle.feature_core.specs.Values.{link_facts, half_facts};
+
+pub(crate) mod building;
+mod statuses;
+#[cfg(test)]
+mod tests;
 
 use feature_labels::LinkDeclarations;
 use guppy_packages::{PlatformStatus, PlatformStatusImpl};
@@ -54,6 +60,13 @@ impl ConditionalLinkImpl {
         ensures { result.now ≡ (link_facts self.now).package_links }
     {
         self.package_link_ixs.as_slice()
+    }
+
+    /// Whether no covered declaration is for normal use or for builds.
+    pub(crate) fn is_dev_only(&self) -> bool
+        ensures { result ≡ is_dev_link (link_facts self.now) }
+    {
+        self.normal().is_never() && self.build().is_never()
     }
 
     /// An equal link. It fails only where memory is refused.

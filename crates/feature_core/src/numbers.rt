@@ -1,9 +1,11 @@
 //! The number of each node, by its package and label.
-ghost use Rattle.std.specs.Prelude.{◌≡◌, ◌+◌, ◌<◌, ◌^◌, ◌↔◌, ℕ, Some, length, slice_index};
+ghost use Rattle.std.specs.Prelude.{◌≡◌, ◌+◌, ◌<◌, ◌^◌, ◌↔◌, ℕ, Some, length, slice_get, slice_index};
 ghost use Rattle.guppy_packages.specs.Metadata.{package_graph_of, package_table_of};
+ghost use Rattle.feature_labels.specs.Names.{label_of};
 ghost use Rattle.feature_labels.specs.Names.LabelName.{base, named, optional};
-ghost use Rattle.feature_core.specs.Nodes.{NodeAt, labels_of, first_node, first_nodes, node_places};
+ghost use Rattle.feature_core.specs.Nodes.{NodeAt, labels_of, first_node, first_nodes, node_packages, node_places};
 
+use feature_labels::FeatureLabel;
 use guppy_packages::{PackageGraph, PackageMetadata};
 
 /// A package graph with the first node of each package.
@@ -21,6 +23,39 @@ fn first_of(firsts: &[usize], ix: usize) -> usize
     ensures { result ≡ slice_index firsts.now ix }
 {
     firsts[ix]
+}
+
+/// The label at a place among those of a package.
+fn label<'g>(metadata: PackageMetadata<'g>, place: usize) -> FeatureLabel<'g>
+    requires { place < length (labels_of (package_table_of metadata)) }
+    ensures { slice_get (labels_of (package_table_of metadata.entry)) place ≡ Some (label_of result) }
+{
+    let features = metadata.named_features();
+    let names = metadata.optional_deps();
+    if place == 0 {
+        FeatureLabel::Base
+    } else if place <= features.len() {
+        FeatureLabel::Named(features[place - 1].name())
+    } else {
+        FeatureLabel::OptionalDependency(names[place - 1 - features.len()].as_str())
+    }
+}
+
+/// The label of a node, by the first node of each package and the package of each node.
+pub(crate) fn label_at<'g>(
+    graph: &'g PackageGraph,
+    firsts: &[usize],
+    packages: &[usize],
+    ix: usize,
+) -> FeatureLabel<'g>
+    requires firsts { firsts.now ≡ first_nodes graph.now }
+    requires packages { packages.now ≡ node_packages graph.now }
+    requires node { ix < length packages.now }
+    ensures { NodeAt graph.now ix (slice_index packages.now ix) (label_of result) }
+{
+    let package_ix = packages[ix];
+    let place = ix - first_of(firsts, package_ix);
+    label(graph.package(package_ix), place)
 }
 
 impl<'g> Numbers<'g> {
@@ -91,5 +126,14 @@ impl<'g> Numbers<'g> {
         let features = metadata.named_features().len();
         let names = metadata.optional_deps().len();
         1 + features + names
+    }
+
+    /// The label of a node, by the package of each node.
+    pub(crate) fn label_at(self, packages: &[usize], ix: usize) -> FeatureLabel<'g>
+        requires packages { packages.now ≡ node_packages self.graph.now }
+        requires node { ix < length packages.now }
+        ensures { NodeAt self.entry.graph.now ix (slice_index packages.now ix) (label_of result) }
+    {
+        label_at(self.graph, self.firsts, packages, ix)
     }
 }

@@ -6,6 +6,7 @@ ghost use Rattle.feature_core.specs.Ways.{asked, content, waits, GatesAreNodes, 
 ghost use Rattle.feature_core.specs.Releases.{AreTied};
 ghost use Rattle.feature_core.specs.Values.{edge_facts};
 
+use crate::data::FeatureGraphData;
 use crate::edge::{FeatureEdge, SlashForm};
 use crate::engine::{Ask, EdgeSource, Taken};
 use crate::reach::{edges_at, far_end};
@@ -69,6 +70,13 @@ impl<'a> Model for Packed<'a> {
 }
 
 impl<'a> Packed<'a> {
+    /// The edges of a feature graph, as the direction follows them.
+    pub fn new(built: &'a FeatureGraphData, direction: DependencyDirection) -> Self
+        ensures { result ≡ record { holds = content direction (length built.now.packages) built.now.edges built.now.weak; reads = 0 } }
+    {
+        built.packed(direction)
+    }
+
     /// The source over these parts.
     pub(crate) fn over(
         digraph: &'a Digraph,

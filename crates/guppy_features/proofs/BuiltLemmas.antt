@@ -9,8 +9,10 @@ use Rattle.guppy_packages.specs.Tables.{Tables}
 use Rattle.feature_core.specs.Built.{Built, IsBuilt}
 use Rattle.feature_core.specs.Nodes.{labels_of, spread, nodes, node_places, node_packages, first_nodes}
 use Rattle.feature_core.specs.Pairs.{IsBefore}
+use Rattle.feature_core.specs.Warnings.{warnings}
 use Rattle.guppy_features.proofs.Decisions.{Decided, decided_by, decided_both, decided_either, decided_given, by_test, nat_decided, text_decided, some_in}
 use Rattle.guppy_features.proofs.CandidateDecisions.{candidate_decided}
+use Rattle.guppy_features.proofs.WarningDecisions.{warnings_decided}
 
 lt_decided : (m n : ℕ) → Decided (m < n)
 lt_decided m n = by_test (ltb m n) (m < n) (Decides-ltb m n)
@@ -39,6 +41,7 @@ built_given t b h = record {
       (λ c. decided_given (contains_decided b.pairs (u, w)) (∥∥₁_map h (λ z. (z.pairs.exact u w).1 c))),
     );
   };
+  warnings = decided_given (warnings_decided b.warnings (warnings t)) (∥∥₁_map h (λ z. z.warnings));
 }
 
 length-spread : {A B : Type 0} (f : A → List B) (q : ℕ) (xs : List A) → length (spread f q xs) ≡ length (flat_map f xs)
@@ -67,3 +70,6 @@ node_count t =
 
 pub built_count : (t : Tables) (b : Built) → ∥ IsBuilt t b ∥₁ → length b.packages ≡ length (nodes t)
 built_count t b h = ap length ((built_given t b h).packages) ∙ node_count t
+
+pub built_warnings : (t : Tables) (b : Built) → ∥ IsBuilt t b ∥₁ → b.warnings ≡ warnings t
+built_warnings t b h = (built_given t b h).warnings

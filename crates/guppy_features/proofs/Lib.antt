@@ -1,5 +1,6 @@
 mod Decisions
 mod CandidateDecisions
+mod WarningDecisions
 mod BuiltLemmas
 mod PackageLemmas
 mod SetLemmas

@@ -6,6 +6,7 @@ ghost use Rattle.feature_core.specs.Built.{IsBuilt, NodeNamed};
 ghost use Rattle.feature_core.specs.Errors.{refusal_of};
 ghost use Rattle.feature_core.specs.Nodes.{nodes};
 ghost use Rattle.feature_core.specs.Pairs.{Reach};
+ghost use Rattle.feature_core.specs.Warnings.{warning_of, warnings};
 ghost use Rattle.guppy_features.specs.Names.{AreKnown, HasFeature, RefusesName, RefusesNames, RefusesPackage, HoldsExactly, ListsPackage, IsLinkCount};
 
 use crate::ids::{first_unknown, set_of_ids};
@@ -13,7 +14,7 @@ use crate::listing::package_list;
 use crate::metadata::{FeatureMetadata, label_in};
 use crate::query::FeatureQuery;
 use crate::set::FeatureSet;
-use feature_core::{Error, FeatureGraphData, walk_all};
+use feature_core::{Error, FeatureGraphData, FeatureGraphWarning, walk_all};
 use feature_labels::{FeatureId, FeatureList};
 use guppy_packages::{DependencyDirection, PackageGraph, PackageId};
 use guppy_support::IxBitSet;
@@ -64,6 +65,14 @@ impl<'g> FeatureGraph<'g> {
         ensures { result ≡ stamp_of self.now }
     {
         self.built.stamp()
+    }
+
+    /// What building noted of items and listed names that ask for what is not there: first the items, by packages,
+    /// features and places, then the names, by links, declarations and places.
+    pub fn build_warnings(&self) -> &'g [FeatureGraphWarning]
+        ensures { map warning_of result.now ≡ warnings (tables_of_graph self.now) }
+    {
+        self.built.warnings()
     }
 
     /// How many features there are.

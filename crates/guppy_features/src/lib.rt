@@ -10,7 +10,7 @@ mod set;
 #[cfg(test)]
 mod tests;
 
-pub use feature_core::{Error, FeatureGraphData};
+pub use feature_core::{Error, FeatureGraphData, FeatureGraphWarning};
 pub use feature_labels::{
     DisplayFeatures, FeatureId, FeatureKind, FeatureLabel, FeatureList, LinkDeclarations,
     feature_list,

@@ -1,7 +1,7 @@
 //! Look-ups, sets and queries over a small graph, whose nodes and edges were listed by hand.
 use crate::{
-    DependencyDirection, Error, FeatureGraph, FeatureGraphData, FeatureGraphExt, FeatureId,
-    FeatureLabel, FeatureSet,
+    DependencyDirection, Error, FeatureGraph, FeatureGraphData, FeatureGraphExt,
+    FeatureGraphWarning, FeatureId, FeatureLabel, FeatureSet,
 };
 use guppy_packages::DependencyKind::Normal;
 use guppy_packages::{PackageGraph, PackageId, Row};
@@ -193,5 +193,43 @@ fn no_rows_have_no_features(rt: HostRuntime) -> Result<(), Fail> {
     assert_eq!(rt; features.feature_count(), 0);
     assert_eq!(rt; features.link_count(), 0);
     assert!(rt; features.resolve_all(alloc)?.is_empty());
+    assert!(rt; features.build_warnings().is_empty());
+    Ok(())
+}
+
+const ROWS_THAT_NAME_NOTHING: [Row<'static>; 2] = [
+    Row::Package {
+        id: "main",
+        in_workspace: true,
+    },
+    Row::Feature {
+        name: "a",
+        items: &["dep:x", "a"],
+    },
+];
+
+#[test]
+fn warnings_of_building(rt: HostRuntime) -> Result<(), Fail> {
+    let alloc = rt.alloc();
+    let graph = PackageGraph::from_rows(alloc, &ROWS_THAT_NAME_NOTHING)?;
+    let built = FeatureGraphData::build(alloc, &graph, 0)?;
+    match graph.feature_graph(&built).build_warnings() {
+        [
+            FeatureGraphWarning::MissingFeature {
+                package_id: first,
+                feature_name: missing,
+            },
+            FeatureGraphWarning::SelfLoop {
+                package_id: second,
+                feature_name: looping,
+            },
+        ] => {
+            assert_eq!(rt; first.repr(), "main");
+            assert_eq!(rt; missing.as_str(), "dep:x");
+            assert_eq!(rt; second.repr(), "main");
+            assert_eq!(rt; looping.as_str(), "a");
+        }
+        _ => assert!(rt; false),
+    }
     Ok(())
 }

@@ -1,6 +1,6 @@
 //! The pairs of small graphs, as the tables of edges list them.
 use super::*;
-use crate::walk::walk_all;
+use crate::walks::walk_all;
 use guppy_packages::DependencyKind::{self, Build, Development, Normal};
 use guppy_packages::{PackageId, Row};
 use std::process::Abort;
@@ -416,6 +416,28 @@ fn nodes_by_name(rt: HostRuntime) -> Result<(), Fail> {
     assert_eq!(rt; built.node(&graph, FeatureId::base(&none)), None);
     assert_eq!(rt; built.first_node(1), 5);
     assert_eq!(rt; built.package_of(6), 1);
+    Ok(())
+}
+
+#[test]
+fn ids_of_nodes(rt: HostRuntime) -> Result<(), Fail> {
+    let graph = PackageGraph::from_rows(rt.alloc(), WEAK_ITEM_WITHOUT_REQUIRED_HALF)?;
+    let built = FeatureGraphData::build(rt.alloc(), &graph, 0)?;
+    let main = PackageId::new(rt.alloc(), "main")?;
+    let sv = PackageId::new(rt.alloc(), "sv")?;
+    let ids = [
+        FeatureId::base(&main),
+        FeatureId::named(&main, "smallvec"),
+        FeatureId::named(&main, "smallvec-union"),
+        FeatureId::named(&main, "foo"),
+        FeatureId::optional_dependency(&main, "smallvec"),
+        FeatureId::base(&sv),
+        FeatureId::named(&sv, "union"),
+    ];
+    assert_eq!(rt; built.node_count(), ids.len());
+    for ix in 0..built.node_count() {
+        assert_eq!(rt; Some(built.id(&graph, ix)), ids.get(ix).copied());
+    }
     Ok(())
 }
 

@@ -9,7 +9,7 @@ use Rattle.std.proofs.lemmas.List.Sorted.{sorted_far, ranks_by}
 use Rattle.feature_core.specs.declared.key.Key.{Key}
 use Rattle.feature_core.specs.contracts.key.KeyOrd.TheImpl.{cmp-value}
 use Rattle.feature_core.specs.contracts.key.KeyOrd.TheImpl.Laws.{total-law}
-use Rattle.feature_core.specs.Keys.{IsUpTo}
+use Rattle.feature_core.specs.Keys.{IsNoLater}
 use Rattle.feature_core.proofs.key.sort_keys.Goals as goal
 
 lex : (l e : Bool) (o : Ordering) → is_lt (ordering_then (cond l Less (cond e Equal Greater)) o) ≡ false → (l ≡ false) × ((e ≡ false) ⊎ (is_lt o ≡ false))
@@ -33,17 +33,26 @@ ordered x y o h =
     let up : y ≤ x = up_to x y k.0 in
     ⊎_elim (λ e. inl (apart x y up e)) (λ e. ⊎_elim (λ z. inl z) (λ z. inr (z, e)) (below_or x y up)) k.1
 
-no_less : (x y : ℕ) (o : Ordering) → is_lt (ordering_then (nat_cmp x y) o) ≡ false → y ≤ x
-no_less x y o h = up_to x y (lex (nat_lt x y) (x == y) o h).0
+not_less : (l e : Bool) → is_lt (cond l Less (cond e Equal Greater)) ≡ false → l ≡ false
+not_less true e h = cc
+not_less false e h = refl
 
-up_from : (a b : Key) → is_lt ((cmp-value).it b a) ≡ false → IsUpTo a b
+no_less : (x y : ℕ) → is_lt (nat_cmp x y) ≡ false → y ≤ x
+no_less x y h = up_to x y (not_less (nat_lt x y) (x == y) h)
+
+up_from : (a b : Key) → is_lt ((cmp-value).it b a) ≡ false → IsNoLater a b
 up_from a b h =
     ⊎_elim (λ z. inl (inl z))
-    (λ z. ⊎_elim (λ y. inl (inr (z.0, y))) (λ y. inr ((z.0, y.0), no_less b.rank a.rank (ordering_then (nat_cmp b.source a.source) (nat_cmp b.place a.place)) y.1))
+    (λ z. ⊎_elim (λ y. inl (inr (z.0, y)))
+    (λ y. ⊎_elim (λ r. inr ((z.0, y.0), inl r))
+    (λ r. ⊎_elim (λ s. inr ((z.0, y.0), inr (r.0, inl s)))
+    (λ s. inr ((z.0, y.0), inr (r.0, inr (s.0, no_less b.place a.place s.1))))
+    (ordered b.source a.source (nat_cmp b.place a.place) r.1))
+    (ordered b.rank a.rank (ordering_then (nat_cmp b.source a.source) (nat_cmp b.place a.place)) y.1))
     (ordered b.to a.to (ordering_then (nat_cmp b.rank a.rank) (ordering_then (nat_cmp b.source a.source) (nat_cmp b.place a.place))) z.1))
     (ordered b.from a.from (ordering_then (nat_cmp b.to a.to) (ordering_then (nat_cmp b.rank a.rank) (ordering_then (nat_cmp b.source a.source) (nat_cmp b.place a.place)))) h)
 
-all_up : (keys : List Key) → IsSorted (cmp-value).it keys → AllPairs IsUpTo keys
+all_up : (keys : List Key) → IsSorted (cmp-value).it keys → AllPairs IsNoLater keys
 all_up keys s i j d l m = up_from (slice_index_or keys i d) (slice_index_or keys j d) (sorted_far (λ x y. is_lt ((cmp-value).it x y)) (ranks_by total-law (λ x. x)) keys s i j d (omega arith) m)
 
 pub returns-clause-sorted : goal.returns-clause-sorted

@@ -1,0 +1,214 @@
+-- The weak links of keys, one key after the other.
+use Rattle.std.proofs.Common.{◌≡◌, ℕ, zero, suc, ◌+◌, ◌<◌, ◌⊎◌, ⊎_elim, List, [], ◌∷◌, ◌++◌, length, map, take, Bool, true, false, not, cond, Option, Some, None, refl, sym, ap, ◌∙◌, subst, arith}
+use Rattle.std.specs.Prelude.{slice_get, slice_index_or, ◌==◌, ◌&&◌, IsTrue, Contains, filter, filter_map}
+use Rattle.std.specs.List.{list_any}
+use Rattle.std.specs.Str.{bytes_eq}
+use Rattle.std.specs.Cmp.Lexicographic.{bytes_decides}
+use Rattle.std.proofs.lemmas.Bool.Decides.{nat_tests}
+use Rattle.std.proofs.lemmas.List.{take_more, append-nil}
+use Rattle.std.proofs.lemmas.List.Elements.{filter_map-append}
+use Rattle.indexmap.specs.IndexMap.{insert_entry}
+use Rattle.guppy_packages.specs.Rows.{Text}
+use Rattle.guppy_packages.specs.Tables.{LinkTable, Tables, AreTables, has_name}
+use Rattle.guppy_packages.specs.Items.{Item, feature_item, optional_item, slash_item, item_of}
+use Rattle.feature_labels.specs.Names.LabelName.{optional}
+use Rattle.feature_labels.specs.declared.link_declarations.LinkDeclarations.TheVariants.{Optional}
+use Rattle.feature_core.specs.Nodes.{NodeAt, first_node}
+use Rattle.feature_core.specs.Links.{IsLink, has_declaration}
+use Rattle.feature_core.specs.Candidates.{Edge}
+use Rattle.feature_core.specs.Edges.{IsGate, first_ones, weak_link, weak_links}
+use Rattle.feature_core.specs.Parts.{key, over_rank, IsOfItem, IsOfPackageAt, IsOfLinkAt, IsOfTables}
+use Rattle.feature_core.specs.Weak.{IsOptionalLink, AreGates, weak_source, weak_sources}
+use Rattle.feature_core.specs.declared.key.Key.{Key}
+use Rattle.feature_core.proofs.AddsLemmas.{Contains-first, Contains-later}
+use Rattle.feature_core.proofs.EdgeLemmas.{told_edges}
+use Rattle.feature_core.proofs.LabelLemmas.{optional_label}
+use Rattle.feature_core.proofs.NodeLabels.{element_within}
+use Rattle.feature_core.proofs.PartLemmas.{list_any_there, list_any_back}
+use Rattle.feature_core.proofs.Places.{node_there}
+
+-- a number at the end, unless it is there
+abbrev pub with_one : ℕ → List ℕ → List ℕ
+with_one k [] = k ∷ []
+with_one k (x ∷ xs) = cond (k == x) (x ∷ xs) (x ∷ with_one k xs)
+
+same_number : (a b : ℕ) → a == b ≡ true → a ≡ b
+same_number a b h = grind (arith, nat_tests)
+
+module _ (p : ℕ → Bool) (k : ℕ) where
+  filter_out : p k ≡ false → (xs : List ℕ) → filter p (with_one k xs) ≡ filter p xs
+  filter_out out [] = ap (λ b. cond b (k ∷ []) []) out
+  filter_out out (x ∷ xs) = go (k == x) (filter_out out xs)
+    where
+      go : (b : Bool) → filter p (with_one k xs) ≡ filter p xs → filter p (cond b (x ∷ xs) (x ∷ with_one k xs)) ≡ filter p (x ∷ xs)
+      go true more = refl
+      go false more = ap (λ z. cond (p x) (x ∷ z) z) more
+
+  filter_in : p k ≡ true → (xs : List ℕ) → filter p (with_one k xs) ≡ with_one k (filter p xs)
+  filter_in within [] = ap (λ b. cond b (k ∷ []) []) within
+  filter_in within (x ∷ xs) = go (k == x) refl (filter_in within xs)
+    where
+      at_first : (b : Bool) → k == x ≡ b → cond b (x ∷ filter p xs) (x ∷ with_one k (filter p xs)) ≡ with_one k (x ∷ filter p xs)
+      at_first b e = ap (λ z. cond z (x ∷ filter p xs) (x ∷ with_one k (filter p xs))) (sym e)
+
+      kept : (b : Bool) → p x ≡ b → k == x ≡ false → filter p (with_one k xs) ≡ with_one k (filter p xs) → cond b (x ∷ filter p (with_one k xs)) (filter p (with_one k xs)) ≡ with_one k (cond b (x ∷ filter p xs) (filter p xs))
+      kept true e f more = ap (λ z. x ∷ z) more ∙ at_first false f
+      kept false e f more = more
+
+      go : (b : Bool) → k == x ≡ b → filter p (with_one k xs) ≡ with_one k (filter p xs) → filter p (cond b (x ∷ xs) (x ∷ with_one k xs)) ≡ with_one k (filter p (x ∷ xs))
+      go true e more =
+          let passes : p x ≡ true = ap p (sym (same_number k x e)) ∙ within in
+          ap (λ b. cond b (x ∷ filter p xs) (filter p xs)) passes ∙ at_first true e ∙ ap (λ b. with_one k (cond b (x ∷ filter p xs) (filter p xs))) (sym passes)
+      go false e more = kept (p x) refl e more
+
+-- one number more, by first appearance
+pub first_ones-more : (k : ℕ) (xs : List ℕ) → first_ones (xs ++ k ∷ []) ≡ with_one k (first_ones xs)
+first_ones-more k [] = refl
+first_ones-more k (x ∷ xs) = ap (λ z. x ∷ filter (λ y. not (x == y)) z) (first_ones-more k xs) ∙ go (k == x) refl
+  where
+    turned : (a b : ℕ) (c : Bool) → b == a ≡ c → a == b ≡ c
+    turned a b true h = grind (arith, nat_tests)
+    turned a b false h = grind (arith, nat_tests)
+
+    go : (b : Bool) → k == x ≡ b → x ∷ filter (λ y. not (x == y)) (with_one k (first_ones xs)) ≡ cond (k == x) (x ∷ filter (λ y. not (x == y)) (first_ones xs)) (x ∷ with_one k (filter (λ y. not (x == y)) (first_ones xs)))
+    go true e =
+        ap (λ z. x ∷ z) (filter_out (λ y. not (x == y)) k (ap not (turned x k true e)) (first_ones xs))
+        ∙ ap (λ b. cond b (x ∷ filter (λ y. not (x == y)) (first_ones xs)) (x ∷ with_one k (filter (λ y. not (x == y)) (first_ones xs)))) (sym e)
+    go false e =
+        ap (λ z. x ∷ z) (filter_in (λ y. not (x == y)) k (ap not (turned x k false e)) (first_ones xs))
+        ∙ ap (λ b. cond b (x ∷ filter (λ y. not (x == y)) (first_ones xs)) (x ∷ with_one k (filter (λ y. not (x == y)) (first_ones xs)))) (sym e)
+
+-- the keys of a table after an entry is inserted
+pub keys_inserted : (k v : ℕ) (entries : List (ℕ × ℕ)) → map (λ e. e.0) (insert_entry (λ a b. a == b) entries k v) ≡ with_one k (map (λ e. e.0) entries)
+keys_inserted k v [] = refl
+keys_inserted k v (e ∷ es) = go (k == e.0) (keys_inserted k v es)
+  where
+    go : (b : Bool) → map (λ e. e.0) (insert_entry (λ a b. a == b) es k v) ≡ with_one k (map (λ e. e.0) es)
+        → map (λ e. e.0) (cond b ((e.0, v) ∷ es) (e ∷ insert_entry (λ a b. a == b) es k v)) ≡ cond b (e.0 ∷ map (λ e. e.0) es) (e.0 ∷ with_one k (map (λ e. e.0) es))
+    go true more = refl
+    go false more = ap (λ z. e.0 ∷ z) more
+
+same_entry : (P : ℕ → ℕ → Type 0) (k v j w : ℕ) → ◌≡◌ {A = Option (ℕ × ℕ)} (Some (k, v)) (Some (j, w)) → P k v → P j w
+same_entry P k v j w e h = let is : ◌≡◌ {A = ℕ × ℕ} (k, v) (j, w) = cc in subst (λ z. P z.0 z.1) is h
+
+-- each entry is still a link with its gate
+pub gates_inserted : (t : Tables) (k v : ℕ) (entries : List (ℕ × ℕ)) → AreGates t entries → IsGate t k v → AreGates t (insert_entry (λ a b. a == b) entries k v)
+gates_inserted t k v [] old new zero j w h = same_entry (IsGate t) k v j w h new
+gates_inserted t k v [] old new (suc i) j w h = cc
+gates_inserted t k v (e ∷ es) old new i j w h = go (k == e.0) refl (λ i h. gates_inserted t k v es (λ i. old (suc i)) new i j w h) i h
+  where
+    go : (b : Bool) → k == e.0 ≡ b → ((i : ℕ) → slice_get (insert_entry (λ a b. a == b) es k v) i ≡ Some (j, w) → IsGate t j w)
+        → (i : ℕ) → slice_get (cond b ((e.0, v) ∷ es) (e ∷ insert_entry (λ a b. a == b) es k v)) i ≡ Some (j, w) → IsGate t j w
+    go true s more zero h = same_entry (IsGate t) e.0 v j w h (subst (λ z. IsGate t z v) (same_number k e.0 s) new)
+    go true s more (suc i) h = old (suc i) j w h
+    go false s more zero h = old zero j w h
+    go false s more (suc i) h = more i h
+
+pub not_none : (o : Option ℕ) (n : ℕ) → o ≡ None → o ≡ Some n → ⊥
+not_none o n h i = cc
+
+-- the key of a weak edge adds its source, and no other key adds anything
+weak_next : (x : Key) → x.rank ≡ 6 → weak_sources (x ∷ []) ≡ x.source ∷ []
+weak_next x h = ap (λ n. filter_map (λ y. cond (n == 6) (Some y.source) None) (x ∷ [])) h
+
+strong_next : (x : Key) → (x.rank ≡ 6 → ⊥) → weak_sources (x ∷ []) ≡ []
+strong_next x h = ap (λ b. filter_map (λ y. cond b (Some y.source) None) (x ∷ [])) (no_test x.rank h)
+  where
+    no_test : (n : ℕ) → (n ≡ 6 → ⊥) → n == 6 ≡ false
+    no_test n h = grind (arith, nat_tests)
+
+-- the links after a key of a weak edge
+pub links_next : (done : List Key) (v : ℕ) (x : Key) (entries : List (ℕ × ℕ)) → x.rank ≡ 6 → map (λ e. e.0) entries ≡ first_ones (weak_sources done)
+    → map (λ e. e.0) (insert_entry (λ a b. a == b) entries x.source v) ≡ first_ones (weak_sources (done ++ x ∷ []))
+links_next done v x entries weak h =
+    keys_inserted x.source v entries ∙ ap (with_one x.source) h ∙ sym (first_ones-more x.source (weak_sources done))
+    ∙ ap (λ z. first_ones (weak_sources done ++ z)) (sym (weak_next x weak)) ∙ ap first_ones (sym (filter_map-append weak_source done (x ∷ [])))
+
+-- and after another key
+pub links_same : (done : List Key) (x : Key) (links : List ℕ) → (x.rank ≡ 6 → ⊥) → links ≡ first_ones (weak_sources done) → links ≡ first_ones (weak_sources (done ++ x ∷ []))
+links_same done x links strong h =
+    h ∙ ap first_ones (sym (append-nil (weak_sources done)) ∙ ap (λ z. weak_sources done ++ z) (sym (strong_next x strong)) ∙ sym (filter_map-append weak_source done (x ∷ [])))
+
+pub read_there : {X : Type 0} (xs : List X) (i : ℕ) (d : X) → i < length xs → slice_get xs i ≡ Some (slice_index_or xs i d)
+read_there [] i d l = absurd (omega (arith, l))
+read_there (x ∷ xs) zero d l = refl
+read_there (x ∷ xs) (suc i) d l = read_there xs i d (omega (arith, l))
+
+-- the keys as far as one more place
+pub taken_next : {X : Type 0} (xs : List X) (i : ℕ) (d : X) → i < length xs → take (i + 1) xs ≡ take i xs ++ slice_index_or xs i d ∷ []
+taken_next xs i d l = take_more xs i d l
+
+joined : (a b : Bool) → a ≡ true → b ≡ true → a && b ≡ true
+joined true b h i = i
+joined false b h i = cc
+
+same_test : (n : ℕ) → n == n ≡ true
+same_test n = grind (arith, nat_tests)
+
+-- an optional link has the node of its name in its source
+pub optional_node : (t : Tables) → AreTables t → (k : ℕ) (link : LinkTable) → IsLink t k link → IsTrue (has_declaration Optional link) → (n : ℕ) × NodeAt t n link.from (optional link.name)
+optional_node t tables k link is o =
+    let table = element_within t.packages link.from (tables.ends k link is).0 in
+    let test : LinkTable → Bool = λ l. (link.from == l.from) && bytes_eq link.name l.name && list_any (λ d. d.optional) l.declarations in
+    let passes : IsTrue (test link) = joined ((link.from == link.from) && bytes_eq link.name link.name) (list_any (λ d. d.optional) link.declarations) (joined (link.from == link.from) (bytes_eq link.name link.name) (same_test link.from) ((bytes_decides link.name link.name).1 refl)) o in
+    let has : IsTrue (has_name link.name table.0.optional_names) = tables.optional link.from table.0 link.name table.1 ∙ list_any_there test t.links k link is passes in
+    let found = list_any_back (bytes_eq link.name) table.0.optional_names has in
+    let same : found.element ≡ link.name = sym ((bytes_decides link.name found.element).0 found.passes) in
+    let at : slice_get table.0.optional_names found.place ≡ Some link.name = found.there ∙ ap Some same in
+    (first_node t link.from + suc (length table.0.features + found.place), node_there t link.from (suc (length table.0.features + found.place)) table.0 (optional link.name) table.1 (optional_label table.0 found.place link.name at))
+
+six_over : (b : Bool) → ◌≡◌ {A = ℕ} (cond b 6 4) 6 → b ≡ true
+six_over true h = refl
+six_over false h = absurd (omega arith)
+
+second_true : (a b : Bool) → a && b ≡ true → b ≡ true
+second_true true b h = h
+second_true false b h = cc
+
+module _ (t : Tables) (x : Key) (six : x.rank ≡ 6) where
+  other_rank : (u w rank source place : ℕ) → x ≡ key u w rank source place → (rank ≡ 6 → ⊥) → IsOptionalLink t x.source
+  other_rank u w rank source place e not_six = absurd (not_six (sym (ap (λ z. z.rank) e) ∙ six))
+
+  of_over : (u w k : ℕ) (weak : Bool) (link : LinkTable) → IsLink t k link → x ≡ key u w (over_rank weak link) k 0 → IsOptionalLink t x.source
+  of_over u w k weak link is e =
+      let both : weak && has_declaration Optional link ≡ true = six_over (weak && has_declaration Optional link) (sym (ap (λ z. z.rank) e) ∙ six) in
+      subst (λ z. IsOptionalLink t z) (sym (ap (λ z. z.source) e)) (record { link = link; is_link = is; is_optional = second_true weak (has_declaration Optional link) both })
+
+  of_item : (u p : ℕ) (f : Text) (item : Item) → IsOfItem t u p f item x → IsOptionalLink t x.source
+  of_item u p f (feature_item g) h = other_rank u h.1.0 2 0 0 h.1.2 (λ i. omega arith)
+  of_item u p f (optional_item d) h = other_rank u h.0 3 0 0 h.2 (λ i. omega arith)
+  of_item u p f (slash_item d g weak) h = ⊎_elim
+      (λ o. of_over u o.1.4.0 o.0 weak o.1.0 o.1.1 o.1.4.2)
+      (λ o. ⊎_elim
+      (λ i. other_rank u i.0 5 0 0 i.2 (λ j. omega arith))
+      (λ i. other_rank u i.2.0 5 0 0 i.2.2 (λ j. omega arith))
+      o.1)
+      h
+
+  of_package : (p : ℕ) → IsOfPackageAt t p x → IsOptionalLink t x.source
+  of_package p h = ⊎_elim
+      (λ b. other_rank (first_node t p + b.0) (first_node t p) 1 0 0 b.2.1 (λ i. omega arith))
+      (λ b. of_item (first_node t p + 1 + b.0) p b.1.0.name (item_of b.1.2.1.0) b.1.2.1.2)
+      h.2
+
+  of_link : (k : ℕ) → IsOfLinkAt t k x → IsOptionalLink t x.source
+  of_link k h =
+      let d = h.2.1 in
+      let to = d.2.2.2 in
+      other_rank d.2.0 to.0 7 k h.2.0 to.2 (λ i. omega arith)
+
+  -- the key of a weak edge names an optional link
+  pub weak_is_optional : IsOfTables t x → IsOptionalLink t x.source
+  weak_is_optional h = ⊎_elim (λ i. of_package i.0 i.1) (λ i. of_link i.0 i.1) h
+
+-- where keys are told their weak links, those are the weak links of the edges
+pub weak_links_told : (say : Key → Edge) (keys : List Key) → ((x : Key) → Contains keys x → weak_link (say x) ≡ weak_source x) → weak_links (told_edges say keys) ≡ first_ones (weak_sources keys)
+weak_links_told say keys says = ap first_ones (alike keys says)
+  where
+    alike : (xs : List Key) → ((x : Key) → Contains xs x → weak_link (say x) ≡ weak_source x) → filter_map (λ e. weak_link e.2) (told_edges say xs) ≡ weak_sources xs
+    alike [] says = refl
+    alike (x ∷ xs) says =
+        filter_map-append (λ e. weak_link e.2) (told_edges say (x ∷ [])) (told_edges say xs)
+        ∙ ap (λ z. filter_map (λ y. z) (x ∷ []) ++ filter_map (λ e. weak_link e.2) (told_edges say xs)) (says x (Contains-first x xs))
+        ∙ ap (λ z. weak_sources (x ∷ []) ++ z) (alike xs (λ y c. says y (Contains-later x xs y c)))
+        ∙ sym (filter_map-append weak_source (x ∷ []) xs)

@@ -1,0 +1,259 @@
+//! The edges of a graph, made of the least keys.
+ghost use Rattle.std.specs.Prelude.{◌≡◌, ◌==◌, ◌<◌, ◌⊎◌, ℕ, AllPairs, IfOk, List, Some, length, map, position, slice_get};
+ghost use Rattle.std.specs.Option.{option_map_or};
+ghost use Rattle.indexmap.specs.IndexMap.{keys};
+ghost use Rattle.std.specs.List.{dedup};
+ghost use Rattle.std.proofs.Common.{eqb};
+ghost use Rattle.guppy_packages.specs.Rows.{Text};
+ghost use Rattle.feature_labels.specs.Names.LabelName.{base, named, optional};
+ghost use Rattle.feature_core.specs.declared.key.Key.{Key as KeyValue};
+ghost use Rattle.feature_core.specs.Candidates.{by_name};
+ghost use Rattle.feature_core.specs.Keys.{IsNoLater, IsRun};
+ghost use Rattle.feature_core.specs.Made.{IsMaterial, IsValueOf, AreValues};
+ghost use Rattle.feature_core.specs.Nodes.{NodeAt};
+ghost use Rattle.feature_core.specs.Parts.{IsOfTables};
+ghost use Rattle.feature_core.specs.Values.{link_facts, edge_facts};
+
+use crate::edge::{FeatureEdge, SlashForm, WeakIndex, WeakSlashImpl};
+use crate::key::{Key, run_of};
+use crate::link::ConditionalLinkImpl;
+use crate::link::building::{half_of, link_of, named_link, section_link};
+use crate::named_links::LinkGroups;
+use crate::numbers::label_at;
+use feature_labels::{FeatureLabel, LinkDeclarations};
+use guppy_packages::PackageGraph;
+use indexmap::IndexMap;
+use std::alloc::{AllocError, Global};
+
+/// What edges are made of: the tables, the first node of each package and the package of each node, the links of each
+/// package by name, the keys that declarations request, and the gate of each weak link.
+#[derive(Clone, Copy)]
+pub(crate) struct Material<'a, 'g> {
+    pub(crate) graph: &'g PackageGraph,
+    pub(crate) firsts: &'a [usize],
+    pub(crate) packages: &'a [usize],
+    pub(crate) groups: &'a LinkGroups<'g>,
+    pub(crate) sections: &'a [Key],
+    pub(crate) weak: &'a IndexMap<usize, usize>,
+}
+
+/// The name of a node that is no base.
+fn name_at<'g>(material: Material<'_, 'g>, ix: usize) -> &'g str
+    requires material { IsMaterial material }
+    requires named { (p : ℕ) × (d : Text) × (NodeAt material.graph.now ix p (optional d) ⊎ NodeAt material.graph.now ix p (named d)) }
+    ensures { (p : ℕ) (d : Text) → NodeAt material.entry.graph.now ix p (optional d) ⊎ NodeAt material.entry.graph.now ix p (named d) → result.now ≡ d }
+{
+    match label_at(material.graph, material.firsts, material.packages, ix) {
+        FeatureLabel::Base => unreachable!(),
+        FeatureLabel::Named(name) | FeatureLabel::OptionalDependency(name) => name,
+    }
+}
+
+/// The union of the links of a package under the name of one of its nodes.
+fn link_to(
+    alloc: Global,
+    material: Material<'_, '_>,
+    ix: usize,
+    which: LinkDeclarations,
+) -> Result<ConditionalLinkImpl, AllocError>
+    requires material { IsMaterial material }
+    requires named { (p : ℕ) × (d : Text) × (NodeAt material.graph.now ix p (optional d) ⊎ NodeAt material.graph.now ix p (named d)) }
+    ensures { IfOk result (λ l. (p : ℕ) (d : Text) → NodeAt material.entry.graph.now ix p (optional d) ⊎ NodeAt material.entry.graph.now ix p (named d) → link_facts l ≡ by_name material.entry.graph.now p which d) }
+{
+    let name = name_at(material, ix);
+    let package_ix = material.packages[ix];
+    let link = named_link(
+        alloc,
+        material.graph,
+        material.groups,
+        package_ix,
+        name,
+        which,
+    )?;
+    Ok(link)
+}
+
+/// The places that keys tell.
+fn places_of(alloc: Global, keys: &[Key]) -> Result<Vec<usize>, AllocError>
+    ensures { IfOk result (λ places. places.items ≡ map (λ y. y.place) keys.now) }
+{
+    keys.iter().map(|key| key.place).collect(alloc)
+}
+
+/// The places of the declarations that request a pair of nodes, ascending.
+fn places_at(
+    alloc: Global,
+    sections: &[Key],
+    from: usize,
+    to: usize,
+) -> Result<Vec<usize>, AllocError>
+    requires { AllPairs IsNoLater sections.now }
+    ensures { IfOk result (λ places. (run : List KeyValue) × IsRun sections.now from to run × (places.items ≡ dedup eqb (map (λ y. y.place) run))) }
+{
+    let mut places = places_of(alloc, run_of(sections, from, to))?;
+    places.dedup();
+    Ok(places)
+}
+
+/// The declarations of a link that lead from one of its source's nodes: from the base the required ones, from an
+/// optional dependency the optional ones.
+fn half_from(material: Material<'_, '_>, ix: usize) -> LinkDeclarations
+    requires material { IsMaterial material }
+    requires node { ix < length material.packages.now }
+    ensures required { (p : ℕ) → NodeAt material.entry.graph.now ix p base → result ≡ LinkDeclarations.Required }
+    ensures optional { (p : ℕ) (d : Text) → NodeAt material.entry.graph.now ix p (optional d) → result ≡ LinkDeclarations.Optional }
+{
+    match label_at(material.graph, material.firsts, material.packages, ix) {
+        FeatureLabel::Base => LinkDeclarations::Required,
+        FeatureLabel::Named(_) | FeatureLabel::OptionalDependency(_) => LinkDeclarations::Optional,
+    }
+}
+
+/// The number of a package link among the weak links.
+fn index_in(weak: &IndexMap<usize, usize>, link_ix: usize) -> WeakIndex
+    ensures { result.0 ≡ option_map_or (λ i. i) (position (λ j. link_ix == j) (keys weak.now)) 0 }
+{
+    match weak.get_index_of(&link_ix) {
+        Some(index) => WeakIndex::new(index),
+        None => WeakIndex::new(0),
+    }
+}
+
+/// The edge over the link of a `dep:` item.
+fn colon_edge(
+    alloc: Global,
+    material: Material<'_, '_>,
+    key: Key,
+) -> Result<FeatureEdge, AllocError>
+    requires material { IsMaterial material }
+    requires of_tables { IsOfTables material.graph.now key }
+    requires rank { key.rank ≡ 3 }
+    ensures { IfOk result (λ edge. (weak : List ℕ) → IsValueOf material.entry.graph.now weak key (edge_facts edge)) }
+{
+    material.graph.facts();
+    let link = link_to(alloc, material, key.to, LinkDeclarations::Unsplit)?;
+    Ok(FeatureEdge::NamedFeatureDepColon(link))
+}
+
+/// The edge of a strong item to an optional dependency, and to the feature of its name.
+fn beside_edge(
+    alloc: Global,
+    material: Material<'_, '_>,
+    key: Key,
+) -> Result<FeatureEdge, AllocError>
+    requires material { IsMaterial material }
+    requires of_tables { IsOfTables material.graph.now key }
+    requires rank { key.rank ≡ 5 }
+    ensures { IfOk result (λ edge. (weak : List ℕ) → IsValueOf material.entry.graph.now weak key (edge_facts edge)) }
+{
+    material.graph.facts();
+    let link = link_to(alloc, material, key.to, LinkDeclarations::Optional)?;
+    Ok(FeatureEdge::NamedFeatureWithSlash {
+        link,
+        slash: SlashForm::Strong,
+    })
+}
+
+/// The edge of a strong item over a package link.
+fn full_edge(alloc: Global, material: Material<'_, '_>, key: Key) -> Result<FeatureEdge, AllocError>
+    requires material { IsMaterial material }
+    requires of_tables { IsOfTables material.graph.now key }
+    requires rank { key.rank ≡ 4 }
+    ensures { IfOk result (λ edge. (weak : List ℕ) → IsValueOf material.entry.graph.now weak key (edge_facts edge)) }
+{
+    material.graph.facts();
+    let link = link_of(alloc, material.graph, key.source, LinkDeclarations::Unsplit)?;
+    Ok(FeatureEdge::NamedFeatureWithSlash {
+        link,
+        slash: SlashForm::Strong,
+    })
+}
+
+/// The edge of a weak item over a package link.
+fn weak_edge(alloc: Global, material: Material<'_, '_>, key: Key) -> Result<FeatureEdge, AllocError>
+    requires material { IsMaterial material }
+    requires of_tables { IsOfTables material.graph.now key }
+    requires rank { key.rank ≡ 6 }
+    ensures { IfOk result (λ edge. IsValueOf material.entry.graph.now (keys material.entry.weak.now) key (edge_facts edge)) }
+{
+    material.graph.facts();
+    let link = link_of(alloc, material.graph, key.source, LinkDeclarations::Unsplit)?;
+    let required = half_of(
+        alloc,
+        material.graph,
+        key.source,
+        LinkDeclarations::Required,
+    )?;
+    let optional = half_of(
+        alloc,
+        material.graph,
+        key.source,
+        LinkDeclarations::Optional,
+    )?;
+    let index = index_in(material.weak, key.source);
+    let weak = Box::new(alloc, WeakSlashImpl::new(required, optional, index))?;
+    Ok(FeatureEdge::NamedFeatureWithSlash {
+        link,
+        slash: SlashForm::Weak(weak),
+    })
+}
+
+/// The edge of the declarations that request a pair of nodes.
+fn section_edge(
+    alloc: Global,
+    material: Material<'_, '_>,
+    key: Key,
+) -> Result<FeatureEdge, AllocError>
+    requires material { IsMaterial material }
+    requires of_tables { IsOfTables material.graph.now key }
+    requires rank { key.rank ≡ 7 }
+    ensures { IfOk result (λ edge. (weak : List ℕ) → IsValueOf material.entry.graph.now weak key (edge_facts edge)) }
+{
+    material.graph.facts();
+    let which = half_from(material, key.from);
+    let places = places_at(alloc, material.sections, key.from, key.to)?;
+    let link = section_link(alloc, material.graph, key.source, which, &places)?;
+    Ok(FeatureEdge::DependenciesSection(link))
+}
+
+/// The edge of a key.
+fn edge_of(alloc: Global, material: Material<'_, '_>, key: Key) -> Result<FeatureEdge, AllocError>
+    requires material { IsMaterial material }
+    requires of_tables { IsOfTables material.graph.now key }
+    ensures { IfOk result (λ edge. IsValueOf material.entry.graph.now (keys material.entry.weak.now) key (edge_facts edge)) }
+{
+    material.graph.facts();
+    if key.rank == 1 {
+        Ok(FeatureEdge::FeatureToBase)
+    } else if key.rank == 2 {
+        Ok(FeatureEdge::NamedFeature)
+    } else if key.rank == 3 {
+        colon_edge(alloc, material, key)
+    } else if key.rank == 4 {
+        full_edge(alloc, material, key)
+    } else if key.rank == 5 {
+        beside_edge(alloc, material, key)
+    } else if key.rank == 6 {
+        weak_edge(alloc, material, key)
+    } else {
+        section_edge(alloc, material, key)
+    }
+}
+
+/// The edges of keys.
+pub(crate) fn edges_of(
+    alloc: Global,
+    material: Material<'_, '_>,
+    kept: &[Key],
+) -> Result<Vec<FeatureEdge>, AllocError>
+    requires material { IsMaterial material }
+    requires of_tables { (i : ℕ) (x : KeyValue) → slice_get kept.now i ≡ Some x → IsOfTables material.graph.now x }
+    ensures { IfOk result (λ edges. AreValues material.entry.graph.now (keys material.entry.weak.now) kept.now (map edge_facts edges.items)) }
+{
+    let mut edges = Vec::with_capacity(alloc, kept.len())?;
+    for ix in 0..kept.len() {
+        let edge = edge_of(alloc, material, kept[ix])?;
+        edges.push(edge)?;
+    }
+    Ok(edges)
+}
