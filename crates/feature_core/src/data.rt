@@ -6,6 +6,7 @@ ghost use Rattle.feature_core.specs.Nodes.{NodeAt, nodes, first_node, first_node
 ghost use Rattle.guppy_support.specs.Bits.{has};
 ghost use Rattle.feature_core.specs.Pairs.{PairLeads, ReachAlong};
 ghost use Rattle.feature_core.specs.Built.{IsBuilt, NodeNamed, ends_of, end_of};
+ghost use Rattle.feature_core.specs.Values.{edge_facts};
 ghost use Rattle.feature_core.specs.Warnings.{warning_of};
 ghost use Rattle.feature_core.specs.Ways.{content};
 
@@ -146,6 +147,32 @@ impl FeatureGraphData {
         ensures { result ≡ length self.now.edges }
     {
         self.digraph.edge_count()
+    }
+
+    /// The edges as a digraph of the nodes. An edge counts as dev-only there where it is conditional, and its link is
+    /// neither for normal use nor for builds.
+    pub fn digraph(&self) -> &Digraph
+        ensures nodes { result.now.nodes ≡ length self.now.packages }
+        ensures edges { result.now.edges ≡ map end_of self.now.edges }
+    {
+        &self.digraph
+    }
+
+    /// The two nodes of an edge, and what it says.
+    pub fn edge(&self, number: usize) -> (usize, usize, &FeatureEdge)
+        requires { number < length self.now.edges }
+        ensures { slice_get self.now.edges number ≡ Some (result.0, result.1, edge_facts result.2.now) }
+    {
+        let ends = self.digraph.edge(number);
+        (ends.from, ends.to, &self.edges[number])
+    }
+
+    /// The weak links, by index: the package link that weak edges name, and the node on whose being reached their
+    /// optional halves wait.
+    pub fn weak_links(&self) -> &IndexMap<usize, usize>
+        ensures { result.now.entries ≡ self.now.weak }
+    {
+        &self.weak
     }
 
     /// The number of a node's package.

@@ -1,12 +1,12 @@
 -- What was built of tables, from the mere fact that it was.
 use Rattle.std.proofs.Common.{◌≡◌, ℕ, ◌+◌, ◌<◌, List, [], ◌∷◌, length, map, refl, ap, sym, ◌∙◌, subst, length-append}
 use Rattle.std.specs.Prelude.{Contains, flat_map}
-use Rattle.std.proofs.Math.Logic.{∥∥₁_map}
+use Rattle.std.proofs.Math.Logic.{∥∥₁_map, ∥∥₁_elim, ∥∥₁_prop}
 use Rattle.std.proofs.Common.{ltb}
 use Rattle.std.proofs.lemmas.Bool.Decides.{Decides-ltb}
 use Rattle.std.proofs.lemmas.List.{length-map}
 use Rattle.guppy_packages.specs.Tables.{Tables}
-use Rattle.feature_core.specs.Built.{Built, IsBuilt}
+use Rattle.feature_core.specs.Built.{Built, IsBuilt, ends_of}
 use Rattle.feature_core.specs.Nodes.{labels_of, spread, nodes, node_places, node_packages, first_nodes}
 use Rattle.feature_core.specs.Pairs.{IsBefore}
 use Rattle.feature_core.specs.Warnings.{warnings}
@@ -38,9 +38,10 @@ built_given t b h = record {
     ascends = λ i j d p q. decided_given (before_decided _ _) (∥∥₁_map h (λ z. z.pairs.ascends i j d p q));
     exact = λ u w. (
       (λ c. decided_given (candidate_decided t u w) (∥∥₁_map h (λ z. (z.pairs.exact u w).0 c))),
-      (λ c. decided_given (contains_decided b.pairs (u, w)) (∥∥₁_map h (λ z. (z.pairs.exact u w).1 c))),
+      (λ c. decided_given (contains_decided (ends_of b.edges) (u, w)) (∥∥₁_map h (λ z. (z.pairs.exact u w).1 c))),
     );
   };
+  edges = ∥∥₁_elim h ∥∥₁_prop (λ z. z.edges);
   warnings = decided_given (warnings_decided b.warnings (warnings t)) (∥∥₁_map h (λ z. z.warnings));
 }
 
