@@ -1,13 +1,13 @@
-//! Tests that cross the crates: small row files, and what the program answers for them; walks over graphs that are
-//! written down, and a judge of their runs.
+//! Tests that cross the crates: small row files, and what the program answers for them; walks over small graphs, and a
+//! judge of their runs.
 #![tactic(auto)]
 
 #[cfg(test)]
 mod fixtures;
 #[cfg(test)]
-mod judge;
+mod graphs;
 #[cfg(test)]
-mod listed;
+mod judge;
 #[cfg(test)]
 mod program;
 #[cfg(test)]

@@ -1,10 +1,14 @@
-//! Walks over graphs that are written down, judged.
-ghost use Rattle.std.specs.Prelude.{◌≡◌, ◌<◌, ◌≤◌, IfOk, length};
-ghost use Rattle.feature_core.specs.declared.engine.Half.{Half};
+//! Walks over small graphs, judged by edges that were worked out by hand.
+ghost use Rattle.std.specs.Prelude.{◌≡◌, IfOk, length};
 
-use crate::judge::{Call, Graph, Way, is_complete, is_due, is_legal, is_marked, least, reached};
-use crate::listed::{Listed, are_within};
-use feature_core::engine::{Ask, Half, Offerer, walk_over};
+use crate::graphs::{Example, both_halves, circle_through_gate, optional_and_weak, two_weak_items};
+use crate::judge::{
+    Call, Graph, Way, is_complete, is_due, is_legal, is_marked, least, mark, reached,
+};
+use feature_core::engine::{Ask, EdgeSource, Half, Offerer, Taken, walk_over};
+use feature_core::{FeatureGraphData, Packed, walk};
+use guppy_packages::DependencyDirection::{Forward, Reverse};
+use guppy_packages::{DependencyDirection, PackageGraph};
 use guppy_support::IxBitSet;
 use std::alloc::{AllocError, Global};
 use std::process::Abort;
@@ -95,12 +99,39 @@ fn accepted_in(alloc: Global, run: &[Call]) -> Result<Vec<(usize, Half)>, AllocE
     Ok(offers)
 }
 
-/// The set of the initial nodes.
-fn initial_set(alloc: Global, graph: Graph<'_>) -> Result<IxBitSet, AllocError>
-    ensures { IfOk result (λ set. length set ≡ graph.nodes) }
+/// A source that marks the starts and gates that it is asked for.
+#[derive(Drop)]
+struct Noting<'a> {
+    source: Packed<'a>,
+    asked: IxBitSet,
+}
+
+impl EdgeSource for Noting<'_> {
+    ghost content = { λ s. s.source.holds };
+
+    ghost reads = { λ s. s.source.reads };
+
+    fn edge_count(&self) -> usize {
+        self.source.edge_count()
+    }
+
+    fn take(&mut self, start: usize, place: usize) -> Option<Taken> {
+        mark(&mut self.asked, start);
+        self.source.take(start, place)
+    }
+
+    fn release(&mut self, gate: usize, place: usize) -> Option<Taken> {
+        mark(&mut self.asked, gate);
+        self.source.release(gate, place)
+    }
+}
+
+/// The set of these nodes.
+fn set_of(alloc: Global, size: usize, nodes: &[usize]) -> Result<IxBitSet, AllocError>
+    ensures { IfOk result (λ set. length set ≡ size) }
 {
-    let mut set = IxBitSet::empty(alloc, graph.nodes)?;
-    for node in graph.initials {
+    let mut set = IxBitSet::empty(alloc, size)?;
+    for node in nodes {
         if *node < set.size() {
             set.insert(*node);
         }
@@ -108,111 +139,19 @@ fn initial_set(alloc: Global, graph: Graph<'_>) -> Result<IxBitSet, AllocError>
     Ok(set)
 }
 
-/// The walk over the graph, judged: a complete legal run, whose members are those that it reached, the least set for the
-/// offers that it accepted, and all that the source was asked for.
-fn judged(
-    rt: &impl Abort,
+/// The edges as the direction follows them. In reverse no half waits.
+fn followed(
     alloc: Global,
-    graph: Graph<'_>,
-    accepts: Accepts<'_>,
-) -> Result<Walked, Fail> {
-    let initials = initial_set(alloc, graph)?;
-    let ways = graph.ways.to_vec(alloc)?;
-    assert!(rt; are_within(graph.nodes, &ways));
-    let mut source = Listed {
-        nodes: graph.nodes,
-        ways,
-        asked: IxBitSet::empty(alloc, graph.nodes)?,
-        reads: 0,
-    };
-    let mut writer = Writer::new(accepts);
-    let walk = walk_over(alloc, &mut source, &initials, &mut writer)?;
-    let run = writer.run(alloc)?;
-    let members = walk.members;
-    assert!(rt; is_legal(alloc, graph, &run)?);
-    assert!(rt; is_complete(alloc, graph, &run)?);
-    assert!(rt; are_same(&members, &reached(alloc, graph, &run)?, graph.nodes));
-    let accepted = accepted_in(alloc, &run)?;
-    assert!(rt; are_same(&members, &least(alloc, graph, &accepted)?, graph.nodes));
-    assert!(rt; source.asked.ones().all(|node| is_marked(&members, node)));
-    Ok(Walked {
-        members,
-        run,
-        reads: source.reads,
-    })
+    direction: DependencyDirection,
+    ways: &[Way],
+) -> Result<Vec<Way>, AllocError> {
+    match direction {
+        DependencyDirection::Forward => ways.to_vec(alloc),
+        DependencyDirection::Reverse => reversed(alloc, ways),
+    }
 }
 
-const OPTIONAL: Ask = Ask::Weak {
-    required: false,
-    gated: true,
-};
-
-const BOTH: Ask = Ask::Weak {
-    required: true,
-    gated: true,
-};
-
-/// A feature, 2, that turns on a feature, 6, of an optional dependency, 4, which another feature, 1, enables.
-const OPTIONAL_AND_WEAK: [Way; 9] = [
-    (1, 0, Ask::Nobody, 0),
-    (1, 3, Ask::Nobody, 0),
-    (1, 4, Ask::Full, 0),
-    (2, 0, Ask::Nobody, 0),
-    (2, 6, OPTIONAL, 4),
-    (3, 0, Ask::Nobody, 0),
-    (4, 0, Ask::Nobody, 0),
-    (4, 5, Ask::Full, 0),
-    (6, 5, Ask::Nobody, 0),
-];
-
-/// A feature, 1, that turns on a feature, 4, of a dependency that is required for one kind and optional, 2, for another.
-const BOTH_HALVES: [Way; 6] = [
-    (0, 3, Ask::Full, 0),
-    (1, 0, Ask::Nobody, 0),
-    (1, 4, BOTH, 2),
-    (2, 0, Ask::Nobody, 0),
-    (2, 3, Ask::Full, 0),
-    (4, 3, Ask::Nobody, 0),
-];
-
-/// The first graph, where the dependency's base, 5, leads back to the feature that enables it.
-const CIRCLE_THROUGH_GATE: [Way; 11] = [
-    (1, 0, Ask::Nobody, 0),
-    (1, 3, Ask::Nobody, 0),
-    (1, 4, Ask::Full, 0),
-    (2, 0, Ask::Nobody, 0),
-    (2, 6, OPTIONAL, 4),
-    (3, 0, Ask::Nobody, 0),
-    (4, 0, Ask::Nobody, 0),
-    (4, 5, Ask::Full, 0),
-    (5, 0, Ask::Full, 0),
-    (5, 1, Ask::Full, 0),
-    (6, 5, Ask::Nobody, 0),
-];
-
-/// A feature, 1, that turns on features, 7 and 9, of two optional dependencies, 4 and 5, of which each leads to what
-/// enables the other.
-const TWO_WEAK_ITEMS: [Way; 17] = [
-    (1, 0, Ask::Nobody, 0),
-    (1, 7, OPTIONAL, 4),
-    (1, 9, OPTIONAL, 5),
-    (2, 0, Ask::Nobody, 0),
-    (2, 4, Ask::Full, 0),
-    (3, 0, Ask::Nobody, 0),
-    (3, 5, Ask::Full, 0),
-    (4, 0, Ask::Nobody, 0),
-    (4, 6, Ask::Full, 0),
-    (5, 0, Ask::Nobody, 0),
-    (5, 8, Ask::Full, 0),
-    (6, 0, Ask::Full, 0),
-    (6, 3, Ask::Full, 0),
-    (7, 6, Ask::Nobody, 0),
-    (8, 0, Ask::Full, 0),
-    (8, 2, Ask::Full, 0),
-    (9, 8, Ask::Nobody, 0),
-];
-
-/// The same edges from their far ends to their starts. No half waits.
+/// The edges from their far ends to their starts.
 fn reversed(alloc: Global, ways: &[Way]) -> Result<Vec<Way>, AllocError> {
     let mut reversed = Vec::new(alloc);
     for way in ways {
@@ -227,6 +166,66 @@ fn reversed(alloc: Global, ways: &[Way]) -> Result<Vec<Way>, AllocError> {
         reversed.push((way.1, way.0, ask, 0))?;
     }
     Ok(reversed)
+}
+
+/// Whether the run is complete and legal, and these are the nodes that it reached, and the least set for the offers
+/// that it accepted.
+fn is_right(
+    alloc: Global,
+    graph: Graph<'_>,
+    run: &[Call],
+    members: &IxBitSet,
+) -> Result<bool, AllocError> {
+    let ends = reached(alloc, graph, run)?;
+    let accepted = accepted_in(alloc, run)?;
+    let closed = least(alloc, graph, &accepted)?;
+    Ok(
+        is_legal(alloc, graph, run)?
+            && is_complete(alloc, graph, run)?
+            && are_same(members, &ends, graph.nodes)
+            && are_same(members, &closed, graph.nodes),
+    )
+}
+
+/// The walk from these nodes, judged. It reads at members alone.
+fn judged(
+    rt: &impl Abort,
+    alloc: Global,
+    example: &Example,
+    direction: DependencyDirection,
+    initials: &[usize],
+    accepts: Accepts<'_>,
+) -> Result<Walked, Fail> {
+    let packages = PackageGraph::from_rows(alloc, &example.rows)?;
+    let built = FeatureGraphData::build(alloc, &packages, 0)?;
+    let begin = set_of(alloc, built.node_count(), initials)?;
+    let mut source = Noting {
+        source: Packed::new(&built, direction),
+        asked: IxBitSet::empty(alloc, built.node_count())?,
+    };
+    let mut writer = Writer::new(accepts);
+    let noted = walk_over(alloc, &mut source, &begin, &mut writer)?;
+    let run = writer.run(alloc)?;
+    let ways = followed(alloc, direction, &example.ways)?;
+    let graph = Graph {
+        nodes: example.nodes,
+        ways: &ways,
+        initials,
+    };
+    assert!(rt; is_right(alloc, graph, &run, &noted.members)?);
+    assert!(rt;
+        source
+            .asked
+            .ones()
+            .all(|node| is_marked(&noted.members, node))
+    );
+    let again = walk(alloc, &built, direction, &begin, &mut Writer::new(accepts))?;
+    assert!(rt; are_same(&again.members, &noted.members, example.nodes));
+    Ok(Walked {
+        members: noted.members,
+        run,
+        reads: source.source.reads(),
+    })
 }
 
 /// The members as a list, beside what was offered, in order.
@@ -256,91 +255,52 @@ fn expect(
 #[test]
 fn optional_half_waits(rt: HostRuntime) -> Result<(), Fail> {
     let alloc = rt.alloc();
-    let graph = Graph {
-        nodes: 7,
-        ways: &OPTIONAL_AND_WEAK,
-        initials: &[0, 1, 2],
-    };
-    let all = judged(&rt, alloc, graph, Accepts::First(9))?;
+    let example = optional_and_weak(alloc)?;
+    let from = [0, 1, 2];
+    let all = judged(&rt, alloc, &example, Forward, &from, Accepts::First(9))?;
     expect(&rt, alloc, &all, &[0, 1, 2, 3, 4, 5, 6], 3)?;
     assert!(rt; 9 <= all.reads && all.reads <= 24);
-    let none = judged(&rt, alloc, graph, Accepts::First(0))?;
+    let none = judged(&rt, alloc, &example, Forward, &from, Accepts::First(0))?;
     expect(&rt, alloc, &none, &[0, 1, 2, 3], 1)?;
-    let _one = judged(&rt, alloc, graph, Accepts::First(1))?;
-    let _two = judged(&rt, alloc, graph, Accepts::First(2))?;
-
-    let closed = Graph {
-        nodes: 7,
-        ways: &OPTIONAL_AND_WEAK,
-        initials: &[0, 2],
-    };
-    let few = judged(&rt, alloc, closed, Accepts::First(9))?;
+    let _one = judged(&rt, alloc, &example, Forward, &from, Accepts::First(1))?;
+    let _two = judged(&rt, alloc, &example, Forward, &from, Accepts::First(2))?;
+    let few = judged(&rt, alloc, &example, Forward, &[0, 2], Accepts::First(9))?;
     expect(&rt, alloc, &few, &[0, 2], 0)?;
     assert!(rt; 2 <= few.reads && few.reads <= 6);
-
-    let back = reversed(alloc, &OPTIONAL_AND_WEAK)?;
-    let reverse = Graph {
-        nodes: 7,
-        ways: &back,
-        initials: &[6],
-    };
-    let one = judged(&rt, alloc, reverse, Accepts::First(9))?;
-    expect(&rt, alloc, &one, &[2, 6], 1)?;
-    assert!(rt; 1 <= one.reads && one.reads <= 5);
+    let back = judged(&rt, alloc, &example, Reverse, &[6], Accepts::First(9))?;
+    expect(&rt, alloc, &back, &[2, 6], 1)?;
+    assert!(rt; 1 <= back.reads && back.reads <= 5);
     Ok(())
 }
 
 #[test]
-fn both_halves(rt: HostRuntime) -> Result<(), Fail> {
+fn halves_in_turn(rt: HostRuntime) -> Result<(), Fail> {
     let alloc = rt.alloc();
-    let graph = Graph {
-        nodes: 5,
-        ways: &BOTH_HALVES,
-        initials: &[1, 2],
-    };
-    let all = judged(&rt, alloc, graph, Accepts::First(9))?;
+    let example = both_halves(alloc)?;
+    let all = judged(&rt, alloc, &example, Forward, &[1, 2], Accepts::First(9))?;
     expect(&rt, alloc, &all, &[0, 1, 2, 3, 4], 4)?;
-
-    let back = reversed(alloc, &BOTH_HALVES)?;
-    let reverse = Graph {
-        nodes: 5,
-        ways: &back,
-        initials: &[4],
-    };
-    let two = judged(&rt, alloc, reverse, Accepts::First(9))?;
-    let (members, offers) = listed(alloc, &two)?;
+    let back = judged(&rt, alloc, &example, Reverse, &[4], Accepts::First(9))?;
+    let (members, offers) = listed(alloc, &back)?;
     assert_eq!(rt; members.as_slice(), [1, 4].as_slice());
     assert_eq!(rt;
         offers.as_slice(),
         [(2, Half::Required), (2, Half::Optional)].as_slice()
     );
+    let one = judged(&rt, alloc, &example, Forward, &[1], Accepts::First(1))?;
+    assert_eq!(rt; one.run.len(), 2);
     Ok(())
 }
 
 #[test]
 fn gates_in_circles(rt: HostRuntime) -> Result<(), Fail> {
     let alloc = rt.alloc();
-    let circle = Graph {
-        nodes: 7,
-        ways: &CIRCLE_THROUGH_GATE,
-        initials: &[2],
-    };
-    let closed = judged(&rt, alloc, circle, Accepts::First(11))?;
+    let circle = circle_through_gate(alloc)?;
+    let closed = judged(&rt, alloc, &circle, Forward, &[2], Accepts::First(11))?;
     expect(&rt, alloc, &closed, &[0, 2], 0)?;
-
-    let waiting = Graph {
-        nodes: 10,
-        ways: &TWO_WEAK_ITEMS,
-        initials: &[1],
-    };
-    let none = judged(&rt, alloc, waiting, Accepts::First(17))?;
+    let two = two_weak_items(alloc)?;
+    let none = judged(&rt, alloc, &two, Forward, &[1], Accepts::First(17))?;
     expect(&rt, alloc, &none, &[0, 1], 0)?;
-    let begun = Graph {
-        nodes: 10,
-        ways: &TWO_WEAK_ITEMS,
-        initials: &[1, 2],
-    };
-    let all = judged(&rt, alloc, begun, Accepts::First(17))?;
+    let all = judged(&rt, alloc, &two, Forward, &[1, 2], Accepts::First(17))?;
     expect(&rt, alloc, &all, &[0, 1, 2, 3, 4, 5, 6, 7, 8, 9], 10)?;
     Ok(())
 }
@@ -403,19 +363,20 @@ fn ordered(alloc: Global, number: usize) -> Result<Vec<(usize, Half)>, AllocErro
 #[test]
 fn all_runs_end_alike(rt: HostRuntime) -> Result<(), Fail> {
     let alloc = rt.alloc();
+    let example = both_halves(alloc)?;
     let graph = Graph {
-        nodes: 5,
-        ways: &BOTH_HALVES,
+        nodes: example.nodes,
+        ways: &example.ways,
         initials: &[1],
     };
     for choice in 0..16 {
         let accepted = chosen(alloc, choice)?;
-        let walked = judged(&rt, alloc, graph, Accepts::These(&accepted))?;
+        let accepts = Accepts::These(&accepted);
+        let walked = judged(&rt, alloc, &example, Forward, &[1], accepts)?;
         for number in 0..24 {
             let order = ordered(alloc, number)?;
             let run = run_in_order(alloc, graph, &order, &accepted)?;
-            assert!(rt; is_legal(alloc, graph, &run)? && is_complete(alloc, graph, &run)?);
-            assert!(rt; are_same(&walked.members, &reached(alloc, graph, &run)?, 5));
+            assert!(rt; is_right(alloc, graph, &run, &walked.members)?);
         }
     }
     Ok(())
@@ -424,9 +385,10 @@ fn all_runs_end_alike(rt: HostRuntime) -> Result<(), Fail> {
 #[test]
 fn judge_refuses(rt: HostRuntime) -> Result<(), Fail> {
     let alloc = rt.alloc();
+    let example = both_halves(alloc)?;
     let graph = Graph {
-        nodes: 5,
-        ways: &BOTH_HALVES,
+        nodes: example.nodes,
+        ways: &example.ways,
         initials: &[1, 2],
     };
     let full = Call {
