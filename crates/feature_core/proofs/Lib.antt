@@ -16,6 +16,9 @@ pub mod NodeLemmas
 pub mod LabelLemmas
 pub mod ReachLaws
 pub mod OpenWayLemmas
+pub mod Released
+pub mod ReleaseTables
+pub mod PackedLemmas
 pub mod NameLemmas
 pub mod GroupedLinks
 pub mod PushLemmas

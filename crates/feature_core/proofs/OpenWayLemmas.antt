@@ -46,7 +46,7 @@ asks_nobody Reverse e = refl
 way_edge : (direction : DependencyDirection) (g : Graph) (k : ℕ) (w : Way) → IsWay (open_ways direction g) k w → (e : Edge) × (slice_get g.edges k ≡ Some e) × (open_way direction e ≡ w)
 way_edge direction g k w is = got_map (open_way direction) (slice_get g.edges k) w (sym (slice_get-map (open_way direction) g.edges k) ∙ is)
 
-edge_way : (direction : DependencyDirection) (g : Graph) (k : ℕ) (e : Edge) → slice_get g.edges k ≡ Some e → IsWay (open_ways direction g) k (open_way direction e)
+pub edge_way : (direction : DependencyDirection) (g : Graph) (k : ℕ) (e : Edge) → slice_get g.edges k ≡ Some e → IsWay (open_ways direction g) k (open_way direction e)
 edge_way direction g k e is = slice_get-map (open_way direction) g.edges k ∙ ap (option_map (open_way direction)) is
 
 -- the number that is read at a place

@@ -13,6 +13,8 @@ pub mod Laws
 pub mod Listed
 pub mod WalkProgress
 pub mod OpenWays
+pub mod Ways
+pub mod Releases
 pub mod Errors
 pub mod Built
 pub mod NamedLinks

@@ -8,6 +8,7 @@ ghost use Rattle.feature_core.specs.Pairs.{PairLeads, ReachAlong};
 ghost use Rattle.feature_core.specs.Built.{IsBuilt, NodeNamed, ends_of, end_of};
 ghost use Rattle.feature_core.specs.Values.{edge_facts};
 ghost use Rattle.feature_core.specs.Warnings.{warning_of};
+ghost use Rattle.feature_core.specs.Ways.{content};
 
 #[cfg(test)]
 mod tests;
@@ -18,7 +19,9 @@ use crate::error::Error;
 use crate::named_links::named_links;
 use crate::nodes::{NodeTable, node_table};
 use crate::numbers::{Numbers, label_at};
+use crate::packed::Packed;
 use crate::reach::reach_all;
+use crate::releases::release_table;
 use crate::warning::{FeatureGraphWarning, warnings};
 use feature_labels::{FeatureId, FeatureLabel};
 use guppy_packages::{DependencyDirection, PackageGraph, PackageMetadata};
@@ -36,6 +39,7 @@ pub struct FeatureGraphData {
     digraph: Digraph,
     edges: Vec<FeatureEdge>,
     weak: IndexMap<usize, usize>,
+    released: Vec<(usize, usize)>,
     warnings: Vec<FeatureGraphWarning>,
 }
 
@@ -43,6 +47,7 @@ impl Model for FeatureGraphData {
     ghost use Rattle.std.specs.Prelude.{◌≡◌, length, map};
     ghost use Rattle.feature_core.specs.Built.{Built, built_edges, end_of};
     ghost use Rattle.feature_core.specs.Values.{edge_facts};
+    ghost use Rattle.feature_core.specs.Releases.{AreTied};
     ghost use Rattle.feature_core.specs.Warnings.{warnings_in};
 
     ghost Value = { Built };
@@ -52,7 +57,8 @@ impl Model for FeatureGraphData {
     ghost invariant = { λ d.
         (d.digraph.nodes ≡ length d.table.packages.items)
         × (length d.edges.items ≡ length d.digraph.edges)
-        × (d.digraph.edges ≡ map end_of (built_edges d.digraph.edges (map edge_facts d.edges.items))) };
+        × (d.digraph.edges ≡ map end_of (built_edges d.digraph.edges (map edge_facts d.edges.items)))
+        × AreTied d.digraph (map edge_facts d.edges.items) d.weak.entries d.released.items };
 }
 
 /// The numbers of the nodes in this table.
@@ -97,6 +103,7 @@ impl FeatureGraphData {
         let table = node_table(alloc, graph)?;
         let groups = named_links(alloc, graph)?;
         let edge_table = edge_table(alloc, numbers_in(graph, &table), &table, &groups)?;
+        let released = release_table(alloc, &edge_table.edges, &edge_table.weak)?;
         let warnings = warnings(alloc, graph, &groups)?;
         let EdgeTable {
             digraph,
@@ -109,6 +116,7 @@ impl FeatureGraphData {
             digraph,
             edges,
             weak,
+            released,
             warnings,
         })
     }
@@ -223,5 +231,18 @@ impl FeatureGraphData {
     {
         let set = reach_all(alloc, &self.digraph, direction, initials)?;
         Ok(set)
+    }
+
+    /// Its edges as a source of walks, as the direction follows them.
+    pub(crate) fn packed(&self, direction: DependencyDirection) -> Packed<'_>
+        ensures { result ≡ record { holds = content direction (length self.now.packages) self.now.edges self.now.weak; reads = 0 } }
+    {
+        Packed::over(
+            &self.digraph,
+            &self.edges,
+            &self.weak,
+            &self.released,
+            direction,
+        )
     }
 }

@@ -21,7 +21,7 @@ struct AllEdges<'a> {
 }
 
 /// The numbers of the edges that start at the node, as the direction follows them.
-fn edges_at(digraph: &Digraph, direction: DependencyDirection, node: usize) -> &[usize]
+pub(crate) fn edges_at(digraph: &Digraph, direction: DependencyDirection, node: usize) -> &[usize]
     requires { node < digraph.now.nodes }
     ensures { result.now ≡ starting (open_ways direction digraph.now) node }
 {
@@ -32,7 +32,7 @@ fn edges_at(digraph: &Digraph, direction: DependencyDirection, node: usize) -> &
 }
 
 /// The end of an edge that the direction leads to.
-fn far_end(direction: DependencyDirection, edge: Edge) -> usize
+pub(crate) fn far_end(direction: DependencyDirection, edge: Edge) -> usize
     ensures { result ≡ (open_way direction edge).far }
 {
     match direction {

@@ -1,7 +1,14 @@
-//! Tests that cross the crates: small row files, and what the program answers for them.
+//! Tests that cross the crates: small row files, and what the program answers for them; walks over small graphs, and a
+//! judge of their runs.
 #![tactic(auto)]
 
 #[cfg(test)]
 mod fixtures;
 #[cfg(test)]
+mod graphs;
+#[cfg(test)]
+mod judge;
+#[cfg(test)]
 mod program;
+#[cfg(test)]
+mod walks;

@@ -1,6 +1,6 @@
 //! The pairs of small graphs, as the tables of edges list them.
 use super::*;
-use crate::walk::walk_all;
+use crate::walks::walk_all;
 use guppy_packages::DependencyKind::{self, Build, Development, Normal};
 use guppy_packages::{PackageId, Row};
 use std::process::Abort;

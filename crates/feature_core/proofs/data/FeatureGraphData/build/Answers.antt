@@ -1,4 +1,8 @@
-use Rattle.std.proofs.Common.{◌≡◌, ◌∙◌, ap, sym, subst, List, ℕ, map}
+use Rattle.std.proofs.Common.{◌≡◌, ◌∙◌, refl, ap, sym, subst, List, ℕ, length, map}
+use Rattle.std.proofs.lemmas.Result.{err_from_is_err_and}
+use Rattle.feature_core.specs.Nodes.{node_packages}
+use Rattle.feature_core.specs.Releases.{AreReleases}
+use Rattle.feature_core.proofs.PackedLemmas.{built_gates}
 use Rattle.std.proofs.lemmas.List.{length-map}
 use Rattle.feature_core.specs.Built.{pairs_of, ends_of, built_edges}
 use Rattle.feature_core.specs.Edges.{AreBuilt}
@@ -21,3 +25,27 @@ returns-clause-built c =
       edges = ∣ subst (λ z. AreBuilt z (built_edges table.digraph.edges facts) table.weak.entries) c.numbers_in.ensures made.edges ∣₁;
       warnings = c.in_ok-warnings.ensures;
     }
+
+pub returns-in_err-released-clause-refused : goal.returns-in_err-released-clause-refused
+returns-in_err-released-clause-refused c = let p = err_from_is_err_and c.from_residual-in_err-released.result c.from_residual-in_err-released.ensures.1 in rw (p.1, p.2) refl
+
+pub returns-in_err-warnings-clause-refused : goal.returns-in_err-warnings-clause-refused
+returns-in_err-warnings-clause-refused c = let p = err_from_is_err_and c.from_residual-in_err-warnings.result c.from_residual-in_err-warnings.ensures.1 in rw (p.1, p.2) refl
+
+pub invariant_of-result : goal.invariant_of-result
+invariant_of-result c =
+    let t = c.args.graph.now in
+    let made = c.in_ok-edge_table.ensures in
+    let table = c.in_ok-edge_table.edge_table in
+    let facts = map edge_facts table.edges.items in
+    let built : AreBuilt t (built_edges table.digraph.edges facts) table.weak.entries = subst (λ z. AreBuilt z (built_edges table.digraph.edges facts) table.weak.entries) c.numbers_in.ensures made.edges in
+    let nodes : table.digraph.nodes ≡ length (node_packages t) = made.nodes ∙ ap length c.in_ok-table.ensures.packages in (
+      made.nodes,
+      made.long,
+      made.ends,
+      record {
+        each = length-map table.edges.items edge_facts ∙ made.long;
+        gates = built_gates t (built_edges table.digraph.edges facts) table.weak.entries table.digraph.nodes built nodes;
+        releases = subst (λ z. AreReleases (map edge_facts z) table.weak.entries c.in_ok-released.released.items) c.deref.ensures.value c.in_ok-released.ensures;
+      },
+    )

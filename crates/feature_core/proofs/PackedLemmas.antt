@@ -1,0 +1,193 @@
+-- The edges of a feature graph as ways.
+use Rattle.std.proofs.Common.{◌≡◌, ℕ, zero, suc, ◌+◌, ◌<◌, ◌≤◌, Bool, true, false, cond, ◌&&◌, inl, inr, List, [], ◌∷◌, ◌++◌, Option, Some, None, length, map, get_or, refl, sym, ◌∙◌, ap, subst, arith, add-one}
+use Rattle.std.specs.Prelude.{IsTrue, IsFalse, ◌==◌, slice_get, slice_index_or, filter, Contains, All, AllPairs}
+use Rattle.std.specs.Option.{option_map, option_map_or}
+use Rattle.std.proofs.lemmas.List.Elements.{All-contains, All-get_or}
+use Rattle.std.proofs.lemmas.List.{length-map}
+use Rattle.std.proofs.lemmas.Option.{slice_get-map, slice_get_within, get_or_from_slice_get, slice_get-get_or, slice_get_past}
+use Rattle.guppy_support.specs.declared.digraph.Edge.{Edge}
+use Rattle.guppy_support.specs.Graph.{Graph, IsDigraph}
+use Rattle.guppy_packages.specs.declared.direction.DependencyDirection.{DependencyDirection}
+use Rattle.guppy_packages.specs.declared.direction.DependencyDirection.TheVariants.{Forward, Reverse}
+use Rattle.feature_core.specs.declared.engine.Taken.{Taken}
+use Rattle.guppy_packages.specs.Tables.{Tables}
+use Rattle.feature_labels.specs.Names.{LabelName}
+use Rattle.feature_labels.specs.Names.LabelName.{optional}
+use Rattle.feature_core.specs.Nodes.{node_packages, node_places}
+use Rattle.feature_core.specs.Edges.{EdgeFacts, AreBuilt}
+use Rattle.feature_core.specs.Edges.EdgeFacts.{base_edge, feature_edge, colon_edge, strong_edge, weak_edge, section_edge}
+use Rattle.feature_core.specs.Walks.{Way, Content, IsWay, EndsAreNodes, numbers_where, starting, releasing, told, taken_of, is_gated, is_in}
+use Rattle.feature_core.specs.OpenWays.{open_way, open_ways}
+use Rattle.feature_core.specs.Built.{built_edges}
+use Rattle.feature_core.specs.Ways.{way, ways, content, asked, gate_of, gate_at, GatesAreNodes}
+use Rattle.feature_core.specs.Releases.{AreReleases, AreTied, released_by, releases_from}
+use Rattle.feature_core.proofs.Answered.{decide, clash}
+use Rattle.feature_core.proofs.WayNumbers.{is_in_at}
+use Rattle.feature_core.proofs.Places.{got_map, got_same}
+use Rattle.feature_core.proofs.OpenWayLemmas.{ends_are_nodes, edge_way, number_read}
+use Rattle.feature_core.proofs.Released.{Rises, same_rising, in_released, released_in, released_rises}
+use Rattle.feature_core.proofs.ReleaseTables.{exact_releases}
+
+start_same : (direction : DependencyDirection) (weak : List (ℕ × ℕ)) (e : Edge) (f : EdgeFacts) → (way direction weak (e.from, e.to, f)).start ≡ (open_way direction e).start
+start_same Forward weak e f = refl
+start_same Reverse weak e f = refl
+
+far_same : (direction : DependencyDirection) (weak : List (ℕ × ℕ)) (e : Edge) (f : EdgeFacts) → (way direction weak (e.from, e.to, f)).far ≡ (open_way direction e).far
+far_same Forward weak e f = refl
+far_same Reverse weak e f = refl
+
+-- the edges that start at a node are those of the digraph
+pub starts_same : (direction : DependencyDirection) (weak : List (ℕ × ℕ)) (n first : ℕ) (es : List Edge) (fs : List EdgeFacts) → length fs ≡ length es → numbers_where (λ w. w.start == n) first (ways direction (built_edges es fs) weak) ≡ numbers_where (λ w. w.start == n) first (map (open_way direction) es)
+starts_same direction weak n first [] fs l = refl
+starts_same direction weak n first (e ∷ es) [] l = absurd (omega arith)
+starts_same Forward weak n first (e ∷ es) (f ∷ fs) l = rw (starts_same Forward weak n (suc first) es fs (omega arith)) refl
+starts_same Reverse weak n first (e ∷ es) (f ∷ fs) l = rw (starts_same Reverse weak n (suc first) es fs (omega arith)) refl
+
+-- an edge with what it says
+pub built_edge_at : (k : ℕ) (es : List Edge) (fs : List EdgeFacts) (e : Edge) (f : EdgeFacts) → slice_get es k ≡ Some e → slice_get fs k ≡ Some f → slice_get (built_edges es fs) k ≡ Some (e.from, e.to, f)
+built_edge_at k [] fs e f p q = absurd (cc)
+built_edge_at k (x ∷ es) [] e f p q = absurd (cc)
+built_edge_at zero (x ∷ es) (y ∷ fs) e f p q = let a : x ≡ e = cc in let b : y ≡ f = cc in ap (λ (z : Edge). Some (z.from, z.to, y)) a ∙ ap (λ z. Some (e.from, e.to, z)) b
+built_edge_at (suc k) (x ∷ es) (y ∷ fs) e f p q = built_edge_at k es fs e f p q
+
+some_ap : {X : Type 0} (f : X → ℕ) (a b : X) → ◌≡◌ {A = Option X} (Some a) (Some b) → f a ≡ f b
+some_ap f a b h = ap f (got_same a b h)
+
+pub edge_of_facts : (k : ℕ) (es : List Edge) (fs : List EdgeFacts) (x : ℕ × ℕ × EdgeFacts) → slice_get (built_edges es fs) k ≡ Some x → (e : Edge) × (slice_get es k ≡ Some e) × (e.from ≡ x.0) × (e.to ≡ x.1)
+edge_of_facts k [] fs x p = absurd (cc)
+edge_of_facts k (e ∷ es) [] x p = absurd (cc)
+edge_of_facts zero (e ∷ es) (f ∷ fs) x p = (e, refl, some_ap (λ z. z.0) (e.from, e.to, f) x p, some_ap (λ z. z.1) (e.from, e.to, f) x p)
+edge_of_facts (suc k) (e ∷ es) (f ∷ fs) x p = edge_of_facts k es fs x p
+
+way_at : (direction : DependencyDirection) (weak : List (ℕ × ℕ)) (es : List Edge) (fs : List EdgeFacts) (k : ℕ) (e : Edge) (f : EdgeFacts) → slice_get es k ≡ Some e → slice_get fs k ≡ Some f → slice_get (ways direction (built_edges es fs) weak) k ≡ Some (way direction weak (e.from, e.to, f))
+way_at direction weak es fs k e f p q = slice_get-map (way direction weak) (built_edges es fs) k ∙ ap (option_map (way direction weak)) (built_edge_at k es fs e f p q)
+
+-- what is told of an edge
+pub told_taken : (direction : DependencyDirection) (nodes : ℕ) (weak : List (ℕ × ℕ)) (es : List Edge) (fs : List EdgeFacts) (k : ℕ) (e : Edge) (f : EdgeFacts) → slice_get es k ≡ Some e → slice_get fs k ≡ Some f → ◌≡◌ {A = Option Taken} (Some (record { edge = k; far = (open_way direction e).far; ask = asked direction f })) (told (content direction nodes (built_edges es fs) weak) (Some k))
+told_taken Forward nodes weak es fs k e f p q = sym (ap (taken_of k) (way_at Forward weak es fs k e f p q))
+told_taken Reverse nodes weak es fs k e f p q = sym (ap (taken_of k) (way_at Reverse weak es fs k e f p q))
+
+-- in reverse no half waits
+none_asked : (f : EdgeFacts) → IsFalse (is_gated (asked Reverse f))
+none_asked base_edge = refl
+none_asked feature_edge = refl
+none_asked (colon_edge l) = refl
+none_asked (strong_edge l) = refl
+none_asked (weak_edge l half) = refl
+none_asked (section_edge l) = refl
+
+pub none_waits : (weak : List (ℕ × ℕ)) (n first : ℕ) (es : List Edge) (fs : List EdgeFacts) → numbers_where (λ w. is_gated w.ask && (w.gate == n)) first (ways Reverse (built_edges es fs) weak) ≡ []
+none_waits weak n first [] fs = refl
+none_waits weak n first (e ∷ es) [] = refl
+none_waits weak n first (e ∷ es) (f ∷ fs) = rw (none_asked f) (none_waits weak n (suc first) es fs)
+
+-- forward those wait that have a gate
+waits_put : (weak : List (ℕ × ℕ)) (n first : ℕ) (f : EdgeFacts) (xs : List ℕ) (rest : List (ℕ × ℕ)) → xs ≡ released_by n rest → cond (is_gated (asked Forward f) && (option_map_or (λ gate. gate) (gate_of weak f) 0 == n)) (first ∷ xs) xs ≡ released_by n (option_map_or (λ gate. (gate, first) ∷ []) (gate_of weak f) [] ++ rest)
+waits_put weak n first base_edge xs rest e = e
+waits_put weak n first feature_edge xs rest e = e
+waits_put weak n first (colon_edge l) xs rest e = e
+waits_put weak n first (strong_edge l) xs rest e = e
+waits_put weak n first (weak_edge l half) xs rest e = elim (decide (gate_at weak half.index == n)) [ inl q ↦ rw q (ap (λ (ys : List ℕ). first ∷ ys) e) | inr q ↦ rw q e ]
+waits_put weak n first (section_edge l) xs rest e = e
+
+waits_released : (weak : List (ℕ × ℕ)) (n first : ℕ) (es : List Edge) (fs : List EdgeFacts) → length fs ≡ length es → numbers_where (λ w. is_gated w.ask && (w.gate == n)) first (ways Forward (built_edges es fs) weak) ≡ released_by n (releases_from weak first fs)
+waits_released weak n first [] [] l = refl
+waits_released weak n first [] (f ∷ fs) l = absurd (omega arith)
+waits_released weak n first (e ∷ es) [] l = absurd (omega arith)
+waits_released weak n first (e ∷ es) (f ∷ fs) l =
+    waits_put weak n first f _ (releases_from weak (first + 1) fs)
+    (waits_released weak n (suc first) es fs (omega arith) ∙ ap (λ (k : ℕ). released_by n (releases_from weak k fs)) (sym (add-one first)))
+
+lower : (n : ℕ) (xs : List ℕ) → Rises (suc n) xs → Rises n xs
+lower n [] h = tt
+lower n (x ∷ xs) (h, hs) = (omega arith, hs)
+
+put_rises : (weak : List (ℕ × ℕ)) (gate n : ℕ) (o : Option ℕ) (rest : List (ℕ × ℕ)) → Rises (suc n) (released_by gate rest) → Rises n (released_by gate (option_map_or (λ g. (g, n) ∷ []) o [] ++ rest))
+put_rises weak gate n None rest h = lower n (released_by gate rest) h
+put_rises weak gate n (Some g) rest h = elim (decide (g == gate)) [ inl q ↦ rw q (omega arith, h) | inr q ↦ rw q (lower n (released_by gate rest) h) ]
+
+made_rises : (weak : List (ℕ × ℕ)) (gate n : ℕ) (fs : List EdgeFacts) → Rises n (released_by gate (releases_from weak n fs))
+made_rises weak gate n [] = tt
+made_rises weak gate n (f ∷ fs) = put_rises weak gate n (gate_of weak f) (releases_from weak (n + 1) fs) (subst (λ (k : ℕ). Rises k (released_by gate (releases_from weak (n + 1) fs))) (add-one n) (made_rises weak gate (n + 1) fs))
+
+-- the edges that wait for a node are those beside it in the table
+pub releases_same : (nodes gate : ℕ) (g : Graph) (fs : List EdgeFacts) (weak released : List (ℕ × ℕ)) → AreTied g fs weak released → released_by gate released ≡ releasing (content Forward nodes (built_edges g.edges fs) weak) gate
+releases_same nodes gate g fs weak released tied =
+    let table = tied.releases in
+    let made : List (ℕ × ℕ) = releases_from weak 0 fs in
+    same_rising 0 0 (released_by gate released) (released_by gate made)
+    (released_rises gate 0 released table.ascends (λ k d l q. omega arith))
+    (made_rises weak gate 0 fs)
+    (λ e t. released_in gate e made ((exact_releases weak fs gate e).1 ((table.exact gate e).0 (in_released gate e released t))))
+    (λ e t. released_in gate e released ((table.exact gate e).1 ((exact_releases weak fs gate e).0 (in_released gate e made t))))
+    ∙ sym (waits_released weak gate 0 g.edges fs tied.each)
+
+gate_below : (weak : List (ℕ × ℕ)) (nodes index : ℕ) → 0 < nodes → GatesAreNodes nodes weak → gate_at weak index < nodes
+gate_below [] nodes index some h = some
+gate_below (x ∷ weak) nodes zero some h = h 0 x (omega arith)
+gate_below (x ∷ weak) nodes (suc index) some h = gate_below weak nodes index some (λ k d l. h (suc k) d (omega arith))
+
+gate_within : (weak : List (ℕ × ℕ)) (nodes : ℕ) (f : EdgeFacts) → 0 < nodes → GatesAreNodes nodes weak → option_map_or (λ gate. gate) (gate_of weak f) 0 < nodes
+gate_within weak nodes base_edge some h = some
+gate_within weak nodes feature_edge some h = some
+gate_within weak nodes (colon_edge l) some h = some
+gate_within weak nodes (strong_edge l) some h = some
+gate_within weak nodes (weak_edge l half) some h = gate_below weak nodes half.index some h
+gate_within weak nodes (section_edge l) some h = some
+
+ways_within : (direction : DependencyDirection) (weak : List (ℕ × ℕ)) (nodes : ℕ) (x : ℕ × ℕ × EdgeFacts) → x.0 < nodes → x.1 < nodes → GatesAreNodes nodes weak → ((way direction weak x).start < nodes) × ((way direction weak x).far < nodes) × (IsTrue (is_gated (way direction weak x).ask) → (way direction weak x).gate < nodes)
+ways_within Forward weak nodes x a b h = (a, b, λ _. gate_within weak nodes x.2 (omega arith) h)
+ways_within Reverse weak nodes x a b h = (b, a, λ _. gate_within weak nodes x.2 (omega arith) h)
+
+-- the ends of every way are nodes
+pub packed_ends : (direction : DependencyDirection) (g : Graph) (fs : List EdgeFacts) (weak : List (ℕ × ℕ)) → IsDigraph g → GatesAreNodes g.nodes weak → EndsAreNodes (content direction g.nodes (built_edges g.edges fs) weak)
+packed_ends direction g fs weak sound gates k w is =
+    let x = got_map (way direction weak) (slice_get (built_edges g.edges fs) k) w (sym (slice_get-map (way direction weak) (built_edges g.edges fs) k) ∙ is) in
+    let e = edge_of_facts k g.edges fs x.0 x.1 in
+    let ends = ends_are_nodes Forward g sound k (open_way Forward e.0) (edge_way Forward g k e.0 e.1) in
+    subst (λ (v : Way). (v.start < g.nodes) × (v.far < g.nodes) × (IsTrue (is_gated v.ask) → v.gate < g.nodes)) x.2
+    (ways_within direction weak g.nodes x.0 (subst (λ (n : ℕ). n < g.nodes) e.2 ends.0) (subst (λ (n : ℕ). n < g.nodes) e.3 ends.1) gates)
+
+length-built_edges : (es : List Edge) (fs : List EdgeFacts) → length fs ≡ length es → length (built_edges es fs) ≡ length es
+length-built_edges [] fs l = refl
+length-built_edges (e ∷ es) [] l = absurd (omega arith)
+length-built_edges (e ∷ es) (f ∷ fs) l = let r : length (built_edges es fs) ≡ length es = length-built_edges es fs (omega arith) in omega arith
+
+pub packed_length : (direction : DependencyDirection) (g : Graph) (fs : List EdgeFacts) (weak : List (ℕ × ℕ)) → length fs ≡ length g.edges → length g.edges ≡ length (ways direction (built_edges g.edges fs) weak)
+packed_length direction g fs weak l = sym (length-map (built_edges g.edges fs) (way direction weak) ∙ length-built_edges g.edges fs l)
+
+module _ (direction : DependencyDirection) (g : Graph) (fs : List EdgeFacts) (weak : List (ℕ × ℕ)) (each : length fs ≡ length g.edges) where
+  -- the number that is read at a place
+  pub take_some : (n place : ℕ) (numbers : List ℕ) (k : ℕ) → numbers ≡ starting (open_ways direction g) n → place < length numbers → k ≡ get_or numbers place k → slice_get (starting (content direction g.nodes (built_edges g.edges fs) weak) n) place ≡ Some k
+  take_some n place numbers k same within is = ap (λ (xs : List ℕ). slice_get xs place) (starts_same direction weak n 0 g.edges fs each) ∙ number_read direction g n place numbers k same within is
+
+  pub take_none : (n place : ℕ) (numbers : List ℕ) → numbers ≡ starting (open_ways direction g) n → length numbers ≤ place → ◌≡◌ {A = Option Taken} None (told (content direction g.nodes (built_edges g.edges fs) weak) (slice_get (starting (content direction g.nodes (built_edges g.edges fs) weak) n) place))
+  take_none n place numbers same past =
+      let none : slice_get (starting (content direction g.nodes (built_edges g.edges fs) weak) n) place ≡ None = ap (λ (xs : List ℕ). slice_get xs place) (starts_same direction weak n 0 g.edges fs each ∙ sym same) ∙ slice_get_past numbers place past in
+      sym (ap (told (content direction g.nodes (built_edges g.edges fs) weak)) none)
+
+-- the edge at a place of those that a gate releases
+pub release_read : (g : Graph) (fs : List EdgeFacts) (weak released : List (ℕ × ℕ)) (gate place : ℕ) (found : Option ℕ) → AreTied g fs weak released → found ≡ slice_get (released_by gate released) place → slice_get (releasing (content Forward g.nodes (built_edges g.edges fs) weak) gate) place ≡ found
+release_read g fs weak released gate place found tied is = ap (λ (xs : List ℕ). slice_get xs place) (sym (releases_same g.nodes gate g fs weak released tied)) ∙ sym is
+
+pub release_within : (g : Graph) (fs : List EdgeFacts) (weak released : List (ℕ × ℕ)) (gate place k : ℕ) → AreTied g fs weak released → ◌≡◌ {A = Option ℕ} (Some k) (slice_get (released_by gate released) place) → k < length g.edges
+release_within g fs weak released gate place k tied is =
+    let listed : IsTrue (is_in (released_by gate released) k) = is_in_at (released_by gate released) place k (sym is) in
+    let edge = (tied.releases.exact gate k).0 (in_released gate k released listed) in
+    omega (arith, slice_get_within fs k edge.0 edge.1, tied.each)
+
+pub forward_read : (direction : DependencyDirection) (g : Graph) (fs : List EdgeFacts) (weak released : List (ℕ × ℕ)) (gate place : ℕ) (found : Option ℕ) → direction ≡ Forward → AreTied g fs weak released → found ≡ slice_get (released_by gate released) place → slice_get (releasing (content direction g.nodes (built_edges g.edges fs) weak) gate) place ≡ found
+forward_read Forward g fs weak released gate place found f tied is = release_read g fs weak released gate place found tied is
+forward_read Reverse g fs weak released gate place found f tied is = absurd (cc)
+
+pub reverse_read : (direction : DependencyDirection) (g : Graph) (fs : List EdgeFacts) (weak : List (ℕ × ℕ)) (gate place : ℕ) → direction ≡ Reverse → slice_get (releasing (content direction g.nodes (built_edges g.edges fs) weak) gate) place ≡ None
+reverse_read Forward g fs weak gate place f = absurd (cc)
+reverse_read Reverse g fs weak gate place f = ap (λ (xs : List ℕ). slice_get xs place) (none_waits weak gate 0 g.edges fs)
+
+-- the gates that are built are nodes
+pub built_gates : (t : Tables) (edges : List (ℕ × ℕ × EdgeFacts)) (weak : List (ℕ × ℕ)) (nodes : ℕ) → AreBuilt t edges weak → nodes ≡ length (node_packages t) → GatesAreNodes nodes weak
+built_gates t edges weak nodes built n i d l =
+    let x : ℕ × ℕ = get_or weak i d in
+    let gate = built.gates i x.0 x.1 (slice_get-get_or weak i d l) in
+    let within : x.1 < length (node_places t) = slice_get_within (node_places t) x.1 (gate.link.from, optional gate.link.name) gate.node in
+    omega (arith, length-map (node_places t) (λ (p : ℕ × LabelName). p.0))

@@ -1,0 +1,60 @@
+//! Walks over the edges of a feature graph.
+ghost use Rattle.std.specs.Prelude.{◌≡◌, ◌↔◌, ℕ, IfOk, IfErr, OnErr, IsTrue, length};
+ghost use Rattle.guppy_support.specs.Bits.{has};
+ghost use Rattle.guppy_packages.specs.Tables.{Tables};
+ghost use Rattle.feature_core.specs.Built.{IsBuilt, ends_of};
+ghost use Rattle.feature_core.specs.Pairs.{PairLeads, Reach, ReachAlong};
+ghost use Rattle.feature_core.specs.Walks.{IsWalk, LegalRun, MayAsk};
+ghost use Rattle.feature_core.specs.Ways.{content};
+
+use crate::data::FeatureGraphData;
+use crate::engine::{Offerer, Walk, walk_over};
+use crate::error::Error;
+use crate::packed::Packed;
+use guppy_packages::DependencyDirection;
+use guppy_support::IxBitSet;
+use std::alloc::Global;
+
+/// The nodes that are reached from the initial ones over all edges, as the direction follows them.
+pub fn walk_all(
+    alloc: Global,
+    built: &FeatureGraphData,
+    direction: DependencyDirection,
+    initials: &IxBitSet,
+) -> Result<IxBitSet, Error<'static>>
+    requires { length initials.now ≡ length built.now.packages }
+    ensures size { IfOk result (λ set. length set ≡ length built.now.packages) }
+    ensures members { IfOk result (λ set. (n : ℕ) → IsTrue (has set n) ↔ ReachAlong (PairLeads (ends_of built.now.edges) direction) (has initials.now) n) }
+    ensures reach { IfOk result (λ set. (t : Tables) → IsBuilt t built.now → (n : ℕ) → IsTrue (has set n) ↔ Reach t direction (has initials.now) n) }
+    ensures refused { IfErr result (λ e. e ≡ Error.Memory) }
+{
+    let set = built.reach(alloc, direction, initials)?;
+    Ok(set)
+}
+
+/// Walks over the edges of a feature graph from the initial nodes, as the direction follows them.
+///
+/// An edge that isn't conditional is followed. A conditional one is followed where an offer of it is accepted: its full
+/// link, or a half of a weak edge. Forward, the optional half of a weak edge is offered once the optional dependency that
+/// it names is reached too. The offers make a complete legal run, and the members are exactly the least set for the
+/// accepted ones. Where memory is refused, the offers made are a legal run.
+pub fn walk<O: Offerer>(
+    alloc: Global,
+    built: &FeatureGraphData,
+    direction: DependencyDirection,
+    initials: &IxBitSet,
+    offerer: &mut O,
+) -> Result<Walk, Error<'static>>
+    requires size { length initials.now ≡ length built.now.packages }
+    requires may { MayAsk O.can_offer O.gives (content direction (length built.now.packages) built.now.edges built.now.weak) offerer.old }
+    ensures size { IfOk result (λ walk. length walk.members ≡ length built.now.packages) }
+    ensures walk { IfOk result (λ walk. IsWalk (content direction (length built.now.packages) built.now.edges built.now.weak)
+        (has initials.now) O.gives offerer.old offerer.new (has walk.members)) }
+    ensures err { OnErr result (LegalRun (content direction (length built.now.packages) built.now.edges built.now.weak)
+        (has initials.now) O.gives offerer.old offerer.new) }
+    ensures refused { IfErr result (λ e. e ≡ Error.Memory) }
+{
+    let mut source = Packed::new(built, direction);
+    let walk = walk_over(alloc, &mut source, initials, offerer)?;
+    Ok(walk)
+}
