@@ -1,6 +1,6 @@
 //! Walks over the edges of a source, which ask an offerer before they follow a conditional edge.
 
-ghost use Rattle.std.specs.Prelude.{◌≡◌, ◌+◌, ◌*◌, ◌^◌, ◌<◌, ◌≤◌, ℕ, Bool, List, IfOk, OnErr, length, slice_get, count_by};
+ghost use Rattle.std.specs.Prelude.{◌≡◌, ◌+◌, ◌*◌, ◌^◌, ◌<◌, ◌≤◌, ℕ, Bool, List, IfOk, IfErr, OnErr, length, slice_get, count_by};
 ghost use Rattle.guppy_support.specs.Bits.{has};
 ghost use Rattle.feature_core.specs.Walks.{Content, EndsAreNodes, IsWalk, LegalRun, MayAsk, starting, releasing, told, ReadsAreBounded};
 ghost use Rattle.feature_core.specs.Explanations.{IsExplainedWalk};
@@ -8,9 +8,10 @@ ghost use Rattle.feature_core.specs.declared.engine.Half.{Half};
 
 mod progress;
 
+use crate::error::Error;
 use guppy_support::IxBitSet;
 use progress::{Found, walk_members};
-use std::alloc::{AllocError, Global};
+use std::alloc::Global;
 
 /// What is offered of a conditional edge: its full link, or a half of a weak edge.
 #[derive(Clone, Copy, Debug, PartialEq, Eq)]
@@ -121,7 +122,7 @@ pub fn walk_explained<S: EdgeSource, O: Offerer>(
     source: &mut S,
     initials: &IxBitSet,
     offerer: &mut O,
-) -> Result<(Walk, Vec<Step>, Vec<(usize, Half)>), AllocError>
+) -> Result<(Walk, Vec<Step>, Vec<(usize, Half)>), Error<'static>>
     requires size { length initials.now ≡ (S.content source.old).nodes }
     requires few { S.reads source.old < 2 ^ 99 }
     requires may { MayAsk O.can_offer O.gives (S.content source.old) offerer.old }
@@ -132,6 +133,7 @@ pub fn walk_explained<S: EdgeSource, O: Offerer>(
     ensures reads { IfOk result (λ r. ReadsAreBounded (S.content source.old) r.0.members
         (S.reads source.old) (S.reads source.new)) }
     ensures err { OnErr result (LegalRun (S.content source.old) (has initials.now) O.gives offerer.old offerer.new) }
+    ensures refused { IfErr result (λ e. e ≡ Error.Memory) }
 {
     let edges = source.edge_count();
     let members = IxBitSet::empty(alloc, initials.size())?;
@@ -159,7 +161,7 @@ pub fn walk_over<S: EdgeSource, O: Offerer>(
     source: &mut S,
     initials: &IxBitSet,
     offerer: &mut O,
-) -> Result<Walk, AllocError>
+) -> Result<Walk, Error<'static>>
     requires size { length initials.now ≡ (S.content source.old).nodes }
     requires few { S.reads source.old < 2 ^ 99 }
     requires may { MayAsk O.can_offer O.gives (S.content source.old) offerer.old }
@@ -170,6 +172,7 @@ pub fn walk_over<S: EdgeSource, O: Offerer>(
     ensures reads { IfOk result (λ walk. ReadsAreBounded (S.content source.old) walk.members
         (S.reads source.old) (S.reads source.new)) }
     ensures err { OnErr result (LegalRun (S.content source.old) (has initials.now) O.gives offerer.old offerer.new) }
+    ensures refused { IfErr result (λ e. e ≡ Error.Memory) }
 {
     let (walk, _steps, _refused) = walk_explained(alloc, source, initials, offerer)?;
     Ok(walk)

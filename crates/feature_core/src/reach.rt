@@ -98,8 +98,10 @@ pub(crate) fn reach_all(
         direction,
         reads: 0,
     };
-    let Walk { members } = walk_over(alloc, &mut edges, initials, &mut NoOffers)?;
-    Ok(members)
+    match walk_over(alloc, &mut edges, initials, &mut NoOffers) {
+        Ok(Walk { members }) => Ok(members),
+        Err(_) => Err(AllocError),
+    }
 }
 
 #[cfg(test)]
