@@ -6,6 +6,7 @@ ghost use Rattle.feature_core.specs.Listed.{way_of, AreWithin};
 ghost use Rattle.feature_core.specs.declared.engine.Half.{Half};
 
 use super::*;
+use std::alloc::AllocError;
 use std::process::Abort;
 use std::test::Fail;
 
