@@ -38,3 +38,6 @@ pub mod LinkLemmas
 pub mod WarningLemmas
 pub mod BuildLemmas
 pub mod WeakLemmas
+pub mod Determined
+pub mod SameLists
+pub mod SameData

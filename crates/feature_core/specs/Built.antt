@@ -32,6 +32,10 @@ pub record IsBuilt (t : Tables) (b : Built) : Type 0 where
   pub edges : ∥ AreBuilt t b.edges b.weak ∥₁
   pub warnings : b.warnings ≡ warnings t
 
+-- equal in each part
+abbrev pub AreAlike : Built → Built → Type 0
+AreAlike a b = (a.stamp ≡ b.stamp) × (a.firsts ≡ b.firsts) × (a.packages ≡ b.packages) × (a.edges ≡ b.edges) × (a.weak ≡ b.weak) × (a.warnings ≡ b.warnings)
+
 -- node n has this name: the id of its package, and its label
 abbrev pub NodeNamed : Tables → ℕ → Text × LabelName → Type 0
 NodeNamed t n name = slice_get (nodes t) n ≡ Some name

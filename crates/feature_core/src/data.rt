@@ -5,7 +5,7 @@ ghost use Rattle.feature_labels.specs.Names.{id_of, label_of};
 ghost use Rattle.feature_core.specs.Nodes.{NodeAt, nodes, first_node, first_nodes, node_packages, labels_of};
 ghost use Rattle.guppy_support.specs.Bits.{has};
 ghost use Rattle.feature_core.specs.Pairs.{PairLeads, ReachAlong};
-ghost use Rattle.feature_core.specs.Built.{IsBuilt, NodeNamed, ends_of, end_of};
+ghost use Rattle.feature_core.specs.Built.{AreAlike, IsBuilt, NodeNamed, ends_of, end_of};
 ghost use Rattle.feature_core.specs.Values.{edge_facts};
 ghost use Rattle.feature_core.specs.Warnings.{warning_of};
 ghost use Rattle.feature_core.specs.Ways.{content};
@@ -14,6 +14,7 @@ ghost use Rattle.feature_core.specs.Ways.{content};
 mod tests;
 
 use crate::building::{EdgeTable, edge_table};
+use crate::comparing::{same_edges, same_gates, same_numbers, same_pairs, same_warnings};
 use crate::edge::FeatureEdge;
 use crate::error::Error;
 use crate::named_links::named_links;
@@ -244,5 +245,62 @@ impl FeatureGraphData {
             &self.released,
             direction,
         )
+    }
+}
+
+impl FeatureGraphData {
+    /// Whether the first nodes of packages are the same.
+    fn has_same_firsts(&self, other: &FeatureGraphData) -> bool
+        ensures { IsTrue result ↔ (self.now.firsts ≡ other.now.firsts) }
+    {
+        let own = self.table.firsts.as_slice();
+        let others = other.table.firsts.as_slice();
+        same_numbers(own, others)
+    }
+
+    /// Whether the packages of nodes are the same.
+    fn has_same_packages(&self, other: &FeatureGraphData) -> bool
+        ensures { IsTrue result ↔ (self.now.packages ≡ other.now.packages) }
+    {
+        let own = self.table.packages.as_slice();
+        let others = other.table.packages.as_slice();
+        same_numbers(own, others)
+    }
+
+    /// Whether the edges are the same, with all that they say.
+    fn has_same_edges(&self, other: &FeatureGraphData) -> bool
+        ensures { IsTrue result ↔ (self.now.edges ≡ other.now.edges) }
+    {
+        let own = self.edges.as_slice();
+        let others = other.edges.as_slice();
+        same_pairs(&self.digraph, &other.digraph) && same_edges(own, others)
+    }
+
+    /// Whether the weak links are the same, with their gates.
+    fn has_same_gates(&self, other: &FeatureGraphData) -> bool
+        ensures { IsTrue result ↔ (self.now.weak ≡ other.now.weak) }
+    {
+        same_gates(&self.weak, &other.weak)
+    }
+
+    /// Whether the warnings are the same.
+    fn has_same_warnings(&self, other: &FeatureGraphData) -> bool
+        ensures { IsTrue result ↔ (self.now.warnings ≡ other.now.warnings) }
+    {
+        let own = self.warnings();
+        let others = other.warnings();
+        same_warnings(own, others)
+    }
+
+    /// Whether two are the same in each part.
+    pub(crate) fn is_same(&self, other: &FeatureGraphData) -> bool
+        ensures { IsTrue result ↔ AreAlike self.now other.now }
+    {
+        self.stamp() == other.stamp()
+            && self.has_same_firsts(other)
+            && self.has_same_packages(other)
+            && self.has_same_edges(other)
+            && self.has_same_gates(other)
+            && self.has_same_warnings(other)
     }
 }

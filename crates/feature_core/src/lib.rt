@@ -3,6 +3,7 @@
 
 mod building;
 mod candidates;
+mod comparing;
 mod data;
 mod declarations;
 mod edge;

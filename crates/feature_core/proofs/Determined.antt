@@ -1,0 +1,136 @@
+-- What is built of tables is determined.
+use Rattle.std.proofs.Common.{◌≡◌, ℕ, suc, ◌+◌, length, ◌⊎◌, ⊎_elim, List, ◌∷◌, [], Bool, true, false, map, refl, ap, sym, ◌∙◌, subst, arith, Some, None, Option}
+use Rattle.std.specs.Prelude.{◌↔◌, IsTrue, Contains, AllPairs, slice_get}
+use Rattle.std.proofs.Math.Logic.{∥∥₁_elim}
+use Rattle.guppy_packages.specs.Tables.{LinkTable, Tables, AreTables, optional_place}
+use Rattle.feature_labels.specs.Names.LabelName.{optional}
+use Rattle.feature_core.specs.Built.{Built, IsBuilt, AreAlike}
+use Rattle.feature_core.specs.Nodes.{NodeAt, labels_of, first_node}
+use Rattle.feature_core.specs.Links.{IsLink}
+use Rattle.feature_core.specs.Candidates.{Edge}
+use Rattle.feature_core.specs.Edges.{EdgeFacts, EdgeBefore, IsEdgeList, AreBuilt, IsGate, facts_of, weak_links}
+use Rattle.feature_core.specs.Warnings.{Warning}
+use Rattle.feature_core.proofs.AddsLemmas.{Contains-first, Contains-later, Contains-cases, Contains-none}
+use Rattle.feature_core.proofs.LabelLemmas.{optional_found, optional_missing}
+use Rattle.feature_core.proofs.LeastKeys.{AllPairs-first, AllPairs-later}
+use Rattle.feature_core.proofs.Places.{IsSpread, node_back}
+
+-- ascending lists with the same elements are the same
+module _ {X : Type 0} (R : X → X → Type 0) (never : (x y : X) → R x y → R y x → ⊥) where
+  later_is : (x : X) (xs : List X) → AllPairs R (x ∷ xs) → (y : X) → Contains xs y → R x y
+  later_is x xs h y c = subst (λ z. R x z) c.2 (AllPairs-first R x xs h c.0 y c.1)
+
+  same_first : (x y : X) (xs ys : List X) → AllPairs R (x ∷ xs) → AllPairs R (y ∷ ys) → Contains (y ∷ ys) x → Contains (x ∷ xs) y → x ≡ y
+  same_first x y xs ys a b c d =
+      ⊎_elim
+      (λ e. sym e)
+      (λ i. ⊎_elim
+      (λ e. e)
+      (λ j. absurd (never x y (later_is x xs a y j) (later_is y ys b x i)))
+      (Contains-cases x xs y d))
+      (Contains-cases y ys x c)
+
+  in_rest : (x y : X) (xs ys : List X) → AllPairs R (x ∷ xs) → x ≡ y → ((z : X) → Contains (x ∷ xs) z → Contains (y ∷ ys) z) → (z : X) → Contains xs z → Contains ys z
+  in_rest x y xs ys a e f z c =
+      let after : R x z = later_is x xs a z c in
+      ⊎_elim
+      (λ i. absurd (never x x (subst (λ v. R x v) (sym i ∙ sym e) after) (subst (λ v. R x v) (sym i ∙ sym e) after)))
+      (λ i. i)
+      (Contains-cases y ys z (f z (Contains-later x xs z c)))
+
+  pub one_ascending : (xs ys : List X) → AllPairs R xs → AllPairs R ys → ((z : X) → Contains xs z → Contains ys z) → ((z : X) → Contains ys z → Contains xs z) → xs ≡ ys
+  one_ascending [] [] a b f g = refl
+  one_ascending [] (y ∷ ys) a b f g = absurd (Contains-none y (g y (Contains-first y ys)))
+  one_ascending (x ∷ xs) [] a b f g = absurd (Contains-none x (f x (Contains-first x xs)))
+  one_ascending (x ∷ xs) (y ∷ ys) a b f g =
+      let e : x ≡ y = same_first x y xs ys a b (f x (Contains-first x xs)) (g y (Contains-first y ys)) in
+      let rest : xs ≡ ys = one_ascending xs ys (AllPairs-later R x xs a) (AllPairs-later R y ys b) (in_rest x y xs ys a e f) (in_rest y x ys xs b (sym e) g) in
+      ap (λ z. z ∷ xs) e ∙ ap (λ z. y ∷ z) rest
+
+never_both : (a b : ℕ × ℕ × Edge) → EdgeBefore a b → EdgeBefore b a → ⊥
+never_both a b h i = ⊎_elim (λ l. ⊎_elim (λ m. omega (arith, l, m)) (λ m. omega (arith, l, m.0)) i) (λ l. ⊎_elim (λ m. omega (arith, l.0, m)) (λ m. omega (arith, l.1, m.1)) i) h
+
+-- the edges of the tables are one list
+pub one_list : (t : Tables) (a b : List (ℕ × ℕ × Edge)) → IsEdgeList t a → IsEdgeList t b → a ≡ b
+one_list t a b h i = one_ascending EdgeBefore never_both a b h.ascends i.ascends
+    (λ z c. (i.exact z.0 z.1 z.2).1 ((h.exact z.0 z.1 z.2).0 c))
+    (λ z c. (h.exact z.0 z.1 z.2).1 ((i.exact z.0 z.1 z.2).0 c))
+
+one_table : (t : Tables) (k : ℕ) (l m : LinkTable) → IsLink t k l → IsLink t k m → l ≡ m
+one_table t k l m a b = got (sym a ∙ b)
+  where
+    got : ◌≡◌ {A = Option LinkTable} (Some l) (Some m) → l ≡ m
+    got e = cc
+
+-- an optional name of a package has one node
+one_node : (t : Tables) → AreTables t → (p m n : ℕ) (name : List ℕ) → NodeAt t m p (optional name) → NodeAt t n p (optional name) → m ≡ n
+one_node t tables p m n name a b = go (optional_place name s.row.optional_names) refl
+  where
+    s : IsSpread labels_of t.packages m p (optional name)
+    s = node_back t m p (optional name) a
+
+    none_some : (k : ℕ) → ◌≡◌ {A = Option ℕ} None (Some k) → ⊥
+    none_some k e = cc
+
+    both_some : (j k i : ℕ) → ◌≡◌ {A = Option ℕ} (Some j) (Some k) → ◌≡◌ {A = Option ℕ} (Some j) (Some i) → k ≡ i
+    both_some j k i e f = cc
+
+    go : (o : Option ℕ) → optional_place name s.row.optional_names ≡ o → m ≡ n
+    go None e = absurd (none_some m ((optional_missing t p s.row s.is_row name e m).1 a))
+    go (Some k) e =
+        let there : ℕ = first_node t p + (1 + length s.row.features + k) in
+        both_some there m n ((optional_found t p s.row s.is_row tables name k there e refl m).1 a) ((optional_found t p s.row s.is_row tables name k there e refl n).1 b)
+
+-- a weak link has one gate
+one_gate : (t : Tables) → AreTables t → (k g h : ℕ) → IsGate t k g → IsGate t k h → g ≡ h
+one_gate t tables k g h a b =
+    let e : a.link ≡ b.link = one_table t k a.link b.link a.is_link b.is_link in
+    one_node t tables b.link.from g h b.link.name (subst (λ z. NodeAt t g z.from (optional z.name)) e a.node) b.node
+
+-- weak links with their gates are one list
+one_weak : (t : Tables) → AreTables t → (a b : List (ℕ × ℕ)) → map (λ x. x.0) a ≡ map (λ x. x.0) b
+    → ((i k gate : ℕ) → slice_get a i ≡ Some (k, gate) → IsGate t k gate) → ((i k gate : ℕ) → slice_get b i ≡ Some (k, gate) → IsGate t k gate) → a ≡ b
+one_weak t tables [] [] e f g = refl
+one_weak t tables [] (y ∷ ys) e f g = cc
+one_weak t tables (x ∷ xs) [] e f g = cc
+one_weak t tables (x ∷ xs) (y ∷ ys) e f g =
+    let k : x.0 ≡ y.0 = cc in
+    let more : map (λ x. x.0) xs ≡ map (λ x. x.0) ys = cc in
+    let gate : x.1 ≡ y.1 = one_gate t tables y.0 x.1 y.1 (subst (λ z. IsGate t z x.1) k (f 0 x.0 x.1 refl)) (g 0 y.0 y.1 refl) in
+    let first : x ≡ y = ap (λ z. (z, x.1)) k ∙ ap (λ z. (y.0, z)) gate in
+    ap (λ z. z ∷ xs) first ∙ ap (λ z. y ∷ z) (one_weak t tables xs ys more (λ i. f (suc i)) (λ i. g (suc i)))
+
+one_edges : (t : Tables) (a b : List (ℕ × ℕ × EdgeFacts)) (v w : List (ℕ × ℕ)) → AreBuilt t a v → AreBuilt t b w → a ≡ b
+one_edges t a b v w h i = h.facts ∙ ap (λ l. map (λ e. (e.0, e.1, facts_of t (weak_links l) e.2)) l) (one_list t h.list i.list h.are_edges i.are_edges) ∙ sym i.facts
+
+one_links : (t : Tables) → AreTables t → (a b : List (ℕ × ℕ × EdgeFacts)) (v w : List (ℕ × ℕ)) → AreBuilt t a v → AreBuilt t b w → v ≡ w
+one_links t tables a b v w h i = one_weak t tables v w (h.links ∙ ap weak_links (one_list t h.list i.list h.are_edges i.are_edges) ∙ sym i.links) h.gates i.gates
+
+abbrev of_parts : ℕ → List ℕ → List ℕ → List (ℕ × ℕ × EdgeFacts) → List (ℕ × ℕ) → List Warning → Built
+of_parts stamp firsts packages edges weak warnings = record { stamp = stamp; firsts = firsts; packages = packages; edges = edges; weak = weak; warnings = warnings }
+
+-- what is equal in each part is equal
+alike_same : (a b : Built) → AreAlike a b → a ≡ b
+alike_same a b h =
+    ap (λ z. of_parts z a.firsts a.packages a.edges a.weak a.warnings) h.0
+    ∙ ap (λ z. of_parts b.stamp z a.packages a.edges a.weak a.warnings) h.1
+    ∙ ap (λ z. of_parts b.stamp b.firsts z a.edges a.weak a.warnings) h.2
+    ∙ ap (λ z. of_parts b.stamp b.firsts b.packages z a.weak a.warnings) h.3
+    ∙ ap (λ z. of_parts b.stamp b.firsts b.packages b.edges z a.warnings) h.4
+    ∙ ap (λ z. of_parts b.stamp b.firsts b.packages b.edges b.weak z) h.5
+
+-- two builds of one graph under one stamp are the same
+pub determined : (t : Tables) → AreTables t → (a b : Built) → IsBuilt t a → IsBuilt t b → AreBuilt t a.edges a.weak → AreBuilt t b.edges b.weak → a.stamp ≡ b.stamp → AreAlike a b
+determined t tables a b x y h i s = (s, x.firsts ∙ sym y.firsts, x.packages ∙ sym y.packages, one_edges t a.edges b.edges a.weak b.weak h i, one_links t tables a.edges b.edges a.weak b.weak h i, x.warnings ∙ sym y.warnings)
+
+-- data that differs from a build was not built of the graph
+apart : (t : Tables) → AreTables t → (a b : Built) → IsBuilt t a → IsBuilt t b → a.stamp ≡ b.stamp → (AreAlike a b → ⊥) → ⊥
+apart t tables a b x y s n = ∥∥₁_elim x.edges (λ p q. absurd p) (λ h. ∥∥₁_elim y.edges (λ p q. absurd p) (λ i. n (determined t tables a b x y h i s)))
+
+-- whether data is the same as a build says whether it was built of the graph
+pub same_as_built : (t : Tables) → AreTables t → (a b : Built) (same : Bool) → IsBuilt t a → a.stamp ≡ b.stamp → IsTrue same ↔ AreAlike a b → IsTrue same ↔ IsBuilt t b
+same_as_built t tables a b true x s h = ((λ p. subst (λ z. IsBuilt t z) (alike_same a b (h.0 refl)) x), (λ y. refl))
+same_as_built t tables a b false x s h = ((λ p. absurd (never p)), (λ y. absurd (apart t tables a b x y s (λ e. never (h.1 e)))))
+  where
+    never : IsTrue false → ⊥
+    never p = cc
