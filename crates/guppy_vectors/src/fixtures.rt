@@ -52,3 +52,87 @@ pub const MISSING_FEATURE: &str = "package\tp\tworkspace\n\
 /// A package whose id has a slash.
 pub const ID_WITH_A_SLASH: &str = "package\ta/b\tworkspace\n\
     feature\tc\n";
+
+/// A strong item over an optional dependency that has a named feature of its name.
+pub const STRONG_ITEM: &str = "package\tnamespaced-weak\tworkspace\n\
+    feature\tbar\tarrayvec/std\n\
+    feature\tarrayvec\tdep:arrayvec\n\
+    dep\tarrayvec\tav\tnormal\toptional\t*\tnodefault\n\
+    package\tav\texternal\n\
+    feature\tstd\n";
+
+/// One optional name for two packages, of which one is for some platforms alone.
+pub const TWO_PACKAGES_OF_A_NAME: &str = "package\tmain\tworkspace\n\
+    feature\tserde\tdep:serde\tserde/std\n\
+    dep\tserde\tserde_core\tnormal\toptional\t*\tnodefault\n\
+    dep\tserde\tserde\tnormal\toptional\tcfg(any())\tnodefault\n\
+    package\tserde_core\texternal\n\
+    feature\tstd\n\
+    package\tserde\texternal\n\
+    feature\tstd\n";
+
+/// A weak and a strong item for one feature.
+pub const WEAK_AND_STRONG: &str = "package\tmain\tworkspace\n\
+    feature\ta\tfoo?/b\tfoo/b\n\
+    dep\tfoo\tfoo\tnormal\toptional\t*\tnodefault\n\
+    package\tfoo\texternal\n\
+    feature\tb\n";
+
+/// Two packages, of which the second needs the first for development.
+pub const CIRCLE_FOR_DEVELOPMENT: &str = "package\tx\tworkspace\n\
+    dep\ty\ty\tnormal\trequired\t*\tnodefault\n\
+    package\ty\texternal\n\
+    dep\tx\tx\tdev\trequired\t*\tnodefault\n";
+
+/// A package that needs itself for development.
+pub const DEPENDS_ON_ITSELF: &str = "package\tp\tworkspace\n\
+    dep\tp\tp\tdev\trequired\t*\tnodefault\n";
+
+/// Items and a listed name that name nothing, and an item that names its own feature.
+pub const NAMES_OF_NOTHING: &str = "package\tmain\tworkspace\n\
+    feature\ta\ta\tgone\tdep:x\ty/z\n\
+    dep\tsv\tsv\tnormal\trequired\t*\tdefault\tnope\n\
+    package\tsv\texternal\n";
+
+/// One name for a required package and an optional one.
+pub const NEEDED_AND_OPTIONAL_OF_A_NAME: &str = "package\tmain\tworkspace\n\
+    feature\tf\tdep:foo\n\
+    feature\tg\tfoo/std\n\
+    feature\th\tfoo?/std\n\
+    dep\tfoo\ta\tnormal\trequired\t*\tnodefault\n\
+    dep\tfoo\tb\tnormal\toptional\tcfg(unix)\tnodefault\n\
+    package\ta\texternal\n\
+    feature\tstd\n\
+    package\tb\texternal\n";
+
+/// Two declarations of a link, of which one asks for defaults and the other lists a feature.
+pub const DEFAULTS_AND_LISTED: &str = "package\tmain\tworkspace\n\
+    dep\tx\tx\tnormal\trequired\t*\tnodefault\tu\n\
+    dep\tx\tx\tbuild\trequired\tcfg(a)\tdefault\n\
+    package\tx\texternal\n\
+    feature\tdefault\n\
+    feature\tu\n";
+
+/// A package that depends on itself under the name of a feature, so that several rules give one pair of nodes an edge.
+pub const RANKS_THAT_MEET: &str = "package\tp\tworkspace\n\
+    feature\tf\td/d\n\
+    feature\tg\td\td/d\n\
+    feature\th\td?/d\td/x\n\
+    feature\td\n\
+    dep\td\tp\tnormal\trequired\t*\tnodefault\n\
+    dep\td\tp\tdev\toptional\t*\tnodefault\n";
+
+/// Weak items whose first edge names the second link, over a link with platforms that repeat.
+pub const WEAK_OVER_PLATFORMS: &str = "package\tmain\tworkspace\n\
+    feature\ts\tb?/x\n\
+    feature\tt\ta?/x\ta?/y\tb?/y\n\
+    dep\ta\ta\tnormal\toptional\tcfg(one)\tnodefault\n\
+    dep\ta\ta\tnormal\trequired\tcfg(two)\tnodefault\n\
+    dep\ta\ta\tnormal\toptional\tcfg(one)\tnodefault\n\
+    dep\tb\tb\tbuild\toptional\t*\tnodefault\n\
+    package\ta\texternal\n\
+    feature\tx\n\
+    feature\ty\n\
+    package\tb\texternal\n\
+    feature\tx\n\
+    feature\ty\n";
