@@ -1,4 +1,4 @@
-//! Tests that cross the crates: small row files, and what the program answers for them.
+//! Tests that cross the crates: small row files, what is built of them, and what the program answers for them.
 #![tactic(auto)]
 
 #[cfg(test)]
