@@ -1,4 +1,8 @@
 //! Whole tables of edges of small graphs, with texts that were worked out by hand from the rules of edges.
+//!
+//! A text has a line of the nodes by number, then a line for each edge: its ends, what it says, and its link, which is the
+//! declarations that it covers, a status for each kind, and the package links. A weak edge has its index, and after its
+//! full link the required and the optional half. Then come the weak links with their gates, and the warnings.
 ghost use Rattle.feature_core.specs.Built.{IsBuilt};
 
 use crate::fixtures::{

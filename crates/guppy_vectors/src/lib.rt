@@ -1,5 +1,6 @@
 //! Tests that cross the crates: small row files, and what the program answers for them; walks over small graphs, and a
 //! judge of their runs.
+//! Tests that cross the crates: small row files, what is built of them, and what the program answers for them.
 #![tactic(auto)]
 
 #[cfg(test)]
