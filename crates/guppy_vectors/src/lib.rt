@@ -1,6 +1,5 @@
-//! Tests that cross the crates: small row files, and what the program answers for them; walks over small graphs, and a
-//! judge of their runs.
-//! Tests that cross the crates: small row files, what is built of them, and what the program answers for them.
+//! Tests that cross the crates: small row files, what is built of them, and what the program answers for them; walks over
+//! small graphs, and a judge of their runs.
 #![tactic(auto)]
 
 #[cfg(test)]

@@ -338,10 +338,12 @@ const OFFERS: [(usize, Half); 4] = [
 /// The offers that a number from 0 to 15 stands for.
 fn chosen(alloc: Global, number: usize) -> Result<Vec<(usize, Half)>, AllocError> {
     let mut offers = Vec::new(alloc);
-    for (place, offer) in OFFERS.iter().enumerate() {
-        if (number >> place) & 1 == 1 {
-            offers.push(*offer)?;
+    let mut rest = number;
+    for offer in OFFERS {
+        if rest % 2 == 1 {
+            offers.push(offer)?;
         }
+        rest /= 2;
     }
     Ok(offers)
 }
@@ -351,7 +353,10 @@ fn ordered(alloc: Global, number: usize) -> Result<Vec<(usize, Half)>, AllocErro
     let mut left = OFFERS.to_vec(alloc)?;
     let mut order = Vec::new(alloc);
     let mut rest = number;
-    while !left.is_empty() {
+    for _ in OFFERS {
+        if left.is_empty() {
+            break;
+        }
         let place = rest % left.len();
         rest /= left.len();
         order.push(left.remove(place))?;
