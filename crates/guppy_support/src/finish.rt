@@ -117,15 +117,15 @@ fn finish_order(alloc: Global, graph: &Digraph) -> Result<Vec<usize>, AllocError
     ensures order { IfOk result (λ order. IsFinishOrder graph.now order.items) }
     ensures apart { IfOk result (λ order. AreApart order.items) }
 {
-    let mut left = Vec::new(alloc);
+    let mut left = Vec::with_capacity(alloc, graph.node_count())?;
     for node in 0..graph.node_count() {
         left.push(graph.out_edges(node).len())?;
     }
     let mut search = Search {
         seen: vec![in alloc; false; graph.node_count()]?,
         left,
-        opened: Vec::new(alloc),
-        closed: Vec::new(alloc),
+        opened: Vec::with_capacity(alloc, graph.node_count())?,
+        closed: Vec::with_capacity(alloc, graph.node_count())?,
     };
     for root in 0..graph.node_count() {
         if !search.seen[root] {

@@ -131,7 +131,7 @@ pub(crate) fn ranks_from(
     let mut marks = Marks {
         seen: vec![in alloc; false; graph.node_count()]?,
         ranks: vec![in alloc; 0; graph.node_count()]?,
-        members: Vec::new(alloc),
+        members: Vec::with_capacity(alloc, graph.node_count())?,
         next: 0,
     };
     let mut rank = 0;

@@ -104,7 +104,7 @@ fn listed(alloc: Global, graph: &Digraph, ranks: &[usize]) -> Result<Vec<usize>,
 {
     let groups = pack_rows(alloc, graph.node_count(), ranks)?;
     let plan = first_plan(alloc, graph, ranks, &groups)?;
-    order_from(alloc, graph, ranks, &groups, plan)
+    order_from(graph, ranks, &groups, plan)
 }
 
 // How many components begin up to that place, where so many begin before it.
@@ -132,7 +132,7 @@ fn numbered(
     ensures long { IfOk result (λ r. length r.0.items ≡ length list.now) }
     ensures numbers { IfOk result (λ r. AreNumbered list.now ranks.now r.0.items r.1) }
 {
-    let mut numbers = Vec::new(alloc);
+    let mut numbers = Vec::with_capacity(alloc, list.len())?;
     let mut count = 0;
     for place in 0..list.len() {
         count = next_count(list, ranks, place, count);

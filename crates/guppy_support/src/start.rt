@@ -156,13 +156,14 @@ pub(crate) fn first_plan(
     let held = count_holding(alloc, graph, ranks)?;
     let starts = first_starts(alloc, nodes, ranks, groups, &outside, &held)?;
     let done = unmarked(alloc, nodes)?;
+    let listed = Vec::with_capacity(alloc, nodes)?;
     Ok(Plan {
-        listed: Vec::new(alloc),
+        listed,
         done,
         outside,
         held,
         starts,
         ready: Queue::new(alloc),
-        rest: Queue::new(alloc),
+        next: 0,
     })
 }
