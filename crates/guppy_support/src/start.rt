@@ -40,18 +40,6 @@ fn zeroes(alloc: Global, count: usize) -> Result<Vec<usize>, AllocError>
     vec![in alloc; 0usize; count]
 }
 
-/// How many edges enter each component.
-fn count_entering(alloc: Global, graph: &Digraph, ranks: &[usize]) -> Result<Vec<usize>, AllocError>
-    requires setup { IsSetup graph.now ranks.now }
-    ensures { IfOk result (λ counts. AreEntering graph.now ranks.now (length graph.now.edges) counts.items) }
-{
-    let mut counts = zeroes(alloc, graph.node_count())?;
-    for number in 0..graph.edge_count() {
-        add_entering(&mut counts, graph, ranks, number);
-    }
-    Ok(counts)
-}
-
 /// Adds the first node of the component of that rank, if there is one and no edge enters it.
 fn add_start(
     starts: &mut Queue,
@@ -99,16 +87,23 @@ fn add_holding(counts: &mut Vec<usize>, graph: &Digraph, ranks: &[usize], number
     counts[edge.to] += 1;
 }
 
-/// How many edges hold each node.
-fn count_holding(alloc: Global, graph: &Digraph, ranks: &[usize]) -> Result<Vec<usize>, AllocError>
+/// How many edges enter each component, and how many hold each node.
+fn count_edges(
+    alloc: Global,
+    graph: &Digraph,
+    ranks: &[usize],
+) -> Result<(Vec<usize>, Vec<usize>), AllocError>
     requires setup { IsSetup graph.now ranks.now }
-    ensures { IfOk result (λ counts. AreHolding graph.now ranks.now (length graph.now.edges) counts.items) }
+    ensures entering { IfOk result (λ counts. AreEntering graph.now ranks.now (length graph.now.edges) counts.0.items) }
+    ensures holding { IfOk result (λ counts. AreHolding graph.now ranks.now (length graph.now.edges) counts.1.items) }
 {
-    let mut counts = zeroes(alloc, graph.node_count())?;
+    let mut outside = zeroes(alloc, graph.node_count())?;
+    let mut held = zeroes(alloc, graph.node_count())?;
     for number in 0..graph.edge_count() {
-        add_holding(&mut counts, graph, ranks, number);
+        add_entering(&mut outside, graph, ranks, number);
+        add_holding(&mut held, graph, ranks, number);
     }
-    Ok(counts)
+    Ok((outside, held))
 }
 
 /// The first nodes of the components that no edge enters.
@@ -146,19 +141,19 @@ pub(crate) fn first_plan(
     graph: &Digraph,
     ranks: &[usize],
     groups: &Rows,
+    room: Vec<usize>,
 ) -> Result<Plan, AllocError>
     requires setup { IsSetup graph.now ranks.now }
+    requires room { room.items ≡ [] }
     requires packed { IsPacked graph.now.nodes ranks.now groups.now.begins.items groups.now.numbers.items }
     ensures { IfOk result (λ plan. IsPauseIn graph.now ranks.now plan) }
 {
     let nodes = graph.node_count();
-    let outside = count_entering(alloc, graph, ranks)?;
-    let held = count_holding(alloc, graph, ranks)?;
+    let (outside, held) = count_edges(alloc, graph, ranks)?;
     let starts = first_starts(alloc, nodes, ranks, groups, &outside, &held)?;
     let done = unmarked(alloc, nodes)?;
-    let listed = Vec::with_capacity(alloc, nodes)?;
     Ok(Plan {
-        listed,
+        listed: room,
         done,
         outside,
         held,
