@@ -50,7 +50,7 @@ impl IxBitSet {
     pub fn try_clone(&self, alloc: Global) -> Result<IxBitSet, AllocError>
         ensures { IfOk result (λ set. set ≡ self.now) }
     {
-        let words = self.words.iter().copied().collect(alloc)?;
+        let words = Vec::from_slice(alloc, &self.words)?;
         Ok(IxBitSet {
             size: self.size,
             words,
@@ -213,31 +213,36 @@ fn same_words(mine: &[u64], its: &[u64]) -> bool
 fn either(alloc: Global, mine: &[u64], its: &[u64]) -> Result<Vec<u64>, AllocError>
     ensures { IfOk result (λ words. words.items ≡ map (λ p. bit_or p.0 p.1) (zip mine.now its.now)) }
 {
-    mine.iter().zip(its).map(|(a, b)| *a | *b).collect(alloc)
+    let mut words = Vec::with_capacity(alloc, mine.len())?;
+    words.extend(mine.iter().zip(its).map(|(a, b)| *a | *b))?;
+    Ok(words)
 }
 
 // The bits that both words have.
 fn both(alloc: Global, mine: &[u64], its: &[u64]) -> Result<Vec<u64>, AllocError>
     ensures { IfOk result (λ words. words.items ≡ map (λ p. bit_and p.0 p.1) (zip mine.now its.now)) }
 {
-    mine.iter().zip(its).map(|(a, b)| *a & *b).collect(alloc)
+    let mut words = Vec::with_capacity(alloc, mine.len())?;
+    words.extend(mine.iter().zip(its).map(|(a, b)| *a & *b))?;
+    Ok(words)
 }
 
 // The bits of the first word that the second lacks.
 fn first_alone(alloc: Global, mine: &[u64], its: &[u64]) -> Result<Vec<u64>, AllocError>
     ensures { IfOk result (λ words. words.items ≡ map (λ p. bit_and p.0 (bit_xor p.0 p.1)) (zip mine.now its.now)) }
 {
-    mine.iter()
-        .zip(its)
-        .map(|(a, b)| *a & (*a ^ *b))
-        .collect(alloc)
+    let mut words = Vec::with_capacity(alloc, mine.len())?;
+    words.extend(mine.iter().zip(its).map(|(a, b)| *a & (*a ^ *b)))?;
+    Ok(words)
 }
 
 // The bits that one word has and the other lacks.
 fn exactly_one(alloc: Global, mine: &[u64], its: &[u64]) -> Result<Vec<u64>, AllocError>
     ensures { IfOk result (λ words. words.items ≡ map (λ p. bit_xor p.0 p.1) (zip mine.now its.now)) }
 {
-    mine.iter().zip(its).map(|(a, b)| *a ^ *b).collect(alloc)
+    let mut words = Vec::with_capacity(alloc, mine.len())?;
+    words.extend(mine.iter().zip(its).map(|(a, b)| *a ^ *b))?;
+    Ok(words)
 }
 
 /// The numbers of a set that are left, ascending.

@@ -178,7 +178,9 @@ fn is_before(first: (usize, usize), other: (usize, usize)) -> bool
 fn targets_of(alloc: Global, edges: &[Edge]) -> Result<Vec<usize>, AllocError>
     ensures { IfOk result (λ to. to.items ≡ targets edges.now) }
 {
-    edges.iter().map(|edge| edge.to).collect(alloc)
+    let mut to = Vec::with_capacity(alloc, edges.len())?;
+    to.extend(edges.iter().map(|edge| edge.to))?;
+    Ok(to)
 }
 
 // The numbers of the edges by target.

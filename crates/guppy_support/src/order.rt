@@ -44,7 +44,7 @@ impl Order {
         graph.facts();
         let ranked = component_ranks(alloc, graph)?;
         let ranks = ranked.ranks;
-        let list = listed(alloc, graph, &ranks, ranked.room)?;
+        let list = listed(alloc, graph, &ranks, ranked.room, ranked.count)?;
         let (numbers, begins) = numbered(alloc, &list, &ranks, ranked.other_room, ranked.count)?;
         let components = scattered(ranks, &list, &numbers);
         let count = begins.len() - 1;
@@ -103,13 +103,14 @@ fn listed(
     graph: &Digraph,
     ranks: &[usize],
     room: Vec<usize>,
+    components: usize,
 ) -> Result<Vec<usize>, AllocError>
     requires setup { IsSetup graph.now ranks.now }
     requires room { room.items ≡ [] }
     ensures { IfOk result (λ list. IsOrder graph.now.edges graph.now.nodes list.items) }
 {
     let groups = pack_rows(alloc, graph.node_count(), ranks)?;
-    let plan = first_plan(alloc, graph, ranks, &groups, room)?;
+    let plan = first_plan(alloc, graph, ranks, &groups, room, components)?;
     order_from(graph, ranks, &groups, plan)
 }
 

@@ -114,6 +114,7 @@ fn first_starts(
     groups: &Rows,
     outside: &[usize],
     held: &[usize],
+    components: usize,
 ) -> Result<Queue, AllocError>
     requires ranks { length ranks.now ≡ nodes }
     requires outside { length outside.now ≡ nodes }
@@ -121,7 +122,7 @@ fn first_starts(
     requires packed { IsPacked nodes ranks.now groups.now.begins.items groups.now.numbers.items }
     ensures { IfOk result (λ starts. AreFirsts ranks.now outside.now held.now nodes starts) }
 {
-    let mut starts = Queue::new(alloc);
+    let mut starts = Queue::with_capacity(alloc, components)?;
     for rank in 0..nodes {
         let members = row(groups, ranks, rank, nodes);
         add_start(&mut starts, members, ranks, outside, held, rank)?;
@@ -135,13 +136,14 @@ fn unmarked(alloc: Global, count: usize) -> Result<Vec<bool>, AllocError>
     vec![in alloc; false; count]
 }
 
-/// The plan in which no node is listed.
+/// The plan in which no node is listed. So many components there are; no queue outgrows its room.
 pub(crate) fn first_plan(
     alloc: Global,
     graph: &Digraph,
     ranks: &[usize],
     groups: &Rows,
     room: Vec<usize>,
+    components: usize,
 ) -> Result<Plan, AllocError>
     requires setup { IsSetup graph.now ranks.now }
     requires room { room.items ≡ [] }
@@ -150,15 +152,17 @@ pub(crate) fn first_plan(
 {
     let nodes = graph.node_count();
     let (outside, held) = count_edges(alloc, graph, ranks)?;
-    let starts = first_starts(alloc, nodes, ranks, groups, &outside, &held)?;
+    let starts = first_starts(alloc, nodes, ranks, groups, &outside, &held, components)?;
     let done = unmarked(alloc, nodes)?;
+    let largest = nodes.saturating_sub(components).saturating_add(1);
+    let ready = Queue::with_capacity(alloc, largest)?;
     Ok(Plan {
         listed: room,
         done,
         outside,
         held,
         starts,
-        ready: Queue::new(alloc),
+        ready,
         next: 0,
     })
 }
