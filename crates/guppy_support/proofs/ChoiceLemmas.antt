@@ -1,15 +1,17 @@
 -- Which node is chosen.
-use Rattle.std.proofs.Common.{◌≡◌, ℕ, suc, ◌<◌, inl, inr, Bool, true, false, not, List, [], length, get_or, set, refl, ap, sym, ◌∙◌, arith, Contains}
-use Rattle.std.proofs.lemmas.Bool.{cases_Bool}
+use Rattle.std.proofs.Common.{◌≡◌, ℕ, suc, ◌+◌, ◌-◌, ◌<◌, ◌≤◌, drop, inl, inr, Bool, true, false, not, List, [], length, get_or, set, refl, ap, sym, ◌∙◌, arith, Contains}
+use Rattle.std.proofs.lemmas.Bool.{cases_Bool, cases_lt, cases_eq}
+use Rattle.std.proofs.lemmas.List.{length-drop, get_or-drop}
+use Rattle.std.proofs.lemmas.List.Elements.{Contains-get_or}
 use Rattle.guppy_support.specs.Graph.{Graph}
 use Rattle.guppy_support.specs.Orders.{IsOrder}
 use Rattle.guppy_support.proofs.FaultLemmas.{nodes_of_edge}
 use Rattle.guppy_support.proofs.MarkLemmas.{place_of}
 use Rattle.guppy_support.specs.Heads.{IsDone, IsHead, IsEntered}
-use Rattle.guppy_support.specs.Plans.{is_fresh, IsRun, IsWithin, IsChosen, IsSetup, IsPause, AreFilled, AreCut, TakesFresh, IsBegun, IsWaiting, RowWaits}
+use Rattle.guppy_support.specs.Plans.{is_fresh, IsRun, IsWithin, IsChosen, IsSetup, IsPause, AreFilled, AreCut, TakesFresh, IsBegun, IsWaiting, RowWaits, IsFreshPlace}
 use Rattle.guppy_support.specs.Rows.{places}
 use Rattle.guppy_support.proofs.PlaceLemmas.{places_within}
-use Rattle.guppy_support.proofs.GroupLemmas.{row_complete}
+use Rattle.guppy_support.proofs.GroupLemmas.{row_complete, rising}
 use Rattle.guppy_support.proofs.Exists.{IsFront, some_available, rank_same}
 use Rattle.guppy_support.proofs.HeadLemmas.{next_within, next_start, done_cases}
 use Rattle.guppy_support.proofs.PlanLemmas.{holds_of, entered_of, zero_of}
@@ -23,6 +25,60 @@ cut_none done xs v = record { kept = λ y c f ne. c; only = λ y c. c }
 
 cut_all : (done : List Bool) (xs : List ℕ) (v : ℕ) → ((y : ℕ) → Contains xs y → IsDone done y) → AreCut done xs v []
 cut_all done xs v all = record { kept = λ y c f ne. absurd (f (all y c)); only = λ y c. absurd (omega (arith, c.1)) }
+
+row_member : (n : ℕ) (ranks : List ℕ) (c : ℕ) → length ranks ≡ n → (y : ℕ) → Contains (places c ranks) y → (y < n) × (get_or ranks y 0 ≡ c)
+row_member n ranks c long y cy =
+    let p = place_of (places c ranks) y cy in
+    let q = places_within c ranks p.0 p.1 in
+    (omega (arith, q.0, p.2, long), rw p.2 at q.1)
+
+row_has : (n : ℕ) (ranks : List ℕ) (c u : ℕ) → length ranks ≡ n → u < n → get_or ranks u 0 ≡ c → Contains (places c ranks) u
+row_has n ranks c u long lu e = let r = row_complete ranks c u (omega (arith, long)) e in rw r.2 at (Contains-get_or (places c ranks) r.0 0 r.1)
+
+-- a node of the row from place k on stands at a place from there on
+behind_place : (row : List ℕ) (k y : ℕ) → Contains (drop k row) y → (j : ℕ) × (k ≤ j) × ((j < length row) × (get_or row j 0 ≡ y))
+behind_place row k y c =
+    let p = place_of (drop k row) y c in
+    (k + p.0, omega arith, (omega (arith, p.1, length-drop k row), sym (get_or-drop k row p.0 0) ∙ p.2))
+
+place_behind : (row : List ℕ) (k j y : ℕ) → k ≤ j → j < length row → get_or row j 0 ≡ y → Contains (drop k row) y
+place_behind row k j y le l e =
+    let z : k + (j - k) ≡ j = omega arith in
+    let c = Contains-get_or (drop k row) (j - k) 0 (omega (arith, l, le, length-drop k row)) in
+    let r : get_or (drop k row) (j - k) 0 ≡ y = get_or-drop k row (j - k) 0 ∙ ap (λ i. get_or row i 0) z ∙ e in
+    rw r at c
+
+-- the first place at which a node stands that isn't done
+pub takes_row : (ranks : List ℕ) (c : ℕ) (done : List Bool) (from place : ℕ) → IsFreshPlace (places c ranks) done from place
+    → TakesFresh done (drop from (places c ranks)) (get_or (places c ranks) place 0) (drop place (places c ranks))
+takes_row ranks c done from place f =
+    let row : List ℕ = places c ranks in
+    let later : (y : ℕ) → Contains (drop from row) y → ¬ IsDone done y → (j : ℕ) × (place ≤ j) × ((j < length row) × (get_or row j 0 ≡ y)) =
+    λ y cy fy.
+    let p = behind_place row from y cy in
+    elim (cases_lt p.0 place) [
+      | inl less ↦ absurd (fy (rw p.2.1 at (f.passed p.0 p.1 less)))
+      | inr ge ↦ (p.0, ge, p.2)
+    ]
+    in
+    record {
+      was = place_behind row from place (get_or row place 0) f.after f.within refl;
+      fresh = f.fresh;
+      least = λ y cy fy.
+          let p = later y cy fy in
+          elim (cases_eq place p.0) [
+            | inl same ↦ let e : get_or row place 0 ≡ y = rw (sym same) at p.2.1 in omega (arith, e)
+            | inr ne ↦ let up = rising c 0 ranks place p.0 (omega (arith, ne, p.1)) p.2.0 in omega (arith, up, p.2.1)
+          ];
+      cut = record {
+        kept = λ y cy fy ne. let p = later y cy fy in place_behind row place p.0 y p.1 p.2.0 p.2.1;
+        only = λ y cy. let p = behind_place row place y cy in place_behind row from p.0 y (omega (arith, p.1, f.after)) p.2.0 p.2.1;
+      };
+    }
+
+-- where each place of the row is passed, each node that is left is done
+pub row_done : (row : List ℕ) (done : List Bool) (from : ℕ) → ((j : ℕ) → from ≤ j → j < length row → IsDone done (get_or row j 0)) → (y : ℕ) → Contains (drop from row) y → IsDone done y
+row_done row done from all y cy = let p = behind_place row from y cy in rw p.2.1 at (all p.0 p.1 p.2.0)
 
 module _ (g : Graph) (ranks : List ℕ) (s : IsSetup g ranks) (listed : List ℕ) (done : List Bool) (outside held starts : List ℕ) where
   module _ (c : ℕ) (ready rest : List ℕ) (w : IsWithin g ranks c listed done outside held starts ready rest) where
@@ -44,6 +100,10 @@ module _ (g : Graph) (ranks : List ℕ) (s : IsSetup g ranks) (listed : List ℕ
           entered = zero_v;
           run = run_mark g ranks listed done outside held starts v ready ready' rest rest' run (omega (arith, p.done_long, head.node)) cut cut';
         }
+
+    -- the component at hand has a node, so its number is small
+    pub rank_small : c < g.nodes
+    rank_small = let b = w.run.begun in omega (arith, s.small b.by (w.plan.nodes b.by (w.plan.marks.listed_one b.by b.marked)), b.same)
 
     -- the least ready node
     pub choose_ready : (v : ℕ) (ready' : List ℕ) → TakesFresh done ready v ready' → IsChosen g ranks v listed done outside held starts ready' rest
@@ -87,9 +147,10 @@ module _ (g : Graph) (ranks : List ℕ) (s : IsSetup g ranks) (listed : List ℕ
     small_rank : (u : ℕ) → u < g.nodes → get_or ranks u 0 < length outside
     small_rank u lu = omega (arith, s.small u lu, q.plan.outside_long)
 
-    -- the least start, in a component whose nodes wait
-    pub choose_start : (v : ℕ) (starts' ready rest : List ℕ) → TakesFresh done starts v starts' → AreFilled g.nodes ranks held (get_or ranks v 0) ready rest → IsChosen g ranks v listed done outside held starts' ready rest
-    choose_start v starts' ready rest t f =
+    -- the least start, in a component whose other nodes wait
+    pub choose_start : (v : ℕ) (starts' ready : List ℕ) → TakesFresh done starts v starts' → AreFilled g.nodes ranks held (get_or ranks v 0) v ready
+        → IsChosen g ranks v listed done outside held starts' ready (drop 0 (places (get_or ranks v 0) ranks))
+    choose_start v starts' ready t f =
         let p = q.plan in
         let lv = p.starts_nodes v t.was in
         let inside : v < length done = omega (arith, p.done_long, lv) in
@@ -116,10 +177,10 @@ module _ (g : Graph) (ranks : List ℕ) (s : IsSetup g ranks) (listed : List ℕ
                   | inr o ↦ q.whole (get_or ranks v 0) a b o lb (older b fb) e
                 ];
             begun = record { by = v; marked = done_same done v inside; same = refl };
-            ready_all = λ u lu fu e z. f.ready_all u lu e z;
+            ready_all = λ u lu fu e z. f.ready_all u lu e z (λ is. fu (rw is (done_same done v inside)));
             ready_only = f.ready_only;
-            rest_all = λ u lu fu e. f.rest_all u lu e;
-            rest_only = f.rest_only;
+            rest_all = λ u lu fu e. row_has g.nodes ranks (get_or ranks v 0) u s.ranking.long lu e;
+            rest_only = λ u cu. row_member g.nodes ranks (get_or ranks v 0) s.ranking.long u cu;
           };
         }
 
@@ -164,19 +225,11 @@ module _ (g : Graph) (ranks : List ℕ) (s : IsSetup g ranks) (listed : List ℕ
         record { long = long; next = λ k h. q.plan.ordered k (omega (arith, long)) }
 
 -- the row of a component waits: its nodes do
-pub filled : (n : ℕ) (ranks held : List ℕ) (c : ℕ) (ready rest : List ℕ) → length ranks ≡ n → RowWaits (places c ranks) held ready rest → AreFilled n ranks held c ready rest
-filled n ranks held c ready rest long w =
-    let member : (y : ℕ) → Contains (places c ranks) y → (y < n) × (get_or ranks y 0 ≡ c) =
-    λ y cy.
-    let p = place_of (places c ranks) y cy in
-    let q = places_within c ranks p.0 p.1 in
-    (omega (arith, q.0, p.2, long), rw p.2 at q.1)
-    in
+pub filled : (n : ℕ) (ranks held : List ℕ) (c v : ℕ) (ready : List ℕ) → length ranks ≡ n → RowWaits (places c ranks) held v ready → AreFilled n ranks held c v ready
+filled n ranks held c v ready long w =
     record {
-      ready_all = λ u lu e z. let r = row_complete ranks c u (omega (arith, long)) e in rw r.2 at (w.ready_all r.0 r.1 (rw (sym r.2) at z));
-      ready_only = λ u cu. let o = w.ready_only u cu in let m = member u o.0 in (m.0, (m.1, o.1));
-      rest_all = λ u lu e. let r = row_complete ranks c u (omega (arith, long)) e in rw r.2 at (w.rest_all r.0 r.1);
-      rest_only = λ u cu. member u (w.rest_only u cu);
+      ready_all = λ u lu e z ne. let r = row_complete ranks c u (omega (arith, long)) e in rw r.2 at (w.ready_all r.0 r.1 (rw (sym r.2) at z) (λ is. ne (sym r.2 ∙ is)));
+      ready_only = λ u cu. let o = w.ready_only u cu in let m = row_member n ranks c long u o.0 in (m.0, (m.1, o.1));
     }
 
 -- at the start nothing is done, and each component that no edge enters waits

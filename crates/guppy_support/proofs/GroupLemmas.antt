@@ -26,7 +26,7 @@ rising_first s rest f r i zero l h = absurd (omega arith)
 rising_first s rest f r zero (suc j) l h = omega (arith, f j (omega arith))
 rising_first s rest f r (suc i) (suc j) l h = r i j (omega arith) (omega arith)
 
-rising : (v s : ℕ) (xs : List ℕ) (i j : ℕ) → i < j → j < length (places_from v s xs) → get_or (places_from v s xs) i 0 < get_or (places_from v s xs) j 0
+pub rising : (v s : ℕ) (xs : List ℕ) (i j : ℕ) → i < j → j < length (places_from v s xs) → get_or (places_from v s xs) i 0 < get_or (places_from v s xs) j 0
 rising v s [] i j l h = absurd (omega arith)
 rising v s (x ∷ xs) i j l h =
     elim (eqb_tells x v) [

@@ -5,7 +5,7 @@ use Rattle.std.proofs.lemmas.Bool.{cases_eq, cases_lt, cases_order, eq-eqb, ne_e
 use Rattle.std.proofs.lemmas.List.{get_or-take, get_or-map, length-map, length-take, ext_get_or, get_or_append_left, get_or_at, length-append, get_or_default}
 use Rattle.guppy_support.specs.Graph.{Graph, IsDigraph}
 use Rattle.guppy_support.specs.Orders.{IsOrder}
-use Rattle.guppy_support.specs.Rows.{below}
+use Rattle.guppy_support.specs.Rows.{below, AreBegun}
 use Rattle.guppy_support.specs.Finish.{AreApart}
 use Rattle.guppy_support.specs.Ranks.{IsRanking}
 use Rattle.guppy_support.specs.Sequences.{IsOrderOf, numbers_of, AreGrouped, rank_at, AreNumbered}
@@ -216,6 +216,99 @@ numbered_more list ranks numbers count next a first stays steps =
             | inl is ↦ rw is (omega (arith, here, old i (omega arith), a.last i is, steps i is (rw is at ne)))
           ];
     }
+
+-- a number that isn't below c, at the end, changes nothing of those below c
+below_push : (c : ℕ) (xs : List ℕ) (y : ℕ) → c ≤ y → below c (xs ++ y ∷ []) ≡ below c xs
+below_push c [] y h = rw (le-ltb y c h) refl
+below_push c (x ∷ xs) y h = rw (below_push c xs y h) refl
+
+below_all : (c : ℕ) (xs : List ℕ) → ((i : ℕ) → i < length xs → get_or xs i 0 < c) → below c xs ≡ length xs
+below_all c [] h = refl
+below_all c (x ∷ xs) h = rw (lt-ltb x c (h 0 (omega arith))) (omega (arith, below_all c xs (λ i l. h (suc i) (omega arith))))
+
+-- one component more begins behind all numbers
+pub begun_last : (numbers begins : List ℕ) (p : ℕ) → AreBegun numbers begins → ((i : ℕ) → i < length numbers → get_or numbers i 0 < length begins) → p ≡ length numbers → AreBegun numbers (begins ++ p ∷ [])
+begun_last numbers begins p begun low is c h =
+    elim (cases_eq c (length begins)) [
+      | inl e ↦ rw (e, get_or_at begins p [] 0 (length begins) refl) (is ∙ sym (below_all (length begins) numbers low))
+      | inr ne ↦
+          let l : c < length begins = omega (arith, h, ne, length-append begins (p ∷ [])) in
+          rw (get_or_append_left begins (p ∷ []) 0 c l) (begun c l)
+    ]
+
+-- what is known while components are numbered
+pub record IsNumbering (list ranks numbers begins : List ℕ) (place : ℕ) : Type 0 where
+  pub long : length numbers ≡ place
+  pub numbered : AreNumbered list ranks numbers (length begins)
+  pub begun : AreBegun numbers begins
+  pub low : (i : ℕ) → i < length numbers → get_or numbers i 0 < length begins
+
+pub numbering_none : (list ranks : List ℕ) → IsNumbering list ranks [] [] 0
+numbering_none list ranks =
+    record {
+      long = refl;
+      numbered = numbered_none list ranks;
+      begun = λ c h. absurd (omega arith);
+      low = λ i h. absurd (omega arith);
+    }
+
+low_more : (numbers : List ℕ) (n m : ℕ) → n ≤ m → 0 < m → ((i : ℕ) → i < length numbers → get_or numbers i 0 < n) → (i : ℕ) → i < length (numbers ++ (m - 1) ∷ []) → get_or (numbers ++ (m - 1) ∷ []) i 0 < m
+low_more numbers n m le some low i h =
+    elim (cases_eq i (length numbers)) [
+      | inl e ↦ rw (e, get_or_at numbers (m - 1) [] 0 (length numbers) refl) (omega arith)
+      | inr ne ↦
+          let l : i < length numbers = omega (arith, h, ne, length-append numbers ((m - 1) ∷ [])) in
+          rw (get_or_append_left numbers ((m - 1) ∷ []) 0 i l) (omega (arith, low i l))
+    ]
+
+begun_push : (numbers begins : List ℕ) → AreBegun numbers begins → AreBegun (numbers ++ (length begins - 1) ∷ []) begins
+begun_push numbers begins begun c h = begun c h ∙ sym (below_push c numbers (length begins - 1) (omega arith))
+
+-- one place more, with its component's begin where it has one
+pub numbering_more : (list ranks numbers begins begins' : List ℕ) (place : ℕ) → IsNumbering list ranks numbers begins place
+    → (place ≡ 0 → begins' ≡ begins ++ place ∷ [])
+    → ((i : ℕ) → i + 1 ≡ place → rank_at list ranks i ≡ rank_at list ranks place → begins' ≡ begins)
+    → ((i : ℕ) → i + 1 ≡ place → rank_at list ranks i ≢ rank_at list ranks place → begins' ≡ begins ++ place ∷ [])
+    → (0 < length begins') × IsNumbering list ranks (numbers ++ (length begins' - 1) ∷ []) begins' (place + 1)
+numbering_more list ranks numbers begins begins' place n first stays steps =
+    elim (cases_eq place 0) [
+      | inl z ↦ grown (first z) (λ i e same. absurd (omega arith))
+      | inr some ↦
+          elim (cases_eq (rank_at list ranks (place - 1)) (rank_at list ranks place)) [
+            | inl same ↦ kept (stays (place - 1) (omega arith) same) some (λ i e other. let is : i ≡ place - 1 = omega arith in other (rw is same))
+            | inr other ↦ grown (steps (place - 1) (omega arith) other) (λ i e same. let is : i ≡ place - 1 = omega arith in other (rw is at same))
+          ]
+    ]
+  where
+    at_place : length numbers ≡ place
+    at_place = n.long
+
+    grown : begins' ≡ begins ++ place ∷ [] → ((i : ℕ) → i + 1 ≡ place → rank_at list ranks i ≢ rank_at list ranks place) → (0 < length begins') × IsNumbering list ranks (numbers ++ (length begins' - 1) ∷ []) begins' (place + 1)
+    grown is apart =
+        let count : length (begins ++ place ∷ []) ≡ length begins + 1 = length-append begins (place ∷ []) in
+        rw is (
+          omega (arith, count),
+          record {
+            long = omega (arith, length-append numbers ((length (begins ++ place ∷ []) - 1) ∷ []), n.long);
+            numbered = numbered_more list ranks numbers (length begins) (length (begins ++ place ∷ [])) n.numbered (λ z. count) (λ i e same. absurd (apart i (e ∙ at_place) (rw at_place at same))) (λ i e ne. count);
+            begun = begun_push numbers (begins ++ place ∷ []) (begun_last numbers begins place n.begun n.low (sym n.long));
+            low = low_more numbers (length begins) (length (begins ++ place ∷ [])) (omega (arith, count)) (omega (arith, count)) n.low;
+          },
+        )
+
+    kept : begins' ≡ begins → place ≢ 0 → ((i : ℕ) → i + 1 ≡ place → ¬ (rank_at list ranks i ≢ rank_at list ranks place)) → (0 < length begins') × IsNumbering list ranks (numbers ++ (length begins' - 1) ∷ []) begins' (place + 1)
+    kept is some together =
+        let last = n.numbered.last (place - 1) (omega (arith, n.long, some)) in
+        let positive : 0 < length begins = omega (arith, last) in
+        rw is (
+          positive,
+          record {
+            long = omega (arith, length-append numbers ((length begins - 1) ∷ []), n.long);
+            numbered = numbered_more list ranks numbers (length begins) (length begins) n.numbered (λ z. absurd (omega (arith, z, n.long, some))) (λ i e same. refl) (λ i e ne. absurd (together i (e ∙ at_place) (rw at_place at ne)));
+            begun = begun_push numbers begins n.begun;
+            low = low_more numbers (length begins) (length begins) (omega arith) positive n.low;
+          },
+        )
 
 -- one node more has its number
 pub scattered_more : (list numbers numbered : List ℕ) (k x y : ℕ) → k < length list → get_or list k 0 ≡ x → x < length numbered → get_or numbers k 0 ≡ y → AreApart list

@@ -68,6 +68,13 @@ pub record AreCut (done : List Bool) (old : List ℕ) (x : ℕ) (new : List ℕ)
   pub kept : (y : ℕ) → Contains old y → ¬ IsDone done y → y ≢ x → Contains new y
   pub only : (y : ℕ) → Contains new y → Contains old y
 
+-- the first place of the row, from that one on, at which a node stands that isn't done
+pub record IsFreshPlace (row : List ℕ) (done : List Bool) (from place : ℕ) : Type 0 where
+  pub after : from ≤ place
+  pub within : place < length row
+  pub fresh : ¬ IsDone done (slice_index row place)
+  pub passed : (j : ℕ) → from ≤ j → j < place → IsDone done (slice_index row j)
+
 -- the first of the row with no hold, or else the first
 pub record IsFirst (row held : List ℕ) (x : ℕ) : Type 0 where
   pub place : ℕ
@@ -121,8 +128,12 @@ pub record IsAt (g : Graph) (ranks : List ℕ) (node place : ℕ) (listed : List
   pub run : IsRun g ranks done held ready rest (slice_index ranks node)
   pub marked : IsDone done node
 
+-- the nodes of the component of rank c that aren't passed
+abbrev pub rest_of : List ℕ → ℕ → Plan → List ℕ
+rest_of ranks c p = drop p.next (places c ranks)
+
 abbrev pub IsAtIn : Graph → List ℕ → ℕ → ℕ → Plan → Type 0
-IsAtIn g ranks node place p = IsAt g ranks node place p.listed.items p.done.items p.outside.items p.held.items p.starts p.ready p.rest
+IsAtIn g ranks node place p = IsAt g ranks node place p.listed.items p.done.items p.outside.items p.held.items p.starts p.ready (rest_of ranks (slice_index ranks node) p)
 
 -- between two nodes, in the component of rank c
 pub record IsWithin (g : Graph) (ranks : List ℕ) (c : ℕ) (listed : List ℕ) (done : List Bool) (outside held starts ready rest : List ℕ) : Type 0 where
@@ -130,7 +141,7 @@ pub record IsWithin (g : Graph) (ranks : List ℕ) (c : ℕ) (listed : List ℕ)
   pub run : IsRun g ranks done held ready rest c
 
 abbrev pub IsWithinIn : Graph → List ℕ → ℕ → Plan → Type 0
-IsWithinIn g ranks c p = IsWithin g ranks c p.listed.items p.done.items p.outside.items p.held.items p.starts p.ready p.rest
+IsWithinIn g ranks c p = IsWithin g ranks c p.listed.items p.done.items p.outside.items p.held.items p.starts p.ready (rest_of ranks c p)
 
 -- the node may be listed next, and what waits is cut by it
 pub record IsChosen (g : Graph) (ranks : List ℕ) (v : ℕ) (listed : List ℕ) (done : List Bool) (outside held starts ready rest : List ℕ) : Type 0 where
@@ -142,7 +153,7 @@ pub record IsChosen (g : Graph) (ranks : List ℕ) (v : ℕ) (listed : List ℕ)
   pub run : IsRun g ranks (set done v true) held ready rest (slice_index ranks v)
 
 abbrev pub IsChosenIn : Graph → List ℕ → ℕ → Plan → Type 0
-IsChosenIn g ranks v p = IsChosen g ranks v p.listed.items p.done.items p.outside.items p.held.items p.starts p.ready p.rest
+IsChosenIn g ranks v p = IsChosen g ranks v p.listed.items p.done.items p.outside.items p.held.items p.starts p.ready (rest_of ranks (slice_index ranks v) p)
 
 -- between two components
 pub record IsPause (g : Graph) (ranks listed : List ℕ) (done : List Bool) (outside held starts : List ℕ) : Type 0 where
@@ -150,21 +161,23 @@ pub record IsPause (g : Graph) (ranks listed : List ℕ) (done : List Bool) (out
   pub whole : (c : ℕ) → IsWholeBut g ranks done c
 
 abbrev pub IsPauseIn : Graph → List ℕ → Plan → Type 0
-IsPauseIn g ranks p = IsPause g ranks p.listed.items p.done.items p.outside.items p.held.items p.starts
+IsPauseIn g ranks p = IsPause g ranks p.listed.items p.done.items p.outside.items p.held.items p.starts × (p.ready ≡ [])
 
--- the nodes of the component of rank c wait
-pub record AreFilled (n : ℕ) (ranks held : List ℕ) (c : ℕ) (ready rest : List ℕ) : Type 0 where
-  pub ready_all : (u : ℕ) → u < n → slice_index ranks u ≡ c → slice_index held u ≡ 0 → Contains ready u
+-- the nodes of the component of rank c with no hold, but v, are ready
+pub record AreFilled (n : ℕ) (ranks held : List ℕ) (c v : ℕ) (ready : List ℕ) : Type 0 where
+  pub ready_all : (u : ℕ) → u < n → slice_index ranks u ≡ c → slice_index held u ≡ 0 → u ≢ v → Contains ready u
   pub ready_only : (u : ℕ) → Contains ready u → (u < n) × ((slice_index ranks u ≡ c) × (slice_index held u ≡ 0))
-  pub rest_all : (u : ℕ) → u < n → slice_index ranks u ≡ c → Contains rest u
-  pub rest_only : (u : ℕ) → Contains rest u → (u < n) × (slice_index ranks u ≡ c)
 
--- the nodes of the row wait
-pub record RowWaits (row held ready rest : List ℕ) : Type 0 where
-  pub ready_all : (j : ℕ) → j < length row → slice_index held (slice_index row j) ≡ 0 → Contains ready (slice_index row j)
+-- the nodes of the row with no hold, but v, are ready
+pub record RowWaits (row held : List ℕ) (v : ℕ) (ready : List ℕ) : Type 0 where
+  pub ready_all : (j : ℕ) → j < length row → slice_index held (slice_index row j) ≡ 0 → slice_index row j ≢ v → Contains ready (slice_index row j)
   pub ready_only : (y : ℕ) → Contains ready y → Contains row y × (slice_index held y ≡ 0)
-  pub rest_all : (j : ℕ) → j < length row → Contains rest (slice_index row j)
-  pub rest_only : (y : ℕ) → Contains rest y → Contains row y
+
+-- the node joined if it has no hold and isn't v
+pub record Waits (held : List ℕ) (v node : ℕ) (old new : List ℕ) : Type 0 where
+  pub kept : (y : ℕ) → Contains old y → Contains new y
+  pub now : slice_index held node ≡ 0 → node ≢ v → Contains new node
+  pub only : (y : ℕ) → Contains new y → ((y ≡ node) × (slice_index held node ≡ 0)) ⊎ Contains old y
 
 -- the edge of that number
 pub record IsEdge (g : Graph) (number from to : ℕ) (firm : Bool) : Type 0 where

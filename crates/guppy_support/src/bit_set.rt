@@ -7,7 +7,6 @@ ghost use Rattle.std.specs.Cmp.{partial_equiv_from_equiv, bool_eq_equiv};
 ghost use Rattle.std.specs.Cmp.Lexicographic.{pointwise, lists_equiv};
 ghost use Rattle.guppy_support.specs.Bits.{has, members, members_from, one_alone, Fit};
 
-use crate::collecting::collect_exactly;
 use std::alloc::{AllocError, Global};
 use std::marker::Model;
 
@@ -214,28 +213,36 @@ fn same_words(mine: &[u64], its: &[u64]) -> bool
 fn either(alloc: Global, mine: &[u64], its: &[u64]) -> Result<Vec<u64>, AllocError>
     ensures { IfOk result (λ words. words.items ≡ map (λ p. bit_or p.0 p.1) (zip mine.now its.now)) }
 {
-    collect_exactly(mine.iter().zip(its).map(|(a, b)| *a | *b), alloc)
+    let mut words = Vec::with_capacity(alloc, mine.len())?;
+    words.extend(mine.iter().zip(its).map(|(a, b)| *a | *b))?;
+    Ok(words)
 }
 
 // The bits that both words have.
 fn both(alloc: Global, mine: &[u64], its: &[u64]) -> Result<Vec<u64>, AllocError>
     ensures { IfOk result (λ words. words.items ≡ map (λ p. bit_and p.0 p.1) (zip mine.now its.now)) }
 {
-    collect_exactly(mine.iter().zip(its).map(|(a, b)| *a & *b), alloc)
+    let mut words = Vec::with_capacity(alloc, mine.len())?;
+    words.extend(mine.iter().zip(its).map(|(a, b)| *a & *b))?;
+    Ok(words)
 }
 
 // The bits of the first word that the second lacks.
 fn first_alone(alloc: Global, mine: &[u64], its: &[u64]) -> Result<Vec<u64>, AllocError>
     ensures { IfOk result (λ words. words.items ≡ map (λ p. bit_and p.0 (bit_xor p.0 p.1)) (zip mine.now its.now)) }
 {
-    collect_exactly(mine.iter().zip(its).map(|(a, b)| *a & (*a ^ *b)), alloc)
+    let mut words = Vec::with_capacity(alloc, mine.len())?;
+    words.extend(mine.iter().zip(its).map(|(a, b)| *a & (*a ^ *b)))?;
+    Ok(words)
 }
 
 // The bits that one word has and the other lacks.
 fn exactly_one(alloc: Global, mine: &[u64], its: &[u64]) -> Result<Vec<u64>, AllocError>
     ensures { IfOk result (λ words. words.items ≡ map (λ p. bit_xor p.0 p.1) (zip mine.now its.now)) }
 {
-    collect_exactly(mine.iter().zip(its).map(|(a, b)| *a ^ *b), alloc)
+    let mut words = Vec::with_capacity(alloc, mine.len())?;
+    words.extend(mine.iter().zip(its).map(|(a, b)| *a ^ *b))?;
+    Ok(words)
 }
 
 /// The numbers of a set that are left, ascending.

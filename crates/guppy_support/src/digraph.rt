@@ -2,9 +2,9 @@
 ghost use Rattle.std.specs.Prelude.{◌≡◌, ℕ, ◌+◌, ◌-◌, ◌<◌, ◌≤◌, length, slice_get, Some, None, IfOk, IfErr, IfSome, IfNone, IsTrue, ◌↔◌};
 ghost use Rattle.guppy_support.specs.Graph.{IsDigraph, IsRefused, IsEdgeAt, IsBefore, sources, targets};
 ghost use Rattle.guppy_support.specs.Paths.{HasEdge};
-ghost use Rattle.guppy_support.specs.Rows.{places};
+ghost use Rattle.guppy_support.specs.Rows.{places, IsPacked};
 
-use crate::collecting::collect_exactly;
+use crate::outward::outward_rows;
 use crate::pack::{Rows, pack_rows};
 use std::alloc::{AllocError, Global};
 use std::marker::Model;
@@ -71,13 +71,13 @@ impl Digraph {
         requires { IsDigraph (record { nodes = nodes; edges = edges.now }) }
         ensures { IfOk result (λ g. g ≡ record { nodes = nodes; edges = edges.now }) }
     {
-        let from = sources_of(alloc, edges)?;
-        let to = targets_of(alloc, edges)?;
+        let inward = inward_rows(alloc, nodes, edges)?;
+        let outward = outward_rows(alloc, nodes, edges)?;
         Ok(Digraph {
             nodes,
             edges: Vec::from_slice(alloc, edges)?,
-            outward: pack_rows(alloc, nodes, &from)?,
-            inward: pack_rows(alloc, nodes, &to)?,
+            outward,
+            inward,
         })
     }
 
@@ -175,14 +175,19 @@ fn is_before(first: (usize, usize), other: (usize, usize)) -> bool
     first.0 < other.0 || (first.0 == other.0 && first.1 < other.1)
 }
 
-fn sources_of(alloc: Global, edges: &[Edge]) -> Result<Vec<usize>, AllocError>
-    ensures { IfOk result (λ from. from.items ≡ sources edges.now) }
-{
-    collect_exactly(edges.iter().map(|edge| edge.from), alloc)
-}
-
 fn targets_of(alloc: Global, edges: &[Edge]) -> Result<Vec<usize>, AllocError>
     ensures { IfOk result (λ to. to.items ≡ targets edges.now) }
 {
-    collect_exactly(edges.iter().map(|edge| edge.to), alloc)
+    let mut to = Vec::with_capacity(alloc, edges.len())?;
+    to.extend(edges.iter().map(|edge| edge.to))?;
+    Ok(to)
+}
+
+// The numbers of the edges by target.
+fn inward_rows(alloc: Global, nodes: usize, edges: &[Edge]) -> Result<Rows, AllocError>
+    requires { IsDigraph (record { nodes = nodes; edges = edges.now }) }
+    ensures { IfOk result (λ rows. IsPacked nodes (targets edges.now) rows.begins.items rows.numbers.items) }
+{
+    let to = targets_of(alloc, edges)?;
+    pack_rows(alloc, nodes, &to)
 }

@@ -3,7 +3,8 @@ ghost use Rattle.std.specs.Prelude.{◌≡◌, ℕ, [], ◌+◌, ◌-◌, ◌<�
 ghost use Rattle.guppy_support.specs.Search.{IsSeen, LeadTo, IsWalk, work, next_target};
 ghost use Rattle.guppy_support.specs.Paths.{HasEdge};
 ghost use Rattle.guppy_support.specs.Finish.{IsFinishOrder, AreApart};
-ghost use Rattle.guppy_support.specs.Graph.{IsDigraph};
+ghost use Rattle.guppy_support.specs.Graph.{IsDigraph, sources};
+ghost use Rattle.guppy_support.specs.Rows.{places};
 ghost use Rattle.guppy_support.specs.Ranks.{IsRanking};
 
 use crate::digraph::Digraph;
@@ -112,22 +113,33 @@ impl Search {
     }
 }
 
-/// The nodes in the order in which a walk along the edges leaves them.
-fn finish_order(alloc: Global, graph: &Digraph) -> Result<Vec<usize>, AllocError>
-    ensures order { IfOk result (λ order. IsFinishOrder graph.now order.items) }
-    ensures apart { IfOk result (λ order. AreApart order.items) }
+/// How many edges leave each node.
+fn out_counts(alloc: Global, graph: &Digraph) -> Result<Vec<usize>, AllocError>
+    ensures long { IfOk result (λ left. length left.items ≡ graph.now.nodes) }
+    ensures each { IfOk result (λ left. (v : ℕ) → v < graph.now.nodes → slice_index left.items v ≡ length (places v (sources graph.now.edges))) }
 {
-    let mut left = Vec::new(alloc);
+    let mut left = Vec::with_capacity(alloc, graph.node_count())?;
     for node in 0..graph.node_count() {
         left.push(graph.out_edges(node).len())?;
     }
+    Ok(left)
+}
+
+/// A walk along the edges to its end: the nodes are closed in the order in which it leaves them.
+fn walked(alloc: Global, graph: &Digraph) -> Result<Search, AllocError>
+    ensures order { IfOk result (λ s. IsFinishOrder graph.now s.closed.items) }
+    ensures apart { IfOk result (λ s. AreApart s.closed.items) }
+    ensures long { IfOk result (λ s. length s.left.items ≡ graph.now.nodes) }
+    ensures none { IfOk result (λ s. s.opened.items ≡ []) }
+{
+    let nodes = graph.node_count();
     let mut search = Search {
-        seen: vec![in alloc; false; graph.node_count()]?,
-        left,
-        opened: Vec::new(alloc),
-        closed: Vec::new(alloc),
+        seen: vec![in alloc; false; nodes]?,
+        left: out_counts(alloc, graph)?,
+        opened: Vec::with_capacity(alloc, nodes)?,
+        closed: Vec::with_capacity(alloc, nodes)?,
     };
-    for root in 0..graph.node_count() {
+    for root in 0..nodes {
         if !search.seen[root] {
             search.enter(graph, root)?;
             while search.opened.len() > 0 {
@@ -135,14 +147,35 @@ fn finish_order(alloc: Global, graph: &Digraph) -> Result<Vec<usize>, AllocError
             }
         }
     }
-    Ok(search.closed)
+    Ok(search)
+}
+
+/// The rank of each node's component, and room for two lists of nodes.
+#[derive(Drop)]
+pub(crate) struct Ranked {
+    pub(crate) ranks: Vec<usize>,
+    /// How many ranks there are.
+    pub(crate) count: usize,
+    pub(crate) room: Vec<usize>,
+    pub(crate) other_room: Vec<usize>,
 }
 
 /// The rank of each node's component: ranks never fall along an edge.
-pub(crate) fn component_ranks(alloc: Global, graph: &Digraph) -> Result<Vec<usize>, AllocError>
-    ensures ranking { IfOk result (λ ranks. IsRanking graph.now ranks.items) }
-    ensures small { IfOk result (λ ranks. (v : ℕ) → v < graph.now.nodes → slice_index ranks.items v < graph.now.nodes) }
+pub(crate) fn component_ranks(alloc: Global, graph: &Digraph) -> Result<Ranked, AllocError>
+    ensures ranking { IfOk result (λ r. IsRanking graph.now r.ranks.items) }
+    ensures small { IfOk result (λ r. (v : ℕ) → v < graph.now.nodes → slice_index r.ranks.items v < graph.now.nodes) }
+    ensures room { IfOk result (λ r. r.room.items ≡ []) }
+    ensures other_room { IfOk result (λ r. r.other_room.items ≡ []) }
 {
-    let order = finish_order(alloc, graph)?;
-    ranks_from(alloc, graph, &order)
+    let search = walked(alloc, graph)?;
+    let mut order = search.closed;
+    let (ranks, count, mut members) = ranks_from(alloc, graph, &order, search.left, search.opened)?;
+    order.clear();
+    members.clear();
+    Ok(Ranked {
+        ranks,
+        count,
+        room: members,
+        other_room: order,
+    })
 }

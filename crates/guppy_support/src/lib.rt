@@ -8,6 +8,7 @@ mod finish;
 pub mod laws;
 mod marks;
 mod order;
+mod outward;
 mod pack;
 mod plan;
 mod queue;

@@ -116,22 +116,27 @@ fn source(graph: &Digraph, node: usize, place: usize) -> usize
     graph.edge(graph.in_edges(node)[place]).from
 }
 
-/// The rank of each node's component.
+/// The rank of each node's component, how many ranks there are, and a list that was worked with. It takes the memory of
+/// two lists.
 pub(crate) fn ranks_from(
     alloc: Global,
     graph: &Digraph,
     order: &[usize],
-) -> Result<Vec<usize>, AllocError>
+    ranks: Vec<usize>,
+    members: Vec<usize>,
+) -> Result<(Vec<usize>, usize, Vec<usize>), AllocError>
     requires order { IsFinishOrder graph.now order.now }
     requires apart { AreApart order.now }
-    ensures ranking { IfOk result (λ ranks. IsRanking graph.now ranks.items) }
-    ensures small { IfOk result (λ ranks. (v : ℕ) → v < graph.now.nodes → slice_index ranks.items v < graph.now.nodes) }
+    requires long { length ranks.items ≡ graph.now.nodes }
+    requires none { members.items ≡ [] }
+    ensures ranking { IfOk result (λ r. IsRanking graph.now r.0.items) }
+    ensures small { IfOk result (λ r. (v : ℕ) → v < graph.now.nodes → slice_index r.0.items v < graph.now.nodes) }
 {
     graph.facts();
     let mut marks = Marks {
         seen: vec![in alloc; false; graph.node_count()]?,
-        ranks: vec![in alloc; 0; graph.node_count()]?,
-        members: Vec::new(alloc),
+        ranks,
+        members,
         next: 0,
     };
     let mut rank = 0;
@@ -140,5 +145,5 @@ pub(crate) fn ranks_from(
         t -= 1;
         rank = marks.mark_from(graph, order, t, rank)?;
     }
-    Ok(marks.ranks)
+    Ok((marks.ranks, rank, marks.members))
 }

@@ -1,16 +1,16 @@
 //! The order of the nodes, and their components.
-ghost use Rattle.std.specs.Prelude.{◌≡◌, ◌≢◌, ℕ, ◌+◌, ◌-◌, ◌<◌, ◌≤◌, ◌==◌, ◌↔◌, length, slice_index, filter, IfOk, IsTrue};
+ghost use Rattle.std.specs.Prelude.{◌≡◌, ◌≢◌, ℕ, [], ◌∷◌, ◌++◌, ◌+◌, ◌-◌, ◌<◌, ◌≤◌, ◌==◌, ◌↔◌, length, slice_index, filter, IfOk, OnOk, IsTrue};
 ghost use Rattle.guppy_support.specs.Graph.{Graph, IsDigraph};
 ghost use Rattle.guppy_support.specs.Paths.{SameComponent};
 ghost use Rattle.guppy_support.specs.Orders.{IsOrder};
 ghost use Rattle.guppy_support.specs.Plans.{IsSetup};
 ghost use Rattle.guppy_support.specs.Finish.{AreApart};
-ghost use Rattle.guppy_support.specs.Rows.{below};
+ghost use Rattle.guppy_support.specs.Rows.{AreBegun};
 ghost use Rattle.guppy_support.specs.Sequences.{IsOrderOf, component_of, AreNumbered, rank_at};
 
 use crate::digraph::Digraph;
 use crate::finish::component_ranks;
-use crate::pack::{begins_of, pack_rows, tally};
+use crate::pack::pack_rows;
 use crate::plan::order_from;
 use crate::start::first_plan;
 use std::alloc::{AllocError, Global};
@@ -42,12 +42,12 @@ impl Order {
         ensures { IfOk result (IsOrderOf graph.now) }
     {
         graph.facts();
-        let ranks = component_ranks(alloc, graph)?;
-        let list = listed(alloc, graph, &ranks)?;
-        let (numbers, count) = numbered(alloc, &list, &ranks)?;
-        let components = scattered(alloc, &list, &numbers)?;
-        let counts = tally(alloc, count, &numbers)?;
-        let begins = begins_of(alloc, &counts, &numbers)?;
+        let ranked = component_ranks(alloc, graph)?;
+        let ranks = ranked.ranks;
+        let list = listed(alloc, graph, &ranks, ranked.room, ranked.count)?;
+        let (numbers, begins) = numbered(alloc, &list, &ranks, ranked.other_room, ranked.count)?;
+        let components = scattered(ranks, &list, &numbers);
+        let count = begins.len() - 1;
         Ok(Order {
             list,
             components,
@@ -98,60 +98,79 @@ impl Order {
 }
 
 // The order of the nodes, from the ranks of their components.
-fn listed(alloc: Global, graph: &Digraph, ranks: &[usize]) -> Result<Vec<usize>, AllocError>
-    requires { IsSetup graph.now ranks.now }
+fn listed(
+    alloc: Global,
+    graph: &Digraph,
+    ranks: &[usize],
+    room: Vec<usize>,
+    components: usize,
+) -> Result<Vec<usize>, AllocError>
+    requires setup { IsSetup graph.now ranks.now }
+    requires room { room.items ≡ [] }
     ensures { IfOk result (λ list. IsOrder graph.now.edges graph.now.nodes list.items) }
 {
     let groups = pack_rows(alloc, graph.node_count(), ranks)?;
-    let plan = first_plan(alloc, graph, ranks, &groups)?;
-    order_from(alloc, graph, ranks, &groups, plan)
+    let plan = first_plan(alloc, graph, ranks, &groups, room, components)?;
+    order_from(graph, ranks, &groups, plan)
 }
 
-// How many components begin up to that place, where so many begin before it.
-fn next_count(list: &[usize], ranks: &[usize], place: usize, count: usize) -> usize
+// Lets a component begin at the place, where the node there isn't of the component before.
+fn begin_at(
+    begins: &mut Vec<usize>,
+    list: &[usize],
+    ranks: &[usize],
+    place: usize,
+) -> Result<(), AllocError>
     requires place { place < length list.now }
     requires nodes { (i : ℕ) → i < length list.now → slice_index list.now i < length ranks.now }
-    requires few { count ≤ place }
-    ensures first { place ≡ 0 → result ≡ count + 1 }
-    ensures stays { (i : ℕ) → i + 1 ≡ place → rank_at list.now ranks.now i ≡ rank_at list.now ranks.now place → result ≡ count }
-    ensures steps { (i : ℕ) → i + 1 ≡ place → rank_at list.now ranks.now i ≢ rank_at list.now ranks.now place → result ≡ count + 1 }
+    ensures first { OnOk result (place ≡ 0 → begins.new.items ≡ begins.old.items ++ place ∷ []) }
+    ensures stays { OnOk result ((i : ℕ) → i + 1 ≡ place → rank_at list.now ranks.now i ≡ rank_at list.now ranks.now place → begins.new.items ≡ begins.old.items) }
+    ensures steps { OnOk result ((i : ℕ) → i + 1 ≡ place → rank_at list.now ranks.now i ≢ rank_at list.now ranks.now place → begins.new.items ≡ begins.old.items ++ place ∷ []) }
 {
     if place > 0 && ranks[list[place - 1]] == ranks[list[place]] {
-        return count;
+        return Ok(());
     }
-    count + 1
+    begins.push(place)?;
+    Ok(())
 }
 
-// The number of the component at each place, and how many components there are.
+// The number of the component at each place, and where each component begins; the end of the list stands last.
 fn numbered(
     alloc: Global,
     list: &[usize],
     ranks: &[usize],
-) -> Result<(Vec<usize>, usize), AllocError>
-    requires { (i : ℕ) → i < length list.now → slice_index list.now i < length ranks.now }
+    room: Vec<usize>,
+    components: usize,
+) -> Result<(Vec<usize>, Vec<usize>), AllocError>
+    requires nodes { (i : ℕ) → i < length list.now → slice_index list.now i < length ranks.now }
+    requires room { room.items ≡ [] }
     ensures long { IfOk result (λ r. length r.0.items ≡ length list.now) }
-    ensures numbers { IfOk result (λ r. AreNumbered list.now ranks.now r.0.items r.1) }
+    ensures some { IfOk result (λ r. 0 < length r.1.items) }
+    ensures numbers { IfOk result (λ r. AreNumbered list.now ranks.now r.0.items (length r.1.items - 1)) }
+    ensures begun { IfOk result (λ r. AreBegun r.0.items r.1.items) }
 {
-    let mut numbers = Vec::new(alloc);
-    let mut count = 0;
+    let mut numbers = room;
+    let mut begins = Vec::with_capacity(alloc, components.saturating_add(1))?;
     for place in 0..list.len() {
-        count = next_count(list, ranks, place, count);
-        numbers.push(count - 1)?;
+        begin_at(&mut begins, list, ranks, place)?;
+        numbers.push(begins.len() - 1)?;
     }
-    Ok((numbers, count))
+    begins.push(list.len())?;
+    Ok((numbers, begins))
 }
 
-// For each node the number at its place.
-fn scattered(alloc: Global, list: &[usize], numbers: &[usize]) -> Result<Vec<usize>, AllocError>
+// For each node the number at its place. It takes the memory of another list.
+fn scattered(memory: Vec<usize>, list: &[usize], numbers: &[usize]) -> Vec<usize>
+    requires room { length memory.items ≡ length list.now }
     requires long { length numbers.now ≡ length list.now }
     requires nodes { (i : ℕ) → i < length list.now → slice_index list.now i < length list.now }
     requires apart { AreApart list.now }
-    ensures long { IfOk result (λ numbered. length numbered.items ≡ length list.now) }
-    ensures each { IfOk result (λ numbered. (i : ℕ) → i < length list.now → slice_index numbered.items (slice_index list.now i) ≡ slice_index numbers.now i) }
+    ensures long { length result.items ≡ length list.now }
+    ensures each { (i : ℕ) → i < length list.now → slice_index result.items (slice_index list.now i) ≡ slice_index numbers.now i }
 {
-    let mut numbered = vec![in alloc; 0usize; list.len()]?;
+    let mut numbered = memory;
     for place in 0..list.len() {
         numbered[list[place]] = numbers[place];
     }
-    Ok(numbered)
+    numbered
 }

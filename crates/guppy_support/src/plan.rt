@@ -4,13 +4,13 @@ ghost use Rattle.guppy_support.specs.Graph.{IsDigraph, sources};
 ghost use Rattle.guppy_support.specs.Rows.{places, IsPacked};
 ghost use Rattle.guppy_support.specs.Orders.{IsOrder};
 ghost use Rattle.guppy_support.specs.Heads.{IsDone};
-ghost use Rattle.guppy_support.specs.Plans.{TakesFresh, IsFirst, StartsGrow, AreReady, IsSetup, IsOutEdge, IsAtIn, IsWithinIn, IsChosenIn, IsPauseIn, RowWaits};
+ghost use Rattle.guppy_support.specs.Plans.{TakesFresh, IsFirst, IsFreshPlace, StartsGrow, AreReady, Waits, IsSetup, IsOutEdge, IsAtIn, IsWithinIn, IsChosenIn, IsPauseIn, RowWaits};
 ghost use Rattle.guppy_support.specs.Queues.{Joins};
 
 use crate::digraph::{Digraph, Edge};
 use crate::pack::Rows;
 use crate::queue::Queue;
-use std::alloc::{AllocError, Global};
+use std::alloc::AllocError;
 
 /// What is known between two nodes of the order.
 #[derive(Drop)]
@@ -27,8 +27,8 @@ pub(crate) struct Plan {
     pub(crate) starts: Queue,
     /// The nodes of the component at hand that aren't held.
     pub(crate) ready: Queue,
-    /// All nodes of the component at hand.
-    pub(crate) rest: Queue,
+    /// The place in the row of the component at hand before which each node is listed.
+    pub(crate) next: usize,
 }
 
 /// Takes the least number that isn't done.
@@ -41,6 +41,20 @@ fn pop_fresh(queue: &mut Queue, done: &[bool]) -> Option<usize>
     while let Some(number) = queue.pop() {
         if !done[number] {
             return Some(number);
+        }
+    }
+    None
+}
+
+/// The first place of the row, from that one on, at which a node stands that isn't done.
+fn fresh_from(row: &[usize], from: usize, done: &[bool]) -> Option<usize>
+    requires nodes { (j : ℕ) → j < length row.now → slice_index row.now j < length done.now }
+    ensures some { IfSome result (IsFreshPlace row.now done.now from) }
+    ensures none { IfNone result ((j : ℕ) → from ≤ j → j < length row.now → IsDone done.now (slice_index row.now j)) }
+{
+    for place in from..row.len() {
+        if !done[row[place]] {
+            return Some(place);
         }
     }
     None
@@ -128,23 +142,30 @@ fn out_edge(graph: &Digraph, node: usize, place: usize) -> Edge
 
 impl Plan {
     /// Takes the next node of the component at hand.
-    fn next_within(&mut self, graph: &Digraph, ranks: &[usize], rank: usize) -> Option<usize>
+    fn next_within(
+        &mut self,
+        graph: &Digraph,
+        ranks: &[usize],
+        groups: &Rows,
+        rank: usize,
+    ) -> Option<usize>
         requires setup { IsSetup graph.now ranks.now }
+        requires packed { IsPacked graph.now.nodes ranks.now groups.now.begins.items groups.now.numbers.items }
         requires within { IsWithinIn graph.now ranks.now rank self.old }
         ensures none { IfNone result (IsPauseIn graph.now ranks.now self.new) }
         ensures some { IfSome result (λ v. IsChosenIn graph.now ranks.now v self.new) }
         ensures done { self.new.done.items ≡ self.old.done.items }
         ensures listed { self.new.listed.items ≡ self.old.listed.items }
     {
-        let _nodes = graph.node_count();
-        let _ranks = ranks.len() + rank / 2;
         if let Some(node) = pop_fresh(&mut self.ready, &self.done) {
             return Some(node);
         }
-        let Some(node) = pop_fresh(&mut self.rest, &self.done) else {
+        let members = row(groups, ranks, rank, graph.node_count());
+        let Some(place) = fresh_from(members, self.next, &self.done) else {
             return None;
         };
-        Some(node)
+        self.next = place;
+        Some(members[place])
     }
 
     /// Passes an edge that leads to another component.
@@ -268,10 +289,9 @@ impl Plan {
         Ok(())
     }
 
-    /// Takes the least start, and lets the nodes of its component wait.
+    /// Takes the least start, and lets the other nodes of its component wait.
     fn begin(
         &mut self,
-        alloc: Global,
         graph: &Digraph,
         ranks: &[usize],
         groups: &Rows,
@@ -287,9 +307,8 @@ impl Plan {
             return Ok(None);
         };
         let members = row_of(groups, ranks, start, graph.node_count());
-        let (ready, rest) = waiting(alloc, members, &self.held)?;
-        self.ready = ready;
-        self.rest = rest;
+        make_ready(&mut self.ready, members, &self.held, start)?;
+        self.next = 0;
         Ok(Some(start))
     }
 
@@ -308,7 +327,7 @@ impl Plan {
         ensures longer { OnOk result (length self.old.listed.items ≤ length self.new.listed.items) }
     {
         let mut rank = start;
-        while let Some(node) = self.next_within(graph, ranks, rank) {
+        while let Some(node) = self.next_within(graph, ranks, groups, rank) {
             self.list(graph, ranks, groups, node)?;
             rank = ranks[node];
         }
@@ -316,35 +335,36 @@ impl Plan {
     }
 }
 
-/// A node of the row waits; one with no hold is ready.
-fn wait(ready: &mut Queue, rest: &mut Queue, held: &[usize], node: usize) -> Result<(), AllocError>
+/// A node with no hold is ready, but for the start.
+fn wait(ready: &mut Queue, held: &[usize], node: usize, start: usize) -> Result<(), AllocError>
     requires { node < length held.now }
-    ensures ready { OnOk result (AreReady (slice_index held.now node) node ready.old ready.new) }
-    ensures rest { OnOk result (Joins rest.old node rest.new) }
+    ensures { OnOk result (Waits held.now start node ready.old ready.new) }
 {
-    rest.push(node)?;
-    if held[node] == 0 {
+    if held[node] == 0 && node != start {
         ready.push(node)?;
     }
     Ok(())
 }
 
-/// The nodes of a row, those with no hold and all.
-fn waiting(alloc: Global, row: &[usize], held: &[usize]) -> Result<(Queue, Queue), AllocError>
-    requires { (j : ℕ) → j < length row.now → slice_index row.now j < length held.now }
-    ensures { IfOk result (λ q. RowWaits row.now held.now q.0 q.1) }
+/// The nodes of a row with no hold, but the start, are ready.
+fn make_ready(
+    ready: &mut Queue,
+    row: &[usize],
+    held: &[usize],
+    start: usize,
+) -> Result<(), AllocError>
+    requires nodes { (j : ℕ) → j < length row.now → slice_index row.now j < length held.now }
+    requires none { ready.old ≡ [] }
+    ensures { OnOk result (RowWaits row.now held.now start ready.new) }
 {
-    let mut ready = Queue::new(alloc);
-    let mut rest = Queue::new(alloc);
     for place in 0..row.len() {
-        wait(&mut ready, &mut rest, held, row[place])?;
+        wait(ready, held, row[place], start)?;
     }
-    Ok((ready, rest))
+    Ok(())
 }
 
 /// The order of the nodes, from the counts.
 pub(crate) fn order_from(
-    alloc: Global,
     graph: &Digraph,
     ranks: &[usize],
     groups: &Rows,
@@ -356,7 +376,7 @@ pub(crate) fn order_from(
     ensures { IfOk result (λ list. IsOrder graph.now.edges graph.now.nodes list.items) }
 {
     let mut plan = first;
-    while let Some(start) = plan.begin(alloc, graph, ranks, groups)? {
+    while let Some(start) = plan.begin(graph, ranks, groups)? {
         plan.list(graph, ranks, groups, start)?;
         plan.finish(graph, ranks, groups, ranks[start])?;
     }

@@ -1,5 +1,5 @@
 //! Numbers, of which the least comes first.
-ghost use Rattle.std.specs.Prelude.{◌≡◌, ◌≤◌, [], IfSome, IfNone, OnOk};
+ghost use Rattle.std.specs.Prelude.{◌≡◌, ◌≤◌, [], IfSome, IfNone, IfOk, OnOk};
 ghost use Rattle.guppy_support.specs.Queues.{Joins, Leaves};
 
 use std::alloc::{AllocError, Global};
@@ -26,12 +26,13 @@ impl Model for Queue {
 }
 
 impl Queue {
-    pub(crate) fn new(alloc: Global) -> Queue
-        ensures { result ≡ [] }
+    /// An empty queue with room for so many numbers.
+    pub(crate) fn with_capacity(alloc: Global, capacity: usize) -> Result<Queue, AllocError>
+        ensures { IfOk result (λ queue. queue ≡ []) }
     {
-        Queue {
-            heap: BinaryHeap::new(alloc),
-        }
+        Ok(Queue {
+            heap: BinaryHeap::with_capacity(alloc, capacity)?,
+        })
     }
 
     pub(crate) fn push(&mut self, number: usize) -> Result<(), AllocError>

@@ -40,18 +40,6 @@ fn zeroes(alloc: Global, count: usize) -> Result<Vec<usize>, AllocError>
     vec![in alloc; 0usize; count]
 }
 
-/// How many edges enter each component.
-fn count_entering(alloc: Global, graph: &Digraph, ranks: &[usize]) -> Result<Vec<usize>, AllocError>
-    requires setup { IsSetup graph.now ranks.now }
-    ensures { IfOk result (λ counts. AreEntering graph.now ranks.now (length graph.now.edges) counts.items) }
-{
-    let mut counts = zeroes(alloc, graph.node_count())?;
-    for number in 0..graph.edge_count() {
-        add_entering(&mut counts, graph, ranks, number);
-    }
-    Ok(counts)
-}
-
 /// Adds the first node of the component of that rank, if there is one and no edge enters it.
 fn add_start(
     starts: &mut Queue,
@@ -99,16 +87,23 @@ fn add_holding(counts: &mut Vec<usize>, graph: &Digraph, ranks: &[usize], number
     counts[edge.to] += 1;
 }
 
-/// How many edges hold each node.
-fn count_holding(alloc: Global, graph: &Digraph, ranks: &[usize]) -> Result<Vec<usize>, AllocError>
+/// How many edges enter each component, and how many hold each node.
+fn count_edges(
+    alloc: Global,
+    graph: &Digraph,
+    ranks: &[usize],
+) -> Result<(Vec<usize>, Vec<usize>), AllocError>
     requires setup { IsSetup graph.now ranks.now }
-    ensures { IfOk result (λ counts. AreHolding graph.now ranks.now (length graph.now.edges) counts.items) }
+    ensures entering { IfOk result (λ counts. AreEntering graph.now ranks.now (length graph.now.edges) counts.0.items) }
+    ensures holding { IfOk result (λ counts. AreHolding graph.now ranks.now (length graph.now.edges) counts.1.items) }
 {
-    let mut counts = zeroes(alloc, graph.node_count())?;
+    let mut outside = zeroes(alloc, graph.node_count())?;
+    let mut held = zeroes(alloc, graph.node_count())?;
     for number in 0..graph.edge_count() {
-        add_holding(&mut counts, graph, ranks, number);
+        add_entering(&mut outside, graph, ranks, number);
+        add_holding(&mut held, graph, ranks, number);
     }
-    Ok(counts)
+    Ok((outside, held))
 }
 
 /// The first nodes of the components that no edge enters.
@@ -119,6 +114,7 @@ fn first_starts(
     groups: &Rows,
     outside: &[usize],
     held: &[usize],
+    components: usize,
 ) -> Result<Queue, AllocError>
     requires ranks { length ranks.now ≡ nodes }
     requires outside { length outside.now ≡ nodes }
@@ -126,7 +122,7 @@ fn first_starts(
     requires packed { IsPacked nodes ranks.now groups.now.begins.items groups.now.numbers.items }
     ensures { IfOk result (λ starts. AreFirsts ranks.now outside.now held.now nodes starts) }
 {
-    let mut starts = Queue::new(alloc);
+    let mut starts = Queue::with_capacity(alloc, components)?;
     for rank in 0..nodes {
         let members = row(groups, ranks, rank, nodes);
         add_start(&mut starts, members, ranks, outside, held, rank)?;
@@ -140,29 +136,33 @@ fn unmarked(alloc: Global, count: usize) -> Result<Vec<bool>, AllocError>
     vec![in alloc; false; count]
 }
 
-/// The plan in which no node is listed.
+/// The plan in which no node is listed. So many components there are; no queue outgrows its room.
 pub(crate) fn first_plan(
     alloc: Global,
     graph: &Digraph,
     ranks: &[usize],
     groups: &Rows,
+    room: Vec<usize>,
+    components: usize,
 ) -> Result<Plan, AllocError>
     requires setup { IsSetup graph.now ranks.now }
+    requires room { room.items ≡ [] }
     requires packed { IsPacked graph.now.nodes ranks.now groups.now.begins.items groups.now.numbers.items }
     ensures { IfOk result (λ plan. IsPauseIn graph.now ranks.now plan) }
 {
     let nodes = graph.node_count();
-    let outside = count_entering(alloc, graph, ranks)?;
-    let held = count_holding(alloc, graph, ranks)?;
-    let starts = first_starts(alloc, nodes, ranks, groups, &outside, &held)?;
+    let (outside, held) = count_edges(alloc, graph, ranks)?;
+    let starts = first_starts(alloc, nodes, ranks, groups, &outside, &held, components)?;
     let done = unmarked(alloc, nodes)?;
+    let largest = nodes.saturating_sub(components).saturating_add(1);
+    let ready = Queue::with_capacity(alloc, largest)?;
     Ok(Plan {
-        listed: Vec::new(alloc),
+        listed: room,
         done,
         outside,
         held,
         starts,
-        ready: Queue::new(alloc),
-        rest: Queue::new(alloc),
+        ready,
+        next: 0,
     })
 }

@@ -17,6 +17,22 @@ fn edges_of(alloc: Global, ends: &[Ends]) -> Result<Vec<Edge>, AllocError> {
     Ok(edges)
 }
 
+// The digraph of sound edges: it is refused for want of memory alone.
+fn digraph_of(
+    rt: &impl Abort,
+    alloc: Global,
+    nodes: usize,
+    edges: &[Edge],
+) -> Result<Digraph, AllocError> {
+    match Digraph::new(alloc, nodes, edges) {
+        Ok(graph) => Ok(graph),
+        Err(error) => {
+            assert_eq!(rt; error, DigraphError::Memory);
+            Err(AllocError)
+        }
+    }
+}
+
 // The order as text, with each node's component.
 fn shown(
     rt: &impl Abort,
@@ -26,7 +42,7 @@ fn shown(
 ) -> Result<String, AllocError> {
     let edges = edges_of(alloc, ends)?;
     let mut text = String::new(alloc);
-    let graph = Digraph::new(alloc, nodes, &edges).expect(rt, "the edges are sound");
+    let graph = digraph_of(rt, alloc, nodes, &edges)?;
     let order = Order::new(alloc, &graph)?;
     for node in order.list() {
         if *node < graph.node_count() {
@@ -114,7 +130,7 @@ fn orders_inside_components(rt: HostRuntime) -> Result<(), AllocError> {
 fn components_and_edges(rt: HostRuntime) -> Result<(), AllocError> {
     let ends = [(1, 0, true), (1, 2, true), (2, 0, true), (2, 1, true)];
     let edges = edges_of(rt.alloc(), &ends)?;
-    let graph = Digraph::new(rt.alloc(), 3, &edges).expect(&rt, "the edges are sound");
+    let graph = digraph_of(&rt, rt.alloc(), 3, &edges)?;
     assert_eq!(rt; graph.edge_count(), 4);
     assert_eq!(rt; graph.edge_between(2, 1), Some(3));
     assert_eq!(rt; graph.edge_between(0, 1), None);
@@ -205,7 +221,7 @@ fn large_digraphs(rt: HostRuntime) -> Result<(), AllocError> {
             non_dev: true,
         })?;
     }
-    let graph = Digraph::new(rt.alloc(), 200000, &cycle).expect(&rt, "the edges are sound");
+    let graph = digraph_of(&rt, rt.alloc(), 200000, &cycle)?;
     let order = Order::new(rt.alloc(), &graph)?;
     assert_eq!(rt; order.component_count(), 1);
     let mut chain = Vec::new(rt.alloc());
@@ -216,7 +232,7 @@ fn large_digraphs(rt: HostRuntime) -> Result<(), AllocError> {
             non_dev: true,
         })?;
     }
-    let graph = Digraph::new(rt.alloc(), 800000, &chain).expect(&rt, "the edges are sound");
+    let graph = digraph_of(&rt, rt.alloc(), 800000, &chain)?;
     let order = Order::new(rt.alloc(), &graph)?;
     assert_eq!(rt; order.component_count(), 800000);
     Ok(())
@@ -245,9 +261,172 @@ fn many_components(rt: HostRuntime) -> Result<(), AllocError> {
             non_dev: false,
         })?;
     }
-    let graph = Digraph::new(rt.alloc(), 200000, &pairs).expect(&rt, "the edges are sound");
+    let graph = digraph_of(&rt, rt.alloc(), 200000, &pairs)?;
+    assert!(rt; graph.node_count() == 200000);
     let order = Order::new(rt.alloc(), &graph)?;
     assert_eq!(rt; order.component_count(), 100000);
     assert_eq!(rt; order.component(199999), 0);
+    Ok(())
+}
+
+// In these an allocation may be refused (`rt try --test --fail-alloc N` refuses the Nth). A call then answers want of memory and
+// nothing else, what it borrowed is as it was, and the call after it answers in full.
+
+// Two cycles of two, of which the first leads to a node alone.
+const TWO_CYCLES: [Edge; 5] = [
+    Edge {
+        from: 1,
+        to: 0,
+        non_dev: true,
+    },
+    Edge {
+        from: 1,
+        to: 2,
+        non_dev: true,
+    },
+    Edge {
+        from: 2,
+        to: 1,
+        non_dev: false,
+    },
+    Edge {
+        from: 3,
+        to: 4,
+        non_dev: true,
+    },
+    Edge {
+        from: 4,
+        to: 3,
+        non_dev: true,
+    },
+];
+
+fn is_two_cycles(graph: &Digraph) -> bool {
+    if graph.node_count() != 5 || graph.edge_count() != 5 {
+        return false;
+    }
+    for number in 0..5 {
+        if graph.edge(number) != TWO_CYCLES[number] {
+            return false;
+        }
+    }
+    graph.out_edges(0).is_empty()
+        && graph.out_edges(1) == [0, 1].as_slice()
+        && graph.out_edges(2) == [2].as_slice()
+        && graph.out_edges(3) == [3].as_slice()
+        && graph.out_edges(4) == [4].as_slice()
+        && graph.in_edges(0) == [0].as_slice()
+        && graph.in_edges(1) == [2].as_slice()
+        && graph.in_edges(2) == [1].as_slice()
+        && graph.in_edges(3) == [4].as_slice()
+        && graph.in_edges(4) == [3].as_slice()
+}
+
+#[test]
+fn refused_memory_of_digraphs(rt: HostRuntime) -> Result<(), AllocError> {
+    let edges = TWO_CYCLES;
+    let graph = match digraph_of(&rt, rt.alloc(), 5, &edges) {
+        Ok(graph) => graph,
+        Err(_) => {
+            assert!(rt; edges.as_slice() == TWO_CYCLES.as_slice());
+            digraph_of(&rt, rt.alloc(), 5, &edges)?
+        }
+    };
+    assert!(rt; is_two_cycles(&graph));
+    assert!(rt; edges.as_slice() == TWO_CYCLES.as_slice());
+    Ok(())
+}
+
+#[test]
+fn refused_memory_of_orders(rt: HostRuntime) -> Result<(), AllocError> {
+    let graph = match digraph_of(&rt, rt.alloc(), 5, &TWO_CYCLES) {
+        Ok(graph) => graph,
+        Err(_) => digraph_of(&rt, rt.alloc(), 5, &TWO_CYCLES)?,
+    };
+    let order = match Order::new(rt.alloc(), &graph) {
+        Ok(order) => order,
+        Err(_) => {
+            assert!(rt; is_two_cycles(&graph));
+            Order::new(rt.alloc(), &graph)?
+        }
+    };
+    assert!(rt; is_two_cycles(&graph));
+    assert!(rt; order.list() == [1, 2, 0, 3, 4].as_slice());
+    assert_eq!(rt; order.component_count(), 3);
+    Ok(())
+}
+
+// Whether the numbers of the set are those of the list, in its order.
+fn has_ones(set: &IxBitSet, numbers: &[usize]) -> bool {
+    let mut place = 0;
+    for number in set.ones() {
+        if place >= numbers.len() || numbers[place] != number {
+            return false;
+        }
+        place += 1;
+    }
+    place == numbers.len()
+}
+
+#[test]
+fn refused_memory_of_sets(rt: HostRuntime) -> Result<(), AllocError> {
+    let low_set = match set_of(rt.alloc(), 130, &[0, 64, 129]) {
+        Ok(set) => set,
+        Err(_) => set_of(rt.alloc(), 130, &[0, 64, 129])?,
+    };
+    let high_set = match set_of(rt.alloc(), 130, &[64, 128]) {
+        Ok(set) => set,
+        Err(_) => set_of(rt.alloc(), 130, &[64, 128])?,
+    };
+    let all = match IxBitSet::full(rt.alloc(), 130) {
+        Ok(set) => set,
+        Err(_) => IxBitSet::full(rt.alloc(), 130)?,
+    };
+    assert_eq!(rt; all.count(), 130);
+    let copy = match low_set.try_clone(rt.alloc()) {
+        Ok(set) => set,
+        Err(_) => low_set.try_clone(rt.alloc())?,
+    };
+    assert!(rt; copy == low_set);
+    assert!(rt; has_ones(&low_set, &[0, 64, 129]));
+    assert!(rt; has_ones(&high_set, &[64, 128]));
+    Ok(())
+}
+
+#[test]
+fn refused_memory_of_set_algebra(rt: HostRuntime) -> Result<(), AllocError> {
+    let low = match set_of(rt.alloc(), 130, &[0, 64, 129]) {
+        Ok(set) => set,
+        Err(_) => set_of(rt.alloc(), 130, &[0, 64, 129])?,
+    };
+    let high = match set_of(rt.alloc(), 130, &[64, 128]) {
+        Ok(set) => set,
+        Err(_) => set_of(rt.alloc(), 130, &[64, 128])?,
+    };
+    assert_eq!(rt; low.size(), high.size());
+    if low.size() == high.size() {
+        let either = match low.union(rt.alloc(), &high) {
+            Ok(set) => set,
+            Err(_) => low.union(rt.alloc(), &high)?,
+        };
+        assert!(rt; has_ones(&either, &[0, 64, 128, 129]));
+        let both = match low.intersection(rt.alloc(), &high) {
+            Ok(set) => set,
+            Err(_) => low.intersection(rt.alloc(), &high)?,
+        };
+        assert!(rt; has_ones(&both, &[64]));
+        let first = match low.difference(rt.alloc(), &high) {
+            Ok(set) => set,
+            Err(_) => low.difference(rt.alloc(), &high)?,
+        };
+        assert!(rt; has_ones(&first, &[0, 129]));
+        let one = match low.symmetric_difference(rt.alloc(), &high) {
+            Ok(set) => set,
+            Err(_) => low.symmetric_difference(rt.alloc(), &high)?,
+        };
+        assert!(rt; has_ones(&one, &[0, 128, 129]));
+    }
+    assert!(rt; has_ones(&low, &[0, 64, 129]));
+    assert!(rt; has_ones(&high, &[64, 128]));
     Ok(())
 }

@@ -1,5 +1,11 @@
-use Rattle.guppy_support.proofs.AtLemmas.{ready_joins}
+use Rattle.std.proofs.Common.{inl, inr}
 use Rattle.guppy_support.proofs.plan.wait.Goals as goal
 
-pub returns-in_ok-push-2-clause-ready : goal.returns-in_ok-push-2-clause-ready
-returns-in_ok-push-2-clause-ready c = ready_joins _ _ _ _ c.if-held-node-eq0.true c.in_ok-push-2.ensures
+pub returns-in_ok-push : goal.returns-in_ok-push
+returns-in_ok-push c =
+    let j = c.in_ok-push.ensures in
+    record {
+      kept = j.kept;
+      now = λ z ne. j.has;
+      only = λ y cy. elim (j.only y cy) [ inl e ↦ inl (e, c.if-held-node-eq0.true) | inr o ↦ inr o ];
+    }

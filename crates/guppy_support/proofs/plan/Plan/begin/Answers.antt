@@ -7,28 +7,29 @@ use Rattle.guppy_support.proofs.plan.Plan.begin.Goals as goal
 pub pop_fresh-requires : goal.pop_fresh-requires
 pop_fresh-requires c =
     λ y h.
-    let o = c.requires.pause.plan.starts_nodes y h in
+    let o = c.requires.pause.0.plan.starts_nodes y h in
     let l = ap length c.deref.ensures.value in
-    omega (arith, o, l, c.requires.pause.plan.done_long)
+    omega (arith, o, l, c.requires.pause.0.plan.done_long)
 
 pub returns-in_default-clause-none : goal.returns-in_default-clause-none
-returns-in_default-clause-none c = order_end c.args.graph.now c.args.ranks.now c.requires.setup c.args.self.now.listed.items c.args.self.now.done.items c.args.self.now.outside.items c.args.self.now.held.items c.args.self.now.starts c.requires.pause (rw c.deref.ensures.value at c.in_default.ensures.none)
+returns-in_default-clause-none c = order_end c.args.graph.now c.args.ranks.now c.requires.setup c.args.self.now.listed.items c.args.self.now.done.items c.args.self.now.outside.items c.args.self.now.held.items c.args.self.now.starts c.requires.pause.0 (rw c.deref.ensures.value at c.in_default.ensures.none)
 
 pub row_of-members-requires-clause-node : goal.row_of-members-requires-clause-node
-row_of-members-requires-clause-node c = omega (arith, c.requires.pause.plan.starts_nodes _ c.in-Some.ensures.some.was, c.requires.setup.ranking.long)
+row_of-members-requires-clause-node c = omega (arith, c.requires.pause.0.plan.starts_nodes _ c.in-Some.ensures.some.was, c.requires.setup.ranking.long)
 
-pub waiting-requires : goal.waiting-requires
-waiting-requires c =
+pub make_ready-requires-clause-nodes : goal.make_ready-requires-clause-nodes
+make_ready-requires-clause-nodes c =
     λ j h.
     let r = get_or c.args.ranks.now c.in-Some.start 0 in
     let h' : j < length (places r c.args.ranks.now) = rw c.row_of-members.ensures at h in
     let w = places_within r c.args.ranks.now j h' in
     let l = ap length c.deref-2.ensures.value in
-    rw c.row_of-members.ensures (omega (arith, w.0, l, c.requires.pause.plan.held_long, c.requires.setup.ranking.long))
+    rw c.row_of-members.ensures (omega (arith, w.0, l, c.requires.pause.0.plan.held_long, c.requires.setup.ranking.long))
 
 pub returns-clause-some : goal.returns-clause-some
 returns-clause-some c =
-    choose_start c.args.graph.now c.args.ranks.now c.requires.setup c.args.self.now.listed.items c.args.self.now.done.items c.args.self.now.outside.items c.args.self.now.held.items c.args.self.now.starts c.requires.pause c.in-Some.start c.pop_fresh.new.queue c.in_ok-ready.ready c.in_ok-ready.rest
+    let p = c.args.self.now in
+    choose_start c.args.graph.now c.args.ranks.now c.requires.setup p.listed.items p.done.items p.outside.items p.held.items p.starts c.requires.pause.0 c.in-Some.start c.pop_fresh.new.queue c.make_ready.new.ready
     (rw c.deref.ensures.value at c.in-Some.ensures.some)
-    (filled c.args.graph.now.nodes c.args.ranks.now c.args.self.now.held.items (get_or c.args.ranks.now c.in-Some.start 0) c.in_ok-ready.ready c.in_ok-ready.rest c.requires.setup.ranking.long
-    (rw (c.row_of-members.ensures, c.deref-2.ensures.value) at c.in_ok-ready.ensures))
+    (filled c.args.graph.now.nodes c.args.ranks.now p.held.items (get_or c.args.ranks.now c.in-Some.start 0) c.in-Some.start c.make_ready.new.ready c.requires.setup.ranking.long
+    (rw (c.row_of-members.ensures, c.deref-2.ensures.value) at c.in_ok-make_ready.ensures))

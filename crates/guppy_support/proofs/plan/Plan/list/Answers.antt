@@ -1,4 +1,5 @@
-use Rattle.std.proofs.Common.{length, arith, ap}
+use Rattle.std.proofs.Common.{get_or, length, arith, ap}
+use Rattle.guppy_support.specs.Plans.{rest_of}
 use Rattle.guppy_support.proofs.AtLemmas.{at_end}
 use Rattle.guppy_support.proofs.plan.Plan.list.Goals as goal
 
@@ -6,5 +7,5 @@ pub returns-clause-within : goal.returns-clause-within
 returns-clause-within c =
     let l = ap length c.out_edges-place-end.ensures in
     let p = c.loop-place.self in
-    at_end c.args.graph.now c.args.ranks.now c.args.node p.listed.items p.done.items p.outside.items p.held.items p.starts p.ready p.rest c.loop-place.place
+    at_end c.args.graph.now c.args.ranks.now c.args.node p.listed.items p.done.items p.outside.items p.held.items p.starts p.ready (rest_of c.args.ranks.now (get_or c.args.ranks.now c.args.node 0) p) c.loop-place.place
     (omega (arith, l, c.loop-place-test.false)) c.loop-place.invariant.at

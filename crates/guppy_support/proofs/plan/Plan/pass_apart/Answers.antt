@@ -2,11 +2,12 @@ use Rattle.std.proofs.Common.{◌<◌, length, arith, ap, refl, get_or}
 use Rattle.guppy_support.specs.Rows.{places}
 use Rattle.guppy_support.proofs.PlaceLemmas.{places_within}
 use Rattle.guppy_support.proofs.GroupLemmas.{row_complete}
+use Rattle.guppy_support.specs.Plans.{rest_of}
 use Rattle.guppy_support.proofs.AtLemmas.{apart_positive, apart_next}
 use Rattle.guppy_support.proofs.plan.Plan.pass_apart.Goals as goal
 
 pub leave_outside-requires-clause-positive : goal.leave_outside-requires-clause-positive
-leave_outside-requires-clause-positive c = apart_positive c.args.graph.now c.args.ranks.now c.requires.setup c.args.node c.args.place c.args.self.now.listed.items c.args.self.now.done.items c.args.self.now.outside.items c.args.self.now.held.items c.args.self.now.starts c.args.self.now.ready c.args.self.now.rest c.requires.at c.args.edge.to c.args.edge.non_dev c.requires.edge c.requires.apart
+leave_outside-requires-clause-positive c = apart_positive c.args.graph.now c.args.ranks.now c.requires.setup c.args.node c.args.place c.args.self.now.listed.items c.args.self.now.done.items c.args.self.now.outside.items c.args.self.now.held.items c.args.self.now.starts c.args.self.now.ready (rest_of c.args.ranks.now (get_or c.args.ranks.now c.args.node 0) c.args.self.now) c.requires.at c.args.edge.to c.args.edge.non_dev c.requires.edge c.requires.apart
 
 pub leave_outside-requires-clause-some : goal.leave_outside-requires-clause-some
 leave_outside-requires-clause-some c =
@@ -24,4 +25,4 @@ leave_outside-requires-clause-nodes c =
 pub returns-clause-at : goal.returns-clause-at
 returns-clause-at c =
     rw c.in_ok-leave_outside.ensures.outside
-    (apart_next c.args.graph.now c.args.ranks.now c.requires.setup c.args.node c.args.place c.args.self.now.listed.items c.args.self.now.done.items c.args.self.now.outside.items c.args.self.now.held.items c.args.self.now.starts c.args.self.now.ready c.args.self.now.rest c.requires.at c.args.edge.to c.args.edge.non_dev c.requires.edge c.requires.apart c.leave_outside.new.starts (rw (c.row-members.ensures, c.deref.ensures.value) at c.in_ok-leave_outside.ensures.starts))
+    (apart_next c.args.graph.now c.args.ranks.now c.requires.setup c.args.node c.args.place c.args.self.now.listed.items c.args.self.now.done.items c.args.self.now.outside.items c.args.self.now.held.items c.args.self.now.starts c.args.self.now.ready (rest_of c.args.ranks.now (get_or c.args.ranks.now c.args.node 0) c.args.self.now) c.requires.at c.args.edge.to c.args.edge.non_dev c.requires.edge c.requires.apart c.leave_outside.new.starts (rw (c.row-members.ensures, c.deref.ensures.value) at c.in_ok-leave_outside.ensures.starts))

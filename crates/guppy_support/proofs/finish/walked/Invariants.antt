@@ -1,15 +1,6 @@
-use Rattle.std.proofs.Common.{◌≡◌, ℕ, ◌+◌, ◌<◌, length, slice_index}
+use Rattle.std.proofs.Common.{◌≡◌, ℕ, ◌+◌, ◌<◌, length}
 use Rattle.guppy_support.specs.Search.{IsSeen, IsWalk, work}
-use Rattle.guppy_support.specs.Graph.{sources}
-use Rattle.guppy_support.specs.Rows.{places}
-use Rattle.guppy_support.proofs.finish.finish_order.Given as goal
-
-abbrev pub invariant-loop-node : goal.invariant-loop-node
-invariant-loop-node l =
-    record {
-      long : length l.left.items ≡ l.node;
-      all : (v : ℕ) → v < l.node → slice_index l.left.items v ≡ length (places v (sources l.graph.edges));
-    }
+use Rattle.guppy_support.proofs.finish.walked.Given as goal
 
 abbrev pub invariant-loop-root : goal.invariant-loop-root
 invariant-loop-root l =

@@ -1,6 +1,6 @@
 use Rattle.std.proofs.Common.{rules}
 use Rattle.guppy_support.proofs.SearchLemmas.{finished}
-use Rattle.guppy_support.proofs.finish.finish_order.Goals as goal
+use Rattle.guppy_support.proofs.finish.walked.Goals as goal
 
 pub returns-clause-order : goal.returns-clause-order
 returns-clause-order c =

@@ -1,5 +1,0 @@
-use Rattle.guppy_support.specs.Plans.{AreEntering}
-use Rattle.guppy_support.proofs.start.count_entering.Given as goal
-
-abbrev pub invariant-loop-number : goal.invariant-loop-number
-invariant-loop-number l = record { counted : AreEntering l.graph l.ranks l.number l.counts.items }
