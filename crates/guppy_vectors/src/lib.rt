@@ -1,5 +1,4 @@
-//! Tests that cross the crates: small row files, what is built of them, and what the program answers for them; walks over
-//! small graphs, and a judge of their runs.
+//! Tests that cross the crates: small row files, what is built of them, and what the program answers for them.
 #![tactic(auto)]
 
 #[cfg(test)]
@@ -7,10 +6,4 @@ mod edges;
 #[cfg(test)]
 mod fixtures;
 #[cfg(test)]
-mod graphs;
-#[cfg(test)]
-mod judge;
-#[cfg(test)]
 mod program;
-#[cfg(test)]
-mod walks;
