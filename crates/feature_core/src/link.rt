@@ -7,8 +7,6 @@ ghost use Rattle.feature_core.specs.Values.{link_facts, half_facts};
 
 pub(crate) mod building;
 mod statuses;
-#[cfg(test)]
-mod tests;
 
 use feature_labels::LinkDeclarations;
 use guppy_packages::{PlatformStatus, PlatformStatusImpl};
