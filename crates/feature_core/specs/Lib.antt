@@ -17,6 +17,7 @@ pub mod Ways
 pub mod Releases
 pub mod Errors
 pub mod Built
+pub mod Choices
 pub mod NamedLinks
 pub mod Values
 pub mod Collected

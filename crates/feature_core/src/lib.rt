@@ -24,7 +24,7 @@ mod warning;
 mod weak;
 
 pub use data::FeatureGraphData;
-pub use edge::{FeatureEdge, SlashForm, WeakIndex, WeakSlashImpl};
+pub use edge::{EdgeChoice, FeatureEdge, SlashForm, WeakIndex, WeakSlashImpl};
 pub use error::Error;
 pub use link::{ConditionalLinkImpl, EnabledLink};
 pub use packed::Packed;
