@@ -41,3 +41,4 @@ pub mod WeakLemmas
 pub mod Determined
 pub mod SameLists
 pub mod SameData
+pub mod DefaultLemmas

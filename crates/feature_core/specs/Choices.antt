@@ -6,9 +6,8 @@ use Rattle.guppy_packages.specs.declared.direction.DependencyDirection.TheVarian
 use Rattle.feature_core.specs.declared.edge.EdgeChoice.{EdgeChoice}
 use Rattle.feature_core.specs.declared.edge.EdgeChoice.TheVariants.{All, FeatureToBaseAndNamed}
 use Rattle.feature_core.specs.Candidates.{Edge, feature_to_base, named_feature, dep_colon, slash_full, slash_optional, slash_weak, section, IsEdge}
-use Rattle.feature_core.specs.Edges.{EdgeFacts, base_edge, feature_edge, colon_edge, strong_edge, weak_edge, section_edge}
+use Rattle.feature_core.specs.Edges.{EdgeFacts, base_edge, feature_edge, colon_edge, strong_edge, weak_edge, section_edge, ends_of}
 use Rattle.feature_core.specs.Pairs.{ReachAlong}
-use Rattle.feature_core.specs.Built.{ends_of}
 
 -- whether an edge that is built is among the chosen ones
 abbrev pub is_chosen : EdgeChoice → EdgeFacts → Bool

@@ -23,3 +23,4 @@ pub mod Values
 pub mod Collected
 pub mod Made
 pub mod Warnings
+pub mod Defaults
