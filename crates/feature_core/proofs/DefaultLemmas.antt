@@ -1,0 +1,164 @@
+-- What is on by default, from the walk over the edges that are built.
+use Rattle.std.proofs.Common.{◌≡◌, ℕ, ◌+◌, ◌<◌, ◌≤◌, ◌⊎◌, inl, inr, ⊎_elim, List, [], ◌∷◌, length, map, Bool, true, false, Option, Some, None, refl, sym, ap, ◌∙◌, subst, arith}
+use Rattle.std.specs.Prelude.{◌↔◌, IsTrue, Contains, slice_get, slice_set, filter, replicate, codes}
+use Rattle.std.proofs.Math.Logic.{∥∥₁_elim}
+use Rattle.std.proofs.Math.Bool.{Bool-set}
+use Rattle.guppy_support.specs.Bits.{has}
+use Rattle.guppy_packages.specs.Tables.{Tables}
+use Rattle.guppy_packages.specs.declared.direction.DependencyDirection.TheVariants.{Forward}
+use Rattle.feature_labels.specs.Names.{LabelName}
+use Rattle.feature_labels.specs.Names.LabelName.{base, named}
+use Rattle.feature_core.specs.declared.edge.EdgeChoice.{EdgeChoice}
+use Rattle.feature_core.specs.declared.edge.EdgeChoice.TheVariants.{All, FeatureToBaseAndNamed}
+use Rattle.feature_core.specs.Nodes.{NodeAt, node_places, node_packages}
+use Rattle.feature_core.specs.Candidates.{Edge, Candidate, to_base, to_feature, to_dependency, over_strong, over_weak, with_dependency, with_feature, of_required, of_optional, feature_to_base, named_feature, dep_colon, slash_full, slash_optional, slash_weak, section, IsEdge}
+use Rattle.feature_core.specs.Edges.{EdgeFacts, AreBuilt, facts_of, weak_links}
+use Rattle.feature_core.specs.Pairs.{Along, nowhere, onward, PairLeads, ReachAlong}
+use Rattle.feature_core.specs.Choices.{is_chosen, is_chosen_edge, chosen_pairs, ChosenEdge}
+use Rattle.feature_core.specs.Defaults.{IsDefaultFeature, by_name, by_base, IsDefaultIn, IsDefault, AreDefaults}
+use Rattle.feature_core.proofs.AddsLemmas.{place_below}
+use Rattle.feature_core.proofs.PushLemmas.{from_map, into_map, from_filter, into_filter}
+use Rattle.feature_core.proofs.PairLemmas.{Along-weaker}
+use Rattle.feature_core.proofs.Places.{got_same}
+use Rattle.feature_core.proofs.WayNumbers.{marked_set, marked_grows, marked_cases}
+
+same_choice : (t : Tables) (weak : List ℕ) (which : EdgeChoice) (e : Edge) → is_chosen which (facts_of t weak e) ≡ is_chosen_edge which e
+same_choice t weak All feature_to_base = refl
+same_choice t weak All named_feature = refl
+same_choice t weak All (dep_colon l) = refl
+same_choice t weak All (slash_full l) = refl
+same_choice t weak All (slash_optional l) = refl
+same_choice t weak All (slash_weak k l) = refl
+same_choice t weak All (section l) = refl
+same_choice t weak FeatureToBaseAndNamed feature_to_base = refl
+same_choice t weak FeatureToBaseAndNamed named_feature = refl
+same_choice t weak FeatureToBaseAndNamed (dep_colon l) = refl
+same_choice t weak FeatureToBaseAndNamed (slash_full l) = refl
+same_choice t weak FeatureToBaseAndNamed (slash_optional l) = refl
+same_choice t weak FeatureToBaseAndNamed (slash_weak k l) = refl
+same_choice t weak FeatureToBaseAndNamed (section l) = refl
+
+-- a chosen edge from u to w
+abbrev Chosen : Tables → EdgeChoice → ℕ → ℕ → Type 0
+Chosen t which u w = (e : Edge) × IsEdge t u w e × IsTrue (is_chosen_edge which e)
+
+module _ (t : Tables) (edges : List (ℕ × ℕ × EdgeFacts)) (weak : List (ℕ × ℕ)) (built : AreBuilt t edges weak) (which : EdgeChoice) where
+  told : ℕ × ℕ × Edge → ℕ × ℕ × EdgeFacts
+  told e = (e.0, e.1, facts_of t (weak_links built.list) e.2)
+
+  -- a chosen pair has a chosen edge
+  pair_chosen : (u w : ℕ) → Contains (chosen_pairs which edges) (u, w) → Chosen t which u w
+  unfolding told
+  pair_chosen u w h =
+      let x = from_map (λ e. (e.0, e.1)) (filter (λ e. is_chosen which e.2) edges) (u, w) h in
+      let kept = from_filter (λ e. is_chosen which e.2) edges x.0 x.1 in
+      let y = from_map told built.list x.0 (subst (λ z. Contains z x.0) built.facts kept.0) in
+      let edge : IsEdge t y.0.0 y.0.1 y.0.2 = (built.are_edges.exact y.0.0 y.0.1 y.0.2).0 y.1 in
+      let from : y.0.0 ≡ u = ap (λ z. z.0) y.2 ∙ ap (λ z. z.0) x.2 in
+      let to : y.0.1 ≡ w = ap (λ z. z.1) y.2 ∙ ap (λ z. z.1) x.2 in
+      let chosen : is_chosen_edge which y.0.2 ≡ true = sym (same_choice t (weak_links built.list) which y.0.2) ∙ ap (λ z. is_chosen which z.2) y.2 ∙ kept.1 in
+      (y.0.2, subst (λ z. IsEdge t z w y.0.2) from (subst (λ z. IsEdge t y.0.0 z y.0.2) to edge), chosen)
+
+  chosen_pair : (u w : ℕ) → Chosen t which u w → Contains (chosen_pairs which edges) (u, w)
+  unfolding told
+  chosen_pair u w (e, edge, chosen) =
+      let c : Contains edges (told (u, w, e)) = subst (λ z. Contains z (told (u, w, e))) (sym built.facts) (into_map told built.list (u, w, e) ((built.are_edges.exact u w e).1 edge)) in
+      into_map (λ e. (e.0, e.1)) (filter (λ e. is_chosen which e.2) edges) (told (u, w, e)) (into_filter (λ e. is_chosen which e.2) edges (told (u, w, e)) c (same_choice t (weak_links built.list) which e ∙ chosen))
+
+-- node n is a label of package p
+abbrev IsIn : Tables → ℕ → ℕ → Type 0
+IsIn t p n = (l : LabelName) × NodeAt t n p l
+
+never : {P : Type 0} → IsTrue false → P
+never t = absurd (no t)
+  where
+    no : IsTrue false → ⊥
+    no t = cc
+
+-- a node has one package
+moved : (t : Tables) (u w p q : ℕ) (l : LabelName) → NodeAt t u q l → IsIn t p u → IsIn t q w → IsIn t p w
+moved t u w p q l at h i =
+    let e : (q, l) ≡ (p, h.0) = got_same (q, l) (p, h.0) (sym at ∙ h.1) in
+    subst (λ z. IsIn t z w) (ap (λ z. z.0) e) i
+
+not_chosen : {P : Type 0} (e f : Edge) → e ≡ f → IsTrue (is_chosen_edge FeatureToBaseAndNamed e) → is_chosen_edge FeatureToBaseAndNamed f ≡ false → P
+not_chosen e f same t n = never (sym n ∙ ap (is_chosen_edge FeatureToBaseAndNamed) (sym same) ∙ t)
+
+-- such an edge stays in its package
+stays : (t : Tables) (u w p : ℕ) (e : Edge) → Candidate t u w e → IsTrue (is_chosen_edge FeatureToBaseAndNamed e) → IsIn t p u → IsIn t p w
+stays t u w p e (to_base q l at other to is) c h = moved t u w p q l at h (base, to)
+stays t u w p e (to_feature q f g item differ at to is) c h = moved t u w p q (named f) at h (named g, to)
+stays t u w p e (to_dependency q f d item at to is) c h = not_chosen e _ is c refl
+stays t u w p e (over_strong k link weak over no is) c h = not_chosen e _ is c refl
+stays t u w p e (over_weak k link over some is) c h = not_chosen e _ is c refl
+stays t u w p e (with_dependency q f d g item at to is) c h = not_chosen e _ is c refl
+stays t u w p e (with_feature q n f d g item at there differ to is) c h = not_chosen e _ is c refl
+stays t u w p e (of_required s) c h = not_chosen e _ s.is_edge c refl
+stays t u w p e (of_optional s) c h = not_chosen e _ s.is_edge c refl
+
+starts_in : (t : Tables) (p n : ℕ) → IsDefaultFeature t p n → IsIn t p n
+starts_in t p n (by_name at) = (named (codes "default"), at)
+starts_in t p n (by_base none at) = (base, at)
+
+-- a path and one step more
+along_more : (Step : ℕ → ℕ → Type 0) (u v w : ℕ) → Along Step u v → Step v w → Along Step u w
+along_more Step u v w (nowhere {u = a}) s = onward s nowhere
+along_more Step u v w (onward {u = a} {v = b} {w = c} step rest) s = onward step (along_more Step b c w rest s)
+
+-- what is closed under steps has the end of each path from its members
+along_in : (Step : ℕ → ℕ → Type 0) (S : ℕ → Type 0) → ((u w : ℕ) → Step u w → S u → S w) → (u w : ℕ) → Along Step u w → S u → S w
+along_in Step S f u w (nowhere {u = a}) s = s
+along_in Step S f u w (onward {u = a} {v = b} {w = c} step rest) s = along_in Step S f b c rest (f a b step s)
+
+-- the marks of the walk are those of the definition
+pub walked : (t : Tables) (edges : List (ℕ × ℕ × EdgeFacts)) (weak : List (ℕ × ℕ)) (initials marks : List Bool) → AreBuilt t edges weak
+    → ((n : ℕ) → IsTrue (has initials n) ↔ ((p : ℕ) × IsDefaultFeature t p n))
+    → ((n : ℕ) → IsTrue (has marks n) ↔ ReachAlong (PairLeads (chosen_pairs FeatureToBaseAndNamed edges) Forward) (has initials) n)
+    → (n : ℕ) → IsTrue (has marks n) ↔ IsDefault t n
+walked t edges weak initials marks built starts reached n = (
+  (λ m.
+      let r = (reached n).0 m in
+      let d = (starts r.0).0 r.1 in
+      let ends = along_in leads (IsIn t d.0) (λ u w h. let c = chosen u w h in stays t u w d.0 c.0 c.1.candidate c.2) r.0 n r.2 (starts_in t d.0 r.0 d.1) in
+      ∣ (d.0, record {
+        label = ends.0;
+        node = ends.1;
+        start = r.0;
+        is_start = d.1;
+        path = Along-weaker leads (ChosenEdge t FeatureToBaseAndNamed) (λ u w h. ∣ chosen u w h ∣₁) r.0 n r.2;
+      }) ∣₁),
+  (λ h. ∥∥₁_elim h (Bool-set _ _) (λ x. along_in (ChosenEdge t FeatureToBaseAndNamed) (λ k. IsTrue (has marks k)) more x.1.start n x.1.path (first x.0 x.1.start x.1.is_start))),
+)
+  where
+    leads : ℕ → ℕ → Type 0
+    leads = PairLeads (chosen_pairs FeatureToBaseAndNamed edges) Forward
+
+    chosen : (u w : ℕ) → leads u w → Chosen t FeatureToBaseAndNamed u w
+    chosen u w h = pair_chosen t edges weak built FeatureToBaseAndNamed u w h
+
+    first : (p k : ℕ) → IsDefaultFeature t p k → IsTrue (has marks k)
+    first p k d = (reached k).1 (k, (starts k).1 (p, d), nowhere)
+
+    more : (u w : ℕ) → ChosenEdge t FeatureToBaseAndNamed u w → IsTrue (has marks u) → IsTrue (has marks w)
+    more u w h m = ∥∥₁_elim h (Bool-set _ _) (λ c.
+        let r = (reached u).0 m in
+        (reached w).1 (r.0, r.1, along_more leads r.0 u w r.2 (chosen_pair t edges weak built FeatureToBaseAndNamed u w c)))
+
+-- the default features of the packages before p
+abbrev pub Starts : Tables → ℕ → ℕ → Type 0
+Starts t p n = (q : ℕ) × (q < p) × IsDefaultFeature t q n
+
+pub none_start : (t : Tables) (m n : ℕ) → IsTrue (has (replicate m false) n) ↔ Starts t 0 n
+none_start t m n = ((λ h. never (sym (nothing m n) ∙ h)), (λ s. absurd (omega (arith, s.1))))
+  where
+    nothing : (m n : ℕ) → has (replicate m false) n ≡ false
+    nothing m n = ?
+
+pub next_start : (t : Tables) (p q node : ℕ) (set : List Bool) → q ≡ p → node < length set → IsDefaultFeature t q node → ((n : ℕ) → IsTrue (has set n) ↔ Starts t p n) → (n : ℕ) → IsTrue (has (slice_set set node true) n) ↔ Starts t (p + 1) n
+next_start t p q node set e within d h n = (
+  (λ m. ⊎_elim
+      (λ same. (p, omega arith, subst (λ z. IsDefaultFeature t p z) (sym same) (subst (λ z. IsDefaultFeature t z node) e d)))
+      (λ old. let s = (h n).0 old in (s.0, omega (arith, s.1), s.2))
+      (marked_cases set node n m)),
+  (λ s. ?),
+)
