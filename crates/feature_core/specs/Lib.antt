@@ -14,6 +14,7 @@ pub mod Listed
 pub mod WalkProgress
 pub mod OpenWays
 pub mod Ways
+pub mod ChosenWays
 pub mod Releases
 pub mod Errors
 pub mod Built
