@@ -1,6 +1,7 @@
 -- What is on by default, from the walk over the edges that are built.
-use Rattle.std.proofs.Common.{◌≡◌, ℕ, ◌+◌, ◌<◌, ◌≤◌, ◌⊎◌, inl, inr, ⊎_elim, List, [], ◌∷◌, length, map, Bool, true, false, Option, Some, None, refl, sym, ap, ◌∙◌, subst, arith}
+use Rattle.std.proofs.Common.{◌≡◌, ℕ, ◌+◌, ◌<◌, ◌≤◌, ◌⊎◌, inl, inr, ⊎_elim, zero, suc, List, [], ◌∷◌, length, map, Bool, true, false, Option, Some, None, refl, sym, ap, ◌∙◌, subst, arith}
 use Rattle.std.specs.Prelude.{◌↔◌, IsTrue, Contains, slice_get, slice_set, filter, replicate, codes}
+use Rattle.std.proofs.lemmas.List.{length-map}
 use Rattle.std.proofs.Math.Logic.{∥∥₁_elim}
 use Rattle.std.proofs.Math.Bool.{Bool-set}
 use Rattle.guppy_support.specs.Bits.{has}
@@ -19,7 +20,8 @@ use Rattle.feature_core.specs.Defaults.{IsDefaultFeature, by_name, by_base, IsDe
 use Rattle.feature_core.proofs.AddsLemmas.{place_below}
 use Rattle.feature_core.proofs.PushLemmas.{from_map, into_map, from_filter, into_filter}
 use Rattle.feature_core.proofs.PairLemmas.{Along-weaker}
-use Rattle.feature_core.proofs.Places.{got_same}
+use Rattle.feature_core.proofs.Places.{got_same, node_back}
+use Rattle.feature_core.proofs.LabelLemmas.{one_base}
 use Rattle.feature_core.proofs.WayNumbers.{marked_set, marked_grows, marked_cases}
 
 same_choice : (t : Tables) (weak : List ℕ) (which : EdgeChoice) (e : Edge) → is_chosen which (facts_of t weak e) ≡ is_chosen_edge which e
@@ -144,6 +146,36 @@ walked t edges weak initials marks built starts reached n = (
         let r = (reached u).0 m in
         (reached w).1 (r.0, r.1, along_more leads r.0 u w r.2 (chosen_pair t edges weak built FeatureToBaseAndNamed u w c)))
 
+-- a node is below the number of nodes
+pub start_below : (t : Tables) (p n : ℕ) → IsDefaultFeature t p n → n < length (node_packages t)
+start_below t p n d =
+    let s = starts_in t p n d in
+    let long : length (node_packages t) ≡ length (node_places t) = length-map (node_places t) (λ x. x.0) in
+    let below : n < length (node_places t) = place_below (node_places t) n (p, s.0) s.1 in
+    omega arith
+
+none_some : {P : Type 0} (n : ℕ) → ◌≡◌ {A = Option ℕ} None (Some n) → P
+none_some n e = absurd (no e)
+  where
+    no : ◌≡◌ {A = Option ℕ} None (Some n) → ⊥
+    no e = cc
+
+-- where the package has a feature of that name
+pub default_found : (t : Tables) (p node : ℕ) → ((n : ℕ) → ◌≡◌ {A = Option ℕ} (Some node) (Some n) ↔ NodeAt t n p (named (codes "default"))) → (n : ℕ) → (node ≡ n) ↔ IsDefaultFeature t p n
+default_found t p node h n = ((λ e. by_name ((h n).0 (ap Some e))), back n)
+  where
+    back : (n : ℕ) → IsDefaultFeature t p n → node ≡ n
+    back n (by_name at) = got_same node n ((h n).1 at)
+    back n (by_base none at) = absurd (none node ((h node).0 refl))
+
+-- where it has none
+pub default_missing : (t : Tables) (p node : ℕ) → ((n : ℕ) → ◌≡◌ {A = Option ℕ} None (Some n) ↔ NodeAt t n p (named (codes "default"))) → NodeAt t node p base → (n : ℕ) → (node ≡ n) ↔ IsDefaultFeature t p n
+default_missing t p node h is n = ((λ e. by_base (λ m at. none_some m ((h m).1 at)) (subst (λ z. NodeAt t z p base) e is)), back n)
+  where
+    back : (n : ℕ) → IsDefaultFeature t p n → node ≡ n
+    back n (by_name at) = none_some n ((h n).1 at)
+    back n (by_base none at) = one_base t p node n is at
+
 -- the default features of the packages before p
 abbrev pub Starts : Tables → ℕ → ℕ → Type 0
 Starts t p n = (q : ℕ) × (q < p) × IsDefaultFeature t q n
@@ -152,13 +184,35 @@ pub none_start : (t : Tables) (m n : ℕ) → IsTrue (has (replicate m false) n)
 none_start t m n = ((λ h. never (sym (nothing m n) ∙ h)), (λ s. absurd (omega (arith, s.1))))
   where
     nothing : (m n : ℕ) → has (replicate m false) n ≡ false
-    nothing m n = ?
+    nothing zero n = refl
+    nothing (suc m) zero = refl
+    nothing (suc m) (suc n) = nothing m n
 
-pub next_start : (t : Tables) (p q node : ℕ) (set : List Bool) → q ≡ p → node < length set → IsDefaultFeature t q node → ((n : ℕ) → IsTrue (has set n) ↔ Starts t p n) → (n : ℕ) → IsTrue (has (slice_set set node true) n) ↔ Starts t (p + 1) n
+pub next_start : (t : Tables) (p q node : ℕ) (set : List Bool) → q ≡ p → node < length set → ((n : ℕ) → (node ≡ n) ↔ IsDefaultFeature t q n) → ((n : ℕ) → IsTrue (has set n) ↔ Starts t p n) → (n : ℕ) → IsTrue (has (slice_set set node true) n) ↔ Starts t (p + 1) n
 next_start t p q node set e within d h n = (
   (λ m. ⊎_elim
-      (λ same. (p, omega arith, subst (λ z. IsDefaultFeature t p z) (sym same) (subst (λ z. IsDefaultFeature t z node) e d)))
+      (λ same. (p, omega arith, subst (λ z. IsDefaultFeature t z n) e ((d n).0 (sym same))))
       (λ old. let s = (h n).0 old in (s.0, omega (arith, s.1), s.2))
       (marked_cases set node n m)),
-  (λ s. ?),
+  (λ s. ⊎_elim
+      (λ before. marked_grows set node n within ((h n).1 (s.0, before, s.2)))
+      (λ last. subst (λ z. IsTrue (has (slice_set set node true) z)) ((d n).1 (subst (λ z. IsDefaultFeature t z n) (last ∙ sym e) s.2)) (marked_set set node within))
+      (before_or_last s.0 p s.1)),
 )
+  where
+    before_or_last : (a b : ℕ) → a < b + 1 → (a < b) ⊎ (a ≡ b)
+    before_or_last a b l = ?
+
+-- those of all packages
+pub all_starts : (t : Tables) (p : ℕ) (set : List Bool) → length t.packages ≤ p → ((n : ℕ) → IsTrue (has set n) ↔ Starts t p n) → (n : ℕ) → IsTrue (has set n) ↔ ((q : ℕ) × IsDefaultFeature t q n)
+all_starts t p set long h n = (
+  (λ m. let s = (h n).0 m in (s.0, s.2)),
+  (λ s. (h n).1 (s.0, below s.0 s.1, s.1)),
+)
+  where
+    below : (q : ℕ) → IsDefaultFeature t q n → q < p
+    below q d =
+        let s = starts_in t q n d in
+        let row = node_back t n q s.0 s.1 in
+        let l : q < length t.packages = place_below t.packages q row.row row.is_row in
+        omega arith

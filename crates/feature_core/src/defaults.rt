@@ -19,7 +19,7 @@ use std::alloc::{AllocError, Global};
 /// The default feature of a package: its feature named `default`, or its base where it has none.
 fn default_feature(numbers: Numbers<'_>, metadata: PackageMetadata<'_>) -> usize
     requires { package_graph_of metadata ≡ numbers.graph.now }
-    ensures { IsDefaultFeature numbers.entry.graph.now metadata.entry.package_ix result }
+    ensures { (n : ℕ) → (result ≡ n) ↔ IsDefaultFeature numbers.entry.graph.now metadata.entry.package_ix n }
 {
     match numbers.named(metadata, "default") {
         Some(node) => node,

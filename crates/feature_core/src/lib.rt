@@ -6,6 +6,7 @@ mod candidates;
 mod comparing;
 mod data;
 mod declarations;
+mod defaults;
 mod edge;
 mod edges;
 pub mod engine;
