@@ -19,11 +19,13 @@ pub mod OpenWayLemmas
 pub mod Released
 pub mod ReleaseTables
 pub mod PackedLemmas
+pub mod ChosenWayLemmas
 pub mod NameLemmas
 pub mod GroupedLinks
 pub mod PushLemmas
 pub mod Listed
 pub mod PairLemmas
+pub mod ChoiceLemmas
 pub mod RequestLemmas
 pub mod Ranks
 pub mod EdgeLemmas

@@ -36,7 +36,7 @@ is_chosen_edge FeatureToBaseAndNamed (section l) = false
 
 -- the edge of a pair is a chosen one
 abbrev pub ChosenEdge : Tables → EdgeChoice → ℕ → ℕ → Type 0
-ChosenEdge t which u w = ∥ (e : Edge) × IsEdge t u w e × IsTrue (is_chosen_edge which e) ∥₁
+ChosenEdge t which u w = ∥ ((e : Edge) × IsEdge t u w e × IsTrue (is_chosen_edge which e)) ∥₁
 
 -- a chosen edge leads from u to w, as the direction follows it
 abbrev pub ChosenLeads : Tables → EdgeChoice → DependencyDirection → ℕ → ℕ → Type 0

@@ -6,7 +6,8 @@ ghost use Rattle.feature_labels.specs.Names.{id_of, label_of};
 ghost use Rattle.feature_core.specs.Nodes.{NodeAt, nodes, first_node, first_nodes, node_packages, labels_of};
 ghost use Rattle.guppy_support.specs.Bits.{has};
 ghost use Rattle.feature_core.specs.Pairs.{PairLeads, ReachAlong};
-ghost use Rattle.feature_core.specs.Built.{AreAlike, IsBuilt, NodeNamed, ends_of, end_of};
+ghost use Rattle.feature_core.specs.Built.{AreAlike, IsBuilt, NodeNamed, end_of};
+ghost use Rattle.feature_core.specs.Choices.{chosen_pairs};
 ghost use Rattle.feature_core.specs.Defaults.{IsDefault};
 ghost use Rattle.feature_core.specs.Values.{edge_facts};
 ghost use Rattle.feature_core.specs.Warnings.{warning_of};
@@ -20,13 +21,13 @@ use crate::comparing::{
     same_edges, same_gates, same_numbers, same_pairs, same_sets, same_warnings,
 };
 use crate::defaults::default_marks;
-use crate::edge::FeatureEdge;
+use crate::edge::{EdgeChoice, FeatureEdge};
 use crate::error::Error;
 use crate::named_links::named_links;
 use crate::nodes::{NodeTable, node_table};
 use crate::numbers::{Numbers, label_at};
 use crate::packed::Packed;
-use crate::reach::reach_all;
+use crate::reach::reach_chosen;
 use crate::releases::release_table;
 use crate::warning::{FeatureGraphWarning, warnings};
 use feature_labels::{FeatureId, FeatureLabel};
@@ -239,18 +240,20 @@ impl FeatureGraphData {
 }
 
 impl FeatureGraphData {
-    /// What is reached from the initial nodes over all edges.
+    /// What is reached from the initial nodes over the chosen edges.
     pub(crate) fn reach(
         &self,
         alloc: Global,
         direction: DependencyDirection,
         initials: &IxBitSet,
+        which: EdgeChoice,
     ) -> Result<IxBitSet, AllocError>
         requires { length initials.now ≡ length self.now.packages }
         ensures size { IfOk result (λ set. length set ≡ length self.now.packages) }
-        ensures members { IfOk result (λ set. (n : ℕ) → IsTrue (has set n) ↔ ReachAlong (PairLeads (ends_of self.now.edges) direction) (has initials.now) n) }
+        ensures members { IfOk result (λ set. (n : ℕ) → IsTrue (has set n) ↔ ReachAlong (PairLeads (chosen_pairs which self.now.edges) direction) (has initials.now) n) }
     {
-        let set = reach_all(alloc, &self.digraph, direction, initials)?;
+        let says = self.edges.as_slice();
+        let set = reach_chosen(alloc, &self.digraph, says, which, direction, initials)?;
         Ok(set)
     }
 
