@@ -41,7 +41,7 @@ module _ (t : Tables) (which : EdgeChoice) (edges : List (ℕ × ℕ × EdgeFact
   abbrev as_built : ℕ × ℕ × Edge → ℕ × ℕ × EdgeFacts
   as_built e = (e.0, e.1, facts_of t (weak_links built.list) e.2)
 
-  chosen_back : (u w : ℕ) → Contains (chosen_pairs which edges) (u, w) → (e : Edge) × IsEdge t u w e × IsTrue (is_chosen_edge which e)
+  pub chosen_back : (u w : ℕ) → Contains (chosen_pairs which edges) (u, w) → (e : Edge) × IsEdge t u w e × IsTrue (is_chosen_edge which e)
   chosen_back u w h =
       let x = from_map (λ e. (e.0, e.1)) (filter (λ e. is_chosen which e.2) edges) (u, w) h in
       let kept = from_filter (λ e. is_chosen which e.2) edges x.0 x.1 in
@@ -52,7 +52,7 @@ module _ (t : Tables) (which : EdgeChoice) (edges : List (ℕ × ℕ × EdgeFact
       let chosen : is_chosen_edge which y.0.2 ≡ true = sym (chosen_same which t (weak_links built.list) y.0.2) ∙ ap (λ z. is_chosen which z.2) y.2 ∙ kept.1 in
       (y.0.2, subst (λ z. IsEdge t u z y.0.2) to (subst (λ z. IsEdge t z y.0.1 y.0.2) from edge), chosen)
 
-  chosen_into : (u w : ℕ) → ((e : Edge) × IsEdge t u w e × IsTrue (is_chosen_edge which e)) → Contains (chosen_pairs which edges) (u, w)
+  pub chosen_into : (u w : ℕ) → ((e : Edge) × IsEdge t u w e × IsTrue (is_chosen_edge which e)) → Contains (chosen_pairs which edges) (u, w)
   chosen_into u w (e, edge, chosen) =
       let there : Contains (map as_built built.list) (as_built (u, w, e)) = into_map as_built built.list (u, w, e) ((built.are_edges.exact u w e).1 edge) in
       let listed : Contains edges (as_built (u, w, e)) = subst (λ z. Contains z (as_built (u, w, e))) (sym built.facts) there in

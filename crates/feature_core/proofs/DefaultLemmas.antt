@@ -18,64 +18,25 @@ use Rattle.feature_core.specs.Pairs.{Along, nowhere, onward, PairLeads, ReachAlo
 use Rattle.feature_core.specs.Choices.{is_chosen, is_chosen_edge, chosen_pairs, ChosenEdge}
 use Rattle.feature_core.specs.Defaults.{IsDefaultFeature, by_name, by_base, IsDefaultIn, IsDefault, AreDefaults}
 use Rattle.feature_core.proofs.AddsLemmas.{place_below}
-use Rattle.feature_core.proofs.PushLemmas.{from_map, into_map, from_filter, into_filter}
+use Rattle.feature_core.proofs.ChoiceLemmas.{chosen_back, chosen_into}
 use Rattle.feature_core.proofs.PairLemmas.{Along-weaker}
 use Rattle.feature_core.proofs.Places.{got_same, node_back}
 use Rattle.feature_core.proofs.LabelLemmas.{one_base}
 use Rattle.feature_core.proofs.WayNumbers.{marked_set, marked_grows, marked_cases}
 
-same_choice : (t : Tables) (weak : List ℕ) (which : EdgeChoice) (e : Edge) → is_chosen which (facts_of t weak e) ≡ is_chosen_edge which e
-same_choice t weak All feature_to_base = refl
-same_choice t weak All named_feature = refl
-same_choice t weak All (dep_colon l) = refl
-same_choice t weak All (slash_full l) = refl
-same_choice t weak All (slash_optional l) = refl
-same_choice t weak All (slash_weak k l) = refl
-same_choice t weak All (section l) = refl
-same_choice t weak FeatureToBaseAndNamed feature_to_base = refl
-same_choice t weak FeatureToBaseAndNamed named_feature = refl
-same_choice t weak FeatureToBaseAndNamed (dep_colon l) = refl
-same_choice t weak FeatureToBaseAndNamed (slash_full l) = refl
-same_choice t weak FeatureToBaseAndNamed (slash_optional l) = refl
-same_choice t weak FeatureToBaseAndNamed (slash_weak k l) = refl
-same_choice t weak FeatureToBaseAndNamed (section l) = refl
-
 -- a chosen edge from u to w
 abbrev Chosen : Tables → EdgeChoice → ℕ → ℕ → Type 0
 Chosen t which u w = (e : Edge) × IsEdge t u w e × IsTrue (is_chosen_edge which e)
-
-module _ (t : Tables) (edges : List (ℕ × ℕ × EdgeFacts)) (weak : List (ℕ × ℕ)) (built : AreBuilt t edges weak) (which : EdgeChoice) where
-  told : ℕ × ℕ × Edge → ℕ × ℕ × EdgeFacts
-  told e = (e.0, e.1, facts_of t (weak_links built.list) e.2)
-
-  -- a chosen pair has a chosen edge
-  pair_chosen : (u w : ℕ) → Contains (chosen_pairs which edges) (u, w) → Chosen t which u w
-  unfolding told
-  pair_chosen u w h =
-      let x = from_map (λ e. (e.0, e.1)) (filter (λ e. is_chosen which e.2) edges) (u, w) h in
-      let kept = from_filter (λ e. is_chosen which e.2) edges x.0 x.1 in
-      let y = from_map told built.list x.0 (subst (λ z. Contains z x.0) built.facts kept.0) in
-      let edge : IsEdge t y.0.0 y.0.1 y.0.2 = (built.are_edges.exact y.0.0 y.0.1 y.0.2).0 y.1 in
-      let from : y.0.0 ≡ u = ap (λ z. z.0) y.2 ∙ ap (λ z. z.0) x.2 in
-      let to : y.0.1 ≡ w = ap (λ z. z.1) y.2 ∙ ap (λ z. z.1) x.2 in
-      let chosen : is_chosen_edge which y.0.2 ≡ true = sym (same_choice t (weak_links built.list) which y.0.2) ∙ ap (λ z. is_chosen which z.2) y.2 ∙ kept.1 in
-      (y.0.2, subst (λ z. IsEdge t z w y.0.2) from (subst (λ z. IsEdge t y.0.0 z y.0.2) to edge), chosen)
-
-  chosen_pair : (u w : ℕ) → Chosen t which u w → Contains (chosen_pairs which edges) (u, w)
-  unfolding told
-  chosen_pair u w (e, edge, chosen) =
-      let c : Contains edges (told (u, w, e)) = subst (λ z. Contains z (told (u, w, e))) (sym built.facts) (into_map told built.list (u, w, e) ((built.are_edges.exact u w e).1 edge)) in
-      into_map (λ e. (e.0, e.1)) (filter (λ e. is_chosen which e.2) edges) (told (u, w, e)) (into_filter (λ e. is_chosen which e.2) edges (told (u, w, e)) c (same_choice t (weak_links built.list) which e ∙ chosen))
 
 -- node n is a label of package p
 abbrev IsIn : Tables → ℕ → ℕ → Type 0
 IsIn t p n = (l : LabelName) × NodeAt t n p l
 
 never : {P : Type 0} → IsTrue false → P
-never t = absurd (no t)
+never t = absurd (clash t)
   where
-    no : IsTrue false → ⊥
-    no t = cc
+    clash : IsTrue false → ⊥
+    clash t = cc
 
 -- a node has one package
 moved : (t : Tables) (u w p q : ℕ) (l : LabelName) → NodeAt t u q l → IsIn t p u → IsIn t q w → IsIn t p w
@@ -91,7 +52,7 @@ stays : (t : Tables) (u w p : ℕ) (e : Edge) → Candidate t u w e → IsTrue (
 stays t u w p e (to_base q l at other to is) c h = moved t u w p q l at h (base, to)
 stays t u w p e (to_feature q f g item differ at to is) c h = moved t u w p q (named f) at h (named g, to)
 stays t u w p e (to_dependency q f d item at to is) c h = not_chosen e _ is c refl
-stays t u w p e (over_strong k link weak over no is) c h = not_chosen e _ is c refl
+stays t u w p e (over_strong k link weak over apart is) c h = not_chosen e _ is c refl
 stays t u w p e (over_weak k link over some is) c h = not_chosen e _ is c refl
 stays t u w p e (with_dependency q f d g item at to is) c h = not_chosen e _ is c refl
 stays t u w p e (with_feature q n f d g item at there differ to is) c h = not_chosen e _ is c refl
@@ -136,7 +97,7 @@ walked t edges weak initials marks built starts reached n = (
     leads = PairLeads (chosen_pairs FeatureToBaseAndNamed edges) Forward
 
     chosen : (u w : ℕ) → leads u w → Chosen t FeatureToBaseAndNamed u w
-    chosen u w h = pair_chosen t edges weak built FeatureToBaseAndNamed u w h
+    chosen u w h = chosen_back t FeatureToBaseAndNamed edges weak built u w h
 
     first : (p k : ℕ) → IsDefaultFeature t p k → IsTrue (has marks k)
     first p k d = (reached k).1 (k, (starts k).1 (p, d), nowhere)
@@ -144,7 +105,7 @@ walked t edges weak initials marks built starts reached n = (
     more : (u w : ℕ) → ChosenEdge t FeatureToBaseAndNamed u w → IsTrue (has marks u) → IsTrue (has marks w)
     more u w h m = ∥∥₁_elim h (Bool-set _ _) (λ c.
         let r = (reached u).0 m in
-        (reached w).1 (r.0, r.1, along_more leads r.0 u w r.2 (chosen_pair t edges weak built FeatureToBaseAndNamed u w c)))
+        (reached w).1 (r.0, r.1, along_more leads r.0 u w r.2 (chosen_into t FeatureToBaseAndNamed edges weak built u w c)))
 
 -- a node is below the number of nodes
 pub start_below : (t : Tables) (p n : ℕ) → IsDefaultFeature t p n → n < length (node_packages t)
@@ -155,10 +116,10 @@ start_below t p n d =
     omega arith
 
 none_some : {P : Type 0} (n : ℕ) → ◌≡◌ {A = Option ℕ} None (Some n) → P
-none_some n e = absurd (no e)
+none_some n e = absurd (clash e)
   where
-    no : ◌≡◌ {A = Option ℕ} None (Some n) → ⊥
-    no e = cc
+    clash : ◌≡◌ {A = Option ℕ} None (Some n) → ⊥
+    clash e = cc
 
 -- where the package has a feature of that name
 pub default_found : (t : Tables) (p node : ℕ) → ((n : ℕ) → ◌≡◌ {A = Option ℕ} (Some node) (Some n) ↔ NodeAt t n p (named (codes "default"))) → (n : ℕ) → (node ≡ n) ↔ IsDefaultFeature t p n
@@ -201,7 +162,7 @@ next_start t p q node set e within d h n = (
 )
   where
     before_or_last : (a b : ℕ) → a < b + 1 → (a < b) ⊎ (a ≡ b)
-    before_or_last a b l = ?
+    before_or_last a b l = grind arith
 
 -- those of all packages
 pub all_starts : (t : Tables) (p : ℕ) (set : List Bool) → length t.packages ≤ p → ((n : ℕ) → IsTrue (has set n) ↔ Starts t p n) → (n : ℕ) → IsTrue (has set n) ↔ ((q : ℕ) × IsDefaultFeature t q n)

@@ -24,7 +24,7 @@ pub record IsDefaultIn (t : Tables) (p n : ℕ) : Type 0 where
 
 -- node n is on by default
 abbrev pub IsDefault : Tables → ℕ → Type 0
-IsDefault t n = ∥ (p : ℕ) × IsDefaultIn t p n ∥₁
+IsDefault t n = ∥ ((p : ℕ) × IsDefaultIn t p n) ∥₁
 
 -- for each node, whether it is on by default
 pub record AreDefaults (t : Tables) (marks : List Bool) : Type 0 where

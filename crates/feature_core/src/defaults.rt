@@ -57,12 +57,13 @@ pub(crate) fn default_marks(
     ensures { IfOk result (λ marks. AreDefaults numbers.entry.graph.now marks) }
 {
     let initials = default_features(alloc, numbers, table.digraph.node_count())?;
-    reach_chosen(
+    let marks = reach_chosen(
         alloc,
         &table.digraph,
         &table.edges,
         EdgeChoice::FeatureToBaseAndNamed,
         DependencyDirection::Forward,
         &initials,
-    )
+    )?;
+    Ok(marks)
 }
