@@ -1,4 +1,4 @@
-use Rattle.std.proofs.Common.{◌≡◌, ◌∙◌, ap, subst, List, ℕ, map}
+use Rattle.std.proofs.Common.{◌≡◌, ◌∙◌, ap, subst, map}
 use Rattle.std.specs.Prelude.{◌↔◌, IsTrue}
 use Rattle.guppy_support.specs.Bits.{has}
 use Rattle.feature_core.specs.Built.{built_edges}
