@@ -11,5 +11,5 @@ pub returns-clause-members : goal.returns-clause-members
 returns-clause-members c n =
     let digraph = c.self.inside.digraph.edges in
     let same : chosen_pairs c.args.which (built_edges digraph (map edge_facts c.as_slice-says.result.now)) ≡ chosen_pairs c.args.which c.args.self.now.edges =
-        ap (λ z. chosen_pairs c.args.which (built_edges digraph (map edge_facts z))) c.as_slice-says.ensures.value ∙ ap (λ b. chosen_pairs c.args.which b.edges) c.self.view_is in
+    ap (λ z. chosen_pairs c.args.which (built_edges digraph (map edge_facts z))) c.as_slice-says.ensures.value ∙ ap (λ b. chosen_pairs c.args.which b.edges) c.self.view_is in
     subst (λ z. IsTrue (has c.in_ok-set.set n) ↔ ReachAlong (PairLeads z c.args.direction) (has c.args.initials.now) n) same (c.in_ok-set.ensures.members n)
