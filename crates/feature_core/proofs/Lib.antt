@@ -22,7 +22,6 @@ pub mod PackedLemmas
 pub mod NameLemmas
 pub mod GroupedLinks
 pub mod PushLemmas
-pub mod Listed
 pub mod PairLemmas
 pub mod RequestLemmas
 pub mod Ranks

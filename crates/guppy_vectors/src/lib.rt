@@ -2,8 +2,14 @@
 #![tactic(auto)]
 
 #[cfg(test)]
+mod chain;
+#[cfg(test)]
 mod edges;
+#[cfg(test)]
+mod engine;
 #[cfg(test)]
 mod fixtures;
 #[cfg(test)]
 mod program;
+#[cfg(test)]
+mod warnings;
