@@ -23,7 +23,6 @@ pub mod ChosenWayLemmas
 pub mod NameLemmas
 pub mod GroupedLinks
 pub mod PushLemmas
-pub mod Listed
 pub mod PairLemmas
 pub mod ChoiceLemmas
 pub mod RequestLemmas

@@ -10,7 +10,6 @@ pub mod Parts
 pub mod Walks
 pub mod Explanations
 pub mod Laws
-pub mod Listed
 pub mod WalkProgress
 pub mod OpenWays
 pub mod Ways

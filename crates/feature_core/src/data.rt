@@ -13,9 +13,6 @@ ghost use Rattle.feature_core.specs.Values.{edge_facts};
 ghost use Rattle.feature_core.specs.Warnings.{warning_of};
 ghost use Rattle.feature_core.specs.Ways.{content};
 
-#[cfg(test)]
-mod tests;
-
 use crate::building::{EdgeTable, edge_table};
 use crate::comparing::{
     same_edges, same_gates, same_numbers, same_pairs, same_sets, same_warnings,

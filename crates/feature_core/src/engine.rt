@@ -177,6 +177,3 @@ pub fn walk_over<S: EdgeSource, O: Offerer>(
     let (walk, _steps, _refused) = walk_explained(alloc, source, initials, offerer)?;
     Ok(walk)
 }
-
-#[cfg(test)]
-mod tests;

@@ -10,9 +10,6 @@ ghost use Rattle.feature_core.specs.NamedLinks.{AreNamedLinks, link_numbers};
 ghost use Rattle.feature_core.specs.Links.{links_named};
 ghost use Rattle.feature_core.specs.Warnings.{warnings_in, missing_feature, self_loop, lack_of, lack_over, lacks_over, of_item, of_package, of_link, warnings};
 
-#[cfg(test)]
-mod tests;
-
 use crate::named_links::{LinkGroups, numbers_of};
 use guppy_packages::{
     Declaration, NamedFeature, NamedFeatureDep, PackageGraph, PackageId, PackageLink,

@@ -7,15 +7,15 @@ ghost use Rattle.feature_core.specs.Built.{IsBuilt};
 
 use crate::fixtures::{
     BOTH_HALVES, CIRCLE_FOR_DEVELOPMENT, CIRCLE_THROUGH_GATE, DEFAULTS_AND_LISTED,
-    DEPENDS_ON_ITSELF, MISSING_FEATURE, NAMES_OF_NOTHING, NEEDED_AND_OPTIONAL_OF_A_NAME,
-    OPTIONAL_AND_WEAK, RANKS_THAT_MEET, STRONG_ITEM, TWO_PACKAGES_OF_A_NAME, WEAK_AND_STRONG,
-    WEAK_OVER_PLATFORMS,
+    DEPENDS_ON_ITSELF, ITEMS_WITH_SLASHES, MISSING_FEATURE, NAMES_OF_NOTHING,
+    NEEDED_AND_OPTIONAL_OF_A_NAME, OPTIONAL_AND_WEAK, RANKS_THAT_MEET, STRONG_ITEM,
+    TWO_PACKAGES_OF_A_NAME, WEAK_AND_STRONG, WEAK_OVER_PLATFORMS,
 };
 use feature_core::{
     ConditionalLinkImpl, EnabledLink, FeatureEdge, FeatureGraphData, FeatureGraphWarning, SlashForm,
 };
-use feature_labels::LinkDeclarations;
-use guppy_packages::{DependencyKind, PackageGraph, PlatformStatus, Row};
+use feature_labels::{FeatureId, LinkDeclarations};
+use guppy_packages::{DependencyKind, PackageGraph, PackageId, PlatformStatus, Row};
 use std::alloc::{AllocError, Global};
 use std::process::Abort;
 use std::test::Fail;
@@ -78,6 +78,21 @@ fn rows_of<'a>(alloc: Global, lines: &'a [Vec<&'_ str>]) -> Result<Vec<Row<'a>>,
         rows.push(row)?;
     }
     Ok(rows)
+}
+
+/// The package graph of a row file.
+pub fn graph_of(alloc: Global, file: &str) -> Result<PackageGraph, Fail> {
+    let lines = lines_of(alloc, file)?;
+    let rows = rows_of(alloc, &lines)?;
+    let graph = PackageGraph::from_rows(alloc, &rows)?;
+    Ok(graph)
+}
+
+/// What is built of a row file.
+pub fn built_of(alloc: Global, file: &str) -> Result<FeatureGraphData, Fail> {
+    let graph = graph_of(alloc, file)?;
+    let built = FeatureGraphData::build(alloc, &graph, 0)?;
+    Ok(built)
 }
 
 /// Writes a status: `always`, `never`, or the specs.
@@ -211,9 +226,7 @@ fn push_notes(text: &mut String, built: &FeatureGraphData) -> Result<(), AllocEr
 
 /// The nodes, edges, weak links and warnings that are built of a row file.
 fn table(rt: &impl Abort, alloc: Global, file: &str) -> Result<String, Fail> {
-    let lines = lines_of(alloc, file)?;
-    let rows = rows_of(alloc, &lines)?;
-    let graph = PackageGraph::from_rows(alloc, &rows)?;
+    let graph = graph_of(alloc, file)?;
     let built = FeatureGraphData::build(alloc, &graph, 0)?;
     let mut text = String::new(alloc);
     push_nodes(rt, &mut text, &graph, &built)?;
@@ -361,6 +374,15 @@ const OF_DEFAULTS_AND_LISTED: &str = "nodes main/[base] x/[base] x/default x/u\n
     2-1 base\n\
     3-1 base\n";
 
+const OF_ITEMS_WITH_SLASHES: &str = "nodes p/[base] p/f q/[base] q/a/b q/g\n\
+    0-2 section required normal=always build=never dev=never links=0\n\
+    1-0 base\n\
+    1-3 strong unsplit normal=always build=never dev=never links=0\n\
+    3-2 base\n\
+    4-2 base\n\
+    missing p d?\n\
+    missing p dep:d\n";
+
 const OF_RANKS_THAT_MEET: &str = "nodes p/[base] p/f p/g p/h p/d p/dep:d\n\
     0-0 section required normal=always build=never dev=never links=0\n\
     1-0 base\n\
@@ -394,7 +416,8 @@ fn weak_edges(rt: HostRuntime) -> Result<(), Fail> {
 fn strong_edges(rt: HostRuntime) -> Result<(), Fail> {
     has_table(&rt, rt.alloc(), STRONG_ITEM, OF_STRONG_ITEM)?;
     has_table(&rt, rt.alloc(), WEAK_AND_STRONG, OF_WEAK_AND_STRONG)?;
-    has_table(&rt, rt.alloc(), MISSING_FEATURE, OF_MISSING_FEATURE)
+    has_table(&rt, rt.alloc(), MISSING_FEATURE, OF_MISSING_FEATURE)?;
+    has_table(&rt, rt.alloc(), ITEMS_WITH_SLASHES, OF_ITEMS_WITH_SLASHES)
 }
 
 #[test]
@@ -434,4 +457,29 @@ fn listed_names_and_warnings(rt: HostRuntime) -> Result<(), Fail> {
 #[test]
 fn least_rank(rt: HostRuntime) -> Result<(), Fail> {
     has_table(&rt, rt.alloc(), RANKS_THAT_MEET, OF_RANKS_THAT_MEET)
+}
+
+#[test]
+fn nodes_by_name(rt: HostRuntime) -> Result<(), Fail> {
+    let graph = graph_of(rt.alloc(), OPTIONAL_AND_WEAK)?;
+    let built = FeatureGraphData::build(rt.alloc(), &graph, 7)?;
+    assert_eq!(rt; built.stamp(), 7);
+    let main = PackageId::new(rt.alloc(), "main")?;
+    let sv = PackageId::new(rt.alloc(), "sv")?;
+    let none = PackageId::new(rt.alloc(), "none")?;
+    let ids = [
+        (FeatureId::base(&main), Some(0)),
+        (FeatureId::named(&main, "foo"), Some(3)),
+        (FeatureId::named(&main, "union"), None),
+        (FeatureId::optional_dependency(&main, "smallvec"), Some(4)),
+        (FeatureId::optional_dependency(&main, "foo"), None),
+        (FeatureId::base(&sv), Some(5)),
+        (FeatureId::named(&sv, "union"), Some(6)),
+        (FeatureId::named(&sv, "foo"), None),
+        (FeatureId::base(&none), None),
+    ];
+    for (id, node) in ids {
+        assert_eq!(rt; built.node(&graph, id), node);
+    }
+    Ok(())
 }

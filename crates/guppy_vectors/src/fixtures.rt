@@ -136,3 +136,26 @@ pub const WEAK_OVER_PLATFORMS: &str = "package\tmain\tworkspace\n\
     package\tb\texternal\n\
     feature\tx\n\
     feature\ty\n";
+
+/// Items with several slashes and marks: an item is cut at its first slash.
+pub const ITEMS_WITH_SLASHES: &str = "package\tp\tworkspace\n\
+    feature\tf\td/a/b\td??/g\tdep:d/g\n\
+    dep\td\tq\tnormal\trequired\t*\tnodefault\n\
+    package\tq\texternal\n\
+    feature\ta/b\n\
+    feature\tg\n";
+
+/// Listed names and an item, all of which name nothing.
+pub const LISTED_NAMES_OF_NOTHING: &str = "package\tp\tworkspace\n\
+    dep\tq\tq\tnormal\trequired\t*\tdefault\tzz\n\
+    package\tq\texternal\n\
+    feature\ta\tyy\n\
+    dep\tp\tp\tnormal\trequired\t*\tdefault\tww\n";
+
+/// A default feature with an item of its own package and items of dependencies.
+pub const DEFAULT_OVER_LINKS: &str = "package\tp\tworkspace\n\
+    feature\tdefault\ta\td/g\n\
+    feature\ta\tdep:d\n\
+    dep\td\tq\tnormal\toptional\t*\tnodefault\n\
+    package\tq\texternal\n\
+    feature\tg\n";

@@ -2,8 +2,16 @@
 #![tactic(auto)]
 
 #[cfg(test)]
+mod defaults;
+#[cfg(test)]
 mod edges;
+#[cfg(test)]
+mod engine;
 #[cfg(test)]
 mod fixtures;
 #[cfg(test)]
 mod program;
+#[cfg(test)]
+mod reach;
+#[cfg(test)]
+mod warnings;

@@ -1,12 +1,14 @@
 //! Walks over edges in a list.
-
 ghost use Rattle.std.specs.Prelude.{◌≡◌, ◌&&◌, ◌==◌, ◌<◌, ◌≤◌, ℕ, Bool, List, IsTrue, IfOk, length, map};
 ghost use Rattle.feature_core.specs.Walks.{Content, is_gated};
-ghost use Rattle.feature_core.specs.Listed.{way_of, AreWithin};
+ghost use Rattle.guppy_vectors.specs.Listed.{way_of, AreWithin};
 ghost use Rattle.feature_core.specs.declared.engine.Half.{Half};
 
-use super::*;
-use std::alloc::AllocError;
+use feature_core::engine::{
+    Ask, EdgeSource, Half, Offerer, Step, StepReason, Taken, walk_explained, walk_over,
+};
+use guppy_support::IxBitSet;
+use std::alloc::{AllocError, Global};
 use std::process::Abort;
 use std::test::Fail;
 

@@ -1,5 +1,5 @@
 use Rattle.std.proofs.Common.{◌≡◌, length}
-use Rattle.feature_core.proofs.engine.tests.set_of.Given as goal
+use Rattle.guppy_vectors.proofs.engine.set_of.Given as goal
 
 abbrev pub invariant-loop-number : goal.invariant-loop-number
 invariant-loop-number l = length l.set ≡ l.size

@@ -1,8 +1,8 @@
 use Rattle.std.proofs.Common.{◌≡◌, ◌&&◌, map, drop}
 use Rattle.std.specs.Prelude.{slice_get, ◌==◌}
 use Rattle.feature_core.specs.Walks.{numbers_where, is_gated}
-use Rattle.feature_core.specs.Listed.{way_of}
-use Rattle.feature_core.proofs.engine.tests.ListedEdgeSource.release.Given as goal
+use Rattle.guppy_vectors.specs.Listed.{way_of}
+use Rattle.guppy_vectors.proofs.engine.ListedEdgeSource.release.Given as goal
 
 abbrev pub invariant-loop-edge : goal.invariant-loop-edge
 invariant-loop-edge l =
