@@ -1,11 +1,12 @@
 //! The feature graph as it is built of a package graph.
-ghost use Rattle.std.specs.Prelude.{◌≡◌, ◌+◌, ◌<◌, ◌↔◌, ℕ, Some, IfOk, IfErr, IsTrue, length, map, slice_get, slice_index};
+ghost use Rattle.std.specs.Prelude.{◌≡◌, ◌+◌, ◌<◌, ◌↔◌, ℕ, Some, IfOk, IfErr, IsTrue, length, map, not, position, slice_get, slice_index};
 ghost use Rattle.guppy_packages.specs.Metadata.{package_graph_of, package_table_of};
 ghost use Rattle.feature_labels.specs.Names.{id_of, label_of};
 ghost use Rattle.feature_core.specs.Nodes.{NodeAt, nodes, first_node, first_nodes, node_packages, labels_of};
 ghost use Rattle.guppy_support.specs.Bits.{has};
 ghost use Rattle.feature_core.specs.Pairs.{PairLeads, ReachAlong};
 ghost use Rattle.feature_core.specs.Built.{AreAlike, IsBuilt, NodeNamed, ends_of, end_of};
+ghost use Rattle.feature_core.specs.Edges.{has_present_link};
 ghost use Rattle.feature_core.specs.Values.{edge_facts};
 ghost use Rattle.feature_core.specs.Warnings.{warning_of};
 ghost use Rattle.feature_core.specs.Ways.{content};
@@ -166,6 +167,13 @@ impl FeatureGraphData {
     {
         let ends = self.digraph.edge(number);
         (ends.from, ends.to, &self.edges[number])
+    }
+
+    /// The first edge whose link is present for no kind, where there is one.
+    pub fn first_absent_link(&self) -> Option<usize>
+        ensures { result ≡ position (λ e. not (has_present_link e.2)) self.now.edges }
+    {
+        self.edges.iter().position(|edge| !edge.has_present_link())
     }
 
     /// The weak links, by index: the package link that weak edges name, and the node on whose being reached their

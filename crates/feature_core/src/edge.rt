@@ -1,7 +1,7 @@
 //! What an edge between two features says.
 ghost use Rattle.std.specs.Prelude.{◌≡◌, IfOk, option_copied};
 ghost use Rattle.std.specs.Option.{option_map};
-ghost use Rattle.feature_core.specs.Edges.{full_link, is_dev_only};
+ghost use Rattle.feature_core.specs.Edges.{full_link, has_present_link, is_dev_only};
 ghost use Rattle.feature_core.specs.Values.{link_facts, half_facts, weak_facts_of, slash_facts, edge_facts};
 
 use crate::link::{ConditionalLinkImpl, EnabledLink};
@@ -146,6 +146,16 @@ impl FeatureEdge {
         match self.full_link() {
             Some(link) => link.is_dev_only(),
             None => false,
+        }
+    }
+
+    /// Whether its link is present for some kind, where it is conditional.
+    pub(crate) fn has_present_link(&self) -> bool
+        ensures { result ≡ has_present_link (edge_facts self.now) }
+    {
+        match self.full_link() {
+            Some(link) => link.is_present(),
+            None => true,
         }
     }
 
