@@ -1,16 +1,18 @@
 -- A link that covers a declaration is present for some kind, so each edge of the tables has a link that is present.
-use Rattle.std.proofs.Common.{◌≡◌, ℕ, zero, suc, ◌+◌, ◌<◌, ◌⊎◌, ⊎_elim, List, [], ◌∷◌, ◌++◌, length, Bool, true, false, Option, None, Some, map, refl, ap, sym, ◌∙◌, subst, arith, if◌then◌else◌, is_some}
-use Rattle.std.specs.Prelude.{filter, filter_map, flat_map, slice_get, Contains, IsTrue, ◌&&◌, ◌||◌, ◌==◌, not}
-use Rattle.std.specs.List.{list_any}
+use Rattle.std.proofs.Common.{◌≡◌, ℕ, zero, suc, ◌+◌, ◌<◌, ⊎_elim, List, [], ◌∷◌, length, Bool, true, false, cond, Option, None, Some, map, refl, ap, sym, ◌∙◌, subst, arith, if◌then◌else◌, is_some}
+use Rattle.std.specs.Prelude.{filter, filter_map, flat_map, slice_get, Contains, IsTrue, ◌&&◌, ◌||◌, ◌==◌, not, nat_lt, position}
+use Rattle.std.specs.List.{list_any, position_or_len}
 use Rattle.std.specs.Str.{bytes_eq}
 use Rattle.std.specs.Cmp.Lexicographic.{bytes_decides}
 use Rattle.std.proofs.Math.Logic.{∥∥₁_elim}
 use Rattle.std.proofs.lemmas.List.Elements.{Contains-append_left, Contains-append_right}
 use Rattle.std.proofs.lemmas.Bool.Decides.{nat_tests}
+use Rattle.std.proofs.lemmas.List.{length-map}
+use Rattle.guppy_support.specs.declared.digraph.Edge.{Edge as End}
 use Rattle.guppy_packages.specs.Graph.{firsts}
-use Rattle.guppy_packages.specs.Platform.{Status, always_status, status_by}
+use Rattle.guppy_packages.specs.Platform.{always_status, status_by}
 use Rattle.guppy_packages.specs.Rows.{Text, Declared}
-use Rattle.guppy_packages.specs.Tables.{PackageTable, LinkTable, Tables, AreTables, optional_place, has_name, has_optional_link}
+use Rattle.guppy_packages.specs.Tables.{LinkTable, Tables, AreTables, optional_place, has_name, has_optional_link}
 use Rattle.guppy_packages.specs.declared.row.DependencyKind.{DependencyKind}
 use Rattle.guppy_packages.specs.declared.row.DependencyKind.TheVariants.{Normal, Build, Development}
 use Rattle.feature_labels.specs.Names.{LabelName}
@@ -19,12 +21,14 @@ use Rattle.feature_labels.specs.declared.link_declarations.LinkDeclarations.{Lin
 use Rattle.feature_labels.specs.declared.link_declarations.LinkDeclarations.TheVariants.{Unsplit, Required, Optional}
 use Rattle.feature_core.specs.Nodes.{NodeAt, labels_of}
 use Rattle.feature_core.specs.Links.{LinkFacts, IsLink, joined, is_kind, includes, status_of, over, numbered, links_named}
-use Rattle.feature_core.specs.Candidates.{Edge, feature_to_base, named_feature, dep_colon, slash_full, slash_optional, slash_weak, section, Candidate, to_base, to_feature, to_dependency, over_strong, over_weak, with_dependency, with_feature, of_required, of_optional, IsSection, requesting, unsplit_of, by_name, IsEdge}
-use Rattle.feature_core.specs.Edges.{EdgeFacts, AreBuilt, facts_of, weak_links, full_link, is_never, is_present}
-use Rattle.feature_core.specs.Built.{Built, IsBuilt}
+use Rattle.feature_core.specs.Candidates.{Edge, feature_to_base, named_feature, dep_colon, slash_full, slash_optional, slash_weak, section, Candidate, to_base, to_feature, to_dependency, over_strong, over_weak, with_dependency, with_feature, of_required, of_optional, IsSection, requesting, unsplit_of, by_name}
+use Rattle.feature_core.specs.Edges.{EdgeFacts, AreBuilt, facts_of, weak_links, full_link, is_never}
+use Rattle.feature_core.specs.Present.{is_present}
+use Rattle.feature_core.specs.Built.{Built, IsBuilt, built_edges}
 use Rattle.feature_core.proofs.AddsLemmas.{Contains-first, Contains-later, Contains-cases, Contains-none, element_at_place}
+use Rattle.feature_core.proofs.BuildLemmas.{built_long}
 use Rattle.feature_core.proofs.LabelLemmas.{position_there, optional_missing}
-use Rattle.feature_core.proofs.PartLemmas.{list_any_there, list_any_back, IsPassing}
+use Rattle.feature_core.proofs.PartLemmas.{list_any_there, list_any_back}
 use Rattle.feature_core.proofs.Places.{IsSpread, node_back}
 use Rattle.feature_core.proofs.PushLemmas.{from_map, into_map, into_filter}
 
@@ -240,3 +244,22 @@ links_present t tables b h k e l at is =
       where
         never : false ≡ true → ⊥
         never z = cc
+
+-- the first place at which an edge passes is that at which what it says passes
+module _ {X : Type 0} (facts : X → EdgeFacts) (p : EdgeFacts → Bool) where
+  or_len_built : (ends : List End) (xs : List X) → length xs ≡ length ends → position_or_len (λ e. p e.2) (built_edges ends (map facts xs)) ≡ position_or_len (λ x. p (facts x)) xs
+  or_len_built [] [] h = refl
+  or_len_built [] (x ∷ xs) h = absurd (omega (arith, h))
+  or_len_built (e ∷ ends) [] h = absurd (omega (arith, h))
+  or_len_built (e ∷ ends) (x ∷ xs) h = ap (λ n. cond (not (p (facts x))) (1 + n) 0) (or_len_built ends xs (omega (arith, h)))
+
+  pub position_built : (edges : List (ℕ × ℕ × EdgeFacts)) (ends : List End) (xs ys : List X) → edges ≡ built_edges ends (map facts xs) → length xs ≡ length ends → ys ≡ xs
+      → position (λ x. p (facts x)) ys ≡ position (λ e. p e.2) edges
+  position_built edges ends xs ys shown h same =
+      ap (position (λ x. p (facts x))) same
+      ∙ ap (λ n. cond (nat_lt n (length xs)) (Some n) None) (sym (or_len_built ends xs h))
+      ∙ ap (λ m. cond (nat_lt (position_or_len (λ e. p e.2) (built_edges ends (map facts xs))) m) (Some (position_or_len (λ e. p e.2) (built_edges ends (map facts xs)))) None) long
+      ∙ ap (position (λ e. p e.2)) (sym shown)
+    where
+      long : length xs ≡ length (built_edges ends (map facts xs))
+      long = let e : length (map facts xs) ≡ length ends = length-map xs facts ∙ h in h ∙ built_long ends (map facts xs) e

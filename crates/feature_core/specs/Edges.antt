@@ -112,11 +112,3 @@ is_dev_link l = is_never l.normal && is_never l.build
 -- conditional, and its link is neither normal nor for builds
 abbrev pub is_dev_only : EdgeFacts → Bool
 is_dev_only f = option_map_or is_dev_link (full_link f) false
-
--- for some kind
-abbrev pub is_present : LinkFacts → Bool
-is_present l = not (is_never l.normal && is_never l.build && is_never l.dev)
-
--- where it is conditional, its link is present
-abbrev pub has_present_link : EdgeFacts → Bool
-has_present_link f = option_map_or is_present (full_link f) true

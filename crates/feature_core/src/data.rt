@@ -6,7 +6,7 @@ ghost use Rattle.feature_core.specs.Nodes.{NodeAt, nodes, first_node, first_node
 ghost use Rattle.guppy_support.specs.Bits.{has};
 ghost use Rattle.feature_core.specs.Pairs.{PairLeads, ReachAlong};
 ghost use Rattle.feature_core.specs.Built.{AreAlike, IsBuilt, NodeNamed, ends_of, end_of};
-ghost use Rattle.feature_core.specs.Edges.{has_present_link};
+ghost use Rattle.feature_core.specs.Present.{has_present_link};
 ghost use Rattle.feature_core.specs.Values.{edge_facts};
 ghost use Rattle.feature_core.specs.Warnings.{warning_of};
 ghost use Rattle.feature_core.specs.Ways.{content};
@@ -16,7 +16,7 @@ mod tests;
 
 use crate::building::{EdgeTable, edge_table};
 use crate::comparing::{same_edges, same_gates, same_numbers, same_pairs, same_warnings};
-use crate::edge::FeatureEdge;
+use crate::edge::{FeatureEdge, first_absent};
 use crate::error::Error;
 use crate::named_links::named_links;
 use crate::nodes::{NodeTable, node_table};
@@ -173,7 +173,7 @@ impl FeatureGraphData {
     pub fn first_absent_link(&self) -> Option<usize>
         ensures { result ≡ position (λ e. not (has_present_link e.2)) self.now.edges }
     {
-        self.edges.iter().position(|edge| !edge.has_present_link())
+        first_absent(self.edges.as_slice())
     }
 
     /// The weak links, by index: the package link that weak edges name, and the node on whose being reached their

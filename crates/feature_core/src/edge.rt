@@ -1,7 +1,8 @@
 //! What an edge between two features says.
-ghost use Rattle.std.specs.Prelude.{◌≡◌, IfOk, option_copied};
+ghost use Rattle.std.specs.Prelude.{◌≡◌, IfOk, not, option_copied, position};
 ghost use Rattle.std.specs.Option.{option_map};
-ghost use Rattle.feature_core.specs.Edges.{full_link, has_present_link, is_dev_only};
+ghost use Rattle.feature_core.specs.Edges.{full_link, is_dev_only};
+ghost use Rattle.feature_core.specs.Present.{has_present_link};
 ghost use Rattle.feature_core.specs.Values.{link_facts, half_facts, weak_facts_of, slash_facts, edge_facts};
 
 use crate::link::{ConditionalLinkImpl, EnabledLink};
@@ -181,4 +182,11 @@ impl FeatureEdge {
             }
         }
     }
+}
+
+/// The first of these edges that is conditional and whose link is present for no kind.
+pub(crate) fn first_absent(edges: &[FeatureEdge]) -> Option<usize>
+    ensures { result ≡ position (λ e. not (has_present_link (edge_facts e))) edges.now }
+{
+    edges.iter().position(|edge| !edge.has_present_link())
 }

@@ -8,8 +8,9 @@ ghost use Rattle.feature_core.specs.declared.engine.Half.{Half};
 ghost use Rattle.feature_core.specs.declared.engine.Half.TheVariants.{Required};
 ghost use Rattle.feature_core.specs.Candidates.{Edge, Candidate, IsEdge, rank_of};
 ghost use Rattle.feature_core.specs.Built.{Built, IsBuilt};
-ghost use Rattle.feature_core.specs.Edges.{EdgeFacts, full_link, is_present};
+ghost use Rattle.feature_core.specs.Edges.{EdgeFacts, full_link};
 ghost use Rattle.feature_core.specs.Links.{LinkFacts};
+ghost use Rattle.feature_core.specs.Present.{is_present};
 ghost use Rattle.feature_core.specs.Warnings.{warning_of};
 
 use crate::warning::FeatureGraphWarning;

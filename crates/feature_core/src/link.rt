@@ -2,7 +2,8 @@
 ghost use Rattle.std.specs.Prelude.{◌≡◌, IfOk, option_copied};
 ghost use Rattle.std.specs.Option.{option_map};
 ghost use Rattle.guppy_packages.specs.Platform.{status_of};
-ghost use Rattle.feature_core.specs.Edges.{is_dev_link, is_present};
+ghost use Rattle.feature_core.specs.Edges.{is_dev_link};
+ghost use Rattle.feature_core.specs.Present.{is_present};
 ghost use Rattle.feature_core.specs.Values.{link_facts, half_facts};
 
 pub(crate) mod building;
