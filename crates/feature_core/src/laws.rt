@@ -1,16 +1,14 @@
 //! Laws of walks, of edges, and of equality of warnings. Each function's contract is the law; those of walks and edges do
 //! nothing, and speak of the definitions alone.
 
-ghost use Rattle.std.specs.Prelude.{◌≡◌, ◌↔◌, ◌⊎◌, ◌||◌, ℕ, Bool, List, Some, IsTrue, IsFalse, slice_get};
+ghost use Rattle.std.specs.Prelude.{◌≡◌, ◌↔◌, ◌⊎◌, ◌||◌, ℕ, Bool, List, IsTrue, IsFalse};
 ghost use Rattle.feature_core.specs.Walks.{Content, Way, Call, IsWay, has_half, Reach, was_made, was_accepted, IsDue, IsLegal, IsComplete, Agrees, Least};
 ghost use Rattle.feature_core.specs.Laws.{every, only, Leads, AreReverse, IsUngated};
 ghost use Rattle.feature_core.specs.declared.engine.Half.{Half};
 ghost use Rattle.feature_core.specs.declared.engine.Half.TheVariants.{Required};
 ghost use Rattle.feature_core.specs.Candidates.{Edge, Candidate, IsEdge, rank_of};
 ghost use Rattle.feature_core.specs.Built.{Built, IsBuilt};
-ghost use Rattle.feature_core.specs.Edges.{EdgeFacts, full_link};
-ghost use Rattle.feature_core.specs.Links.{LinkFacts};
-ghost use Rattle.feature_core.specs.Present.{is_present};
+ghost use Rattle.feature_core.specs.Present.{ArePresent};
 ghost use Rattle.feature_core.specs.Warnings.{warning_of};
 
 use crate::warning::FeatureGraphWarning;
@@ -76,8 +74,7 @@ pub fn one_candidate(graph: &PackageGraph)
 
 /// The link of each conditional edge that is built is present for some kind.
 pub fn links_are_present(graph: &PackageGraph)
-    ensures { (b : Built) → IsBuilt graph.now b → (k : ℕ) (e : ℕ × ℕ × EdgeFacts) (l : LinkFacts)
-        → slice_get b.edges k ≡ Some e → full_link e.2 ≡ Some l → IsTrue (is_present l) }
+    ensures { (b : Built) → IsBuilt graph.now b → ArePresent b.edges }
 {
     graph.facts();
 }

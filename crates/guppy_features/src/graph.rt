@@ -1,19 +1,23 @@
 //! Feature graphs.
-ghost use Rattle.std.specs.Prelude.{◌≡◌, ◌↔◌, ◌<◌, ℕ, Some, IsTrue, IfSome, IfOk, IfErr, true, false, length, map, replicate};
+ghost use Rattle.std.specs.Prelude.{◌≡◌, ◌↔◌, ◌<◌, ℕ, Some, IsTrue, IfSome, IfOk, IfErr, true, false, length, map, not, position, replicate};
+ghost use Rattle.std.specs.Result.{is_ok};
 ghost use Rattle.guppy_support.specs.Bits.{has};
 ghost use Rattle.feature_labels.specs.Names.{id_of};
 ghost use Rattle.feature_core.specs.Built.{IsBuilt, NodeNamed};
 ghost use Rattle.feature_core.specs.Errors.{refusal_of};
 ghost use Rattle.feature_core.specs.Nodes.{nodes};
 ghost use Rattle.feature_core.specs.Pairs.{Reach};
+ghost use Rattle.feature_core.specs.Present.{ArePresent, has_present_link};
 ghost use Rattle.feature_core.specs.Warnings.{warning_of, warnings};
 ghost use Rattle.guppy_features.specs.Names.{AreKnown, HasFeature, RefusesName, RefusesNames, RefusesPackage, HoldsExactly, ListsPackage, IsLinkCount};
+ghost use Rattle.guppy_features.specs.Verified.{RefusesEdges};
 
 use crate::ids::{first_unknown, set_of_ids};
 use crate::listing::package_list;
 use crate::metadata::{FeatureMetadata, label_in};
 use crate::query::FeatureQuery;
 use crate::set::FeatureSet;
+use feature_core::laws::links_are_present;
 use feature_core::{Error, FeatureGraphData, FeatureGraphWarning, walk_all};
 use feature_labels::{FeatureId, FeatureList};
 use guppy_packages::{DependencyDirection, PackageGraph, PackageId};
@@ -245,6 +249,37 @@ impl<'g> FeatureGraph<'g> {
         ensures refused { IfErr result (λ e. RefusesNames (tables_of_graph self.now) (map id_of feature_ids.now) (refusal_of e)) }
     {
         self.query_directed(alloc, feature_ids, DependencyDirection::Reverse)
+    }
+}
+
+impl<'g> FeatureGraph<'g> {
+    ghost use Rattle.guppy_features.specs.Views.{tables_of_graph, built_of};
+
+    /// The error that names the two features of the first edge whose link is present for no kind.
+    fn absent_link(&self, number: usize) -> Error<'g>
+        requires { position (λ e. not (has_present_link e.2)) (built_of self.now).edges ≡ Some number }
+        ensures { RefusesEdges (tables_of_graph self.now) (built_of self.now).edges (refusal_of result) }
+    {
+        let (from, to, _) = self.built.edge(number);
+        Error::FeatureGraphInternalError {
+            from: self.built.id(self.graph, from),
+            to: self.built.id(self.graph, to),
+        }
+    }
+
+    /// Goes through the edges, by the feature that they start at and then by that which they lead to. The first one whose
+    /// link is present neither for normal use nor for builds nor for development is an error. An edge that isn't
+    /// conditional passes. What was built of a package graph has no edge that doesn't.
+    pub fn verify(&self) -> Result<(), Error<'g>>
+        ensures exact { IsTrue (is_ok result) ↔ ArePresent (built_of self.now).edges }
+        ensures first { IfErr result (λ e. RefusesEdges (tables_of_graph self.now) (built_of self.now).edges (refusal_of e)) }
+        ensures ok { IsTrue (is_ok result) }
+    {
+        links_are_present(self.graph);
+        match self.built.first_absent_link() {
+            Some(number) => Err(self.absent_link(number)),
+            None => Ok(()),
+        }
     }
 }
 
