@@ -31,12 +31,13 @@ true_of false h = cc
 -- what stands before the first place at which an element passes
 before_or_len : {X : Type 0} (p : X → Bool) (xs : List X) (k : ℕ) (x : X) → k < position_or_len p xs → slice_get xs k ≡ Some x → p x ≡ false
 before_or_len p [] k x l at = cc
-before_or_len p (y ∷ ys) k x l at = go (p y) refl k l at
+before_or_len p (y ∷ ys) k x l at = go (p y) refl k l at (λ k l at. before_or_len p ys k x l at)
   where
-    go : (b : Bool) → p y ≡ b → (k : ℕ) → k < cond (not b) (1 + position_or_len p ys) 0 → slice_get (y ∷ ys) k ≡ Some x → p x ≡ false
-    go true e k l at = absurd (omega (arith, l))
-    go false e zero l at = let same : y ≡ x = cc in subst (λ z. p z ≡ false) same e
-    go false e (suc k) l at = before_or_len p ys k x (omega (arith, l)) at
+    go : (b : Bool) → p y ≡ b → (k : ℕ) → k < cond (not b) (1 + position_or_len p ys) 0 → slice_get (y ∷ ys) k ≡ Some x
+        → ((k : ℕ) → k < position_or_len p ys → slice_get ys k ≡ Some x → p x ≡ false) → p x ≡ false
+    go true e k l at more = absurd (omega (arith, l))
+    go false e zero l at more = let same : y ≡ x = cc in subst (λ z. p z ≡ false) same e
+    go false e (suc k) l at more = more k (omega (arith, l)) at
 
 place_is : {X : Type 0} (p : X → Bool) (xs : List X) (n : ℕ) → position p xs ≡ Some n → n ≡ position_or_len p xs
 place_is p xs n h = go (nat_lt (position_or_len p xs) (length xs)) h
