@@ -2,6 +2,7 @@
 use Rattle.std.proofs.Common.{◌≡◌, ℕ, suc, ◌+◌, length, ◌⊎◌, ⊎_elim, List, ◌∷◌, [], Bool, true, false, map, refl, ap, sym, ◌∙◌, subst, arith, Some, None, Option}
 use Rattle.std.specs.Prelude.{◌↔◌, IsTrue, Contains, AllPairs, slice_get}
 use Rattle.std.proofs.Math.Logic.{∥∥₁_elim}
+use Rattle.guppy_support.specs.Bits.{has}
 use Rattle.guppy_packages.specs.Tables.{LinkTable, Tables, AreTables, optional_place}
 use Rattle.feature_labels.specs.Names.LabelName.{optional}
 use Rattle.feature_core.specs.Built.{Built, IsBuilt, AreAlike}
@@ -9,6 +10,7 @@ use Rattle.feature_core.specs.Nodes.{NodeAt, labels_of, first_node}
 use Rattle.feature_core.specs.Links.{IsLink}
 use Rattle.feature_core.specs.Candidates.{Edge}
 use Rattle.feature_core.specs.Edges.{EdgeFacts, EdgeBefore, IsEdgeList, AreBuilt, IsGate, facts_of, weak_links}
+use Rattle.feature_core.specs.Defaults.{AreDefaults}
 use Rattle.feature_core.specs.Warnings.{Warning}
 use Rattle.feature_core.proofs.AddsLemmas.{Contains-first, Contains-later, Contains-cases, Contains-none}
 use Rattle.feature_core.proofs.LabelLemmas.{optional_found, optional_missing}
@@ -106,22 +108,40 @@ one_edges t a b v w h i = h.facts ∙ ap (λ l. map (λ e. (e.0, e.1, facts_of t
 one_links : (t : Tables) → AreTables t → (a b : List (ℕ × ℕ × EdgeFacts)) (v w : List (ℕ × ℕ)) → AreBuilt t a v → AreBuilt t b w → v ≡ w
 one_links t tables a b v w h i = one_weak t tables v w (h.links ∙ ap weak_links (one_list t h.list i.list h.are_edges i.are_edges) ∙ sym i.links) h.gates i.gates
 
-abbrev of_parts : ℕ → List ℕ → List ℕ → List (ℕ × ℕ × EdgeFacts) → List (ℕ × ℕ) → List Warning → Built
-of_parts stamp firsts packages edges weak warnings = record { stamp = stamp; firsts = firsts; packages = packages; edges = edges; weak = weak; warnings = warnings }
+-- lists of one length with the same members are the same
+one_set : (a b : List Bool) → length a ≡ length b → ((n : ℕ) → IsTrue (has a n) → IsTrue (has b n)) → ((n : ℕ) → IsTrue (has b n) → IsTrue (has a n)) → a ≡ b
+one_set [] [] l f g = refl
+one_set [] (y ∷ ys) l f g = absurd (omega (arith, l))
+one_set (x ∷ xs) [] l f g = absurd (omega (arith, l))
+one_set (x ∷ xs) (y ∷ ys) l f g =
+    ap (λ z. z ∷ xs) (one_mark x y (f 0) (g 0)) ∙ ap (λ z. y ∷ z) (one_set xs ys (omega (arith, l)) (λ n. f (suc n)) (λ n. g (suc n)))
+  where
+    one_mark : (x y : Bool) → (IsTrue x → IsTrue y) → (IsTrue y → IsTrue x) → x ≡ y
+    one_mark true y f g = sym (f refl)
+    one_mark false true f g = g refl
+    one_mark false false f g = refl
+
+-- what is on by default is one list
+one_defaults : (t : Tables) (a b : List Bool) → AreDefaults t a → AreDefaults t b → a ≡ b
+one_defaults t a b h i = one_set a b (h.long ∙ sym i.long) (λ n m. (i.exact n).1 ((h.exact n).0 m)) (λ n m. (h.exact n).1 ((i.exact n).0 m))
+
+abbrev of_parts : ℕ → List ℕ → List ℕ → List (ℕ × ℕ × EdgeFacts) → List (ℕ × ℕ) → List Warning → List Bool → Built
+of_parts stamp firsts packages edges weak warnings defaults = record { stamp = stamp; firsts = firsts; packages = packages; edges = edges; weak = weak; warnings = warnings; defaults = defaults }
 
 -- what is equal in each part is equal
 alike_same : (a b : Built) → AreAlike a b → a ≡ b
 alike_same a b h =
-    ap (λ z. of_parts z a.firsts a.packages a.edges a.weak a.warnings) h.0
-    ∙ ap (λ z. of_parts b.stamp z a.packages a.edges a.weak a.warnings) h.1
-    ∙ ap (λ z. of_parts b.stamp b.firsts z a.edges a.weak a.warnings) h.2
-    ∙ ap (λ z. of_parts b.stamp b.firsts b.packages z a.weak a.warnings) h.3
-    ∙ ap (λ z. of_parts b.stamp b.firsts b.packages b.edges z a.warnings) h.4
-    ∙ ap (λ z. of_parts b.stamp b.firsts b.packages b.edges b.weak z) h.5
+    ap (λ z. of_parts z a.firsts a.packages a.edges a.weak a.warnings a.defaults) h.0
+    ∙ ap (λ z. of_parts b.stamp z a.packages a.edges a.weak a.warnings a.defaults) h.1
+    ∙ ap (λ z. of_parts b.stamp b.firsts z a.edges a.weak a.warnings a.defaults) h.2
+    ∙ ap (λ z. of_parts b.stamp b.firsts b.packages z a.weak a.warnings a.defaults) h.3
+    ∙ ap (λ z. of_parts b.stamp b.firsts b.packages b.edges z a.warnings a.defaults) h.4
+    ∙ ap (λ z. of_parts b.stamp b.firsts b.packages b.edges b.weak z a.defaults) h.5
+    ∙ ap (λ z. of_parts b.stamp b.firsts b.packages b.edges b.weak b.warnings z) h.6
 
 -- two builds of one graph under one stamp are the same
 pub determined : (t : Tables) → AreTables t → (a b : Built) → IsBuilt t a → IsBuilt t b → AreBuilt t a.edges a.weak → AreBuilt t b.edges b.weak → a.stamp ≡ b.stamp → AreAlike a b
-determined t tables a b x y h i s = (s, x.firsts ∙ sym y.firsts, x.packages ∙ sym y.packages, one_edges t a.edges b.edges a.weak b.weak h i, one_links t tables a.edges b.edges a.weak b.weak h i, x.warnings ∙ sym y.warnings)
+determined t tables a b x y h i s = (s, x.firsts ∙ sym y.firsts, x.packages ∙ sym y.packages, one_edges t a.edges b.edges a.weak b.weak h i, one_links t tables a.edges b.edges a.weak b.weak h i, x.warnings ∙ sym y.warnings, one_defaults t a.defaults b.defaults x.defaults y.defaults)
 
 -- data that differs from a build was not built of the graph
 apart : (t : Tables) → AreTables t → (a b : Built) → IsBuilt t a → IsBuilt t b → a.stamp ≡ b.stamp → (AreAlike a b → ⊥) → ⊥

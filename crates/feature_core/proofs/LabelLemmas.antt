@@ -112,6 +112,20 @@ optional_back table (suc k) name h = ⊎_elim
     (e.0, omega (arith, e.1), m.1 ∙ ap Some (optional_same m.0 name m.2)))
     (get_cases (map (λ f. named f.name) table.features) (map (λ d. optional d) table.optional_names) k (optional name) h)
 
+base_back : (table : PackageTable) (k : ℕ) → slice_get (labels_of table) k ≡ Some base → k ≡ 0
+base_back table zero h = refl
+base_back table (suc k) h = ⊎_elim
+    (λ e. let m = got_map (λ f. named f.name) (slice_get table.features k) base (sym (slice_get-map (λ f. named f.name) table.features k) ∙ e) in absurd (named_base m.0.name m.2))
+    (λ e. let m = got_map (λ d. optional d) (slice_get table.optional_names e.0) base (sym (slice_get-map (λ d. optional d) table.optional_names e.0) ∙ e.2) in absurd (optional_base m.0 m.2))
+    (get_cases (map (λ f. named f.name) table.features) (map (λ d. optional d) table.optional_names) k base h)
+
+-- a package has one base
+pub one_base : (t : Tables) (p m n : ℕ) → NodeAt t m p base → NodeAt t n p base → m ≡ n
+one_base t p m n a b =
+    let x = node_back t m p base a in
+    let y = node_back t n p base b in
+    omega (arith, x.is, y.is, base_back x.row x.place x.is_place, base_back y.row y.place y.is_place)
+
 -- a place below the number of labels is a node
 pub node_below : (t : Tables) (p k : ℕ) (table : PackageTable) → IsPackage t p table → k < length (labels_of table) → first_node t p + k < length (node_places t)
 node_below t p k table h l =

@@ -20,11 +20,13 @@ pub mod OpenWayLemmas
 pub mod Released
 pub mod ReleaseTables
 pub mod PackedLemmas
+pub mod ChosenWayLemmas
 pub mod NameLemmas
 pub mod GroupedLinks
 pub mod PushLemmas
 pub mod Listed
 pub mod PairLemmas
+pub mod ChoiceLemmas
 pub mod RequestLemmas
 pub mod Ranks
 pub mod EdgeLemmas
@@ -42,3 +44,4 @@ pub mod WeakLemmas
 pub mod Determined
 pub mod SameLists
 pub mod SameData
+pub mod DefaultLemmas

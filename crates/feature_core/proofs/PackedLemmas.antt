@@ -148,7 +148,7 @@ packed_ends direction g fs weak sound gates k w is =
     subst (λ (v : Way). (v.start < g.nodes) × (v.far < g.nodes) × (IsTrue (is_gated v.ask) → v.gate < g.nodes)) x.2
     (ways_within direction weak g.nodes x.0 (subst (λ (n : ℕ). n < g.nodes) e.2 ends.0) (subst (λ (n : ℕ). n < g.nodes) e.3 ends.1) gates)
 
-length-built_edges : (es : List Edge) (fs : List EdgeFacts) → length fs ≡ length es → length (built_edges es fs) ≡ length es
+pub length-built_edges : (es : List Edge) (fs : List EdgeFacts) → length fs ≡ length es → length (built_edges es fs) ≡ length es
 length-built_edges [] fs l = refl
 length-built_edges (e ∷ es) [] l = absurd (omega arith)
 length-built_edges (e ∷ es) (f ∷ fs) l = let r : length (built_edges es fs) ≡ length es = length-built_edges es fs (omega arith) in omega arith

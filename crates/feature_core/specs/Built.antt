@@ -1,17 +1,19 @@
 -- What is built of tables.
-use Rattle.std.specs.Prelude.{◌≡◌, ℕ, List, Some, map, not, slice_get}
+use Rattle.std.specs.Prelude.{◌≡◌, ℕ, List, Bool, Some, map, not, slice_get}
 use Rattle.std.specs.List.{zip}
 use Rattle.guppy_support.specs.declared.digraph.Edge.{Edge}
 use Rattle.guppy_packages.specs.Rows.{Text}
 use Rattle.guppy_packages.specs.Tables.{Tables}
 use Rattle.feature_labels.specs.Names.{LabelName}
 use Rattle.feature_core.specs.Nodes.{nodes, first_nodes, node_packages}
+pub use Rattle.feature_core.specs.Edges.{ends_of}
 use Rattle.feature_core.specs.Edges.{EdgeFacts, AreBuilt, is_dev_only}
+use Rattle.feature_core.specs.Defaults.{AreDefaults}
 use Rattle.feature_core.specs.Pairs.{IsPairList}
 use Rattle.feature_core.specs.Warnings.{Warning, warnings}
 
 -- the stamp that the caller gave, the first node of each package, the package of each node, the edges by from, then to,
--- the package link and the gate of each weak link, and the warnings
+-- the package link and the gate of each weak link, the warnings, and for each node whether it is on by default
 pub record Built : Type 0 where
   pub stamp : ℕ
   pub firsts : List ℕ
@@ -19,10 +21,7 @@ pub record Built : Type 0 where
   pub edges : List (ℕ × ℕ × EdgeFacts)
   pub weak : List (ℕ × ℕ)
   pub warnings : List Warning
-
--- the two nodes of each edge
-abbrev pub ends_of : List (ℕ × ℕ × EdgeFacts) → List (ℕ × ℕ)
-ends_of edges = map (λ e. (e.0, e.1)) edges
+  pub defaults : List Bool
 
 -- it was built of these tables
 pub record IsBuilt (t : Tables) (b : Built) : Type 0 where
@@ -31,10 +30,11 @@ pub record IsBuilt (t : Tables) (b : Built) : Type 0 where
   pub pairs : IsPairList t (ends_of b.edges)
   pub edges : ∥ AreBuilt t b.edges b.weak ∥₁
   pub warnings : b.warnings ≡ warnings t
+  pub defaults : AreDefaults t b.defaults
 
 -- equal in each part
 abbrev pub AreAlike : Built → Built → Type 0
-AreAlike a b = (a.stamp ≡ b.stamp) × (a.firsts ≡ b.firsts) × (a.packages ≡ b.packages) × (a.edges ≡ b.edges) × (a.weak ≡ b.weak) × (a.warnings ≡ b.warnings)
+AreAlike a b = (a.stamp ≡ b.stamp) × (a.firsts ≡ b.firsts) × (a.packages ≡ b.packages) × (a.edges ≡ b.edges) × (a.weak ≡ b.weak) × (a.warnings ≡ b.warnings) × (a.defaults ≡ b.defaults)
 
 -- node n has this name: the id of its package, and its label
 abbrev pub NodeNamed : Tables → ℕ → Text × LabelName → Type 0

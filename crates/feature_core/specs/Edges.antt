@@ -92,6 +92,10 @@ pub record AreBuilt (t : Tables) (edges : List (ℕ × ℕ × EdgeFacts)) (weak 
   pub gates : (i k gate : ℕ) → slice_get weak i ≡ Some (k, gate) → IsGate t k gate
   pub facts : edges ≡ map (λ e. (e.0, e.1, facts_of t (weak_links list) e.2)) list
 
+-- the two nodes of each edge
+abbrev pub ends_of : List (ℕ × ℕ × EdgeFacts) → List (ℕ × ℕ)
+ends_of edges = map (λ e. (e.0, e.1)) edges
+
 -- the link of a conditional edge
 abbrev pub full_link : EdgeFacts → Option LinkFacts
 full_link base_edge = None

@@ -15,11 +15,14 @@ pub mod Listed
 pub mod WalkProgress
 pub mod OpenWays
 pub mod Ways
+pub mod ChosenWays
 pub mod Releases
 pub mod Errors
 pub mod Built
+pub mod Choices
 pub mod NamedLinks
 pub mod Values
 pub mod Collected
 pub mod Made
 pub mod Warnings
+pub mod Defaults

@@ -13,7 +13,7 @@ use crate::laws::warning_equality;
 use crate::link::{ConditionalLinkImpl, EnabledLink};
 use crate::warning::FeatureGraphWarning;
 use guppy_packages::{PackageGraph, PlatformStatus, Spec};
-use guppy_support::{Digraph, Edge};
+use guppy_support::{Digraph, Edge, IxBitSet};
 use indexmap::IndexMap;
 use std::alloc::Global;
 
@@ -140,6 +140,13 @@ fn same_ends(a: Edge, b: Edge) -> bool
 
 /// Whether numbers are the same, in the same order.
 pub(crate) fn same_numbers(a: &[usize], b: &[usize]) -> bool
+    ensures { IsTrue result ↔ (a.now ≡ b.now) }
+{
+    a == b
+}
+
+/// Whether sets have the same numbers, below the same bound.
+pub(crate) fn same_sets(a: &IxBitSet, b: &IxBitSet) -> bool
     ensures { IsTrue result ↔ (a.now ≡ b.now) }
 {
     a == b

@@ -1,11 +1,14 @@
 //! The feature graph as it is built of a package graph.
 ghost use Rattle.std.specs.Prelude.{◌≡◌, ◌+◌, ◌<◌, ◌↔◌, ℕ, Some, IfOk, IfErr, IsTrue, length, map, not, position, slice_get, slice_index};
 ghost use Rattle.guppy_packages.specs.Metadata.{package_graph_of, package_table_of};
+ghost use Rattle.guppy_packages.specs.Tables.{Tables};
 ghost use Rattle.feature_labels.specs.Names.{id_of, label_of};
 ghost use Rattle.feature_core.specs.Nodes.{NodeAt, nodes, first_node, first_nodes, node_packages, labels_of};
 ghost use Rattle.guppy_support.specs.Bits.{has};
 ghost use Rattle.feature_core.specs.Pairs.{PairLeads, ReachAlong};
-ghost use Rattle.feature_core.specs.Built.{AreAlike, IsBuilt, NodeNamed, ends_of, end_of};
+ghost use Rattle.feature_core.specs.Built.{AreAlike, IsBuilt, NodeNamed, end_of};
+ghost use Rattle.feature_core.specs.Choices.{chosen_pairs};
+ghost use Rattle.feature_core.specs.Defaults.{IsDefault};
 ghost use Rattle.feature_core.specs.Present.{has_present_link};
 ghost use Rattle.feature_core.specs.Values.{edge_facts};
 ghost use Rattle.feature_core.specs.Warnings.{warning_of};
@@ -15,14 +18,17 @@ ghost use Rattle.feature_core.specs.Ways.{content};
 mod tests;
 
 use crate::building::{EdgeTable, edge_table};
-use crate::comparing::{same_edges, same_gates, same_numbers, same_pairs, same_warnings};
-use crate::edge::{FeatureEdge, first_absent};
+use crate::comparing::{
+    same_edges, same_gates, same_numbers, same_pairs, same_sets, same_warnings,
+};
+use crate::defaults::default_marks;
+use crate::edge::{EdgeChoice, FeatureEdge, first_absent};
 use crate::error::Error;
 use crate::named_links::named_links;
 use crate::nodes::{NodeTable, node_table};
 use crate::numbers::{Numbers, label_at};
 use crate::packed::Packed;
-use crate::reach::reach_all;
+use crate::reach::reach_chosen;
 use crate::releases::release_table;
 use crate::warning::{FeatureGraphWarning, warnings};
 use feature_labels::{FeatureId, FeatureLabel};
@@ -33,7 +39,7 @@ use std::alloc::{AllocError, Global};
 use std::marker::Model;
 
 /// The nodes and edges of a package graph's features. A contract sees the stamp, the table of nodes, the edges with what
-/// each says, the weak links with their gates, and the warnings.
+/// each says, the weak links with their gates, the warnings, and the features that are on by default.
 #[derive(Drop)]
 pub struct FeatureGraphData {
     stamp: u64,
@@ -43,6 +49,7 @@ pub struct FeatureGraphData {
     weak: IndexMap<usize, usize>,
     released: Vec<(usize, usize)>,
     warnings: Vec<FeatureGraphWarning>,
+    defaults: IxBitSet,
 }
 
 impl Model for FeatureGraphData {
@@ -54,13 +61,14 @@ impl Model for FeatureGraphData {
 
     ghost Value = { Built };
 
-    ghost view = { λ d. record { stamp = d.stamp; firsts = d.table.firsts.items; packages = d.table.packages.items; edges = built_edges d.digraph.edges (map edge_facts d.edges.items); weak = d.weak.entries; warnings = warnings_in d.warnings } };
+    ghost view = { λ d. record { stamp = d.stamp; firsts = d.table.firsts.items; packages = d.table.packages.items; edges = built_edges d.digraph.edges (map edge_facts d.edges.items); weak = d.weak.entries; warnings = warnings_in d.warnings; defaults = d.defaults } };
 
     ghost invariant = { λ d.
         (d.digraph.nodes ≡ length d.table.packages.items)
         × (length d.edges.items ≡ length d.digraph.edges)
         × (d.digraph.edges ≡ map end_of (built_edges d.digraph.edges (map edge_facts d.edges.items)))
-        × AreTied d.digraph (map edge_facts d.edges.items) d.weak.entries d.released.items };
+        × AreTied d.digraph (map edge_facts d.edges.items) d.weak.entries d.released.items
+        × (length d.defaults ≡ length d.table.packages.items) };
 }
 
 /// The numbers of the nodes in this table.
@@ -104,7 +112,9 @@ impl FeatureGraphData {
     {
         let table = node_table(alloc, graph)?;
         let groups = named_links(alloc, graph)?;
-        let edge_table = edge_table(alloc, numbers_in(graph, &table), &table, &groups)?;
+        let numbers = numbers_in(graph, &table);
+        let edge_table = edge_table(alloc, numbers, &table, &groups)?;
+        let defaults = default_marks(alloc, numbers, &edge_table)?;
         let released = release_table(alloc, &edge_table.edges, &edge_table.weak)?;
         let warnings = warnings(alloc, graph, &groups)?;
         let EdgeTable {
@@ -120,6 +130,7 @@ impl FeatureGraphData {
             weak,
             released,
             warnings,
+            defaults,
         })
     }
 
@@ -199,6 +210,16 @@ impl FeatureGraphData {
     {
         self.table.firsts[package_ix]
     }
+
+    /// Whether a node is on by default: at the end of a path from its package's default feature, over edges to the base
+    /// and between the package's named features.
+    pub fn is_default(&self, ix: usize) -> bool
+        requires { ix < length self.now.packages }
+        ensures mark { result ≡ has self.now.defaults ix }
+        ensures meaning { (t : Tables) → IsBuilt t self.now → IsTrue result ↔ IsDefault t ix }
+    {
+        self.defaults.contains(ix)
+    }
 }
 
 impl FeatureGraphData {
@@ -227,18 +248,20 @@ impl FeatureGraphData {
 }
 
 impl FeatureGraphData {
-    /// What is reached from the initial nodes over all edges.
+    /// What is reached from the initial nodes over the chosen edges.
     pub(crate) fn reach(
         &self,
         alloc: Global,
         direction: DependencyDirection,
         initials: &IxBitSet,
+        which: EdgeChoice,
     ) -> Result<IxBitSet, AllocError>
         requires { length initials.now ≡ length self.now.packages }
         ensures size { IfOk result (λ set. length set ≡ length self.now.packages) }
-        ensures members { IfOk result (λ set. (n : ℕ) → IsTrue (has set n) ↔ ReachAlong (PairLeads (ends_of self.now.edges) direction) (has initials.now) n) }
+        ensures members { IfOk result (λ set. (n : ℕ) → IsTrue (has set n) ↔ ReachAlong (PairLeads (chosen_pairs which self.now.edges) direction) (has initials.now) n) }
     {
-        let set = reach_all(alloc, &self.digraph, direction, initials)?;
+        let says = self.edges.as_slice();
+        let set = reach_chosen(alloc, &self.digraph, says, which, direction, initials)?;
         Ok(set)
     }
 
@@ -300,6 +323,13 @@ impl FeatureGraphData {
         same_warnings(own, others)
     }
 
+    /// Whether the same nodes are on by default.
+    fn has_same_defaults(&self, other: &FeatureGraphData) -> bool
+        ensures { IsTrue result ↔ (self.now.defaults ≡ other.now.defaults) }
+    {
+        same_sets(&self.defaults, &other.defaults)
+    }
+
     /// Whether two are the same in each part.
     pub(crate) fn is_same(&self, other: &FeatureGraphData) -> bool
         ensures { IsTrue result ↔ AreAlike self.now other.now }
@@ -310,5 +340,6 @@ impl FeatureGraphData {
             && self.has_same_edges(other)
             && self.has_same_gates(other)
             && self.has_same_warnings(other)
+            && self.has_same_defaults(other)
     }
 }

@@ -2,6 +2,7 @@
 ghost use Rattle.std.specs.Prelude.{◌≡◌, IfOk, not, option_copied, position};
 ghost use Rattle.std.specs.Option.{option_map};
 ghost use Rattle.feature_core.specs.Edges.{full_link, is_dev_only};
+ghost use Rattle.feature_core.specs.Choices.{is_chosen};
 ghost use Rattle.feature_core.specs.Present.{has_present_link};
 ghost use Rattle.feature_core.specs.Values.{link_facts, half_facts, weak_facts_of, slash_facts, edge_facts};
 
@@ -127,7 +128,35 @@ pub enum FeatureEdge {
     },
 }
 
+/// Edges to follow.
+#[derive(Clone, Copy, PartialEq, Eq, Debug)]
+pub enum EdgeChoice {
+    /// All edges.
+    All,
+    /// The edges from a feature to its base, and from a named feature to one of its own package's features, alone.
+    FeatureToBaseAndNamed,
+}
+
 impl FeatureEdge {
+    /// Whether it is among the chosen edges.
+    pub(crate) fn is_chosen(&self, which: EdgeChoice) -> bool
+        ensures { result ≡ is_chosen which (edge_facts self.now) }
+    {
+        match (which, self) {
+            (EdgeChoice::All, _)
+            | (
+                EdgeChoice::FeatureToBaseAndNamed,
+                FeatureEdge::FeatureToBase | FeatureEdge::NamedFeature,
+            ) => true,
+            (
+                EdgeChoice::FeatureToBaseAndNamed,
+                FeatureEdge::DependenciesSection(_)
+                | FeatureEdge::NamedFeatureDepColon(_)
+                | FeatureEdge::NamedFeatureWithSlash { link: _, slash: _ },
+            ) => false,
+        }
+    }
+
     /// The full link of a conditional edge.
     fn full_link(&self) -> Option<&ConditionalLinkImpl>
         ensures { option_map link_facts (option_copied result) ≡ full_link (edge_facts self.now) }

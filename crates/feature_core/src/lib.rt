@@ -6,6 +6,7 @@ mod candidates;
 mod comparing;
 mod data;
 mod declarations;
+mod defaults;
 mod edge;
 mod edges;
 pub mod engine;
@@ -24,7 +25,7 @@ mod warning;
 mod weak;
 
 pub use data::FeatureGraphData;
-pub use edge::{FeatureEdge, SlashForm, WeakIndex, WeakSlashImpl};
+pub use edge::{EdgeChoice, FeatureEdge, SlashForm, WeakIndex, WeakSlashImpl};
 pub use error::Error;
 pub use link::{ConditionalLinkImpl, EnabledLink};
 pub use packed::Packed;

@@ -1,23 +1,66 @@
-//! What is reached over all edges of a digraph.
-ghost use Rattle.std.specs.Prelude.{◌≡◌, ◌+◌, ◌^◌, ◌<◌, ◌↔◌, ℕ, Bool, false, IfOk, IsTrue, length, slice_get};
+//! What is reached over chosen edges of a digraph.
+ghost use Rattle.std.specs.Prelude.{◌≡◌, ◌+◌, ◌^◌, ◌<◌, ◌↔◌, ℕ, Bool, Some, false, IfOk, IsTrue, length, map, slice_get};
 ghost use Rattle.guppy_support.specs.Bits.{has};
 ghost use Rattle.feature_core.specs.declared.engine.Half.{Half};
-ghost use Rattle.feature_core.specs.Walks.{Content, starting};
+ghost use Rattle.feature_core.specs.Walks.{Content, starting, told};
 ghost use Rattle.feature_core.specs.Pairs.{PairLeads, ReachAlong};
-ghost use Rattle.feature_core.specs.Built.{pairs_of};
+ghost use Rattle.feature_core.specs.Built.{built_edges};
+ghost use Rattle.feature_core.specs.Choices.{is_chosen, chosen_pairs};
+ghost use Rattle.feature_core.specs.ChosenWays.{ask_where, chosen_content};
 ghost use Rattle.feature_core.specs.OpenWays.{open_way, open_ways};
+ghost use Rattle.feature_core.specs.Values.{edge_facts};
 
+use crate::edge::{EdgeChoice, FeatureEdge};
 use crate::engine::{Ask, EdgeSource, Half, Offerer, Taken, Walk, walk_over};
 use guppy_packages::DependencyDirection;
 use guppy_support::{Digraph, Edge, IxBitSet};
 use std::alloc::{AllocError, Global};
+use std::marker::Model;
 
-/// The edges of a digraph, none of them conditional.
+/// The edges of a digraph, with what each says. Nobody is asked of a chosen one, and the others are offered. A contract
+/// sees what it holds and how many reads there were.
 #[derive(Drop)]
-struct AllEdges<'a> {
+struct ChosenEdges<'a> {
     digraph: &'a Digraph,
+    edges: &'a [FeatureEdge],
+    which: EdgeChoice,
     direction: DependencyDirection,
     reads: u128,
+}
+
+impl<'a> Model for ChosenEdges<'a> {
+    ghost use Rattle.std.specs.Prelude.{◌≡◌, length, map};
+    ghost use Rattle.feature_core.specs.Built.{built_edges};
+    ghost use Rattle.feature_core.specs.ChosenWays.{chosen_content};
+    ghost use Rattle.feature_core.specs.Values.{edge_facts};
+    ghost use Rattle.feature_core.specs.Ways.{Reading};
+
+    ghost Value = { Reading };
+
+    ghost view = { λ c. record { holds = chosen_content c.which c.direction c.digraph.now.nodes (built_edges c.digraph.now.edges (map edge_facts c.edges.now)); reads = c.reads } };
+
+    ghost invariant = { λ c. length c.edges.now ≡ length c.digraph.now.edges };
+}
+
+impl<'a> ChosenEdges<'a> {
+    /// The source over these parts.
+    fn over(
+        digraph: &'a Digraph,
+        edges: &'a [FeatureEdge],
+        which: EdgeChoice,
+        direction: DependencyDirection,
+    ) -> Self
+        requires { length edges.now ≡ length digraph.now.edges }
+        ensures { result ≡ record { holds = chosen_content which direction digraph.now.nodes (built_edges digraph.now.edges (map edge_facts edges.now)); reads = 0 } }
+    {
+        ChosenEdges {
+            digraph,
+            edges,
+            which,
+            direction,
+            reads: 0,
+        }
+    }
 }
 
 /// The numbers of the edges that start at the node, as the direction follows them.
@@ -41,8 +84,38 @@ pub(crate) fn far_end(direction: DependencyDirection, edge: Edge) -> usize
     }
 }
 
-impl<'a> EdgeSource for AllEdges<'a> {
-    ghost content = { λ s. open_ways s.direction s.digraph.now };
+/// What is asked of an edge.
+fn ask_of(which: EdgeChoice, edge: &FeatureEdge) -> Ask
+    ensures { result ≡ ask_where (is_chosen which (edge_facts edge.now)) }
+{
+    if edge.is_chosen(which) {
+        Ask::Nobody
+    } else {
+        Ask::Full
+    }
+}
+
+/// What is told of an edge.
+fn taken(
+    digraph: &Digraph,
+    edges: &[FeatureEdge],
+    which: EdgeChoice,
+    direction: DependencyDirection,
+    edge: usize,
+) -> Taken
+    requires edge { edge < length digraph.now.edges }
+    requires same { length edges.now ≡ length digraph.now.edges }
+    ensures { Some result ≡ told (chosen_content which direction digraph.now.nodes (built_edges digraph.now.edges (map edge_facts edges.now))) (Some edge) }
+{
+    Taken {
+        edge,
+        far: far_end(direction, digraph.edge(edge)),
+        ask: ask_of(which, &edges[edge]),
+    }
+}
+
+impl EdgeSource for ChosenEdges<'_> {
+    ghost content = { λ s. s.holds };
 
     ghost reads = { λ s. s.reads };
 
@@ -54,12 +127,13 @@ impl<'a> EdgeSource for AllEdges<'a> {
     fn take(&mut self, start: usize, place: usize) -> Option<Taken> {
         self.reads += 1;
         let edge = *edges_at(self.digraph, self.direction, start).get(place)?;
-        let far = far_end(self.direction, self.digraph.edge(edge));
-        Some(Taken {
+        Some(taken(
+            self.digraph,
+            self.edges,
+            self.which,
+            self.direction,
             edge,
-            far,
-            ask: Ask::Nobody,
-        })
+        ))
     }
 
     fn release(&mut self, _gate: usize, _place: usize) -> Option<Taken> {
@@ -68,7 +142,7 @@ impl<'a> EdgeSource for AllEdges<'a> {
     }
 }
 
-/// Refuses each offer. A walk over all edges makes none.
+/// Refuses each offer.
 #[derive(Drop)]
 struct NoOffers;
 
@@ -82,23 +156,22 @@ impl Offerer for NoOffers {
     }
 }
 
-/// The nodes that are reached from the initial ones over all edges, as the direction follows them.
-pub(crate) fn reach_all(
+/// The nodes that are reached from the initial ones over the chosen edges, as the direction follows them.
+pub(crate) fn reach_chosen(
     alloc: Global,
     digraph: &Digraph,
+    edges: &[FeatureEdge],
+    which: EdgeChoice,
     direction: DependencyDirection,
     initials: &IxBitSet,
 ) -> Result<IxBitSet, AllocError>
-    requires { length initials.now ≡ digraph.now.nodes }
+    requires same { length edges.now ≡ length digraph.now.edges }
+    requires initials { length initials.now ≡ digraph.now.nodes }
     ensures size { IfOk result (λ set. length set ≡ digraph.now.nodes) }
-    ensures members { IfOk result (λ set. (n : ℕ) → IsTrue (has set n) ↔ ReachAlong (PairLeads (pairs_of digraph.now.edges) direction) (has initials.now) n) }
+    ensures members { IfOk result (λ set. (n : ℕ) → IsTrue (has set n) ↔ ReachAlong (PairLeads (chosen_pairs which (built_edges digraph.now.edges (map edge_facts edges.now))) direction) (has initials.now) n) }
 {
-    let mut edges = AllEdges {
-        digraph,
-        direction,
-        reads: 0,
-    };
-    match walk_over(alloc, &mut edges, initials, &mut NoOffers) {
+    let mut source = ChosenEdges::over(digraph, edges, which, direction);
+    match walk_over(alloc, &mut source, initials, &mut NoOffers) {
         Ok(Walk { members }) => Ok(members),
         Err(_) => Err(AllocError),
     }
@@ -115,31 +188,37 @@ mod tests {
     fn count_reached(
         alloc: Global,
         digraph: &Digraph,
+        says: &[FeatureEdge],
         direction: DependencyDirection,
         node: usize,
     ) -> Result<usize, AllocError>
-        requires { node < digraph.now.nodes }
+        requires same { length says.now ≡ length digraph.now.edges }
+        requires node { node < digraph.now.nodes }
     {
         let mut initials = IxBitSet::empty(alloc, digraph.node_count())?;
         initials.insert(node);
-        let reached = reach_all(alloc, digraph, direction, &initials)?;
+        let which = EdgeChoice::FeatureToBaseAndNamed;
+        let reached = reach_chosen(alloc, digraph, says, which, direction, &initials)?;
         Ok(reached.count())
     }
 
     #[test]
     fn long_chain(rt: HostRuntime) -> Result<(), Fail> {
         let mut edges = Vec::new(rt.alloc());
+        let mut says = Vec::new(rt.alloc());
         for from in 0..NODES - 1 {
             edges.push(Edge {
                 from,
                 to: from + 1,
                 non_dev: true,
             })?;
+            says.push(FeatureEdge::NamedFeature)?;
         }
         let chain = Digraph::new(rt.alloc(), NODES, &edges)?;
-        let onward = count_reached(rt.alloc(), &chain, DependencyDirection::Forward, 2)?;
+        assert_eq!(rt; says.len(), chain.edge_count());
+        let onward = count_reached(rt.alloc(), &chain, &says, DependencyDirection::Forward, 2)?;
         assert_eq!(rt; onward, NODES - 2);
-        let back = count_reached(rt.alloc(), &chain, DependencyDirection::Reverse, 2)?;
+        let back = count_reached(rt.alloc(), &chain, &says, DependencyDirection::Reverse, 2)?;
         assert_eq!(rt; back, 3);
         Ok(())
     }

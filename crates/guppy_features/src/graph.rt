@@ -18,7 +18,7 @@ use crate::metadata::{FeatureMetadata, label_in};
 use crate::query::FeatureQuery;
 use crate::set::FeatureSet;
 use feature_core::laws::links_are_present;
-use feature_core::{Error, FeatureGraphData, FeatureGraphWarning, walk_all};
+use feature_core::{EdgeChoice, Error, FeatureGraphData, FeatureGraphWarning, walk_all};
 use feature_labels::{FeatureId, FeatureList};
 use guppy_packages::{DependencyDirection, PackageGraph, PackageId};
 use guppy_support::IxBitSet;
@@ -113,7 +113,7 @@ impl<'g> FeatureGraph<'g> {
         ensures reach { IfOk result (λ set. (n : ℕ) → IsTrue (has set n) ↔ Reach (tables_of_graph self.now) direction (has initials.now) n) }
         ensures refused { IfErr result (λ e. e ≡ Error.Memory) }
     {
-        walk_all(alloc, self.built, direction, initials)
+        walk_all(alloc, self.built, direction, initials, EdgeChoice::All)
     }
 
     /// Whether the graph has the feature.

@@ -1,4 +1,4 @@
-use Rattle.std.proofs.Common.{◌≡◌, ◌∙◌, sym, length, ℕ, IsTrue}
+use Rattle.std.proofs.Common.{◌≡◌, ◌∙◌, refl, sym, length, ℕ, IsTrue}
 use Rattle.std.specs.Prelude.{◌↔◌}
 use Rattle.guppy_support.specs.Bits.{has}
 use Rattle.guppy_packages.specs.Tables.{Tables}
@@ -27,5 +27,5 @@ returns-clause-reach c =
     ok_map
     (λ set. (t : Tables) → IsBuilt t graph.built.now → (n : ℕ) → IsTrue (has set n) ↔ Reach t c.args.direction (has c.args.initials.now) n)
     (λ set. (n : ℕ) → IsTrue (has set n) ↔ Reach graph.graph.now c.args.direction (has c.args.initials.now) n)
-    c.walk_all.result c.walk_all.ensures.reach
+    c.walk_all.result (c.walk_all.ensures.all refl)
     (λ set h. h graph.graph.now (built_given graph.graph.now graph.built.now graph.is_built))

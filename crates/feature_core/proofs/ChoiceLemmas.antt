@@ -1,0 +1,111 @@
+-- Reach over chosen pairs and over chosen edges of the tables.
+use Rattle.std.proofs.Common.{◌≡◌, ℕ, ◌⊎◌, ⊎_elim, inl, inr, List, [], ◌∷◌, map, Bool, true, false, refl, sym, ap, ◌∙◌, subst, arith}
+use Rattle.std.specs.Prelude.{◌↔◌, ◌==◌, IsTrue, Contains, filter}
+use Rattle.std.proofs.Math.Logic.{∥∥₁_elim, ∥∥₁_map, ∥∥₁_prop}
+use Rattle.guppy_packages.specs.Tables.{Tables}
+use Rattle.guppy_packages.specs.declared.direction.DependencyDirection.{DependencyDirection}
+use Rattle.guppy_packages.specs.declared.direction.DependencyDirection.TheVariants.{Forward, Reverse}
+use Rattle.feature_core.specs.declared.edge.EdgeChoice.{EdgeChoice}
+use Rattle.feature_core.specs.declared.edge.EdgeChoice.TheVariants.{All, FeatureToBaseAndNamed}
+use Rattle.feature_core.specs.Candidates.{Edge, feature_to_base, named_feature, dep_colon, slash_full, slash_optional, slash_weak, section, IsEdge}
+use Rattle.feature_core.specs.Edges.{EdgeFacts, AreBuilt, weak_links, facts_of}
+use Rattle.feature_core.specs.Pairs.{PairLeads, Reach, ReachAlong}
+use Rattle.feature_core.specs.Built.{Built, IsBuilt, ends_of}
+use Rattle.feature_core.specs.Choices.{is_chosen, chosen_pairs, is_chosen_edge, ChosenEdge, ChosenLeads, ChosenReach}
+use Rattle.std.proofs.lemmas.Bool.{eqb-true, eqb-false}
+use Rattle.feature_core.proofs.Answered.{decide}
+use Rattle.feature_core.proofs.AddsLemmas.{Contains-first, Contains-later, Contains-cases, Contains-none}
+use Rattle.feature_core.proofs.PairLemmas.{Along-weaker, member_alike}
+use Rattle.feature_core.proofs.PushLemmas.{from_filter, into_filter, from_map, into_map}
+
+-- all edges are chosen where all are to be
+all_kept : (edges : List (ℕ × ℕ × EdgeFacts)) → filter (λ e. is_chosen All e.2) edges ≡ edges
+all_kept [] = refl
+all_kept (e ∷ edges) = ap (λ z. e ∷ z) (all_kept edges)
+
+pub all_chosen : (edges : List (ℕ × ℕ × EdgeFacts)) → chosen_pairs All edges ≡ ends_of edges
+all_chosen edges = ap ends_of (all_kept edges)
+
+-- an edge is chosen as what is built of it is
+chosen_same : (which : EdgeChoice) (t : Tables) (weak : List ℕ) (e : Edge) → is_chosen which (facts_of t weak e) ≡ is_chosen_edge which e
+chosen_same All t weak e = refl
+chosen_same FeatureToBaseAndNamed t weak feature_to_base = refl
+chosen_same FeatureToBaseAndNamed t weak named_feature = refl
+chosen_same FeatureToBaseAndNamed t weak (dep_colon l) = refl
+chosen_same FeatureToBaseAndNamed t weak (slash_full l) = refl
+chosen_same FeatureToBaseAndNamed t weak (slash_optional l) = refl
+chosen_same FeatureToBaseAndNamed t weak (slash_weak k l) = refl
+chosen_same FeatureToBaseAndNamed t weak (section l) = refl
+
+module _ (t : Tables) (which : EdgeChoice) (edges : List (ℕ × ℕ × EdgeFacts)) (weak : List (ℕ × ℕ)) (built : AreBuilt t edges weak) where
+  abbrev as_built : ℕ × ℕ × Edge → ℕ × ℕ × EdgeFacts
+  as_built e = (e.0, e.1, facts_of t (weak_links built.list) e.2)
+
+  pub chosen_back : (u w : ℕ) → Contains (chosen_pairs which edges) (u, w) → (e : Edge) × IsEdge t u w e × IsTrue (is_chosen_edge which e)
+  chosen_back u w h =
+      let x = from_map (λ e. (e.0, e.1)) (filter (λ e. is_chosen which e.2) edges) (u, w) h in
+      let kept = from_filter (λ e. is_chosen which e.2) edges x.0 x.1 in
+      let y = from_map as_built built.list x.0 (subst (λ z. Contains z x.0) built.facts kept.0) in
+      let edge = (built.are_edges.exact y.0.0 y.0.1 y.0.2).0 y.1 in
+      let from : y.0.0 ≡ u = ap (λ z. z.0) y.2 ∙ ap (λ z. z.0) x.2 in
+      let to : y.0.1 ≡ w = ap (λ z. z.1) y.2 ∙ ap (λ z. z.1) x.2 in
+      let chosen : is_chosen_edge which y.0.2 ≡ true = sym (chosen_same which t (weak_links built.list) y.0.2) ∙ ap (λ z. is_chosen which z.2) y.2 ∙ kept.1 in
+      (y.0.2, subst (λ z. IsEdge t u z y.0.2) to (subst (λ z. IsEdge t z y.0.1 y.0.2) from edge), chosen)
+
+  pub chosen_into : (u w : ℕ) → ((e : Edge) × IsEdge t u w e × IsTrue (is_chosen_edge which e)) → Contains (chosen_pairs which edges) (u, w)
+  chosen_into u w (e, edge, chosen) =
+      let there : Contains (map as_built built.list) (as_built (u, w, e)) = into_map as_built built.list (u, w, e) ((built.are_edges.exact u w e).1 edge) in
+      let listed : Contains edges (as_built (u, w, e)) = subst (λ z. Contains z (as_built (u, w, e))) (sym built.facts) there in
+      into_map (λ x. (x.0, x.1)) (filter (λ x. is_chosen which x.2) edges) (as_built (u, w, e))
+      (into_filter (λ x. is_chosen which x.2) edges (as_built (u, w, e)) listed (chosen_same which t (weak_links built.list) e ∙ chosen))
+
+same_or_not : (a b : ℕ × ℕ) → (a ≡ b) ⊎ (a ≡ b → ⊥)
+same_or_not (a, b) (c, d) = ⊎_elim
+    (λ p.
+        ⊎_elim
+        (λ q. inl (ap (λ z. (z, b)) (eqb-true a c p) ∙ ap (λ z. (c, z)) (eqb-true b d q)))
+        (λ q. inr (λ e. eqb-false b d q (ap (λ z. z.1) e)))
+        (decide (b == d)))
+    (λ p. inr (λ e. eqb-false a c p (ap (λ z. z.0) e)))
+    (decide (a == c))
+
+-- a pair of numbers stands in a list, or it doesn't
+stands_or_not : (pairs : List (ℕ × ℕ)) (x : ℕ × ℕ) → Contains pairs x ⊎ (Contains pairs x → ⊥)
+stands_or_not [] x = inr (λ h. Contains-none x h)
+stands_or_not (p ∷ pairs) x = ⊎_elim
+    (λ e. inl (subst (λ z. Contains (p ∷ pairs) z) e (Contains-first p pairs)))
+    (λ n.
+        ⊎_elim
+        (λ h. inl (Contains-later p pairs x h))
+        (λ m. inr (λ h. ⊎_elim n m (Contains-cases p pairs x h)))
+        (stands_or_not pairs x))
+    (same_or_not p x)
+
+stands : (pairs : List (ℕ × ℕ)) (x : ℕ × ℕ) → ∥ Contains pairs x ∥₁ → Contains pairs x
+stands pairs x h = ⊎_elim (λ c. c) (λ n. absurd (∥∥₁_elim h (λ p q. absurd p) n)) (stands_or_not pairs x)
+
+-- a chosen pair is that of a chosen edge of the tables
+pub chosen_pair : (t : Tables) (b : Built) (which : EdgeChoice) → IsBuilt t b → (u w : ℕ) → Contains (chosen_pairs which b.edges) (u, w) ↔ ChosenEdge t which u w
+chosen_pair t b which x u w = (
+  (λ h. ∥∥₁_map x.edges (λ built. chosen_back t which b.edges b.weak built u w h)),
+  (λ h. stands (chosen_pairs which b.edges) (u, w) (∥∥₁_elim x.edges ∥∥₁_prop (λ built. ∥∥₁_map h (λ e. chosen_into t which b.edges b.weak built u w e)))),
+)
+
+chosen_leads : (t : Tables) (b : Built) (which : EdgeChoice) (direction : DependencyDirection) → IsBuilt t b → (u w : ℕ) → PairLeads (chosen_pairs which b.edges) direction u w ↔ ChosenLeads t which direction u w
+chosen_leads t b which Forward x u w = chosen_pair t b which x u w
+chosen_leads t b which Reverse x u w = chosen_pair t b which x w u
+
+-- what is reached over the chosen pairs is what is reached over the chosen edges
+pub chosen_alike : (t : Tables) (b : Built) (which : EdgeChoice) (direction : DependencyDirection) (initials : ℕ → Bool) (n : ℕ) (P : Type 0) → IsBuilt t b → (P ↔ ReachAlong (PairLeads (chosen_pairs which b.edges) direction) initials n) → (P ↔ ChosenReach t which direction initials n)
+chosen_alike t b which direction initials n P x both =
+    let by : ℕ → ℕ → Type 0 = PairLeads (chosen_pairs which b.edges) direction in
+    let to : ℕ → ℕ → Type 0 = ChosenLeads t which direction in (
+      (λ p. let r = both.0 p in (r.0, r.1, Along-weaker by to (λ u w. (chosen_leads t b which direction x u w).0) r.0 n r.2)),
+      (λ r. both.1 (r.0, r.1, Along-weaker to by (λ u w. (chosen_leads t b which direction x u w).1) r.0 n r.2)),
+    )
+
+-- where all are chosen it is what is reached over all edges
+pub all_alike : (t : Tables) (b : Built) (which : EdgeChoice) (direction : DependencyDirection) (initials : ℕ → Bool) (n : ℕ) (P : Type 0) → which ≡ All → IsBuilt t b → (P ↔ ReachAlong (PairLeads (chosen_pairs which b.edges) direction) initials n) → (P ↔ Reach t direction initials n)
+all_alike t b which direction initials n P all x both =
+    let same : chosen_pairs which b.edges ≡ ends_of b.edges = ap (λ z. chosen_pairs z b.edges) all ∙ all_chosen b.edges in
+    member_alike t b direction initials n P x (subst (λ z. P ↔ ReachAlong (PairLeads z direction) initials n) same both)

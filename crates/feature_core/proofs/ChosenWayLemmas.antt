@@ -1,0 +1,179 @@
+-- Chosen edges as ways that are open to all, and what is reached where each offer is refused.
+use Rattle.std.proofs.Common.{◌≡◌, ℕ, suc, ◌<◌, ◌≤◌, Bool, true, false, ◌&&◌, ◌||◌, inl, inr, List, [], ◌∷◌, Option, Some, None, length, get_or, map, refl, sym, ◌∙◌, ap, subst, arith}
+use Rattle.std.specs.Prelude.{IsTrue, IsFalse, ◌==◌, ◌↔◌, slice_get, filter, Contains}
+use Rattle.std.proofs.lemmas.List.{length-map}
+use Rattle.std.proofs.lemmas.Option.{slice_get-map, slice_get-get_or, slice_get_within, slice_get_past, get_or_from_slice_get}
+use Rattle.std.specs.Option.{option_map}
+use Rattle.guppy_support.specs.declared.digraph.Edge.{Edge}
+use Rattle.guppy_support.specs.Graph.{Graph, IsDigraph}
+use Rattle.guppy_packages.specs.declared.direction.DependencyDirection.{DependencyDirection}
+use Rattle.guppy_packages.specs.declared.direction.DependencyDirection.TheVariants.{Forward, Reverse}
+use Rattle.feature_core.specs.declared.edge.EdgeChoice.{EdgeChoice}
+use Rattle.feature_core.specs.declared.engine.Half.{Half}
+use Rattle.feature_core.specs.declared.engine.Ask.{Ask}
+use Rattle.feature_core.specs.declared.engine.Ask.TheVariants as asks
+use Rattle.feature_core.specs.declared.engine.Taken.{Taken}
+use Rattle.feature_core.specs.Edges.{EdgeFacts}
+use Rattle.feature_core.specs.Walks.{Call, Way, Content, IsWay, EndsAreNodes, GoesAlong, Reach, numbers_where, starting, releasing, told, taken_of, is_gated, is_of, was_accepted}
+use Rattle.feature_core.specs.Pairs.{PairLeads, Along, ReachAlong}
+use Rattle.feature_core.specs.Pairs.Along.{nowhere, onward}
+use Rattle.feature_core.specs.Built.{built_edges}
+use Rattle.feature_core.specs.Choices.{is_chosen, chosen_pairs}
+use Rattle.feature_core.specs.Ways.{start_of, far_of}
+use Rattle.feature_core.specs.ChosenWays.{ask_where, chosen_way, chosen_content}
+use Rattle.feature_core.specs.OpenWays.{open_way, open_ways}
+use Rattle.feature_core.proofs.Answered.{clash}
+use Rattle.feature_core.proofs.Places.{got_map}
+use Rattle.feature_core.proofs.Reaches.{reach_in, reach_more, open_nobody, open_cases}
+use Rattle.feature_core.proofs.PushLemmas.{from_filter, into_filter, from_map, into_map}
+use Rattle.feature_core.proofs.OpenWayLemmas.{ends_are_nodes, edge_way, number_read}
+use Rattle.feature_core.proofs.PackedLemmas.{built_edge_at, edge_of_facts, length-built_edges}
+
+-- the edges that start at a node are those of the digraph
+starts_same : (which : EdgeChoice) (direction : DependencyDirection) (n first : ℕ) (es : List Edge) (fs : List EdgeFacts) → length fs ≡ length es → numbers_where (λ w. w.start == n) first (map (chosen_way which direction) (built_edges es fs)) ≡ numbers_where (λ w. w.start == n) first (map (open_way direction) es)
+starts_same which direction n first [] fs l = refl
+starts_same which direction n first (e ∷ es) [] l = absurd (omega arith)
+starts_same which Forward n first (e ∷ es) (f ∷ fs) l = rw (starts_same which Forward n (suc first) es fs (omega arith)) refl
+starts_same which Reverse n first (e ∷ es) (f ∷ fs) l = rw (starts_same which Reverse n (suc first) es fs (omega arith)) refl
+
+way_at : (which : EdgeChoice) (direction : DependencyDirection) (es : List Edge) (fs : List EdgeFacts) (k : ℕ) (e : Edge) (f : EdgeFacts) → slice_get es k ≡ Some e → slice_get fs k ≡ Some f → slice_get (map (chosen_way which direction) (built_edges es fs)) k ≡ Some (chosen_way which direction (e.from, e.to, f))
+way_at which direction es fs k e f p q = slice_get-map (chosen_way which direction) (built_edges es fs) k ∙ ap (option_map (chosen_way which direction)) (built_edge_at k es fs e f p q)
+
+-- what is told of an edge
+pub told_chosen : (which : EdgeChoice) (direction : DependencyDirection) (nodes : ℕ) (es : List Edge) (fs : List EdgeFacts) (k : ℕ) (e : Edge) (f : EdgeFacts) → slice_get es k ≡ Some e → slice_get fs k ≡ Some f → ◌≡◌ {A = Option Taken} (Some (record { edge = k; far = (open_way direction e).far; ask = ask_where (is_chosen which f) })) (told (chosen_content which direction nodes (built_edges es fs)) (Some k))
+told_chosen which Forward nodes es fs k e f p q = sym (ap (taken_of k) (way_at which Forward es fs k e f p q))
+told_chosen which Reverse nodes es fs k e f p q = sym (ap (taken_of k) (way_at which Reverse es fs k e f p q))
+
+ungated : (b : Bool) → IsFalse (is_gated (ask_where b))
+ungated true = refl
+ungated false = refl
+
+-- no way is gated
+none_gated : (which : EdgeChoice) (direction : DependencyDirection) (n first : ℕ) (edges : List (ℕ × ℕ × EdgeFacts)) → numbers_where (λ w. is_gated w.ask && (w.gate == n)) first (map (chosen_way which direction) edges) ≡ []
+none_gated which direction n first [] = refl
+none_gated which direction n first (x ∷ edges) = rw (ungated (is_chosen which x.2)) (none_gated which direction n (suc first) edges)
+
+pub none_released : (which : EdgeChoice) (direction : DependencyDirection) (nodes gate place : ℕ) (edges : List (ℕ × ℕ × EdgeFacts)) → ◌≡◌ {A = Option Taken} None (told (chosen_content which direction nodes edges) (slice_get (releasing (chosen_content which direction nodes edges) gate) place))
+none_released which direction nodes gate place edges = sym (ap (λ (numbers : List ℕ). told (chosen_content which direction nodes edges) (slice_get numbers place)) (none_gated which direction gate 0 edges))
+
+ways_within : (which : EdgeChoice) (direction : DependencyDirection) (nodes : ℕ) (x : ℕ × ℕ × EdgeFacts) → x.0 < nodes → x.1 < nodes → ((chosen_way which direction x).start < nodes) × ((chosen_way which direction x).far < nodes) × (IsTrue (is_gated (chosen_way which direction x).ask) → (chosen_way which direction x).gate < nodes)
+ways_within which Forward nodes x a b = (a, b, λ t. absurd (clash t (ungated (is_chosen which x.2))))
+ways_within which Reverse nodes x a b = (b, a, λ t. absurd (clash t (ungated (is_chosen which x.2))))
+
+way_edge : (which : EdgeChoice) (direction : DependencyDirection) (nodes : ℕ) (edges : List (ℕ × ℕ × EdgeFacts)) (k : ℕ) (w : Way) → IsWay (chosen_content which direction nodes edges) k w → (x : ℕ × ℕ × EdgeFacts) × (slice_get edges k ≡ Some x) × (chosen_way which direction x ≡ w)
+way_edge which direction nodes edges k w is = got_map (chosen_way which direction) (slice_get edges k) w (sym (slice_get-map (chosen_way which direction) edges k) ∙ is)
+
+-- the ends of every way are nodes
+pub chosen_ends : (which : EdgeChoice) (direction : DependencyDirection) (g : Graph) (fs : List EdgeFacts) → IsDigraph g → EndsAreNodes (chosen_content which direction g.nodes (built_edges g.edges fs))
+chosen_ends which direction g fs sound k w is =
+    let x = way_edge which direction g.nodes (built_edges g.edges fs) k w is in
+    let e = edge_of_facts k g.edges fs x.0 x.1 in
+    let ends = ends_are_nodes Forward g sound k (open_way Forward e.0) (edge_way Forward g k e.0 e.1) in
+    subst (λ (v : Way). (v.start < g.nodes) × (v.far < g.nodes) × (IsTrue (is_gated v.ask) → v.gate < g.nodes)) x.2
+    (ways_within which direction g.nodes x.0 (subst (λ (n : ℕ). n < g.nodes) e.2 ends.0) (subst (λ (n : ℕ). n < g.nodes) e.3 ends.1))
+
+pub chosen_length : (which : EdgeChoice) (direction : DependencyDirection) (es : List Edge) (fs : List EdgeFacts) → length fs ≡ length es → length es ≡ length (map (chosen_way which direction) (built_edges es fs))
+chosen_length which direction es fs l = sym (length-map (built_edges es fs) (chosen_way which direction) ∙ length-built_edges es fs l)
+
+module _ (which : EdgeChoice) (direction : DependencyDirection) (g : Graph) (fs : List EdgeFacts) (each : length fs ≡ length g.edges) where
+  abbrev c : Content
+  c = chosen_content which direction g.nodes (built_edges g.edges fs)
+
+  -- the number that is read at a place
+  pub chosen_some : (n place : ℕ) (numbers : List ℕ) (k : ℕ) → numbers ≡ starting (open_ways direction g) n → place < length numbers → k ≡ get_or numbers place k → slice_get (starting c n) place ≡ Some k
+  chosen_some n place numbers k same within is = ap (λ (xs : List ℕ). slice_get xs place) (starts_same which direction n 0 g.edges fs each) ∙ number_read direction g n place numbers k same within is
+
+  pub chosen_none : (n place : ℕ) (numbers : List ℕ) → numbers ≡ starting (open_ways direction g) n → length numbers ≤ place → ◌≡◌ {A = Option Taken} None (told c (slice_get (starting c n) place))
+  chosen_none n place numbers same past =
+      let none : slice_get (starting c n) place ≡ None = ap (λ (xs : List ℕ). slice_get xs place) (starts_same which direction n 0 g.edges fs each ∙ sym same) ∙ slice_get_past numbers place past in
+      sym (ap (told c) none)
+
+or_false : (a b c : Bool) → b ≡ false → c ≡ false → ((a && b) || c) ≡ false
+or_false true b c p q = ap (λ z. z || c) p ∙ q
+or_false false b c p q = q
+
+-- no offer was accepted where each is refused
+pub none_accepted : {O : Type 0} (s : O) (run : List Call) (t : O) → GoesAlong {O = O} (λ _ _ _ answer _. answer ≡ false) s run t → (e : ℕ) (h : Half) → IsFalse (was_accepted run e h)
+none_accepted s [] t along e h = refl
+none_accepted s (call ∷ before) t (m, along, refused) e h = or_false (is_of call e h) call.answer (was_accepted before e h) refused (none_accepted s before m along e h)
+
+only_chosen : (b : Bool) → ask_where b ≡ asks.Nobody → b ≡ true
+only_chosen true p = refl
+only_chosen false p = cc
+
+listed : {X : Type 0} (xs : List X) (k : ℕ) (x : X) → slice_get xs k ≡ Some x → Contains xs x
+listed xs k x is = (k, slice_get_within xs k x is, get_or_from_slice_get xs k x x is)
+
+-- each chosen edge is a pair
+way_leads : (which : EdgeChoice) (direction : DependencyDirection) (edges : List (ℕ × ℕ × EdgeFacts)) (x : ℕ × ℕ × EdgeFacts) → Contains edges x → is_chosen which x.2 ≡ true → PairLeads (chosen_pairs which edges) direction (start_of direction x) (far_of direction x)
+way_leads which Forward edges x h chosen = into_map (λ e. (e.0, e.1)) (filter (λ e. is_chosen which e.2) edges) x (into_filter (λ e. is_chosen which e.2) edges x h chosen)
+way_leads which Reverse edges x h chosen = into_map (λ e. (e.0, e.1)) (filter (λ e. is_chosen which e.2) edges) x (into_filter (λ e. is_chosen which e.2) edges x h chosen)
+
+-- an edge from u to v that is chosen
+record IsChosenAt (which : EdgeChoice) (edges : List (ℕ × ℕ × EdgeFacts)) (u v : ℕ) : Type 0 where
+  number : ℕ
+  edge : ℕ × ℕ × EdgeFacts
+  is_edge : slice_get edges number ≡ Some edge
+  chosen : is_chosen which edge.2 ≡ true
+  from : edge.0 ≡ u
+  to : edge.1 ≡ v
+
+pair_edge : (which : EdgeChoice) (edges : List (ℕ × ℕ × EdgeFacts)) (u v : ℕ) → Contains (chosen_pairs which edges) (u, v) → IsChosenAt which edges u v
+pair_edge which edges u v h =
+    let x = from_map (λ e. (e.0, e.1)) (filter (λ e. is_chosen which e.2) edges) (u, v) h in
+    let kept = from_filter (λ e. is_chosen which e.2) edges x.0 x.1 in
+    let there = kept.0 in
+    record {
+      number = there.0;
+      edge = x.0;
+      is_edge = slice_get-get_or edges there.0 x.0 there.1 ∙ ap Some there.2;
+      chosen = kept.1;
+      from = ap (λ p. p.0) x.2;
+      to = ap (λ p. p.1) x.2;
+    }
+
+module _ (which : EdgeChoice) (direction : DependencyDirection) (nodes : ℕ) (edges : List (ℕ × ℕ × EdgeFacts)) (I : ℕ → Bool) (A : ℕ → Half → Bool) (refused : (e : ℕ) (h : Half) → IsFalse (A e h)) where
+  abbrev ways : Content
+  ways = chosen_content which direction nodes edges
+
+  abbrev Leads : ℕ → ℕ → Type 0
+  Leads = PairLeads (chosen_pairs which edges) direction
+
+  along_more : (u v w : ℕ) → Along Leads u v → Leads v w → Along Leads u w
+  along_more u v w (nowhere {u = a}) step = onward step nowhere
+  along_more u v w (onward first rest) step = onward first (along_more _ v w rest step)
+
+  by_ways : (n : ℕ) → Reach ways I A n → ReachAlong Leads I n
+  by_ways n reach = reach_in ways I A (ReachAlong Leads I)
+      (λ k i. (k, i, nowhere))
+      (λ k w is op (a, i, along).
+      let x = way_edge which direction nodes edges k w is in
+      let nobody : w.ask ≡ asks.Nobody = elim (open_cases A k w.ask op) [ inl p ↦ p | inr p ↦ absurd (clash p.2 (refused k p.0)) ] in
+      let chosen = only_chosen (is_chosen which x.0.2) (ap (λ (v : Way). v.ask) x.2 ∙ nobody) in
+      (a, i, along_more a w.start w.far along (subst (λ (v : Way). Leads v.start v.far) x.2 (way_leads which direction edges x.0 (listed edges k x.0 x.1) chosen))))
+      n reach
+
+  one_edge : (u v : ℕ) (p : IsChosenAt which edges u v) → Reach ways I A (start_of direction p.edge) → Reach ways I A (far_of direction p.edge)
+  one_edge u v p reach =
+      let w = chosen_way which direction p.edge in
+      let there : IsWay ways p.number w = slice_get-map (chosen_way which direction) edges p.number ∙ ap (option_map (chosen_way which direction)) p.is_edge in
+      reach_more ways I A p.number w there (open_nobody A p.number w.ask (ap ask_where p.chosen)) reach
+
+module _ (which : EdgeChoice) (nodes : ℕ) (edges : List (ℕ × ℕ × EdgeFacts)) (I : ℕ → Bool) (A : ℕ → Half → Bool) (refused : (e : ℕ) (h : Half) → IsFalse (A e h)) where
+  one_way : (direction : DependencyDirection) (u v : ℕ) → PairLeads (chosen_pairs which edges) direction u v → Reach (chosen_content which direction nodes edges) I A u → Reach (chosen_content which direction nodes edges) I A v
+  one_way Forward u v leads reach =
+      let p = pair_edge which edges u v leads in
+      let R = Reach (chosen_content which Forward nodes edges) I A in
+      subst R p.to (one_edge which Forward nodes edges I A refused u v p (subst R (sym p.from) reach))
+  one_way Reverse u v leads reach =
+      let p = pair_edge which edges v u leads in
+      let R = Reach (chosen_content which Reverse nodes edges) I A in
+      subst R p.from (one_edge which Reverse nodes edges I A refused v u p (subst R (sym p.to) reach))
+
+  by_pairs : (direction : DependencyDirection) (u v : ℕ) → Along (PairLeads (chosen_pairs which edges) direction) u v → Reach (chosen_content which direction nodes edges) I A u → Reach (chosen_content which direction nodes edges) I A v
+  by_pairs direction u v nowhere reach = reach
+  by_pairs direction u v (onward {v = m} leads rest) reach = by_pairs direction m v rest (one_way direction u m leads reach)
+
+  -- what is reached where each offer is refused is what is reached over the chosen pairs
+  pub reach_chosen_pairs : (direction : DependencyDirection) (n : ℕ) → Reach (chosen_content which direction nodes edges) I A n ↔ ReachAlong (PairLeads (chosen_pairs which edges) direction) I n
+  reach_chosen_pairs direction n = (by_ways which direction nodes edges I A refused n, λ r. by_pairs direction r.0 n r.2 (r.0, [], r.1, refl))

@@ -1,0 +1,48 @@
+-- Chosen edges, and what is reached over them.
+use Rattle.std.specs.Prelude.{ℕ, List, Bool, true, false, filter, IsTrue}
+use Rattle.guppy_packages.specs.Tables.{Tables}
+use Rattle.guppy_packages.specs.declared.direction.DependencyDirection.{DependencyDirection}
+use Rattle.guppy_packages.specs.declared.direction.DependencyDirection.TheVariants.{Forward, Reverse}
+use Rattle.feature_core.specs.declared.edge.EdgeChoice.{EdgeChoice}
+use Rattle.feature_core.specs.declared.edge.EdgeChoice.TheVariants.{All, FeatureToBaseAndNamed}
+use Rattle.feature_core.specs.Candidates.{Edge, feature_to_base, named_feature, dep_colon, slash_full, slash_optional, slash_weak, section, IsEdge}
+use Rattle.feature_core.specs.Edges.{EdgeFacts, base_edge, feature_edge, colon_edge, strong_edge, weak_edge, section_edge, ends_of}
+use Rattle.feature_core.specs.Pairs.{ReachAlong}
+
+-- whether an edge that is built is among the chosen ones
+abbrev pub is_chosen : EdgeChoice → EdgeFacts → Bool
+is_chosen All f = true
+is_chosen FeatureToBaseAndNamed base_edge = true
+is_chosen FeatureToBaseAndNamed feature_edge = true
+is_chosen FeatureToBaseAndNamed (colon_edge l) = false
+is_chosen FeatureToBaseAndNamed (strong_edge l) = false
+is_chosen FeatureToBaseAndNamed (weak_edge l halves) = false
+is_chosen FeatureToBaseAndNamed (section_edge l) = false
+
+-- the two nodes of each chosen edge
+abbrev pub chosen_pairs : EdgeChoice → List (ℕ × ℕ × EdgeFacts) → List (ℕ × ℕ)
+chosen_pairs which edges = ends_of (filter (λ e. is_chosen which e.2) edges)
+
+-- whether an edge of the tables is among the chosen ones
+abbrev pub is_chosen_edge : EdgeChoice → Edge → Bool
+is_chosen_edge All e = true
+is_chosen_edge FeatureToBaseAndNamed feature_to_base = true
+is_chosen_edge FeatureToBaseAndNamed named_feature = true
+is_chosen_edge FeatureToBaseAndNamed (dep_colon l) = false
+is_chosen_edge FeatureToBaseAndNamed (slash_full l) = false
+is_chosen_edge FeatureToBaseAndNamed (slash_optional l) = false
+is_chosen_edge FeatureToBaseAndNamed (slash_weak k l) = false
+is_chosen_edge FeatureToBaseAndNamed (section l) = false
+
+-- the edge of a pair is a chosen one
+abbrev pub ChosenEdge : Tables → EdgeChoice → ℕ → ℕ → Type 0
+ChosenEdge t which u w = ∥ ((e : Edge) × IsEdge t u w e × IsTrue (is_chosen_edge which e)) ∥₁
+
+-- a chosen edge leads from u to w, as the direction follows it
+abbrev pub ChosenLeads : Tables → EdgeChoice → DependencyDirection → ℕ → ℕ → Type 0
+ChosenLeads t which Forward u w = ChosenEdge t which u w
+ChosenLeads t which Reverse u w = ChosenEdge t which w u
+
+-- reach over the chosen edges
+abbrev pub ChosenReach : Tables → EdgeChoice → DependencyDirection → (ℕ → Bool) → ℕ → Type 0
+ChosenReach t which direction initials w = ReachAlong (ChosenLeads t which direction) initials w

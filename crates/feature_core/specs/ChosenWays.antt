@@ -1,0 +1,28 @@
+-- Chosen edges as ways that are open to all, and the other edges as ways that are offered.
+use Rattle.std.specs.Prelude.{ℕ, List, Bool, true, false, map}
+use Rattle.guppy_packages.specs.declared.direction.DependencyDirection.{DependencyDirection}
+use Rattle.feature_core.specs.declared.edge.EdgeChoice.{EdgeChoice}
+use Rattle.feature_core.specs.declared.engine.Ask.{Ask}
+use Rattle.feature_core.specs.declared.engine.Ask.TheVariants.{Nobody, Full}
+use Rattle.feature_core.specs.Edges.{EdgeFacts}
+use Rattle.feature_core.specs.Choices.{is_chosen}
+use Rattle.feature_core.specs.Walks.{Way, Content}
+use Rattle.feature_core.specs.Ways.{start_of, far_of}
+
+-- nobody is asked of a chosen edge
+abbrev pub ask_where : Bool → Ask
+ask_where true = Nobody
+ask_where false = Full
+
+-- an edge as the direction follows it
+abbrev pub chosen_way : EdgeChoice → DependencyDirection → ℕ × ℕ × EdgeFacts → Way
+chosen_way which direction e = record {
+  start = start_of direction e;
+  far = far_of direction e;
+  ask = ask_where (is_chosen which e.2);
+  gate = 0;
+}
+
+-- what a walk over chosen edges follows, where it accepts no offer
+abbrev pub chosen_content : EdgeChoice → DependencyDirection → ℕ → List (ℕ × ℕ × EdgeFacts) → Content
+chosen_content which direction nodes edges = record { nodes = nodes; ways = map (chosen_way which direction) edges }

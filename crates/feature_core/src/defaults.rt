@@ -1,0 +1,69 @@
+//! Which features are on by default.
+ghost use Rattle.std.specs.Prelude.{◌≡◌, ◌<◌, ◌↔◌, ℕ, IfOk, IsTrue, length, map};
+ghost use Rattle.guppy_support.specs.Bits.{has};
+ghost use Rattle.guppy_packages.specs.Metadata.{package_graph_of};
+ghost use Rattle.feature_core.specs.Built.{built_edges};
+ghost use Rattle.feature_core.specs.Defaults.{IsDefaultFeature, AreDefaults};
+ghost use Rattle.feature_core.specs.Edges.{AreBuilt};
+ghost use Rattle.feature_core.specs.Nodes.{node_packages};
+ghost use Rattle.feature_core.specs.Values.{edge_facts};
+
+use crate::building::EdgeTable;
+use crate::edge::EdgeChoice;
+use crate::numbers::Numbers;
+use crate::reach::reach_chosen;
+use guppy_packages::{DependencyDirection, PackageMetadata};
+use guppy_support::IxBitSet;
+use std::alloc::{AllocError, Global};
+
+/// The default feature of a package: its feature named `default`, or its base where it has none.
+fn default_feature(numbers: Numbers<'_>, metadata: PackageMetadata<'_>) -> usize
+    requires { package_graph_of metadata ≡ numbers.graph.now }
+    ensures { (n : ℕ) → (result ≡ n) ↔ IsDefaultFeature numbers.entry.graph.now metadata.entry.package_ix n }
+{
+    match numbers.named(metadata, "default") {
+        Some(node) => node,
+        None => numbers.base(metadata),
+    }
+}
+
+/// The default features of all packages.
+fn default_features(
+    alloc: Global,
+    numbers: Numbers<'_>,
+    nodes: usize,
+) -> Result<IxBitSet, AllocError>
+    requires { nodes ≡ length (node_packages numbers.graph.now) }
+    ensures size { IfOk result (λ set. length set ≡ nodes) }
+    ensures members { IfOk result (λ set. (n : ℕ) → IsTrue (has set n) ↔ ((p : ℕ) × IsDefaultFeature numbers.entry.graph.now p n)) }
+{
+    let mut set = IxBitSet::empty(alloc, nodes)?;
+    for ix in 0..numbers.graph.package_count() {
+        let node = default_feature(numbers, numbers.graph.package(ix));
+        set.insert(node);
+    }
+    Ok(set)
+}
+
+/// For each node, whether it is on by default.
+pub(crate) fn default_marks(
+    alloc: Global,
+    numbers: Numbers<'_>,
+    table: &EdgeTable,
+) -> Result<IxBitSet, AllocError>
+    requires nodes { table.now.digraph.nodes ≡ length (node_packages numbers.graph.now) }
+    requires long { length table.now.edges.items ≡ length table.now.digraph.edges }
+    requires edges { AreBuilt numbers.graph.now (built_edges table.now.digraph.edges (map edge_facts table.now.edges.items)) table.now.weak.entries }
+    ensures { IfOk result (λ marks. AreDefaults numbers.entry.graph.now marks) }
+{
+    let initials = default_features(alloc, numbers, table.digraph.node_count())?;
+    let marks = reach_chosen(
+        alloc,
+        &table.digraph,
+        &table.edges,
+        EdgeChoice::FeatureToBaseAndNamed,
+        DependencyDirection::Forward,
+        &initials,
+    )?;
+    Ok(marks)
+}
