@@ -9,7 +9,7 @@ ghost use Rattle.feature_core.specs.Nodes.{nodes};
 ghost use Rattle.feature_core.specs.Pairs.{Reach};
 ghost use Rattle.feature_core.specs.Present.{ArePresent, has_present_link};
 ghost use Rattle.feature_core.specs.Warnings.{warning_of, warnings};
-ghost use Rattle.guppy_features.specs.Names.{AreKnown, HasFeature, RefusesName, RefusesNames, RefusesPackage, HoldsExactly, ListsPackage, IsLinkCount};
+ghost use Rattle.guppy_features.specs.Names.{AreKnown, HasFeature, RefusesName, RefusesNames, RefusesPackage, RefusesFeature, HoldsExactly, ListsPackage, IsLinkCount, TellsDefault};
 ghost use Rattle.guppy_features.specs.Verified.{RefusesEdges};
 
 use crate::ids::{first_unknown, set_of_ids};
@@ -279,6 +279,22 @@ impl<'g> FeatureGraph<'g> {
         match self.built.first_absent_link() {
             Some(number) => Err(self.absent_link(number)),
             None => Ok(()),
+        }
+    }
+
+    /// Whether the feature is on by default in its package: whether the package's feature named `default`, or its base
+    /// where it has none, leads to it over edges to the base and between the package's named features. It is an error
+    /// where no package has the id's package, and another where the package lacks the feature.
+    pub fn is_default_feature<'a>(&self, id: FeatureId<'a>) -> Result<bool, Error<'a>>
+        ensures told { IfOk result (λ answer. TellsDefault (tables_of_graph self.now) (id_of id.entry) answer) }
+        ensures refused { IfErr result (λ e. RefusesFeature (tables_of_graph self.now) (id_of id.entry) (refusal_of e)) }
+    {
+        let Ok(_) = self.graph.metadata(id.package_id()) else {
+            return Err(Error::UnknownPackageId(id.package_id()));
+        };
+        match self.node(id) {
+            Some(node) => Ok(self.built.is_default(node)),
+            None => Err(Error::UnknownFeatureId(id)),
         }
     }
 }
