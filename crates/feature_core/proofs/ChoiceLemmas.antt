@@ -1,5 +1,5 @@
 -- Reach over chosen pairs and over chosen edges of the tables.
-use Rattle.std.proofs.Common.{◌≡◌, ℕ, ◌⊎◌, ⊎_elim, inl, inr, List, [], ◌∷◌, map, Bool, true, false, refl, sym, ap, ◌∙◌, subst, arith}
+use Rattle.std.proofs.Common.{◌≡◌, ℕ, ◌⊎◌, ⊎_elim, inl, inr, List, [], ◌∷◌, map, Bool, true, refl, sym, ap, ◌∙◌, subst}
 use Rattle.std.specs.Prelude.{◌↔◌, ◌==◌, IsTrue, Contains, filter}
 use Rattle.std.proofs.Math.Logic.{∥∥₁_elim, ∥∥₁_map, ∥∥₁_prop}
 use Rattle.guppy_packages.specs.Tables.{Tables}
@@ -62,10 +62,10 @@ module _ (t : Tables) (which : EdgeChoice) (edges : List (ℕ × ℕ × EdgeFact
 same_or_not : (a b : ℕ × ℕ) → (a ≡ b) ⊎ (a ≡ b → ⊥)
 same_or_not (a, b) (c, d) = ⊎_elim
     (λ p.
-        ⊎_elim
-        (λ q. inl (ap (λ z. (z, b)) (eqb-true a c p) ∙ ap (λ z. (c, z)) (eqb-true b d q)))
-        (λ q. inr (λ e. eqb-false b d q (ap (λ z. z.1) e)))
-        (decide (b == d)))
+    ⊎_elim
+    (λ q. inl (ap (λ z. (z, b)) (eqb-true a c p) ∙ ap (λ z. (c, z)) (eqb-true b d q)))
+    (λ q. inr (λ e. eqb-false b d q (ap (λ z. z.1) e)))
+    (decide (b == d)))
     (λ p. inr (λ e. eqb-false a c p (ap (λ z. z.0) e)))
     (decide (a == c))
 
@@ -75,10 +75,10 @@ stands_or_not [] x = inr (λ h. Contains-none x h)
 stands_or_not (p ∷ pairs) x = ⊎_elim
     (λ e. inl (subst (λ z. Contains (p ∷ pairs) z) e (Contains-first p pairs)))
     (λ n.
-        ⊎_elim
-        (λ h. inl (Contains-later p pairs x h))
-        (λ m. inr (λ h. ⊎_elim n m (Contains-cases p pairs x h)))
-        (stands_or_not pairs x))
+    ⊎_elim
+    (λ h. inl (Contains-later p pairs x h))
+    (λ m. inr (λ h. ⊎_elim n m (Contains-cases p pairs x h)))
+    (stands_or_not pairs x))
     (same_or_not p x)
 
 stands : (pairs : List (ℕ × ℕ)) (x : ℕ × ℕ) → ∥ Contains pairs x ∥₁ → Contains pairs x

@@ -10,7 +10,6 @@ use Rattle.guppy_packages.specs.declared.direction.DependencyDirection.{Dependen
 use Rattle.guppy_packages.specs.declared.direction.DependencyDirection.TheVariants.{Forward, Reverse}
 use Rattle.feature_core.specs.declared.edge.EdgeChoice.{EdgeChoice}
 use Rattle.feature_core.specs.declared.engine.Half.{Half}
-use Rattle.feature_core.specs.declared.engine.Ask.{Ask}
 use Rattle.feature_core.specs.declared.engine.Ask.TheVariants as asks
 use Rattle.feature_core.specs.declared.engine.Taken.{Taken}
 use Rattle.feature_core.specs.Edges.{EdgeFacts}

@@ -1,26 +1,19 @@
 -- The edges of a digraph as ways that are open to all.
-use Rattle.std.proofs.Common.{◌≡◌, ℕ, suc, ◌<◌, Bool, true, ◌&&◌, List, [], ◌∷◌, Option, Some, length, get_or, map, refl, sym, ◌∙◌, ap, subst, arith, Contains}
-use Rattle.std.specs.Prelude.{IsTrue, ◌==◌, ◌↔◌, slice_get}
-use Rattle.std.proofs.lemmas.List.{get_or-map, length-map}
-use Rattle.std.proofs.lemmas.Option.{slice_get-map, slice_get-get_or, slice_get_within, slice_get_read, get_or_from_slice_get}
+use Rattle.std.proofs.Common.{◌≡◌, ℕ, suc, ◌<◌, List, [], ◌∷◌, Some, length, get_or, map, refl, sym, ◌∙◌, ap, subst, arith}
+use Rattle.std.specs.Prelude.{IsTrue, ◌==◌, slice_get}
+use Rattle.std.proofs.lemmas.List.{get_or-map}
+use Rattle.std.proofs.lemmas.Option.{slice_get-map, slice_get_within, slice_get_read, get_or_from_slice_get}
 use Rattle.std.specs.Option.{option_map}
 use Rattle.guppy_support.specs.declared.digraph.Edge.{Edge}
 use Rattle.guppy_support.specs.Graph.{Graph, IsDigraph, sources, targets}
 use Rattle.guppy_support.specs.Rows.{places_from}
 use Rattle.guppy_packages.specs.declared.direction.DependencyDirection.{DependencyDirection}
 use Rattle.guppy_packages.specs.declared.direction.DependencyDirection.TheVariants.{Forward, Reverse}
-use Rattle.feature_core.specs.declared.engine.Half.{Half}
-use Rattle.feature_core.specs.declared.engine.Ask.TheVariants as asks
-use Rattle.feature_core.specs.declared.engine.Taken.{Taken}
-use Rattle.feature_core.specs.Walks.{Way, IsWay, EndsAreNodes, Reach, numbers_where, starting, told, taken_of, is_gated}
-use Rattle.feature_core.specs.Pairs.{PairLeads, Along, ReachAlong}
-use Rattle.feature_core.specs.Pairs.Along.{nowhere, onward}
-use Rattle.feature_core.specs.Built.{pairs_of}
+use Rattle.feature_core.specs.Walks.{Way, IsWay, EndsAreNodes, numbers_where, starting, is_gated}
 use Rattle.feature_core.specs.OpenWays.{open_way, open_ways}
 use Rattle.feature_core.proofs.Answered.{clash}
 use Rattle.feature_core.proofs.Places.{got_map}
 use Rattle.feature_core.proofs.WayNumbers.{number_way}
-use Rattle.feature_core.proofs.Reaches.{reach_in, reach_more, open_nobody}
 
 -- the ways that start at a node are the edges that leave it, or that enter it
 pub forward_numbers : (n first : ℕ) (es : List Edge) → numbers_where (λ w. w.start == n) first (map (open_way Forward) es) ≡ places_from n first (sources es)

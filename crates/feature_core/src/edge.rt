@@ -142,18 +142,11 @@ impl FeatureEdge {
     pub(crate) fn is_chosen(&self, which: EdgeChoice) -> bool
         ensures { result ≡ is_chosen which (edge_facts self.now) }
     {
-        match (which, self) {
-            (EdgeChoice::All, _)
-            | (
-                EdgeChoice::FeatureToBaseAndNamed,
-                FeatureEdge::FeatureToBase | FeatureEdge::NamedFeature,
-            ) => true,
-            (
-                EdgeChoice::FeatureToBaseAndNamed,
-                FeatureEdge::DependenciesSection(_)
-                | FeatureEdge::NamedFeatureDepColon(_)
-                | FeatureEdge::NamedFeatureWithSlash { link: _, slash: _ },
-            ) => false,
+        match which {
+            EdgeChoice::All => true,
+            EdgeChoice::FeatureToBaseAndNamed => {
+                matches!(self, FeatureEdge::FeatureToBase | FeatureEdge::NamedFeature)
+            }
         }
     }
 

@@ -127,13 +127,7 @@ impl EdgeSource for ChosenEdges<'_> {
     fn take(&mut self, start: usize, place: usize) -> Option<Taken> {
         self.reads += 1;
         let edge = *edges_at(self.digraph, self.direction, start).get(place)?;
-        Some(taken(
-            self.digraph,
-            self.edges,
-            self.which,
-            self.direction,
-            edge,
-        ))
+        Some(taken(self.digraph, self.edges, self.which, self.direction, edge))
     }
 
     fn release(&mut self, _gate: usize, _place: usize) -> Option<Taken> {

@@ -137,12 +137,24 @@ fn walks_both_ways(rt: HostRuntime) -> Result<(), Fail> {
     let mut initials = IxBitSet::empty(rt.alloc(), built.node_count())?;
     assert_eq!(rt; initials.size(), 7);
     initials.insert(2);
-    let forward = walk_all(rt.alloc(), &built, DependencyDirection::Forward, &initials, EdgeChoice::All)?;
+    let forward = walk_all(
+        rt.alloc(),
+        &built,
+        DependencyDirection::Forward,
+        &initials,
+        EdgeChoice::All,
+    )?;
     let members: Vec<usize> = forward.ones().collect(rt.alloc())?;
     assert_eq!(rt; members.as_slice(), [0, 2, 5, 6].as_slice());
     let mut last = IxBitSet::empty(rt.alloc(), built.node_count())?;
     last.insert(6);
-    let reverse = walk_all(rt.alloc(), &built, DependencyDirection::Reverse, &last, EdgeChoice::All)?;
+    let reverse = walk_all(
+        rt.alloc(),
+        &built,
+        DependencyDirection::Reverse,
+        &last,
+        EdgeChoice::All,
+    )?;
     let members: Vec<usize> = reverse.ones().collect(rt.alloc())?;
     assert_eq!(rt; members.as_slice(), [2, 6].as_slice());
     Ok(())

@@ -6,6 +6,7 @@ use Rattle.feature_core.proofs.PackedLemmas.{built_gates}
 use Rattle.std.proofs.lemmas.List.{length-map}
 use Rattle.feature_core.specs.Built.{pairs_of, ends_of, built_edges}
 use Rattle.feature_core.specs.Edges.{AreBuilt}
+use Rattle.feature_core.specs.Defaults.{AreDefaults}
 use Rattle.feature_core.specs.Pairs.{IsPairList}
 use Rattle.feature_core.specs.Values.{edge_facts}
 use Rattle.feature_core.proofs.BuildLemmas.{built_ends}
@@ -21,9 +22,10 @@ returns-clause-built c =
     record {
       firsts = c.in_ok-table.ensures.firsts;
       packages = c.in_ok-table.ensures.packages;
-      pairs = subst (λ z. IsPairList t z) (sym ends) (subst (λ z. IsPairList z (pairs_of table.digraph.edges)) c.numbers_in.ensures made.pairs);
-      edges = ∣ subst (λ z. AreBuilt z (built_edges table.digraph.edges facts) table.weak.entries) c.numbers_in.ensures made.edges ∣₁;
+      pairs = subst (λ z. IsPairList t z) (sym ends) (subst (λ z. IsPairList z (pairs_of table.digraph.edges)) c.numbers_in-numbers.ensures made.pairs);
+      edges = ∣ subst (λ z. AreBuilt z (built_edges table.digraph.edges facts) table.weak.entries) c.numbers_in-numbers.ensures made.edges ∣₁;
       warnings = c.in_ok-warnings.ensures;
+      defaults = subst (λ z. AreDefaults z c.in_ok-defaults.defaults) c.numbers_in-numbers.ensures c.in_ok-defaults.ensures;
     }
 
 pub returns-in_err-released-clause-refused : goal.returns-in_err-released-clause-refused
@@ -38,7 +40,7 @@ invariant_of-result c =
     let made = c.in_ok-edge_table.ensures in
     let table = c.in_ok-edge_table.edge_table in
     let facts = map edge_facts table.edges.items in
-    let built : AreBuilt t (built_edges table.digraph.edges facts) table.weak.entries = subst (λ z. AreBuilt z (built_edges table.digraph.edges facts) table.weak.entries) c.numbers_in.ensures made.edges in
+    let built : AreBuilt t (built_edges table.digraph.edges facts) table.weak.entries = subst (λ z. AreBuilt z (built_edges table.digraph.edges facts) table.weak.entries) c.numbers_in-numbers.ensures made.edges in
     let nodes : table.digraph.nodes ≡ length (node_packages t) = made.nodes ∙ ap length c.in_ok-table.ensures.packages in (
       made.nodes,
       made.long,
@@ -48,4 +50,15 @@ invariant_of-result c =
         gates = built_gates t (built_edges table.digraph.edges facts) table.weak.entries table.digraph.nodes built nodes;
         releases = subst (λ z. AreReleases (map edge_facts z) table.weak.entries c.in_ok-released.released.items) c.deref.ensures.value c.in_ok-released.ensures;
       },
+      c.in_ok-defaults.ensures.long ∙ ap (λ z. length (node_packages z)) c.numbers_in-numbers.ensures ∙ sym (ap length c.in_ok-table.ensures.packages),
     )
+
+pub default_marks-requires : goal.default_marks-requires
+default_marks-requires c = record {
+  nodes = c.in_ok-edge_table.ensures.nodes ∙ ap length c.in_ok-table.ensures.packages ∙ ap (λ z. length (node_packages z)) (sym c.numbers_in-numbers.ensures);
+  long = c.in_ok-edge_table.ensures.long;
+  edges = c.in_ok-edge_table.ensures.edges;
+}
+
+pub returns-in_err-defaults-clause-refused : goal.returns-in_err-defaults-clause-refused
+returns-in_err-defaults-clause-refused c = let p = err_from_is_err_and c.from_residual-in_err-defaults.result c.from_residual-in_err-defaults.ensures.1 in rw (p.1, p.2) refl
