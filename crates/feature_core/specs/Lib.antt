@@ -2,6 +2,7 @@ pub mod Nodes
 pub mod Links
 pub mod Candidates
 pub mod Edges
+pub mod Present
 pub mod Weak
 pub mod Pairs
 pub mod Adds

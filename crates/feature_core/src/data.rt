@@ -1,5 +1,5 @@
 //! The feature graph as it is built of a package graph.
-ghost use Rattle.std.specs.Prelude.{◌≡◌, ◌+◌, ◌<◌, ◌↔◌, ℕ, Some, IfOk, IfErr, IsTrue, length, map, slice_get, slice_index};
+ghost use Rattle.std.specs.Prelude.{◌≡◌, ◌+◌, ◌<◌, ◌↔◌, ℕ, Some, IfOk, IfErr, IsTrue, length, map, not, position, slice_get, slice_index};
 ghost use Rattle.guppy_packages.specs.Metadata.{package_graph_of, package_table_of};
 ghost use Rattle.guppy_packages.specs.Tables.{Tables};
 ghost use Rattle.feature_labels.specs.Names.{id_of, label_of};
@@ -9,6 +9,7 @@ ghost use Rattle.feature_core.specs.Pairs.{PairLeads, ReachAlong};
 ghost use Rattle.feature_core.specs.Built.{AreAlike, IsBuilt, NodeNamed, end_of};
 ghost use Rattle.feature_core.specs.Choices.{chosen_pairs};
 ghost use Rattle.feature_core.specs.Defaults.{IsDefault};
+ghost use Rattle.feature_core.specs.Present.{has_present_link};
 ghost use Rattle.feature_core.specs.Values.{edge_facts};
 ghost use Rattle.feature_core.specs.Warnings.{warning_of};
 ghost use Rattle.feature_core.specs.Ways.{content};
@@ -18,7 +19,7 @@ use crate::comparing::{
     same_edges, same_gates, same_numbers, same_pairs, same_sets, same_warnings,
 };
 use crate::defaults::default_marks;
-use crate::edge::{EdgeChoice, FeatureEdge};
+use crate::edge::{EdgeChoice, FeatureEdge, first_absent};
 use crate::error::Error;
 use crate::named_links::named_links;
 use crate::nodes::{NodeTable, node_table};
@@ -174,6 +175,13 @@ impl FeatureGraphData {
     {
         let ends = self.digraph.edge(number);
         (ends.from, ends.to, &self.edges[number])
+    }
+
+    /// The first edge whose link is present for no kind, where there is one.
+    pub fn first_absent_link(&self) -> Option<usize>
+        ensures { result ≡ position (λ e. not (has_present_link e.2)) self.now.edges }
+    {
+        first_absent(self.edges.as_slice())
     }
 
     /// The weak links, by index: the package link that weak edges name, and the node on whose being reached their

@@ -1,8 +1,9 @@
 //! What an edge between two features says.
-ghost use Rattle.std.specs.Prelude.{◌≡◌, IfOk, option_copied};
+ghost use Rattle.std.specs.Prelude.{◌≡◌, IfOk, not, option_copied, position};
 ghost use Rattle.std.specs.Option.{option_map};
 ghost use Rattle.feature_core.specs.Edges.{full_link, is_dev_only};
 ghost use Rattle.feature_core.specs.Choices.{is_chosen};
+ghost use Rattle.feature_core.specs.Present.{has_present_link};
 ghost use Rattle.feature_core.specs.Values.{link_facts, half_facts, weak_facts_of, slash_facts, edge_facts};
 
 use crate::link::{ConditionalLinkImpl, EnabledLink};
@@ -171,6 +172,16 @@ impl FeatureEdge {
         }
     }
 
+    /// Whether its link is present for some kind, where it is conditional.
+    pub(crate) fn has_present_link(&self) -> bool
+        ensures { result ≡ has_present_link (edge_facts self.now) }
+    {
+        match self.full_link() {
+            Some(link) => link.is_present(),
+            None => true,
+        }
+    }
+
     /// An equal edge. It fails only where memory is refused.
     pub fn try_clone(&self, alloc: Global) -> Result<FeatureEdge, AllocError>
         ensures { IfOk result (λ edge. edge_facts edge ≡ edge_facts self.now) }
@@ -193,4 +204,11 @@ impl FeatureEdge {
             }
         }
     }
+}
+
+/// The first of these edges that is conditional and whose link is present for no kind.
+pub(crate) fn first_absent(edges: &[FeatureEdge]) -> Option<usize>
+    ensures { result ≡ position (λ e. not (has_present_link (edge_facts e))) edges.now }
+{
+    edges.iter().position(|edge| !edge.has_present_link())
 }

@@ -7,6 +7,8 @@ ghost use Rattle.feature_core.specs.Laws.{every, only, Leads, AreReverse, IsUnga
 ghost use Rattle.feature_core.specs.declared.engine.Half.{Half};
 ghost use Rattle.feature_core.specs.declared.engine.Half.TheVariants.{Required};
 ghost use Rattle.feature_core.specs.Candidates.{Edge, Candidate, IsEdge, rank_of};
+ghost use Rattle.feature_core.specs.Built.{Built, IsBuilt};
+ghost use Rattle.feature_core.specs.Present.{ArePresent};
 ghost use Rattle.feature_core.specs.Warnings.{warning_of};
 
 use crate::warning::FeatureGraphWarning;
@@ -66,6 +68,13 @@ pub fn one_candidate(graph: &PackageGraph)
     ensures of_rank { (u w : ℕ) (e other : Edge) → Candidate graph.now u w e → Candidate graph.now u w other
         → rank_of e ≡ rank_of other → e ≡ other }
     ensures of_pair { (u w : ℕ) (e other : Edge) → IsEdge graph.now u w e → IsEdge graph.now u w other → e ≡ other }
+{
+    graph.facts();
+}
+
+/// The link of each conditional edge that is built is present for some kind.
+pub fn links_are_present(graph: &PackageGraph)
+    ensures { (b : Built) → IsBuilt graph.now b → ArePresent b.edges }
 {
     graph.facts();
 }

@@ -3,6 +3,7 @@ ghost use Rattle.std.specs.Prelude.{◌≡◌, IfOk, option_copied};
 ghost use Rattle.std.specs.Option.{option_map};
 ghost use Rattle.guppy_packages.specs.Platform.{status_of};
 ghost use Rattle.feature_core.specs.Edges.{is_dev_link};
+ghost use Rattle.feature_core.specs.Present.{is_present};
 ghost use Rattle.feature_core.specs.Values.{link_facts, half_facts};
 
 pub(crate) mod building;
@@ -65,6 +66,13 @@ impl ConditionalLinkImpl {
         ensures { result ≡ is_dev_link (link_facts self.now) }
     {
         self.normal().is_never() && self.build().is_never()
+    }
+
+    /// Whether a covered declaration is for some kind on some platform.
+    pub fn is_present(&self) -> bool
+        ensures { result ≡ is_present (link_facts self.now) }
+    {
+        !(self.is_dev_only() && self.dev().is_never())
     }
 
     /// An equal link. It fails only where memory is refused.

@@ -4,3 +4,4 @@ mod WarningDecisions
 mod BuiltLemmas
 mod PackageLemmas
 mod SetLemmas
+mod VerifyLemmas

@@ -110,6 +110,12 @@ no_package t id h (table, c, same) =
     let k = place_of_element t.packages table c in
     position_missing (λ p. bytes_eq id p.id) k.0 t.packages table h k.1 ((bytes_decides id table.id).1 (sym same))
 
+-- where a place was found, there is such a package
+pub some_package : (t : Tables) (id told : Text) (p : ℕ) → told ≡ id → package_place told t.packages ≡ Some p → HasPackage t id
+some_package t id told p same h =
+    let q = position_there (λ z. bytes_eq told z.id) p t.packages h in
+    (q.element, element_at_place t.packages p q.element q.there, sym ((bytes_decides told q.element.id).0 q.passes) ∙ same)
+
 -- the package at the place that was found has the id
 pub id_found : (t : Tables) (id : Text) (p : ℕ) (table : PackageTable) → package_place id t.packages ≡ Some p → IsPackage t p table → table.id ≡ id
 id_found t id p table h is =

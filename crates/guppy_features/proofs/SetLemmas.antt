@@ -14,7 +14,8 @@ use Rattle.feature_core.specs.Built.{NodeNamed}
 use Rattle.feature_core.specs.Nodes.{nodes}
 use Rattle.feature_core.specs.Pairs.{Reach}
 use Rattle.feature_core.proofs.WayNumbers.{marked_set, marked_grows, marked_cases}
-use Rattle.guppy_features.specs.Names.{HasFeature, AreKnown, IsFirstUnknown, HoldsExactly, TellsMember}
+use Rattle.feature_core.specs.Defaults.{IsDefault}
+use Rattle.guppy_features.specs.Names.{HasFeature, AreKnown, IsFirstUnknown, HoldsExactly, TellsMember, TellsDefault}
 
 -- whether a number is what was found, as a look-up says it
 abbrev pub Finds : Option ℕ → (ℕ → Type 0) → Type 0
@@ -102,6 +103,12 @@ pub tells : (t : Tables) (members : List Bool) (name : Text × LabelName) (m : �
 tells t members name m answer finds is = record {
   known = (m, (finds m).0 refl);
   tells = λ n at. let e = (finds n).1 at in let same : m ≡ n = cc in is ∙ ap (has members) same;
+}
+
+pub tells_default : (t : Tables) (name : Text × LabelName) (m : ℕ) (answer : Bool) → Finds (Some m) (λ n. NodeNamed t n name) → IsTrue answer ↔ IsDefault t m → TellsDefault t name answer
+tells_default t name m answer finds is = record {
+  known = (m, (finds m).0 refl);
+  tells = λ n at. let e = (finds n).1 at in let same : m ≡ n = cc in subst (λ z. IsTrue answer ↔ IsDefault t z) same is;
 }
 
 pub found_feature : (t : Tables) (name : Text × LabelName) (m : ℕ) → Finds (Some m) (λ n. NodeNamed t n name) → HasFeature t name

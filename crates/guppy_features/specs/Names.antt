@@ -7,6 +7,7 @@ use Rattle.feature_labels.specs.Names.{LabelName}
 use Rattle.feature_labels.specs.Lists.{Ascends, SameLabels}
 use Rattle.feature_core.specs.Nodes.{nodes, labels_of}
 use Rattle.feature_core.specs.Built.{NodeNamed}
+use Rattle.feature_core.specs.Defaults.{IsDefault}
 use Rattle.feature_core.specs.Pairs.{IsPairList}
 use Rattle.feature_core.specs.Errors.{Refusal, unknown_package, unknown_feature, internal_error, no_memory}
 
@@ -47,6 +48,13 @@ RefusesPackage t id (internal_error from to) = ⊥
 abbrev pub RefusesName : Tables → Text × LabelName → Refusal → Type 0
 RefusesName t name refusal = (refusal ≡ unknown_feature name) × (¬ HasFeature t name)
 
+-- why the name of a feature was refused: for its package, or for the feature where the graph has the package
+abbrev pub RefusesFeature : Tables → Text × LabelName → Refusal → Type 0
+RefusesFeature t name (unknown_package id) = (id ≡ name.0) × (¬ HasPackage t name.0)
+RefusesFeature t name (unknown_feature other) = (other ≡ name) × HasPackage t name.0 × (¬ HasFeature t name)
+RefusesFeature t name no_memory = ⊥
+RefusesFeature t name (internal_error from to) = ⊥
+
 -- one of these names is that of the node
 abbrev pub IsAmong : Tables → List (Text × LabelName) → ℕ → Type 0
 IsAmong t names n = (k : ℕ) × (name : Text × LabelName) × (slice_get names k ≡ Some name) × NodeNamed t n name
@@ -60,6 +68,11 @@ pub record HoldsExactly (t : Tables) (members : List Bool) (names : List (Text �
 pub record TellsMember (t : Tables) (members : List Bool) (name : Text × LabelName) (answer : Bool) : Type 0 where
   pub known : HasFeature t name
   pub tells : (n : ℕ) → NodeNamed t n name → answer ≡ has members n
+
+-- whether the feature of this name, which the graph has, is on by default
+pub record TellsDefault (t : Tables) (name : Text × LabelName) (answer : Bool) : Type 0 where
+  pub known : HasFeature t name
+  pub tells : (n : ℕ) → NodeNamed t n name → IsTrue answer ↔ IsDefault t n
 
 -- all features of the package of this id, sorted and each once
 pub record ListsPackage (t : Tables) (id : Text) (list : Text × List LabelName) : Type 0 where

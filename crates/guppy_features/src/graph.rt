@@ -1,19 +1,23 @@
 //! Feature graphs.
-ghost use Rattle.std.specs.Prelude.{◌≡◌, ◌↔◌, ◌<◌, ℕ, Some, IsTrue, IfSome, IfOk, IfErr, true, false, length, map, replicate};
+ghost use Rattle.std.specs.Prelude.{◌≡◌, ◌↔◌, ◌<◌, ℕ, Some, IsTrue, IfSome, IfOk, IfErr, true, false, length, map, not, position, replicate};
+ghost use Rattle.std.specs.Result.{is_ok};
 ghost use Rattle.guppy_support.specs.Bits.{has};
 ghost use Rattle.feature_labels.specs.Names.{id_of};
 ghost use Rattle.feature_core.specs.Built.{IsBuilt, NodeNamed};
 ghost use Rattle.feature_core.specs.Errors.{refusal_of};
 ghost use Rattle.feature_core.specs.Nodes.{nodes};
 ghost use Rattle.feature_core.specs.Pairs.{Reach};
+ghost use Rattle.feature_core.specs.Present.{ArePresent, has_present_link};
 ghost use Rattle.feature_core.specs.Warnings.{warning_of, warnings};
-ghost use Rattle.guppy_features.specs.Names.{AreKnown, HasFeature, RefusesName, RefusesNames, RefusesPackage, HoldsExactly, ListsPackage, IsLinkCount};
+ghost use Rattle.guppy_features.specs.Names.{AreKnown, HasFeature, RefusesName, RefusesNames, RefusesPackage, RefusesFeature, HoldsExactly, ListsPackage, IsLinkCount, TellsDefault};
+ghost use Rattle.guppy_features.specs.Verified.{RefusesEdges};
 
 use crate::ids::{first_unknown, set_of_ids};
 use crate::listing::package_list;
 use crate::metadata::{FeatureMetadata, label_in};
 use crate::query::FeatureQuery;
 use crate::set::FeatureSet;
+use feature_core::laws::links_are_present;
 use feature_core::{EdgeChoice, Error, FeatureGraphData, FeatureGraphWarning, walk_all};
 use feature_labels::{FeatureId, FeatureList};
 use guppy_packages::{DependencyDirection, PackageGraph, PackageId};
@@ -245,6 +249,53 @@ impl<'g> FeatureGraph<'g> {
         ensures refused { IfErr result (λ e. RefusesNames (tables_of_graph self.now) (map id_of feature_ids.now) (refusal_of e)) }
     {
         self.query_directed(alloc, feature_ids, DependencyDirection::Reverse)
+    }
+}
+
+impl<'g> FeatureGraph<'g> {
+    ghost use Rattle.guppy_features.specs.Views.{tables_of_graph, built_of};
+
+    /// The error that names the two features of the first edge whose link is present for no kind.
+    fn absent_link(&self, number: usize) -> Error<'g>
+        requires { position (λ e. not (has_present_link e.2)) (built_of self.now).edges ≡ Some number }
+        ensures { RefusesEdges (tables_of_graph self.now) (built_of self.now).edges (refusal_of result) }
+    {
+        let (from, to, _) = self.built.edge(number);
+        Error::FeatureGraphInternalError {
+            from: self.built.id(self.graph, from),
+            to: self.built.id(self.graph, to),
+        }
+    }
+
+    /// Goes through the edges, by the feature that they start at and then by that which they lead to. The first one whose
+    /// link is present neither for normal use nor for builds nor for development is an error. An edge that isn't
+    /// conditional passes. What was built of a package graph has no edge that doesn't.
+    pub fn verify(&self) -> Result<(), Error<'g>>
+        ensures exact { IsTrue (is_ok result) ↔ ArePresent (built_of self.now).edges }
+        ensures first { IfErr result (λ e. RefusesEdges (tables_of_graph self.now) (built_of self.now).edges (refusal_of e)) }
+        ensures ok { IsTrue (is_ok result) }
+    {
+        links_are_present(self.graph);
+        match self.built.first_absent_link() {
+            Some(number) => Err(self.absent_link(number)),
+            None => Ok(()),
+        }
+    }
+
+    /// Whether the feature is on by default in its package: whether the package's feature named `default`, or its base
+    /// where it has none, leads to it over edges to the base and between the package's named features. It is an error
+    /// where no package has the id's package, and another where the package lacks the feature.
+    pub fn is_default_feature<'a>(&self, id: FeatureId<'a>) -> Result<bool, Error<'a>>
+        ensures told { IfOk result (λ answer. TellsDefault (tables_of_graph self.now) (id_of id.entry) answer) }
+        ensures refused { IfErr result (λ e. RefusesFeature (tables_of_graph self.now) (id_of id.entry) (refusal_of e)) }
+    {
+        let Ok(_) = self.graph.metadata(id.package_id()) else {
+            return Err(Error::UnknownPackageId(id.package_id()));
+        };
+        match self.node(id) {
+            Some(node) => Ok(self.built.is_default(node)),
+            None => Err(Error::UnknownFeatureId(id)),
+        }
     }
 }
 

@@ -1,7 +1,7 @@
 //! Look-ups, sets and queries over a small graph, whose nodes and edges were listed by hand.
 use crate::{
     DependencyDirection, Error, FeatureGraph, FeatureGraphData, FeatureGraphExt,
-    FeatureGraphWarning, FeatureId, FeatureLabel, FeatureSet,
+    FeatureGraphWarning, FeatureId, FeatureKind, FeatureLabel, FeatureSet,
 };
 use guppy_packages::DependencyKind::Normal;
 use guppy_packages::{PackageGraph, PackageId, Row};
@@ -59,6 +59,14 @@ const NODES: [(&str, FeatureLabel<'static>); 7] = [
 /// Whether two ids are equal, wherever their texts lie.
 fn are_equal(a: FeatureId<'_>, b: FeatureId<'_>) -> bool {
     a == b
+}
+
+/// Whether the error says that the graph lacks the package of this id.
+fn names_package(error: Option<Error<'_>>, id: FeatureId<'_>) -> bool {
+    match error {
+        Some(Error::UnknownPackageId(unknown)) => unknown == id.package_id(),
+        _ => false,
+    }
 }
 
 /// Whether the error says that the graph lacks this feature.
@@ -167,6 +175,24 @@ fn check_lists(rt: &impl Abort, alloc: Global, features: FeatureGraph<'_>) -> Re
     Ok(())
 }
 
+/// Checks which features are on by default. No package of the graph has a feature named `default`, so each base is its
+/// package's default feature, and no edge leads on from a base to its package's features.
+fn check_defaults(rt: &impl Abort, alloc: Global, features: FeatureGraph<'_>) -> Result<(), Fail> {
+    for (package, label) in NODES {
+        let package = PackageId::new(alloc, package)?;
+        let id = FeatureId::new(&package, label);
+        let is_default = features.is_default_feature(id)?;
+        assert_eq!(rt; is_default, label.kind() == FeatureKind::Base, "{id}");
+    }
+    let none = PackageId::new(alloc, "none")?;
+    let unknown = FeatureId::named(&none, "x");
+    assert!(rt; names_package(features.is_default_feature(unknown).err(), unknown));
+    let main = PackageId::new(alloc, "main")?;
+    let unknown = FeatureId::named(&main, "x");
+    assert!(rt; names_feature(features.is_default_feature(unknown).err(), unknown));
+    Ok(())
+}
+
 #[test]
 fn features_are_looked_up_and_resolved(rt: HostRuntime) -> Result<(), Fail> {
     let alloc = rt.alloc();
@@ -181,6 +207,47 @@ fn features_are_looked_up_and_resolved(rt: HostRuntime) -> Result<(), Fail> {
     check_ids(&rt, alloc, features)?;
     check_queries(&rt, alloc, features)?;
     check_lists(&rt, alloc, features)?;
+    check_defaults(&rt, alloc, features)?;
+    features.verify()?;
+    Ok(())
+}
+
+const ROWS_WITH_DEFAULT: [Row<'static>; 5] = [
+    Row::Package {
+        id: "main",
+        in_workspace: true,
+    },
+    Row::Feature {
+        name: "default",
+        items: &["a"],
+    },
+    Row::Feature {
+        name: "a",
+        items: &["b"],
+    },
+    Row::Feature {
+        name: "b",
+        items: &[],
+    },
+    Row::Feature {
+        name: "c",
+        items: &["a"],
+    },
+];
+
+#[test]
+fn default_features_are_those_that_default_leads_to(rt: HostRuntime) -> Result<(), Fail> {
+    let alloc = rt.alloc();
+    let graph = PackageGraph::from_rows(alloc, &ROWS_WITH_DEFAULT)?;
+    let built = FeatureGraphData::build(alloc, &graph, 0)?;
+    let features = graph.feature_graph(&built);
+    features.verify()?;
+    let main = PackageId::new(alloc, "main")?;
+    assert!(rt; features.is_default_feature(FeatureId::base(&main))?);
+    for (name, expected) in [("default", true), ("a", true), ("b", true), ("c", false)] {
+        let is_default = features.is_default_feature(FeatureId::named(&main, name))?;
+        assert_eq!(rt; is_default, expected, "{name}");
+    }
     Ok(())
 }
 
