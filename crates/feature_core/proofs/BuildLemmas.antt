@@ -1,5 +1,5 @@
 -- The edges that are built of the least keys are those of the tables.
-use Rattle.std.proofs.Common.{◌≡◌, ℕ, zero, suc, ◌<◌, ◌≤◌, ◌⊎◌, ⊎_elim, List, [], ◌∷◌, length, map, Bool, true, false, cond, Option, Some, None, refl, sym, ap, ◌∙◌, subst, arith}
+use Rattle.std.proofs.Common.{◌≡◌, ℕ, zero, suc, ⊎_elim, List, [], ◌∷◌, length, map, Bool, true, false, cond, Option, Some, None, refl, sym, ap, ◌∙◌, subst, arith}
 use Rattle.std.specs.Prelude.{◌↔◌, ◌==◌, Contains, All, AllPairs, slice_get, filter_map}
 use Rattle.std.specs.List.{zip, cons_option}
 use Rattle.std.proofs.lemmas.Bool.Decides.{nat_tests}
@@ -10,8 +10,8 @@ use Rattle.guppy_packages.specs.Tables.{Tables, AreTables}
 use Rattle.feature_core.specs.Built.{pairs_of, ends_of, end_of, built_edges}
 use Rattle.feature_core.specs.Keys.{edge_of as end_of_key}
 use Rattle.feature_core.specs.Candidates.{Edge, Candidate, IsEdge, rank_of, feature_to_base, named_feature, dep_colon, slash_full, slash_optional, slash_weak, section}
-use Rattle.feature_core.specs.Edges.{EdgeFacts, IsEdgeList, EdgeBefore, AreBuilt, weak_link, weak_links, first_ones, facts_of, IsGate}
-use Rattle.feature_core.specs.Made.{IsValueOf, AreValues, IsKept, edge_end}
+use Rattle.feature_core.specs.Edges.{EdgeFacts, IsEdgeList, EdgeBefore, AreBuilt, weak_link, weak_links, first_ones, facts_of}
+use Rattle.feature_core.specs.Made.{AreValues, IsKept, edge_end}
 use Rattle.feature_core.specs.Weak.{weak_source, weak_sources, AreGates}
 use Rattle.feature_core.specs.declared.key.Key.{Key}
 use Rattle.feature_core.specs.Keys.{AreLeast, IsBefore}

@@ -1,5 +1,5 @@
 -- What is built of tables is determined.
-use Rattle.std.proofs.Common.{◌≡◌, ℕ, suc, ◌+◌, length, ◌⊎◌, ⊎_elim, List, ◌∷◌, [], Bool, true, false, map, refl, ap, sym, ◌∙◌, subst, arith, Some, None, Option}
+use Rattle.std.proofs.Common.{◌≡◌, ℕ, suc, ◌+◌, length, ⊎_elim, List, ◌∷◌, [], Bool, true, false, map, refl, ap, sym, ◌∙◌, subst, arith, Some, None, Option}
 use Rattle.std.specs.Prelude.{◌↔◌, IsTrue, Contains, AllPairs, slice_get}
 use Rattle.std.proofs.Math.Logic.{∥∥₁_elim}
 use Rattle.guppy_support.specs.Bits.{has}

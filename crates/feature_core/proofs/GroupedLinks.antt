@@ -1,5 +1,5 @@
 -- Lists under a package and a name, as a map changes.
-use Rattle.std.proofs.Common.{◌≡◌, ℕ, zero, suc, ◌+◌, ◌<◌, List, [], ◌∷◌, ◌++◌, Bool, true, false, cond, not, Option, None, Some, map, length, take, refl, ap, sym, ◌∙◌, subst, arith, if◌then◌else◌, is_some, append_assoc, Vec, Global}
+use Rattle.std.proofs.Common.{◌≡◌, ℕ, zero, suc, ◌+◌, List, [], ◌∷◌, ◌++◌, Bool, true, false, cond, not, Option, None, Some, map, length, take, refl, ap, sym, ◌∙◌, subst, arith, if◌then◌else◌, is_some, Vec, Global}
 use Rattle.std.specs.Prelude.{slice_get, position, nat_lt, ◌&&◌, ◌==◌, filter}
 use Rattle.std.specs.Borrow.{Bor}
 use Rattle.std.specs.List.{position_or_len}
@@ -13,7 +13,7 @@ use Rattle.indexmap.specs.Layout.{set_value_at}
 use Rattle.indexmap.proofs.MapLemmas.{some_index}
 use Rattle.guppy_packages.specs.Rows.{Text}
 use Rattle.guppy_packages.specs.Tables.{LinkTable, Tables}
-use Rattle.feature_core.specs.Links.{numbered, links_named}
+use Rattle.feature_core.specs.Links.{numbered}
 use Rattle.feature_core.specs.NamedLinks.{link_numbers}
 use Rattle.feature_core.proofs.NodeLemmas.{take-next, take-all, append-none}
 

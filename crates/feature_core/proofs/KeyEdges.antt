@@ -1,14 +1,14 @@
 -- What is built of a key's candidate, by the key's rank.
-use Rattle.std.proofs.Common.{◌≡◌, ℕ, ◌<◌, ◌≤◌, List, refl, ap, sym, ◌∙◌, subst, arith}
+use Rattle.std.proofs.Common.{◌≡◌, ℕ, ◌≤◌, List, refl, ap, ◌∙◌, subst, arith}
 use Rattle.guppy_packages.specs.Tables.{Tables}
 use Rattle.feature_core.specs.Links.{LinkFacts}
 use Rattle.feature_core.specs.Candidates.{Edge, feature_to_base, named_feature, dep_colon, slash_full, slash_optional, slash_weak, section, rank_of, Candidate}
-use Rattle.feature_core.specs.Edges.{EdgeFacts, base_edge, feature_edge, colon_edge, strong_edge, weak_edge, section_edge, facts_of}
+use Rattle.feature_core.specs.Edges.{EdgeFacts, base_edge, feature_edge, facts_of}
 use Rattle.feature_core.specs.Made.{IsValueOf}
 use Rattle.feature_core.specs.Parts.{IsOfTables}
 use Rattle.feature_core.specs.declared.key.Key.{Key}
-use Rattle.feature_core.proofs.KeySays.{Says, SaysColon, SaysOver, SaysBeside, SaysWeak, SaysSection}
-use Rattle.feature_core.proofs.PartLemmas.{NamesDiffer, StandsFor, stands_for}
+use Rattle.feature_core.proofs.KeySays.{Says, SaysColon, SaysOver, SaysBeside, SaysSection}
+use Rattle.feature_core.proofs.PartLemmas.{NamesDiffer, stands_for}
 
 -- an edge over a link that the key tells of
 pub record IsTold (t : Tables) (x : Key) (make : LinkFacts → Edge) (Tells : LinkFacts → Type 0) : Type 0 where

@@ -1,5 +1,5 @@
 -- The node of a label, by the label's place in its package.
-use Rattle.std.proofs.Common.{◌≡◌, ◌≢◌, ℕ, zero, suc, ◌+◌, ◌<◌, ◌^◌, ◌⊎◌, inl, inr, ⊎_elim, List, ◌∷◌, [], ◌++◌, length, map, Bool, true, false, cond, Option, Some, None, refl, ap, sym, ◌∙◌, subst, arith, length-append}
+use Rattle.std.proofs.Common.{◌≡◌, ◌≢◌, ℕ, zero, suc, ◌+◌, ◌<◌, ◌^◌, ◌⊎◌, inl, inr, ⊎_elim, List, ◌∷◌, [], length, map, Bool, true, false, cond, Option, Some, None, refl, ap, sym, ◌∙◌, subst, arith}
 use Rattle.std.specs.Prelude.{slice_get, slice_index, position, ◌↔◌}
 use Rattle.std.proofs.lemmas.List.FromFn.{length-map-range_with_len, get_or-map-range_with_len}
 use Rattle.std.specs.List.{position_from}
@@ -10,14 +10,14 @@ use Rattle.std.proofs.lemmas.Option.{slice_get-map}
 use Rattle.std.proofs.lemmas.List.{length-map}
 use Rattle.std.proofs.lemmas.Iterator.Adapters.{position_from-zero}
 use Rattle.guppy_packages.specs.Rows.{Text}
-use Rattle.guppy_packages.specs.Tables.{FeatureTable, PackageTable, Tables, HasNoRepeats, AreTables, feature_place, optional_place}
+use Rattle.guppy_packages.specs.Tables.{FeatureTable, PackageTable, Tables, AreTables, feature_place, optional_place}
 use Rattle.feature_labels.specs.Names.{LabelName}
 use Rattle.feature_labels.specs.Names.LabelName.{base, named, optional}
 use Rattle.feature_core.specs.Nodes.{NodeAt, labels_of, first_node, first_nodes, node_places}
 use Rattle.feature_core.specs.Links.{IsPackage}
 use Rattle.feature_core.proofs.AddsLemmas.{place_below}
 use Rattle.feature_core.proofs.NodeLemmas.{length_labels}
-use Rattle.feature_core.proofs.Places.{IsSpread, node_there, node_back, get_left, get_right, get_cases, got_map}
+use Rattle.feature_core.proofs.Places.{node_there, node_back, get_left, get_right, get_cases, got_map}
 
 pub record IsPlace {X : Type 0} (test : X → Bool) (xs : List X) (k : ℕ) : Type 0 where
   pub element : X

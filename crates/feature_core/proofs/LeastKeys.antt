@@ -1,13 +1,13 @@
 -- What is left of keys in order, where the first of each pair stays.
-use Rattle.std.proofs.Common.{◌≡◌, ℕ, zero, suc, ◌+◌, ◌<◌, ◌≤◌, ◌⊎◌, inl, inr, ⊎_elim, List, [], ◌∷◌, length, Bool, true, false, cond, refl, ap, sym, ◌∙◌, subst, arith}
+use Rattle.std.proofs.Common.{◌≡◌, suc, ◌≤◌, inl, inr, List, [], ◌∷◌, Bool, true, false, cond, refl, arith}
 use Rattle.std.specs.Prelude.{slice_index_or, ◌==◌, ◌&&◌, Contains, All, AllPairs}
 use Rattle.std.specs.List.{dedup, dedup_from}
 use Rattle.std.proofs.lemmas.Bool.Decides.{nat_tests}
 use Rattle.std.proofs.lemmas.List.Elements.{All-cons, All-head, All-tail, All-weaker, All-contains}
 use Rattle.std.proofs.lemmas.List.Filters.{All-dedup}
 use Rattle.std.proofs.lemmas.List.Kept.{AllPairs-cons, Contains-from_dedup}
-use Rattle.std.specs.Prelude.{IsPermutation, IsSorted}
-use Rattle.std.proofs.lemmas.List.Sorted.{Contains-permutation, IsPermutation-sym, sorted_far, ranks_by}
+use Rattle.std.specs.Prelude.{IsPermutation}
+use Rattle.std.proofs.lemmas.List.Sorted.{Contains-permutation, IsPermutation-sym}
 use Rattle.feature_core.specs.declared.key.Key.{Key}
 use Rattle.feature_core.specs.Keys.{IsBefore, IsPair, IsUpTo, IsNoLater, IsServed, AreLeast}
 

@@ -1,12 +1,12 @@
 -- What the edges of keys are made of.
-use Rattle.std.proofs.Common.{◌≡◌, ℕ, ◌<◌, ◌⊎◌, inl, inr, ⊎_elim, List, map, length, refl, ap, sym, ◌∙◌, subst, arith, Some, Option}
+use Rattle.std.proofs.Common.{◌≡◌, ℕ, ◌<◌, ◌⊎◌, ⊎_elim, List, length, ap, sym, ◌∙◌, subst, Some, Option}
 use Rattle.std.specs.Prelude.{slice_get, slice_index}
 use Rattle.std.specs.Option.{option_map}
 use Rattle.std.proofs.lemmas.Option.{slice_get-map, slice_get_within, get_or_from_slice_get}
 use Rattle.guppy_packages.specs.Rows.{Text}
 use Rattle.guppy_packages.specs.Tables.{LinkTable, Tables}
 use Rattle.feature_labels.specs.Names.{LabelName}
-use Rattle.feature_labels.specs.Names.LabelName.{base, named, optional}
+use Rattle.feature_labels.specs.Names.LabelName.{named, optional}
 use Rattle.feature_core.specs.Nodes.{NodeAt, node_packages, node_places}
 use Rattle.feature_core.specs.Links.{IsLink, LinkFacts}
 use Rattle.feature_core.specs.Edges.{WeakFacts}

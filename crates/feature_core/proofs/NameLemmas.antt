@@ -1,6 +1,6 @@
 -- The names of nodes, and their places.
-use Rattle.std.proofs.Common.{◌≡◌, ℕ, zero, suc, ◌+◌, ◌<◌, ◌⊎◌, inl, inr, ⊎_elim, List, ◌∷◌, [], ◌++◌, length, map, take, Option, Some, None, refl, ap, sym, ◌∙◌, subst, arith, length-append}
-use Rattle.std.specs.Prelude.{slice_get, flat_map, position, ◌↔◌}
+use Rattle.std.proofs.Common.{◌≡◌, ℕ, zero, suc, ◌+◌, ⊎_elim, List, ◌∷◌, [], length, map, take, Option, Some, None, refl, ap, sym, ◌∙◌, subst, arith, length-append}
+use Rattle.std.specs.Prelude.{slice_get, flat_map, ◌↔◌}
 use Rattle.std.specs.Option.{option_map}
 use Rattle.std.specs.Str.{bytes_eq}
 use Rattle.std.specs.Cmp.Lexicographic.{bytes_decides}
@@ -10,7 +10,7 @@ use Rattle.guppy_packages.specs.Rows.{Text}
 use Rattle.guppy_packages.specs.Tables.{PackageTable, Tables, AreTables, package_place}
 use Rattle.feature_labels.specs.Names.{LabelName}
 use Rattle.feature_labels.specs.Names.LabelName.{base}
-use Rattle.feature_core.specs.Nodes.{NodeAt, labels_of, nodes, spread, first_node}
+use Rattle.feature_core.specs.Nodes.{NodeAt, labels_of, first_node}
 use Rattle.feature_core.specs.Links.{IsPackage}
 use Rattle.feature_core.specs.Built.{NodeNamed}
 use Rattle.feature_core.proofs.Places.{IsSpread, node_back, there, get_left, get_right, get_cases, got_map, got_same}

@@ -1,12 +1,11 @@
 -- Nodes, package by package.
-use Rattle.std.proofs.Common.{◌≡◌, ℕ, zero, suc, ◌+◌, ◌<◌, List, ◌∷◌, [], ◌++◌, length, map, take, Option, Some, None, refl, ap, sym, ◌∙◌, arith, replicate, append_assoc, length-append, add-one}
-use Rattle.std.specs.Prelude.{slice_get, flat_map, Result, Ok, Err, OnOk}
+use Rattle.std.proofs.Common.{◌≡◌, ℕ, zero, suc, ◌+◌, List, ◌∷◌, [], ◌++◌, length, map, take, Some, refl, ap, sym, ◌∙◌, arith, replicate, append_assoc, length-append, add-one}
+use Rattle.std.specs.Prelude.{slice_get, flat_map}
 use Rattle.std.specs.List.{range_with_len}
-use Rattle.std.proofs.lemmas.List.{length-map, map-append, length-replicate, replicate-append-replicate}
+use Rattle.std.proofs.lemmas.List.{length-map, map-append, replicate-append-replicate}
 use Rattle.guppy_packages.specs.Tables.{PackageTable, Tables}
-use Rattle.feature_labels.specs.Names.{LabelName}
 use Rattle.feature_labels.specs.Names.LabelName.{named, optional}
-use Rattle.feature_core.specs.Nodes.{labels_of, spread, first_node, first_nodes, node_packages, node_places}
+use Rattle.feature_core.specs.Nodes.{labels_of, spread, first_node, node_packages}
 
 pub replicate-next : {X : Type 0} (n : ℕ) (x : X) → replicate n x ++ x ∷ [] ≡ replicate (n + 1) x
 replicate-next n x = replicate-append-replicate n 1 x

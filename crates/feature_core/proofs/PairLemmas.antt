@@ -1,20 +1,19 @@
 -- Reach over pairs and over candidates.
-use Rattle.std.proofs.Common.{◌≡◌, ℕ, suc, ◌<◌, ◌⊎◌, List, [], ◌∷◌, map, length, Bool, refl, sym, ap, ◌∙◌, subst, arith, Option, Some}
-use Rattle.std.specs.Prelude.{◌↔◌, IsTrue, Contains, All, AllPairs, slice_get}
+use Rattle.std.proofs.Common.{◌≡◌, ℕ, suc, List, [], ◌∷◌, map, Bool, sym, ap, ◌∙◌, subst, arith, Some}
+use Rattle.std.specs.Prelude.{◌↔◌, Contains, All, AllPairs, slice_get}
 use Rattle.std.specs.Option.{option_map}
 use Rattle.std.proofs.lemmas.Option.{slice_get-map}
 use Rattle.std.proofs.lemmas.List.Elements.{All-map}
 use Rattle.std.proofs.lemmas.List.Kept.{AllPairs-cons}
 use Rattle.guppy_support.specs.declared.digraph.Edge.{Edge}
-use Rattle.guppy_packages.specs.Tables.{Tables, PackageTable, FeatureTable, AreTables}
+use Rattle.guppy_packages.specs.Tables.{Tables, FeatureTable, AreTables}
 use Rattle.guppy_packages.specs.declared.direction.DependencyDirection.{DependencyDirection}
 use Rattle.guppy_packages.specs.declared.direction.DependencyDirection.TheVariants.{Forward, Reverse}
-use Rattle.feature_core.specs.Pairs.{Along, nowhere, onward, ReachAlong, Reach, PairLeads, LeadsTo, IsPairList, HasCandidate, IsBefore}
+use Rattle.feature_core.specs.Pairs.{Along, nowhere, onward, ReachAlong, Reach, PairLeads, LeadsTo, IsPairList, IsBefore}
 use Rattle.feature_core.specs.Candidates.{Candidate}
 use Rattle.feature_core.specs.declared.key.Key.{Key}
 use Rattle.feature_core.specs.Keys.{AreLeast, edge_of, IsBefore as Before}
 use Rattle.feature_core.specs.Parts.{IsOfTables}
-use Rattle.feature_core.specs.Links.{IsPackage}
 use Rattle.feature_core.proofs.PushLemmas.{from_map, into_map}
 use Rattle.feature_core.proofs.PartLemmas.{NamesDiffer, contributed, stands_for}
 use Rattle.feature_core.specs.Built.{Built, IsBuilt, pairs_of, ends_of}

@@ -1,10 +1,9 @@
 -- The parts of the tables contribute exactly a key for each candidate of a pair.
-use Rattle.std.proofs.Common.{◌≡◌, ◌≢◌, ℕ, zero, suc, ◌+◌, ◌<◌, ◌⊎◌, inl, inr, ⊎_elim, List, ◌∷◌, [], ◌++◌, length, map, Bool, true, false, refl, ap, sym, ◌∙◌, subst, arith, Option, Some, None, cond}
-use Rattle.std.specs.Prelude.{Contains, slice_get, IsTrue, IsFalse, ◌&&◌, ◌||◌, not, ◌↔◌}
+use Rattle.std.proofs.Common.{◌≡◌, ◌≢◌, ℕ, zero, suc, ◌+◌, ◌<◌, inl, inr, ⊎_elim, List, ◌∷◌, [], length, map, Bool, true, false, refl, ap, sym, ◌∙◌, subst, arith, Option, Some, cond}
+use Rattle.std.specs.Prelude.{slice_get, IsTrue, IsFalse, ◌&&◌, ◌||◌, not}
 use Rattle.std.specs.List.{list_any}
 use Rattle.std.specs.Option.{option_map}
 use Rattle.std.proofs.lemmas.Option.{slice_get-map}
-use Rattle.std.proofs.lemmas.List.{length-map}
 use Rattle.guppy_packages.specs.Rows.{Text, Declared}
 use Rattle.guppy_packages.specs.Tables.{FeatureTable, PackageTable, LinkTable, Tables}
 use Rattle.guppy_packages.specs.Items.{Item, feature_item, optional_item, slash_item, item_of}
@@ -15,11 +14,10 @@ use Rattle.feature_labels.specs.declared.link_declarations.LinkDeclarations.TheV
 use Rattle.feature_core.specs.Nodes.{NodeAt, labels_of, first_node}
 use Rattle.feature_core.specs.Links.{IsPackage, IsLink, over, includes, has_declaration}
 use Rattle.feature_core.specs.Candidates.{Edge, rank_of, Candidate, HasItem, LeadsOver, IsSection, requests, requesting, unsplit_of, by_name, to_base, to_feature, to_dependency, over_strong, over_weak, with_dependency, with_feature, of_required, of_optional, feature_to_base, named_feature, dep_colon, slash_full, slash_optional, slash_weak, section}
-use Rattle.feature_core.specs.Pairs.{HasCandidate}
 use Rattle.feature_core.specs.declared.key.Key.{Key}
-use Rattle.feature_core.specs.Parts.{key, over_rank, IsToFirst, IsTo, IsOver, IsBeside, IsOfItem, IsOfItemAt, IsOfFeatureAt, IsOfPackageAt, start_of, IsRequest, IsOfDeclarationAt, IsOfLinkAt, IsOfTables}
+use Rattle.feature_core.specs.Parts.{key, over_rank, IsToFirst, IsOfItem, IsOfPackageAt, start_of, IsOfLinkAt, IsOfTables}
 use Rattle.feature_core.proofs.KeySays.{Says}
-use Rattle.feature_core.proofs.Places.{IsSpread, node_there, node_back, get_left, get_right, get_cases, got_map, got_same}
+use Rattle.feature_core.proofs.Places.{IsSpread, node_there, node_back, get_left, get_cases, got_map}
 use Rattle.feature_core.proofs.AddsLemmas.{place_of_element, element_at_place, place_below}
 
 -- no two named features of a package have one name

@@ -1,23 +1,22 @@
 -- What the steps of the builder add.
-use Rattle.std.proofs.Common.{◌≡◌, ◌≢◌, ℕ, zero, suc, ◌+◌, ◌<◌, ◌≤◌, ◌⊎◌, inl, inr, ⊎_elim, List, ◌∷◌, [], ◌++◌, length, map, Bool, true, false, cond, Option, Some, None, refl, ap, sym, ◌∙◌, subst, arith, not, true≢false}
-use Rattle.std.specs.Prelude.{slice_get, slice_index_or, Contains, ◌↔◌, ◌&&◌, ◌==◌, IsTrue, IsFalse, filter}
+use Rattle.std.proofs.Common.{◌≡◌, ◌≢◌, ℕ, zero, suc, ◌+◌, ◌<◌, ◌≤◌, ◌⊎◌, inl, inr, ⊎_elim, List, ◌∷◌, [], length, map, Bool, true, false, cond, Option, Some, None, refl, ap, sym, ◌∙◌, subst, arith, not, true≢false}
+use Rattle.std.specs.Prelude.{slice_get, Contains, ◌↔◌, ◌&&◌, ◌==◌, filter}
 use Rattle.std.specs.Str.{bytes_eq}
 use Rattle.std.specs.List.{list_any}
 use Rattle.std.specs.Cmp.Lexicographic.{bytes_decides}
 use Rattle.std.proofs.lemmas.Bool.Decides.{nat_tests}
 use Rattle.guppy_packages.specs.Rows.{Text}
 use Rattle.guppy_packages.specs.Tables.{LinkTable, Tables, FeatureTable, PackageTable}
-use Rattle.guppy_packages.specs.Items.{Item, feature_item, optional_item, slash_item, item_of}
+use Rattle.guppy_packages.specs.Items.{Item, feature_item, slash_item, item_of}
 use Rattle.feature_labels.specs.Names.{LabelName}
-use Rattle.feature_labels.specs.Names.LabelName.{base, named, optional}
-use Rattle.feature_labels.specs.declared.link_declarations.LinkDeclarations.TheVariants.{Optional}
+use Rattle.feature_labels.specs.Names.LabelName.{named, optional}
 use Rattle.feature_core.specs.Adds.{Adds, Below}
-use Rattle.feature_core.specs.Links.{IsPackage, IsLink, numbered, links_named, has_declaration}
+use Rattle.feature_core.specs.Links.{IsPackage, IsLink, numbered}
 use Rattle.feature_core.specs.NamedLinks.{link_numbers}
 use Rattle.feature_core.specs.Nodes.{NodeAt, first_node, labels_of}
 use Rattle.feature_core.specs.declared.key.Key.{Key}
 use Rattle.feature_core.specs.Parts.{key, over_rank, IsToFirst, IsTo, IsOver, IsOverLink, IsBeside, IsOfItem, IsOfItemAt, IsOfFeatureAt, IsOfPackageAt, IsOfLinkAt, IsOfTables}
-use Rattle.feature_core.proofs.AddsLemmas.{Adds-nothing, Adds-then, Adds-as, Adds-turn, Adds-start, place_of_element, element_at_place, place_below, Contains-first, Contains-later, Contains-cases, Contains-none}
+use Rattle.feature_core.proofs.AddsLemmas.{Adds-nothing, Adds-then, Adds-as, place_of_element, element_at_place, place_below, Contains-first, Contains-later, Contains-cases, Contains-none}
 
 -- a key to the node of a label, where its number is told
 pub pushed_to : (t : Tables) (u p rank source place : ℕ) (label : LabelName) (to : Option ℕ) (a b : List Key) → ((n : ℕ) → (to ≡ Some n) ↔ NodeAt t n p label)

@@ -1,18 +1,13 @@
 -- Edges by the gates that release them.
-use Rattle.std.proofs.Common.{◌≡◌, ℕ, zero, suc, ◌+◌, ◌<◌, ◌≤◌, ◌⊎◌, inl, inr, ⊎_elim, Bool, true, false, cond, ◌&&◌, ◌||◌, List, [], ◌∷◌, Option, Some, None, length, map, drop, refl, sym, ◌∙◌, ap, subst, arith}
-use Rattle.std.specs.Prelude.{IsTrue, nat_lt, slice_index_or, IsFalse, ◌==◌, ◌↔◌, slice_get, filter, Contains, All, AllPairs, IsPermutation, count_by}
-use Rattle.std.proofs.lemmas.List.Elements.{All-cons, All-head, All-tail, All-weaker, All-contains}
-use Rattle.std.proofs.lemmas.List.Kept.{AllPairs-cons}
-use Rattle.std.proofs.lemmas.List.Sorted.{Contains-permutation, IsPermutation-sym, sum_by-IsPermutation}
+use Rattle.std.proofs.Common.{◌≡◌, ℕ, zero, suc, ◌<◌, ◌≤◌, ◌⊎◌, inl, inr, ⊎_elim, true, false, cond, List, [], ◌∷◌, Option, Some, None, drop, refl, sym, ◌∙◌, ap, arith}
+use Rattle.std.specs.Prelude.{IsTrue, nat_lt, slice_index_or, IsFalse, ◌==◌, slice_get, Contains, All, AllPairs}
+use Rattle.std.proofs.lemmas.List.Elements.{All-cons, All-head, All-tail, All-weaker}
 use Rattle.std.specs.List.Sorted.{IsNonDecreasingBy, IsPartitionPoint}
-use Rattle.std.proofs.lemmas.List.Sums.{sum_by-cons}
 use Rattle.std.proofs.lemmas.Bool.{eqb-true, eq-eqb}
 use Rattle.std.proofs.lemmas.Bool.Decides.{eqb_tells, nat_tests}
-use Rattle.feature_core.specs.Edges.{EdgeFacts}
 use Rattle.feature_core.specs.Pairs.{IsBefore}
 use Rattle.feature_core.specs.Walks.{is_in}
-use Rattle.feature_core.specs.Ways.{gate_of}
-use Rattle.feature_core.specs.Releases.{Begins, released_by, releases_from, AreReleases}
+use Rattle.feature_core.specs.Releases.{Begins, released_by}
 use Rattle.feature_core.proofs.Answered.{decide, clash, or_left, or_right, or_cases}
 
 -- ascending, and all of it from a number on

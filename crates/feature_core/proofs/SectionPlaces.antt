@@ -1,6 +1,6 @@
 -- The keys of a pair that a link's declarations request are those of the declarations that request it.
-use Rattle.std.proofs.Common.{◌≡◌, ℕ, ◌<◌, ◌≤◌, ◌⊎◌, inl, inr, ⊎_elim, List, [], ◌∷◌, map, length, get_or, Bool, true, false, cond, refl, ap, sym, ◌∙◌, subst, arith, Some}
-use Rattle.std.specs.Prelude.{Contains, AllPairs, ◌↔◌, IsTrue, IsFalse, slice_get, not, ◌&&◌}
+use Rattle.std.proofs.Common.{◌≡◌, ℕ, ◌<◌, ◌≤◌, inl, inr, ⊎_elim, List, [], ◌∷◌, map, length, get_or, Bool, true, false, cond, refl, ap, sym, ◌∙◌, subst, arith, Some}
+use Rattle.std.specs.Prelude.{Contains, AllPairs, ◌↔◌, IsTrue, slice_get, not, ◌&&◌}
 use Rattle.std.specs.List.{dedup, dedup_from}
 use Rattle.std.specs.Prelude.{All}
 use Rattle.std.proofs.lemmas.Bool.Decides.{nat_tests}
@@ -10,12 +10,12 @@ use Rattle.std.proofs.Common.{eqb}
 use Rattle.std.proofs.lemmas.List.Kept.{AllPairs-cons, Contains-from_dedup, Contains-dedup_nat}
 use Rattle.std.proofs.lemmas.List.{get_or-map, length-map}
 use Rattle.guppy_packages.specs.Rows.{Text, Declared}
-use Rattle.guppy_packages.specs.Tables.{LinkTable, Tables, AreTables, PackageTable, FeatureTable}
+use Rattle.guppy_packages.specs.Tables.{LinkTable, Tables, AreTables, FeatureTable}
 use Rattle.guppy_packages.specs.Items.{Item, feature_item, optional_item, slash_item, item_of}
 use Rattle.feature_labels.specs.Names.{LabelName}
-use Rattle.feature_labels.specs.Names.LabelName.{base, named, optional}
+use Rattle.feature_labels.specs.Names.LabelName.{base, optional}
 use Rattle.feature_labels.specs.declared.link_declarations.LinkDeclarations.{LinkDeclarations}
-use Rattle.feature_labels.specs.declared.link_declarations.LinkDeclarations.TheVariants.{Unsplit, Required, Optional}
+use Rattle.feature_labels.specs.declared.link_declarations.LinkDeclarations.TheVariants.{Required, Optional}
 use Rattle.feature_core.specs.Nodes.{NodeAt, node_packages}
 use Rattle.feature_core.proofs.LeastKeys.{AllPairs-first, AllPairs-later, cond_has}
 use Rattle.feature_core.proofs.MaterialLemmas.{node_within}
@@ -23,8 +23,8 @@ use Rattle.feature_core.proofs.SectionLemmas.{ArePassing}
 use Rattle.feature_core.specs.Links.{LinkFacts, IsLink, includes, has_declaration}
 use Rattle.feature_core.specs.Candidates.{requests, requesting}
 use Rattle.feature_core.specs.declared.key.Key.{Key}
-use Rattle.feature_core.specs.Keys.{IsBefore, IsPair, IsNoLater, IsRun, AreOfRank}
-use Rattle.feature_core.specs.Parts.{key, over_rank, IsTo, IsOfItem, IsOfPackageAt, IsOfTables, start_of}
+use Rattle.feature_core.specs.Keys.{IsNoLater, IsRun}
+use Rattle.feature_core.specs.Parts.{key, IsOfItem, IsOfPackageAt, IsOfTables, start_of}
 use Rattle.std.proofs.lemmas.List.Elements.{Contains-get_or}
 use Rattle.feature_core.proofs.PushLemmas.{from_map, into_map}
 use Rattle.feature_core.proofs.KeySays.{SaysSection}

@@ -1,5 +1,5 @@
 -- The candidates for the edge of a pair of nodes, each with its rank.
-use Rattle.std.specs.Prelude.{◌≡◌, ◌≢◌, ℕ, ◌≤◌, List, ◌∷◌, [], Bool, true, false, ◌&&◌, ◌||◌, IsTrue, IsFalse, Contains, codes}
+use Rattle.std.specs.Prelude.{◌≡◌, ◌≢◌, ℕ, ◌≤◌, ◌∷◌, [], Bool, true, false, ◌&&◌, ◌||◌, IsTrue, IsFalse, Contains, codes}
 use Rattle.std.specs.List.{list_any}
 use Rattle.std.specs.Str.{bytes_eq}
 use Rattle.guppy_packages.specs.Rows.{Text, Declared}

@@ -1,5 +1,5 @@
 -- Candidates as keys, and the least of each pair.
-use Rattle.std.specs.Prelude.{◌≡◌, ℕ, ◌<◌, ◌≤◌, ◌⊎◌, List, Contains, All, AllPairs, Bool, true, ◌==◌, ◌&&◌, ◌||◌, ◌↔◌, nat_lt, nat_le}
+use Rattle.std.specs.Prelude.{◌≡◌, ℕ, ◌<◌, ◌≤◌, ◌⊎◌, List, Contains, AllPairs, Bool, true, ◌==◌, ◌&&◌, ◌||◌, ◌↔◌, nat_lt, nat_le}
 use Rattle.guppy_support.specs.declared.digraph.Edge.{Edge}
 use Rattle.feature_core.specs.declared.key.Key.{Key}
 

@@ -1,5 +1,5 @@
 -- The nodes, package by package: the base, then the named features, then the names of optional declarations.
-use Rattle.std.specs.Prelude.{◌≡◌, ℕ, ◌+◌, List, [], ◌∷◌, ◌++◌, Option, Some, map, slice_get, flat_map, length, take}
+use Rattle.std.specs.Prelude.{◌≡◌, ℕ, ◌+◌, List, [], ◌∷◌, ◌++◌, Some, map, slice_get, flat_map, length, take}
 use Rattle.std.specs.List.{range_with_len}
 use Rattle.guppy_packages.specs.Rows.{Text}
 use Rattle.guppy_packages.specs.Tables.{PackageTable, Tables}

@@ -1,5 +1,5 @@
 -- Which keys each part of the tables contributes.
-use Rattle.std.specs.Prelude.{◌≡◌, ◌≢◌, ℕ, ◌+◌, ◌<◌, ◌⊎◌, List, Bool, IsTrue, IsFalse, Contains, slice_get, Some, length, ◌&&◌, if◌then◌else◌}
+use Rattle.std.specs.Prelude.{◌≡◌, ◌≢◌, ℕ, ◌+◌, ◌<◌, ◌⊎◌, Bool, IsTrue, IsFalse, slice_get, Some, length, ◌&&◌, if◌then◌else◌}
 use Rattle.guppy_packages.specs.Rows.{Text, Declared}
 use Rattle.guppy_packages.specs.Tables.{FeatureTable, PackageTable, LinkTable, Tables}
 use Rattle.guppy_packages.specs.Items.{Item, feature_item, optional_item, slash_item, item_of}

@@ -1,4 +1,4 @@
-use Rattle.std.proofs.Common.{rules, ◌≡◌, Result, Ok, Err, IfOk}
+use Rattle.std.proofs.Common.{rules, Result, Ok, Err, IfOk}
 use Rattle.std.specs.Prelude.{MatchResult}
 use Rattle.std.specs.Bool.{⊤}
 use Rattle.std.proofs.lemmas.Iterator.{YieldsList-from_slice, YieldsList-from_map, YieldsList-from_zip, items_from_collect}

@@ -8,7 +8,7 @@ use Rattle.std.specs.List.{zip}
 use Rattle.std.proofs.lemmas.List.{length-map}
 use Rattle.indexmap.specs.IndexMap.{keys}
 use Rattle.feature_core.specs.Edges.{first_ones}
-use Rattle.feature_core.specs.Made.{edge_end, IsMaterial, AreValues}
+use Rattle.feature_core.specs.Made.{edge_end, AreValues}
 use Rattle.feature_core.specs.Values.{edge_facts}
 use Rattle.feature_core.specs.Weak.{weak_sources}
 use Rattle.feature_core.proofs.BuildLemmas.{IsMade, made_long, made_are, made_pairs, made_built}

@@ -1,9 +1,6 @@
-use Rattle.std.proofs.Common.{◌≡◌, ◌∙◌, sym, subst, List}
-use Rattle.std.specs.Prelude.{◌↔◌, Contains}
+use Rattle.std.proofs.Common.{subst}
 use Rattle.std.proofs.lemmas.List.Sorted.{Contains-permutation, IsPermutation-sym}
-use Rattle.feature_core.specs.declared.key.Key.{Key}
 use Rattle.feature_core.specs.Keys.{AreOfRank}
-use Rattle.feature_core.specs.Parts.{IsOfTables}
 use Rattle.feature_core.proofs.LeastKeys.{least_moved}
 use Rattle.feature_core.proofs.building.least_keys.Goals as goal
 

@@ -1,7 +1,5 @@
-use Rattle.std.proofs.Common.{◌≡◌, ◌∙◌, Option, Some, ℕ, refl}
-use Rattle.std.specs.Prelude.{◌↔◌}
+use Rattle.std.proofs.Common.{Some, refl}
 use Rattle.feature_labels.specs.Names.LabelName.{named, optional}
-use Rattle.feature_core.specs.Nodes.{NodeAt}
 use Rattle.feature_core.proofs.PushLemmas.{pushed_to, none_beside, one_beside, two_beside, texts_differ, texts_alike}
 use Rattle.feature_core.proofs.candidates.push_beside.Goals as goal
 

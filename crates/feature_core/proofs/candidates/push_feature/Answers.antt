@@ -1,4 +1,4 @@
-use Rattle.std.proofs.Common.{◌≡◌, ◌≤◌, ◌<◌, length, arith}
+use Rattle.std.proofs.Common.{arith}
 use Rattle.guppy_packages.specs.NamedFeature.{feature_table}
 use Rattle.feature_core.specs.Parts.{IsOfItemAt}
 use Rattle.feature_core.proofs.AddsLemmas.{Adds-turn, Adds-start}

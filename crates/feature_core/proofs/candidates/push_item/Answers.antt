@@ -1,4 +1,4 @@
-use Rattle.std.proofs.Common.{◌≡◌, ◌∙◌, ap, sym, Option, Some, ℕ, refl, true, false}
+use Rattle.std.proofs.Common.{◌≡◌, ◌∙◌, ap}
 use Rattle.guppy_packages.specs.Items.{feature_item, optional_item, slash_item, item_of}
 use Rattle.feature_labels.specs.Names.LabelName.{named, optional}
 use Rattle.feature_core.specs.NamedLinks.{link_numbers}

@@ -1,4 +1,4 @@
-use Rattle.std.proofs.Common.{arith, ◌≤◌, ◌≡◌, Some}
+use Rattle.std.proofs.Common.{arith, ◌≡◌, Some}
 use Rattle.std.specs.Prelude.{slice_get, slice_index}
 use Rattle.std.proofs.lemmas.Option.{slice_get-get_or}
 use Rattle.feature_core.proofs.AddsLemmas.{Adds-turn}

@@ -1,4 +1,4 @@
-use Rattle.std.proofs.Common.{◌∙◌, ◌≡◌, ap, subst, sym, Option, Some, ℕ}
+use Rattle.std.proofs.Common.{◌≡◌, subst, Some, ℕ}
 use Rattle.std.specs.Prelude.{◌↔◌}
 use Rattle.guppy_packages.specs.Metadata.{link_table_of}
 use Rattle.feature_labels.specs.Names.LabelName.{named}

@@ -1,4 +1,4 @@
-use Rattle.std.proofs.Common.{◌≡◌, ◌≤◌, ◌<◌, ap, length, arith, subst}
+use Rattle.std.proofs.Common.{arith, subst}
 use Rattle.feature_core.specs.Adds.{Adds}
 use Rattle.feature_core.specs.Parts.{IsOfPackageAt}
 use Rattle.feature_core.proofs.AddsLemmas.{Adds-turn, Adds-start}

@@ -1,4 +1,4 @@
-use Rattle.std.proofs.Common.{arith, ◌<◌, ◌≤◌, ◌≡◌, ◌⊎◌, inl, inr}
+use Rattle.std.proofs.Common.{arith, inr}
 use Rattle.feature_core.specs.Parts.{IsToFirst}
 use Rattle.feature_core.proofs.AddsLemmas.{Adds-turn}
 use Rattle.feature_core.proofs.PushLemmas.{first_pushed, first_none, first_end}

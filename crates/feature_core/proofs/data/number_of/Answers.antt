@@ -1,4 +1,4 @@
-use Rattle.std.proofs.Common.{sym, subst, ap, ℕ, ◌≡◌, Option, Some}
+use Rattle.std.proofs.Common.{sym, subst, ℕ, ◌≡◌, Option, Some}
 use Rattle.std.specs.Prelude.{◌↔◌}
 use Rattle.feature_labels.specs.Names.{label_of}
 use Rattle.feature_core.specs.Nodes.{NodeAt}

@@ -1,4 +1,4 @@
-use Rattle.std.proofs.Common.{◌≡◌, ◌∙◌, ◌<◌, sym, ap, arith, length, refl, rules}
+use Rattle.std.proofs.Common.{◌<◌, arith, length, rules}
 use Rattle.guppy_packages.specs.Metadata.{link_table_of}
 use Rattle.guppy_packages.specs.Stored.{declared}
 use Rattle.feature_core.proofs.RequestLemmas.{mapped_at, mapped_length, no_start, by_start}

@@ -2,7 +2,7 @@ use Rattle.std.proofs.Common.{◌≡◌, arith, length}
 use Rattle.guppy_packages.specs.Metadata.{link_table_of}
 use Rattle.guppy_packages.specs.Stored.{declared}
 use Rattle.feature_core.proofs.AddsLemmas.{Adds-turn}
-use Rattle.feature_core.proofs.RequestLemmas.{mapped_length, of_link, declaration_place, IsOfDeclaration}
+use Rattle.feature_core.proofs.RequestLemmas.{mapped_length, of_link, IsOfDeclaration}
 use Rattle.feature_core.proofs.declarations.push_link.Goals as goal
 
 pub loop-place-preserved : goal.loop-place-preserved

@@ -1,4 +1,4 @@
-use Rattle.std.proofs.Common.{◌≡◌, ◌≤◌, ◌<◌, length, arith}
+use Rattle.std.proofs.Common.{arith}
 use Rattle.feature_core.specs.Parts.{IsOfLinkAt}
 use Rattle.feature_core.proofs.AddsLemmas.{Adds-turn, Adds-start}
 use Rattle.feature_core.proofs.PushLemmas.{links_within, Adds-all}

@@ -1,6 +1,6 @@
 use Rattle.guppy_packages.specs.Metadata.{link_table_of}
 use Rattle.guppy_packages.specs.Stored.{declared}
-use Rattle.std.proofs.Common.{◌≡◌, ◌∙◌, sym}
+use Rattle.std.proofs.Common.{◌∙◌, sym}
 use Rattle.feature_core.proofs.RequestLemmas.{start_found}
 use Rattle.feature_core.proofs.declarations.start.Goals as goal
 

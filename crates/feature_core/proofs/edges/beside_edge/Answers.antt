@@ -1,4 +1,4 @@
-use Rattle.std.proofs.Common.{◌≡◌, ◌∙◌, sym, refl, []}
+use Rattle.std.proofs.Common.{◌∙◌, sym, refl, []}
 use Rattle.feature_core.specs.Candidates.{slash_optional}
 use Rattle.feature_core.specs.Edges.{strong_edge}
 use Rattle.feature_core.proofs.PairLemmas.{names_differ}

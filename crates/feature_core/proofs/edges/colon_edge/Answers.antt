@@ -1,4 +1,4 @@
-use Rattle.std.proofs.Common.{◌≡◌, ◌∙◌, sym, inl, refl, []}
+use Rattle.std.proofs.Common.{◌∙◌, sym, inl, refl, []}
 use Rattle.feature_core.specs.Candidates.{dep_colon}
 use Rattle.feature_core.specs.Edges as edges
 use Rattle.feature_core.proofs.PairLemmas.{names_differ}

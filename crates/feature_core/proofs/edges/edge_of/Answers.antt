@@ -1,6 +1,4 @@
-use Rattle.std.proofs.Common.{◌≡◌, arith, ℕ}
 use Rattle.indexmap.specs.IndexMap.{keys}
-use Rattle.std.proofs.lemmas.Bool.Decides.{nat_tests}
 use Rattle.feature_core.proofs.PairLemmas.{names_differ}
 use Rattle.feature_core.proofs.KeyEdges.{base_value, feature_value, last_rank}
 use Rattle.feature_core.proofs.edges.edge_of.Goals as goal

@@ -1,4 +1,4 @@
-use Rattle.std.proofs.Common.{◌≡◌, ◌∙◌, ap}
+use Rattle.std.proofs.Common.{◌∙◌, ap}
 use Rattle.feature_core.specs.Candidates.{by_name}
 use Rattle.feature_core.proofs.MaterialLemmas.{package_of_name}
 use Rattle.feature_core.proofs.edges.link_to.Goals as goal

@@ -1,4 +1,4 @@
-use Rattle.std.proofs.Common.{rules, ◌≡◌, ◌∙◌, ap, eqb}
+use Rattle.std.proofs.Common.{◌∙◌, ap, eqb}
 use Rattle.std.specs.List.{dedup}
 use Rattle.std.proofs.lemmas.List.Filters.{dedup_is}
 use Rattle.feature_core.proofs.edges.places_at.Goals as goal

@@ -1,4 +1,4 @@
-use Rattle.std.proofs.Common.{◌≡◌, ◌∙◌, ap, sym, subst, refl, [], ◌∷◌}
+use Rattle.std.proofs.Common.{◌≡◌, ◌∙◌, ap, sym, refl, []}
 use Rattle.feature_core.specs.Candidates.{section, requesting}
 use Rattle.feature_core.specs.Links.{over_places}
 use Rattle.feature_core.specs.Edges as edges
@@ -6,7 +6,7 @@ use Rattle.feature_core.proofs.PairLemmas.{names_differ}
 use Rattle.feature_core.proofs.KeySays.{SaysSection}
 use Rattle.feature_core.proofs.KeyEdges.{told_section, value_over}
 use Rattle.feature_core.proofs.MaterialLemmas.{link_within}
-use Rattle.feature_core.proofs.SectionLemmas.{ArePassing, passing_over}
+use Rattle.feature_core.proofs.SectionLemmas.{passing_over}
 use Rattle.feature_core.proofs.SectionPlaces.{places_passing, half_is, start_within}
 use Rattle.feature_core.specs.Values.{link_facts}
 use Rattle.feature_core.proofs.edges.section_edge.Goals as goal

@@ -1,10 +1,9 @@
-use Rattle.std.proofs.Common.{◌≡◌, ◌∙◌, ap, sym, refl, []}
+use Rattle.std.proofs.Common.{◌≡◌, ◌∙◌, ap, sym, []}
 use Rattle.indexmap.specs.IndexMap.{keys}
 use Rattle.feature_core.specs.Candidates.{slash_weak}
 use Rattle.feature_core.specs.Edges.{weak_facts}
 use Rattle.feature_core.specs.Edges as edges
 use Rattle.feature_core.proofs.PairLemmas.{names_differ}
-use Rattle.feature_core.proofs.KeySays.{SaysOver}
 use Rattle.feature_core.proofs.KeyEdges.{told_weak}
 use Rattle.feature_core.proofs.MaterialLemmas.{link_within, same_weak}
 use Rattle.feature_core.specs.Values.{link_facts, weak_facts_of}

@@ -1,5 +1,4 @@
-use Rattle.std.proofs.Common.{rules, ◌≡◌, List}
-use Rattle.std.specs.List.{dedup}
+use Rattle.std.proofs.Common.{rules}
 use Rattle.std.proofs.lemmas.Fn.{dedup_same}
 use Rattle.feature_core.proofs.LeastKeys.{same_pair, least_kept, all_up_to}
 use Rattle.feature_core.proofs.key.keep_least.Goals as goal

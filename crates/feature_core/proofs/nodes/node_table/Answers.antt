@@ -1,4 +1,4 @@
-use Rattle.std.proofs.Common.{◌≡◌, ◌∙◌, ap, sym, arith, length, map}
+use Rattle.std.proofs.Common.{◌≡◌, ◌∙◌, ap, arith, length, map}
 use Rattle.std.specs.List.{range_with_len}
 use Rattle.guppy_packages.specs.Metadata.{package_table_of}
 use Rattle.feature_core.specs.Nodes.{first_node}

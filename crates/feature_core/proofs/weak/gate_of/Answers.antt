@@ -1,4 +1,4 @@
-use Rattle.std.proofs.Common.{◌≡◌, ◌∙◌, Some, sym, subst}
+use Rattle.std.proofs.Common.{◌≡◌, ◌∙◌, sym, subst}
 use Rattle.std.specs.Prelude.{IsTrue}
 use Rattle.guppy_packages.specs.Metadata.{link_table_of}
 use Rattle.feature_labels.specs.Names.LabelName.{optional}

@@ -1,11 +1,7 @@
-use Rattle.std.proofs.Common.{◌≡◌, ◌∙◌, ◌<◌, ◌+◌, ◌^◌, ap, sym, subst, arith, Some, length, refl}
+use Rattle.std.proofs.Common.{◌≡◌, ◌+◌, subst, arith, Some}
 use Rattle.std.specs.Prelude.{slice_get}
-use Rattle.std.specs.String.{string_bytes}
-use Rattle.std.proofs.lemmas.List.{length-map}
-use Rattle.guppy_packages.specs.NamedFeature.{feature_table}
 use Rattle.guppy_packages.specs.Metadata.{package_table_of, package_graph_of}
 use Rattle.feature_core.specs.Links.{IsPackage}
-use Rattle.feature_core.specs.Nodes.{NodeAt, first_node, labels_of}
 use Rattle.feature_core.proofs.LabelLemmas.{package_there, place_fits, feature_below}
 use Rattle.feature_core.proofs.numbers.Numbers.feature.Goals as goal
 

@@ -1,10 +1,7 @@
-use Rattle.std.proofs.Common.{◌≡◌, ◌∙◌, ◌<◌, ◌+◌, ap, ap₂, sym, subst, arith, Some, length}
-use Rattle.std.specs.Prelude.{slice_get}
-use Rattle.std.proofs.lemmas.List.{length-map}
-use Rattle.guppy_packages.specs.NamedFeature.{feature_table}
+use Rattle.std.proofs.Common.{◌≡◌, ◌∙◌, ◌+◌, ap, arith}
 use Rattle.guppy_packages.specs.Metadata.{package_table_of, package_graph_of}
 use Rattle.feature_core.specs.Links.{IsPackage}
-use Rattle.feature_core.specs.Nodes.{first_node, labels_of}
+use Rattle.feature_core.specs.Nodes.{first_node}
 use Rattle.feature_core.proofs.LabelLemmas.{package_there, first_within, first_is, number_fits}
 use Rattle.feature_core.proofs.numbers.Numbers.number.Goals as goal
 

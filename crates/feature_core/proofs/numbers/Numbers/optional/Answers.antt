@@ -1,13 +1,11 @@
-use Rattle.std.proofs.Common.{◌≡◌, ◌∙◌, ◌<◌, ◌+◌, ap, sym, subst, arith, Some, length, refl}
+use Rattle.std.proofs.Common.{◌≡◌, ◌∙◌, ◌+◌, ap, sym, subst, arith, Some, length}
 use Rattle.std.specs.Prelude.{slice_get}
 use Rattle.std.proofs.lemmas.List.{length-map}
 use Rattle.guppy_packages.specs.NamedFeature.{feature_table}
 use Rattle.guppy_packages.specs.Metadata.{package_table_of, package_graph_of}
-use Rattle.feature_labels.specs.Names.LabelName.{base}
 use Rattle.feature_core.specs.Links.{IsPackage}
-use Rattle.feature_core.specs.Nodes.{NodeAt, first_node, labels_of}
+use Rattle.feature_core.specs.Nodes.{first_node}
 use Rattle.feature_core.proofs.LabelLemmas.{package_there, optional_place_below, place_fits, optional_found, optional_missing}
-use Rattle.feature_core.proofs.Places.{node_there}
 use Rattle.feature_core.proofs.numbers.Numbers.optional.Goals as goal
 
 pub overflow_add-features : goal.overflow_add-features
