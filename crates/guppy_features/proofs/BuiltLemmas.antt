@@ -2,6 +2,7 @@
 use Rattle.std.proofs.Common.{◌≡◌, ℕ, ◌+◌, ◌<◌, List, [], ◌∷◌, length, map, refl, ap, sym, ◌∙◌, subst, length-append}
 use Rattle.std.specs.Prelude.{Contains, flat_map}
 use Rattle.std.proofs.Math.Logic.{∥∥₁_map, ∥∥₁_elim, ∥∥₁_prop}
+use Rattle.std.proofs.Math.Bool.{Bool-set}
 use Rattle.std.proofs.Common.{ltb}
 use Rattle.std.proofs.lemmas.Bool.Decides.{Decides-ltb}
 use Rattle.std.proofs.lemmas.List.{length-map}
@@ -43,6 +44,13 @@ built_given t b h = record {
   };
   edges = ∥∥₁_elim h ∥∥₁_prop (λ z. z.edges);
   warnings = decided_given (warnings_decided b.warnings (warnings t)) (∥∥₁_map h (λ z. z.warnings));
+  defaults = record {
+    long = decided_given (nat_decided (length b.defaults) (length (node_packages t))) (∥∥₁_map h (λ z. z.defaults.long));
+    exact = λ n. (
+      (λ m. ∥∥₁_elim h ∥∥₁_prop (λ z. (z.defaults.exact n).0 m)),
+      (λ d. ∥∥₁_elim h (Bool-set _ _) (λ z. (z.defaults.exact n).1 d)),
+    );
+  };
 }
 
 length-spread : {A B : Type 0} (f : A → List B) (q : ℕ) (xs : List A) → length (spread f q xs) ≡ length (flat_map f xs)
