@@ -8,4 +8,4 @@ pub returns : goal.returns
 returns c =
     c.first_absent.ensures
     ∙ position_built edge_facts (λ f. not (has_present_link f)) c.args.self.now.edges c.self.inside.digraph.edges c.self.inside.edges.items c.as_slice.result.now
-        (sym (ap (λ b. b.edges) c.self.view_is)) c.self.invariant.1 c.as_slice.ensures.value
+    (sym (ap (λ b. b.edges) c.self.view_is)) c.self.invariant.1 c.as_slice.ensures.value
