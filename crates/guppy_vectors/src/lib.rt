@@ -6,4 +6,10 @@ mod edges;
 #[cfg(test)]
 mod fixtures;
 #[cfg(test)]
+mod graphs;
+#[cfg(test)]
+mod judge;
+#[cfg(test)]
 mod program;
+#[cfg(test)]
+mod walks;
