@@ -10,8 +10,14 @@ mod engine;
 #[cfg(test)]
 mod fixtures;
 #[cfg(test)]
+mod graphs;
+#[cfg(test)]
+mod judge;
+#[cfg(test)]
 mod program;
 #[cfg(test)]
 mod reach;
+#[cfg(test)]
+mod walks;
 #[cfg(test)]
 mod warnings;
