@@ -18,7 +18,10 @@ fn marks_of(alloc: Global, built: &FeatureGraphData) -> Result<Vec<bool>, AllocE
 fn defaults_lead_to_features_of_their_package(rt: HostRuntime) -> Result<(), Fail> {
     let built = built_of(rt.alloc(), DEFAULT_OVER_LINKS)?;
     let marks = marks_of(rt.alloc(), &built)?;
-    assert_eq!(rt; marks.as_slice(), [true, true, true, false, true, false].as_slice());
+    assert_eq!(rt;
+        marks.as_slice(),
+        [true, true, true, false, true, false].as_slice()
+    );
     Ok(())
 }
 
@@ -26,7 +29,10 @@ fn defaults_lead_to_features_of_their_package(rt: HostRuntime) -> Result<(), Fai
 fn bases_stand_for_missing_defaults(rt: HostRuntime) -> Result<(), Fail> {
     let built = built_of(rt.alloc(), OPTIONAL_AND_WEAK)?;
     let marks = marks_of(rt.alloc(), &built)?;
-    assert_eq!(rt; marks.as_slice(), [true, false, false, false, false, true, false].as_slice());
+    assert_eq!(rt;
+        marks.as_slice(),
+        [true, false, false, false, false, true, false].as_slice()
+    );
     let built = built_of(rt.alloc(), DEFAULTS_AND_LISTED)?;
     let marks = marks_of(rt.alloc(), &built)?;
     assert_eq!(rt; marks.as_slice(), [true, true, true, false].as_slice());

@@ -21,7 +21,7 @@ use std::process::Abort;
 use std::test::Fail;
 
 /// The fields of each line of a row file.
-pub fn lines_of<'t>(alloc: Global, file: &'t str) -> Result<Vec<Vec<&'t str>>, AllocError> {
+fn lines_of<'t>(alloc: Global, file: &'t str) -> Result<Vec<Vec<&'t str>>, AllocError> {
     let mut lines = Vec::new(alloc);
     for line in file.split_terminator('\n') {
         let fields: Vec<&str> = line.split('\t').collect(alloc)?;
@@ -69,7 +69,7 @@ fn row<'a>(fields: &'a [&'a str]) -> Option<Row<'a>> {
 }
 
 /// The rows of the lines.
-pub fn rows_of<'a>(alloc: Global, lines: &'a [Vec<&'_ str>]) -> Result<Vec<Row<'a>>, Fail> {
+fn rows_of<'a>(alloc: Global, lines: &'a [Vec<&'_ str>]) -> Result<Vec<Row<'a>>, Fail> {
     let mut rows = Vec::with_capacity(alloc, lines.len())?;
     for fields in lines {
         let Some(row) = row(fields.as_slice()) else {

@@ -1,22 +1,13 @@
 //! Graphs that are built of row files, and what tests hand to walks over them.
 ghost use Rattle.std.specs.Prelude.{◌≡◌, IfOk, length};
 
-use crate::edges::{lines_of, rows_of};
 use crate::judge::Way;
 use feature_core::engine::Ask;
 use feature_core::{FeatureEdge, FeatureGraphData, SlashForm, WeakSlashImpl};
-use guppy_packages::{DependencyDirection, PackageGraph};
+use guppy_packages::DependencyDirection;
 use guppy_support::IxBitSet;
 use std::alloc::{AllocError, Global};
 use std::test::Fail;
-
-/// The feature graph of a row file.
-pub fn built_of(alloc: Global, file: &str) -> Result<FeatureGraphData, Fail> {
-    let lines = lines_of(alloc, file)?;
-    let rows = rows_of(alloc, &lines)?;
-    let graph = PackageGraph::from_rows(alloc, &rows)?;
-    Ok(FeatureGraphData::build(alloc, &graph, 0)?)
-}
 
 /// The halves of a weak edge.
 fn weak_of(edge: &FeatureEdge) -> Option<&WeakSlashImpl> {

@@ -1,8 +1,9 @@
 //! Walks over small graphs, judged by their definitions, with sets and calls that were worked out by hand.
 ghost use Rattle.std.specs.Prelude.{◌≡◌, IfOk, length};
 
+use crate::edges::built_of;
 use crate::fixtures::{BOTH_HALVES, CIRCLE_THROUGH_GATE, OPTIONAL_AND_WEAK, TWO_WEAK_ITEMS};
-use crate::graphs::{ascending, built_of, set_of, ways_of};
+use crate::graphs::{ascending, set_of, ways_of};
 use crate::judge::{
     Call, Offer, Verdict, Way, accepted_of, complete_runs, judge, least, not_refused, offers,
     reached,
