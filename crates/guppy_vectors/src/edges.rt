@@ -144,7 +144,7 @@ fn push_half(text: &mut String, half: &EnabledLink) -> Result<(), AllocError> {
 }
 
 /// Writes what an edge says.
-fn push_edge(text: &mut String, edge: &FeatureEdge) -> Result<(), AllocError> {
+pub fn push_edge(text: &mut String, edge: &FeatureEdge) -> Result<(), AllocError> {
     match edge {
         FeatureEdge::FeatureToBase => text.push_str("base"),
         FeatureEdge::NamedFeature => text.push_str("feature"),
