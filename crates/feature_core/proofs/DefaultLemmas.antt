@@ -1,6 +1,6 @@
 -- What is on by default, from the walk over the edges that are built.
-use Rattle.std.proofs.Common.{◌≡◌, ℕ, ◌+◌, ◌<◌, ◌≤◌, ◌⊎◌, inl, inr, ⊎_elim, zero, suc, List, [], ◌∷◌, length, map, Bool, true, false, Option, Some, None, refl, sym, ap, ◌∙◌, subst, arith}
-use Rattle.std.specs.Prelude.{◌↔◌, IsTrue, Contains, slice_get, slice_set, filter, replicate, codes}
+use Rattle.std.proofs.Common.{◌≡◌, ℕ, ◌+◌, ◌<◌, ◌≤◌, ◌⊎◌, ⊎_elim, zero, suc, List, length, Bool, true, false, Option, Some, None, refl, sym, ap, ◌∙◌, subst, arith}
+use Rattle.std.specs.Prelude.{◌↔◌, IsTrue, slice_set, replicate, codes}
 use Rattle.std.proofs.lemmas.List.{length-map}
 use Rattle.std.proofs.Math.Logic.{∥∥₁_elim}
 use Rattle.std.proofs.Math.Bool.{Bool-set}
@@ -10,13 +10,13 @@ use Rattle.guppy_packages.specs.declared.direction.DependencyDirection.TheVarian
 use Rattle.feature_labels.specs.Names.{LabelName}
 use Rattle.feature_labels.specs.Names.LabelName.{base, named}
 use Rattle.feature_core.specs.declared.edge.EdgeChoice.{EdgeChoice}
-use Rattle.feature_core.specs.declared.edge.EdgeChoice.TheVariants.{All, FeatureToBaseAndNamed}
+use Rattle.feature_core.specs.declared.edge.EdgeChoice.TheVariants.{FeatureToBaseAndNamed}
 use Rattle.feature_core.specs.Nodes.{NodeAt, node_places, node_packages}
-use Rattle.feature_core.specs.Candidates.{Edge, Candidate, to_base, to_feature, to_dependency, over_strong, over_weak, with_dependency, with_feature, of_required, of_optional, feature_to_base, named_feature, dep_colon, slash_full, slash_optional, slash_weak, section, IsEdge}
-use Rattle.feature_core.specs.Edges.{EdgeFacts, AreBuilt, facts_of, weak_links}
+use Rattle.feature_core.specs.Candidates.{Edge, Candidate, to_base, to_feature, to_dependency, over_strong, over_weak, with_dependency, with_feature, of_required, of_optional, IsEdge}
+use Rattle.feature_core.specs.Edges.{EdgeFacts, AreBuilt}
 use Rattle.feature_core.specs.Pairs.{Along, nowhere, onward, PairLeads, ReachAlong}
-use Rattle.feature_core.specs.Choices.{is_chosen, is_chosen_edge, chosen_pairs, ChosenEdge}
-use Rattle.feature_core.specs.Defaults.{IsDefaultFeature, by_name, by_base, IsDefaultIn, IsDefault, AreDefaults}
+use Rattle.feature_core.specs.Choices.{is_chosen_edge, chosen_pairs, ChosenEdge}
+use Rattle.feature_core.specs.Defaults.{IsDefaultFeature, by_name, by_base, IsDefault}
 use Rattle.feature_core.proofs.AddsLemmas.{place_below}
 use Rattle.feature_core.proofs.ChoiceLemmas.{chosen_back, chosen_into}
 use Rattle.feature_core.proofs.PairLemmas.{Along-weaker}
@@ -83,13 +83,16 @@ walked t edges weak initials marks built starts reached n = (
       let r = (reached n).0 m in
       let d = (starts r.0).0 r.1 in
       let ends = along_in leads (IsIn t d.0) (λ u w h. let c = chosen u w h in stays t u w d.0 c.0 c.1.candidate c.2) r.0 n r.2 (starts_in t d.0 r.0 d.1) in
-      ∣ (d.0, record {
-        label = ends.0;
-        node = ends.1;
-        start = r.0;
-        is_start = d.1;
-        path = Along-weaker leads (ChosenEdge t FeatureToBaseAndNamed) (λ u w h. ∣ chosen u w h ∣₁) r.0 n r.2;
-      }) ∣₁),
+      ∣ (
+        d.0,
+        record {
+          label = ends.0;
+          node = ends.1;
+          start = r.0;
+          is_start = d.1;
+          path = Along-weaker leads (ChosenEdge t FeatureToBaseAndNamed) (λ u w h. ∣ chosen u w h ∣₁) r.0 n r.2;
+        },
+      ) ∣₁),
   (λ h. ∥∥₁_elim h (Bool-set _ _) (λ x. along_in (ChosenEdge t FeatureToBaseAndNamed) (λ k. IsTrue (has marks k)) more x.1.start n x.1.path (first x.0 x.1.start x.1.is_start))),
 )
   where

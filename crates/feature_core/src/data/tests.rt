@@ -159,3 +159,28 @@ fn walks_both_ways(rt: HostRuntime) -> Result<(), Fail> {
     assert_eq!(rt; members.as_slice(), [2, 6].as_slice());
     Ok(())
 }
+
+const DEFAULT_OF_ONE_PACKAGE: &[Row<'static>] = &[
+    package!("main", true),
+    feature!("default", &["a", "sv/union"]),
+    feature!("a", &["b"]),
+    feature!("b", &[]),
+    feature!("c", &["default"]),
+    dep!("sv", "sv", Normal, false, None, true, &[]),
+    package!("sv", false),
+    feature!("union", &[]),
+];
+
+#[test]
+fn nodes_on_by_default(rt: HostRuntime) -> Result<(), Fail> {
+    let graph = PackageGraph::from_rows(rt.alloc(), DEFAULT_OF_ONE_PACKAGE)?;
+    let built = FeatureGraphData::build(rt.alloc(), &graph, 0)?;
+    let mut marked = Vec::new(rt.alloc());
+    for ix in 0..built.node_count() {
+        if built.is_default(ix) {
+            marked.push(ix)?;
+        }
+    }
+    assert_eq!(rt; marked.as_slice(), [0, 1, 2, 3, 5].as_slice());
+    Ok(())
+}
