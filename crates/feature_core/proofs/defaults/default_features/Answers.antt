@@ -1,8 +1,4 @@
-<<<<<<< HEAD
 use Rattle.std.proofs.Common.{◌∙◌, ◌<◌, ◌≤◌, ◌+◌, ◌↔◌, Bool, List, true, false, arith, length, refl, sym, ap, subst}
-=======
-use Rattle.std.proofs.Common.{◌≡◌, ◌∙◌, ◌<◌, ◌≤◌, ◌+◌, ◌↔◌, Bool, List, true, false, arith, length, refl, sym, ap, subst}
->>>>>>> marks
 use Rattle.std.specs.Prelude.{IsTrue}
 use Rattle.std.proofs.lemmas.List.{length-replicate, length-set}
 use Rattle.guppy_support.specs.Bits.{has}

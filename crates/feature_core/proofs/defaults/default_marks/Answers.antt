@@ -1,8 +1,4 @@
-<<<<<<< HEAD
 use Rattle.std.proofs.Common.{◌∙◌, ◌↔◌, ℕ, List, Bool, subst, map}
-=======
-use Rattle.std.proofs.Common.{◌≡◌, ◌∙◌, ◌↔◌, ℕ, List, Bool, subst, map}
->>>>>>> marks
 use Rattle.std.specs.Prelude.{IsTrue}
 use Rattle.guppy_support.specs.Bits.{has}
 use Rattle.guppy_packages.specs.declared.direction.DependencyDirection.TheVariants.{Forward}
