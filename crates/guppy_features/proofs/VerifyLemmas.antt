@@ -1,6 +1,6 @@
 -- Edges whose links are present, and the nodes of edges.
 use Rattle.std.proofs.Common.{◌≡◌, ℕ, zero, suc, ◌+◌, ◌<◌, List, [], ◌∷◌, Bool, true, false, cond, Option, None, Some, length, refl, ap, sym, ◌∙◌, subst, arith}
-use Rattle.std.specs.Prelude.{slice_get, Contains, IsTrue, IsFalse, not, nat_lt, position}
+use Rattle.std.specs.Prelude.{slice_get, IsTrue, IsFalse, not, nat_lt, position}
 use Rattle.std.specs.List.{position_or_len}
 use Rattle.std.specs.Option.{option_map_or}
 use Rattle.std.proofs.lemmas.List.{length-map}
@@ -8,7 +8,7 @@ use Rattle.guppy_packages.specs.Rows.{Text}
 use Rattle.guppy_packages.specs.Tables.{Tables}
 use Rattle.feature_labels.specs.Names.{LabelName}
 use Rattle.feature_labels.specs.Names.LabelName.{base, named, optional}
-use Rattle.feature_core.specs.Built.{Built, IsBuilt, NodeNamed, ends_of}
+use Rattle.feature_core.specs.Built.{Built, IsBuilt, NodeNamed}
 use Rattle.feature_core.specs.Candidates.{Edge, Candidate, to_base, to_feature, to_dependency, over_strong, over_weak, with_dependency, with_feature, of_required, of_optional}
 use Rattle.feature_core.specs.Edges.{EdgeFacts, full_link}
 use Rattle.feature_core.specs.Links.{LinkFacts}
