@@ -212,45 +212,6 @@ fn features_are_looked_up_and_resolved(rt: HostRuntime) -> Result<(), Fail> {
     Ok(())
 }
 
-const ROWS_WITH_DEFAULT: [Row<'static>; 5] = [
-    Row::Package {
-        id: "main",
-        in_workspace: true,
-    },
-    Row::Feature {
-        name: "default",
-        items: &["a"],
-    },
-    Row::Feature {
-        name: "a",
-        items: &["b"],
-    },
-    Row::Feature {
-        name: "b",
-        items: &[],
-    },
-    Row::Feature {
-        name: "c",
-        items: &["a"],
-    },
-];
-
-#[test]
-fn default_features_are_those_that_default_leads_to(rt: HostRuntime) -> Result<(), Fail> {
-    let alloc = rt.alloc();
-    let graph = PackageGraph::from_rows(alloc, &ROWS_WITH_DEFAULT)?;
-    let built = FeatureGraphData::build(alloc, &graph, 0)?;
-    let features = graph.feature_graph(&built);
-    features.verify()?;
-    let main = PackageId::new(alloc, "main")?;
-    assert!(rt; features.is_default_feature(FeatureId::base(&main))?);
-    for (name, expected) in [("default", true), ("a", true), ("b", true), ("c", false)] {
-        let is_default = features.is_default_feature(FeatureId::named(&main, name))?;
-        assert_eq!(rt; is_default, expected, "{name}");
-    }
-    Ok(())
-}
-
 #[test]
 fn no_rows_have_no_features(rt: HostRuntime) -> Result<(), Fail> {
     let alloc = rt.alloc();
