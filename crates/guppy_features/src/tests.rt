@@ -207,8 +207,17 @@ fn features_are_looked_up_and_resolved(rt: HostRuntime) -> Result<(), Fail> {
     check_ids(&rt, alloc, features)?;
     check_queries(&rt, alloc, features)?;
     check_lists(&rt, alloc, features)?;
+    Ok(())
+}
+
+#[test]
+fn default_features_are_told(rt: HostRuntime) -> Result<(), Fail> {
+    let alloc = rt.alloc();
+    let graph = PackageGraph::from_rows(alloc, &ROWS)?;
+    let built = FeatureGraphData::build(alloc, &graph, 0)?;
+    let features = graph.feature_graph(&built);
     check_defaults(&rt, alloc, features)?;
-    features.verify()?;
+    assert!(rt; features.verify().is_ok());
     Ok(())
 }
 

@@ -1,6 +1,8 @@
 //! Which features of small graphs are on by default.
 use crate::edges::{built_of, graph_of};
-use crate::fixtures::{DEFAULT_OVER_LINKS, DEFAULTS_AND_LISTED, OPTIONAL_AND_WEAK};
+use crate::fixtures::{
+    DEFAULT_BY_DEPENDENCY, DEFAULT_OVER_LINKS, DEFAULTS_AND_LISTED, OPTIONAL_AND_WEAK,
+};
 use guppy_features::{FeatureGraphData, FeatureGraphExt, FeatureId};
 use guppy_packages::PackageId;
 use std::alloc::{AllocError, Global};
@@ -22,6 +24,17 @@ fn defaults_lead_to_features_of_their_package(rt: HostRuntime) -> Result<(), Fai
     assert_eq!(rt;
         marks.as_slice(),
         [true, true, true, false, true, false].as_slice()
+    );
+    Ok(())
+}
+
+#[test]
+fn optional_dependencies_are_off_by_default(rt: HostRuntime) -> Result<(), Fail> {
+    let built = built_of(rt.alloc(), DEFAULT_BY_DEPENDENCY)?;
+    let marks = marks_of(rt.alloc(), &built)?;
+    assert_eq!(rt;
+        marks.as_slice(),
+        [true, false, false, false, true, false, true, false].as_slice()
     );
     Ok(())
 }

@@ -144,7 +144,7 @@ fn push_half(text: &mut String, half: &EnabledLink) -> Result<(), AllocError> {
 }
 
 /// Writes what an edge says.
-pub fn push_edge(text: &mut String, edge: &FeatureEdge) -> Result<(), AllocError> {
+fn push_edge(text: &mut String, edge: &FeatureEdge) -> Result<(), AllocError> {
     match edge {
         FeatureEdge::FeatureToBase => text.push_str("base"),
         FeatureEdge::NamedFeature => text.push_str("feature"),

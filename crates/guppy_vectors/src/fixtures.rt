@@ -159,3 +159,13 @@ pub const DEFAULT_OVER_LINKS: &str = "package\tp\tworkspace\n\
     dep\td\tq\tnormal\toptional\t*\tnodefault\n\
     package\tq\texternal\n\
     feature\tg\n";
+
+/// A default feature whose only item names an optional dependency.
+pub const DEFAULT_BY_DEPENDENCY: &str = "package\tmain\tworkspace\n\
+    feature\tsmallvec\tdep:smallvec\tfoo\n\
+    feature\tsmallvec-union\tsmallvec?/union\n\
+    feature\tfoo\n\
+    dep\tsmallvec\tsv\tnormal\toptional\t*\tnodefault\n\
+    feature\tdefault\tdep:smallvec\n\
+    package\tsv\texternal\n\
+    feature\tunion\n";

@@ -2,8 +2,6 @@
 #![tactic(auto)]
 
 #[cfg(test)]
-mod clones;
-#[cfg(test)]
 mod defaults;
 #[cfg(test)]
 mod edges;
