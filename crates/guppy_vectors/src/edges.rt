@@ -135,7 +135,7 @@ fn push_link(text: &mut String, link: &ConditionalLinkImpl) -> Result<(), AllocE
 }
 
 /// Writes the link of a half, or `none`.
-fn push_half(text: &mut String, half: &EnabledLink) -> Result<(), AllocError> {
+pub fn push_half(text: &mut String, half: &EnabledLink) -> Result<(), AllocError> {
     text.push_str("; ")?;
     match half.get() {
         Some(link) => push_link(text, link),
@@ -144,7 +144,7 @@ fn push_half(text: &mut String, half: &EnabledLink) -> Result<(), AllocError> {
 }
 
 /// Writes what an edge says.
-fn push_edge(text: &mut String, edge: &FeatureEdge) -> Result<(), AllocError> {
+pub fn push_edge(text: &mut String, edge: &FeatureEdge) -> Result<(), AllocError> {
     match edge {
         FeatureEdge::FeatureToBase => text.push_str("base"),
         FeatureEdge::NamedFeature => text.push_str("feature"),
