@@ -1,7 +1,7 @@
 //! Equal edges say the same, and a graph tells the packages that it is built from.
 use crate::edges::{built_of, graph_of, push_edge, push_half};
 use crate::fixtures::{BOTH_HALVES, OPTIONAL_AND_WEAK, RANKS_THAT_MEET, WEAK_OVER_PLATFORMS};
-use feature_core::{FeatureEdge, FeatureGraphData, SlashForm, WeakSlashImpl};
+use feature_core::{FeatureEdge, SlashForm, WeakSlashImpl};
 use std::alloc::{AllocError, Global};
 use std::process::Abort;
 use std::test::Fail;
@@ -64,18 +64,18 @@ fn equal_parts(alloc: Global, file: &str) -> Result<String, Fail> {
     Ok(text)
 }
 
-/// Whether a graph of the one row file is told to be built from the packages of the other.
-fn is_told(
+/// Checks whether what is built of the one row file says that it is built from the packages of the other.
+fn check_built_from(
     rt: &impl Abort,
     alloc: Global,
     file: &str,
     other: &str,
-    told: bool,
+    expected: bool,
 ) -> Result<(), Fail> {
     let built = built_of(alloc, file)?;
     let packages = graph_of(alloc, other)?;
     let same = built.is_built_from(alloc, &packages)?;
-    assert_eq!(rt; same, told);
+    assert_eq!(rt; same, expected);
     Ok(())
 }
 
@@ -138,9 +138,9 @@ fn equal_weak_parts_say_the_same(rt: HostRuntime) -> Result<(), Fail> {
 
 #[test]
 fn graphs_tell_their_packages(rt: HostRuntime) -> Result<(), Fail> {
-    is_told(&rt, rt.alloc(), OPTIONAL_AND_WEAK, OPTIONAL_AND_WEAK, true)?;
-    is_told(&rt, rt.alloc(), OPTIONAL_AND_WEAK, BOTH_HALVES, false)?;
-    is_told(
+    check_built_from(&rt, rt.alloc(), OPTIONAL_AND_WEAK, OPTIONAL_AND_WEAK, true)?;
+    check_built_from(&rt, rt.alloc(), OPTIONAL_AND_WEAK, BOTH_HALVES, false)?;
+    check_built_from(
         &rt,
         rt.alloc(),
         WEAK_OVER_PLATFORMS,
