@@ -10,8 +10,8 @@ ghost use Rattle.feature_core.specs.Warnings.{warning_of};
 use crate::warning::FeatureGraphWarning;
 use guppy_packages::PackageGraph;
 pub use walk_engine::laws::{
-    least_monotone, one_result, reach_additive, reach_both_ways, required_half_is_due,
-    reverse_accept_all,
+    agrees_by_answer, least_monotone, one_result, reach_additive, reach_both_ways,
+    required_half_is_due, reverse_accept_all,
 };
 
 /// Candidates for the edge of one pair of nodes that have one rank are equal, so a pair has at most one edge.

@@ -4,7 +4,8 @@ use Rattle.walk_engine.specs.declared.walks.Half.{Half}
 use Rattle.walk_engine.specs.declared.walks.Half.TheVariants.{Full, Required, Optional}
 use Rattle.walk_engine.specs.declared.walks.Ask.{Ask}
 use Rattle.walk_engine.specs.declared.walks.Ask.TheVariants as asks
-use Rattle.walk_engine.specs.Walks.{Content, Way, Call, IsWay, has_half, has_gate, has_turn, Reach, was_made, was_accepted, is_of, IsDue, IsLegal, IsComplete, Agrees, IsClosed, Least}
+use Rattle.walk_engine.specs.Walks.{Content, Way, Call, IsWay, has_half, has_gate, has_turn, Reach, was_made, was_accepted, is_of, IsDue, IsLegal, IsComplete, Agrees, IsClosed, Least, GoesAlong}
+use Rattle.walk_engine.specs.Laws.{AnswersBy}
 use Rattle.walk_engine.proofs.Answered.{decide, or_cases, or_left, or_right, and_both, and_intro, clash, is_of_same}
 use Rattle.walk_engine.proofs.Reaches.{same_way, reach_more, reach_in, open_cases, open_by, open_nobody}
 
@@ -98,3 +99,8 @@ members_least c I M run legal complete members A agrees n =
 pub one_result_lem : (c : Content) (I : ℕ → Bool) (A : ℕ → Half → Bool) (run other : List Call) → IsLegal c I run → IsComplete c I other → Agrees A run → Agrees A other → (n : ℕ) → Reach c I (was_accepted run) n → Reach c I (was_accepted other) n
 one_result_lem c I A run other legal complete agrees agrees' =
     reach_closed c I A (Reach c I (was_accepted other)) (closed_reach c I A other complete agrees') run legal agrees
+
+-- a run of answers that are those of a test
+pub agrees_along : {O : Type 0} (gives : O → ℕ → Half → Bool → O → Type 0) (A : ℕ → Half → Bool) (s : O) → AnswersBy gives A s → (run : List Call) (t : O) → GoesAlong gives s run t → Agrees A run
+agrees_along gives A s answers [] t along = tt
+agrees_along gives A s answers (call ∷ before) t (m, along, given) = (sym (answers before m t call.edge call.half call.answer along given), agrees_along gives A s answers before m along)

@@ -1,7 +1,7 @@
 -- Words for the laws of walks.
 use Rattle.std.specs.Prelude.{◌≡◌, ◌==◌, ℕ, Bool, true, List, IsFalse}
 use Rattle.walk_engine.specs.declared.walks.Half.{Half}
-use Rattle.walk_engine.specs.Walks.{Content, Way, IsWay, Path, is_gated}
+use Rattle.walk_engine.specs.Walks.{Content, Way, Call, IsWay, GoesAlong, Path, is_gated}
 
 -- all offers
 abbrev pub every : ℕ → Half → Bool
@@ -24,3 +24,7 @@ pub record AreReverse (c d : Content) : Type 0 where
 -- no half waits for a gate, as in reverse
 abbrev pub IsUngated : Content → Type 0
 IsUngated c = (e : ℕ) (w : Way) → IsWay c e w → IsFalse (is_gated w.ask)
+
+-- whatever was asked before, each offer is answered as the test says
+abbrev pub AnswersBy : {O : Type 0} → (O → ℕ → Half → Bool → O → Type 0) → (ℕ → Half → Bool) → O → Type 0
+AnswersBy {O} gives A s = (run : List Call) (t u : O) (e : ℕ) (h : Half) (b : Bool) → GoesAlong gives s run t → gives t e h b u → b ≡ A e h

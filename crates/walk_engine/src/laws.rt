@@ -1,10 +1,12 @@
 //! Laws of walks. Each function's contract is the law: they do nothing, and speak of the definitions alone.
 
 ghost use Rattle.std.specs.Prelude.{◌≡◌, ◌↔◌, ◌⊎◌, ◌||◌, ℕ, Bool, List, IsTrue, IsFalse};
-ghost use Rattle.walk_engine.specs.Walks.{Content, Way, Call, IsWay, has_half, Reach, was_made, was_accepted, IsDue, IsLegal, IsComplete, Agrees, Least};
-ghost use Rattle.walk_engine.specs.Laws.{every, only, Leads, AreReverse, IsUngated};
+ghost use Rattle.walk_engine.specs.Walks.{Content, Way, Call, IsWay, has_half, Reach, was_made, was_accepted, IsDue, IsLegal, IsComplete, Agrees, Least, GoesAlong, IsWalk};
+ghost use Rattle.walk_engine.specs.Laws.{every, only, Leads, AreReverse, IsUngated, AnswersBy};
 ghost use Rattle.walk_engine.specs.declared.walks.Half.{Half};
 ghost use Rattle.walk_engine.specs.declared.walks.Half.TheVariants.{Required};
+
+use crate::walks::Offerer;
 
 /// A path over all edges leads from one node to another exactly if the second is in the reach of the first, and
 /// exactly if the first is in the reach of the second over the reverse edges.
@@ -53,4 +55,13 @@ pub fn required_half_is_due()
     ensures { (c : Content) (I : ℕ → Bool) (run : List Call) (e : ℕ) (w : Way)
         → IsWay c e w → IsTrue (has_half w.ask Required) → Reach c I (was_accepted run) w.start
         → IsFalse (was_made run e Required) → IsDue c I run e Required }
+{}
+
+/// Where an offerer answers as a test says, the test agrees with each run of its answers, and the members of a walk are
+/// exactly the least set for the test.
+pub fn agrees_by_answer<O: Offerer>()
+    ensures agrees { (A : ℕ → Half → Bool) (s t : O) (run : List Call) → AnswersBy O.gives A s
+        → GoesAlong O.gives s run t → Agrees A run }
+    ensures least { (A : ℕ → Half → Bool) (s t : O) (c : Content) (I M : ℕ → Bool) → AnswersBy O.gives A s
+        → IsWalk c I O.gives s t M → (n : ℕ) → IsTrue (M n) ↔ Least c I A n }
 {}
