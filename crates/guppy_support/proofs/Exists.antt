@@ -92,6 +92,17 @@ firm_cases es a b =
     bool_cases : (x : Bool) → (x ≡ true) ⊎ ¬ (x ≡ true)
     bool_cases x = elim (cases_Bool x) [ inl t ↦ inl t | inr f ↦ inr (λ t. let c : true ≡ false = sym t ∙ f in cc) ]
 
+pub edge_cases : (es : List Edge) (a b : ℕ) → HasEdge es a b ⊎ ¬ HasEdge es a b
+edge_cases es a b =
+    elim (search_below (λ k. ((get_or es k no_edge).from ≡ a) × ((get_or es k no_edge).to ≡ b))
+    (λ k. and_cases _ _ (cases_eq (get_or es k no_edge).from a) (cases_eq (get_or es k no_edge).to b)) (length es)) [
+      | inl f ↦ inl (record { edge = get_or es f.0 no_edge; listed = Contains-get_or es f.0 no_edge f.1; from = f.2.0; to = f.2.1 })
+      | inr none ↦
+          inr (λ e.
+          let is : get_or es e.listed.0 no_edge ≡ e.edge = get_or_default es e.listed.0 no_edge e.edge e.listed.1 ∙ e.listed.2 in
+          none e.listed.0 e.listed.1 (ap (λ (d : Edge). d.from) is ∙ e.from, ap (λ (d : Edge). d.to) is ∙ e.to))
+    ]
+
 pub firm_is_edge : {es : List Edge} {a b : ℕ} → HasFirmEdge es a b → HasEdge es a b
 firm_is_edge e = record { edge = e.edge; listed = e.listed; from = e.from; to = e.to }
 
@@ -104,7 +115,7 @@ pub record IsFront (g : Graph) (ranks listed : List ℕ) : Type 0 where
   pub entered : (a b c : ℕ) → HasEdge g.edges a b → get_or ranks a 0 ≢ get_or ranks b 0 → Contains listed c → get_or ranks c 0 ≡ get_or ranks b 0 → Contains listed a
 
 module _ (g : Graph) (ok : IsDigraph g) (ranks : List ℕ) (r : IsRanking g ranks) (listed : List ℕ) (f : IsFront g ranks listed) where
-  held_cases : (b : ℕ) → b < g.nodes → IsHeld g.edges listed b ⊎ ¬ IsHeld g.edges listed b
+  pub held_cases : (b : ℕ) → b < g.nodes → IsHeld g.edges listed b ⊎ ¬ IsHeld g.edges listed b
   held_cases b lb =
       elim (search_below (λ a. (a ≢ b) × ((¬ Contains listed a) × ((get_or ranks a 0 ≡ get_or ranks b 0) × HasFirmEdge g.edges a b)))
       (λ a.
@@ -214,7 +225,7 @@ module _ (g : Graph) (ok : IsDigraph g) (ranks : List ℕ) (r : IsRanking g rank
             ])
       ]
 
-front_none : (g : Graph) (ranks : List ℕ) → IsFront g ranks []
+pub front_none : (g : Graph) (ranks : List ℕ) → IsFront g ranks []
 front_none g ranks =
     record {
       nodes = λ a c. absurd (omega (arith, c.1));

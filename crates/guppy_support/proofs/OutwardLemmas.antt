@@ -1,13 +1,14 @@
 -- Rows of a list that ascends.
-use Rattle.std.proofs.Common.{◌≡◌, ℕ, zero, suc, ◌+◌, ◌<◌, ◌≤◌, inl, inr, List, [], ◌∷◌, ◌++◌, length, get_or, refl, sym, arith, length-append}
+use Rattle.std.proofs.Common.{◌≡◌, ℕ, zero, suc, ◌+◌, ◌-◌, ◌<◌, ◌≤◌, inl, inr, List, [], ◌∷◌, ◌++◌, length, get_or, refl, sym, ◌∙◌, arith, length-append}
 use Rattle.std.proofs.lemmas.Bool.{cases_order, cases_eq, cases_lt, eq-eqb, ne_eqb, lt-ltb, le-ltb}
-use Rattle.std.proofs.lemmas.List.{length-map, get_or_append_left, get_or_at}
+use Rattle.std.specs.List.{range_with_len}
+use Rattle.std.proofs.lemmas.List.{length-map, get_or_append_left, get_or_at, get_or_read, ext_get_or}
+use Rattle.std.proofs.lemmas.List.FromFn.{length-range_with_len, get_or-range_with_len}
 use Rattle.guppy_support.specs.declared.digraph.Edge.{Edge}
 use Rattle.guppy_support.specs.Graph.{Graph, IsDigraph, sources, source_of}
-use Rattle.guppy_support.specs.Rows.{places_from, places, below, AreBegun, AreFilled, IsPacked}
-use Rattle.guppy_support.proofs.FaultLemmas.{ascends, sources_within}
-use Rattle.guppy_support.proofs.PackLemmas.{packed}
-use Rattle.guppy_support.proofs.PlaceLemmas.{places_within}
+use Rattle.guppy_support.specs.Rows.{places_from, places, below, AreBegun, AreAllBegun}
+use Rattle.guppy_support.proofs.FaultLemmas.{ascends}
+use Rattle.guppy_support.proofs.PackLemmas.{below_more, below-le-length}
 
 -- where the numbers before place p are below u and the others aren't, p are below u
 pub below_at : (keys : List ℕ) (p u : ℕ) → p ≤ length keys → ((i : ℕ) → i < p → get_or keys i 0 < u) → ((i : ℕ) → p ≤ i → i < length keys → u ≤ get_or keys i 0) → below u keys ≡ p
@@ -53,23 +54,32 @@ rising_places v s (k ∷ keys) r j h =
 rises : (g : Graph) → IsDigraph g → Rises (sources g.edges)
 rises g ok i j less l = (ascends g ok i j less (omega (arith, l, length-map g.edges (λ (e : Edge). e.from)))).by_first
 
--- the rows by source are the numbers of the edges, in their order
-pub outward_packed : (g : Graph) → IsDigraph g → (begins numbers : List ℕ) → length begins ≡ g.nodes + 1 → AreBegun (sources g.edges) begins → length numbers ≡ length g.edges → ((i : ℕ) → i < length g.edges → get_or numbers i 0 ≡ i)
-    → IsPacked g.nodes (sources g.edges) begins numbers
-outward_packed g ok begins numbers long begun ln each =
+-- the numbers of the edges that leave v
+pub record IsOutRange (g : Graph) (v first last : ℕ) : Type 0 where
+  pub numbers : range_with_len first (last - first) ≡ places v (sources g.edges)
+  pub ascends : first ≤ last
+  pub within : last ≤ length g.edges
+
+pub out_range : (g : Graph) → IsDigraph g → (begins : List ℕ) → AreAllBegun g.nodes (sources g.edges) begins → (v : ℕ) → v < g.nodes → (first last : ℕ) → first ≡ get_or begins v first → last ≡ get_or begins (v + 1) last → IsOutRange g v first last
+out_range g ok begins all v h first last is_first is_last =
     let keys : List ℕ = sources g.edges in
-    let edges : length keys ≡ length g.edges = length-map g.edges (λ (e : Edge). e.from) in
-    let all : below g.nodes keys ≡ length keys = below_at keys (length keys) g.nodes (omega arith) (λ i l. sources_within g ok i l) (λ i ge l. absurd (omega arith)) in
-    packed g.nodes keys begins numbers long (λ v h. begun v (omega arith)) (omega (arith, all, edges, ln))
-    (λ v j lv lj.
-    let at = rising_places v 0 keys (rises g ok) j lj in
-    let inside = place_less v keys j lj in
-    let b : get_or begins v 0 ≡ below v keys = begun v (omega arith) in
-    let e : get_or begins v 0 + j ≡ get_or (places v keys) j 0 = omega (arith, at, b) in
-    rw e (each (get_or (places v keys) j 0) (omega (arith, inside, edges))))
-  where
-    place_less : (v : ℕ) (keys : List ℕ) (j : ℕ) → j < length (places v keys) → get_or (places v keys) j 0 < length keys
-    place_less v keys j h = (places_within v keys j h).0
+    let lf : v < length begins = omega (arith, all.long, h) in
+    let ll : v + 1 < length begins = omega (arith, all.long, h) in
+    let low : first ≡ below v keys = get_or_read begins v first lf is_first 0 ∙ all.begun v lf in
+    let high : last ≡ below (v + 1) keys = get_or_read begins (v + 1) last ll is_last 0 ∙ all.begun (v + 1) ll in
+    let more = below_more v keys in
+    let few = length-range_with_len first (last - first) in
+    let long : length (range_with_len first (last - first)) ≡ length (places v keys) = omega arith in
+    record {
+      numbers = ext_get_or 0 (range_with_len first (last - first)) (places v keys) long
+          (λ j lj.
+          let inside : j < length (places v keys) = omega arith in
+          let at : get_or (places v keys) j 0 ≡ 0 + below v keys + j = rising_places v 0 keys (rises g ok) j inside in
+          let here = get_or-range_with_len first (last - first) j 0 (omega arith) in
+          omega (arith, here, at, low));
+      ascends = omega arith;
+      within = omega (arith, high, below-le-length (v + 1) keys, length-map g.edges (λ (e : Edge). e.from));
+    }
 
 -- one begin more
 pub begun_more : (keys begins : List ℕ) (p : ℕ) → AreBegun keys begins → p ≤ length keys → ((i : ℕ) → i < p → get_or keys i 0 < length begins) → ((i : ℕ) → p ≤ i → i < length keys → length begins ≤ get_or keys i 0)

@@ -1,9 +1,11 @@
 -- The steps of the first walk.
-use Rattle.std.proofs.Common.{◌≡◌, ℕ, ◌+◌, ◌-◌, ◌<◌, inl, inr, Bool, true, false, List, [], ◌∷◌, ◌++◌, length, get_or, take, set, refl, ap, sym, ◌∙◌, subst, arith, Contains, get_or-set_same, get_or-set_other, length-append, Some, slice_get}
+use Rattle.std.proofs.Common.{◌≡◌, ℕ, ◌+◌, ◌-◌, ◌<◌, ◌≤◌, inl, inr, Bool, true, false, List, [], ◌∷◌, ◌++◌, length, get_or, take, set, refl, ap, sym, ◌∙◌, subst, arith, Contains, get_or-set_same, get_or-set_other, length-append, Some, slice_get}
 use Rattle.std.proofs.Math.ListN.{length-set}
 use Rattle.std.proofs.lemmas.Bool.{cases_eq, cases_lt}
 use Rattle.std.proofs.lemmas.List.{get_or-map, get_or_read, length-map, get_or_append_left, get_or_at, get_or_default, take_at, take-append-le}
 use Rattle.std.proofs.lemmas.List.Elements.{Contains-push, Contains-push_cases, Contains-append_left, Contains-get_or}
+use Rattle.std.specs.List.{range_with_len}
+use Rattle.std.proofs.lemmas.List.FromFn.{length-range_with_len, get_or-range_with_len}
 use Rattle.guppy_support.specs.Graph.{Graph, IsDigraph, sources, target_at}
 use Rattle.guppy_support.specs.Rows.{places}
 use Rattle.guppy_support.specs.Paths.{HasEdge, Path, nowhere}
@@ -233,8 +235,22 @@ closed_last {g = g} {seen = seen} {left = left} {opened = opened} {closed = clos
     close front top ok (rw is at s') none
 
 -- the number that `next` reads
-pub next_place : (g : Graph) (v l : ℕ) (row left : List ℕ) → row ≡ places v (sources g.edges) → v < length left → l ≡ get_or left v l → get_or row (length row - l) 0 ≡ get_or (places v (sources g.edges)) (length (places v (sources g.edges)) - get_or left v 0) 0
-next_place g v l row left e h r = let is : l ≡ get_or left v 0 = get_or_read left v l h r 0 in rw (e, is) refl
+-- the edges that leave v stand together: the k-th has the number first + k
+pub out_number : (g : Graph) (v k first last : ℕ) → range_with_len first (last - first) ≡ places v (sources g.edges) → k < length (places v (sources g.edges)) → first + k ≡ get_or (places v (sources g.edges)) k 0
+out_number g v k first last e h =
+    let long : k < last - first = omega (arith, ap length e, length-range_with_len first (last - first)) in
+    sym (ap (λ (l : List ℕ). get_or l k 0) (sym e) ∙ get_or-range_with_len first (last - first) k 0 long)
+
+pub out_length : (g : Graph) (v first last : ℕ) → range_with_len first (last - first) ≡ places v (sources g.edges) → length (places v (sources g.edges)) ≡ last - first
+out_length g v first last e = omega (arith, ap length e, length-range_with_len first (last - first))
+
+pub next_number : (g : Graph) (v l first last : ℕ) (left : List ℕ) → range_with_len first (last - first) ≡ places v (sources g.edges) → v < length left → l ≡ get_or left v l → 0 < get_or left v 0 → get_or left v 0 ≤ length (places v (sources g.edges))
+    → last - l ≡ get_or (places v (sources g.edges)) (length (places v (sources g.edges)) - get_or left v 0) 0
+next_number g v l first last left e h r some few =
+    let is : l ≡ get_or left v 0 = get_or_read left v l h r 0 in
+    let long = length-range_with_len first (last - first) in
+    let all = ap length e in
+    omega (arith, is, long, all, some, few, out_number g v (length (places v (sources g.edges)) - get_or left v 0) first last e (omega (arith, some, few)))
 
 -- at the end each node is closed
 pub finished : (g : Graph) (seen : List Bool) (left opened closed : List ℕ) → IsSearch g seen left opened closed → length opened ≡ 0 → ((v : ℕ) → v < g.nodes → IsSeen seen v) → IsFinishOrder g closed

@@ -2,7 +2,7 @@
 use Rattle.std.specs.Prelude.{◌≡◌, ◌≢◌, ℕ, ◌+◌, ◌<◌, ◌≤◌, ◌==◌, List, length, map, filter, slice_index, slice_range}
 use Rattle.guppy_support.specs.Paths.{SameComponent}
 use Rattle.guppy_support.specs.Graph.{Graph}
-use Rattle.guppy_support.specs.Orders.{IsOrder}
+use Rattle.guppy_support.specs.Orders.{IsOrder, ListsEach}
 
 pub record Sequence : Type 0 where
   pub list : List ℕ
@@ -21,6 +21,17 @@ pub record IsOrderOf (g : Graph) (o : Sequence) : Type 0 where
   pub rising : (i j : ℕ) → i < j → j < g.nodes → component_of o (slice_index o.list i) ≤ component_of o (slice_index o.list j)
   pub below : (v : ℕ) → v < g.nodes → component_of o v < o.count
   pub each : (c : ℕ) → c < o.count → (v : ℕ) × (v < g.nodes) × (component_of o v ≡ c)
+
+-- what is true of an order's value by itself: it lists each node once, and gives each a component
+pub record IsSequence (o : Sequence) : Type 0 where
+  pub each : ListsEach (length o.list) o.list
+  pub long : length o.component ≡ length o.list
+  pub below : (v : ℕ) → v < length o.list → component_of o v < o.count
+
+-- the place of each node in the list
+pub record ArePlaces (list places : List ℕ) : Type 0 where
+  pub long : length places ≡ length list
+  pub each : (i : ℕ) → i < length list → slice_index places (slice_index list i) ≡ i
 
 -- the component of each node of the list
 abbrev pub numbers_of : List ℕ → List ℕ → List ℕ

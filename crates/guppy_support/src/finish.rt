@@ -88,7 +88,7 @@ impl Search {
     {
         graph.facts();
         let edges = graph.out_edges(node);
-        graph.edge(edges[edges.len() - self.left[node]]).to
+        graph.edge(edges.end - self.left[node]).to
     }
 
     /// Follows the next edge of the last open node, or closes it.
@@ -114,13 +114,15 @@ impl Search {
 }
 
 /// How many edges leave each node.
+#[tactic(auto, using(crate::proofs::SearchLemmas::out_length))]
 fn out_counts(alloc: Global, graph: &Digraph) -> Result<Vec<usize>, AllocError>
     ensures long { IfOk result (λ left. length left.items ≡ graph.now.nodes) }
     ensures each { IfOk result (λ left. (v : ℕ) → v < graph.now.nodes → slice_index left.items v ≡ length (places v (sources graph.now.edges))) }
 {
     let mut left = Vec::with_capacity(alloc, graph.node_count())?;
     for node in 0..graph.node_count() {
-        left.push(graph.out_edges(node).len())?;
+        let edges = graph.out_edges(node);
+        left.push(edges.end - edges.start)?;
     }
     Ok(left)
 }

@@ -1,12 +1,12 @@
 //! The order of the nodes, and their components.
-ghost use Rattle.std.specs.Prelude.{◌≡◌, ◌≢◌, ℕ, [], ◌∷◌, ◌++◌, ◌+◌, ◌-◌, ◌<◌, ◌≤◌, ◌==◌, ◌↔◌, length, slice_index, filter, IfOk, OnOk, IsTrue};
+ghost use Rattle.std.specs.Prelude.{◌≡◌, ◌≢◌, ℕ, [], ◌∷◌, ◌++◌, ◌+◌, ◌-◌, ◌<◌, ◌≤◌, ◌==◌, ◌↔◌, length, slice_index, slice_get, Some, filter, IfOk, OnOk, IsTrue};
 ghost use Rattle.guppy_support.specs.Graph.{Graph, IsDigraph};
 ghost use Rattle.guppy_support.specs.Paths.{SameComponent};
 ghost use Rattle.guppy_support.specs.Orders.{IsOrder};
 ghost use Rattle.guppy_support.specs.Plans.{IsSetup};
 ghost use Rattle.guppy_support.specs.Finish.{AreApart};
 ghost use Rattle.guppy_support.specs.Rows.{AreBegun};
-ghost use Rattle.guppy_support.specs.Sequences.{IsOrderOf, component_of, AreNumbered, rank_at};
+ghost use Rattle.guppy_support.specs.Sequences.{IsOrderOf, IsSequence, component_of, AreNumbered, rank_at};
 
 use crate::digraph::Digraph;
 use crate::finish::component_ranks;
@@ -24,16 +24,20 @@ pub struct Order {
     components: Vec<usize>,
     count: usize,
     begins: Vec<usize>,
+    places: Vec<usize>,
 }
 
 impl Model for Order {
-    ghost use Rattle.guppy_support.specs.Sequences.{Sequence, AreGrouped};
+    ghost use Rattle.guppy_support.specs.Sequences.{Sequence, IsSequence, AreGrouped, ArePlaces};
 
     ghost Value = { Sequence };
 
     ghost view = { λ o. record { list = o.list.items; component = o.components.items; count = o.count } };
 
-    ghost invariant = { λ o. AreGrouped o.count o.list.items o.components.items o.begins.items };
+    ghost invariant = { λ o.
+        IsSequence (record { list = o.list.items; component = o.components.items; count = o.count })
+        × AreGrouped o.count o.list.items o.components.items o.begins.items
+        × ArePlaces o.list.items o.places.items };
 }
 
 impl Order {
@@ -47,13 +51,22 @@ impl Order {
         let list = listed(alloc, graph, &ranks, ranked.room, ranked.count)?;
         let (numbers, begins) = numbered(alloc, &list, &ranks, ranked.other_room, ranked.count)?;
         let components = scattered(ranks, &list, &numbers);
+        let places = placed(numbers, &list);
         let count = begins.len() - 1;
         Ok(Order {
             list,
             components,
             count,
             begins,
+            places,
         })
+    }
+
+    /// Does nothing: its contract is what is true of each order by itself.
+    pub fn facts(&self)
+        ensures { IsSequence self.now }
+    {
+        let _count = self.count;
     }
 
     /// All nodes, in order.
@@ -61,6 +74,14 @@ impl Order {
         ensures { result.now ≡ self.now.list }
     {
         &self.list
+    }
+
+    /// The place of the node in the list.
+    pub fn place(&self, node: usize) -> usize
+        requires { node < length self.now.list }
+        ensures { slice_get self.now.list result ≡ Some node }
+    {
+        self.places[node]
     }
 
     /// How many components there are.
@@ -173,4 +194,19 @@ fn scattered(memory: Vec<usize>, list: &[usize], numbers: &[usize]) -> Vec<usize
         numbered[list[place]] = numbers[place];
     }
     numbered
+}
+
+// For each node its place in the list. It takes the memory of another list.
+fn placed(memory: Vec<usize>, list: &[usize]) -> Vec<usize>
+    requires room { length memory.items ≡ length list.now }
+    requires nodes { (i : ℕ) → i < length list.now → slice_index list.now i < length list.now }
+    requires apart { AreApart list.now }
+    ensures long { length result.items ≡ length list.now }
+    ensures each { (i : ℕ) → i < length list.now → slice_index result.items (slice_index list.now i) ≡ i }
+{
+    let mut places = memory;
+    for place in 0..list.len() {
+        places[list[place]] = place;
+    }
+    places
 }

@@ -1,10 +1,9 @@
-//! The edges that leave each node, in one array: the edges ascend by source.
-ghost use Rattle.std.specs.Prelude.{◌≡◌, ◌⊎◌, ℕ, ◌+◌, ◌<◌, ◌≤◌, length, slice_index, IfOk, OnOk};
+//! Where the edges of each source begin: the edges ascend by source.
+ghost use Rattle.std.specs.Prelude.{◌≡◌, ◌⊎◌, ℕ, ◌+◌, ◌<◌, ◌≤◌, length, IfOk, OnOk};
 ghost use Rattle.guppy_support.specs.Graph.{IsDigraph, sources, source_of};
-ghost use Rattle.guppy_support.specs.Rows.{below, AreBegun, IsPacked};
+ghost use Rattle.guppy_support.specs.Rows.{AreBegun, AreAllBegun};
 
 use crate::digraph::Edge;
-use crate::pack::Rows;
 use std::alloc::{AllocError, Global};
 
 /// Lets the rows up to that of the node begin at the place, where they have no begin.
@@ -30,23 +29,14 @@ fn begin_up_to(
     Ok(())
 }
 
-/// The numbers below a count.
-fn numbers_below(alloc: Global, count: usize) -> Result<Vec<usize>, AllocError>
-    ensures long { IfOk result (λ numbers. length numbers.items ≡ count) }
-    ensures each { IfOk result (λ numbers. (i : ℕ) → i < count → slice_index numbers.items i ≡ i) }
-{
-    let mut numbers = Vec::with_capacity(alloc, count)?;
-    for number in 0..count {
-        numbers.push(number)?;
-    }
-    Ok(numbers)
-}
-
 /// Where the edges of each source begin.
-fn source_begins(alloc: Global, nodes: usize, edges: &[Edge]) -> Result<Vec<usize>, AllocError>
+pub(crate) fn source_begins(
+    alloc: Global,
+    nodes: usize,
+    edges: &[Edge],
+) -> Result<Vec<usize>, AllocError>
     requires { IsDigraph (record { nodes = nodes; edges = edges.now }) }
-    ensures long { IfOk result (λ begins. length begins.items ≡ nodes + 1) }
-    ensures begun { IfOk result (λ begins. AreBegun (sources edges.now) begins.items) }
+    ensures { IfOk result (λ begins. AreAllBegun nodes (sources edges.now) begins.items) }
 {
     let mut begins = Vec::with_capacity(alloc, nodes.saturating_add(1))?;
     for place in 0..edges.len() {
@@ -54,14 +44,4 @@ fn source_begins(alloc: Global, nodes: usize, edges: &[Edge]) -> Result<Vec<usiz
     }
     begin_up_to(&mut begins, edges, nodes, edges.len())?;
     Ok(begins)
-}
-
-/// The numbers of the edges by source.
-pub(crate) fn outward_rows(alloc: Global, nodes: usize, edges: &[Edge]) -> Result<Rows, AllocError>
-    requires { IsDigraph (record { nodes = nodes; edges = edges.now }) }
-    ensures { IfOk result (λ rows. IsPacked nodes (sources edges.now) rows.begins.items rows.numbers.items) }
-{
-    let begins = source_begins(alloc, nodes, edges)?;
-    let numbers = numbers_below(alloc, edges.len())?;
-    Ok(Rows { begins, numbers })
 }

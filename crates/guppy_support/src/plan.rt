@@ -137,7 +137,7 @@ fn out_edge(graph: &Digraph, node: usize, place: usize) -> Edge
     ensures { IsOutEdge graph.now node place result.to result.non_dev }
 {
     graph.facts();
-    graph.edge(graph.out_edges(node)[place])
+    graph.edge(graph.out_edges(node).start + place)
 }
 
 impl Plan {
@@ -282,7 +282,8 @@ impl Plan {
     {
         self.mark(graph, ranks, node)?;
         let count = self.listed.len();
-        for place in 0..graph.out_edges(node).len() {
+        let edges = graph.out_edges(node);
+        for place in 0..edges.end - edges.start {
             self.pass(graph, ranks, groups, node, place)?;
         }
         let _count = count;
