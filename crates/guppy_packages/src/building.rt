@@ -2,7 +2,7 @@
 ghost use Rattle.std.specs.Prelude.{◌≡◌, ◌+◌, ◌-◌, ◌<◌, ◌≤◌, ◌^◌, ◌∷◌, [], Ok, IfOk, IfErr, length, map};
 ghost use Rattle.std.specs.Option.{option_map};
 ghost use Rattle.std.specs.String.{string_bytes};
-ghost use Rattle.guppy_packages.specs.Graph.{Reads, first_or, faults_by, row_fault, link_fault, packages_of, links_of, dependencies_of, tables_of};
+ghost use Rattle.guppy_packages.specs.Graph.{NamesRow, Reads, first_or, faults_by, row_fault, link_fault, packages_of, links_of, dependencies_of, tables_of};
 ghost use Rattle.guppy_packages.specs.NamedFeature.{feature_table};
 ghost use Rattle.guppy_packages.specs.Platform.{platform_specs, platform_text};
 ghost use Rattle.guppy_packages.specs.Rows.{row_text, texts};
@@ -17,8 +17,10 @@ use crate::platform::{PlatformStatusImpl, Spec};
 use crate::row::{DependencyKind, Row};
 use crate::row_error::{RowError, RowFault};
 use crate::stored::{Declaration, LinkData, PackageData};
+use crate::text_map::{TextMap, TextSet};
 use indexmap::{IndexMap, IndexSet};
 use std::alloc::{AllocError, Global};
+use std::hash::BuildHasherDefault;
 
 /// Owned texts.
 fn owned(alloc: Global, items: &[&str]) -> Result<Vec<String>, AllocError>
@@ -34,7 +36,7 @@ fn owned(alloc: Global, items: &[&str]) -> Result<Vec<String>, AllocError>
 /// A Package row.
 fn push_package(
     alloc: Global,
-    packages: &mut IndexMap<PackageId, PackageData>,
+    packages: &mut TextMap<PackageId, PackageData>,
     id: &str,
     in_workspace: bool,
 ) -> Result<(), RowFault>
@@ -44,8 +46,8 @@ fn push_package(
         return Err(RowFault::DuplicatePackage);
     }
     let id = PackageId::new(alloc, id)?;
-    let features = IndexSet::new(alloc);
-    let optional_names = IndexSet::new(alloc);
+    let features = IndexSet::with_hasher(alloc, BuildHasherDefault::new());
+    let optional_names = IndexSet::with_hasher(alloc, BuildHasherDefault::new());
     packages.insert(
         id,
         PackageData {
@@ -60,7 +62,7 @@ fn push_package(
 /// A Feature row of a package with these features.
 fn push_feature(
     alloc: Global,
-    features: &mut IndexSet<NamedFeature>,
+    features: &mut TextSet<NamedFeature>,
     name: &str,
     items: &[&str],
 ) -> Result<(), RowFault>
@@ -78,7 +80,7 @@ fn push_feature(
 /// A Feature row, which belongs to the last package.
 fn push_feature_row(
     alloc: Global,
-    packages: &mut IndexMap<PackageId, PackageData>,
+    packages: &mut TextMap<PackageId, PackageData>,
     name: &str,
     items: &[&str],
 ) -> Result<(), RowFault>
@@ -91,7 +93,7 @@ fn push_feature_row(
 }
 
 /// The name of an optional dependency of a package with these.
-fn push_name(alloc: Global, names: &mut IndexSet<String>, name: &str) -> Result<(), RowFault>
+fn push_name(alloc: Global, names: &mut TextSet<String>, name: &str) -> Result<(), RowFault>
     ensures { Takes (map string_bytes names.new.keys) result (Ok (with_name name.now (map string_bytes names.old.keys))) }
 {
     if names.contains(name) {
@@ -104,7 +106,7 @@ fn push_name(alloc: Global, names: &mut IndexSet<String>, name: &str) -> Result<
 /// A Dep row in the first pass: the last package notes the name of an optional dependency.
 fn push_dep_row(
     alloc: Global,
-    packages: &mut IndexMap<PackageId, PackageData>,
+    packages: &mut TextMap<PackageId, PackageData>,
     name: &str,
     optional: bool,
 ) -> Result<(), RowFault>
@@ -122,7 +124,7 @@ fn push_dep_row(
 /// A row of the first pass.
 fn take_row(
     alloc: Global,
-    packages: &mut IndexMap<PackageId, PackageData>,
+    packages: &mut TextMap<PackageId, PackageData>,
     row: Row,
 ) -> Result<(), RowFault>
     ensures { Takes (package_tables packages.new) result (first_step (package_tables packages.old) (row_text row.entry)) }
@@ -135,11 +137,11 @@ fn take_row(
 }
 
 /// The first pass.
-fn take_packages(alloc: Global, rows: &[Row]) -> Result<IndexMap<PackageId, PackageData>, RowError>
+fn take_packages(alloc: Global, rows: &[Row]) -> Result<TextMap<PackageId, PackageData>, RowError>
     ensures tables { Reads package_tables result (first_or (faults_by row_fault (map row_text rows.now)) (packages_of (map row_text rows.now))) }
-    ensures row { IfErr result (λ e. e.row < length rows.now) }
+    ensures row { IfErr result (NamesRow rows.now) }
 {
-    let mut packages = IndexMap::new(alloc);
+    let mut packages = IndexMap::with_hasher(alloc, BuildHasherDefault::new());
     for (row, given) in rows.iter().enumerate() {
         if let Err(fault) = take_row(alloc, &mut packages, *given) {
             return Err(RowError::new(row, fault));
@@ -216,7 +218,7 @@ fn push_link(
 }
 
 /// The number of the package with this id.
-fn place_of(packages: &IndexMap<PackageId, PackageData>, id: &str) -> Option<usize>
+fn place_of(packages: &TextMap<PackageId, PackageData>, id: &str) -> Option<usize>
     ensures { result ≡ package_place id.now (package_tables packages.now) }
 {
     packages.get_index_of(id)
@@ -225,7 +227,7 @@ fn place_of(packages: &IndexMap<PackageId, PackageData>, id: &str) -> Option<usi
 /// A row of the second pass, where so many packages began.
 fn link_row(
     alloc: Global,
-    packages: &IndexMap<PackageId, PackageData>,
+    packages: &TextMap<PackageId, PackageData>,
     links: &mut IndexMap<(usize, usize), LinkData>,
     begun: usize,
     row: Row,
@@ -266,11 +268,11 @@ fn count(begun: usize, row: Row) -> usize
 /// The second pass.
 fn take_links(
     alloc: Global,
-    packages: &IndexMap<PackageId, PackageData>,
+    packages: &TextMap<PackageId, PackageData>,
     rows: &[Row],
 ) -> Result<IndexMap<(usize, usize), LinkData>, RowError>
     ensures tables { Reads link_tables result (first_or (faults_by (link_fault (package_tables packages.now)) (map row_text rows.now)) (links_of (dependencies_of (package_tables packages.now) (map row_text rows.now)))) }
-    ensures row { IfErr result (λ e. e.row < length rows.now) }
+    ensures row { IfErr result (NamesRow rows.now) }
 {
     let mut links = IndexMap::new(alloc);
     let mut begun = 0;
@@ -287,7 +289,7 @@ impl PackageGraph {
     /// The graph of the rows, or the first fault: those of rows by themselves come before those among all packages.
     pub fn from_rows(alloc: Global, rows: &[Row]) -> Result<PackageGraph, RowError>
         ensures tables { Reads (λ graph. graph) result (tables_of (map row_text rows.now)) }
-        ensures row { IfErr result (λ e. e.row < length rows.now) }
+        ensures row { IfErr result (NamesRow rows.now) }
     {
         let packages = take_packages(alloc, rows)?;
         let links = take_links(alloc, &packages, rows)?;

@@ -6,6 +6,7 @@ use crate::link::PackageLink;
 use crate::metadata::{PackageMetadata, UnknownPackageId};
 use crate::package_id::PackageId;
 use crate::stored::{LinkData, PackageData};
+use crate::text_map::TextMap;
 use indexmap::IndexMap;
 use std::marker::Model;
 use std::ops::Range;
@@ -13,7 +14,7 @@ use std::ops::Range;
 /// Packages with their features, and the links between them. A contract sees it as its tables.
 #[derive(Drop)]
 pub struct PackageGraph {
-    pub(crate) packages: IndexMap<PackageId, PackageData>,
+    pub(crate) packages: TextMap<PackageId, PackageData>,
     pub(crate) links: IndexMap<(usize, usize), LinkData>,
 }
 
@@ -30,7 +31,7 @@ impl Model for PackageGraph {
 }
 
 impl PackageGraph {
-    ghost use Rattle.guppy_packages.specs.Metadata.{package_graph_of, package_id_of, package_table_of, link_graph_of, link_table_of};
+    ghost use Rattle.guppy_packages.specs.Metadata.{package_graph_of, package_id_of, package_number_of, package_table_of, link_graph_of, link_number_of, link_table_of};
 
     /// What holds of the tables of every package graph.
     pub fn facts(&self)
@@ -58,7 +59,7 @@ impl PackageGraph {
         requires { ix < length self.now.packages }
         ensures graph { package_graph_of result ≡ self.now }
         ensures package { slice_get self.now.packages ix ≡ Some (package_table_of result) }
-        ensures number { result.package_ix ≡ ix }
+        ensures number { package_number_of result ≡ ix }
     {
         match self.packages.get_index(ix) {
             Some((id, data)) => PackageMetadata::new(self, ix, id, data),
@@ -71,7 +72,7 @@ impl PackageGraph {
         requires { ix < length self.now.links }
         ensures graph { link_graph_of result ≡ self.now }
         ensures link { slice_get self.now.links ix ≡ Some (link_table_of result) }
-        ensures number { result.link_ix ≡ ix }
+        ensures number { link_number_of result ≡ ix }
     {
         match self.links.get_index(ix) {
             Some((pair, data)) => PackageLink::new(self, ix, *pair, data),
@@ -99,7 +100,7 @@ impl PackageGraph {
     /// The package with this id, or an error where there is none.
     pub fn metadata(&self, id: &PackageId) -> Result<PackageMetadata<'_>, UnknownPackageId>
         ensures found { MatchResult result
-            (λ m. (package_graph_of m ≡ self.now) × (package_place id.now self.now.packages ≡ Some m.package_ix))
+            (λ m. (package_graph_of m ≡ self.now) × (package_place id.now self.now.packages ≡ Some (package_number_of m)))
             (λ _. package_place id.now self.now.packages ≡ None) }
         ensures id { IfOk result (λ m. package_id_of m ≡ id.now) }
     {

@@ -13,6 +13,7 @@ mod platform;
 mod row;
 mod row_error;
 mod stored;
+mod text_map;
 #[cfg(test)]
 mod tests;
 

@@ -20,7 +20,7 @@ pub struct PackageLink<'g> {
 }
 
 impl<'g> PackageLink<'g> {
-    ghost use Rattle.guppy_packages.specs.Metadata.{package_graph_of, package_table_of, link_graph_of, link_table_of};
+    ghost use Rattle.guppy_packages.specs.Metadata.{package_graph_of, package_number_of, package_table_of, link_graph_of, link_number_of, link_table_of};
 
     /// The link of this number, whose pair and contents these are.
     pub(crate) fn new(
@@ -32,7 +32,7 @@ impl<'g> PackageLink<'g> {
         requires { slice_get graph.now.links link_ix ≡ Some (link_table (pair, contents.now)) }
         ensures graph { link_graph_of result ≡ graph.now }
         ensures link { link_table_of result ≡ link_table (pair, contents.now) }
-        ensures number { result.link_ix ≡ link_ix }
+        ensures number { link_number_of result ≡ link_ix }
     {
         PackageLink {
             graph,
@@ -44,7 +44,7 @@ impl<'g> PackageLink<'g> {
 
     /// Its number in the graph.
     pub fn link_ix(self) -> usize
-        ensures number { result ≡ self.entry.link_ix }
+        ensures number { result ≡ link_number_of self.entry }
         ensures link { slice_get (link_graph_of self.entry).links result ≡ Some (link_table_of self.entry) }
     {
         self.link_ix
@@ -53,7 +53,7 @@ impl<'g> PackageLink<'g> {
     /// The package that it leaves.
     pub fn from(self) -> PackageMetadata<'g>
         ensures graph { package_graph_of result ≡ link_graph_of self.entry }
-        ensures number { result.package_ix ≡ (link_table_of self.entry).from }
+        ensures number { package_number_of result ≡ (link_table_of self.entry).from }
         ensures package { slice_get (link_graph_of self.entry).packages (link_table_of self.entry).from ≡ Some (package_table_of result) }
     {
         self.graph.facts();
@@ -63,7 +63,7 @@ impl<'g> PackageLink<'g> {
     /// The package that it leads to.
     pub fn to(self) -> PackageMetadata<'g>
         ensures graph { package_graph_of result ≡ link_graph_of self.entry }
-        ensures number { result.package_ix ≡ (link_table_of self.entry).to }
+        ensures number { package_number_of result ≡ (link_table_of self.entry).to }
         ensures package { slice_get (link_graph_of self.entry).packages (link_table_of self.entry).to ≡ Some (package_table_of result) }
     {
         self.graph.facts();

@@ -30,7 +30,7 @@ pub struct PackageMetadata<'g> {
 }
 
 impl<'g> PackageMetadata<'g> {
-    ghost use Rattle.guppy_packages.specs.Metadata.{package_id_of, package_graph_of, package_table_of};
+    ghost use Rattle.guppy_packages.specs.Metadata.{package_id_of, package_graph_of, package_number_of, package_table_of};
 
     /// The package of this number, whose id and contents these are.
     pub(crate) fn new(
@@ -42,7 +42,7 @@ impl<'g> PackageMetadata<'g> {
         requires { slice_get graph.now.packages package_ix ≡ Some (package_table (id.now, contents.now)) }
         ensures graph { package_graph_of result ≡ graph.now }
         ensures package { package_table_of result ≡ package_table (id.now, contents.now) }
-        ensures number { result.package_ix ≡ package_ix }
+        ensures number { package_number_of result ≡ package_ix }
     {
         PackageMetadata {
             graph,
@@ -61,7 +61,7 @@ impl<'g> PackageMetadata<'g> {
 
     /// Its number in the graph.
     pub fn package_ix(self) -> usize
-        ensures number { result ≡ self.entry.package_ix }
+        ensures number { result ≡ package_number_of self.entry }
         ensures package { slice_get (package_graph_of self.entry).packages result ≡ Some (package_table_of self.entry) }
     {
         self.package_ix
@@ -118,7 +118,7 @@ impl<'g> PackageMetadata<'g> {
 
     /// The numbers of the links that leave it, ascending.
     pub fn direct_links(self) -> Range<usize>
-        ensures { AreLinksFrom (package_graph_of self.entry).links self.entry.package_ix result.start result.end }
+        ensures { AreLinksFrom (package_graph_of self.entry).links (package_number_of self.entry) result.start result.end }
     {
         self.graph.links_from(self.package_ix)
     }

@@ -9,7 +9,7 @@ ghost use Rattle.guppy_packages.specs.Tables.{is_development};
 use crate::named_feature::NamedFeature;
 use crate::platform::PlatformStatusImpl;
 use crate::row::DependencyKind;
-use indexmap::IndexSet;
+use crate::text_map::TextSet;
 
 /// What one Dep row declares of the package that it names.
 #[derive(Debug, Drop)]
@@ -74,8 +74,8 @@ pub(crate) fn are_for_development(declarations: &[Declaration]) -> bool
 #[derive(Drop)]
 pub struct PackageData {
     pub(crate) in_workspace: bool,
-    pub(crate) features: IndexSet<NamedFeature>,
-    pub(crate) optional_names: IndexSet<String>,
+    pub(crate) features: TextSet<NamedFeature>,
+    pub(crate) optional_names: TextSet<String>,
 }
 
 /// The declarations of a pair of packages.

@@ -18,4 +18,4 @@ returns c =
     let fresh : list_any (λ p. bytes_eq c.args.id.now p.id) (package_tables c.args.packages.now) ≡ false = lookup_any package_table (bytes_eq c.args.id.now) _ (λ e. refl) c.args.packages.now.entries ∙ sym c.if-contains_key.ensures in
     let none : lookup (bytes_eq c.in_ok-id.id) c.args.packages.now.entries ≡ None = rw c.in_ok-id.ensures (none_of _ (sym c.if-contains_key.ensures)) in
     let added = c.in_ok-insert.ensures.entries ∙ insert_entry-new _ c.args.packages.now _ _ none in
-    rw (fresh, added, map-append package_table c.args.packages.now.entries _, c.in_ok-id.ensures, c.new-features.ensures.empty, c.new-optional_names.ensures.empty)
+    rw (fresh, added, map-append package_table c.args.packages.now.entries _, c.in_ok-id.ensures, c.with_hasher-features.ensures.empty, c.with_hasher-optional_names.ensures.empty)

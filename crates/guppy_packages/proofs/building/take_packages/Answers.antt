@@ -14,7 +14,7 @@ returns-in-Err-clause-tables c =
     let i = c.loop-row.row in
     let at = drop_map_get row_text c.args.rows.now i (Package (record { ref_ptr = (0, 0); now = [] }) false) (search rules) in
     let within : i < length all = rw (length-map c.args.rows.now row_text) (search rules) in
-    first_answers all i _ within at c.loop-row.invariant.none (package_tables c.loop-row.packages) c.loop-row.invariant.tables (Unit {0}) c.in-Err.fault c.new.result (package_tables c.take_row.new.packages) (packages_of all) c.new.ensures.fault c.new.ensures.row c.in-Err.ensures
+    first_answers all i _ within at c.loop-row.invariant.none (package_tables c.loop-row.packages) c.loop-row.invariant.tables (Unit {0}) c.in-Err.fault c.new-in-Err.result (package_tables c.take_row.new.packages) (packages_of all) c.new-in-Err.ensures.fault c.new-in-Err.ensures.row c.in-Err.ensures
 
 pub loop-row-preserved : goal.loop-row-preserved
 loop-row-preserved c =
