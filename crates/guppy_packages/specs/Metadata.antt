@@ -3,8 +3,8 @@ use Rattle.std.specs.Prelude.{ℕ}
 use Rattle.guppy_packages.specs.Rows.{Text}
 use Rattle.guppy_packages.specs.Tables.{Tables, PackageTable, LinkTable}
 use Rattle.guppy_packages.specs.Stored.{package_table, link_table}
-use Rattle.guppy_packages.specs.declared.metadata.PackageMetadata.{PackageMetadata}
-use Rattle.guppy_packages.specs.declared.link.PackageLink.{PackageLink}
+use Rattle.guppy_packages.specs.declared.package_metadata.PackageMetadata.{PackageMetadata}
+use Rattle.guppy_packages.specs.declared.package_link.PackageLink.{PackageLink}
 
 abbrev pub package_id_of : PackageMetadata → Text
 package_id_of m = m.id.now
