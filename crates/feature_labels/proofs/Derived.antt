@@ -1,12 +1,12 @@
 -- The derived comparisons of labels and ids are those of their names.
 use Rattle.std.proofs.Common.{◌≡◌, ◌∙◌, Bool, true, List, map, nat_eq, sym, ap, refl}
-use Rattle.guppy_packages.specs.Rows.{Text}
 use Rattle.std.specs.Cmp.Lexicographic.{pointwise, slice_cmp, bytes_decides, texts_ties}
 use Rattle.std.specs.Bool.{Decides}
 use Rattle.std.specs.Ordering.{nat_cmp, ordering_then}
 use Rattle.std.proofs.lemmas.Bool.Decides.{Decides-and}
 use Rattle.std.specs.Cmp.Derive.Mapped.{pointwise-map}
-use Rattle.feature_labels.specs.Names.{LabelName, label_of, label_cmp, id_of, id_cmp}
+use Rattle.feature_labels.specs.Lists.{ListValue}
+use Rattle.feature_labels.specs.Names.{label_of, label_cmp, id_of, id_cmp}
 use Rattle.feature_labels.specs.Orders.{label_eq, label_eq-Decides, list_eq}
 use Rattle.feature_labels.specs.declared.feature_label.FeatureLabel.{FeatureLabel}
 use Rattle.feature_labels.specs.declared.feature_label.FeatureLabel.TheVariants.{Base, Named, OptionalDependency}
@@ -42,8 +42,8 @@ pub labels_eq-derived : (xs ys : List FeatureLabel) → pointwise (same.ghosts).
 labels_eq-derived xs ys = (λ i. pointwise (λ a b. label_eq-derived a b i) xs ys) ∙ sym (pointwise-map label_of label_eq xs ys)
 
 -- two lists compare by their packages' ids and their labels
-pub list_eq-derived : (s t : Text) (xs ys : List FeatureLabel) (a b : Text × List LabelName) (r : Bool) → (s, map label_of xs) ≡ a → (t, map label_of ys) ≡ b → true ≡ pointwise nat_eq s t → r ≡ pointwise (same.ghosts).eq xs ys → r ≡ list_eq a b
-list_eq-derived s t xs ys a b r from to one labels = rw (← from, ← to, ← one) (labels ∙ labels_eq-derived xs ys)
+pub list_eq-derived : (xs ys : List FeatureLabel) (a b : ListValue) (r : Bool) → map label_of xs ≡ a.labels → map label_of ys ≡ b.labels → true ≡ pointwise nat_eq a.package_id b.package_id → r ≡ pointwise (same.ghosts).eq xs ys → r ≡ list_eq a b
+list_eq-derived xs ys a b r from to one labels = rw (← from, ← to, ← one) (labels ∙ labels_eq-derived xs ys)
 
 pub id_cmp-derived : (a b : FeatureId) → (id_order.ghosts).cmp a b ≡ id_cmp (id_of a) (id_of b)
 id_cmp-derived a b = ap (ordering_then (slice_cmp nat_cmp a.package_id.now b.package_id.now)) (label_cmp-derived a.label b.label)

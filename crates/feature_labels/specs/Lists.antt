@@ -1,13 +1,21 @@
 -- Lists of labels of one package.
-use Rattle.std.specs.Prelude.{List, ◌↔◌, Option, Some, None, codes, map}
+use Rattle.std.specs.Prelude.{ℕ, List, ◌↔◌, Option, Some, None, codes, map}
 use Rattle.std.specs.List.{Contains, join_by}
 use Rattle.std.specs.List.Sorted.{IsStrictlySortedBy}
 use Rattle.std.specs.Cmp.Lexicographic.{slice_cmp}
 use Rattle.std.specs.Ordering.{nat_cmp}
 use Rattle.guppy_packages.specs.Rows.{Text}
+use Rattle.guppy_packages.specs.Tables.{Tables}
 use Rattle.feature_labels.specs.Names.{LabelName, label_of, label_cmp, label_text}
 use Rattle.feature_labels.specs.Names.LabelName.{base, named, optional}
 use Rattle.feature_labels.specs.declared.display_features.DisplayFeatures.{DisplayFeatures}
+
+-- features of one package: the tables that the package is of, its number and its id there, and the labels
+pub record ListValue : Type 0 where
+  pub graph : Tables
+  pub number : ℕ
+  pub package_id : Text
+  pub labels : List LabelName
 
 -- each label is below those after it
 abbrev pub Ascends : List LabelName → Type 0

@@ -33,6 +33,10 @@ kind_rank kind.Base = 0
 kind_rank kind.Named = 1
 kind_rank kind.OptionalDependency = 2
 
+-- the base, then the named features, then the optional dependencies
+abbrev pub kind_cmp : FeatureKind → FeatureKind → Ordering
+kind_cmp a b = nat_cmp (kind_rank a) (kind_rank b)
+
 -- the text of the package's id, and the label
 abbrev pub id_of : FeatureId → Text × LabelName
 id_of i = (i.package_id.now, label_of i.label)

@@ -1,5 +1,5 @@
 -- The orders of labels and ids are total, and what they do not tell apart is equal.
-use Rattle.std.specs.Prelude.{ℕ, Bool, ◌&&◌, ◌≡◌, List, [], nat_eq, refl}
+use Rattle.std.specs.Prelude.{ℕ, Bool, ◌&&◌, ◌≡◌, [], nat_eq, refl}
 use Rattle.std.specs.Bool.{Decides}
 use Rattle.std.specs.Cmp.{IsTotalOrder, IsEquivalence}
 use Rattle.std.specs.Cmp.Lexicographic.{slice_cmp, pointwise, bytes_decides, texts_ties, on_texts, on_texts_equal}
@@ -9,7 +9,8 @@ use Rattle.std.proofs.lemmas.Cmp.{then_total, on_total, nat_cmp_total, eq_by_cmp
 use Rattle.std.proofs.lemmas.Bool.Decides.{Decides-and}
 use Rattle.std.proofs.lemmas.Slice.Eq.{slice_eq-Decides}
 use Rattle.guppy_packages.specs.Rows.{Text}
-use Rattle.feature_labels.specs.Names.{LabelName, kind_of, kind_rank, label_cmp, id_cmp}
+use Rattle.feature_labels.specs.Lists.{ListValue}
+use Rattle.feature_labels.specs.Names.{LabelName, kind_of, kind_rank, kind_cmp, label_cmp, id_cmp}
 use Rattle.feature_labels.specs.Names.LabelName.{base, named, optional}
 
 -- whether two labels are the same
@@ -42,6 +43,9 @@ label_cmp_total = subst IsTotalOrder (λ i a b. label_cmp-by_rank a b i) (then_t
 pub label_eq_equiv : IsEquivalence label_eq
 label_eq_equiv = eq_by_cmp_equiv label_cmp_total
 
+pub kind_cmp_total : IsTotalOrder kind_cmp
+kind_cmp_total = on_total kind_rank nat_cmp_total
+
 pub id_cmp_total : IsTotalOrder id_cmp
 id_cmp_total = then_total (on_texts (λ (id : Text × LabelName). id.0)) (on_total (λ (id : Text × LabelName). id.1) label_cmp_total)
 
@@ -60,16 +64,15 @@ label_eq-Decides (optional _) base = (λ e. cc, λ e. cc)
 label_eq-Decides (optional _) (named _) = (λ e. cc, λ e. cc)
 label_eq-Decides (optional s) (optional t) = let d = text_eq-Decides s t in (λ e. ap optional (d.0 e), λ e. d.1 (cc))
 
--- whether two lists are of one package and have the same labels
-abbrev pub list_eq : Text × List LabelName → Text × List LabelName → Bool
-list_eq a b = pointwise nat_eq a.0 b.0 && pointwise label_eq a.1 b.1
+-- whether two lists are of packages of one id and have the same labels
+abbrev pub list_eq : ListValue → ListValue → Bool
+list_eq a b = pointwise nat_eq a.package_id b.package_id && pointwise label_eq a.labels b.labels
 
 pub list_eq_equiv : IsEquivalence list_eq
-list_eq_equiv = and_equiv (on_texts_equal (λ (list : Text × List LabelName). list.0)) (on_equiv (λ (list : Text × List LabelName). list.1) (lists_equiv label_eq_equiv))
+list_eq_equiv = and_equiv (on_texts_equal (λ (list : ListValue). list.package_id)) (on_equiv (λ (list : ListValue). list.labels) (lists_equiv label_eq_equiv))
 
-pub list_eq-Decides : (a b : Text × List LabelName) → Decides (list_eq a b) (a ≡ b)
+pub list_eq-Decides : (a b : ListValue) → Decides (list_eq a b) ((a.package_id ≡ b.package_id) × (a.labels ≡ b.labels))
 list_eq-Decides a b =
-    let ids : Decides (pointwise nat_eq a.0 b.0) (a.0 ≡ b.0) = bytes_decides a.0 b.0 in
-    let labels : Decides (pointwise label_eq a.1 b.1) (a.1 ≡ b.1) = slice_eq-Decides label_eq-Decides a.1 b.1 (pointwise label_eq a.1 b.1) refl in
-    let both = Decides-and (pointwise nat_eq a.0 b.0) (pointwise label_eq a.1 b.1) ids labels in
-    (λ e. (λ i. ((both.0 e).0 i, (both.0 e).1 i)), λ e. both.1 (ap (λ list. list.0) e, ap (λ list. list.1) e))
+    let ids : Decides (pointwise nat_eq a.package_id b.package_id) (a.package_id ≡ b.package_id) = bytes_decides a.package_id b.package_id in
+    let labels : Decides (pointwise label_eq a.labels b.labels) (a.labels ≡ b.labels) = slice_eq-Decides label_eq-Decides a.labels b.labels (pointwise label_eq a.labels b.labels) refl in
+    Decides-and (pointwise nat_eq a.package_id b.package_id) (pointwise label_eq a.labels b.labels) ids labels

@@ -1,7 +1,7 @@
 //! A sorted list of features of one package, with no feature twice.
 ghost use Rattle.std.specs.Prelude.{◌≡◌, ◌↔◌, IfOk, IsTrue, map};
 ghost use Rattle.std.specs.List.{Contains, filter_map};
-ghost use Rattle.guppy_packages.specs.Metadata.{package_id_of};
+ghost use Rattle.guppy_packages.specs.Metadata.{package_graph_of, package_id_of, package_number_of};
 ghost use Rattle.feature_labels.specs.Names.{label_of};
 ghost use Rattle.feature_labels.specs.Names.LabelName.{base, named, optional};
 ghost use Rattle.feature_labels.specs.Lists.{Ascends, SameLabels, TextsAscend, ids_in, name_if_named, name_if_optional, labels_shown};
@@ -20,7 +20,7 @@ use std::marker::Model;
 
 /// A sorted list of features of one package, with no feature twice.
 ///
-/// A contract sees it as the text of the package's id and the labels.
+/// A contract sees it as the graph, the number and the id of its package, and the labels.
 #[derive(Drop)]
 pub struct FeatureList<'g> {
     package: PackageMetadata<'g>,
@@ -28,17 +28,15 @@ pub struct FeatureList<'g> {
 }
 
 impl<'g> Model for FeatureList<'g> {
-    ghost use Rattle.std.specs.Prelude.{List, map};
-    ghost use Rattle.guppy_packages.specs.Rows.{Text};
-    ghost use Rattle.feature_labels.specs.Names.{LabelName};
+    ghost use Rattle.std.specs.Prelude.{map};
+    ghost use Rattle.feature_labels.specs.Lists.{Ascends, ListValue};
 
-    ghost Value = { Text × List LabelName };
+    ghost Value = { ListValue };
 
-    ghost use Rattle.guppy_packages.specs.Metadata.{package_id_of};
+    ghost use Rattle.guppy_packages.specs.Metadata.{package_graph_of, package_id_of, package_number_of};
     ghost use Rattle.feature_labels.specs.Names.{label_of};
-    ghost use Rattle.feature_labels.specs.Lists.{Ascends};
 
-    ghost view = { λ list. (package_id_of list.package, map label_of list.labels.items) };
+    ghost view = { λ list. record { graph = package_graph_of list.package; number = package_number_of list.package; package_id = package_id_of list.package; labels = map label_of list.labels.items } };
 
     ghost invariant = { λ list. Ascends (map label_of list.labels.items) };
 }
@@ -50,9 +48,11 @@ impl<'g> FeatureList<'g> {
         package: PackageMetadata<'g>,
         labels: &[FeatureLabel<'g>],
     ) -> Result<FeatureList<'g>, AllocError>
-        ensures of_package { IfOk result (λ list. list.0 ≡ package_id_of «package».entry) }
-        ensures same { IfOk result (λ list. SameLabels (map label_of labels.now) list.1) }
-        ensures ascends { IfOk result (λ list. Ascends list.1) }
+        ensures graph { IfOk result (λ list. list.graph ≡ package_graph_of «package».entry) }
+        ensures number { IfOk result (λ list. list.number ≡ package_number_of «package».entry) }
+        ensures of_package { IfOk result (λ list. list.package_id ≡ package_id_of «package».entry) }
+        ensures same { IfOk result (λ list. SameLabels (map label_of labels.now) list.labels) }
+        ensures ascends { IfOk result (λ list. Ascends list.labels) }
     {
         let mut labels = labels.to_vec(alloc)?;
         labels.sort_unstable();
@@ -62,43 +62,45 @@ impl<'g> FeatureList<'g> {
 
     /// The package of the features.
     pub fn package(&self) -> &PackageMetadata<'g>
-        ensures { package_id_of result.now ≡ self.now.0 }
+        ensures graph { package_graph_of result.now ≡ self.now.graph }
+        ensures number { package_number_of result.now ≡ self.now.number }
+        ensures id { package_id_of result.now ≡ self.now.package_id }
     {
         &self.package
     }
 
     /// Whether the list has this label.
     pub fn contains(&self, label: FeatureLabel<'_>) -> bool
-        ensures { IsTrue result ↔ Contains self.now.1 (label_of label.entry) }
+        ensures { IsTrue result ↔ Contains self.now.labels (label_of label.entry) }
     {
         self.labels.binary_search(&label).is_ok()
     }
 
     /// Whether the list has the base feature, which stands for the package with no feature enabled.
     pub fn has_base(&self) -> bool
-        ensures { IsTrue result ↔ Contains self.now.1 base }
+        ensures { IsTrue result ↔ Contains self.now.labels base }
     {
         self.contains(FeatureLabel::Base)
     }
 
     /// Whether the list has the feature of this name.
     pub fn has_named_feature(&self, feature_name: &str) -> bool
-        ensures { IsTrue result ↔ Contains self.now.1 (named feature_name.now) }
+        ensures { IsTrue result ↔ Contains self.now.labels (named feature_name.now) }
     {
         self.contains(FeatureLabel::Named(feature_name))
     }
 
     /// Whether the list has the optional dependency of this name.
     pub fn has_optional_dependency(&self, dep_name: &str) -> bool
-        ensures { IsTrue result ↔ Contains self.now.1 (optional dep_name.now) }
+        ensures { IsTrue result ↔ Contains self.now.labels (optional dep_name.now) }
     {
         self.contains(FeatureLabel::OptionalDependency(dep_name))
     }
 
     /// The labels, ascending.
     pub fn labels(&self) -> &[FeatureLabel<'g>]
-        ensures value { map label_of result.now ≡ self.now.1 }
-        ensures ascends { Ascends self.now.1 }
+        ensures value { map label_of result.now ≡ self.now.labels }
+        ensures ascends { Ascends self.now.labels }
     {
         self.labels.as_slice()
     }
@@ -106,7 +108,7 @@ impl<'g> FeatureList<'g> {
     /// The names of the named features, ascending.
     #[tactic(auto, using(crate::proofs::Texts::names_ascend))]
     pub fn named_features<'a>(&'a self) -> NamedFeatures<'g, 'a>
-        ensures value { result ≡ filter_map name_if_named self.now.1 }
+        ensures value { result ≡ filter_map name_if_named self.now.labels }
         ensures ascends { TextsAscend result }
     {
         NamedFeatures::new(self.labels())
@@ -115,7 +117,7 @@ impl<'g> FeatureList<'g> {
     /// The names of the optional dependencies, ascending.
     #[tactic(auto, using(crate::proofs::Texts::optional_names_ascend))]
     pub fn optional_deps<'a>(&'a self) -> OptionalDeps<'g, 'a>
-        ensures value { result ≡ filter_map name_if_optional self.now.1 }
+        ensures value { result ≡ filter_map name_if_optional self.now.labels }
         ensures ascends { TextsAscend result }
     {
         OptionalDeps::new(self.labels())
@@ -123,22 +125,22 @@ impl<'g> FeatureList<'g> {
 
     /// The ids of the features, in the order of the labels.
     pub fn iter<'a>(&'a self) -> Iter<'g, 'a>
-        ensures { result ≡ ids_in self.now.0 self.now.1 }
+        ensures { result ≡ ids_in self.now.package_id self.now.labels }
     {
         Iter::new(self)
     }
 
     /// Prints the labels, with `, ` between two of them.
     pub fn display_features<'a>(&'a self) -> DisplayFeatures<'g, 'a>
-        ensures { labels_shown result ≡ self.now.1 }
+        ensures { labels_shown result ≡ self.now.labels }
     {
         DisplayFeatures::new(self.labels())
     }
 
     /// The labels, ascending.
     pub fn into_labels(self) -> Vec<FeatureLabel<'g>>
-        ensures value { map label_of result.items ≡ self.entry.1 }
-        ensures ascends { Ascends self.entry.1 }
+        ensures value { map label_of result.items ≡ self.entry.labels }
+        ensures ascends { Ascends self.entry.labels }
     {
         let FeatureList { package: _, labels } = self;
         labels
@@ -155,7 +157,7 @@ impl<'g> FeatureList<'g> {
     }
 }
 
-/// Lists are equal where they are of one package, by its id, and have the same labels.
+/// Lists are equal where their packages have one id, in whichever graphs, and they have the same labels.
 impl PartialEq for FeatureList<'_> {
     ghost eq = { list_eq };
 
@@ -163,7 +165,7 @@ impl PartialEq for FeatureList<'_> {
 
     fn eq(&self, other: &Self) -> bool
         ensures value { result ≡ list_eq self.now other.now }
-        ensures same { IsTrue result ↔ (self.now ≡ other.now) }
+        ensures same { IsTrue result ↔ ((self.now.package_id ≡ other.now.package_id) × (self.now.labels ≡ other.now.labels)) }
     {
         self.package.id() == other.package.id() && self.labels == other.labels
     }

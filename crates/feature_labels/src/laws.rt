@@ -1,8 +1,7 @@
 //! Laws of ids, labels and kinds: they are equal, ordered and hashed by value, wherever their texts lie.
 ghost use Rattle.std.specs.Prelude.{◌≡◌, ◌↔◌, IsTrue};
 ghost use Rattle.std.specs.Cmp.{IsTotalOrder};
-ghost use Rattle.std.specs.Ordering.{nat_cmp};
-ghost use Rattle.feature_labels.specs.Names.{label_of, label_cmp, id_of, id_cmp, kind_rank};
+ghost use Rattle.feature_labels.specs.Names.{label_of, label_cmp, id_of, id_cmp, kind_cmp};
 
 use crate::feature_id::FeatureId;
 use crate::feature_label::{FeatureKind, FeatureLabel};
@@ -43,10 +42,20 @@ pub fn kind_equality(a: FeatureKind, b: FeatureKind) -> bool
 
 /// Kinds are ordered as the labels are: the base, the named features, the optional dependencies.
 pub fn kind_order(a: FeatureKind, b: FeatureKind) -> Ordering
-    ensures { result ≡ nat_cmp (kind_rank a) (kind_rank b) }
+    ensures { result ≡ kind_cmp a b }
 {
     a.cmp(&b)
 }
+
+/// Equal kinds make the same writes to a hasher.
+pub fn kind_hash(a: FeatureKind, b: FeatureKind)
+    ensures { a ≡ b → ⟦<FeatureKind as Hash>⟧.hash_input a ≡ ⟦<FeatureKind as Hash>⟧.hash_input b }
+{}
+
+/// The order of kinds is total.
+pub fn kind_order_is_total()
+    ensures { IsTotalOrder kind_cmp }
+{}
 
 /// Two ids are equal where their packages' ids and their labels are.
 pub fn id_equality(a: FeatureId<'_>, b: FeatureId<'_>) -> bool

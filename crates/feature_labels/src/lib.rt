@@ -14,5 +14,3 @@ pub use feature_label::{FeatureKind, FeatureLabel};
 pub use feature_list::FeatureList;
 pub use link_declarations::LinkDeclarations;
 
-#[cfg(test)]
-mod tests;

@@ -2,9 +2,9 @@
 use Rattle.std.specs.Prelude.{◌≡◌, ◌↔◌, ◌<◌, ℕ, List, Bool, Some, IsTrue, Contains, slice_get, length}
 use Rattle.guppy_support.specs.Bits.{has}
 use Rattle.guppy_packages.specs.Rows.{Text}
-use Rattle.guppy_packages.specs.Tables.{PackageTable, Tables}
+use Rattle.guppy_packages.specs.Tables.{PackageTable, Tables, package_place}
 use Rattle.feature_labels.specs.Names.{LabelName}
-use Rattle.feature_labels.specs.Lists.{Ascends, SameLabels}
+use Rattle.feature_labels.specs.Lists.{Ascends, ListValue, SameLabels}
 use Rattle.feature_core.specs.Nodes.{nodes, labels_of}
 use Rattle.feature_core.specs.Built.{NodeNamed}
 use Rattle.feature_core.specs.Defaults.{IsDefault}
@@ -74,14 +74,16 @@ pub record TellsDefault (t : Tables) (name : Text × LabelName) (answer : Bool) 
   pub known : HasFeature t name
   pub tells : (n : ℕ) → NodeNamed t n name → IsTrue answer ↔ IsDefault t n
 
--- all features of the package of this id, sorted and each once
-pub record ListsPackage (t : Tables) (id : Text) (list : Text × List LabelName) : Type 0 where
+-- all features of the package of this id, sorted and each once, as a list of the package in these tables
+pub record ListsPackage (t : Tables) (id : Text) (list : ListValue) : Type 0 where
   pub table : PackageTable
   pub is_package : Contains t.packages table
   pub named : table.id ≡ id
-  pub of_package : list.0 ≡ id
-  pub labels : SameLabels (labels_of table) list.1
-  pub ascends : Ascends list.1
+  pub of_graph : list.graph ≡ t
+  pub at_place : package_place id t.packages ≡ Some list.number
+  pub of_package : list.package_id ≡ id
+  pub labels : SameLabels (labels_of table) list.labels
+  pub ascends : Ascends list.labels
 
 -- how many pairs of nodes have a candidate
 pub record IsLinkCount (t : Tables) (count : ℕ) : Type 0 where

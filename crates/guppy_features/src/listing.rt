@@ -1,7 +1,7 @@
 //! The labels of a package.
 ghost use Rattle.std.specs.Prelude.{◌≡◌, ◌++◌, OnOk, IfOk, map};
 ghost use Rattle.std.specs.String.{string_bytes};
-ghost use Rattle.guppy_packages.specs.Metadata.{package_id_of, package_table_of};
+ghost use Rattle.guppy_packages.specs.Metadata.{package_graph_of, package_id_of, package_number_of, package_table_of};
 ghost use Rattle.guppy_packages.specs.NamedFeature.{feature_table};
 ghost use Rattle.feature_labels.specs.Names.{label_of};
 ghost use Rattle.feature_labels.specs.Names.LabelName.{named, optional};
@@ -57,9 +57,11 @@ pub(crate) fn package_list<'g>(
     alloc: Global,
     package: PackageMetadata<'g>,
 ) -> Result<FeatureList<'g>, AllocError>
-    ensures of_package { IfOk result (λ list. list.0 ≡ package_id_of «package».entry) }
-    ensures labels { IfOk result (λ list. SameLabels (labels_of (package_table_of «package».entry)) list.1) }
-    ensures ascends { IfOk result (λ list. Ascends list.1) }
+    ensures graph { IfOk result (λ list. list.graph ≡ package_graph_of «package».entry) }
+    ensures number { IfOk result (λ list. list.number ≡ package_number_of «package».entry) }
+    ensures of_package { IfOk result (λ list. list.package_id ≡ package_id_of «package».entry) }
+    ensures labels { IfOk result (λ list. SameLabels (labels_of (package_table_of «package».entry)) list.labels) }
+    ensures ascends { IfOk result (λ list. Ascends list.labels) }
 {
     let labels = package_labels(alloc, package)?;
     FeatureList::new(alloc, package, labels.as_slice())

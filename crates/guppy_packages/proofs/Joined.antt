@@ -11,7 +11,7 @@ use Rattle.std.proofs.lemmas.List.Elements.{filter-append}
 use Rattle.guppy_packages.specs.Rows.{RowText, a_package, a_feature, a_dep}
 use Rattle.guppy_packages.specs.Tables.{PackageTable, package_place}
 use Rattle.guppy_packages.specs.Graph.{Dependency, dependencies_of, firsts, has_other_name, is_joined, link_fault, link_of, links_of, owner, packages_of, row_dependency}
-use Rattle.guppy_packages.specs.Steps.{add_link, result_map, second_step}
+use Rattle.guppy_packages.specs.inner.Steps.{add_link, result_map, second_step}
 use Rattle.guppy_packages.specs.declared.row_error.RowFault.{RowFault}
 use Rattle.guppy_packages.specs.declared.row_error.RowFault.TheVariants.{UnknownTarget, OtherName}
 use Rattle.guppy_packages.proofs.EachAfter.{each_after-push}

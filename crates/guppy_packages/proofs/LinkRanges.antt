@@ -7,7 +7,7 @@ use Rattle.std.proofs.lemmas.Bool.{leb-false, ltb-false}
 use borrow.Author.Tests.{leb-true, ltb-true}
 use Rattle.guppy_packages.specs.Stored.{link_table}
 use Rattle.guppy_packages.specs.Tables.{AreLinksFrom, LinkTable}
-use Rattle.guppy_packages.specs.declared.stored.LinkData.{LinkData}
+use Rattle.guppy_packages.specs.declared.contents.LinkData.{LinkData}
 use Rattle.guppy_packages.proofs.Lists.{map_at}
 
 unless : (a b : ℕ) → (a < b → ⊥) → b ≤ a

@@ -6,7 +6,7 @@ use Rattle.std.proofs.Math.Seq.{take-append-add}
 use Rattle.guppy_packages.specs.Rows.{RowText}
 use Rattle.guppy_packages.specs.Tables.{LinkTable, PackageTable, Tables}
 use Rattle.guppy_packages.specs.Graph.{dependencies_of, error_row, faults_by, first_or, link_fault, links_of, MatchMemory, packages_of, row_fault, tables_of}
-use Rattle.guppy_packages.specs.Steps.{begun_after, first_step, second_step, Takes}
+use Rattle.guppy_packages.specs.inner.Steps.{begun_after, first_step, second_step, Takes}
 use Rattle.guppy_packages.specs.declared.row_error.RowFault.{RowFault}
 use Rattle.guppy_packages.specs.declared.row_error.RowFault.TheVariants.{NoPackage, DuplicatePackage, DuplicateFeature, UnknownTarget, OtherName, Memory}
 use Rattle.guppy_packages.specs.declared.row_error.RowError.{RowError}

@@ -11,7 +11,7 @@ use Rattle.std.proofs.lemmas.List.Sums.{take_while-cons}
 use Rattle.guppy_packages.specs.Rows.{Text, RowText, a_package, a_feature, a_dep}
 use Rattle.guppy_packages.specs.Tables.{PackageTable, has_feature}
 use Rattle.guppy_packages.specs.Graph.{firsts, is_package, owner, package_before, packages_of, row_fault, row_feature, row_optional_name}
-use Rattle.guppy_packages.specs.Steps.{Outcome, add_feature, add_name, begun_after, first_step, result_map, with_name}
+use Rattle.guppy_packages.specs.inner.Steps.{Outcome, add_feature, add_name, begun_after, first_step, result_map, with_name}
 use Rattle.guppy_packages.specs.declared.row_error.RowFault.{RowFault}
 use Rattle.guppy_packages.specs.declared.row_error.RowFault.TheVariants.{NoPackage, DuplicatePackage, DuplicateFeature}
 use Rattle.guppy_packages.proofs.Firsts.{firsts-push}

@@ -13,7 +13,7 @@ use Rattle.std.proofs.lemmas.List.{append-nil, length-append, map-append}
 use Rattle.guppy_packages.specs.Rows.{Text, Declared, RowText, a_package, a_feature, a_dep}
 use Rattle.guppy_packages.specs.Tables.{AreTables, has_feature, has_name, has_optional_link, LinkTable, package_place, PackageTable, pair_of}
 use Rattle.guppy_packages.specs.Graph.{dependencies_of, Dependency, faults_by, firsts, has_other_name, is_joined, link_fault, link_of, links_of, owner, packages_of, row_fault}
-use Rattle.guppy_packages.specs.Steps.{add_link, add_name, joins, Outcome, result_map}
+use Rattle.guppy_packages.specs.inner.Steps.{add_link, add_name, joins, Outcome, result_map}
 use Rattle.guppy_packages.specs.declared.row_error.RowFault.{RowFault}
 use Rattle.guppy_packages.specs.declared.row_error.RowFault.TheVariants.{NoPackage, DuplicatePackage, DuplicateFeature, UnknownTarget, OtherName}
 use Rattle.guppy_packages.specs.declared.row_error.RowError.{RowError}

@@ -12,7 +12,7 @@ use Rattle.std.specs.Cmp.Lexicographic.{pointwise}
 use Rattle.guppy_packages.specs.Rows.{Text}
 use Rattle.guppy_packages.specs.Tables.{package_place}
 use Rattle.guppy_packages.specs.Stored.{package_table}
-use Rattle.guppy_packages.specs.declared.stored.PackageData.{PackageData}
+use Rattle.guppy_packages.specs.declared.contents.PackageData.{PackageData}
 use Rattle.guppy_packages.proofs.Lists.{position-map}
 
 -- the map's index of an id is its place

@@ -10,11 +10,11 @@ use Rattle.indexmap.specs.Layout.{set_value_at}
 use Rattle.indexmap.proofs.MapLemmas.{some_index}
 use Rattle.guppy_packages.specs.Rows.{Text, Declared}
 use Rattle.guppy_packages.specs.Tables.{LinkTable, PackageTable}
-use Rattle.guppy_packages.specs.Steps.{Outcome, Takes, add_link, add_name, change_last, joins, result_map, with_name}
+use Rattle.guppy_packages.specs.inner.Steps.{Outcome, Takes, add_link, add_name, change_last, joins, result_map, with_name}
 use Rattle.guppy_packages.specs.Stored.{declared, link_table, package_table}
 use Rattle.guppy_packages.specs.declared.row_error.RowFault.TheVariants.{NoPackage, DuplicatePackage, DuplicateFeature, UnknownTarget, OtherName, Memory}
-use Rattle.guppy_packages.specs.declared.stored.LinkData.{LinkData}
-use Rattle.guppy_packages.specs.declared.stored.PackageData.{PackageData}
+use Rattle.guppy_packages.specs.declared.contents.LinkData.{LinkData}
+use Rattle.guppy_packages.specs.declared.contents.PackageData.{PackageData}
 use Rattle.guppy_packages.proofs.Lists.{position_or_len-map, slice_get-map}
 
 -- a map has a key exactly where the list of its tables has an entry that passes

@@ -1,5 +1,5 @@
 -- The tables of rows, or the first fault. What a row gives is told by the row and those before it.
-use Rattle.std.specs.Prelude.{◌≡◌, ℕ, ◌-◌, List, [], ◌∷◌, ◌++◌, Bool, true, false, ◌&&◌, Option, None, Some, Result, Ok, Err, filter, map, length, not, slice_get, take, take_while, ◌==◌, if◌then◌else◌}
+use Rattle.std.specs.Prelude.{◌≡◌, ℕ, ◌-◌, ◌<◌, List, [], ◌∷◌, ◌++◌, Bool, true, false, ◌&&◌, Option, None, Some, Result, Ok, Err, filter, map, length, not, slice_get, take, take_while, ◌==◌, if◌then◌else◌}
 use Rattle.std.specs.List.{list_any, filter_map, enumerate_from}
 use Rattle.std.specs.Option.{option_map, option_map_or}
 use Rattle.std.specs.Str.{bytes_eq}
@@ -135,3 +135,7 @@ MatchMemory OtherName P Q = Q
 abbrev pub Reads : {X Y : Type 0} → (X → Y) → Result X RowError → Result Y RowError → Type 0
 Reads view (Ok x) given = given ≡ Ok (view x)
 Reads view (Err e) given = MatchMemory e.fault (e.row ≡ 0) (given ≡ Err e)
+
+-- The row that an error names: for want of memory 0, be there rows or not, and else one of the rows.
+abbrev pub NamesRow : {X : Type 0} → List X → RowError → Type 0
+NamesRow rows e = MatchMemory e.fault (e.row ≡ 0) (e.row < length rows)

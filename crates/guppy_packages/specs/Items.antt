@@ -2,8 +2,8 @@
 use Rattle.std.specs.Prelude.{nat_eq, ◌-◌, Bool, true, false, length, take, drop, ◌==◌, if◌then◌else◌, codes, ℕ}
 use Rattle.std.specs.List.{list_any, before_first, after_first, starts_with, ends_with}
 use Rattle.guppy_packages.specs.Rows.{Text}
-use Rattle.guppy_packages.specs.declared.items.NamedFeatureDep.{NamedFeatureDep}
-use Rattle.guppy_packages.specs.declared.items.NamedFeatureDep.TheVariants as dep
+use Rattle.guppy_packages.specs.declared.named_feature_dep.NamedFeatureDep.{NamedFeatureDep}
+use Rattle.guppy_packages.specs.declared.named_feature_dep.NamedFeatureDep.TheVariants as dep
 
 -- a feature of the package, an optional dependency, or a dependency's feature: its name, the feature, and whether it is weak
 pub data Item : Type 0 where

@@ -4,6 +4,6 @@ pub mod Metadata
 pub mod NamedFeature
 pub mod Platform
 pub mod Rows
-pub mod Steps
 pub mod Stored
 pub mod Tables
+pub mod inner

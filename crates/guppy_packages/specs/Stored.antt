@@ -6,9 +6,9 @@ use Rattle.guppy_packages.specs.Rows.{Text, Declared}
 use Rattle.guppy_packages.specs.Tables.{PackageTable, LinkTable}
 use Rattle.guppy_packages.specs.NamedFeature.{feature_table}
 use Rattle.guppy_packages.specs.Platform.{platform_text}
-use Rattle.guppy_packages.specs.declared.stored.Declaration.{Declaration}
-use Rattle.guppy_packages.specs.declared.stored.PackageData.{PackageData}
-use Rattle.guppy_packages.specs.declared.stored.LinkData.{LinkData}
+use Rattle.guppy_packages.specs.declared.declaration.Declaration.{Declaration}
+use Rattle.guppy_packages.specs.declared.contents.PackageData.{PackageData}
+use Rattle.guppy_packages.specs.declared.contents.LinkData.{LinkData}
 
 abbrev pub declared : Declaration → Declared
 declared d = record { kind = d.kind; optional = d.optional; platform = platform_text d.platform; default_features = d.default_features; features = map string_bytes d.features.items }

@@ -1,29 +1,29 @@
 //! Package rows, their tables, package ids and links.
 #![tactic(auto)]
 
-mod building;
+mod contents;
+mod declaration;
 mod direction;
-mod graph;
-mod items;
-mod link;
-mod metadata;
+mod from_rows;
 mod named_feature;
+mod named_feature_dep;
+mod package_graph;
 mod package_id;
+mod package_link;
+mod package_metadata;
 mod platform;
 mod row;
 mod row_error;
-mod stored;
-#[cfg(test)]
-mod tests;
+mod text_map;
 
+pub use declaration::Declaration;
 pub use direction::DependencyDirection;
-pub use graph::PackageGraph;
-pub use items::NamedFeatureDep;
-pub use link::PackageLink;
-pub use metadata::{PackageMetadata, UnknownPackageId};
 pub use named_feature::NamedFeature;
+pub use named_feature_dep::NamedFeatureDep;
+pub use package_graph::PackageGraph;
 pub use package_id::PackageId;
+pub use package_link::PackageLink;
+pub use package_metadata::{PackageMetadata, UnknownPackageId};
 pub use platform::{PlatformStatus, PlatformStatusImpl, Spec};
 pub use row::{DependencyKind, Row};
 pub use row_error::{RowError, RowFault};
-pub use stored::Declaration;

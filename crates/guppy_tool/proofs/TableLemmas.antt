@@ -2,7 +2,7 @@
 use Rattle.std.proofs.Common.{◌≡◌, ℕ, ◌<◌, zero, suc, List, [], ◌∷◌, Result, Ok, Err, map, length, get_or, sym, ap, ◌∙◌, refl, arith}
 use Rattle.std.proofs.lemmas.List.{length-map}
 use Rattle.guppy_packages.specs.Rows.{Text, row_text}
-use Rattle.guppy_packages.specs.Graph.{tables_of, Reads}
+use Rattle.guppy_packages.specs.Graph.{tables_of, NamesRow, Reads}
 use Rattle.guppy_packages.specs.declared.row.Row.{Row}
 use Rattle.guppy_packages.specs.declared.row_error.RowError.{RowError}
 use Rattle.guppy_packages.specs.declared.row_error.RowFault.{RowFault}
@@ -22,6 +22,15 @@ not_memory view row DuplicateFeature given apart h = h
 not_memory view row UnknownTarget given apart h = h
 not_memory view row OtherName given apart h = h
 not_memory view row Memory given apart h = absurd (apart refl)
+
+-- an error that isn't want of memory names one of the rows
+pub named_row : {X : Type 0} (rows : List X) (row : ℕ) (f : RowFault) → (f ≡ Memory → ⊥) → NamesRow rows (record { row = row; fault = f }) → row < length rows
+named_row rows row NoPackage apart h = h
+named_row rows row DuplicatePackage apart h = h
+named_row rows row DuplicateFeature apart h = h
+named_row rows row UnknownTarget apart h = h
+named_row rows row OtherName apart h = h
+named_row rows row Memory apart h = absurd (apart refl)
 
 -- the number of the line at a place
 number_at : (fields : List Text) (lines : List Line) (n : ℕ) (d : Line) → n < length lines → line_of (line_texts fields lines) n ≡ (get_or lines n d).number

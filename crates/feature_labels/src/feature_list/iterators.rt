@@ -38,7 +38,7 @@ impl<'g, 'a> Model for Iter<'g, 'a> {
 impl<'g, 'a> Iter<'g, 'a> {
     /// The ids of this list.
     pub fn new(feature_list: &'a FeatureList<'g>) -> Self
-        ensures { result ≡ ids_in feature_list.now.0 feature_list.now.1 }
+        ensures { result ≡ ids_in feature_list.now.package_id feature_list.now.labels }
     {
         Iter {
             package_id: feature_list.package().id(),
@@ -82,7 +82,7 @@ impl<'g, 'a> IntoIterator for &'a FeatureList<'g> {
 
     type IntoIter = Iter<'g, 'a>;
 
-    ghost into_iter_gives = { λ list it. it ≡ ids_in list.now.0 list.now.1 };
+    ghost into_iter_gives = { λ list it. it ≡ ids_in list.now.package_id list.now.labels };
 
     fn into_iter(self) -> Iter<'g, 'a> {
         Iter::new(self)
@@ -113,7 +113,7 @@ impl<'g> Model for IntoIter<'g> {
 impl<'g> IntoIter<'g> {
     /// The ids of this list.
     pub fn new(feature_list: FeatureList<'g>) -> Self
-        ensures { result ≡ ids_in feature_list.entry.0 feature_list.entry.1 }
+        ensures { result ≡ ids_in feature_list.entry.package_id feature_list.entry.labels }
     {
         IntoIter {
             package_id: feature_list.package().id(),
@@ -157,7 +157,7 @@ impl<'g> IntoIterator for FeatureList<'g> {
 
     type IntoIter = IntoIter<'g>;
 
-    ghost into_iter_gives = { λ list it. it ≡ ids_in list.0 list.1 };
+    ghost into_iter_gives = { λ list it. it ≡ ids_in list.package_id list.labels };
 
     fn into_iter(self) -> IntoIter<'g> {
         IntoIter::new(self)

@@ -5,4 +5,4 @@ use Rattle.guppy_features.proofs.listing.package_list.Goals as goal
 
 pub returns-clause-labels : goal.returns-clause-labels
 returns-clause-labels c =
-    subst (λ z. IfOk c.new.result (λ list. SameLabels z list.1)) (ap (map label_of) c.as_slice.ensures.value ∙ c.in_ok-labels.ensures) c.new.ensures.same
+    subst (λ z. IfOk c.new.result (λ list. SameLabels z list.labels)) (ap (map label_of) c.as_slice.ensures.value ∙ c.in_ok-labels.ensures) c.new.ensures.same

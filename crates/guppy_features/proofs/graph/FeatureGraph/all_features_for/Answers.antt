@@ -1,4 +1,4 @@
-use Rattle.std.proofs.Common.{◌≡◌, ◌∙◌, refl, subst}
+use Rattle.std.proofs.Common.{◌≡◌, ◌∙◌, Some, ap, refl, subst, sym}
 use Rattle.guppy_packages.specs.Metadata.{package_table_of}
 use Rattle.feature_core.specs.Links.{IsPackage}
 use Rattle.feature_core.proofs.AddsLemmas.{element_at_place}
@@ -20,6 +20,8 @@ returns-in-Ok-package_list-clause-listed c =
       table = table;
       is_package = element_at_place t.packages p table is;
       named = id;
+      of_graph = listed.graph ∙ c.in-Ok.ensures.found.0;
+      at_place = c.in-Ok.ensures.found.1 ∙ ap Some (sym listed.number);
       of_package = listed.of_package ∙ id;
       labels = listed.labels;
       ascends = listed.ascends;

@@ -1,8 +1,0 @@
-use Rattle.std.proofs.Common.{◌∙◌, sym}
-use Rattle.std.specs.Str.{bytes_eq}
-use Rattle.std.specs.String.{string_bytes}
-use Rattle.guppy_packages.proofs.Lists.{position-map}
-use Rattle.guppy_packages.proofs.metadata.PackageMetadata.optional_place.Goals as goal
-
-pub returns : goal.returns
-returns c = c.get_index_of.ensures.index ∙ sym (position-map string_bytes (bytes_eq c.args.name.now) c.args.self.contents.now.optional_names.keys)

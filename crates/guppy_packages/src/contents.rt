@@ -1,0 +1,19 @@
+//! What the maps of a package graph hold for a package and for a link.
+use crate::declaration::Declaration;
+use crate::named_feature::NamedFeature;
+use crate::text_map::TextSet;
+
+/// A package without its id.
+#[derive(Drop)]
+pub struct PackageData {
+    pub(crate) in_workspace: bool,
+    pub(crate) features: TextSet<NamedFeature>,
+    pub(crate) optional_names: TextSet<String>,
+}
+
+/// The declarations of a pair of packages.
+#[derive(Debug, Drop)]
+pub struct LinkData {
+    pub(crate) name: String,
+    pub(crate) declarations: Vec<Declaration>,
+}

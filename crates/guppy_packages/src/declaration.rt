@@ -1,0 +1,69 @@
+//! What a Dep row declares.
+ghost use Rattle.std.specs.Prelude.{◌≡◌, ◌∷◌, [], map};
+ghost use Rattle.std.specs.List.{list_all};
+ghost use Rattle.std.specs.Option.{option_map};
+ghost use Rattle.std.specs.String.{string_bytes};
+ghost use Rattle.guppy_packages.specs.Platform.{platform_text, platform_specs};
+ghost use Rattle.guppy_packages.specs.Tables.{is_development};
+
+use crate::platform::PlatformStatusImpl;
+use crate::row::DependencyKind;
+
+/// What one Dep row declares of the package that it names.
+#[derive(Debug, Drop)]
+pub struct Declaration {
+    pub(crate) kind: DependencyKind,
+    pub(crate) optional: bool,
+    pub(crate) platform: PlatformStatusImpl,
+    pub(crate) default_features: bool,
+    pub(crate) features: Vec<String>,
+    ghost of_a_row: { platform_specs platform ≡ option_map (λ spec. spec ∷ []) (platform_text platform) },
+}
+
+impl Declaration {
+    ghost use Rattle.guppy_packages.specs.Stored.{declared};
+
+    /// The kind of the dependency.
+    pub fn kind(&self) -> DependencyKind
+        ensures { result ≡ (declared self.now).kind }
+    {
+        self.kind
+    }
+
+    /// Whether the dependency is optional.
+    pub fn optional(&self) -> bool
+        ensures { result ≡ (declared self.now).optional }
+    {
+        self.optional
+    }
+
+    /// Where it applies: always, or on the platform of one spec.
+    pub fn platform(&self) -> &PlatformStatusImpl
+        ensures { platform_specs result.now ≡ option_map (λ spec. spec ∷ []) (declared self.now).platform }
+    {
+        &self.platform
+    }
+
+    /// Whether it asks for the default feature.
+    pub fn default_features(&self) -> bool
+        ensures { result ≡ (declared self.now).default_features }
+    {
+        self.default_features
+    }
+
+    /// The names of the features that it asks for, in row order.
+    pub fn features(&self) -> &[String]
+        ensures { map string_bytes result.now ≡ (declared self.now).features }
+    {
+        self.features.as_slice()
+    }
+}
+
+/// Whether every declaration is for development.
+pub(crate) fn are_for_development(declarations: &[Declaration]) -> bool
+    ensures { result ≡ list_all (λ d. is_development d.kind) declarations.now }
+{
+    declarations
+        .iter()
+        .all(|declaration| declaration.kind.is_development())
+}

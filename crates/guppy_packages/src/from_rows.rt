@@ -1,0 +1,299 @@
+//! From rows to a package graph, in two passes.
+ghost use Rattle.std.specs.Prelude.{◌≡◌, ◌+◌, ◌-◌, ◌<◌, ◌≤◌, ◌^◌, ◌∷◌, [], Ok, IfOk, IfErr, length, map};
+ghost use Rattle.std.specs.Option.{option_map};
+ghost use Rattle.std.specs.String.{string_bytes};
+ghost use Rattle.guppy_packages.specs.Graph.{NamesRow, Reads, first_or, faults_by, row_fault, link_fault, packages_of, links_of, dependencies_of, tables_of};
+ghost use Rattle.guppy_packages.specs.NamedFeature.{feature_table};
+ghost use Rattle.guppy_packages.specs.Platform.{platform_specs, platform_text};
+ghost use Rattle.guppy_packages.specs.Rows.{row_text, texts};
+ghost use Rattle.guppy_packages.specs.inner.Steps.{Takes, add_package, add_feature, add_name, add_link, begun_after, change_last, first_step, second_step, with_feature, with_name};
+ghost use Rattle.guppy_packages.specs.Stored.{declared, package_tables, link_tables};
+ghost use Rattle.guppy_packages.specs.Tables.{package_place};
+
+use crate::package_graph::PackageGraph;
+use crate::named_feature::NamedFeature;
+use crate::package_id::PackageId;
+use crate::platform::{PlatformStatusImpl, Spec};
+use crate::row::{DependencyKind, Row};
+use crate::row_error::{RowError, RowFault};
+use crate::contents::{LinkData, PackageData};
+use crate::declaration::Declaration;
+use crate::text_map::{TextMap, TextSet};
+use indexmap::{IndexMap, IndexSet};
+use std::alloc::{AllocError, Global};
+use std::hash::BuildHasherDefault;
+
+/// Owned texts.
+fn owned(alloc: Global, items: &[&str]) -> Result<Vec<String>, AllocError>
+    ensures { IfOk result (λ v. map string_bytes v.items ≡ texts items.now) }
+{
+    let mut all = Vec::with_capacity(alloc, items.len())?;
+    for item in items {
+        all.push(String::from_str(alloc, item)?)?;
+    }
+    Ok(all)
+}
+
+/// A Package row.
+fn push_package(
+    alloc: Global,
+    packages: &mut TextMap<PackageId, PackageData>,
+    id: &str,
+    in_workspace: bool,
+) -> Result<(), RowFault>
+    ensures { Takes (package_tables packages.new) result (add_package id.now in_workspace (package_tables packages.old)) }
+{
+    if packages.contains_key(id) {
+        return Err(RowFault::DuplicatePackage);
+    }
+    let id = PackageId::new(alloc, id)?;
+    let features = IndexSet::with_hasher(alloc, BuildHasherDefault::new());
+    let optional_names = IndexSet::with_hasher(alloc, BuildHasherDefault::new());
+    packages.insert(
+        id,
+        PackageData {
+            in_workspace,
+            features,
+            optional_names,
+        },
+    )?;
+    Ok(())
+}
+
+/// A Feature row of a package with these features.
+fn push_feature(
+    alloc: Global,
+    features: &mut TextSet<NamedFeature>,
+    name: &str,
+    items: &[&str],
+) -> Result<(), RowFault>
+    ensures { Takes (map feature_table features.new.keys) result (with_feature name.now (texts items.now) (map feature_table features.old.keys)) }
+{
+    if features.contains(name) {
+        return Err(RowFault::DuplicateFeature);
+    }
+    let name = String::from_str(alloc, name)?;
+    let items = owned(alloc, items)?;
+    features.insert(NamedFeature { name, items })?;
+    Ok(())
+}
+
+/// A Feature row, which belongs to the last package.
+fn push_feature_row(
+    alloc: Global,
+    packages: &mut TextMap<PackageId, PackageData>,
+    name: &str,
+    items: &[&str],
+) -> Result<(), RowFault>
+    ensures { Takes (package_tables packages.new) result (change_last (add_feature name.now (texts items.now)) (package_tables packages.old)) }
+{
+    let Some(current) = packages.last_mut() else {
+        return Err(RowFault::NoPackage);
+    };
+    push_feature(alloc, &mut current.features, name, items)
+}
+
+/// The name of an optional dependency of a package with these.
+fn push_name(alloc: Global, names: &mut TextSet<String>, name: &str) -> Result<(), RowFault>
+    ensures { Takes (map string_bytes names.new.keys) result (Ok (with_name name.now (map string_bytes names.old.keys))) }
+{
+    if names.contains(name) {
+        return Ok(());
+    }
+    names.insert(String::from_str(alloc, name)?)?;
+    Ok(())
+}
+
+/// A Dep row in the first pass: the last package notes the name of an optional dependency.
+fn push_dep_row(
+    alloc: Global,
+    packages: &mut TextMap<PackageId, PackageData>,
+    name: &str,
+    optional: bool,
+) -> Result<(), RowFault>
+    ensures { Takes (package_tables packages.new) result (change_last (λ p. Ok (add_name name.now optional p)) (package_tables packages.old)) }
+{
+    let Some(current) = packages.last_mut() else {
+        return Err(RowFault::NoPackage);
+    };
+    if optional {
+        return push_name(alloc, &mut current.optional_names, name);
+    }
+    Ok(())
+}
+
+/// A row of the first pass.
+fn take_row(
+    alloc: Global,
+    packages: &mut TextMap<PackageId, PackageData>,
+    row: Row,
+) -> Result<(), RowFault>
+    ensures { Takes (package_tables packages.new) result (first_step (package_tables packages.old) (row_text row.entry)) }
+{
+    match row {
+        Row::Package { id, in_workspace } => push_package(alloc, packages, id, in_workspace),
+        Row::Feature { name, items } => push_feature_row(alloc, packages, name, items),
+        Row::Dep { name, optional, .. } => push_dep_row(alloc, packages, name, optional),
+    }
+}
+
+/// The first pass.
+fn take_packages(alloc: Global, rows: &[Row]) -> Result<TextMap<PackageId, PackageData>, RowError>
+    ensures tables { Reads package_tables result (first_or (faults_by row_fault (map row_text rows.now)) (packages_of (map row_text rows.now))) }
+    ensures row { IfErr result (NamesRow rows.now) }
+{
+    let mut packages = IndexMap::with_hasher(alloc, BuildHasherDefault::new());
+    for (row, given) in rows.iter().enumerate() {
+        if let Err(fault) = take_row(alloc, &mut packages, *given) {
+            return Err(RowError::new(row, fault));
+        }
+    }
+    Ok(packages)
+}
+
+/// Where a Dep row applies.
+fn platform_of(alloc: Global, platform: Option<&str>) -> Result<PlatformStatusImpl, AllocError>
+    ensures specs { IfOk result (λ p. platform_specs p ≡ option_map (λ spec. spec ∷ []) (platform_text p)) }
+    ensures text { IfOk result (λ p. platform_text p ≡ option_map (λ t. t.now) platform.entry) }
+{
+    let Some(text) = platform else {
+        return Ok(PlatformStatusImpl::Always);
+    };
+    let mut specs = Vec::with_capacity(alloc, 1)?;
+    specs.push(Spec::new(alloc, text)?)?;
+    Ok(PlatformStatusImpl::Specs(specs))
+}
+
+/// What a Dep row declares.
+fn declare(
+    alloc: Global,
+    kind: DependencyKind,
+    optional: bool,
+    platform: Option<&str>,
+    default_features: bool,
+    features: &[&str],
+) -> Result<Declaration, AllocError>
+    ensures { IfOk result (λ d. declared d ≡ record {
+      kind = kind;
+      optional = optional;
+      platform = option_map (λ t. t.now) platform.entry;
+      default_features = default_features;
+      features = texts features.now;
+    }) }
+{
+    let platform = platform_of(alloc, platform)?;
+    let features = owned(alloc, features)?;
+    Ok(Declaration {
+        kind,
+        optional,
+        platform,
+        default_features,
+        features,
+    })
+}
+
+/// A Dep row of a pair of packages.
+fn push_link(
+    alloc: Global,
+    links: &mut IndexMap<(usize, usize), LinkData>,
+    from: usize,
+    to: usize,
+    name: &str,
+    declaration: Declaration,
+) -> Result<(), RowFault>
+    ensures { Takes (link_tables links.new) result (add_link from to name.now (declared declaration) (link_tables links.old)) }
+{
+    if let Some(at) = links.get_index_of(&(from, to)) {
+        let link = &mut links[at];
+        if name != link.name.as_str() {
+            return Err(RowFault::OtherName);
+        }
+        link.declarations.push(declaration)?;
+        return Ok(());
+    }
+    let name = String::from_str(alloc, name)?;
+    let mut declarations = Vec::new(alloc);
+    declarations.push(declaration)?;
+    links.insert((from, to), LinkData { name, declarations })?;
+    Ok(())
+}
+
+/// The number of the package with this id.
+fn place_of(packages: &TextMap<PackageId, PackageData>, id: &str) -> Option<usize>
+    ensures { result ≡ package_place id.now (package_tables packages.now) }
+{
+    packages.get_index_of(id)
+}
+
+/// A row of the second pass, where so many packages began.
+fn link_row(
+    alloc: Global,
+    packages: &TextMap<PackageId, PackageData>,
+    links: &mut IndexMap<(usize, usize), LinkData>,
+    begun: usize,
+    row: Row,
+) -> Result<(), RowFault>
+    ensures { Takes (link_tables links.new) result (second_step (package_tables packages.now) begun (link_tables links.old) (row_text row.entry)) }
+{
+    let Row::Dep {
+        name,
+        target,
+        kind,
+        optional,
+        platform,
+        default_features,
+        features,
+    } = row
+    else {
+        return Ok(());
+    };
+    let Some(to) = place_of(packages, target) else {
+        return Err(RowFault::UnknownTarget);
+    };
+    let declaration = declare(alloc, kind, optional, platform, default_features, features)?;
+    push_link(alloc, links, begun.saturating_sub(1), to, name, declaration)
+}
+
+/// How many packages began, with this row.
+fn count(begun: usize, row: Row) -> usize
+    requires { begun + 1 < 2 ^ 64 }
+    ensures value { result ≡ begun_after begun (row_text row.entry) }
+    ensures few { result ≤ begun + 1 }
+{
+    match row {
+        Row::Package { .. } => begun + 1,
+        _ => begun,
+    }
+}
+
+/// The second pass.
+fn take_links(
+    alloc: Global,
+    packages: &TextMap<PackageId, PackageData>,
+    rows: &[Row],
+) -> Result<IndexMap<(usize, usize), LinkData>, RowError>
+    ensures tables { Reads link_tables result (first_or (faults_by (link_fault (package_tables packages.now)) (map row_text rows.now)) (links_of (dependencies_of (package_tables packages.now) (map row_text rows.now)))) }
+    ensures row { IfErr result (NamesRow rows.now) }
+{
+    let mut links = IndexMap::new(alloc);
+    let mut begun = 0;
+    for (row, given) in rows.iter().enumerate() {
+        if let Err(fault) = link_row(alloc, packages, &mut links, begun, *given) {
+            return Err(RowError::new(row, fault));
+        }
+        begun = count(begun, *given);
+    }
+    Ok(links)
+}
+
+impl PackageGraph {
+    /// The graph of the rows, or the first fault: those of rows by themselves come before those among all packages.
+    pub fn from_rows(alloc: Global, rows: &[Row]) -> Result<PackageGraph, RowError>
+        ensures tables { Reads (λ graph. graph) result (tables_of (map row_text rows.now)) }
+        ensures row { IfErr result (NamesRow rows.now) }
+    {
+        let packages = take_packages(alloc, rows)?;
+        let links = take_links(alloc, &packages, rows)?;
+        Ok(PackageGraph { packages, links })
+    }
+}

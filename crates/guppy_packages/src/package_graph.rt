@@ -1,0 +1,112 @@
+//! The package graph.
+ghost use Rattle.std.specs.Prelude.{◌≡◌, ◌<◌, Some, None, length, nat_le, nat_lt, slice_get, IfOk, MatchResult};
+ghost use Rattle.guppy_packages.specs.Tables.{package_place, AreLinksFrom, AreTables};
+
+use crate::package_link::PackageLink;
+use crate::package_metadata::{PackageMetadata, UnknownPackageId};
+use crate::package_id::PackageId;
+use crate::contents::{LinkData, PackageData};
+use crate::text_map::TextMap;
+use indexmap::IndexMap;
+use std::marker::Model;
+use std::ops::Range;
+
+/// Packages with their features, and the links between them. A contract sees it as its tables.
+#[derive(Drop)]
+pub struct PackageGraph {
+    pub(crate) packages: TextMap<PackageId, PackageData>,
+    pub(crate) links: IndexMap<(usize, usize), LinkData>,
+}
+
+impl Model for PackageGraph {
+    ghost use Rattle.guppy_packages.specs.Tables.{Tables, AreTables};
+
+    ghost Value = { Tables };
+
+    ghost use Rattle.guppy_packages.specs.Stored.{package_tables, link_tables};
+
+    ghost view = { λ g. record { packages = package_tables g.packages; links = link_tables g.links } };
+
+    ghost invariant = { λ g. AreTables (record { packages = package_tables g.packages; links = link_tables g.links }) };
+}
+
+impl PackageGraph {
+    ghost use Rattle.guppy_packages.specs.Metadata.{package_graph_of, package_id_of, package_number_of, package_table_of, link_graph_of, link_number_of, link_table_of};
+
+    /// What holds of the tables of every package graph.
+    pub fn facts(&self)
+        ensures { AreTables self.now }
+    {
+        let _ = &self.packages;
+    }
+
+    /// How many packages there are.
+    pub fn package_count(&self) -> usize
+        ensures { result ≡ length self.now.packages }
+    {
+        self.packages.len()
+    }
+
+    /// How many links there are.
+    pub fn link_count(&self) -> usize
+        ensures { result ≡ length self.now.links }
+    {
+        self.links.len()
+    }
+
+    /// The package of this number.
+    pub fn package(&self, ix: usize) -> PackageMetadata<'_>
+        requires { ix < length self.now.packages }
+        ensures graph { package_graph_of result ≡ self.now }
+        ensures package { slice_get self.now.packages ix ≡ Some (package_table_of result) }
+        ensures number { package_number_of result ≡ ix }
+    {
+        match self.packages.get_index(ix) {
+            Some((id, data)) => PackageMetadata::new(self, ix, id, data),
+            None => unreachable!(),
+        }
+    }
+
+    /// The link of this number.
+    pub fn link(&self, ix: usize) -> PackageLink<'_>
+        requires { ix < length self.now.links }
+        ensures graph { link_graph_of result ≡ self.now }
+        ensures link { slice_get self.now.links ix ≡ Some (link_table_of result) }
+        ensures number { link_number_of result ≡ ix }
+    {
+        match self.links.get_index(ix) {
+            Some((pair, data)) => PackageLink::new(self, ix, *pair, data),
+            None => unreachable!(),
+        }
+    }
+
+    /// The numbers of the links that leave the package of this number. Links stand in the order of the packages that they leave.
+    pub(crate) fn links_from(&self, package_ix: usize) -> Range<usize>
+        ensures { AreLinksFrom self.now.links package_ix result.start result.end }
+    {
+        let first = self.links.partition_point(
+            |pair: &(usize, usize), _: &LinkData| -> bool
+                ensures { result ≡ nat_lt pair.now.0 package_ix }
+            { pair.0 < package_ix },
+        );
+        let end = self.links.partition_point(
+            |pair: &(usize, usize), _: &LinkData| -> bool
+                ensures { result ≡ nat_le pair.now.0 package_ix }
+            { pair.0 <= package_ix },
+        );
+        first..end
+    }
+
+    /// The package with this id, or an error where there is none.
+    pub fn metadata(&self, id: &PackageId) -> Result<PackageMetadata<'_>, UnknownPackageId>
+        ensures found { MatchResult result
+            (λ m. (package_graph_of m ≡ self.now) × (package_place id.now self.now.packages ≡ Some (package_number_of m)))
+            (λ _. package_place id.now self.now.packages ≡ None) }
+        ensures id { IfOk result (λ m. package_id_of m ≡ id.now) }
+    {
+        match self.packages.get_index_of(id) {
+            Some(ix) => Ok(self.package(ix)),
+            None => Err(UnknownPackageId),
+        }
+    }
+}

@@ -1,0 +1,150 @@
+//! Lists of features: what they print and give, what they hold, and which are equal.
+use crate::texts::{label_of, labels_of, package_of, packages};
+use feature_labels::{FeatureLabel, FeatureList};
+use guppy_packages::PackageMetadata;
+use std::alloc::Global;
+use std::fmt;
+use std::fmt::Write;
+use std::test::Fail;
+
+/// The list of the package with the labels of these texts.
+fn list_of<'g>(
+    alloc: Global,
+    package: PackageMetadata<'g>,
+    texts: &'g str,
+) -> Result<FeatureList<'g>, Fail> {
+    let labels = labels_of(alloc, texts)?;
+    Ok(FeatureList::new(alloc, package, labels.as_slice())?)
+}
+
+/// What a list prints, by Display and by Debug, and what its iterators give.
+fn show_list(text: &mut String, list: &FeatureList<'_>) -> fmt::Result {
+    let labels = list.display_features();
+    writeln!(text, "{labels}\n{labels:?}\n{list:?}")?;
+    let names = list.named_features();
+    write!(text, "named {:?}:", names.size_hint())?;
+    for name in names {
+        write!(text, " {name}")?;
+    }
+    let names = list.optional_deps();
+    write!(text, "\noptional {:?}:", names.size_hint())?;
+    for name in names {
+        write!(text, " {name}")?;
+    }
+    write!(text, "\n{} ids:", list.iter().len())?;
+    for id in list {
+        write!(text, " {id}")?;
+    }
+    writeln!(text)
+}
+
+/// What is left of a list that is given up, id by id.
+fn show_rest(text: &mut String, list: FeatureList<'_>) -> fmt::Result {
+    let mut ids = list.into_iter();
+    write!(text, "{} {:?}", ids.len(), ids.size_hint())?;
+    while let Some(id) = ids.next() {
+        write!(text, " {id} {:?}", ids.size_hint())?;
+    }
+    Ok(())
+}
+
+/// Labels, and what the list of them says.
+const LISTS: [(&str, &str); 3] = [
+    (
+        "b dep:a [base] a a",
+        "[base], a, b, dep:a\n[base], a, b, dep:a\n\
+        FeatureList { package: \"main\", labels: [base], a, b, dep:a }\n\
+        named (0, Some(4)): a b\noptional (0, Some(4)): a\n\
+        4 ids: main/[base] main/a main/b main/dep:a\n\
+        4 (4, Some(4)) main/[base] (3, Some(3)) main/a (2, Some(2)) main/b (1, Some(1)) main/dep:a (0, Some(0))",
+    ),
+    (
+        "dep:av [base] zz",
+        "[base], zz, dep:av\n[base], zz, dep:av\n\
+        FeatureList { package: \"main\", labels: [base], zz, dep:av }\n\
+        named (0, Some(3)): zz\noptional (0, Some(3)): av\n\
+        3 ids: main/[base] main/zz main/dep:av\n\
+        3 (3, Some(3)) main/[base] (2, Some(2)) main/zz (1, Some(1)) main/dep:av (0, Some(0))",
+    ),
+    (
+        "",
+        "\n\nFeatureList { package: \"main\", labels:  }\n\
+        named (0, Some(0)):\noptional (0, Some(0)):\n0 ids:\n0 (0, Some(0))",
+    ),
+];
+
+#[test]
+fn lists_say_what_was_given(rt: HostRuntime) -> Result<(), Fail> {
+    let graph = packages(rt.alloc(), &["main"])?;
+    let main = package_of(rt.alloc(), &graph, "main")?;
+    for (labels, want) in LISTS {
+        let list = list_of(rt.alloc(), main, labels)?;
+        assert!(rt; *list.package() == main, "{labels}");
+        let mut text = String::new(rt.alloc());
+        show_list(&mut text, &list)?;
+        show_rest(&mut text, list)?;
+        assert_eq!(rt; text.as_str(), want, "{labels}");
+    }
+    Ok(())
+}
+
+/// Labels, and whether the list of `dep:av`, `zz` and the base holds them.
+const HELD: [(&str, bool); 6] = [
+    ("[base]", true),
+    ("zz", true),
+    ("dep:av", true),
+    ("av", false),
+    ("dep:zz", false),
+    ("z", false),
+];
+
+/// Whether the list has the label, by the question for its kind.
+fn has(list: &FeatureList<'_>, label: FeatureLabel<'_>) -> bool {
+    match label {
+        FeatureLabel::Base => list.has_base(),
+        FeatureLabel::Named(name) => list.has_named_feature(name),
+        FeatureLabel::OptionalDependency(name) => list.has_optional_dependency(name),
+    }
+}
+
+#[test]
+fn lists_hold_their_labels_alone(rt: HostRuntime) -> Result<(), Fail> {
+    let graph = packages(rt.alloc(), &["main"])?;
+    let main = package_of(rt.alloc(), &graph, "main")?;
+    let list = list_of(rt.alloc(), main, "dep:av zz [base]")?;
+    for (text, want) in HELD {
+        assert_eq!(rt; list.contains(label_of(text)), want, "{text}");
+        assert_eq!(rt; has(&list, label_of(text)), want, "{text}");
+    }
+    Ok(())
+}
+
+/// A package with labels, and whether its list is that of `main` with `zz` and the base.
+const EQUAL: [(&str, &str, bool); 4] = [
+    ("main", "zz [base]", true),
+    ("main", "[base] zz zz", true),
+    ("other", "zz [base]", false),
+    ("main", "[base]", false),
+];
+
+#[test]
+fn lists_are_equal_by_package_id_and_labels(rt: HostRuntime) -> Result<(), Fail> {
+    let graph = packages(rt.alloc(), &["main", "other"])?;
+    let turned = packages(rt.alloc(), &["other", "main"])?;
+    let list = list_of(
+        rt.alloc(),
+        package_of(rt.alloc(), &graph, "main")?,
+        "zz [base]",
+    )?;
+    let copy = list.try_clone(rt.alloc())?;
+    assert!(rt; list == copy);
+    assert_eq!(rt; copy.into_labels().len(), 2);
+    for other_graph in [&graph, &turned] {
+        for (package, labels, want) in EQUAL {
+            let other = package_of(rt.alloc(), other_graph, package)?;
+            let other = list_of(rt.alloc(), other, labels)?;
+            assert_eq!(rt; list == other, want, "{package} {labels}");
+        }
+    }
+    Ok(())
+}
