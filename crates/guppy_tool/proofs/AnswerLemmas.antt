@@ -7,7 +7,7 @@ use Rattle.feature_core.specs.Errors as graph
 use Rattle.guppy_features.specs.Names.{RefusesNames, IsFirstUnknown}
 use Rattle.guppy_tool.specs.Faults.{Refusal, IfNotMemory, unknown_feature, out_of_memory}
 use Rattle.guppy_tool.specs.Answers.{NamesUnknown, IsToldAs}
-use Rattle.guppy_tool.proofs.EachLemmas.{if_not_memory}
+use Rattle.guppy_tool.proofs.RefusalLemmas.{if_not_memory}
 
 -- want of memory claims nothing
 at_memory : (r : Refusal) (P : Type 0) → r ≡ out_of_memory → IfNotMemory r P

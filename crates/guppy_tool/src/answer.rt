@@ -2,7 +2,8 @@
 ghost use Rattle.std.specs.Prelude.{◌≡◌, IfOk, map};
 ghost use Rattle.feature_labels.specs.Names.{id_of};
 ghost use Rattle.feature_core.specs.Errors.{refusal_of as graph_refusal_of};
-ghost use Rattle.guppy_tool.specs.Faults.{refusal_of};
+ghost use Rattle.guppy_tool.specs.Faults.{refusal_of, Gives};
+ghost use Rattle.guppy_tool.specs.RowFileRefusals.{tables_in};
 ghost use Rattle.guppy_tool.specs.Words.{command_of, given_of, CommandText};
 ghost use Rattle.guppy_tool.specs.Words.CommandText.{resolve};
 ghost use Rattle.guppy_tool.specs.Answers.{IsOutput, IsToldAs};
@@ -10,10 +11,10 @@ ghost use Rattle.guppy_tool.specs.Run.{GivesAnswer, IsAnswer};
 
 use crate::fault::Fault;
 use crate::listing::list;
-use crate::tables::graph_of;
 use crate::words::{Command, GivenId};
 use guppy_features::{Error, FeatureGraphData, FeatureGraphExt, FeatureId};
 use guppy_packages::{DependencyDirection, PackageGraph};
+use row_files::graph_of;
 use std::alloc::{AllocError, Global};
 
 /// The ids that the words gave.
@@ -75,11 +76,21 @@ fn answer_graph(alloc: Global, command: &Command, graph: &PackageGraph) -> Resul
     }
 }
 
+/// The package graph of a row file's bytes, or the first fault.
+fn graph_of_bytes(alloc: Global, bytes: &[u8]) -> Result<PackageGraph, Fault>
+    ensures { Gives (λ graph. graph) result (tables_in bytes.now) }
+{
+    match graph_of(alloc, bytes) {
+        Ok(graph) => Ok(graph),
+        Err(error) => Err(Fault::from(error)),
+    }
+}
+
 /// The text that answers the command over a row file's bytes, or the first refusal.
 pub fn answer(alloc: Global, command: &Command, bytes: Vec<u8>) -> Result<Vec<u8>, Fault>
     ensures { GivesAnswer (λ text. text.items) result (IsAnswer (command_of command.now) bytes.items) }
 {
-    let graph = graph_of(alloc, &bytes)?;
+    let graph = graph_of_bytes(alloc, &bytes)?;
     drop(bytes);
     answer_graph(alloc, command, &graph)
 }

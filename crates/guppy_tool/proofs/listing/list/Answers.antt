@@ -3,7 +3,7 @@ use Rattle.std.specs.Prelude.{slice_get}
 use Rattle.guppy_support.specs.Bits.{has}
 use Rattle.feature_labels.specs.Names.{id_of}
 use Rattle.feature_core.specs.Nodes.{nodes}
-use Rattle.guppy_tool.proofs.LineLemmas.{drop_map_at}
+use Rattle.row_files.specs.FirstFaultLaws.{drop_map_at}
 use Rattle.guppy_tool.proofs.ListingLemmas.{one_listed, one_passed_over, named_at}
 use Rattle.guppy_tool.proofs.listing.list.Goals as goal
 use Rattle.guppy_tool.proofs.listing.list.Goals.{then-holds+in_ok-push_line, else-holds}

@@ -1,5 +1,5 @@
 //! Words, texts of faults and runs, with expected values from the format's rules.
-use crate::devices::{ByteInput, FromReader, ToWriter};
+use byte_devices::{ByteInput, FromReader, ToWriter};
 use crate::fault::Fault;
 use crate::run;
 use crate::test_devices::{Interrupted, Sips, Trickle};

@@ -1,7 +1,7 @@
 //! Devices over memory that are awkward in one way each.
 ghost use Rattle.std.specs.Prelude.{◌≡◌, Some, false, IfOk};
 
-use crate::devices::{ByteInput, ByteOutput, Failed};
+use byte_devices::{ByteInput, ByteOutput, Failed};
 use std::alloc::{AllocError, Global};
 use std::io;
 use std::io::{ErrorKind, Read};
