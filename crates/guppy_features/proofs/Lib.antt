@@ -5,3 +5,4 @@ mod BuiltLemmas
 mod PackageLemmas
 mod SetLemmas
 mod VerifyLemmas
+pub mod MemberNames
