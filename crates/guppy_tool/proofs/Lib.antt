@@ -1,4 +1,4 @@
 pub mod RefusalLemmas
 pub mod WordLemmas
-pub mod ListingLemmas
 pub mod AnswerLemmas
+pub mod LawLemmas

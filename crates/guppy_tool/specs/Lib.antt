@@ -4,3 +4,4 @@ pub mod RowFileRefusals
 pub mod Words
 pub mod Answers
 pub mod Run
+pub mod Laws

@@ -6,7 +6,7 @@ ghost use Rattle.guppy_tool.specs.Faults.{refusal_of, Gives};
 ghost use Rattle.guppy_tool.specs.RowFileRefusals.{tables_in};
 ghost use Rattle.guppy_tool.specs.Words.{command_of, given_of, CommandText};
 ghost use Rattle.guppy_tool.specs.Words.CommandText.{resolve};
-ghost use Rattle.guppy_tool.specs.Answers.{IsOutput, IsToldAs};
+ghost use Rattle.guppy_tool.specs.Answers.{IsOutput, IsToldAs, MayRefuseIds};
 ghost use Rattle.guppy_tool.specs.Run.{GivesAnswer, IsAnswer};
 
 use crate::fault::Fault;
@@ -28,16 +28,18 @@ fn ids_of<'a>(alloc: Global, given: &'a [GivenId<'a>]) -> Result<Vec<FeatureId<'
     Ok(ids)
 }
 
-/// The fault for an error of the feature graph's.
+/// The fault for an error of a query over ids.
 fn fault_of(alloc: Global, error: Error<'_>) -> Fault
+    requires { MayRefuseIds (graph_refusal_of error) }
     ensures { IsToldAs (refusal_of result) (graph_refusal_of error.entry) }
 {
-    let Error::UnknownFeatureId(id) = error else {
-        return Fault::Memory;
-    };
-    match format!(in alloc; "{id}") {
-        Ok(id) => Fault::UnknownFeature { id },
-        Err(_) => Fault::Memory,
+    match error {
+        Error::UnknownFeatureId(id) => match format!(in alloc; "{id}") {
+            Ok(id) => Fault::UnknownFeature { id },
+            Err(_) => Fault::Memory,
+        },
+        Error::Memory => Fault::Memory,
+        Error::UnknownPackageId(_) | Error::FeatureGraphInternalError { .. } => unreachable!(),
     }
 }
 
@@ -64,7 +66,7 @@ fn resolved(
     let Ok(set) = query.resolve(alloc) else {
         return Err(Fault::Memory);
     };
-    Ok(list(alloc, graph, &set)?)
+    Ok(list(alloc, &set)?)
 }
 
 /// The text that answers the command over a package graph, or the first refusal.

@@ -4,6 +4,7 @@
 mod answer;
 mod engine;
 mod fault;
+pub mod laws;
 mod listing;
 mod words;
 
