@@ -2,3 +2,4 @@ mod BuiltLemmas
 mod PackageLemmas
 mod SetLemmas
 mod VerifyLemmas
+pub mod MemberNames

@@ -1,5 +1,6 @@
 -- What a graph has, by the names of packages and features, and the features that a list of names stands for.
-use Rattle.std.specs.Prelude.{◌≡◌, ◌↔◌, ◌<◌, ℕ, List, Bool, Some, IsTrue, Contains, slice_get, length}
+use Rattle.std.specs.Prelude.{◌≡◌, ◌↔◌, ◌<◌, ℕ, List, Bool, Some, IsTrue, Contains, filter, map, slice_get, length}
+use Rattle.std.specs.List.{enumerate_from, filter_map}
 use Rattle.guppy_support.specs.Bits.{has}
 use Rattle.guppy_packages.specs.Rows.{Text}
 use Rattle.guppy_packages.specs.Tables.{PackageTable, Tables, package_place}
@@ -90,3 +91,15 @@ pub record IsLinkCount (t : Tables) (count : ℕ) : Type 0 where
   pub pairs : List (ℕ × ℕ)
   pub is_list : IsPairList t pairs
   pub counted : count ≡ length pairs
+
+-- the items at the places that pass
+abbrev pub at_places : {X : Type 0} → (ℕ → Bool) → List X → List X
+at_places passes xs = map (λ p. p.1) (filter (λ p. passes p.0) (enumerate_from 0 xs))
+
+-- the names of the nodes that are members, in the order of the nodes
+abbrev pub names_of_members : Tables → List Bool → List (Text × LabelName)
+names_of_members t members = at_places (has members) (nodes t)
+
+-- the names of these nodes
+abbrev pub names_of_nodes : Tables → List ℕ → List (Text × LabelName)
+names_of_nodes t numbers = filter_map (λ n. slice_get (nodes t) n) numbers

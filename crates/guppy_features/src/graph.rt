@@ -102,6 +102,14 @@ impl<'g> FeatureGraph<'g> {
         self.built.node(self.graph, id)
     }
 
+    /// The id of a node.
+    pub(crate) fn id(&self, node: usize) -> FeatureId<'g>
+        requires { node < length (nodes (tables_of_graph self.now)) }
+        ensures { NodeNamed (tables_of_graph self.now) node (id_of result) }
+    {
+        self.built.id(self.graph, node)
+    }
+
     /// The nodes that are reached from the initial ones over all edges, those included.
     pub(crate) fn walk(
         &self,

@@ -1,5 +1,7 @@
 //! Sets of features.
-ghost use Rattle.std.specs.Prelude.{◌≡◌, ◌↔◌, IsTrue, MatchResult, count_by, length};
+ghost use Rattle.std.specs.Prelude.{◌≡◌, ◌↔◌, IsTrue, IfSome, MatchResult, Some, count_by, length};
+ghost use Rattle.std.specs.Iterator.{YieldsFirstBy, UpTo, item_count};
+ghost use Rattle.std.specs.Iterator.SizeHint.{IsWithinCount};
 ghost use Rattle.feature_labels.specs.Names.{id_of};
 ghost use Rattle.feature_core.specs.Nodes.{nodes};
 ghost use Rattle.feature_core.specs.Errors.{refusal_of};
@@ -8,8 +10,9 @@ ghost use Rattle.guppy_features.specs.Names.{RefusesName, TellsMember};
 use crate::graph::FeatureGraph;
 use feature_core::Error;
 use feature_labels::FeatureId;
-use guppy_support::IxBitSet;
+use guppy_support::{IxBitSet, Ones};
 use std::fmt;
+use std::iter::FusedIterator;
 use std::marker::Model;
 
 /// A set of features of one graph.
@@ -87,6 +90,74 @@ impl<'g> FeatureSet<'g> {
         }
     }
 }
+
+impl<'g> FeatureSet<'g> {
+    ghost use Rattle.guppy_features.specs.Names.{names_of_members};
+
+    /// The ids of the set's features, in the order of their nodes.
+    pub fn ids_by_node(&self) -> IdsByNode<'g, '_>
+        ensures { result ≡ names_of_members self.now.graph.tables self.now.members }
+    {
+        IdsByNode {
+            graph: self.graph,
+            numbers: self.members.ones(),
+        }
+    }
+}
+
+/// The ids of a set's features that are left, in the order of their nodes.
+#[derive(Drop)]
+pub struct IdsByNode<'g, 'a> {
+    graph: FeatureGraph<'g>,
+    numbers: Ones<'a>,
+}
+
+impl<'g, 'a> Model for IdsByNode<'g, 'a> {
+    ghost use Rattle.std.specs.Prelude.{List, ◌<◌, length};
+    ghost use Rattle.std.specs.List.{AllByRecursion};
+    ghost use Rattle.guppy_packages.specs.Rows.{Text};
+    ghost use Rattle.feature_core.specs.Nodes.{nodes};
+    ghost use Rattle.feature_labels.specs.Names.{LabelName};
+
+    ghost Value = { List (Text × LabelName) };
+
+    ghost use Rattle.guppy_features.specs.Views.{tables_of_graph};
+    ghost use Rattle.guppy_features.specs.Names.{names_of_nodes};
+
+    ghost view = { λ it. names_of_nodes (tables_of_graph it.graph) it.numbers };
+
+    ghost invariant = { λ it. AllByRecursion (λ n. n < length (nodes (tables_of_graph it.graph))) it.numbers };
+}
+
+impl<'g, 'a> Iterator for IdsByNode<'g, 'a> {
+    type Item = FeatureId<'g>;
+
+    ghost next_gives = { YieldsFirstBy id_of (λ rest. rest) };
+
+    ghost remaining = { item_count (λ rest. rest) };
+
+    fn next(&mut self) -> Option<FeatureId<'g>> {
+        let node = self.numbers.next()?;
+        Some(self.graph.id(node))
+    }
+
+    fn size_hint(&self) -> (usize, Option<usize>)
+        ensures lower { IsWithinCount result.0 (item_count (λ rest. rest) self.now) }
+        ensures upper { IfSome result.1 (UpTo (item_count (λ rest. rest) self.now)) }
+        ensures exact { result ≡ (length self.now, Some (length self.now)) }
+    {
+        let len = self.len();
+        (len, Some(len))
+    }
+}
+
+impl<'g, 'a> ExactSizeIterator for IdsByNode<'g, 'a> {
+    fn len(&self) -> usize {
+        self.numbers.len()
+    }
+}
+
+impl<'g, 'a> FusedIterator for IdsByNode<'g, 'a> {}
 
 impl fmt::Debug for FeatureSet<'_> {
     fn fmt<W: fmt::Write>(&self, f: &mut fmt::Formatter<W>) -> fmt::Result {

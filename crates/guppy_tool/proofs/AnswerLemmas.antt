@@ -6,8 +6,8 @@ use Rattle.feature_labels.specs.Names.{LabelName, id_text}
 use Rattle.feature_core.specs.Errors as graph
 use Rattle.guppy_features.specs.Names.{RefusesNames, IsFirstUnknown}
 use Rattle.guppy_tool.specs.Faults.{Refusal, IfNotMemory, unknown_feature, out_of_memory}
-use Rattle.guppy_tool.specs.Answers.{NamesUnknown, IsToldAs}
-use Rattle.guppy_tool.proofs.EachLemmas.{if_not_memory}
+use Rattle.guppy_tool.specs.Answers.{NamesUnknown, IsToldAs, MayRefuseIds}
+use Rattle.guppy_tool.proofs.RefusalLemmas.{if_not_memory}
 
 -- want of memory claims nothing
 at_memory : (r : Refusal) (P : Type 0) → r ≡ out_of_memory → IfNotMemory r P
@@ -18,3 +18,9 @@ names_unknown t ids (graph.unknown_feature id) r first told = if_not_memory r (r
 names_unknown t ids graph.no_memory r known told = at_memory r (NamesUnknown t ids r) told
 names_unknown t ids (graph.unknown_package id) r h told = absurd h
 names_unknown t ids (graph.internal_error from to) r h told = absurd h
+
+pub may_refuse : (t : Tables) (ids : List (Text × LabelName)) (refused : graph.Refusal) → RefusesNames t ids refused → MayRefuseIds refused
+may_refuse t ids (graph.unknown_feature id) h = tt
+may_refuse t ids graph.no_memory h = tt
+may_refuse t ids (graph.unknown_package id) h = absurd h
+may_refuse t ids (graph.internal_error from to) h = absurd h

@@ -1,8 +1,4 @@
-pub mod KeptBytes
-pub mod LineLemmas
-pub mod EachLemmas
-pub mod RowLemmas
+pub mod RefusalLemmas
 pub mod WordLemmas
-pub mod TableLemmas
-pub mod ListingLemmas
 pub mod AnswerLemmas
+pub mod LawLemmas

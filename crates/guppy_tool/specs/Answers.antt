@@ -1,6 +1,5 @@
 -- What each command answers over the tables of a row file.
-use Rattle.std.specs.Prelude.{◌≡◌, ◌↔◌, ◌++◌, ℕ, List, ◌∷◌, [], Bool, Result, Ok, Err, IsTrue, Contains, filter, map, flat_map}
-use Rattle.std.specs.List.{enumerate_from}
+use Rattle.std.specs.Prelude.{◌≡◌, ◌↔◌, ◌++◌, ℕ, List, ◌∷◌, [], Bool, Result, Ok, Err, IsTrue, flat_map}
 use Rattle.guppy_packages.specs.Rows.{Text}
 use Rattle.guppy_packages.specs.Tables.{Tables}
 use Rattle.guppy_packages.specs.declared.direction.DependencyDirection.{DependencyDirection}
@@ -8,7 +7,7 @@ use Rattle.feature_labels.specs.Names.{LabelName, id_text}
 use Rattle.feature_core.specs.Nodes.{nodes}
 use Rattle.feature_core.specs.Errors as graph
 use Rattle.guppy_support.specs.Bits.{has}
-use Rattle.guppy_features.specs.Names.{AreKnown, IsFirstUnknown, HoldsExactly}
+use Rattle.guppy_features.specs.Names.{AreKnown, IsFirstUnknown, HoldsExactly, at_places}
 use Rattle.feature_core.specs.Pairs.{Reach}
 use Rattle.guppy_tool.specs.Faults.{Refusal, unknown_feature, out_of_memory, IfNotMemory}
 use Rattle.guppy_tool.specs.Words.{CommandText, resolve}
@@ -16,10 +15,6 @@ use Rattle.guppy_tool.specs.Words.{CommandText, resolve}
 -- ids, each ended by a line feed
 abbrev pub listing : List (Text × LabelName) → Text
 listing ids = flat_map (λ id. id_text id ++ 10 ∷ []) ids
-
--- the items at the places that pass
-abbrev pub at_places : {X : Type 0} → (ℕ → Bool) → List X → List X
-at_places passes xs = map (λ p. p.1) (filter (λ p. passes p.0) (enumerate_from 0 xs))
 
 -- Every id names a feature, and the text lists the features to which those lead, in the order of the nodes.
 pub record Resolves (t : Tables) (direction : DependencyDirection) (ids : List (Text × LabelName)) (text : Text) : Type 0 where
@@ -36,12 +31,19 @@ pub record NamesUnknown (t : Tables) (ids : List (Text × LabelName)) (refusal :
   pub first : IsFirstUnknown t ids id
   pub named : refusal ≡ unknown_feature (id_text id)
 
--- a refusal of the feature graph's, in the program's terms
+-- why a query over ids may be refused: an unknown feature, or want of memory
+abbrev pub MayRefuseIds : graph.Refusal → Type 0
+MayRefuseIds (graph.unknown_feature id) = Unit {0}
+MayRefuseIds graph.no_memory = Unit {0}
+MayRefuseIds (graph.unknown_package id) = ⊥
+MayRefuseIds (graph.internal_error from to) = ⊥
+
+-- such a refusal, in the program's terms
 abbrev pub IsToldAs : Refusal → graph.Refusal → Type 0
 IsToldAs refusal (graph.unknown_feature id) = IfNotMemory refusal (refusal ≡ unknown_feature (id_text id))
 IsToldAs refusal graph.no_memory = refusal ≡ out_of_memory
-IsToldAs refusal (graph.unknown_package id) = refusal ≡ out_of_memory
-IsToldAs refusal (graph.internal_error from to) = refusal ≡ out_of_memory
+IsToldAs refusal (graph.unknown_package id) = ⊥
+IsToldAs refusal (graph.internal_error from to) = ⊥
 
 -- what is answered over the tables: the text, or the first refusal
 abbrev pub IsOutput : CommandText → Tables → Result Text Refusal → Type 0

@@ -1,9 +1,9 @@
 -- Faults, with texts in place of strings.
-use Rattle.std.specs.Prelude.{◌≡◌, ℕ, List, Option, Result, Ok, Err, find, is_none}
-use Rattle.std.specs.List.{filter_map}
-use Rattle.std.specs.Option.{option_map_or}
+use Rattle.std.specs.Prelude.{◌≡◌, ℕ, Result, Ok, Err}
 use Rattle.std.specs.String.{string_bytes}
 use Rattle.guppy_packages.specs.Rows.{Text}
+use Rattle.byte_devices.specs.declared.whole.ReadError.{ReadError}
+use Rattle.byte_devices.specs.declared.whole.ReadError.TheVariants as error
 use Rattle.guppy_tool.specs.declared.fault.Fault.{Fault}
 use Rattle.guppy_tool.specs.declared.fault.Fault.TheVariants as fault
 
@@ -40,6 +40,11 @@ refusal_of (fault.UnknownFeature id) = unknown_feature (string_bytes id)
 refusal_of fault.Memory = out_of_memory
 refusal_of fault.CannotWrite = cannot_write
 
+-- why not all bytes were read
+abbrev pub read_refusal : ReadError → Refusal
+read_refusal error.Failed = cannot_read
+read_refusal error.Memory = out_of_memory
+
 -- want of memory claims nothing
 abbrev pub IfNotMemory : Refusal → Type 0 → Type 0
 IfNotMemory out_of_memory claim = Unit {0}
@@ -49,7 +54,3 @@ IfNotMemory _ claim = claim
 abbrev pub Gives : {X Y : Type 0} → (X → Y) → Result X Fault → Result Y Refusal → Type 0
 Gives view (Ok x) given = given ≡ Ok (view x)
 Gives view (Err e) given = IfNotMemory (refusal_of e) (given ≡ Err (refusal_of e))
-
--- what f gives of each item, or the refusal of the first item of which it gives nothing
-abbrev pub each_or : {A B : Type 0} → (A → Option B) → (A → Refusal) → List A → Result (List B) Refusal
-each_or f refusal items = option_map_or (λ x. Err (refusal x)) (find (λ x. is_none (f x)) items) (Ok (filter_map f items))

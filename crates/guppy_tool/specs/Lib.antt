@@ -1,9 +1,7 @@
-pub mod Devices
 pub mod Status
-pub mod Lines
 pub mod Faults
-pub mod Reading
+pub mod RowFileRefusals
 pub mod Words
-pub mod Output
 pub mod Answers
 pub mod Run
+pub mod Laws

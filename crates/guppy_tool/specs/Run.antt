@@ -1,10 +1,10 @@
 -- What a run writes for the bytes that it read, and how it ends.
-use Rattle.std.specs.Prelude.{◌≡◌, Option, ◌++◌, Bool, true, Result, Ok, Err, IfSome}
+use Rattle.std.specs.Prelude.{◌≡◌, Option, ◌++◌, Bool, true, false, Result, Ok, Err, IfSome}
 use Rattle.std.specs.Io.KnownBytes.{Keeps, Appends}
 use Rattle.guppy_packages.specs.Rows.{Text}
 use Rattle.guppy_packages.specs.Tables.{Tables}
 use Rattle.guppy_tool.specs.Faults.{Refusal, IfNotMemory, refusal_of, usage, bad_id, cannot_read, cannot_write, out_of_memory}
-use Rattle.guppy_tool.specs.Output.{tables_in}
+use Rattle.guppy_tool.specs.RowFileRefusals.{tables_in}
 use Rattle.guppy_tool.specs.Words.{CommandText}
 use Rattle.guppy_tool.specs.Answers.{IsOutput}
 use Rattle.guppy_tool.specs.declared.fault.Fault.{Fault}
@@ -23,12 +23,13 @@ abbrev pub GivesAnswer : {X : Type 0} → (X → Text) → Result X Fault → (R
 GivesAnswer view (Ok x) answers = answers (Ok (view x))
 GivesAnswer view (Err fault) answers = IfNotMemory (refusal_of fault) (answers (Err (refusal_of fault)))
 
--- A run over these bytes ended with this refusal: what was written, and which device failed.
+-- A run over these bytes ended with this refusal: what was written, and which device failed. A run goes on after no failure,
+-- so one device has failed at most, and that only where the refusal says so.
 abbrev pub Ends : Refusal → Option Text → (Text → Result Text Refusal → Type 0) → Option Text → Option Text → Bool → Bool → Type 0
-Ends cannot_read left answers old new read_failed write_failed = Keeps old new × (read_failed ≡ true)
+Ends cannot_read left answers old new read_failed write_failed = Keeps old new × (read_failed ≡ true) × (write_failed ≡ false)
 Ends cannot_write left answers old new read_failed write_failed =
-    (write_failed ≡ true) × IfSome left (λ bytes. (text front rest : Text) × answers bytes (Ok text) × (text ≡ front ++ rest) × Appends old new front)
-Ends out_of_memory left answers old new read_failed write_failed = Keeps old new
+    (read_failed ≡ false) × (write_failed ≡ true) × IfSome left (λ bytes. (text front rest : Text) × answers bytes (Ok text) × (text ≡ front ++ rest) × Appends old new front)
+Ends out_of_memory left answers old new read_failed write_failed = Keeps old new × (read_failed ≡ false) × (write_failed ≡ false)
 Ends usage left answers old new read_failed write_failed = ⊥
 Ends (bad_id word) left answers old new read_failed write_failed = ⊥
-Ends refusal left answers old new read_failed write_failed = Keeps old new × IfSome left (λ bytes. answers bytes (Err refusal))
+Ends refusal left answers old new read_failed write_failed = Keeps old new × (read_failed ≡ false) × (write_failed ≡ false) × IfSome left (λ bytes. answers bytes (Err refusal))

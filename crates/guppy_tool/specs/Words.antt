@@ -6,7 +6,8 @@ use Rattle.guppy_packages.specs.Rows.{Text}
 use Rattle.guppy_packages.specs.declared.direction.DependencyDirection.{DependencyDirection}
 use Rattle.guppy_packages.specs.declared.direction.DependencyDirection.TheVariants.{Forward}
 use Rattle.feature_labels.specs.Names.{LabelName, base, named, optional, label_of}
-use Rattle.guppy_tool.specs.Faults.{Refusal, usage, bad_id, each_or}
+use Rattle.guppy_tool.specs.Faults.{Refusal, usage, bad_id}
+use Rattle.row_files.specs.FirstFault.{each_or}
 use Rattle.guppy_tool.specs.declared.words.GivenId.{GivenId}
 use Rattle.guppy_tool.specs.declared.words.Command.{Command}
 use Rattle.guppy_tool.specs.declared.words.Command.TheVariants.{Resolve}

@@ -1,4 +1,11 @@
 //! Why the program gave no answer.
+ghost use Rattle.std.specs.Prelude.{◌≡◌};
+ghost use Rattle.guppy_tool.specs.Faults.{refusal_of, read_refusal};
+ghost use Rattle.guppy_tool.specs.RowFileRefusals.{row_refusal, file_refusal};
+
+use byte_devices::ReadError;
+use guppy_packages::RowFault;
+use row_files::RowFileError;
 use std::alloc::{AllocError, AllocFailed};
 use thiserror::Error;
 
@@ -36,7 +43,6 @@ pub enum Fault {
 }
 
 impl From<AllocError> for Fault {
-    ghost use Rattle.std.specs.Prelude.{◌≡◌};
     ghost use Rattle.guppy_tool.specs.declared.fault.Fault.TheVariants.{Memory};
 
     ghost from_gives = { λ _ fault. fault ≡ Memory };
@@ -47,7 +53,6 @@ impl From<AllocError> for Fault {
 }
 
 impl<T: Drop> From<AllocFailed<T>> for Fault {
-    ghost use Rattle.std.specs.Prelude.{◌≡◌};
     ghost use Rattle.guppy_tool.specs.declared.fault.Fault.TheVariants.{Memory};
 
     ghost from_gives = { λ _ fault. fault ≡ Memory };
@@ -57,8 +62,45 @@ impl<T: Drop> From<AllocFailed<T>> for Fault {
     }
 }
 
+/// The fault of a row that stands in this line.
+fn row_fault(line: usize, fault: RowFault) -> Fault
+    ensures { refusal_of result ≡ row_refusal line fault }
+{
+    match fault {
+        RowFault::NoPackage => Fault::NoPackage { line },
+        RowFault::DuplicatePackage => Fault::DuplicatePackage { line },
+        RowFault::DuplicateFeature => Fault::DuplicateFeature { line },
+        RowFault::UnknownTarget => Fault::UnknownTarget { line },
+        RowFault::OtherName => Fault::OtherName { line },
+        RowFault::Memory => Fault::Memory,
+    }
+}
+
+impl From<RowFileError> for Fault {
+    ghost from_gives = { λ error fault. refusal_of fault ≡ file_refusal error };
+
+    fn from(error: RowFileError) -> Fault {
+        match error {
+            RowFileError::NotText => Fault::NotText,
+            RowFileError::Malformed { line } => Fault::Malformed { line },
+            RowFileError::Row { line, fault } => row_fault(line, fault),
+            RowFileError::Memory => Fault::Memory,
+        }
+    }
+}
+
+impl From<ReadError> for Fault {
+    ghost from_gives = { λ error fault. refusal_of fault ≡ read_refusal error };
+
+    fn from(error: ReadError) -> Fault {
+        match error {
+            ReadError::Failed => Fault::CannotRead,
+            ReadError::Memory => Fault::Memory,
+        }
+    }
+}
+
 impl Fault {
-    ghost use Rattle.std.specs.Prelude.{◌≡◌};
     ghost use Rattle.guppy_tool.specs.Status.{status_of};
 
     /// The exit status: 2 where the words are at fault, else 1.

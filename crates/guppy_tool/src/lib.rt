@@ -2,21 +2,13 @@
 #![tactic(auto)]
 
 mod answer;
-mod cuts;
-mod devices;
 mod engine;
 mod fault;
-mod lines;
+pub mod laws;
 mod listing;
-mod reading;
-mod tables;
-#[cfg(test)]
-mod test_devices;
-#[cfg(test)]
-mod tests;
 mod words;
 
-pub use devices::{ByteInput, ByteOutput, Failed, FromReader, ToWriter};
+pub use byte_devices::{ByteInput, ByteOutput, Failed, FromReader, ToWriter};
 pub use engine::run;
 pub use fault::Fault;
 pub use words::{Command, GivenId, parse_words};

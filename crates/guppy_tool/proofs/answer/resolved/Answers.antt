@@ -6,9 +6,9 @@ use Rattle.guppy_packages.specs.Tables.{Tables}
 use Rattle.feature_labels.specs.Names.{LabelName, id_of}
 use Rattle.feature_core.specs.Nodes.{nodes}
 use Rattle.feature_core.specs.Pairs.{Reach}
-use Rattle.guppy_features.specs.Names.{AreKnown, HoldsExactly}
+use Rattle.guppy_features.specs.Names.{AreKnown, HoldsExactly, at_places}
 use Rattle.guppy_features.specs.Views.{tables_of_graph}
-use Rattle.guppy_tool.specs.Answers.{Resolves, listing, at_places}
+use Rattle.guppy_tool.specs.Answers.{Resolves, listing}
 use Rattle.guppy_tool.specs.Words.{given_of}
 use Rattle.guppy_tool.proofs.answer.resolved.Goals as goal
 
@@ -21,6 +21,7 @@ returns c =
     let given : map id_of c.deref.result.now ≡ ids = ap (map id_of) c.deref.ensures.value ∙ c.in_ok-ids.ensures in
     let tables : tables_of_graph c.feature_graph.result ≡ t = ap (λ g. g.tables) c.feature_graph.ensures in
     let own : query.graph.tables ≡ t = ap (λ g. g.tables) c.in-Ok-query_directed.ensures.graph ∙ tables in
+    let own_set : set.graph.tables ≡ t = ap (λ g. g.tables) c.in-Ok-resolve.ensures.graph ∙ own in
     let reached : (n : ℕ) → IsTrue (has set.members n) ↔ Reach t c.args.direction (has query.initials) n = λ n. subst (λ z. IsTrue (has set.members n) ↔ Reach t z (has query.initials) n) c.in-Ok-query_directed.ensures.direction (subst (λ z. IsTrue (has set.members n) ↔ Reach z query.direction (has query.initials) n) own (c.in-Ok-resolve.ensures.reach n)) in
     record {
       known = subst (λ z. AreKnown t z) given (subst (λ z. AreKnown z (map id_of c.deref.result.now)) tables c.in-Ok-query_directed.ensures.known);
@@ -28,5 +29,5 @@ returns c =
       given = subst (λ z. HoldsExactly t query.initials z) given (subst (λ z. HoldsExactly z query.initials (map id_of c.deref.result.now)) tables c.in-Ok-query_directed.ensures.initials);
       members = set.members;
       reached = reached;
-      lines = c.in_ok-list.ensures;
+      lines = subst (λ z. c.in_ok-list.field-0.items ≡ listing (at_places (has set.members) (nodes z))) own_set c.in_ok-list.ensures;
     }

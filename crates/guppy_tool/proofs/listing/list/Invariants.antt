@@ -1,11 +1,9 @@
-use Rattle.std.proofs.Common.{◌≡◌, ◌++◌, map, drop}
+use Rattle.std.proofs.Common.{◌≡◌, ◌++◌}
 use Rattle.std.specs.String.{string_bytes}
-use Rattle.guppy_support.specs.Bits.{has}
-use Rattle.feature_labels.specs.Names.{id_of}
-use Rattle.guppy_tool.proofs.ListingLemmas.{listed_from}
+use Rattle.guppy_features.specs.Names.{names_of_members}
+use Rattle.guppy_tool.specs.Answers.{listing}
 use Rattle.guppy_tool.proofs.listing.list.Given as goal
 
--- The text so far and the lines of the nodes to come are the lines of all nodes.
+-- The text so far and the lines of the members to come are the lines of all members.
 abbrev pub invariant-loop-id : goal.invariant-loop-id
-invariant-loop-id l =
-    string_bytes l.text ++ listed_from (has l.set.members) l.id-index (drop l.id-index (map id_of l.id-items)) ≡ listed_from (has l.set.members) 0 (map id_of l.id-items)
+invariant-loop-id l = string_bytes l.text ++ listing l.id-iterator ≡ listing (names_of_members l.set.graph.tables l.set.members)

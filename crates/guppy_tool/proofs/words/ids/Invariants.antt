@@ -1,7 +1,7 @@
 use Rattle.std.proofs.Common.{◌≡◌, drop, map}
 use Rattle.guppy_packages.specs.Rows.{texts}
 use Rattle.guppy_tool.specs.Words.{given_of, ids_in}
-use Rattle.guppy_tool.proofs.EachLemmas.{with_front}
+use Rattle.row_files.specs.FirstFaultLaws.{with_front}
 use Rattle.guppy_tool.proofs.words.ids.Given as goal
 
 -- The ids so far, before those of the words to come, are the ids of all words.

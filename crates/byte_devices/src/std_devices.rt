@@ -1,0 +1,109 @@
+//! Devices over the readers and writers of std.
+ghost use Rattle.std.specs.Prelude.{◌≡◌, false, IfOk, ◌<◌, length};
+ghost use Rattle.std.specs.Io.{ReadsAtMost, WritesAtMost};
+ghost use Rattle.std.specs.Io.KnownBytes.{ReadConsumes, WriteAppends};
+
+use crate::interfaces::{ByteInput, ByteOutput, Failed};
+use std::io::{ErrorKind, Read, Write};
+
+/// How often a call is made before it counts as failed, where each was interrupted.
+const ATTEMPTS: usize = 1_000;
+
+/// A read, made again where it was interrupted.
+fn read_once<R: Read>(reader: &mut R, buf: &mut [u8]) -> Result<usize, Failed>
+    ensures bound { ReadsAtMost result buf.new }
+    ensures bytes { ReadConsumes (R.remaining reader.old) (R.remaining reader.new) result buf.new }
+{
+    for _attempt in 0..ATTEMPTS {
+        match reader.read(buf) {
+            Ok(count) => return Ok(count),
+            Err(error) if error.kind() == ErrorKind::Interrupted => {}
+            Err(_) => return Err(Failed),
+        }
+    }
+    Err(Failed)
+}
+
+/// A write, made again where it was interrupted. One that takes nothing of a nonempty slice has failed.
+fn write_once<W: Write>(writer: &mut W, buf: &[u8]) -> Result<usize, Failed>
+    ensures bound { WritesAtMost result buf.now }
+    ensures some { IfOk result (λ n. 0 < length buf.now → 0 < n) }
+    ensures bytes { WriteAppends (W.contents writer.old) (W.contents writer.new) result buf.now }
+{
+    for _attempt in 0..ATTEMPTS {
+        match writer.write(buf) {
+            Ok(count) if count > 0 || buf.is_empty() => return Ok(count),
+            Err(error) if error.kind() == ErrorKind::Interrupted => {}
+            _ => return Err(Failed),
+        }
+    }
+    Err(Failed)
+}
+
+/// Any reader of std.
+#[derive(Drop)]
+pub struct FromReader<R> {
+    reader: R,
+    has_failed: bool,
+}
+
+impl<R: Read> FromReader<R> {
+    /// The reader, of which no read has failed yet.
+    pub fn new(reader: R) -> Self
+        ensures reader { result.reader ≡ reader }
+        ensures fresh { result.has_failed ≡ false }
+    {
+        FromReader {
+            reader,
+            has_failed: false,
+        }
+    }
+}
+
+impl<R: Read> ByteInput for FromReader<R> {
+    ghost left = { λ s. R.remaining s.reader };
+
+    ghost failed = { λ s. s.has_failed };
+
+    fn read(&mut self, buf: &mut [u8]) -> Result<usize, Failed> {
+        let read = read_once(&mut self.reader, buf);
+        if read.is_err() {
+            self.has_failed = true;
+        }
+        read
+    }
+}
+
+/// Any writer of std.
+#[derive(Drop)]
+pub struct ToWriter<W> {
+    writer: W,
+    has_failed: bool,
+}
+
+impl<W: Write> ToWriter<W> {
+    /// The writer, of which no write has failed yet.
+    pub fn new(writer: W) -> Self
+        ensures writer { result.writer ≡ writer }
+        ensures fresh { result.has_failed ≡ false }
+    {
+        ToWriter {
+            writer,
+            has_failed: false,
+        }
+    }
+}
+
+impl<W: Write> ByteOutput for ToWriter<W> {
+    ghost held = { λ s. W.contents s.writer };
+
+    ghost failed = { λ s. s.has_failed };
+
+    fn write(&mut self, buf: &[u8]) -> Result<usize, Failed> {
+        let written = write_once(&mut self.writer, buf);
+        if written.is_err() {
+            self.has_failed = true;
+        }
+        written
+    }
+}

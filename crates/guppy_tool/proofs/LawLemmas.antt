@@ -1,0 +1,77 @@
+-- One command and one content of bytes have one answer.
+use Rattle.std.proofs.Common.{◌≡◌, ◌≢◌, ℕ, ◌<◌, ◌+◌, ◌⊎◌, inl, inr, List, [], ◌∷◌, Bool, true, false, Result, Ok, Err, Some, sym, ap, ◌∙◌, refl, cond, filter, map, arith, subst, rules}
+use Rattle.std.specs.Prelude.{◌↔◌, IsTrue, slice_get}
+use Rattle.std.specs.List.{enumerate_from}
+use Rattle.guppy_support.specs.Bits.{has}
+use Rattle.guppy_packages.specs.Rows.{Text}
+use Rattle.guppy_packages.specs.Tables.{Tables}
+use Rattle.guppy_packages.specs.declared.direction.DependencyDirection.{DependencyDirection}
+use Rattle.feature_labels.specs.Names.{LabelName, id_text}
+use Rattle.feature_core.specs.Nodes.{nodes}
+use Rattle.feature_core.specs.Pairs.{Reach}
+use Rattle.guppy_features.specs.Names.{AreKnown, IsFirstUnknown, HoldsExactly, HasFeature, at_places}
+use Rattle.guppy_tool.specs.Faults.{Refusal, unknown_feature}
+use Rattle.guppy_tool.specs.RowFileRefusals.{tables_in}
+use Rattle.guppy_tool.specs.Words.{CommandText, resolve}
+use Rattle.guppy_tool.specs.Answers.{Resolves, NamesUnknown, listing}
+use Rattle.guppy_tool.specs.Run.{IsOutputOf, IsAnswer}
+
+-- tests that pass alike
+same_test : (a b : Bool) → (IsTrue a → IsTrue b) → (IsTrue b → IsTrue a) → a ≡ b
+same_test true b f g = sym (f refl)
+same_test false true f g = g refl
+same_test false false f g = refl
+
+filter_alike : {X : Type 0} (p q : X → Bool) (xs : List X) → ((x : X) → p x ≡ q x) → filter p xs ≡ filter q xs
+filter_alike p q [] same = refl
+filter_alike p q (x ∷ xs) same = ap (λ b. cond b (x ∷ filter p xs) (filter p xs)) (same x) ∙ ap (λ rest. cond (q x) (x ∷ rest) rest) (filter_alike p q xs same)
+
+at_places_alike : {X : Type 0} (p q : ℕ → Bool) (xs : List X) → ((n : ℕ) → p n ≡ q n) → at_places p xs ≡ at_places q xs
+at_places_alike p q xs same = ap (map (λ x. x.1)) (filter_alike (λ x. p x.0) (λ x. q x.0) (enumerate_from 0 xs) (λ x. same x.0))
+
+-- more initials reach more
+reach_grows : (t : Tables) (direction : DependencyDirection) (p q : ℕ → Bool) (n : ℕ) → ((u : ℕ) → IsTrue (p u) → IsTrue (q u)) → Reach t direction p n → Reach t direction q n
+reach_grows t direction p q n more (u, starts, path) = (u, more u starts, path)
+
+-- those that hold exactly the same names
+same_initials : (t : Tables) (xs ys : List Bool) (ids : List (Text × LabelName)) → HoldsExactly t xs ids → HoldsExactly t ys ids → (n : ℕ) → IsTrue (has xs n) → IsTrue (has ys n)
+same_initials t xs ys ids a b n h = (b.exact n).1 ((a.exact n).0 h)
+
+reached_too : (t : Tables) (direction : DependencyDirection) (ids : List (Text × LabelName)) (x y : Text) (a : Resolves t direction ids x) (b : Resolves t direction ids y) (n : ℕ) → IsTrue (has a.members n) → IsTrue (has b.members n)
+reached_too t direction ids x y a b n h = (b.reached n).1 (reach_grows t direction (has a.initials) (has b.initials) n (same_initials t a.initials b.initials ids a.given b.given) ((a.reached n).0 h))
+
+one_text : (t : Tables) (direction : DependencyDirection) (ids : List (Text × LabelName)) (x y : Text) → Resolves t direction ids x → Resolves t direction ids y → x ≡ y
+one_text t direction ids x y a b =
+    let same : (n : ℕ) → has a.members n ≡ has b.members n = λ n. same_test (has a.members n) (has b.members n) (reached_too t direction ids x y a b n) (reached_too t direction ids y x b a n) in
+    a.lines ∙ ap listing (at_places_alike (has a.members) (has b.members) (nodes t) same) ∙ sym b.lines
+
+-- where all names are known, none is the first unknown one
+not_both : (t : Tables) (ids : List (Text × LabelName)) (id : Text × LabelName) → AreKnown t ids → IsFirstUnknown t ids id → ⊥
+not_both t ids id known first = first.unknown (known first.place id first.at)
+
+compare : (m n : ℕ) → (m < n) ⊎ ((n < m) ⊎ (m ≡ n))
+compare m n = search (rules, arith)
+
+some_same : {X : Type 0} (x y : X) → ◌≡◌ (Some x) (Some y) → x ≡ y
+some_same x y e = cc
+
+one_first : (t : Tables) (ids : List (Text × LabelName)) (x y : Text × LabelName) → IsFirstUnknown t ids x → IsFirstUnknown t ids y → x ≡ y
+one_first t ids x y a b =
+    elim (compare a.place b.place) [
+      | inl less ↦ absurd (a.unknown (b.before a.place x less a.at))
+      | inr rest ↦ elim rest [
+          | inl less ↦ absurd (b.unknown (a.before b.place y less b.at))
+          | inr same ↦ some_same x y (sym a.at ∙ ap (slice_get ids) same ∙ b.at)
+        ]
+    ]
+
+one_output : (command : CommandText) (tables : Result Tables Refusal) (a b : Result Text Refusal) → IsOutputOf command tables a → IsOutputOf command tables b → a ≡ b
+one_output command (Err refusal) a b x y = x ∙ sym y
+one_output (resolve direction ids) (Ok t) (Ok text) (Ok other) x y = ap Ok (one_text t direction ids text other x y)
+one_output (resolve direction ids) (Ok t) (Ok text) (Err refusal) x y = absurd (not_both t ids y.id x.known y.first)
+one_output (resolve direction ids) (Ok t) (Err refusal) (Ok text) x y = absurd (not_both t ids x.id y.known x.first)
+one_output (resolve direction ids) (Ok t) (Err refusal) (Err other) x y =
+    ap Err (x.named ∙ ap (λ id. unknown_feature (id_text id)) (one_first t ids x.id y.id x.first y.first) ∙ sym y.named)
+
+pub one_answer : (command : CommandText) (bytes : Text) (a b : Result Text Refusal) → IsAnswer command bytes a → IsAnswer command bytes b → a ≡ b
+one_answer command bytes a b = one_output command (tables_in bytes) a b

@@ -1,0 +1,43 @@
+-- Claims that want of memory doesn't make, and a row file's errors in the program's terms.
+use Rattle.std.proofs.Common.{◌≡◌, ℕ, Result, Ok, Err, ap}
+use Rattle.guppy_packages.specs.Rows.{Text}
+use Rattle.guppy_packages.specs.Tables.{Tables}
+use Rattle.guppy_packages.specs.declared.row_error.RowFault.{RowFault}
+use Rattle.guppy_packages.specs.declared.row_error.RowFault.TheVariants as row
+use Rattle.row_files.specs.declared.error.RowFileError.{RowFileError}
+use Rattle.row_files.specs.declared.error.RowFileError.TheVariants as error
+use Rattle.row_files.specs.FirstFault as file
+use Rattle.guppy_tool.specs.Faults.{Refusal, IfNotMemory, usage, bad_id, cannot_read, not_text, malformed, no_package, duplicate_package, duplicate_feature, unknown_target, other_name, unknown_package, unknown_feature, out_of_memory, cannot_write}
+use Rattle.guppy_tool.specs.RowFileRefusals.{file_refusal, in_refusals}
+
+-- what follows from a claim that want of memory doesn't make
+pub if_not_memory : (r : Refusal) (P Q : Type 0) → (P → Q) → IfNotMemory r P → IfNotMemory r Q
+if_not_memory out_of_memory P Q f h = tt
+if_not_memory usage P Q f h = f h
+if_not_memory (bad_id word) P Q f h = f h
+if_not_memory cannot_read P Q f h = f h
+if_not_memory not_text P Q f h = f h
+if_not_memory (malformed n) P Q f h = f h
+if_not_memory (no_package n) P Q f h = f h
+if_not_memory (duplicate_package n) P Q f h = f h
+if_not_memory (duplicate_feature n) P Q f h = f h
+if_not_memory (unknown_target n) P Q f h = f h
+if_not_memory (other_name n) P Q f h = f h
+if_not_memory (unknown_package id) P Q f h = f h
+if_not_memory (unknown_feature id) P Q f h = f h
+if_not_memory cannot_write P Q f h = f h
+
+refused : {X : Type 0} (given : Result X RowFileError) (e : RowFileError) → given ≡ Err e → in_refusals given ≡ Err (file_refusal e)
+refused given e h = ap in_refusals h
+
+-- an error of the row file is told as the refusal of its bytes
+pub told : {X : Type 0} (given : Result X RowFileError) (e : RowFileError) → file.IfNotMemory e (given ≡ Err e) → IfNotMemory (file_refusal e) (in_refusals given ≡ Err (file_refusal e))
+told given error.Memory h = tt
+told given error.NotText h = refused given _ h
+told given (error.Malformed n) h = refused given _ h
+told given (error.Row n row.Memory) h = tt
+told given (error.Row n row.NoPackage) h = refused given _ h
+told given (error.Row n row.DuplicatePackage) h = refused given _ h
+told given (error.Row n row.DuplicateFeature) h = refused given _ h
+told given (error.Row n row.UnknownTarget) h = refused given _ h
+told given (error.Row n row.OtherName) h = refused given _ h

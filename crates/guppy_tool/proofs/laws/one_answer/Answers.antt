@@ -1,0 +1,5 @@
+use Rattle.guppy_tool.proofs.LawLemmas.{one_answer}
+use Rattle.guppy_tool.proofs.laws.one_answer.Goals as goal
+
+pub returns : goal.returns
+returns c = one_answer

@@ -1,9 +1,0 @@
-use Rattle.std.proofs.Common.{◌≡◌, ◌+◌, ◌++◌, drop}
-use Rattle.guppy_packages.specs.Rows.{texts}
-use Rattle.guppy_tool.specs.Lines.{kept_lines, line_texts}
-use Rattle.guppy_tool.proofs.lines.Lines.of.Given as goal
-
--- The lines so far and those of the parts to come are the lines of all parts.
-abbrev pub invariant-loop-index : goal.invariant-loop-index
-invariant-loop-index l =
-    line_texts (texts l.lines.fields.items) l.lines.lines.items ++ kept_lines (l.index + 1) (drop l.index (texts l.part-items)) ≡ kept_lines 1 (texts l.part-items)
