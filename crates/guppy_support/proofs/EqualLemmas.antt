@@ -8,7 +8,8 @@ use mathlib.Core.Bool.{true≢false}
 use Rattle.std.proofs.lemmas.Bool.{cases_lt, cases_Bool}
 use Rattle.std.proofs.lemmas.List.{get_or_past}
 use Rattle.std.proofs.lemmas.Nat.Bits.{same_from_bits_below, bit_at-lt}
-use Rattle.guppy_support.specs.Bits.{has, members, word_bit, bits_of, AreWords, Fit}
+use Rattle.guppy_support.specs.Bits.{has, members}
+use Rattle.guppy_support.specs.inner.Words.{word_bit, bits_of, AreWords, Fit}
 use Rattle.guppy_support.specs.Laws.{SetsAreTheirMembers}
 use Rattle.guppy_support.proofs.BitLemmas.{length-bits_of, has-bits_of, has_past, same_sets, word_bit_at, bit_cases}
 use Rattle.guppy_support.proofs.SetLemmas.{Contains-members, has-Contains}

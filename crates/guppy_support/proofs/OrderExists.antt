@@ -10,15 +10,15 @@ use Rattle.guppy_support.specs.declared.digraph.Edge.{Edge}
 use Rattle.guppy_support.specs.Graph.{Graph, IsDigraph}
 use Rattle.guppy_support.specs.Paths.{HasEdge, Path, nowhere, onward, SameComponent}
 use Rattle.guppy_support.specs.Orders.{IsHeld, IsAvailable, IsNext, IsOrder}
-use Rattle.guppy_support.specs.Ranks.{IsRanking}
-use Rattle.guppy_support.specs.Counts.{count_below}
+use Rattle.guppy_support.specs.inner.Ranks.{IsRanking}
+use Rattle.guppy_support.specs.inner.Counts.{count_below}
 use Rattle.guppy_support.specs.Laws.{OrderExists}
 use Rattle.guppy_support.proofs.FaultLemmas.{nodes_of_edge}
 use Rattle.guppy_support.proofs.PathLemmas.{join, one_edge, same_self, same_turned, same_joined}
-use Rattle.guppy_support.proofs.MarkLemmas.{contains_cases}
+use Rattle.guppy_support.proofs.BackwardLemmas.{contains_cases}
 use Rattle.guppy_support.proofs.ApartLemmas.{apart_short}
 use Rattle.guppy_support.proofs.LawLemmas.{path_inside}
-use Rattle.guppy_support.proofs.Exists.{search_below, search_nodes, and_cases, not_cases, edge_cases, IsFront, front_none, front_more, some_available, held_cases}
+use Rattle.guppy_support.proofs.Available.{search_below, search_nodes, and_cases, not_cases, edge_cases, IsFront, front_none, front_more, some_available, held_cases}
 
 or_cases : (A B : Type 0) → A ⊎ ¬ A → B ⊎ ¬ B → (A ⊎ B) ⊎ ¬ (A ⊎ B)
 or_cases A B a b =

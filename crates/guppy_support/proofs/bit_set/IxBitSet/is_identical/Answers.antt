@@ -2,7 +2,7 @@ use Rattle.std.proofs.Common.{◌≡◌, ◌∙◌, ap, sym, subst, length, List
 use mathlib.Core.Bool.{true≢false}
 use Rattle.std.proofs.lemmas.Bool.{ne_eqb}
 use Rattle.std.specs.Prelude.{IsTrue, ◌↔◌}
-use Rattle.guppy_support.specs.Bits.{bits_of, Fit}
+use Rattle.guppy_support.specs.inner.Words.{bits_of, Fit}
 use Rattle.guppy_support.proofs.BitLemmas.{size_is}
 use Rattle.guppy_support.proofs.EqualLemmas.{identical_words}
 use Rattle.guppy_support.proofs.bit_set.IxBitSet.is_identical.Goals as goal
