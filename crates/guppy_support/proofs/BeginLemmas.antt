@@ -1,8 +1,8 @@
 -- Rows of a list that ascends.
-use Rattle.std.proofs.Common.{◌≡◌, ℕ, zero, suc, ◌+◌, ◌-◌, ◌<◌, ◌≤◌, inl, inr, List, [], ◌∷◌, ◌++◌, length, get_or, refl, sym, ◌∙◌, arith, length-append}
+use Rattle.std.proofs.Common.{◌≡◌, ℕ, zero, suc, ◌+◌, ◌-◌, ◌<◌, ◌≤◌, inl, inr, List, [], ◌∷◌, length, get_or, refl, sym, ◌∙◌, arith, max}
 use Rattle.std.proofs.lemmas.Bool.{cases_order, cases_eq, cases_lt, eq-eqb, ne_eqb, lt-ltb, le-ltb}
 use Rattle.std.specs.List.{range_with_len}
-use Rattle.std.proofs.lemmas.List.{length-map, get_or_append_left, get_or_at, get_or_read, ext_get_or}
+use Rattle.std.proofs.lemmas.List.{length-map, get_or_read, ext_get_or}
 use Rattle.std.proofs.lemmas.List.FromFn.{length-range_with_len, get_or-range_with_len}
 use Rattle.guppy_support.specs.declared.digraph.Edge.{Edge}
 use Rattle.guppy_support.specs.Graph.{Graph, IsDigraph, sources, source_of}
@@ -82,14 +82,13 @@ out_range g ok begins all v h first last is_first is_last =
       within = omega (arith, high, below-le-length (v + 1) keys, length-map g.edges (λ (e : Edge). e.from));
     }
 
--- one begin more
-pub begun_more : (keys begins : List ℕ) (p : ℕ) → AreBegun keys begins → p ≤ length keys → ((i : ℕ) → i < p → get_or keys i 0 < length begins) → ((i : ℕ) → p ≤ i → i < length keys → length begins ≤ get_or keys i 0)
-    → AreBegun keys (begins ++ p ∷ [])
-begun_more keys begins p begun h before behind v lv =
-    let long = length-append begins (p ∷ []) in
-    elim (cases_eq v (length begins)) [
-      | inl e ↦ rw (e, get_or_at begins p [] 0 (length begins) refl) (sym (below_at keys p (length begins) h before behind))
-      | inr ne ↦
-          let l : v < length begins = omega (arith, lv, long, ne) in
-          rw (get_or_append_left begins (p ∷ []) 0 v l) (begun v l)
+-- more begins, at one place
+pub begun_up : (keys begins more : List ℕ) (node place : ℕ) → AreBegun keys begins → place ≤ length keys → ((i : ℕ) → i < place → get_or keys i 0 < length begins) → ((i : ℕ) → place ≤ i → i < length keys → node ≤ get_or keys i 0)
+    → length more ≡ max (length begins) (node + 1) → ((v : ℕ) → v < length begins → get_or more v 0 ≡ get_or begins v 0) → ((v : ℕ) → length begins ≤ v → v < length more → get_or more v 0 ≡ place) → AreBegun keys more
+begun_up keys begins more node place begun h before behind long kept added v lv =
+    elim (cases_lt v (length begins)) [
+      | inl l ↦ kept v l ∙ begun v l
+      | inr ge ↦
+          let few : v ≤ node = omega (arith, lv, long, ge) in
+          added v ge lv ∙ sym (below_at keys place v h (λ i l. omega (arith, before i l, ge)) (λ i g l. omega (arith, behind i g l, few)))
     ]

@@ -124,7 +124,7 @@ fn same_text(alloc: Global, order: &Order, a: usize, b: usize) -> Result<String,
 }
 
 #[test]
-fn orders(rt: HostRuntime) -> Result<(), AllocError> {
+fn orders_and_components(rt: HostRuntime) -> Result<(), AllocError> {
     for (nodes, text, want) in ORDERS {
         let edges = edges(&rt, rt.alloc(), text)?;
         let graph = digraph(&rt, rt.alloc(), nodes, &edges)?;
@@ -138,7 +138,7 @@ fn orders(rt: HostRuntime) -> Result<(), AllocError> {
 }
 
 #[test]
-fn nodes(rt: HostRuntime) -> Result<(), AllocError> {
+fn edges_and_places_of_nodes(rt: HostRuntime) -> Result<(), AllocError> {
     for (nodes, text, want) in NODES {
         let edges = edges(&rt, rt.alloc(), text)?;
         let graph = digraph(&rt, rt.alloc(), nodes, &edges)?;
@@ -150,7 +150,7 @@ fn nodes(rt: HostRuntime) -> Result<(), AllocError> {
 }
 
 #[test]
-fn pairs(rt: HostRuntime) -> Result<(), AllocError> {
+fn edges_and_components_of_pairs(rt: HostRuntime) -> Result<(), AllocError> {
     for (nodes, text, between, same) in PAIRS {
         let edges = edges(&rt, rt.alloc(), text)?;
         let graph = digraph(&rt, rt.alloc(), nodes, &edges)?;
@@ -170,7 +170,7 @@ fn pairs(rt: HostRuntime) -> Result<(), AllocError> {
 }
 
 #[test]
-fn refusals(rt: HostRuntime) -> Result<(), AllocError> {
+fn refused_edges(rt: HostRuntime) -> Result<(), AllocError> {
     for (nodes, text, want) in REFUSALS {
         let edges = edges(&rt, rt.alloc(), text)?;
         match Digraph::new(rt.alloc(), nodes, &edges) {

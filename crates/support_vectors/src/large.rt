@@ -3,77 +3,61 @@
 use crate::fixtures::digraph;
 use guppy_support::{Edge, Order};
 use std::alloc::{AllocError, Global};
+use std::process::Abort;
 
-#[derive(Clone, Copy)]
-enum Shape {
-    /// One cycle.
-    Ring,
-    /// A path.
-    Chain,
-    /// Cycles of two, each of which leads to the one before it.
-    Pairs,
-}
-
-/// The shape, how many nodes, how many components, and the component of the last node.
-const LARGE: [(Shape, usize, usize, usize); 3] = [
-    (Shape::Ring, 200_000, 1, 0),
-    (Shape::Chain, 800_000, 800_000, 799_999),
-    (Shape::Pairs, 200_000, 100_000, 0),
-];
-
-fn push(
-    edges: &mut Vec<Edge>,
-    from: usize,
-    to: usize,
-    non_dev: bool,
-) -> Result<(), AllocError> {
+fn push(edges: &mut Vec<Edge>, from: usize, to: usize, non_dev: bool) -> Result<(), AllocError> {
     edges.push(Edge { from, to, non_dev })?;
     Ok(())
 }
 
-fn ring(alloc: Global, nodes: usize) -> Result<Vec<Edge>, AllocError> {
-    let mut edges = Vec::new(alloc);
-    for from in 0..nodes {
-        push(&mut edges, from, (from + 1) % nodes, true)?;
-    }
-    Ok(edges)
+/// The digraph of so many nodes has so many components, and its last node is in that one.
+fn has_components(
+    rt: &impl Abort,
+    alloc: Global,
+    edges: &[Edge],
+    nodes: usize,
+    components: usize,
+    last: usize,
+) -> Result<(), AllocError> {
+    let graph = digraph(rt, alloc, nodes, edges)?;
+    assert_eq!(rt; graph.node_count(), nodes);
+    let order = Order::new(alloc, &graph)?;
+    order.facts();
+    assert_eq!(rt; order.component_count(), components);
+    assert!(rt; nodes > 0 && order.list().len() == nodes);
+    assert_eq!(rt; order.component(nodes - 1), last);
+    Ok(())
 }
 
-fn chain(alloc: Global, nodes: usize) -> Result<Vec<Edge>, AllocError> {
-    let mut edges = Vec::new(alloc);
-    for to in 1..nodes {
-        push(&mut edges, to - 1, to, true)?;
+#[test]
+fn one_cycle(rt: HostRuntime) -> Result<(), AllocError> {
+    let mut edges = Vec::new(rt.alloc());
+    for from in 0..200_000usize {
+        push(&mut edges, from, (from + 1) % 200_000, true)?;
     }
-    Ok(edges)
+    has_components(&rt, rt.alloc(), &edges, 200_000, 1, 0)
 }
 
-fn pairs(alloc: Global, nodes: usize) -> Result<Vec<Edge>, AllocError> {
-    let mut edges = Vec::new(alloc);
-    for pair in 0..nodes / 2 {
-        let first = pair * 2;
+#[test]
+fn one_path(rt: HostRuntime) -> Result<(), AllocError> {
+    let mut edges = Vec::new(rt.alloc());
+    for from in 0..799_999usize {
+        push(&mut edges, from, from + 1, true)?;
+    }
+    has_components(&rt, rt.alloc(), &edges, 800_000, 800_000, 799_999)
+}
+
+// Each cycle of two leads to the one before it.
+#[test]
+fn path_of_cycles(rt: HostRuntime) -> Result<(), AllocError> {
+    let mut edges = Vec::new(rt.alloc());
+    for cycle in 0..100_000usize {
+        let first = cycle * 2;
         if first > 0 {
             push(&mut edges, first, first - 1, true)?;
         }
         push(&mut edges, first, first + 1, true)?;
         push(&mut edges, first + 1, first, false)?;
     }
-    Ok(edges)
-}
-
-#[test]
-fn large_digraphs(rt: HostRuntime) -> Result<(), AllocError> {
-    for (shape, nodes, components, last) in LARGE {
-        let edges = match shape {
-            Shape::Ring => ring(rt.alloc(), nodes)?,
-            Shape::Chain => chain(rt.alloc(), nodes)?,
-            Shape::Pairs => pairs(rt.alloc(), nodes)?,
-        };
-        let graph = digraph(&rt, rt.alloc(), nodes, &edges)?;
-        assert_eq!(rt; graph.node_count(), nodes);
-        let order = Order::new(rt.alloc(), &graph)?;
-        assert_eq!(rt; order.component_count(), components);
-        assert!(rt; nodes > 0);
-        assert_eq!(rt; order.component(nodes - 1), last);
-    }
-    Ok(())
+    has_components(&rt, rt.alloc(), &edges, 200_000, 100_000, 0)
 }

@@ -5,7 +5,7 @@ use guppy_support::IxBitSet;
 use std::alloc::AllocError;
 
 /// Two sets and what operations give of them, each as its numbers.
-struct Operations {
+struct TwoSets {
     size: usize,
     low: &'static str,
     high: &'static str,
@@ -16,8 +16,8 @@ struct Operations {
     one: &'static str,
 }
 
-const OPERATIONS: [Operations; 3] = [
-    Operations {
+const OPERATIONS: [TwoSets; 3] = [
+    TwoSets {
         size: 200,
         low: " 0 63 64 130 199",
         high: " 64 199 128",
@@ -27,7 +27,7 @@ const OPERATIONS: [Operations; 3] = [
         first: " 0 63 130",
         one: " 0 63 128 130",
     },
-    Operations {
+    TwoSets {
         size: 130,
         low: " 0 64 129",
         high: " 64 128",
@@ -37,7 +37,7 @@ const OPERATIONS: [Operations; 3] = [
         first: " 0 129",
         one: " 0 128 129",
     },
-    Operations {
+    TwoSets {
         size: 0,
         low: "",
         high: "",
@@ -66,7 +66,7 @@ const EQUALITIES: [(usize, &str, usize, &str, bool, bool); 9] = [
 const FULL: [usize; 4] = [0, 70, 128, 130];
 
 #[test]
-fn operations(rt: HostRuntime) -> Result<(), AllocError> {
+fn operations_on_sets(rt: HostRuntime) -> Result<(), AllocError> {
     for row in &OPERATIONS {
         let low = set(&rt, rt.alloc(), row.size, row.low)?;
         let high = set(&rt, rt.alloc(), row.size, row.high)?;
@@ -87,7 +87,7 @@ fn operations(rt: HostRuntime) -> Result<(), AllocError> {
 }
 
 #[test]
-fn equalities(rt: HostRuntime) -> Result<(), AllocError> {
+fn equal_sets(rt: HostRuntime) -> Result<(), AllocError> {
     for (size, numbers, other_size, other_numbers, equal, identical) in EQUALITIES {
         let one = set(&rt, rt.alloc(), size, numbers)?;
         let other = set(&rt, rt.alloc(), other_size, other_numbers)?;

@@ -282,12 +282,10 @@ impl Plan {
         ensures longer { OnOk result (length self.new.listed.items ≡ length self.old.listed.items + 1) }
     {
         self.mark(graph, ranks, node)?;
-        let count = self.listed.len();
         let edges = graph.out_edges(node);
         for place in 0..edges.end - edges.start {
             self.pass(graph, ranks, groups, node, place)?;
         }
-        let _count = count;
         Ok(())
     }
 

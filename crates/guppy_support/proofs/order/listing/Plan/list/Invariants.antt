@@ -6,5 +6,5 @@ abbrev pub invariant-loop-place : goal.invariant-loop-place
 invariant-loop-place l =
     record {
       at : IsAtIn l.graph l.ranks l.node l.place l.self;
-      longer : length l.self.listed.items ≡ l.count;
+      longer : length l.self.listed.items ≡ length l.initial.self.listed.items;
     }
