@@ -1,11 +1,11 @@
 -- Rows of a list that ascends.
 use Rattle.std.proofs.Common.{◌≡◌, ℕ, zero, suc, ◌+◌, ◌-◌, ◌<◌, ◌≤◌, inl, inr, List, [], ◌∷◌, length, get_or, refl, sym, ◌∙◌, arith, max}
-use Rattle.std.proofs.lemmas.Bool.{cases_order, cases_eq, cases_lt, eq-eqb, ne_eqb, lt-ltb, le-ltb}
+use Rattle.std.proofs.lemmas.Bool.{cases_order, cases_lt, eq-eqb, ne_eqb, lt-ltb, le-ltb}
 use Rattle.std.specs.List.{range_with_len}
 use Rattle.std.proofs.lemmas.List.{length-map, get_or_read, ext_get_or}
 use Rattle.std.proofs.lemmas.List.FromFn.{length-range_with_len, get_or-range_with_len}
 use Rattle.guppy_support.specs.declared.digraph.Edge.{Edge}
-use Rattle.guppy_support.specs.Graph.{Graph, IsDigraph, sources, source_of}
+use Rattle.guppy_support.specs.Graph.{Graph, IsDigraph, sources}
 use Rattle.guppy_support.specs.Rows.{places_from, places}
 use Rattle.guppy_support.specs.inner.PackedRows.{below, AreBegun, AreAllBegun}
 use Rattle.guppy_support.proofs.FaultLemmas.{ascends}

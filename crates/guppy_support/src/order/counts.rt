@@ -6,9 +6,9 @@ ghost use Rattle.guppy_support.specs.inner.PackedRows.{IsPacked};
 ghost use Rattle.guppy_support.specs.inner.Plans.{IsSetup, IsPauseIn, IsEdge, AreEntering, AreHolding, AreFirsts};
 
 use crate::digraph::{Digraph, Edge};
-use crate::rows::Rows;
 use crate::order::listing::{Plan, first_of, row};
 use crate::order::queue::Queue;
+use crate::rows::Rows;
 use std::alloc::{AllocError, Global};
 
 /// The edge of that number.

@@ -9,8 +9,8 @@ ghost use Rattle.guppy_support.specs.inner.Plans.{TakesFresh, IsFirst, IsFreshPl
 ghost use Rattle.guppy_support.specs.inner.Queues.{Joins};
 
 use crate::digraph::{Digraph, Edge};
-use crate::rows::Rows;
 use crate::order::queue::Queue;
+use crate::rows::Rows;
 use std::alloc::AllocError;
 
 /// What is known between two nodes of the order.

@@ -1,4 +1,4 @@
-use Rattle.std.proofs.Common.{◌≡◌, ◌∙◌, ap, List, ℕ, Bool}
+use Rattle.std.proofs.Common.{◌∙◌, ap, List, Bool}
 use Rattle.std.specs.Prelude.{nat_eq}
 use Rattle.std.specs.Cmp.Lexicographic.{pointwise}
 use Rattle.guppy_support.specs.inner.Words.{bits_of, Fit}

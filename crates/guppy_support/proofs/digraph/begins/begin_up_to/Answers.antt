@@ -1,4 +1,4 @@
-use Rattle.std.proofs.Common.{rules, ◌≡◌, ◌+◌, ◌<◌, ◌≤◌, ◌∙◌, inl, inr, ℕ, length, arith, [], ◌∷◌, length-append, refl}
+use Rattle.std.proofs.Common.{◌<◌, ◌≤◌, ◌∙◌, inl, inr, length, arith, [], ◌∷◌, length-append, refl}
 use Rattle.std.proofs.lemmas.Bool.{cases_eq}
 use Rattle.std.proofs.lemmas.List.{get_or_append_left, get_or_at}
 use Rattle.guppy_support.proofs.digraph.begins.begin_up_to.Goals as goal

@@ -1,5 +1,5 @@
-use Rattle.std.proofs.Common.{rules, ◌≡◌, ◌<◌, ◌≤◌, ◌+◌, ◌-◌, ◌∙◌, ℕ, List, length, get_or, arith}
-use Rattle.guppy_support.specs.inner.PackedRows.{below, AreBegun}
+use Rattle.std.proofs.Common.{rules, ◌≡◌, ◌<◌, ◌-◌, ◌∙◌, ℕ, length, get_or, arith}
+use Rattle.guppy_support.specs.inner.PackedRows.{AreBegun}
 use Rattle.guppy_support.specs.inner.Numbering.{AreNumbered, AreGrouped, ArePlaces}
 use Rattle.guppy_support.proofs.OrderLemmas.{order_apart}
 use Rattle.guppy_support.proofs.SequenceLemmas.{numbers_are, rises_along, order_of, grouped, sequence_of}

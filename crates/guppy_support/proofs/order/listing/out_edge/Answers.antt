@@ -1,6 +1,4 @@
-use Rattle.std.proofs.Common.{◌≡◌, ◌+◌, ◌<◌, length, slice_index, arith}
-use Rattle.guppy_support.specs.Graph.{sources}
-use Rattle.guppy_support.specs.Rows.{places}
+use Rattle.std.proofs.Common.{arith}
 use Rattle.guppy_support.proofs.ForwardLemmas.{place_inside, out_number, out_length}
 use Rattle.guppy_support.proofs.AtLemmas.{out_is}
 use Rattle.guppy_support.proofs.order.listing.out_edge.Goals as goal

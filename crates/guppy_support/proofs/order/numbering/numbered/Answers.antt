@@ -1,4 +1,4 @@
-use Rattle.std.proofs.Common.{rules, ◌≡◌, ◌-◌, length, arith, sym}
+use Rattle.std.proofs.Common.{rules, ◌≡◌, length, arith}
 use Rattle.guppy_support.proofs.SequenceLemmas.{numbering_none, numbering_more, begun_last}
 use Rattle.guppy_support.proofs.order.numbering.numbered.Goals as goal
 
