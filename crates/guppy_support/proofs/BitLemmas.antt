@@ -1,22 +1,21 @@
 -- The bits of words.
 use Rattle.std.proofs.Common.{◌≡◌, ◌≢◌, ℕ, zero, suc, ◌+◌, ◌-◌, ◌*◌, ◌/◌, ◌%◌, ◌^◌, ◌<◌, ◌≤◌, ◌⊎◌, inl, inr, Bool, true, false, ◌||◌, ◌&&◌, ◌==◌, List, [], ◌∷◌, ◌++◌, length, get_or, set, refl, ap, sym, ◌∙◌, subst, arith, bit_or, bit_and, min, max, get_or-set_same, get_or-set_other, replicate, w64, cond, zero-add, add-zero}
 use Rattle.std.proofs.Math.ListN.{length-set}
-use Rattle.std.proofs.lemmas.Bool.{cases_eq, cases_lt, ne_eqb}
+use Rattle.std.proofs.lemmas.Bool.{cases_eq, cases_lt}
 use Rattle.std.proofs.lemmas.List.{get_or_past, length-replicate, get_or-replicate, get_or-map, length-map, ext_get_or, map-id}
 use Rattle.std.proofs.lemmas.List.FromFn.{length-map-range_with_len, get_or-map-range_with_len, fill_by_all}
 use Rattle.std.proofs.lemmas.Nat.Bits.{bit_at_or, bit_at_and, bit_at_set_same, bit_at_set_other, bit_at_xor, bit_at_ones, bit_at_ones_above, same_from_bits_below, bit_at-lt, bit_at-zero, bit_at_above, bit_at-trailing_zeros}
 use Rattle.std.specs.Int.{bit_at, trailing_zeros}
-use Rattle.std.specs.Prelude.{map, zip, not, count_by, count_ones, bit_xor, nat_eq, filter}
+use Rattle.std.specs.Prelude.{map, zip, not, count_by, count_ones, bit_xor, filter}
 use Rattle.std.specs.List.{range_with_len}
 use Rattle.std.specs.Simd.Lanes.{mask_l}
-use Rattle.std.specs.Cmp.{booleans_Decides}
-use Rattle.std.specs.Cmp.Lexicographic.{pointwise, pointwise_decides, bytes_decides, unequal}
-use mathlib.Core.Bool.{beq, true≢false}
+use mathlib.Core.Bool.{true≢false}
 use Rattle.std.proofs.lemmas.Nat.{one_shl, shr_le, shr-shr, div-mul-add, mod-mul-add}
 use Rattle.std.proofs.lemmas.Simd.{mask_l-lt, bit_mask_l, ones-mask_l}
 use Rattle.std.proofs.lemmas.List.Sums.{sum_by-cons, sum_by-append, length-filter, count_by-le-length}
 use Rattle.std.proofs.lemmas.Slice.Zip.{get_or-zip, length-zip}
-use Rattle.guppy_support.specs.Bits.{has, word_bit, bits_of, members_from, AreWords, one_alone, Fit}
+use Rattle.guppy_support.specs.Bits.{has, one_alone}
+use Rattle.guppy_support.specs.inner.Words.{word_bit, bits_of, members_from, AreWords}
 
 pub length-bits_of : (n : ℕ) (words : List ℕ) → length (bits_of n words) ≡ n
 length-bits_of n words = length-map-range_with_len (λ k. word_bit words k == 1) 0 n

@@ -1,14 +1,14 @@
 -- Sets with the same members.
-use Rattle.std.proofs.Common.{◌≡◌, ◌≢◌, ℕ, zero, suc, ◌+◌, ◌-◌, ◌*◌, ◌/◌, ◌%◌, ◌^◌, ◌<◌, ◌≤◌, inl, inr, Bool, true, false, ◌==◌, List, [], ◌∷◌, length, get_or, refl, ap, sym, ◌∙◌, arith, zero-add}
+use Rattle.std.proofs.Common.{◌≡◌, ℕ, zero, suc, ◌+◌, ◌*◌, ◌/◌, ◌%◌, ◌<◌, ◌≤◌, inl, inr, Bool, true, false, ◌==◌, List, ◌∷◌, length, get_or, refl, ap, sym, ◌∙◌, arith}
 use Rattle.std.specs.Prelude.{filter, nat_eq, IsTrue, ◌↔◌}
 use Rattle.std.specs.List.{range_with_len}
 use Rattle.std.specs.Int.{bit_at}
 use Rattle.std.specs.Cmp.Lexicographic.{pointwise, bytes_decides}
 use mathlib.Core.Bool.{true≢false}
 use Rattle.std.proofs.lemmas.Bool.{cases_lt, cases_Bool}
-use Rattle.std.proofs.lemmas.List.{get_or_past}
 use Rattle.std.proofs.lemmas.Nat.Bits.{same_from_bits_below, bit_at-lt}
-use Rattle.guppy_support.specs.Bits.{has, members, word_bit, bits_of, AreWords, Fit}
+use Rattle.guppy_support.specs.Bits.{has, members}
+use Rattle.guppy_support.specs.inner.Words.{word_bit, bits_of, AreWords, Fit}
 use Rattle.guppy_support.specs.Laws.{SetsAreTheirMembers}
 use Rattle.guppy_support.proofs.BitLemmas.{length-bits_of, has-bits_of, has_past, same_sets, word_bit_at, bit_cases}
 use Rattle.guppy_support.proofs.SetLemmas.{Contains-members, has-Contains}
@@ -41,14 +41,13 @@ same_part s t e a (suc n) (suc m) hs ht =
     ]
 
 pub sets_are_their_members : SetsAreTheirMembers
-sets_are_their_members a b =
-    (
-      λ (e : members a ≡ members b). λ k.
-          same_tests (has a k) (has b k)
-          (λ h. has-Contains b k (rw e at (Contains-members a k h)))
-          (λ h. has-Contains a k (rw (sym e) at (Contains-members b k h))),
-      λ each. same_part a b each 0 (length a) (length b) (omega arith) (omega arith),
-    )
+sets_are_their_members a b = (
+  λ (e : members a ≡ members b). λ k.
+      same_tests (has a k) (has b k)
+      (λ h. has-Contains b k (rw e at (Contains-members a k h)))
+      (λ h. has-Contains a k (rw (sym e) at (Contains-members b k h))),
+  λ each. same_part a b each 0 (length a) (length b) (omega arith) (omega arith),
+)
 
 -- ---- words
 
@@ -98,8 +97,7 @@ equal_members n m a b wa wb fa fb r same apart =
 
 pub identical_words : (n : ℕ) (a b : List ℕ) → AreWords n a → AreWords n b → Fit a → Fit b → (r : Bool) → (r ≡ true → (i : ℕ) → get_or a i 0 ≡ get_or b i 0) → (((i : ℕ) → get_or a i 0 ≡ get_or b i 0) → r ≡ true)
     → IsTrue r ↔ (bits_of n a ≡ bits_of n b)
-identical_words n a b wa wb fa fb r same apart =
-    (
-      λ h. same_sets (bits_of n a) (bits_of n b) (length-bits_of n a ∙ sym (length-bits_of n b)) (words_have n n a b wa wb (same h)),
-      λ (e : bits_of n a ≡ bits_of n b). apart (have_words n n a b wa wb fa fb (λ k. ap (λ (s : List Bool). has s k) e)),
-    )
+identical_words n a b wa wb fa fb r same apart = (
+  λ h. same_sets (bits_of n a) (bits_of n b) (length-bits_of n a ∙ sym (length-bits_of n b)) (words_have n n a b wa wb (same h)),
+  λ (e : bits_of n a ≡ bits_of n b). apart (have_words n n a b wa wb fa fb (λ k. ap (λ (s : List Bool). has s k) e)),
+)

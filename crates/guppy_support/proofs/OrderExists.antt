@@ -1,24 +1,23 @@
 -- Each digraph has an order.
-use Rattle.std.proofs.Common.{◌≡◌, ◌≢◌, ℕ, zero, suc, ◌+◌, ◌*◌, ◌<◌, ◌≤◌, ◌⊎◌, inl, inr, Bool, true, false, List, [], ◌∷◌, ◌++◌, length, get_or, map, take, refl, ap, sym, ◌∙◌, subst, arith, Contains, length-append}
+use Rattle.std.proofs.Common.{◌≡◌, ℕ, zero, suc, ◌+◌, ◌*◌, ◌<◌, ◌≤◌, ◌⊎◌, inl, inr, Bool, true, false, List, [], ◌∷◌, ◌++◌, length, get_or, map, take, refl, ap, sym, ◌∙◌, subst, arith, Contains, length-append}
 use Rattle.std.specs.List.{range_with_len}
 use Rattle.std.proofs.Math.Nat.{mul-le-mul_right}
 use Rattle.std.proofs.lemmas.Bool.{cases_eq, cases_lt, cases_order, cases_Bool}
 use Rattle.std.proofs.lemmas.List.{get_or_default, get_or_append_left, get_or_at, take-append-le, take_at}
-use Rattle.std.proofs.lemmas.List.Elements.{Contains-get_or}
 use Rattle.std.proofs.lemmas.List.FromFn.{length-map-range_with_len, get_or-map-range_with_len}
 use Rattle.guppy_support.specs.declared.digraph.Edge.{Edge}
 use Rattle.guppy_support.specs.Graph.{Graph, IsDigraph}
 use Rattle.guppy_support.specs.Paths.{HasEdge, Path, nowhere, onward, SameComponent}
-use Rattle.guppy_support.specs.Orders.{IsHeld, IsAvailable, IsNext, IsOrder}
-use Rattle.guppy_support.specs.Ranks.{IsRanking}
-use Rattle.guppy_support.specs.Counts.{count_below}
+use Rattle.guppy_support.specs.Orders.{IsHeld, IsAvailable, IsNext}
+use Rattle.guppy_support.specs.inner.Ranks.{IsRanking}
+use Rattle.guppy_support.specs.inner.Counts.{count_below}
 use Rattle.guppy_support.specs.Laws.{OrderExists}
 use Rattle.guppy_support.proofs.FaultLemmas.{nodes_of_edge}
 use Rattle.guppy_support.proofs.PathLemmas.{join, one_edge, same_self, same_turned, same_joined}
-use Rattle.guppy_support.proofs.MarkLemmas.{contains_cases}
+use Rattle.guppy_support.proofs.BackwardLemmas.{contains_cases}
 use Rattle.guppy_support.proofs.ApartLemmas.{apart_short}
 use Rattle.guppy_support.proofs.LawLemmas.{path_inside}
-use Rattle.guppy_support.proofs.Exists.{search_below, search_nodes, and_cases, not_cases, edge_cases, IsFront, front_none, front_more, some_available, held_cases}
+use Rattle.guppy_support.proofs.Available.{search_below, search_nodes, and_cases, not_cases, edge_cases, IsFront, front_none, front_more, some_available, held_cases}
 
 or_cases : (A B : Type 0) → A ⊎ ¬ A → B ⊎ ¬ B → (A ⊎ B) ⊎ ¬ (A ⊎ B)
 or_cases A B a b =
@@ -339,6 +338,7 @@ module _ (g : Graph) (ok : IsDigraph g) where
             search_nodes_held v node =
                 search_nodes (keeps_ready v) g.nodes
                 (λ b lb. and_cases _ _ (same_cases g ok b v) (and_cases _ _ (not_cases _ (contains_cases list b)) (not_cases _ (held_cases g ok ranks is_ranking list f b lb)))) g.nodes (omega arith)
+
             held_else : (b : ℕ) → b < g.nodes → ¬ (¬ IsHeld g.edges list b) → IsHeld g.edges list b
             held_else b lb h = elim (held_cases g ok ranks is_ranking list f b lb) [ inl held ↦ held | inr free ↦ absurd (h free) ]
 
@@ -401,8 +401,7 @@ module _ (g : Graph) (ok : IsDigraph g) where
       let list = b.0 in
       let long : length list ≡ k = b.1.long in
       let u = fresh_node list (omega arith) in
-      let v = next_node list b.1.front u.0 u.1 u.2 in
-      (
+      let v = next_node list b.1.front u.0 u.1 u.2 in (
         list ++ v.0 ∷ [],
         record {
           long = omega (arith, length-append list (v.0 ∷ []));

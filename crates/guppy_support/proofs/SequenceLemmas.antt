@@ -9,14 +9,15 @@ use Rattle.guppy_support.specs.Graph.{Graph, IsDigraph}
 use Rattle.guppy_support.specs.declared.digraph.Edge.{Edge}
 use Rattle.guppy_support.specs.Laws.{OrderListsEach}
 use Rattle.guppy_support.specs.Orders.{IsOrder, ListsEach}
-use Rattle.guppy_support.specs.Rows.{below, AreBegun}
-use Rattle.guppy_support.specs.Finish.{AreApart}
-use Rattle.guppy_support.specs.Ranks.{IsRanking}
-use Rattle.guppy_support.specs.Sequences.{Sequence, IsSequence, ArePlaces, IsOrderOf, numbers_of, AreGrouped, rank_at, AreNumbered}
-use Rattle.guppy_support.proofs.PackLemmas.{below_step, below-le-length}
+use Rattle.guppy_support.specs.inner.PackedRows.{below, AreBegun}
+use Rattle.guppy_support.specs.inner.FinishOrder.{AreApart}
+use Rattle.guppy_support.specs.inner.Ranks.{IsRanking}
+use Rattle.guppy_support.specs.Sequences.{Sequence, IsSequence, IsOrderOf}
+use Rattle.guppy_support.specs.inner.Numbering.{ArePlaces, numbers_of, AreGrouped, rank_at, AreNumbered}
+use Rattle.guppy_support.proofs.PackedLemmas.{below_step, below-le-length}
 use Rattle.guppy_support.proofs.OrderLemmas.{listed_before, order_below, order_apart}
 use Rattle.guppy_support.proofs.ApartLemmas.{apart_whole}
-use Rattle.guppy_support.proofs.Exists.{rank_same, path_node}
+use Rattle.guppy_support.proofs.Available.{rank_same, path_node}
 
 -- ---- along the order
 

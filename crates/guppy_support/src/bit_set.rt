@@ -6,7 +6,8 @@ ghost use Rattle.std.specs.Cmp.{partial_equiv_from_equiv};
 ghost use Rattle.std.specs.Cmp.Lexicographic.{pointwise};
 ghost use Rattle.std.specs.Ordering.{on};
 ghost use Rattle.std.proofs.lemmas.Cmp.{on_equiv, nat_list_eq_equiv};
-ghost use Rattle.guppy_support.specs.Bits.{has, members, members_from, one_alone, Fit};
+ghost use Rattle.guppy_support.specs.Bits.{has, members, one_alone};
+ghost use Rattle.guppy_support.specs.inner.Words.{members_from, Fit};
 
 use std::alloc::{AllocError, Global};
 use std::marker::Model;
@@ -20,7 +21,7 @@ pub struct IxBitSet {
 
 impl Model for IxBitSet {
     ghost use Rattle.std.specs.Prelude.{List, Bool};
-    ghost use Rattle.guppy_support.specs.Bits.{bits_of, AreWords};
+    ghost use Rattle.guppy_support.specs.inner.Words.{bits_of, AreWords};
 
     ghost Value = { List Bool };
 
@@ -280,7 +281,7 @@ pub struct Ones<'a> {
 
 impl<'a> Model for Ones<'a> {
     ghost use Rattle.std.specs.Prelude.{List, ℕ, ◌≡◌, ◌≤◌, length};
-    ghost use Rattle.guppy_support.specs.Bits.{members_from};
+    ghost use Rattle.guppy_support.specs.inner.Words.{members_from};
 
     ghost Value = { List ℕ };
 

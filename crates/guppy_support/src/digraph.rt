@@ -3,10 +3,13 @@ ghost use Rattle.std.specs.List.{range_with_len};
 ghost use Rattle.std.specs.Prelude.{◌≡◌, ℕ, ◌+◌, ◌-◌, ◌<◌, ◌≤◌, length, slice_get, Some, None, IfOk, IfErr, IfSome, IfNone, IsTrue, ◌↔◌};
 ghost use Rattle.guppy_support.specs.Graph.{IsDigraph, IsRefused, IsEdgeAt, IsBefore, sources, targets};
 ghost use Rattle.guppy_support.specs.Paths.{HasEdge};
-ghost use Rattle.guppy_support.specs.Rows.{places, IsPacked};
+ghost use Rattle.guppy_support.specs.Rows.{places};
+ghost use Rattle.guppy_support.specs.inner.PackedRows.{IsPacked};
 
-use crate::outward::source_begins;
-use crate::pack::{Rows, pack_rows};
+mod begins;
+
+use crate::rows::{Rows, pack_rows};
+use begins::source_begins;
 use std::alloc::{AllocError, Global};
 use std::marker::Model;
 use std::ops::Range;
@@ -42,7 +45,7 @@ pub struct Digraph {
 
 impl Model for Digraph {
     ghost use Rattle.guppy_support.specs.Graph.{Graph, IsDigraph, sources, targets};
-    ghost use Rattle.guppy_support.specs.Rows.{AreAllBegun, IsPacked};
+    ghost use Rattle.guppy_support.specs.inner.PackedRows.{AreAllBegun, IsPacked};
 
     ghost Value = { Graph };
 

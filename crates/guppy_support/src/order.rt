@@ -3,16 +3,23 @@ ghost use Rattle.std.specs.Prelude.{◌≡◌, ◌≢◌, ℕ, [], ◌∷◌, �
 ghost use Rattle.guppy_support.specs.Graph.{Graph, IsDigraph};
 ghost use Rattle.guppy_support.specs.Paths.{SameComponent};
 ghost use Rattle.guppy_support.specs.Orders.{IsOrder};
-ghost use Rattle.guppy_support.specs.Plans.{IsSetup};
-ghost use Rattle.guppy_support.specs.Finish.{AreApart};
-ghost use Rattle.guppy_support.specs.Rows.{AreBegun};
-ghost use Rattle.guppy_support.specs.Sequences.{IsOrderOf, IsSequence, component_of, AreNumbered, rank_at};
+ghost use Rattle.guppy_support.specs.inner.Plans.{IsSetup};
+ghost use Rattle.guppy_support.specs.inner.FinishOrder.{AreApart};
+ghost use Rattle.guppy_support.specs.inner.PackedRows.{AreBegun};
+ghost use Rattle.guppy_support.specs.Sequences.{IsOrderOf, IsSequence, component_of};
+ghost use Rattle.guppy_support.specs.inner.Numbering.{AreNumbered, rank_at};
 
+mod counts;
+mod listing;
+mod numbering;
+mod queue;
+
+use crate::components::component_ranks;
 use crate::digraph::Digraph;
-use crate::finish::component_ranks;
-use crate::pack::pack_rows;
-use crate::plan::order_from;
-use crate::start::first_plan;
+use crate::rows::pack_rows;
+use counts::first_plan;
+use listing::order_from;
+use numbering::{numbered, placed, scattered};
 use std::alloc::{AllocError, Global};
 use std::marker::Model;
 
@@ -28,7 +35,8 @@ pub struct Order {
 }
 
 impl Model for Order {
-    ghost use Rattle.guppy_support.specs.Sequences.{Sequence, IsSequence, AreGrouped, ArePlaces};
+    ghost use Rattle.guppy_support.specs.Sequences.{Sequence, IsSequence};
+    ghost use Rattle.guppy_support.specs.inner.Numbering.{AreGrouped, ArePlaces};
 
     ghost Value = { Sequence };
 
@@ -133,80 +141,4 @@ fn listed(
     let groups = pack_rows(alloc, graph.node_count(), ranks)?;
     let plan = first_plan(alloc, graph, ranks, &groups, room, components)?;
     order_from(graph, ranks, &groups, plan)
-}
-
-// Lets a component begin at the place, where the node there isn't of the component before.
-fn begin_at(
-    begins: &mut Vec<usize>,
-    list: &[usize],
-    ranks: &[usize],
-    place: usize,
-) -> Result<(), AllocError>
-    requires place { place < length list.now }
-    requires nodes { (i : ℕ) → i < length list.now → slice_index list.now i < length ranks.now }
-    ensures first { OnOk result (place ≡ 0 → begins.new.items ≡ begins.old.items ++ place ∷ []) }
-    ensures stays { OnOk result ((i : ℕ) → i + 1 ≡ place → rank_at list.now ranks.now i ≡ rank_at list.now ranks.now place → begins.new.items ≡ begins.old.items) }
-    ensures steps { OnOk result ((i : ℕ) → i + 1 ≡ place → rank_at list.now ranks.now i ≢ rank_at list.now ranks.now place → begins.new.items ≡ begins.old.items ++ place ∷ []) }
-{
-    if place > 0 && ranks[list[place - 1]] == ranks[list[place]] {
-        return Ok(());
-    }
-    begins.push(place)?;
-    Ok(())
-}
-
-// The number of the component at each place, and where each component begins; the end of the list stands last.
-fn numbered(
-    alloc: Global,
-    list: &[usize],
-    ranks: &[usize],
-    room: Vec<usize>,
-    components: usize,
-) -> Result<(Vec<usize>, Vec<usize>), AllocError>
-    requires nodes { (i : ℕ) → i < length list.now → slice_index list.now i < length ranks.now }
-    requires room { room.items ≡ [] }
-    ensures long { IfOk result (λ r. length r.0.items ≡ length list.now) }
-    ensures some { IfOk result (λ r. 0 < length r.1.items) }
-    ensures numbers { IfOk result (λ r. AreNumbered list.now ranks.now r.0.items (length r.1.items - 1)) }
-    ensures begun { IfOk result (λ r. AreBegun r.0.items r.1.items) }
-{
-    let mut numbers = room;
-    let mut begins = Vec::with_capacity(alloc, components.saturating_add(1))?;
-    for place in 0..list.len() {
-        begin_at(&mut begins, list, ranks, place)?;
-        numbers.push(begins.len() - 1)?;
-    }
-    begins.push(list.len())?;
-    Ok((numbers, begins))
-}
-
-// For each node the number at its place. It takes the memory of another list.
-fn scattered(memory: Vec<usize>, list: &[usize], numbers: &[usize]) -> Vec<usize>
-    requires room { length memory.items ≡ length list.now }
-    requires long { length numbers.now ≡ length list.now }
-    requires nodes { (i : ℕ) → i < length list.now → slice_index list.now i < length list.now }
-    requires apart { AreApart list.now }
-    ensures long { length result.items ≡ length list.now }
-    ensures each { (i : ℕ) → i < length list.now → slice_index result.items (slice_index list.now i) ≡ slice_index numbers.now i }
-{
-    let mut numbered = memory;
-    for place in 0..list.len() {
-        numbered[list[place]] = numbers[place];
-    }
-    numbered
-}
-
-// For each node its place in the list. It takes the memory of another list.
-fn placed(memory: Vec<usize>, list: &[usize]) -> Vec<usize>
-    requires room { length memory.items ≡ length list.now }
-    requires nodes { (i : ℕ) → i < length list.now → slice_index list.now i < length list.now }
-    requires apart { AreApart list.now }
-    ensures long { length result.items ≡ length list.now }
-    ensures each { (i : ℕ) → i < length list.now → slice_index result.items (slice_index list.now i) ≡ i }
-{
-    let mut places = memory;
-    for place in 0..list.len() {
-        places[list[place]] = place;
-    }
-    places
 }

@@ -1,8 +1,8 @@
-use Rattle.std.proofs.Common.{◌≡◌, ◌∙◌, ap, sym, subst, length, List, ℕ, Bool}
+use Rattle.std.proofs.Common.{◌≡◌, ◌∙◌, ap, sym, subst, length, List, Bool}
 use mathlib.Core.Bool.{true≢false}
 use Rattle.std.proofs.lemmas.Bool.{ne_eqb}
 use Rattle.std.specs.Prelude.{IsTrue, ◌↔◌}
-use Rattle.guppy_support.specs.Bits.{bits_of, Fit}
+use Rattle.guppy_support.specs.inner.Words.{bits_of, Fit}
 use Rattle.guppy_support.proofs.BitLemmas.{size_is}
 use Rattle.guppy_support.proofs.EqualLemmas.{identical_words}
 use Rattle.guppy_support.proofs.bit_set.IxBitSet.is_identical.Goals as goal
@@ -22,11 +22,10 @@ returns-then-self-other c =
     (rw (c.deref.ensures.value, c.deref-then-self-other.ensures.value) at c.same_words.ensures.apart)))
 
 pub returns-else-self-other : goal.returns-else-self-other
-returns-else-self-other c =
-    (
-      λ h. absurd (true≢false (sym h ∙ ne_eqb c.self.inside.size c.other.inside.size c.if-self-other.false)),
-      λ (e : c.args.self.now ≡ c.args.other.now).
-          absurd (c.if-self-other.false (
-          size_is c.self.inside.size c.self.inside.words.items c.args.self.now c.self.view_is ∙ ap length e
-          ∙ sym (size_is c.other.inside.size c.other.inside.words.items c.args.other.now c.other.view_is))),
-    )
+returns-else-self-other c = (
+  λ h. absurd (true≢false (sym h ∙ ne_eqb c.self.inside.size c.other.inside.size c.if-self-other.false)),
+  λ (e : c.args.self.now ≡ c.args.other.now).
+      absurd (c.if-self-other.false (
+      size_is c.self.inside.size c.self.inside.words.items c.args.self.now c.self.view_is ∙ ap length e
+      ∙ sym (size_is c.other.inside.size c.other.inside.words.items c.args.other.now c.other.view_is))),
+)

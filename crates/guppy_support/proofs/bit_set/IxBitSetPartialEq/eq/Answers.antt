@@ -1,7 +1,8 @@
-use Rattle.std.proofs.Common.{◌≡◌, ◌∙◌, ap, List, ℕ, Bool}
+use Rattle.std.proofs.Common.{◌∙◌, ap, List, Bool}
 use Rattle.std.specs.Prelude.{nat_eq}
 use Rattle.std.specs.Cmp.Lexicographic.{pointwise}
-use Rattle.guppy_support.specs.Bits.{bits_of, members, Fit}
+use Rattle.guppy_support.specs.inner.Words.{bits_of, Fit}
+use Rattle.guppy_support.specs.Bits.{members}
 use Rattle.guppy_support.proofs.EqualLemmas.{equal_members}
 use Rattle.guppy_support.proofs.bit_set.IxBitSetPartialEq.eq.Goals as goal
 

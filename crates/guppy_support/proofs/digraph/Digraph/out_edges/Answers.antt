@@ -1,6 +1,6 @@
 use Rattle.std.proofs.Common.{◌<◌, sym, subst}
 use Rattle.guppy_support.specs.Graph.{Graph}
-use Rattle.guppy_support.proofs.OutwardLemmas.{IsOutRange, out_range}
+use Rattle.guppy_support.proofs.BeginLemmas.{IsOutRange, out_range}
 use Rattle.guppy_support.proofs.digraph.Digraph.out_edges.Goals as goal
 
 pub returns : goal.returns

@@ -1,6 +1,6 @@
-use Rattle.std.proofs.Common.{rules, ◌≡◌, ◌<◌, ◌≤◌, ◌+◌, ◌-◌, ◌∙◌, ℕ, List, length, get_or, arith}
-use Rattle.guppy_support.specs.Rows.{below, AreBegun}
-use Rattle.guppy_support.specs.Sequences.{AreNumbered, AreGrouped, ArePlaces}
+use Rattle.std.proofs.Common.{rules, ◌≡◌, ◌<◌, ◌-◌, ◌∙◌, ℕ, length, get_or, arith}
+use Rattle.guppy_support.specs.inner.PackedRows.{AreBegun}
+use Rattle.guppy_support.specs.inner.Numbering.{AreNumbered, AreGrouped, ArePlaces}
 use Rattle.guppy_support.proofs.OrderLemmas.{order_apart}
 use Rattle.guppy_support.proofs.SequenceLemmas.{numbers_are, rises_along, order_of, grouped, sequence_of}
 use Rattle.guppy_support.proofs.order.Order.new.Goals as goal

@@ -1,4 +1,4 @@
-use Rattle.std.proofs.Common.{rules, ◌≡◌, ◌<◌, ◌∙◌, ℕ, List, length, get_or, arith, ap, sym, subst, slice_get, Some, vec_len}
+use Rattle.std.proofs.Common.{rules, ◌≡◌, ◌<◌, length, get_or, arith, sym, subst, slice_get, Some, vec_len}
 use Rattle.std.proofs.lemmas.List.{get_or_read}
 use Rattle.guppy_support.specs.Sequences.{Sequence}
 use Rattle.guppy_support.proofs.SequenceLemmas.{place_read}
