@@ -1,10 +1,9 @@
 //! Lists of features: what they print and give, what they hold, and which are equal.
 use crate::texts::{label_of, labels_of, package_of, packages};
 use feature_labels::{FeatureLabel, FeatureList};
-use guppy_packages::PackageMetadata;
-use std::alloc::Global;
-use std::fmt;
-use std::fmt::Write;
+use guppy_packages::{PackageGraph, PackageMetadata};
+use std::alloc::{AllocError, Global};
+use std::process::Abort;
 use std::test::Fail;
 
 /// The list of the package with the labels of these texts.
@@ -17,8 +16,10 @@ fn list_of<'g>(
     Ok(FeatureList::new(alloc, package, labels.as_slice())?)
 }
 
-/// What a list prints, by Display and by Debug, and what its iterators give.
-fn show_list(text: &mut String, list: &FeatureList<'_>) -> fmt::Result {
+/// The package of a list, what the list prints, by Display and by Debug, and what its iterators give.
+fn show_list(text: &mut String, list: &FeatureList<'_>) -> Result<(), AllocError> {
+    let package = list.package();
+    writeln!(text, "package {} {}", package.package_ix(), package.id())?;
     let labels = list.display_features();
     writeln!(text, "{labels}\n{labels:?}\n{list:?}")?;
     let names = list.named_features();
@@ -39,7 +40,7 @@ fn show_list(text: &mut String, list: &FeatureList<'_>) -> fmt::Result {
 }
 
 /// What is left of a list that is given up, id by id.
-fn show_rest(text: &mut String, list: FeatureList<'_>) -> fmt::Result {
+fn show_rest(text: &mut String, list: FeatureList<'_>) -> Result<(), AllocError> {
     let mut ids = list.into_iter();
     write!(text, "{} {:?}", ids.len(), ids.size_hint())?;
     while let Some(id) = ids.next() {
@@ -52,7 +53,7 @@ fn show_rest(text: &mut String, list: FeatureList<'_>) -> fmt::Result {
 const LISTS: [(&str, &str); 3] = [
     (
         "b dep:a [base] a a",
-        "[base], a, b, dep:a\n[base], a, b, dep:a\n\
+        "package 0 main\n[base], a, b, dep:a\n[base], a, b, dep:a\n\
         FeatureList { package: \"main\", labels: [base], a, b, dep:a }\n\
         named (0, Some(4)): a b\noptional (0, Some(4)): a\n\
         4 ids: main/[base] main/a main/b main/dep:a\n\
@@ -60,7 +61,7 @@ const LISTS: [(&str, &str); 3] = [
     ),
     (
         "dep:av [base] zz",
-        "[base], zz, dep:av\n[base], zz, dep:av\n\
+        "package 0 main\n[base], zz, dep:av\n[base], zz, dep:av\n\
         FeatureList { package: \"main\", labels: [base], zz, dep:av }\n\
         named (0, Some(3)): zz\noptional (0, Some(3)): av\n\
         3 ids: main/[base] main/zz main/dep:av\n\
@@ -68,22 +69,31 @@ const LISTS: [(&str, &str); 3] = [
     ),
     (
         "",
-        "\n\nFeatureList { package: \"main\", labels:  }\n\
+        "package 0 main\n\n\nFeatureList { package: \"main\", labels:  }\n\
         named (0, Some(0)):\noptional (0, Some(0)):\n0 ids:\n0 (0, Some(0))",
     ),
 ];
+
+/// What the list of the package with the labels of these texts says.
+fn said_of<'g>(
+    alloc: Global,
+    package: PackageMetadata<'g>,
+    labels: &'g str,
+) -> Result<String, Fail> {
+    let list = list_of(alloc, package, labels)?;
+    let mut text = String::new(alloc);
+    show_list(&mut text, &list)?;
+    show_rest(&mut text, list)?;
+    Ok(text)
+}
 
 #[test]
 fn lists_say_what_was_given(rt: HostRuntime) -> Result<(), Fail> {
     let graph = packages(rt.alloc(), &["main"])?;
     let main = package_of(rt.alloc(), &graph, "main")?;
     for (labels, want) in LISTS {
-        let list = list_of(rt.alloc(), main, labels)?;
-        assert!(rt; *list.package() == main, "{labels}");
-        let mut text = String::new(rt.alloc());
-        show_list(&mut text, &list)?;
-        show_rest(&mut text, list)?;
-        assert_eq!(rt; text.as_str(), want, "{labels}");
+        let said = said_of(rt.alloc(), main, labels)?;
+        assert_eq!(rt; said.as_str(), want, "{labels}");
     }
     Ok(())
 }
@@ -127,24 +137,31 @@ const EQUAL: [(&str, &str, bool); 4] = [
     ("main", "[base]", false),
 ];
 
-#[test]
-fn lists_are_equal_by_package_id_and_labels(rt: HostRuntime) -> Result<(), Fail> {
-    let graph = packages(rt.alloc(), &["main", "other"])?;
-    let turned = packages(rt.alloc(), &["other", "main"])?;
-    let list = list_of(
-        rt.alloc(),
-        package_of(rt.alloc(), &graph, "main")?,
-        "zz [base]",
-    )?;
-    let copy = list.try_clone(rt.alloc())?;
-    assert!(rt; list == copy);
-    assert_eq!(rt; copy.into_labels().len(), 2);
-    for other_graph in [&graph, &turned] {
-        for (package, labels, want) in EQUAL {
-            let other = package_of(rt.alloc(), other_graph, package)?;
-            let other = list_of(rt.alloc(), other, labels)?;
-            assert_eq!(rt; list == other, want, "{package} {labels}");
-        }
+/// Checks which lists over the graph are equal to this list.
+fn check_equal(
+    rt: &impl Abort,
+    alloc: Global,
+    list: &FeatureList<'_>,
+    graph: &PackageGraph,
+) -> Result<(), Fail> {
+    for (package, labels, want) in EQUAL {
+        let other = package_of(alloc, graph, package)?;
+        let other = list_of(alloc, other, labels)?;
+        assert_eq!(rt; *list == other, want, "{package} {labels}");
     }
     Ok(())
+}
+
+#[test]
+fn lists_are_equal_by_package_id_and_labels(rt: HostRuntime) -> Result<(), Fail> {
+    let alloc = rt.alloc();
+    let graph = packages(alloc, &["main", "other"])?;
+    let turned = packages(alloc, &["other", "main"])?;
+    let main = package_of(alloc, &graph, "main")?;
+    let list = list_of(alloc, main, "zz [base]")?;
+    let copy = list.try_clone(alloc)?;
+    assert!(rt; list == copy);
+    assert_eq!(rt; copy.into_labels().len(), 2);
+    check_equal(&rt, alloc, &list, &graph)?;
+    check_equal(&rt, alloc, &list, &turned)
 }

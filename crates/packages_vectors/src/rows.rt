@@ -55,12 +55,17 @@ fn fields_of<'t>(alloc: Global, text: &'t str) -> Result<Vec<Vec<&'t str>>, Allo
     Ok(lines)
 }
 
+fn rows_of<'a>(alloc: Global, lines: &'a [Vec<&'_ str>]) -> Result<Vec<Row<'a>>, Fail> {
+    let mut rows = Vec::new(alloc);
+    for fields in lines {
+        rows.push(row(fields.as_slice()).ok_or("a line that is no row")?)?;
+    }
+    Ok(rows)
+}
+
 /// The graph of a row file, or the first fault of its rows.
 pub fn graph_of(alloc: Global, text: &str) -> Result<Result<PackageGraph, RowError>, Fail> {
     let lines = fields_of(alloc, text)?;
-    let mut rows = Vec::new(alloc);
-    for fields in &lines {
-        rows.push(row(fields.as_slice()).ok_or("a line that is no row")?)?;
-    }
+    let rows = rows_of(alloc, &lines)?;
     Ok(PackageGraph::from_rows(alloc, &rows))
 }

@@ -2,12 +2,10 @@
 use guppy_packages::{
     Declaration, NamedFeature, PackageGraph, PackageLink, PackageMetadata, PlatformStatus,
 };
-use std::alloc::Global;
-use std::fmt;
-use std::fmt::Write;
+use std::alloc::{AllocError, Global};
 
 /// A place, or `none`.
-fn show_place(text: &mut String, place: Option<usize>) -> fmt::Result {
+fn show_place(text: &mut String, place: Option<usize>) -> Result<(), AllocError> {
     match place {
         Some(place) => write!(text, "{place}"),
         None => write!(text, "none"),
@@ -18,7 +16,7 @@ fn show_feature(
     text: &mut String,
     package: PackageMetadata<'_>,
     feature: &NamedFeature,
-) -> fmt::Result {
+) -> Result<(), AllocError> {
     let name = feature.name();
     write!(text, "feature {name} at ")?;
     show_place(text, package.feature_place(name))?;
@@ -29,13 +27,13 @@ fn show_feature(
     writeln!(text)
 }
 
-fn show_optional(text: &mut String, package: PackageMetadata<'_>, name: &str) -> fmt::Result {
+fn show_optional(text: &mut String, package: PackageMetadata<'_>, name: &str) -> Result<(), AllocError> {
     write!(text, "optional {name} at ")?;
     show_place(text, package.optional_place(name))?;
     writeln!(text)
 }
 
-fn show_package(text: &mut String, package: PackageMetadata<'_>) -> fmt::Result {
+fn show_package(text: &mut String, package: PackageMetadata<'_>) -> Result<(), AllocError> {
     let number = package.package_ix();
     let id = package.id();
     let place = if package.in_workspace() {
@@ -60,7 +58,7 @@ fn show_package(text: &mut String, package: PackageMetadata<'_>) -> fmt::Result 
 }
 
 /// A status, with the answers to its three questions.
-pub fn show_status(text: &mut String, status: PlatformStatus<'_>) -> fmt::Result {
+pub fn show_status(text: &mut String, status: PlatformStatus<'_>) -> Result<(), AllocError> {
     match status {
         PlatformStatus::Never => write!(text, "nowhere")?,
         PlatformStatus::Always => write!(text, "everywhere")?,
@@ -83,7 +81,7 @@ pub fn show_status(text: &mut String, status: PlatformStatus<'_>) -> fmt::Result
     Ok(())
 }
 
-fn show_declaration(text: &mut String, declaration: &Declaration) -> fmt::Result {
+fn show_declaration(text: &mut String, declaration: &Declaration) -> Result<(), AllocError> {
     let kind = declaration.kind();
     let need = if declaration.optional() {
         "optional"
@@ -101,7 +99,7 @@ fn show_declaration(text: &mut String, declaration: &Declaration) -> fmt::Result
     writeln!(text)
 }
 
-fn show_link(text: &mut String, link: PackageLink<'_>) -> fmt::Result {
+fn show_link(text: &mut String, link: PackageLink<'_>) -> Result<(), AllocError> {
     let number = link.link_ix();
     let (from, to) = (link.from(), link.to());
     let own = if from == to { ", to itself" } else { "" };
@@ -124,7 +122,7 @@ fn show_link(text: &mut String, link: PackageLink<'_>) -> fmt::Result {
 }
 
 /// All that a graph says, a line for each package, feature, optional name, link and declaration.
-pub fn show_graph(alloc: Global, graph: &PackageGraph) -> Result<String, fmt::Error> {
+pub fn show_graph(alloc: Global, graph: &PackageGraph) -> Result<String, AllocError> {
     let mut text = String::new(alloc);
     for ix in 0..graph.package_count() {
         show_package(&mut text, graph.package(ix))?;
@@ -140,11 +138,11 @@ pub fn show_places(
     alloc: Global,
     package: PackageMetadata<'_>,
     name: &str,
-) -> Result<String, fmt::Error> {
+) -> Result<String, AllocError> {
     let mut text = String::new(alloc);
-    write!(&mut text, "{} of {}: ", package.id().repr(), package.package_ix())?;
+    write!(text, "{} of {}: ", package.id().repr(), package.package_ix())?;
     show_place(&mut text, package.feature_place(name))?;
-    write!(&mut text, ", ")?;
+    write!(text, ", ")?;
     show_place(&mut text, package.optional_place(name))?;
     Ok(text)
 }
