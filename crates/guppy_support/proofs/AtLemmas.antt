@@ -3,14 +3,14 @@ use Rattle.std.proofs.Common.{◌≡◌, ◌≢◌, ℕ, suc, ◌+◌, ◌-◌, 
 use Rattle.std.proofs.lemmas.Option.{slice_get-get_or}
 use Rattle.std.proofs.lemmas.List.{get_or-map}
 use Rattle.guppy_support.proofs.PlaceLemmas.{places_within}
-use Rattle.guppy_support.proofs.SearchLemmas.{place_inside, edge_to}
+use Rattle.guppy_support.proofs.ForwardLemmas.{place_inside, edge_to}
 use Rattle.std.proofs.lemmas.Bool.{cases_eq}
 use Rattle.guppy_support.specs.declared.digraph.Edge.{Edge}
 use Rattle.guppy_support.specs.Graph.{Graph, IsDigraph, sources}
 use Rattle.guppy_support.specs.Rows.{places}
-use Rattle.guppy_support.specs.Queues.{Joins}
-use Rattle.guppy_support.specs.Heads.{IsDone}
-use Rattle.guppy_support.specs.Plans.{is_left, IsRun, IsAt, IsWithin, IsChosen, IsSetup, IsOutEdge, StartsGrow, AreStarts, AreReady}
+use Rattle.guppy_support.specs.inner.Queues.{Joins}
+use Rattle.guppy_support.specs.inner.Heads.{IsDone}
+use Rattle.guppy_support.specs.inner.Plans.{is_left, IsRun, IsAt, IsWithin, IsChosen, IsSetup, IsOutEdge, StartsGrow, AreStarts, AreReady}
 use Rattle.guppy_support.proofs.CountLemmas.{tally_same}
 use Rattle.guppy_support.proofs.RowLemmas.{done_same, done_kept, left_step, left_end, Steps}
 use Rattle.guppy_support.proofs.GroupLemmas.{first_head}

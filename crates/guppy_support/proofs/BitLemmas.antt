@@ -16,7 +16,8 @@ use Rattle.std.proofs.lemmas.Nat.{one_shl, shr_le, shr-shr, div-mul-add, mod-mul
 use Rattle.std.proofs.lemmas.Simd.{mask_l-lt, bit_mask_l, ones-mask_l}
 use Rattle.std.proofs.lemmas.List.Sums.{sum_by-cons, sum_by-append, length-filter, count_by-le-length}
 use Rattle.std.proofs.lemmas.Slice.Zip.{get_or-zip, length-zip}
-use Rattle.guppy_support.specs.Bits.{has, word_bit, bits_of, members_from, AreWords, one_alone, Fit}
+use Rattle.guppy_support.specs.Bits.{has, one_alone}
+use Rattle.guppy_support.specs.inner.Words.{word_bit, bits_of, members_from, AreWords, Fit}
 
 pub length-bits_of : (n : ℕ) (words : List ℕ) → length (bits_of n words) ≡ n
 length-bits_of n words = length-map-range_with_len (λ k. word_bit words k == 1) 0 n
@@ -262,39 +263,6 @@ combines_xor =
       none = refl;
       bits = λ x y j. rw (bit_at_xor x y j) (on_bits (λ a b. ((a + b) % 2 == 1) ≡ one_alone (a == 1) (b == 1)) refl refl refl refl (bit_at x j) (bit_at y j) (bit_at-lt x j) (bit_at-lt y j));
     }
-
--- ---- equality by words
-
-same_bit : (x y : ℕ) → x < 2 → y < 2 → (x == 1) ≡ (y == 1) → x ≡ y
-same_bit x y hx hy t = on_bits (λ a b. (a == 1) ≡ (b == 1) → a ≡ b) (λ _. refl) (λ q. absurd (true≢false (sym q))) (λ q. absurd (true≢false q)) (λ _. refl) x y hx hy t
-
-same_words : (n : ℕ) (a b : List ℕ) → AreWords n a → AreWords n b → Fit a → Fit b → bits_of n a ≡ bits_of n b → a ≡ b
-same_words n a b wa wb fa fb e =
-    ext_get_or 0 a b (wa.long ∙ sym wb.long)
-    (λ i h. same_from_bits_below 64 (get_or a i 0) (get_or b i 0) (fa i) (fb i)
-    (λ j l. sym (word_bit_at a i j l) ∙ bits_agree (i * 64 + j) ∙ word_bit_at b i j l))
-  where
-    bits_agree : (k : ℕ) → word_bit a k ≡ word_bit b k
-    bits_agree k =
-        elim (cases_lt k n) [
-          | inl h ↦ same_bit (word_bit a k) (word_bit b k) (bit_at-lt _ _) (bit_at-lt _ _) (sym (has-bits_of n a k h) ∙ ap (λ (s : List Bool). has s k) e ∙ has-bits_of n b k h)
-          | inr p ↦ wa.clear k p ∙ sym (wb.clear k p)
-        ]
-
-same_tests : (a b : Bool) → (a ≡ true → b ≡ true) → (b ≡ true → a ≡ true) → a ≡ b
-same_tests true true f g = refl
-same_tests true false f g = sym (f refl)
-same_tests false true f g = g refl
-same_tests false false f g = refl
-
-pub equal_by_words : (n : ℕ) (a b : List ℕ) → AreWords n a → AreWords n b → Fit a → Fit b → pointwise nat_eq a b ≡ pointwise beq (bits_of n a) (bits_of n b)
-equal_by_words n a b wa wb fa fb =
-    same_tests (pointwise nat_eq a b) (pointwise beq (bits_of n a) (bits_of n b))
-    (λ e. let words : a ≡ b = (bytes_decides a b).0 e in (pointwise_decides booleans_Decides (bits_of n a) (bits_of n b)).1 (rw words refl))
-    (λ e. (bytes_decides a b).1 (same_words n a b wa wb fa fb ((pointwise_decides booleans_Decides (bits_of n a) (bits_of n b)).0 e)))
-
-pub unequal_sizes : (xs ys : List Bool) (n m : ℕ) → n ≡ length xs → m ≡ length ys → n ≢ m → nat_eq n m ≡ pointwise beq xs ys
-unequal_sizes xs ys n m l k ne = ne_eqb n m ne ∙ sym (unequal beq xs ys (λ e. ne (l ∙ e ∙ sym k)))
 
 -- ---- counting by words
 

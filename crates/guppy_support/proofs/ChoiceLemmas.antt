@@ -6,17 +6,17 @@ use Rattle.std.proofs.lemmas.List.Elements.{Contains-get_or}
 use Rattle.guppy_support.specs.Graph.{Graph}
 use Rattle.guppy_support.specs.Orders.{IsOrder}
 use Rattle.guppy_support.proofs.FaultLemmas.{nodes_of_edge}
-use Rattle.guppy_support.proofs.MarkLemmas.{place_of}
-use Rattle.guppy_support.specs.Heads.{IsDone, IsHead, IsEntered}
-use Rattle.guppy_support.specs.Plans.{is_fresh, IsRun, IsWithin, IsChosen, IsSetup, IsPause, AreFilled, AreCut, TakesFresh, IsBegun, IsWaiting, RowWaits, IsFreshPlace}
+use Rattle.guppy_support.proofs.BackwardLemmas.{place_of}
+use Rattle.guppy_support.specs.inner.Heads.{IsDone, IsHead, IsEntered}
+use Rattle.guppy_support.specs.inner.Plans.{is_fresh, IsRun, IsWithin, IsChosen, IsSetup, IsPause, AreReadyBut, AreCut, TakesFresh, IsBegun, IsWaiting, RowWaits, IsFreshPlace}
 use Rattle.guppy_support.specs.Rows.{places}
 use Rattle.guppy_support.proofs.PlaceLemmas.{places_within}
 use Rattle.guppy_support.proofs.GroupLemmas.{row_complete, rising}
-use Rattle.guppy_support.proofs.Exists.{IsFront, some_available, rank_same}
+use Rattle.guppy_support.proofs.Available.{IsFront, some_available, rank_same}
 use Rattle.guppy_support.proofs.HeadLemmas.{next_within, next_start, done_cases}
 use Rattle.guppy_support.proofs.PlanLemmas.{holds_of, entered_of, zero_of}
 use Rattle.guppy_support.proofs.CountLemmas.{count_zero, count_full}
-use Rattle.guppy_support.specs.Counts.{count_below, IsTally, enters, holds}
+use Rattle.guppy_support.specs.inner.Counts.{count_below, IsTally, enters, holds}
 use Rattle.guppy_support.proofs.RowLemmas.{done_same, done_kept, done_which}
 use Rattle.guppy_support.proofs.StepLemmas.{run_mark}
 
@@ -148,7 +148,7 @@ module _ (g : Graph) (ranks : List ℕ) (s : IsSetup g ranks) (listed : List ℕ
     small_rank u lu = omega (arith, s.small u lu, q.plan.outside_long)
 
     -- the least start, in a component whose other nodes wait
-    pub choose_start : (v : ℕ) (starts' ready : List ℕ) → TakesFresh done starts v starts' → AreFilled g.nodes ranks held (get_or ranks v 0) v ready
+    pub choose_start : (v : ℕ) (starts' ready : List ℕ) → TakesFresh done starts v starts' → AreReadyBut g.nodes ranks held (get_or ranks v 0) v ready
         → IsChosen g ranks v listed done outside held starts' ready (drop 0 (places (get_or ranks v 0) ranks))
     choose_start v starts' ready t f =
         let p = q.plan in
@@ -225,7 +225,7 @@ module _ (g : Graph) (ranks : List ℕ) (s : IsSetup g ranks) (listed : List ℕ
         record { long = long; next = λ k h. q.plan.ordered k (omega (arith, long)) }
 
 -- the row of a component waits: its nodes do
-pub filled : (n : ℕ) (ranks held : List ℕ) (c v : ℕ) (ready : List ℕ) → length ranks ≡ n → RowWaits (places c ranks) held v ready → AreFilled n ranks held c v ready
+pub filled : (n : ℕ) (ranks held : List ℕ) (c v : ℕ) (ready : List ℕ) → length ranks ≡ n → RowWaits (places c ranks) held v ready → AreReadyBut n ranks held c v ready
 filled n ranks held c v ready long w =
     record {
       ready_all = λ u lu e z ne. let r = row_complete ranks c u (omega (arith, long)) e in rw r.2 at (w.ready_all r.0 r.1 (rw (sym r.2) at z) (λ is. ne (sym r.2 ∙ is)));

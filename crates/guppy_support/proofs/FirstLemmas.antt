@@ -7,11 +7,11 @@ use Rattle.std.proofs.lemmas.List.{get_or-map, get_or-replicate, get_or_past, le
 use Rattle.guppy_support.specs.declared.digraph.Edge.{Edge}
 use Rattle.guppy_support.specs.Graph.{Graph, IsDigraph, sources, targets}
 use Rattle.guppy_support.proofs.FaultLemmas.{nodes_of_edge}
-use Rattle.guppy_support.specs.Counts.{count_below, enters, holds}
-use Rattle.guppy_support.specs.Plans.{IsSetup, IsEdge, AreEntering, AreHolding, AreFirsts, IsFirst, IsWaiting, IsPause, is_fresh}
-use Rattle.guppy_support.specs.Heads.{IsDone, IsHead}
+use Rattle.guppy_support.specs.inner.Counts.{count_below, enters, holds}
+use Rattle.guppy_support.specs.inner.Plans.{IsSetup, IsEdge, AreEntering, AreHolding, AreFirsts, IsFirst, IsWaiting, IsPause, is_fresh}
+use Rattle.guppy_support.specs.inner.Heads.{IsDone, IsHead}
 use Rattle.guppy_support.specs.Rows.{places}
-use Rattle.guppy_support.specs.Queues.{Joins}
+use Rattle.guppy_support.specs.inner.Queues.{Joins}
 use Rattle.guppy_support.proofs.GroupLemmas.{first_head, row_complete}
 use Rattle.guppy_support.proofs.CountLemmas.{count_zero, tally_skip, tally_add, tally_same, count_full}
 use Rattle.guppy_support.proofs.PlanLemmas.{eqb_false, edge_of_number}

@@ -4,8 +4,8 @@ use Rattle.std.proofs.lemmas.Bool.{cases_eq, cases_lt}
 use Rattle.std.proofs.lemmas.Bool.Decides.{eqb_tells}
 use Rattle.guppy_support.specs.Rows.{places_from, places}
 use Rattle.guppy_support.proofs.PlaceLemmas.{places_within}
-use Rattle.guppy_support.specs.Heads.{IsDone, IsHead}
-use Rattle.guppy_support.specs.Plans.{has, IsFirst}
+use Rattle.guppy_support.specs.inner.Heads.{IsDone, IsHead}
+use Rattle.guppy_support.specs.inner.Plans.{is_in, IsFirst}
 use Rattle.guppy_support.proofs.RowLemmas.{has_place}
 
 at_least : (v s : ℕ) (xs : List ℕ) (k : ℕ) → k < length (places_from v s xs) → s ≤ get_or (places_from v s xs) k 0
@@ -36,12 +36,12 @@ rising v s (x ∷ xs) i j l h =
       | inr t ↦ let h' : j < length (places_from v (suc s) xs) = rw t.0 at h in rw t.0 (rising v (suc s) xs i j l h')
     ]
 
-has_at : (row : List ℕ) (x : ℕ) → has x row ≡ true → (k : ℕ) × (k < length row) × (get_or row k 0 ≡ x)
+has_at : (row : List ℕ) (x : ℕ) → is_in x row ≡ true → (k : ℕ) × (k < length row) × (get_or row k 0 ≡ x)
 has_at [] x h = absurd (let c : true ≡ false = sym h in cc)
 has_at (y ∷ ys) x h =
     elim (eqb_tells y x) [
       | inl t ↦ (0, omega arith, t.1)
-      | inr t ↦ let h' : has x ys ≡ true = rw t.0 at h in let f = has_at ys x h' in (suc f.0, omega (arith, f.1), f.2)
+      | inr t ↦ let h' : is_in x ys ≡ true = rw t.0 at h in let f = has_at ys x h' in (suc f.0, omega (arith, f.1), f.2)
     ]
 
 -- each node of rank c stands in the row of c

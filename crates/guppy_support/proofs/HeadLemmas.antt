@@ -4,9 +4,9 @@ use Rattle.std.proofs.lemmas.Bool.{cases_eq, cases_lt, cases_Bool}
 use Rattle.guppy_support.specs.Graph.{Graph, IsDigraph}
 use Rattle.guppy_support.specs.Orders.{IsAvailable, IsNext}
 use Rattle.guppy_support.proofs.FaultLemmas.{nodes_of_edge}
-use Rattle.guppy_support.specs.Ranks.{IsRanking}
-use Rattle.guppy_support.specs.Heads.{IsDone, AreMarks, AreHolds, IsHead, IsWholeBut, IsEntered}
-use Rattle.guppy_support.proofs.Exists.{rank_same, path_node}
+use Rattle.guppy_support.specs.inner.Ranks.{IsRanking}
+use Rattle.guppy_support.specs.inner.Heads.{IsDone, AreMarks, AreHolds, IsHead, IsWholeBut, IsEntered}
+use Rattle.guppy_support.proofs.Available.{rank_same, path_node}
 
 pub done_cases : (done : List Bool) (v : ℕ) → IsDone done v ⊎ ¬ IsDone done v
 done_cases done v = elim (cases_Bool (get_or done v false)) [ inl t ↦ inl t | inr f ↦ inr (λ t. let c : true ≡ false = sym t ∙ f in cc) ]

@@ -30,7 +30,7 @@ components_follow g list o i j hi hj edge apart =
 
 -- ---- inside a component
 
-path_inside : (g : Graph) → IsDigraph g → {a b : ℕ} → Path g.edges a b → a < g.nodes → b < g.nodes
+pub path_inside : (g : Graph) → IsDigraph g → {a b : ℕ} → Path g.edges a b → a < g.nodes → b < g.nodes
 path_inside g ok nowhere h = h
 path_inside g ok (onward e p) h = path_inside g ok p (nodes_of_edge g ok e).1
 

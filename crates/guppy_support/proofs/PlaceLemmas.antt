@@ -5,7 +5,8 @@ use Rattle.std.proofs.lemmas.Bool.{eq-eqb}
 use Rattle.std.proofs.lemmas.List.{get_or-map, length-map}
 use Rattle.std.proofs.lemmas.List.Elements.{All-from_get_or, Contains-get_or}
 use Rattle.guppy_support.specs.declared.digraph.Edge.{Edge}
-use Rattle.guppy_support.specs.Graph.{sources, targets, target_at, source_at}
+use Rattle.guppy_support.specs.Graph.{sources, targets}
+use Rattle.guppy_support.specs.inner.NodeEdges.{target_at, source_at}
 use Rattle.guppy_support.specs.Rows.{places_from, places}
 use Rattle.guppy_support.specs.Paths.{HasEdge}
 

@@ -8,12 +8,12 @@ use Rattle.guppy_support.specs.declared.digraph.Edge.{Edge}
 use Rattle.guppy_support.specs.Graph.{Graph, IsDigraph, sources, targets}
 use Rattle.guppy_support.specs.Paths.{HasEdge, HasFirmEdge}
 use Rattle.guppy_support.proofs.FaultLemmas.{nodes_of_edge}
-use Rattle.guppy_support.specs.Ranks.{IsRanking}
-use Rattle.guppy_support.specs.Counts.{IsTally, enters, holds}
-use Rattle.guppy_support.specs.Heads.{AreMarks, AreHolds, IsEntered}
-use Rattle.guppy_support.specs.Plans.{is_fresh}
+use Rattle.guppy_support.specs.inner.Ranks.{IsRanking}
+use Rattle.guppy_support.specs.inner.Counts.{IsTally, enters, holds}
+use Rattle.guppy_support.specs.inner.Heads.{AreMarks, AreHolds, IsEntered}
+use Rattle.guppy_support.specs.inner.Plans.{is_fresh}
 use Rattle.guppy_support.proofs.CountLemmas.{count_none, count_some, count_zero}
-use Rattle.guppy_support.proofs.Exists.{rank_same, firm_is_edge}
+use Rattle.guppy_support.proofs.Available.{rank_same, firm_is_edge}
 
 both_of : (x y : Bool) → (x && y) ≡ true → (x ≡ true) × (y ≡ true)
 both_of true true e = (refl, refl)

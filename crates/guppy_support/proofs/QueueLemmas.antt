@@ -8,7 +8,7 @@ use Rattle.std.specs.declared.cmp.Reverse.{Reverse}
 use Rattle.std.proofs.lemmas.List.Sorted.{Contains-permutation, length_permutation, IsPermutation-sym}
 use Rattle.std.specs.List.Sorted.{IsPermutation}
 use Rattle.std.specs.List.{AllByRecursion}
-use Rattle.guppy_support.specs.Queues.{Joins, Leaves}
+use Rattle.guppy_support.specs.inner.Queues.{Joins, Leaves}
 
 head_cases : (x : ℕ) (xs : List ℕ) (y : ℕ) → Contains (x ∷ xs) y → (y ≡ x) ⊎ Contains xs y
 head_cases x xs y (zero, h, e) = inl (sym e)

@@ -5,8 +5,8 @@ use Rattle.std.proofs.lemmas.Bool.Decides.{eqb_tells}
 use Rattle.guppy_support.specs.declared.digraph.Edge.{Edge}
 use Rattle.guppy_support.specs.Graph.{sources}
 use Rattle.guppy_support.specs.Rows.{places_from, places}
-use Rattle.guppy_support.specs.Heads.{IsDone}
-use Rattle.guppy_support.specs.Plans.{is_fresh, is_left, has}
+use Rattle.guppy_support.specs.inner.Heads.{IsDone}
+use Rattle.guppy_support.specs.inner.Plans.{is_fresh, is_left, is_in}
 use Rattle.guppy_support.proofs.PlanLemmas.{eqb_false}
 
 pub or_true : (x : Bool) → (x || true) ≡ true
@@ -17,7 +17,7 @@ pub or_false : (x : Bool) → (x || false) ≡ x
 or_false true = refl
 or_false false = refl
 
-pub has_place : (v s : ℕ) (xs : List ℕ) (i j : ℕ) → i < length xs → get_or xs i 0 ≡ v → j ≡ s + i → has j (places_from v s xs) ≡ true
+pub has_place : (v s : ℕ) (xs : List ℕ) (i j : ℕ) → i < length xs → get_or xs i 0 ≡ v → j ≡ s + i → is_in j (places_from v s xs) ≡ true
 has_place v s [] i j h e is = absurd (omega arith)
 has_place v s (x ∷ xs) zero j h e is =
     rw (eq-eqb x v e, eq-eqb s j (omega arith)) refl
@@ -28,7 +28,7 @@ has_place v s (x ∷ xs) (suc i) j h e is =
       | inr t ↦ rw t.0 rest
     ]
 
-pub has_sound : (v s : ℕ) (xs : List ℕ) (j : ℕ) → has j (places_from v s xs) ≡ true → (i : ℕ) × (i < length xs) × ((get_or xs i 0 ≡ v) × (j ≡ s + i))
+pub has_sound : (v s : ℕ) (xs : List ℕ) (j : ℕ) → is_in j (places_from v s xs) ≡ true → (i : ℕ) × (i < length xs) × ((get_or xs i 0 ≡ v) × (j ≡ s + i))
 has_sound v s [] j h = absurd (let c : true ≡ false = sym h in cc)
 has_sound v s (x ∷ xs) j h =
     elim (eqb_tells x v) [
@@ -36,25 +36,25 @@ has_sound v s (x ∷ xs) j h =
           elim (eqb_tells s j) [
             | inl q ↦ (0, omega arith, (t.1, omega (arith, q.1)))
             | inr q ↦
-                let h' : has j (places_from v (suc s) xs) ≡ true = rw (t.0, q.0) at h in
+                let h' : is_in j (places_from v (suc s) xs) ≡ true = rw (t.0, q.0) at h in
                 let f = has_sound v (suc s) xs j h' in
                 (suc f.0, omega (arith, f.1), (f.2.0, omega (arith, f.2.1)))
           ]
       | inr t ↦
-          let h' : has j (places_from v (suc s) xs) ≡ true = rw t.0 at h in
+          let h' : is_in j (places_from v (suc s) xs) ≡ true = rw t.0 at h in
           let f = has_sound v (suc s) xs j h' in
           (suc f.0, omega (arith, f.1), (f.2.0, omega (arith, f.2.1)))
     ]
 
-pub has_not : (v s : ℕ) (xs : List ℕ) (j : ℕ) → j < s → has j (places_from v s xs) ≡ false
-has_not v s xs j h = elim (cases_Bool (has j (places_from v s xs))) [ inr f ↦ f | inl t ↦ let f = has_sound v s xs j t in absurd (omega (arith, f.2.1)) ]
+pub has_not : (v s : ℕ) (xs : List ℕ) (j : ℕ) → j < s → is_in j (places_from v s xs) ≡ false
+has_not v s xs j h = elim (cases_Bool (is_in j (places_from v s xs))) [ inr f ↦ f | inl t ↦ let f = has_sound v s xs j t in absurd (omega (arith, f.2.1)) ]
 
-once_first : (s : ℕ) (rest : List ℕ) → has s rest ≡ false → ((k : ℕ) → k < length rest → has (get_or rest k 0) (drop (suc k) rest) ≡ false)
-    → (k : ℕ) → k < length (s ∷ rest) → has (get_or (s ∷ rest) k 0) (drop k rest) ≡ false
+once_first : (s : ℕ) (rest : List ℕ) → is_in s rest ≡ false → ((k : ℕ) → k < length rest → is_in (get_or rest k 0) (drop (suc k) rest) ≡ false)
+    → (k : ℕ) → k < length (s ∷ rest) → is_in (get_or (s ∷ rest) k 0) (drop k rest) ≡ false
 once_first s rest off once zero h = off
 once_first s rest off once (suc k) h = once k (omega arith)
 
-pub place_once : (v s : ℕ) (xs : List ℕ) (k : ℕ) → k < length (places_from v s xs) → has (get_or (places_from v s xs) k 0) (drop (suc k) (places_from v s xs)) ≡ false
+pub place_once : (v s : ℕ) (xs : List ℕ) (k : ℕ) → k < length (places_from v s xs) → is_in (get_or (places_from v s xs) k 0) (drop (suc k) (places_from v s xs)) ≡ false
 place_once v s [] k h = absurd (omega arith)
 place_once v s (x ∷ xs) k h =
     elim (eqb_tells x v) [
@@ -66,7 +66,7 @@ place_once v s (x ∷ xs) k h =
           rw t.0 (place_once v (suc s) xs k h')
     ]
 
-pub has_drop : (row : List ℕ) (k i : ℕ) → k < length row → has i (drop k row) ≡ (eqb (get_or row k 0) i || has i (drop (suc k) row))
+pub has_drop : (row : List ℕ) (k i : ℕ) → k < length row → is_in i (drop k row) ≡ (eqb (get_or row k 0) i || is_in i (drop (suc k) row))
 has_drop [] k i h = absurd (omega arith)
 has_drop (x ∷ xs) zero i h = refl
 has_drop (x ∷ xs) (suc k) i h = has_drop xs k i (omega arith)
@@ -96,7 +96,7 @@ left_start es done v fresh lv i h =
           let on = has_place v 0 (sources es) i i h e (omega arith) in
           rw (on, e, off) (or_true _)
       | inr ne ↦
-          let off : has i (places v (sources es)) ≡ false = elim (cases_Bool (has i (places v (sources es)))) [
+          let off : is_in i (places v (sources es)) ≡ false = elim (cases_Bool (is_in i (places v (sources es)))) [
             | inr f ↦ f
             | inl t ↦
                 let f = has_sound v 0 (sources es) i t in

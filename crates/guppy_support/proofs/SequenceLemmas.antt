@@ -1,18 +1,23 @@
 -- Components are numbered along the order.
-use Rattle.std.proofs.Common.{◌≡◌, ◌≢◌, ℕ, zero, suc, ◌+◌, ◌-◌, ◌<◌, ◌≤◌, inl, inr, eqb, List, [], ◌∷◌, ◌++◌, length, get_or, map, take, drop, set, refl, ap, sym, ◌∙◌, arith, get_or-set_same, get_or-set_other}
+use Rattle.std.proofs.Common.{◌≡◌, ◌≢◌, ℕ, zero, suc, ◌+◌, ◌-◌, ◌<◌, ◌≤◌, inl, inr, eqb, List, [], ◌∷◌, ◌++◌, length, get_or, map, take, drop, set, refl, ap, sym, ◌∙◌, subst, arith, slice_get, Some, get_or-set_same, get_or-set_other}
 use Rattle.std.specs.Prelude.{filter}
 use Rattle.std.proofs.lemmas.Bool.{cases_eq, cases_lt, cases_order, eq-eqb, ne_eqb, lt-ltb, le-ltb}
 use Rattle.std.proofs.lemmas.List.{get_or-take, get_or-map, length-map, length-take, ext_get_or, get_or_append_left, get_or_at, length-append, get_or_default}
+use Rattle.std.proofs.lemmas.List.Elements.{Contains-get_or}
+use Rattle.std.proofs.lemmas.Option.{slice_get-get_or}
 use Rattle.guppy_support.specs.Graph.{Graph, IsDigraph}
-use Rattle.guppy_support.specs.Orders.{IsOrder}
-use Rattle.guppy_support.specs.Rows.{below, AreBegun}
-use Rattle.guppy_support.specs.Finish.{AreApart}
-use Rattle.guppy_support.specs.Ranks.{IsRanking}
-use Rattle.guppy_support.specs.Sequences.{IsOrderOf, numbers_of, AreGrouped, rank_at, AreNumbered}
-use Rattle.guppy_support.proofs.PackLemmas.{below_step, below-le-length}
+use Rattle.guppy_support.specs.declared.digraph.Edge.{Edge}
+use Rattle.guppy_support.specs.Laws.{OrderListsEach}
+use Rattle.guppy_support.specs.Orders.{IsOrder, ListsEach}
+use Rattle.guppy_support.specs.inner.PackedRows.{below, AreBegun}
+use Rattle.guppy_support.specs.inner.FinishOrder.{AreApart}
+use Rattle.guppy_support.specs.inner.Ranks.{IsRanking}
+use Rattle.guppy_support.specs.Sequences.{Sequence, IsSequence, IsOrderOf}
+use Rattle.guppy_support.specs.inner.Numbering.{ArePlaces, numbers_of, AreGrouped, rank_at, AreNumbered}
+use Rattle.guppy_support.proofs.PackedLemmas.{below_step, below-le-length}
 use Rattle.guppy_support.proofs.OrderLemmas.{listed_before, order_below, order_apart}
 use Rattle.guppy_support.proofs.ApartLemmas.{apart_whole}
-use Rattle.guppy_support.proofs.Exists.{rank_same, path_node}
+use Rattle.guppy_support.proofs.Available.{rank_same, path_node}
 
 -- ---- along the order
 
@@ -368,3 +373,35 @@ grouped count list component numbers begins are rising long begin =
       within = λ c h. omega (arith, at c h, below-le-length c (map f list), length-map list f);
       run = λ c h. rw (at c (omega arith), at (c + 1) (omega arith)) (run_of f list c rising);
     }
+
+-- ---- what an order lists
+
+pub lists_each : {es : List Edge} {n : ℕ} {list : List ℕ} → IsOrder es n list → ListsEach n list
+lists_each {n = n} {list = list} o =
+    record {
+      long = o.long;
+      below = λ i h. order_below o i h;
+      apart = λ i j l h. order_apart o i j l (omega (arith, o.long));
+      every = λ v h.
+          let k = apart_whole list n (order_apart o) (λ i l. order_below o i (omega (arith, o.long))) o.long v h in
+          rw k.2 at (Contains-get_or list k.0 0 k.1);
+    }
+
+pub order_lists_each : OrderListsEach
+order_lists_each g list o = lists_each o
+
+pub sequence_of : (g : Graph) (o : Sequence) → IsOrderOf g o → IsSequence o
+sequence_of g o is =
+    let long : length o.list ≡ g.nodes = is.order.long in
+    record {
+      each = subst (λ (n : ℕ). ListsEach n o.list) (sym long) (lists_each is.order);
+      long = is.long ∙ sym long;
+      below = λ v h. is.below v (omega arith);
+    }
+
+pub place_read : (list places : List ℕ) → ArePlaces list places → ListsEach (length list) list → (v : ℕ) → v < length list → slice_get list (get_or places v 0) ≡ Some v
+place_read list places p each v h =
+    let c = each.every v h in
+    let at : get_or list c.0 0 ≡ v = get_or_default list c.0 0 v c.1 ∙ c.2 in
+    let place : get_or places v 0 ≡ c.0 = ap (λ (x : ℕ). get_or places x 0) (sym at) ∙ p.each c.0 c.1 in
+    rw place (slice_get-get_or list c.0 v c.1 ∙ ap (λ (x : ℕ). Some x) c.2)

@@ -8,10 +8,10 @@ use Rattle.guppy_support.specs.declared.digraph.Edge.{Edge}
 use Rattle.guppy_support.specs.Graph.{Graph, sources, targets}
 use Rattle.guppy_support.specs.Rows.{places}
 use Rattle.guppy_support.specs.Orders.{IsNext}
-use Rattle.guppy_support.specs.Queues.{Joins}
-use Rattle.guppy_support.specs.Counts.{count_below, enters, holds}
-use Rattle.guppy_support.specs.Heads.{IsDone, IsHead}
-use Rattle.guppy_support.specs.Plans.{is_fresh, is_left, IsBegun, IsPlan, IsRun, AreCut, AreStarts, AreReady}
+use Rattle.guppy_support.specs.inner.Queues.{Joins}
+use Rattle.guppy_support.specs.inner.Counts.{count_below, enters, holds}
+use Rattle.guppy_support.specs.inner.Heads.{IsDone, IsHead}
+use Rattle.guppy_support.specs.inner.Plans.{is_fresh, is_left, IsBegun, IsPlan, IsRun, AreCut, AreStarts, AreReady}
 use Rattle.guppy_support.proofs.CountLemmas.{count_fewer, tally_same, tally_skip, tally_pass}
 use Rattle.guppy_support.proofs.PlanLemmas.{eqb_false}
 use Rattle.guppy_support.proofs.RowLemmas.{done_same, done_kept, done_which, left_start, Steps}

@@ -3,7 +3,6 @@ use Rattle.std.specs.Prelude.{◌≡◌, ℕ, ◌+◌, ◌<◌, ◌≤◌, List,
 use Rattle.guppy_support.specs.declared.digraph.Edge.{Edge}
 use Rattle.guppy_support.specs.declared.digraph.DigraphError.{DigraphError}
 use Rattle.guppy_support.specs.declared.digraph.DigraphError.TheVariants.{BadNode, Unsorted, Memory}
-use Rattle.guppy_support.specs.Rows.{places}
 
 pub record Graph : Type 0 where
   pub nodes : ℕ
@@ -55,11 +54,3 @@ pub record IsEdgeAt (es : List Edge) (a b k : ℕ) : Type 0 where
   pub within : k < length es
   pub from : source_of es k ≡ a
   pub to : target_of es k ≡ b
-
--- the target of the k-th edge that leaves v
-abbrev pub target_at : List Edge → ℕ → ℕ → ℕ
-target_at es v k = target_of es (slice_index (places v (sources es)) k)
-
--- the source of the k-th edge that enters v
-abbrev pub source_at : List Edge → ℕ → ℕ → ℕ
-source_at es v k = source_of es (slice_index (places v (targets es)) k)

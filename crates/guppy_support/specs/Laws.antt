@@ -1,9 +1,10 @@
 -- What holds of every order of a digraph.
-use Rattle.std.specs.Prelude.{◌≡◌, ◌≢◌, ◌↔◌, ℕ, ◌<◌, List, slice_index}
+use Rattle.std.specs.Prelude.{◌≡◌, ◌≢◌, ◌↔◌, ℕ, ◌<◌, Bool, List, slice_index}
 use Rattle.guppy_support.specs.declared.digraph.Edge.{Edge}
 use Rattle.guppy_support.specs.Graph.{Graph, IsDigraph}
 use Rattle.guppy_support.specs.Paths.{HasEdge, HasFirmEdge, SameComponent, OnCycle}
-use Rattle.guppy_support.specs.Orders.{IsOrder}
+use Rattle.guppy_support.specs.Orders.{IsOrder, ListsEach}
+use Rattle.guppy_support.specs.Bits.{has, members}
 use Rattle.guppy_support.specs.Sequences.{Sequence, IsOrderOf}
 
 -- a path, not empty, over edges that aren't dev-only
@@ -18,6 +19,14 @@ HasNoFirmCycle es = (a : ℕ) → ¬ FirmPath es a a
 -- a digraph has one order at most
 abbrev pub OneOrder : Type 0
 OneOrder = (g : Graph) → (xs ys : List ℕ) → IsOrder g.edges g.nodes xs → IsOrder g.edges g.nodes ys → xs ≡ ys
+
+-- each digraph has an order
+abbrev pub OrderExists : Type 0
+OrderExists = (g : Graph) → IsDigraph g → (list : List ℕ) × IsOrder g.edges g.nodes list
+
+-- an order lists each node once, and nothing else
+abbrev pub OrderListsEach : Type 0
+OrderListsEach = (g : Graph) (list : List ℕ) → IsOrder g.edges g.nodes list → ListsEach g.nodes list
 
 -- of two nodes in different components, the one with an edge to the other comes first
 abbrev pub ComponentsFollowEdges : Type 0
@@ -37,3 +46,7 @@ CyclesAreComponents = (es : List Edge) (a b : ℕ) → a ≢ b → SameComponent
 
 abbrev pub CyclesAreMutual : Type 0
 CyclesAreMutual = (es : List Edge) (a b : ℕ) → OnCycle es a b → OnCycle es b a
+
+-- two sets list the same numbers exactly if each number is in both or in neither, whatever their sizes
+abbrev pub SetsAreTheirMembers : Type 0
+SetsAreTheirMembers = (a b : List Bool) → (members a ≡ members b) ↔ ((k : ℕ) → has a k ≡ has b k)

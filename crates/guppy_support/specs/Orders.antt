@@ -30,3 +30,10 @@ pub record IsNext (es : List Edge) (n : ℕ) (listed : List ℕ) (v : ℕ) : Typ
 pub record IsOrder (es : List Edge) (n : ℕ) (list : List ℕ) : Type 0 where
   pub long : length list ≡ n
   pub next : (k : ℕ) → k < n → IsNext es n (take k list) (slice_index list k)
+
+-- the list has n entries, and they are the numbers below n, each once
+pub record ListsEach (n : ℕ) (list : List ℕ) : Type 0 where
+  pub long : length list ≡ n
+  pub below : (i : ℕ) → i < n → slice_index list i < n
+  pub apart : (i j : ℕ) → i < j → j < n → slice_index list i ≢ slice_index list j
+  pub every : (v : ℕ) → v < n → Contains list v

@@ -1,11 +1,13 @@
 //! Sets of numbers below a bound, 64 numbers to a word.
-ghost use Rattle.std.specs.Prelude.{◌≡◌, ℕ, ◌+◌, ◌*◌, ◌-◌, ◌^◌, ◌<◌, ◌≤◌, ◌||◌, ◌&&◌, ◌==◌, not, false, true, [], ◌∷◌, length, map, zip, IfOk, IfSome, Some, MatchOption, replicate, slice_set, count_by, bit_and, bit_or, bit_xor, nat_eq};
-ghost use mathlib.Core.Bool.{beq};
+ghost use Rattle.std.specs.Prelude.{◌≡◌, ℕ, ◌+◌, ◌*◌, ◌-◌, ◌^◌, ◌<◌, ◌≤◌, ◌||◌, ◌&&◌, ◌==◌, not, false, [], ◌∷◌, length, map, zip, IfOk, IfSome, Some, MatchOption, replicate, slice_set, count_by, bit_and, bit_or, bit_xor, nat_eq, slice_index, true, IsTrue, ◌↔◌};
 ghost use Rattle.std.specs.Iterator.{YieldsFirst, UpTo, item_count};
 ghost use Rattle.std.specs.Iterator.SizeHint.{IsWithinCount};
-ghost use Rattle.std.specs.Cmp.{partial_equiv_from_equiv, bool_eq_equiv};
-ghost use Rattle.std.specs.Cmp.Lexicographic.{pointwise, lists_equiv};
-ghost use Rattle.guppy_support.specs.Bits.{has, members, members_from, one_alone, Fit};
+ghost use Rattle.std.specs.Cmp.{partial_equiv_from_equiv};
+ghost use Rattle.std.specs.Cmp.Lexicographic.{pointwise};
+ghost use Rattle.std.specs.Ordering.{on};
+ghost use Rattle.std.proofs.lemmas.Cmp.{on_equiv, nat_list_eq_equiv};
+ghost use Rattle.guppy_support.specs.Bits.{has, members, one_alone};
+ghost use Rattle.guppy_support.specs.inner.Words.{members_from, Fit};
 
 use std::alloc::{AllocError, Global};
 use std::marker::Model;
@@ -19,7 +21,7 @@ pub struct IxBitSet {
 
 impl Model for IxBitSet {
     ghost use Rattle.std.specs.Prelude.{List, Bool};
-    ghost use Rattle.guppy_support.specs.Bits.{bits_of, AreWords};
+    ghost use Rattle.guppy_support.specs.inner.Words.{bits_of, AreWords};
 
     ghost Value = { List Bool };
 
@@ -158,6 +160,13 @@ impl IxBitSet {
         })
     }
 
+    /// Whether two sets have the same numbers below the same bound.
+    pub fn is_identical(&self, other: &IxBitSet) -> bool
+        ensures { IsTrue result ↔ (self.now ≡ other.now) }
+    {
+        self.size == other.size && same_words(&self.words, &other.words)
+    }
+
     // The least number of the set from `from` on.
     fn next_from(&self, from: usize) -> Option<usize>
         requires { from ≤ length self.now }
@@ -179,19 +188,19 @@ impl IxBitSet {
     }
 }
 
-/// Equal are sets of the same numbers below the same bound.
+/// Equal are sets of the same numbers, whatever their bounds.
 impl PartialEq for IxBitSet {
-    ghost eq = { pointwise beq };
+    ghost eq = { on members (pointwise nat_eq) };
 
-    ghost laws = { partial_equiv_from_equiv (lists_equiv bool_eq_equiv) };
+    ghost laws = { partial_equiv_from_equiv (on_equiv members nat_list_eq_equiv) };
 
     fn eq(&self, other: &IxBitSet) -> bool {
-        self.size == other.size && same_words(&self.words, &other.words)
+        same_words(&self.words, &other.words)
     }
 }
 
 impl Eq for IxBitSet {
-    ghost laws = { lists_equiv bool_eq_equiv };
+    ghost laws = { on_equiv members nat_list_eq_equiv };
 }
 
 // So many copies of a word.
@@ -201,12 +210,29 @@ fn copies(alloc: Global, word: u64, count: usize) -> Result<Vec<u64>, AllocError
     vec![in alloc; word; count]
 }
 
+// The word at the place, or 0 behind the last.
+fn word_at(words: &[u64], place: usize) -> u64
+    ensures { result ≡ slice_index words.now place }
+{
+    match words.get(place) {
+        Some(word) => *word,
+        None => 0,
+    }
+}
+
+// Whether two lists of words have the same bits, where no bit is behind the last word.
 fn same_words(mine: &[u64], its: &[u64]) -> bool
-    ensures same { result ≡ pointwise nat_eq mine.now its.now }
+    ensures same { result ≡ true → (i : ℕ) → slice_index mine.now i ≡ slice_index its.now i }
+    ensures apart { ((i : ℕ) → slice_index mine.now i ≡ slice_index its.now i) → result ≡ true }
     ensures mine_fit { Fit mine.now }
     ensures its_fit { Fit its.now }
 {
-    mine == its
+    for place in 0..mine.len().max(its.len()) {
+        if word_at(mine, place) != word_at(its, place) {
+            return false;
+        }
+    }
+    true
 }
 
 // The bits that either word has.
@@ -255,7 +281,7 @@ pub struct Ones<'a> {
 
 impl<'a> Model for Ones<'a> {
     ghost use Rattle.std.specs.Prelude.{List, ℕ, ◌≡◌, ◌≤◌, length};
-    ghost use Rattle.guppy_support.specs.Bits.{members_from};
+    ghost use Rattle.guppy_support.specs.inner.Words.{members_from};
 
     ghost Value = { List ℕ };
 

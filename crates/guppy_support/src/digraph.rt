@@ -1,13 +1,18 @@
 //! A digraph, and its edges by each end.
+ghost use Rattle.std.specs.List.{range_with_len};
 ghost use Rattle.std.specs.Prelude.{◌≡◌, ℕ, ◌+◌, ◌-◌, ◌<◌, ◌≤◌, length, slice_get, Some, None, IfOk, IfErr, IfSome, IfNone, IsTrue, ◌↔◌};
 ghost use Rattle.guppy_support.specs.Graph.{IsDigraph, IsRefused, IsEdgeAt, IsBefore, sources, targets};
 ghost use Rattle.guppy_support.specs.Paths.{HasEdge};
-ghost use Rattle.guppy_support.specs.Rows.{places, IsPacked};
+ghost use Rattle.guppy_support.specs.Rows.{places};
+ghost use Rattle.guppy_support.specs.inner.PackedRows.{IsPacked};
 
-use crate::outward::outward_rows;
-use crate::pack::{Rows, pack_rows};
+mod begins;
+
+use crate::rows::{Rows, pack_rows};
+use begins::source_begins;
 use std::alloc::{AllocError, Global};
 use std::marker::Model;
+use std::ops::Range;
 
 /// An edge of a digraph. `non_dev` says that it isn't dev-only: such an edge orders its two ends inside a component.
 #[derive(Clone, Copy, Debug, Drop, PartialEq, Eq)]
@@ -33,13 +38,14 @@ pub enum DigraphError {
 pub struct Digraph {
     nodes: usize,
     edges: Vec<Edge>,
-    outward: Rows,
+    // where the edges of each source begin; the end stands last
+    begins: Vec<usize>,
     inward: Rows,
 }
 
 impl Model for Digraph {
     ghost use Rattle.guppy_support.specs.Graph.{Graph, IsDigraph, sources, targets};
-    ghost use Rattle.guppy_support.specs.Rows.{IsPacked};
+    ghost use Rattle.guppy_support.specs.inner.PackedRows.{AreAllBegun, IsPacked};
 
     ghost Value = { Graph };
 
@@ -47,7 +53,7 @@ impl Model for Digraph {
 
     ghost invariant = { λ d.
         IsDigraph (record { nodes = d.nodes; edges = d.edges.items })
-        × IsPacked d.nodes (sources d.edges.items) d.outward.begins.items d.outward.numbers.items
+        × AreAllBegun d.nodes (sources d.edges.items) d.begins.items
         × IsPacked d.nodes (targets d.edges.items) d.inward.begins.items d.inward.numbers.items };
 }
 
@@ -72,11 +78,11 @@ impl Digraph {
         ensures { IfOk result (λ g. g ≡ record { nodes = nodes; edges = edges.now }) }
     {
         let inward = inward_rows(alloc, nodes, edges)?;
-        let outward = outward_rows(alloc, nodes, edges)?;
+        let begins = source_begins(alloc, nodes, edges)?;
         Ok(Digraph {
             nodes,
             edges: Vec::from_slice(alloc, edges)?,
-            outward,
+            begins,
             inward,
         })
     }
@@ -131,12 +137,14 @@ impl Digraph {
         None
     }
 
-    /// The numbers of the edges that leave the node, ascending.
-    pub fn out_edges(&self, node: usize) -> &[usize]
+    /// The numbers of the edges that leave the node. They stand together, since edges ascend by source.
+    pub fn out_edges(&self, node: usize) -> Range<usize>
         requires { node < self.now.nodes }
-        ensures { result.now ≡ places node (sources self.now.edges) }
+        ensures numbers { range_with_len result.start (result.end - result.start) ≡ places node (sources self.now.edges) }
+        ensures ascends { result.start ≤ result.end }
+        ensures within { result.end ≤ length self.now.edges }
     {
-        &self.outward.numbers[self.outward.begins[node]..self.outward.begins[node + 1]]
+        self.begins[node]..self.begins[node + 1]
     }
 
     /// The numbers of the edges that enter the node, ascending.

@@ -1,9 +1,19 @@
-//! Laws of orders and components. Each function does nothing: its contract is the law.
-ghost use Rattle.guppy_support.specs.Laws.{OneOrder, ComponentsFollowEdges, FirmEdgesFollow, CyclesAreComponents, CyclesAreMutual};
+//! Laws of orders, components and sets. Each function does nothing: its contract is the law.
+ghost use Rattle.guppy_support.specs.Laws.{OneOrder, OrderExists, OrderListsEach, SetsAreTheirMembers, ComponentsFollowEdges, FirmEdgesFollow, CyclesAreComponents, CyclesAreMutual};
 
 /// A digraph has one order at most.
 pub fn one_order()
     ensures { OneOrder }
+{}
+
+/// Each digraph has an order.
+pub fn order_exists()
+    ensures { OrderExists }
+{}
+
+/// An order lists each node once, and nothing else.
+pub fn order_lists_each()
+    ensures { OrderListsEach }
 {}
 
 /// Of two nodes in different components, the one with an edge to the other comes first.
@@ -24,4 +34,9 @@ pub fn cycles_are_components()
 /// If a node lies on a common cycle with another, so does the other with it.
 pub fn cycles_are_mutual()
     ensures { CyclesAreMutual }
+{}
+
+/// Two sets list the same numbers exactly if each number is in both or in neither.
+pub fn sets_are_their_members()
+    ensures { SetsAreTheirMembers }
 {}

@@ -3,21 +3,13 @@
 
 mod bit_set;
 mod collecting;
+mod components;
 mod digraph;
-mod finish;
 pub mod laws;
-mod marks;
 mod order;
-mod outward;
-mod pack;
-mod plan;
-mod queue;
-mod start;
+mod rows;
 
 pub use bit_set::{IxBitSet, Ones};
 pub use collecting::collect_exactly;
 pub use digraph::{Digraph, DigraphError, Edge};
 pub use order::Order;
-
-#[cfg(test)]
-mod tests;

@@ -1,6 +1,6 @@
 use Rattle.std.proofs.Common.{◌≡◌, ◌<◌, ◌^◌, ◌*◌, ◌+◌, ◌∙◌, ap, sym, get_or, ℕ, List, arith, refl, length}
 use Rattle.std.specs.Prelude.{count_ones}
-use Rattle.guppy_support.specs.Bits.{bits_of}
+use Rattle.guppy_support.specs.inner.Words.{bits_of}
 use Rattle.guppy_support.proofs.BitLemmas.{ticks, ticks_more, ticks_all, ticks_le}
 use Rattle.guppy_support.proofs.bit_set.IxBitSet.count.Goals as goal
 

@@ -1,5 +1,5 @@
 use Rattle.std.proofs.Common.{◌≡◌, ◌*◌}
-use Rattle.guppy_support.specs.Bits.{bits_of}
+use Rattle.guppy_support.specs.inner.Words.{bits_of}
 use Rattle.guppy_support.proofs.BitLemmas.{ticks}
 use Rattle.guppy_support.proofs.bit_set.IxBitSet.count.Given as goal
 

@@ -1,6 +1,7 @@
 use Rattle.std.proofs.Common.{◌≡◌, ◌∙◌, sym, ap, ℕ, List, Bool}
 use Rattle.std.specs.Prelude.{◌&&◌, not, bit_and, bit_xor}
-use Rattle.guppy_support.specs.Bits.{has, bits_of}
+use Rattle.guppy_support.specs.Bits.{has}
+use Rattle.guppy_support.specs.inner.Words.{bits_of}
 use Rattle.guppy_support.proofs.BitLemmas.{size_is, combined, combined_words, combined_has, combines_but}
 use Rattle.guppy_support.proofs.bit_set.IxBitSet.difference.Goals as goal
 

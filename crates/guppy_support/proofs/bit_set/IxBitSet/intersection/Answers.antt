@@ -1,6 +1,7 @@
 use Rattle.std.proofs.Common.{◌≡◌, ◌∙◌, sym, ap, ℕ, List, Bool}
 use Rattle.std.specs.Prelude.{◌&&◌, bit_and}
-use Rattle.guppy_support.specs.Bits.{has, bits_of}
+use Rattle.guppy_support.specs.Bits.{has}
+use Rattle.guppy_support.specs.inner.Words.{bits_of}
 use Rattle.guppy_support.proofs.BitLemmas.{size_is, combined, combined_words, combined_has, combines_and}
 use Rattle.guppy_support.proofs.bit_set.IxBitSet.intersection.Goals as goal
 

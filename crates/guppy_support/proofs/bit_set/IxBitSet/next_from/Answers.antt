@@ -1,7 +1,7 @@
 use Rattle.std.proofs.Common.{rules, ◌≡◌, ◌<◌, ◌≤◌, ◌/◌, ◌%◌, ◌^◌, ◌*◌, ◌+◌, ℕ, List, Bool, length, get_or, ap, arith, vec_len}
 use Rattle.std.proofs.lemmas.List.{get_or_read}
 use Rattle.std.specs.Int.{w64, trailing_zeros}
-use Rattle.guppy_support.specs.Bits.{AreWords, bits_of, word_bit}
+use Rattle.guppy_support.specs.inner.Words.{AreWords, bits_of, word_bit}
 use Rattle.guppy_support.proofs.BitLemmas.{size_is, IsNext, next_in_first, next_in_later, none_in_first, none_in_later, next_none}
 use Rattle.guppy_support.proofs.bit_set.IxBitSet.next_from.Goals as goal
 

@@ -1,5 +1,5 @@
 use Rattle.std.proofs.Common.{◌≡◌, ◌≤◌, ◌<◌, ◌*◌, ℕ}
-use Rattle.guppy_support.specs.Bits.{word_bit}
+use Rattle.guppy_support.specs.inner.Words.{word_bit}
 use Rattle.guppy_support.proofs.bit_set.IxBitSet.next_from.Given as goal
 
 abbrev pub invariant-loop-place : goal.invariant-loop-place

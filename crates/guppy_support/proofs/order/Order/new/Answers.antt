@@ -1,7 +1,8 @@
 use Rattle.std.proofs.Common.{rules, ◌≡◌, ◌<◌, ◌≤◌, ◌+◌, ◌-◌, ◌∙◌, ℕ, List, length, get_or, arith}
-use Rattle.guppy_support.specs.Rows.{below, AreBegun}
-use Rattle.guppy_support.specs.Sequences.{AreNumbered}
-use Rattle.guppy_support.proofs.SequenceLemmas.{numbers_are, rises_along, order_of, grouped}
+use Rattle.guppy_support.specs.inner.PackedRows.{below, AreBegun}
+use Rattle.guppy_support.specs.inner.Numbering.{AreNumbered, AreGrouped, ArePlaces}
+use Rattle.guppy_support.proofs.OrderLemmas.{order_apart}
+use Rattle.guppy_support.proofs.SequenceLemmas.{numbers_are, rises_along, order_of, grouped, sequence_of}
 use Rattle.guppy_support.proofs.order.Order.new.Goals as goal
 
 pub invariant_of-result : goal.invariant_of-result
@@ -20,10 +21,20 @@ invariant_of-result c =
     let each : (i : ℕ) → i < length list → get_or components (get_or list i 0) 0 ≡ get_or numbers i 0 = rw (c.deref-4.ensures.value, c.deref-5.ensures.value) at c.scattered-components.ensures.each in
     let put : (i : ℕ) → i < g.nodes → get_or components (get_or list i 0) 0 ≡ get_or numbers i 0 = λ i h. each i (omega (arith, c.in_ok-list.ensures.long)) in
     let begun : AreBegun numbers begins = c.in_ok-numbers.ensures.begun in
+    let parts : AreGrouped count list components begins =
     grouped count list components numbers begins
     (numbers_are g c.facts.ensures ranks c.in_ok-ranked.ensures.ranking list c.in_ok-list.ensures numbers count a all components long put)
     (rises_along g c.facts.ensures ranks c.in_ok-ranked.ensures.ranking list c.in_ok-list.ensures numbers count a all components long put)
     (omega (arith, all_begins, c.in_ok-numbers.ensures.some)) (λ v h. begun v (omega (arith, h, all_begins, c.in_ok-numbers.ensures.some)))
+    in
+    let is = order_of g c.facts.ensures ranks c.in_ok-ranked.ensures.ranking list c.in_ok-list.ensures numbers count a all components long put in
+    let places : ArePlaces list c.placed-places.result.items =
+    record { long = rw c.deref-6.ensures.value at c.placed-places.ensures.long; each = rw c.deref-6.ensures.value at c.placed-places.ensures.each }
+    in
+    (sequence_of g (record { list = list; component = components; count = count }) is, parts, places)
+
+pub placed-places-requires-clause-apart : goal.placed-places-requires-clause-apart
+placed-places-requires-clause-apart c = rw c.deref-6.ensures.value (order_apart c.in_ok-list.ensures)
 
 pub returns : goal.returns
 returns c =

@@ -1,0 +1,9 @@
+use Rattle.std.proofs.Common.{rules}
+use Rattle.guppy_support.proofs.ForwardLemmas.{finished}
+use Rattle.guppy_support.proofs.components.forward.walked.Goals as goal
+
+pub returns-clause-order : goal.returns-clause-order
+returns-clause-order c =
+    let s = c.loop-root.search in
+    finished c.args.graph.now s.seen.items s.left.items s.opened.items s.closed.items c.loop-root.invariant.walk c.loop-root.invariant.none
+    (λ v h. c.loop-root.invariant.seen v (search rules))

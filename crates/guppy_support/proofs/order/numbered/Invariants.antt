@@ -1,5 +1,0 @@
-use Rattle.guppy_support.proofs.SequenceLemmas.{IsNumbering}
-use Rattle.guppy_support.proofs.order.numbered.Given as goal
-
-abbrev pub invariant-loop-place : goal.invariant-loop-place
-invariant-loop-place l = record { numbering : IsNumbering l.list l.ranks l.numbers.items l.begins.items l.place }

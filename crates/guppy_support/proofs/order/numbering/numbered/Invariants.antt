@@ -1,0 +1,5 @@
+use Rattle.guppy_support.proofs.SequenceLemmas.{IsNumbering}
+use Rattle.guppy_support.proofs.order.numbering.numbered.Given as goal
+
+abbrev pub invariant-loop-place : goal.invariant-loop-place
+invariant-loop-place l = record { numbering : IsNumbering l.list l.ranks l.numbers.items l.begins.items l.place }

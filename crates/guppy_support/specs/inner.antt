@@ -1,0 +1,12 @@
+pub mod BackwardWalk
+pub mod Counts
+pub mod FinishOrder
+pub mod ForwardWalk
+pub mod Heads
+pub mod NodeEdges
+pub mod Numbering
+pub mod PackedRows
+pub mod Plans
+pub mod Queues
+pub mod Ranks
+pub mod Words

@@ -1,0 +1,13 @@
+-- The other end of each edge of a node.
+use Rattle.std.specs.Prelude.{ℕ, List, slice_index}
+use Rattle.guppy_support.specs.declared.digraph.Edge.{Edge}
+use Rattle.guppy_support.specs.Graph.{sources, targets, source_of, target_of}
+use Rattle.guppy_support.specs.Rows.{places}
+
+-- the target of the k-th edge that leaves v
+abbrev pub target_at : List Edge → ℕ → ℕ → ℕ
+target_at es v k = target_of es (slice_index (places v (sources es)) k)
+
+-- the source of the k-th edge that enters v
+abbrev pub source_at : List Edge → ℕ → ℕ → ℕ
+source_at es v k = source_of es (slice_index (places v (targets es)) k)

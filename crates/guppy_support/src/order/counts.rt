@@ -1,0 +1,169 @@
+//! The edges are counted before the first node of an order: those that enter each component, and those that hold each node.
+ghost use Rattle.std.specs.Prelude.{◌≡◌, ◌≢◌, ℕ, [], ◌+◌, ◌<◌, ◌≤◌, length, slice_index, IfOk, OnOk, replicate, false};
+ghost use Rattle.guppy_support.specs.Graph.{IsDigraph};
+ghost use Rattle.guppy_support.specs.Rows.{places};
+ghost use Rattle.guppy_support.specs.inner.PackedRows.{IsPacked};
+ghost use Rattle.guppy_support.specs.inner.Plans.{IsSetup, IsPauseIn, IsEdge, AreEntering, AreHolding, AreFirsts};
+
+use crate::digraph::{Digraph, Edge};
+use crate::rows::Rows;
+use crate::order::listing::{Plan, first_of, row};
+use crate::order::queue::Queue;
+use std::alloc::{AllocError, Global};
+
+/// The edge of that number.
+fn edge_at(graph: &Digraph, number: usize) -> Edge
+    requires { number < length graph.now.edges }
+    ensures { IsEdge graph.now number result.from result.to result.non_dev }
+{
+    graph.facts();
+    graph.edge(number)
+}
+
+/// Counts an edge for the component that it enters.
+fn add_entering(counts: &mut Vec<usize>, graph: &Digraph, ranks: &[usize], number: usize)
+    requires setup { IsSetup graph.now ranks.now }
+    requires number { number < length graph.now.edges }
+    requires counted { AreEntering graph.now ranks.now number counts.old.items }
+    ensures { AreEntering graph.now ranks.now (number + 1) counts.new.items }
+{
+    let _edges = graph.edge_count();
+    let edge = edge_at(graph, number);
+    if ranks[edge.from] == ranks[edge.to] {
+        return;
+    }
+    counts[ranks[edge.to]] += 1;
+}
+
+fn zeroes(alloc: Global, count: usize) -> Result<Vec<usize>, AllocError>
+    ensures { IfOk result (λ v. v.items ≡ replicate count 0) }
+{
+    vec![in alloc; 0usize; count]
+}
+
+/// Adds the first node of the component of that rank, if there is one and no edge enters it.
+fn add_start(
+    starts: &mut Queue,
+    members: &[usize],
+    ranks: &[usize],
+    outside: &[usize],
+    held: &[usize],
+    rank: usize,
+) -> Result<(), AllocError>
+    requires rank { rank < length outside.now }
+    requires members { members.now ≡ places rank ranks.now }
+    requires nodes { (j : ℕ) → j < length members.now → slice_index members.now j < length held.now }
+    requires firsts { AreFirsts ranks.now outside.now held.now rank starts.old }
+    ensures { OnOk result (AreFirsts ranks.now outside.now held.now (rank + 1) starts.new) }
+{
+    let _ranks = ranks.len();
+    if outside[rank] != 0 {
+        return Ok(());
+    }
+    if members.is_empty() {
+        return Ok(());
+    }
+    starts.push(first_of(members, held))?;
+    Ok(())
+}
+
+/// Counts an edge for the node that it holds.
+fn add_holding(counts: &mut Vec<usize>, graph: &Digraph, ranks: &[usize], number: usize)
+    requires setup { IsSetup graph.now ranks.now }
+    requires number { number < length graph.now.edges }
+    requires counted { AreHolding graph.now ranks.now number counts.old.items }
+    ensures { AreHolding graph.now ranks.now (number + 1) counts.new.items }
+{
+    let _edges = graph.edge_count();
+    let edge = edge_at(graph, number);
+    if !edge.non_dev {
+        return;
+    }
+    if edge.from == edge.to {
+        return;
+    }
+    if ranks[edge.from] != ranks[edge.to] {
+        return;
+    }
+    counts[edge.to] += 1;
+}
+
+/// How many edges enter each component, and how many hold each node.
+fn count_edges(
+    alloc: Global,
+    graph: &Digraph,
+    ranks: &[usize],
+) -> Result<(Vec<usize>, Vec<usize>), AllocError>
+    requires setup { IsSetup graph.now ranks.now }
+    ensures entering { IfOk result (λ counts. AreEntering graph.now ranks.now (length graph.now.edges) counts.0.items) }
+    ensures holding { IfOk result (λ counts. AreHolding graph.now ranks.now (length graph.now.edges) counts.1.items) }
+{
+    let mut outside = zeroes(alloc, graph.node_count())?;
+    let mut held = zeroes(alloc, graph.node_count())?;
+    for number in 0..graph.edge_count() {
+        add_entering(&mut outside, graph, ranks, number);
+        add_holding(&mut held, graph, ranks, number);
+    }
+    Ok((outside, held))
+}
+
+/// The first nodes of the components that no edge enters.
+fn first_starts(
+    alloc: Global,
+    nodes: usize,
+    ranks: &[usize],
+    groups: &Rows,
+    outside: &[usize],
+    held: &[usize],
+    components: usize,
+) -> Result<Queue, AllocError>
+    requires ranks { length ranks.now ≡ nodes }
+    requires outside { length outside.now ≡ nodes }
+    requires held { length held.now ≡ nodes }
+    requires packed { IsPacked nodes ranks.now groups.now.begins.items groups.now.numbers.items }
+    ensures { IfOk result (λ starts. AreFirsts ranks.now outside.now held.now nodes starts) }
+{
+    let mut starts = Queue::with_capacity(alloc, components)?;
+    for rank in 0..nodes {
+        let members = row(groups, ranks, rank, nodes);
+        add_start(&mut starts, members, ranks, outside, held, rank)?;
+    }
+    Ok(starts)
+}
+
+fn unmarked(alloc: Global, count: usize) -> Result<Vec<bool>, AllocError>
+    ensures { IfOk result (λ marks. marks.items ≡ replicate count false) }
+{
+    vec![in alloc; false; count]
+}
+
+/// The plan in which no node is listed. So many components there are; no queue outgrows its room.
+pub(crate) fn first_plan(
+    alloc: Global,
+    graph: &Digraph,
+    ranks: &[usize],
+    groups: &Rows,
+    room: Vec<usize>,
+    components: usize,
+) -> Result<Plan, AllocError>
+    requires setup { IsSetup graph.now ranks.now }
+    requires room { room.items ≡ [] }
+    requires packed { IsPacked graph.now.nodes ranks.now groups.now.begins.items groups.now.numbers.items }
+    ensures { IfOk result (λ plan. IsPauseIn graph.now ranks.now plan) }
+{
+    let nodes = graph.node_count();
+    let (outside, held) = count_edges(alloc, graph, ranks)?;
+    let starts = first_starts(alloc, nodes, ranks, groups, &outside, &held, components)?;
+    let done = unmarked(alloc, nodes)?;
+    let largest = nodes.saturating_sub(components).saturating_add(1);
+    let ready = Queue::with_capacity(alloc, largest)?;
+    Ok(Plan {
+        listed: room,
+        done,
+        outside,
+        held,
+        starts,
+        ready,
+        next: 0,
+    })
+}
