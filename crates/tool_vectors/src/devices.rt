@@ -6,22 +6,37 @@ use std::alloc::{AllocError, Global};
 use std::io;
 use std::io::{ErrorKind, Read};
 
-/// Gives one byte a call, and fails at the call after so many.
+/// After how many calls a device fails, and whether it works again then.
+#[derive(Clone, Copy)]
+pub struct Failing {
+    pub after: usize,
+    pub once: bool,
+}
+
+/// Never fails.
+pub const NEVER: Failing = Failing {
+    after: usize::MAX,
+    once: false,
+};
+
+/// Gives one byte a call, and counts the calls.
 #[derive(Drop)]
 pub struct Trickle<'a> {
     rest: &'a [u8],
-    calls: usize,
+    failing: Failing,
+    pub asked: usize,
     has_failed: bool,
 }
 
 impl<'a> Trickle<'a> {
-    /// Fails at the call after this many.
-    pub fn new(bytes: &'a [u8], calls: usize) -> Self
+    /// Over these bytes.
+    pub fn new(bytes: &'a [u8], failing: Failing) -> Self
         ensures { result.has_failed ≡ false }
     {
         Trickle {
             rest: bytes,
-            calls,
+            failing,
+            asked: 0,
             has_failed: false,
         }
     }
@@ -33,11 +48,13 @@ impl ByteInput for Trickle<'_> {
     ghost failed = { λ s. s.has_failed };
 
     fn read(&mut self, buf: &mut [u8]) -> Result<usize, Failed> {
-        if self.calls == 0 {
+        let is_due = self.asked == self.failing.after;
+        let is_past = self.asked > self.failing.after;
+        self.asked = self.asked.saturating_add(1);
+        if is_due || (is_past && !self.failing.once) {
             self.has_failed = true;
             return Err(Failed);
         }
-        self.calls -= 1;
         if buf.is_empty() {
             return Ok(0);
         }
@@ -53,22 +70,24 @@ impl ByteInput for Trickle<'_> {
 /// How many bytes are taken before memory is wanted for them.
 const ROOM: usize = 256;
 
-/// Takes at most three bytes a call, and fails at the call after so many.
+/// Takes at most three bytes a call, and counts the calls.
 #[derive(Drop)]
 pub struct Sips {
     pub taken: Vec<u8>,
-    calls: usize,
+    failing: Failing,
+    pub asked: usize,
     has_failed: bool,
 }
 
 impl Sips {
-    /// Fails at the call after this many.
-    pub fn new(alloc: Global, calls: usize) -> Result<Self, AllocError>
+    /// With room for some bytes.
+    pub fn new(alloc: Global, failing: Failing) -> Result<Self, AllocError>
         ensures { IfOk result (λ s. s.has_failed ≡ false) }
     {
         Ok(Sips {
             taken: Vec::with_capacity(alloc, ROOM)?,
-            calls,
+            failing,
+            asked: 0,
             has_failed: false,
         })
     }
@@ -80,12 +99,17 @@ impl ByteOutput for Sips {
     ghost failed = { λ s. s.has_failed };
 
     fn write(&mut self, buf: &[u8]) -> Result<usize, Failed> {
+        let is_due = self.asked == self.failing.after;
+        let is_past = self.asked > self.failing.after;
+        self.asked = self.asked.saturating_add(1);
         let count = buf.len().min(3);
-        if self.calls == 0 || self.taken.extend_from_slice(&buf[..count]).is_err() {
+        if is_due
+            || (is_past && !self.failing.once)
+            || self.taken.extend_from_slice(&buf[..count]).is_err()
+        {
             self.has_failed = true;
             return Err(Failed);
         }
-        self.calls -= 1;
         Ok(count)
     }
 }
