@@ -60,9 +60,9 @@ one_first t ids x y a b =
     elim (compare a.place b.place) [
       | inl less ↦ absurd (a.unknown (b.before a.place x less a.at))
       | inr rest ↦ elim rest [
-          | inl less ↦ absurd (b.unknown (a.before b.place y less b.at))
-          | inr same ↦ some_same x y (sym a.at ∙ ap (slice_get ids) same ∙ b.at)
-        ]
+        | inl less ↦ absurd (b.unknown (a.before b.place y less b.at))
+        | inr same ↦ some_same x y (sym a.at ∙ ap (slice_get ids) same ∙ b.at)
+      ]
     ]
 
 one_output : (command : CommandText) (tables : Result Tables Refusal) (a b : Result Text Refusal) → IsOutputOf command tables a → IsOutputOf command tables b → a ≡ b

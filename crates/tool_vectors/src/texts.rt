@@ -47,10 +47,7 @@ const BAD_WORDS: [(&[&str], &str); 8] = [
         &["-", "order", "forward"],
         "usage: features FILE COMMAND ARGS",
     ),
-    (
-        &["-", "resolve", "forward", "a/b", "x", "y"],
-        "bad id: x",
-    ),
+    (&["-", "resolve", "forward", "a/b", "x", "y"], "bad id: x"),
     (&["-", "resolve", "forward", ""], "bad id: "),
 ];
 
@@ -98,11 +95,17 @@ fn prints_faults(rt: HostRuntime) -> Result<(), Fail> {
     }
     let id = String::from_str(alloc, "p/f")?;
     let feature = Fault::UnknownFeature { id };
-    assert_eq!(rt; format!(in alloc; "{feature}")?.as_str(), "unknown feature: p/f");
+    assert_eq!(rt;
+        format!(in alloc; "{feature}")?.as_str(),
+        "unknown feature: p/f"
+    );
     assert_eq!(rt; feature.status(), 1);
     let id = String::from_str(alloc, "p")?;
     let of_package = Fault::UnknownPackage { id };
-    assert_eq!(rt; format!(in alloc; "{of_package}")?.as_str(), "unknown package: p");
+    assert_eq!(rt;
+        format!(in alloc; "{of_package}")?.as_str(),
+        "unknown package: p"
+    );
     assert_eq!(rt; of_package.status(), 1);
     Ok(())
 }
