@@ -101,12 +101,7 @@ fn nodes_text(alloc: Global, graph: &Digraph, order: &Order) -> Result<String, A
     Ok(text)
 }
 
-fn edge_text(
-    alloc: Global,
-    graph: &Digraph,
-    from: usize,
-    to: usize,
-) -> Result<String, AllocError> {
+fn edge_text(alloc: Global, graph: &Digraph, from: usize, to: usize) -> Result<String, AllocError> {
     let Some(number) = graph.edge_between(from, to) else {
         return Ok(String::new(alloc));
     };

@@ -93,7 +93,11 @@ fn equal_sets(rt: HostRuntime) -> Result<(), AllocError> {
         let other = set(&rt, rt.alloc(), other_size, other_numbers)?;
         assert_eq!(rt; one == other, equal, "{numbers} below {size}");
         assert_eq!(rt; one != other, !equal, "{numbers} below {size}");
-        assert_eq!(rt; one.is_identical(&other), identical, "{numbers} below {size}");
+        assert_eq!(rt;
+            one.is_identical(&other),
+            identical,
+            "{numbers} below {size}"
+        );
         let copy = one.try_clone(rt.alloc())?;
         assert!(rt; copy == one && copy.is_identical(&one));
     }
