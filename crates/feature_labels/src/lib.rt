@@ -13,4 +13,3 @@ pub use feature_id::FeatureId;
 pub use feature_label::{FeatureKind, FeatureLabel};
 pub use feature_list::FeatureList;
 pub use link_declarations::LinkDeclarations;
-

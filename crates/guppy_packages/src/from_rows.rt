@@ -10,14 +10,14 @@ ghost use Rattle.guppy_packages.specs.inner.Steps.{Takes, add_package, add_featu
 ghost use Rattle.guppy_packages.specs.Stored.{declared, package_tables, link_tables};
 ghost use Rattle.guppy_packages.specs.Tables.{package_place};
 
-use crate::package_graph::PackageGraph;
+use crate::contents::{LinkData, PackageData};
+use crate::declaration::Declaration;
 use crate::named_feature::NamedFeature;
+use crate::package_graph::PackageGraph;
 use crate::package_id::PackageId;
 use crate::platform::{PlatformStatusImpl, Spec};
 use crate::row::{DependencyKind, Row};
 use crate::row_error::{RowError, RowFault};
-use crate::contents::{LinkData, PackageData};
-use crate::declaration::Declaration;
 use crate::text_map::{TextMap, TextSet};
 use indexmap::{IndexMap, IndexSet};
 use std::alloc::{AllocError, Global};

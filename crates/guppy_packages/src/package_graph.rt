@@ -2,10 +2,10 @@
 ghost use Rattle.std.specs.Prelude.{◌≡◌, ◌<◌, Some, None, length, nat_le, nat_lt, slice_get, IfOk, MatchResult};
 ghost use Rattle.guppy_packages.specs.Tables.{package_place, AreLinksFrom, AreTables};
 
+use crate::contents::{LinkData, PackageData};
+use crate::package_id::PackageId;
 use crate::package_link::PackageLink;
 use crate::package_metadata::{PackageMetadata, UnknownPackageId};
-use crate::package_id::PackageId;
-use crate::contents::{LinkData, PackageData};
 use crate::text_map::TextMap;
 use indexmap::IndexMap;
 use std::marker::Model;

@@ -3,10 +3,10 @@ ghost use Rattle.std.specs.Prelude.{◌≡◌, Some, slice_get, map};
 ghost use Rattle.guppy_packages.specs.Stored.{link_table, declared};
 ghost use Rattle.guppy_packages.specs.Tables.{is_dev_only};
 
-use crate::package_graph::PackageGraph;
-use crate::package_metadata::PackageMetadata;
 use crate::contents::LinkData;
 use crate::declaration::{Declaration, are_for_development};
+use crate::package_graph::PackageGraph;
+use crate::package_metadata::PackageMetadata;
 
 /// A link from a package to one that it depends on, of a graph.
 #[derive(Clone, Copy)]

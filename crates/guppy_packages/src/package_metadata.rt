@@ -5,10 +5,10 @@ ghost use Rattle.guppy_packages.specs.NamedFeature.{feature_table};
 ghost use Rattle.guppy_packages.specs.Stored.{package_table};
 ghost use Rattle.guppy_packages.specs.Tables.{feature_place, optional_place, has_feature, AreLinksFrom};
 
-use crate::package_graph::PackageGraph;
-use crate::named_feature::NamedFeature;
-use crate::package_id::PackageId;
 use crate::contents::PackageData;
+use crate::named_feature::NamedFeature;
+use crate::package_graph::PackageGraph;
+use crate::package_id::PackageId;
 use std::ops::Range;
 
 /// No package has the id.

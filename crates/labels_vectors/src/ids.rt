@@ -49,7 +49,10 @@ fn ids_print_their_parts(rt: HostRuntime) -> Result<(), Fail> {
         let said = kinds(&rt, id)?;
         assert_eq!(rt; said.as_str(), kind, "{id}");
         assert!(rt; id == constructed(&package, id.label()), "{id}");
-        assert!(rt; id == FeatureId::from((id.package_id(), id.label())), "{id}");
+        assert!(rt;
+            id == FeatureId::from((id.package_id(), id.label())),
+            "{id}"
+        );
     }
     Ok(())
 }
@@ -99,7 +102,10 @@ const COVERED: [(LinkDeclarations, bool, bool); 3] = [
 fn links_cover_their_declarations(rt: HostRuntime) {
     for (declarations, required, optional) in COVERED {
         assert_eq!(rt;
-            (declarations.includes_required(), declarations.includes_optional()),
+            (
+                declarations.includes_required(),
+                declarations.includes_optional()
+            ),
             (required, optional),
             "{declarations:?}"
         );

@@ -12,7 +12,16 @@ fn kind(word: &str) -> DependencyKind {
 }
 
 fn dep<'a>(fields: &'a [&'a str]) -> Option<Row<'a>> {
-    let [name, target, of_kind, need, platform, defaults, features @ ..] = fields else {
+    let [
+        name,
+        target,
+        of_kind,
+        need,
+        platform,
+        defaults,
+        features @ ..,
+    ] = fields
+    else {
         return None;
     };
     Some(Row::Dep {

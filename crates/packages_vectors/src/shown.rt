@@ -27,7 +27,11 @@ fn show_feature(
     writeln!(text)
 }
 
-fn show_optional(text: &mut String, package: PackageMetadata<'_>, name: &str) -> Result<(), AllocError> {
+fn show_optional(
+    text: &mut String,
+    package: PackageMetadata<'_>,
+    name: &str,
+) -> Result<(), AllocError> {
     write!(text, "optional {name} at ")?;
     show_place(text, package.optional_place(name))?;
     writeln!(text)
@@ -47,7 +51,11 @@ fn show_package(text: &mut String, package: PackageMetadata<'_>) -> Result<(), A
         ""
     };
     let links = package.direct_links();
-    writeln!(text, "package {number} {id} {place}{default}, links {}..{}", links.start, links.end)?;
+    writeln!(
+        text,
+        "package {number} {id} {place}{default}, links {}..{}",
+        links.start, links.end
+    )?;
     for feature in package.named_features() {
         show_feature(text, package, feature)?;
     }
@@ -140,7 +148,12 @@ pub fn show_places(
     name: &str,
 ) -> Result<String, AllocError> {
     let mut text = String::new(alloc);
-    write!(text, "{} of {}: ", package.id().repr(), package.package_ix())?;
+    write!(
+        text,
+        "{} of {}: ",
+        package.id().repr(),
+        package.package_ix()
+    )?;
     show_place(&mut text, package.feature_place(name))?;
     write!(text, ", ")?;
     show_place(&mut text, package.optional_place(name))?;

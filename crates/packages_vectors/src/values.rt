@@ -46,7 +46,10 @@ fn items_mean_this(rt: HostRuntime) -> Result<(), Fail> {
 const STATUSES: [(&str, &str); 3] = [
     ("", "nowhere, never"),
     ("cfg(unix)", "on cfg(unix), present"),
-    ("cfg(unix) cfg(windows)", "on cfg(unix) cfg(windows), present"),
+    (
+        "cfg(unix) cfg(windows)",
+        "on cfg(unix) cfg(windows), present",
+    ),
 ];
 
 fn specs_of(alloc: Global, texts: &str) -> Result<Vec<Spec>, AllocError> {
