@@ -2,6 +2,8 @@ mod Decisions
 mod CandidateDecisions
 mod WarningDecisions
 mod BuiltLemmas
+mod NodePackages
 mod PackageLemmas
 mod SetLemmas
 mod VerifyLemmas
+mod Visits

@@ -1,15 +1,21 @@
 //! The feature graph: queries and sets of features.
 #![tactic(auto)]
 
+mod context;
 mod graph;
 mod ids;
+mod link;
 mod listing;
 mod metadata;
+mod package_links;
 mod query;
+mod resolve_with;
 mod set;
 #[cfg(test)]
 mod tests;
+mod visitor;
 
+pub use context::FeatureLinkContext;
 pub use feature_core::{Error, FeatureGraphData, FeatureGraphWarning};
 pub use feature_labels::{
     DisplayFeatures, FeatureId, FeatureKind, FeatureLabel, FeatureList, LinkDeclarations,
@@ -17,6 +23,9 @@ pub use feature_labels::{
 };
 pub use graph::{FeatureGraph, FeatureGraphExt};
 pub use guppy_packages::DependencyDirection;
+pub use link::ConditionalLink;
 pub use metadata::FeatureMetadata;
+pub use package_links::PackageLinks;
 pub use query::FeatureQuery;
 pub use set::FeatureSet;
+pub use visitor::{FeatureLinkObject, FeatureLinkVisitor};

@@ -1,0 +1,43 @@
+-- Walks of one who answers by another: what is said of the one's states is said of the other's.
+use Rattle.std.proofs.Common.{◌≡◌, ℕ, Bool, List, [], ◌∷◌, refl, ap, subst}
+use Rattle.std.specs.Prelude.{IsTrue}
+use Rattle.feature_core.specs.declared.engine.Half.{Half}
+use Rattle.feature_core.specs.declared.engine.Step.{Step}
+use Rattle.feature_core.specs.Explanations.{IsExplainedWalk}
+use Rattle.feature_core.specs.Walks.{Content, Way, Call, IsWay, has_half, GoesAlong, IsWalk, LegalRun, AreOffers, MayAsk}
+
+-- S answers by the T in it: while P holds, each step of S is one of T, and P goes on
+module _ {S T : Type 0} (P : S → Type 0) (v : S → T) (outer : S → ℕ → Half → Bool → S → Type 0) (inner : T → ℕ → Half → Bool → T → Type 0) where
+  abbrev pub AnswersBy : Type 0
+  AnswersBy = (p : S) (e : ℕ) (h : Half) (answer : Bool) (r : S) → P p → outer p e h answer r → P r × inner (v p) e h answer (v r)
+
+  pub goes_along : AnswersBy → (s : S) (run : List Call) (t : S) → P s → GoesAlong outer s run t → P t × GoesAlong inner (v s) run (v t)
+  goes_along by s [] t holds same = (subst P same holds, ap v same)
+  goes_along by s (call ∷ before) t holds (m, along, step) =
+      let more = goes_along by s before m holds along in
+      let one = by m call.edge call.half call.answer t more.0 step in
+      (one.0, (v m, more.1, one.1))
+
+  pub legal_run : AnswersBy → (c : Content) (I : ℕ → Bool) (s t : S) → P s → LegalRun c I outer s t → P t × LegalRun c I inner (v s) (v t)
+  legal_run by c I s t holds (run, calls, legal) =
+      let moved = goes_along by s run t holds calls in
+      (moved.0, (run, moved.1, legal))
+
+  pub is_walk : AnswersBy → (c : Content) (I : ℕ → Bool) (s t : S) (M : ℕ → Bool) → P s → IsWalk c I outer s t M → P t × IsWalk c I inner (v s) (v t) M
+  is_walk by c I s t M holds walk =
+      let moved = goes_along by s walk.run t holds walk.calls in
+      (moved.0, record { run = walk.run; calls = moved.1; legal = walk.legal; complete = walk.complete; members = walk.members; least = walk.least })
+
+  pub is_explained_walk : AnswersBy → (c : Content) (I : ℕ → Bool) (s t : S) (M : ℕ → Bool) (steps : List Step) (refused : List (ℕ × Half)) → P s
+      → IsExplainedWalk c I outer s t M steps refused → P t × IsExplainedWalk c I inner (v s) (v t) M steps refused
+  is_explained_walk by c I s t M steps refused holds told =
+      let moved = is_walk by c I s t M holds told.walk in
+      (moved.0, record { walk = moved.1; explanation = told.explanation; listed = told.listed; refused_in_order = told.refused_in_order })
+
+  -- the other way: where T may be asked in every state, so may S
+  pub may_ask : AnswersBy → (may : S → ℕ → Half → Type 0) (can : T → ℕ → Half → Type 0) (c : Content) (s : S) → P s
+      → ((p : S) (e : ℕ) (h : Half) (w : Way) → P p → IsWay c e w → IsTrue (has_half w.ask h) → can (v p) e h → may p e h)
+      → MayAsk can inner c (v s) → MayAsk may outer c s
+  may_ask by may can c s holds asked all run t offers calls e h w is half =
+      let moved = goes_along by s run t holds calls in
+      asked t e h w moved.0 is half (all run (v t) offers moved.1 e h w is half)
