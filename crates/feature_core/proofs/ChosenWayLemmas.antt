@@ -9,11 +9,11 @@ use Rattle.guppy_support.specs.Graph.{Graph, IsDigraph}
 use Rattle.guppy_packages.specs.declared.direction.DependencyDirection.{DependencyDirection}
 use Rattle.guppy_packages.specs.declared.direction.DependencyDirection.TheVariants.{Forward, Reverse}
 use Rattle.feature_core.specs.declared.edge.EdgeChoice.{EdgeChoice}
-use Rattle.feature_core.specs.declared.engine.Half.{Half}
-use Rattle.feature_core.specs.declared.engine.Ask.TheVariants as asks
-use Rattle.feature_core.specs.declared.engine.Taken.{Taken}
+use Rattle.walk_engine.specs.declared.walks.Half.{Half}
+use Rattle.walk_engine.specs.declared.walks.Ask.TheVariants as asks
+use Rattle.walk_engine.specs.declared.walks.Taken.{Taken}
 use Rattle.feature_core.specs.Edges.{EdgeFacts}
-use Rattle.feature_core.specs.Walks.{Call, Way, Content, IsWay, EndsAreNodes, GoesAlong, Reach, numbers_where, starting, releasing, told, taken_of, is_gated, is_of, was_accepted}
+use Rattle.walk_engine.specs.Walks.{Call, Way, Content, IsWay, EndsAreNodes, GoesAlong, Reach, numbers_where, starting, releasing, told, taken_of, is_gated, is_of, was_accepted}
 use Rattle.feature_core.specs.Pairs.{PairLeads, Along, ReachAlong}
 use Rattle.feature_core.specs.Pairs.Along.{nowhere, onward}
 use Rattle.feature_core.specs.Built.{built_edges}

@@ -7,15 +7,9 @@ pub mod PartLemmas
 pub mod LeastKeys
 pub mod Answered
 pub mod Reaches
-pub mod Runs
 pub mod WayNumbers
-pub mod WalkMoves
-pub mod Asking
-pub mod WalkLoops
-pub mod WalkEnds
 pub mod NodeLemmas
 pub mod LabelLemmas
-pub mod ReachLaws
 pub mod OpenWayLemmas
 pub mod Released
 pub mod ReleaseTables

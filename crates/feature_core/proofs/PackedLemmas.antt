@@ -8,14 +8,14 @@ use Rattle.guppy_support.specs.declared.digraph.Edge.{Edge}
 use Rattle.guppy_support.specs.Graph.{Graph, IsDigraph}
 use Rattle.guppy_packages.specs.declared.direction.DependencyDirection.{DependencyDirection}
 use Rattle.guppy_packages.specs.declared.direction.DependencyDirection.TheVariants.{Forward, Reverse}
-use Rattle.feature_core.specs.declared.engine.Taken.{Taken}
+use Rattle.walk_engine.specs.declared.walks.Taken.{Taken}
 use Rattle.guppy_packages.specs.Tables.{Tables}
 use Rattle.feature_labels.specs.Names.{LabelName}
 use Rattle.feature_labels.specs.Names.LabelName.{optional}
 use Rattle.feature_core.specs.Nodes.{node_packages, node_places}
 use Rattle.feature_core.specs.Edges.{EdgeFacts, AreBuilt}
 use Rattle.feature_core.specs.Edges.EdgeFacts.{base_edge, feature_edge, colon_edge, strong_edge, weak_edge, section_edge}
-use Rattle.feature_core.specs.Walks.{Way, EndsAreNodes, numbers_where, starting, releasing, told, taken_of, is_gated, is_in}
+use Rattle.walk_engine.specs.Walks.{Way, EndsAreNodes, numbers_where, starting, releasing, told, taken_of, is_gated, is_in}
 use Rattle.feature_core.specs.OpenWays.{open_way, open_ways}
 use Rattle.feature_core.specs.Built.{built_edges}
 use Rattle.feature_core.specs.Ways.{way, ways, content, asked, gate_of, gate_at, GatesAreNodes}

@@ -8,10 +8,6 @@ pub mod Pairs
 pub mod Adds
 pub mod Keys
 pub mod Parts
-pub mod Walks
-pub mod Explanations
-pub mod Laws
-pub mod WalkProgress
 pub mod OpenWays
 pub mod Ways
 pub mod ChosenWays

@@ -4,8 +4,8 @@ use Rattle.guppy_support.specs.declared.digraph.Edge.{Edge}
 use Rattle.guppy_support.specs.Graph.{Graph}
 use Rattle.guppy_packages.specs.declared.direction.DependencyDirection.{DependencyDirection}
 use Rattle.guppy_packages.specs.declared.direction.DependencyDirection.TheVariants.{Forward, Reverse}
-use Rattle.feature_core.specs.declared.engine.Ask.TheVariants.{Nobody}
-use Rattle.feature_core.specs.Walks.{Way, Content}
+use Rattle.walk_engine.specs.declared.walks.Ask.TheVariants.{Nobody}
+use Rattle.walk_engine.specs.Walks.{Way, Content}
 
 -- an edge as the direction follows it, without asking
 abbrev pub open_way : DependencyDirection → Edge → Way

@@ -3,11 +3,11 @@ use Rattle.std.specs.Prelude.{ℕ, ◌<◌, List, Bool, true, false, Option, Som
 use Rattle.std.specs.Option.{option_map_or, is_some}
 use Rattle.guppy_packages.specs.declared.direction.DependencyDirection.{DependencyDirection}
 use Rattle.guppy_packages.specs.declared.direction.DependencyDirection.TheVariants.{Forward, Reverse}
-use Rattle.feature_core.specs.declared.engine.Ask.{Ask}
-use Rattle.feature_core.specs.declared.engine.Ask.TheVariants.{Nobody, Full, Weak}
+use Rattle.walk_engine.specs.declared.walks.Ask.{Ask}
+use Rattle.walk_engine.specs.declared.walks.Ask.TheVariants.{Nobody, Full, Weak}
 use Rattle.feature_core.specs.Edges.{EdgeFacts}
 use Rattle.feature_core.specs.Edges.EdgeFacts.{base_edge, feature_edge, colon_edge, strong_edge, weak_edge, section_edge}
-use Rattle.feature_core.specs.Walks.{Way, Content}
+use Rattle.walk_engine.specs.Walks.{Way, Content}
 
 -- an optional half waits for its gate forward, and not in reverse
 abbrev pub waits : DependencyDirection → Bool

@@ -1,11 +1,7 @@
 //! Laws of walks, of edges, and of equality of warnings. Each function's contract is the law; those of walks and edges do
 //! nothing, and speak of the definitions alone.
 
-ghost use Rattle.std.specs.Prelude.{◌≡◌, ◌↔◌, ◌⊎◌, ◌||◌, ℕ, Bool, List, IsTrue, IsFalse};
-ghost use Rattle.feature_core.specs.Walks.{Content, Way, Call, IsWay, has_half, Reach, was_made, was_accepted, IsDue, IsLegal, IsComplete, Agrees, Least};
-ghost use Rattle.feature_core.specs.Laws.{every, only, Leads, AreReverse, IsUngated};
-ghost use Rattle.feature_core.specs.declared.engine.Half.{Half};
-ghost use Rattle.feature_core.specs.declared.engine.Half.TheVariants.{Required};
+ghost use Rattle.std.specs.Prelude.{◌≡◌, ◌↔◌, ℕ, IsTrue};
 ghost use Rattle.feature_core.specs.Candidates.{Edge, Candidate, IsEdge, rank_of};
 ghost use Rattle.feature_core.specs.Built.{Built, IsBuilt};
 ghost use Rattle.feature_core.specs.Present.{ArePresent};
@@ -13,55 +9,10 @@ ghost use Rattle.feature_core.specs.Warnings.{warning_of};
 
 use crate::warning::FeatureGraphWarning;
 use guppy_packages::PackageGraph;
-
-/// A path over all edges leads from one node to another exactly if the second is in the reach of the first, and
-/// exactly if the first is in the reach of the second over the reverse edges.
-pub fn reach_both_ways()
-    ensures forward { (c : Content) (a b : ℕ) → Leads c a b ↔ Reach c (only a) every b }
-    ensures reverse { (c d : Content) → AreReverse c d → (a b : ℕ)
-        → Leads c a b ↔ Reach d (only b) every a }
-{}
-
-/// The reach of two sets together is the two reaches together; reaching again adds nothing.
-pub fn reach_additive()
-    ensures together { (c : Content) (A : ℕ → Half → Bool) (I J : ℕ → Bool) (n : ℕ)
-        → Reach c (λ k. I k || J k) A n ↔ (Reach c I A n ⊎ Reach c J A n) }
-    ensures again { (c : Content) (A : ℕ → Half → Bool) (I M : ℕ → Bool)
-        → ((n : ℕ) → IsTrue (M n) ↔ Reach c I A n) → (n : ℕ) → Reach c M A n ↔ Reach c I A n }
-{}
-
-/// Each least set is within the reach over all edges. It grows with the initial nodes and with the accepted offers,
-/// and the least set of a least set is that set.
-pub fn least_monotone()
-    ensures within { (c : Content) (I : ℕ → Bool) (A : ℕ → Half → Bool) (n : ℕ)
-        → Least c I A n → Reach c I every n }
-    ensures grows { (c : Content) (I J : ℕ → Bool) (A B : ℕ → Half → Bool)
-        → ((n : ℕ) → IsTrue (I n) → IsTrue (J n))
-        → ((e : ℕ) (h : Half) → IsTrue (A e h) → IsTrue (B e h))
-        → (n : ℕ) → Least c I A n → Least c J B n }
-    ensures again { (c : Content) (I M : ℕ → Bool) (A : ℕ → Half → Bool)
-        → ((n : ℕ) → IsTrue (M n) ↔ Least c I A n) → (n : ℕ) → Least c M A n ↔ Least c I A n }
-{}
-
-/// Where no half waits for a gate, as in reverse, the least set for all offers is the reach over all edges.
-pub fn reverse_accept_all()
-    ensures { (c : Content) (I : ℕ → Bool) → IsUngated c → (n : ℕ) → Least c I every n ↔ Reach c I every n }
-{}
-
-/// All complete legal runs with which one set of offers agrees have the same result.
-pub fn one_result()
-    ensures { (c : Content) (I : ℕ → Bool) (A : ℕ → Half → Bool) (run other : List Call)
-        → IsLegal c I run → IsComplete c I run → IsLegal c I other → IsComplete c I other
-        → Agrees A run → Agrees A other → (n : ℕ)
-        → Reach c I (was_accepted run) n ↔ Reach c I (was_accepted other) n }
-{}
-
-/// A required half that was never offered is itself due, once its start is reached.
-pub fn required_half_is_due()
-    ensures { (c : Content) (I : ℕ → Bool) (run : List Call) (e : ℕ) (w : Way)
-        → IsWay c e w → IsTrue (has_half w.ask Required) → Reach c I (was_accepted run) w.start
-        → IsFalse (was_made run e Required) → IsDue c I run e Required }
-{}
+pub use walk_engine::laws::{
+    agrees_by_answer, least_monotone, one_result, reach_additive, reach_both_ways,
+    required_half_is_due, reverse_accept_all,
+};
 
 /// Candidates for the edge of one pair of nodes that have one rank are equal, so a pair has at most one edge.
 pub fn one_candidate(graph: &PackageGraph)

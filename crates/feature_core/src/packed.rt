@@ -1,6 +1,6 @@
 //! The edges of a feature graph as a source for walks.
 ghost use Rattle.std.specs.Prelude.{◌≡◌, ◌+◌, ◌^◌, ◌<◌, ℕ, List, Some, length, map, slice_get};
-ghost use Rattle.feature_core.specs.Walks.{Content, EndsAreNodes, starting, releasing, told};
+ghost use Rattle.walk_engine.specs.Walks.{Content, EndsAreNodes, starting, releasing, told};
 ghost use Rattle.feature_core.specs.Built.{built_edges};
 ghost use Rattle.feature_core.specs.Ways.{asked, content, waits, GatesAreNodes, Reading};
 ghost use Rattle.feature_core.specs.Releases.{AreTied};

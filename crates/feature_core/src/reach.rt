@@ -1,8 +1,8 @@
 //! What is reached over chosen edges of a digraph.
 ghost use Rattle.std.specs.Prelude.{◌≡◌, ◌+◌, ◌^◌, ◌<◌, ◌↔◌, ℕ, Bool, Some, false, IfOk, IsTrue, length, map, slice_get};
 ghost use Rattle.guppy_support.specs.Bits.{has};
-ghost use Rattle.feature_core.specs.declared.engine.Half.{Half};
-ghost use Rattle.feature_core.specs.Walks.{Content, starting, told};
+ghost use Rattle.walk_engine.specs.declared.walks.Half.{Half};
+ghost use Rattle.walk_engine.specs.Walks.{Content, starting, told};
 ghost use Rattle.feature_core.specs.Pairs.{PairLeads, ReachAlong};
 ghost use Rattle.feature_core.specs.Built.{built_edges};
 ghost use Rattle.feature_core.specs.Choices.{is_chosen, chosen_pairs};

@@ -6,7 +6,7 @@ ghost use Rattle.feature_core.specs.Built.{IsBuilt};
 ghost use Rattle.feature_core.specs.Choices.{ChosenReach, chosen_pairs};
 ghost use Rattle.feature_core.specs.declared.edge.EdgeChoice.TheVariants.{All};
 ghost use Rattle.feature_core.specs.Pairs.{PairLeads, Reach, ReachAlong};
-ghost use Rattle.feature_core.specs.Walks.{IsWalk, LegalRun, MayAsk};
+ghost use Rattle.walk_engine.specs.Walks.{IsWalk, LegalRun, MayAsk};
 ghost use Rattle.feature_core.specs.Ways.{content};
 
 use crate::data::FeatureGraphData;

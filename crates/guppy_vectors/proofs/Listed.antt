@@ -5,8 +5,8 @@ use Rattle.std.proofs.Math.Seq.{drop-cons}
 use Rattle.std.proofs.lemmas.List.Elements.{All-head, All-tail}
 use Rattle.std.proofs.lemmas.Option.{slice_get-map, slice_get-get_or}
 use Rattle.std.specs.Option.{option_map}
-use Rattle.feature_core.specs.declared.engine.Taken.{Taken}
-use Rattle.feature_core.specs.Walks.{Way, EndsAreNodes, numbers_where, told, taken_of}
+use Rattle.walk_engine.specs.declared.walks.Taken.{Taken}
+use Rattle.walk_engine.specs.Walks.{Way, EndsAreNodes, numbers_where, told, taken_of}
 use Rattle.guppy_vectors.specs.Listed.{ListedWay, way_of, AreWithin}
 
 abbrev IsWithin : ℕ → ListedWay → Type 0

@@ -1,7 +1,7 @@
 -- A source whose edges stand in a list, for tests.
 use Rattle.std.specs.Prelude.{ℕ, ◌<◌, List, All}
-use Rattle.feature_core.specs.declared.engine.Ask.{Ask}
-use Rattle.feature_core.specs.Walks.{Way}
+use Rattle.walk_engine.specs.declared.walks.Ask.{Ask}
+use Rattle.walk_engine.specs.Walks.{Way}
 
 -- a start, a far end, what is asked, and a gate
 abbrev pub ListedWay : Type 0

@@ -1,8 +1,8 @@
 //! Walks over edges in a list.
 ghost use Rattle.std.specs.Prelude.{◌≡◌, ◌&&◌, ◌==◌, ◌<◌, ◌≤◌, ℕ, Bool, List, IsTrue, IfOk, length, map};
-ghost use Rattle.feature_core.specs.Walks.{Content, is_gated};
+ghost use Rattle.walk_engine.specs.Walks.{Content, is_gated};
 ghost use Rattle.guppy_vectors.specs.Listed.{way_of, AreWithin};
-ghost use Rattle.feature_core.specs.declared.engine.Half.{Half};
+ghost use Rattle.walk_engine.specs.declared.walks.Half.{Half};
 
 use feature_core::engine::{
     Ask, EdgeSource, Half, Offerer, Step, StepReason, Taken, walk_explained, walk_over,

@@ -2,8 +2,8 @@ use Rattle.std.proofs.Common.{◌≡◌, ◌∙◌, ℕ, Option, Some, map, ap, 
 use Rattle.std.specs.Prelude.{slice_get}
 use Rattle.std.specs.Option.{option_map}
 use Rattle.std.proofs.lemmas.Option.{slice_get-map, slice_get_read}
-use Rattle.feature_core.specs.declared.engine.Ask.{Ask}
-use Rattle.feature_core.specs.declared.engine.Taken.{Taken}
+use Rattle.walk_engine.specs.declared.walks.Ask.{Ask}
+use Rattle.walk_engine.specs.declared.walks.Taken.{Taken}
 use Rattle.feature_core.specs.Ways.{asked}
 use Rattle.feature_core.specs.Values.{edge_facts}
 use Rattle.feature_core.proofs.PackedLemmas.{told_taken}

@@ -1,6 +1,6 @@
 use Rattle.std.proofs.Common.{◌≡◌, sym, ◌∙◌, subst}
 use Rattle.guppy_packages.specs.declared.direction.DependencyDirection.{DependencyDirection}
-use Rattle.feature_core.specs.Walks.{starting}
+use Rattle.walk_engine.specs.Walks.{starting}
 use Rattle.feature_core.specs.OpenWays.{open_ways}
 use Rattle.feature_core.proofs.OpenWayLemmas.{forward_numbers, reverse_numbers}
 use Rattle.feature_core.proofs.reach.edges_at.Goals as goal

@@ -1,7 +1,7 @@
 use Rattle.std.proofs.Common.{◌≡◌, ℕ, List, map, ap, sym, subst}
 use Rattle.guppy_support.specs.Bits.{has}
 use Rattle.feature_core.specs.Edges.{EdgeFacts}
-use Rattle.feature_core.specs.Walks.{Content, Reach, was_accepted}
+use Rattle.walk_engine.specs.Walks.{Content, Reach, was_accepted}
 use Rattle.feature_core.specs.Built.{built_edges}
 use Rattle.feature_core.specs.Ways.{Reading}
 use Rattle.feature_core.specs.ChosenWays.{chosen_content}

@@ -1,6 +1,6 @@
 use Rattle.std.proofs.Common.{◌∙◌, map, ap, subst, length}
 use Rattle.feature_core.specs.Values.{edge_facts}
-use Rattle.feature_core.specs.Walks.{EndsAreNodes}
+use Rattle.walk_engine.specs.Walks.{EndsAreNodes}
 use Rattle.feature_core.specs.Ways.{Reading}
 use Rattle.feature_core.proofs.PackedLemmas.{packed_ends, packed_length}
 use Rattle.feature_core.proofs.packed.PackedEdgeSource.edge_count.Goals as goal

@@ -1,7 +1,7 @@
 use Rattle.std.proofs.Common.{◌≡◌, ◌∙◌, map, ap, sym, subst, Some, None}
 use Rattle.std.specs.Prelude.{slice_get}
 use Rattle.feature_core.specs.Values.{edge_facts}
-use Rattle.feature_core.specs.Walks.{releasing, told}
+use Rattle.walk_engine.specs.Walks.{releasing, told}
 use Rattle.feature_core.specs.Built.{built_edges}
 use Rattle.feature_core.specs.Ways.{Reading, content}
 use Rattle.feature_core.proofs.PackedLemmas.{forward_read, reverse_read, release_within}

@@ -1,7 +1,7 @@
 use Rattle.std.proofs.Common.{◌∙◌, map, ap, subst, length}
 use Rattle.std.proofs.lemmas.List.{length-map}
 use Rattle.feature_core.specs.Values.{edge_facts}
-use Rattle.feature_core.specs.Walks.{EndsAreNodes}
+use Rattle.walk_engine.specs.Walks.{EndsAreNodes}
 use Rattle.feature_core.specs.Ways.{Reading}
 use Rattle.feature_core.proofs.ChosenWayLemmas.{chosen_ends, chosen_length}
 use Rattle.feature_core.proofs.reach.ChosenEdgesEdgeSource.edge_count.Goals as goal

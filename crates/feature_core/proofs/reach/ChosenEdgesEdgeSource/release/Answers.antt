@@ -1,8 +1,8 @@
 use Rattle.std.proofs.Common.{◌≡◌, map, subst, Option, None}
 use Rattle.std.specs.Prelude.{slice_get}
-use Rattle.feature_core.specs.declared.engine.Taken.{Taken}
+use Rattle.walk_engine.specs.declared.walks.Taken.{Taken}
 use Rattle.feature_core.specs.Values.{edge_facts}
-use Rattle.feature_core.specs.Walks.{releasing, told}
+use Rattle.walk_engine.specs.Walks.{releasing, told}
 use Rattle.feature_core.specs.Built.{built_edges}
 use Rattle.feature_core.specs.Ways.{Reading}
 use Rattle.feature_core.proofs.ChosenWayLemmas.{none_released}

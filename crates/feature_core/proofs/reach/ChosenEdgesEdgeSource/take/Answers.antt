@@ -1,9 +1,9 @@
 use Rattle.std.proofs.Common.{◌≡◌, ◌∙◌, map, ap, sym, subst, Option, Some}
 use Rattle.std.specs.Prelude.{slice_get}
 use Rattle.std.proofs.lemmas.List.{length-map}
-use Rattle.feature_core.specs.declared.engine.Taken.{Taken}
+use Rattle.walk_engine.specs.declared.walks.Taken.{Taken}
 use Rattle.feature_core.specs.Values.{edge_facts}
-use Rattle.feature_core.specs.Walks.{starting, told}
+use Rattle.walk_engine.specs.Walks.{starting, told}
 use Rattle.feature_core.specs.Built.{built_edges}
 use Rattle.feature_core.specs.Ways.{Reading}
 use Rattle.feature_core.specs.ChosenWays.{chosen_content}

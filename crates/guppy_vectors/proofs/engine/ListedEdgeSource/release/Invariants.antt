@@ -1,6 +1,6 @@
 use Rattle.std.proofs.Common.{◌≡◌, ◌&&◌, map, drop}
 use Rattle.std.specs.Prelude.{slice_get, ◌==◌}
-use Rattle.feature_core.specs.Walks.{numbers_where, is_gated}
+use Rattle.walk_engine.specs.Walks.{numbers_where, is_gated}
 use Rattle.guppy_vectors.specs.Listed.{way_of}
 use Rattle.guppy_vectors.proofs.engine.ListedEdgeSource.release.Given as goal
 

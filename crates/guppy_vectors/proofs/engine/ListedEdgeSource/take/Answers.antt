@@ -1,9 +1,9 @@
 use Rattle.std.proofs.Common.{◌≡◌, ℕ, List, Option, Some, drop, map, get_or, subst}
 use Rattle.std.specs.Prelude.{◌==◌, slice_get}
 use Rattle.std.proofs.lemmas.Bool.{eq-eqb}
-use Rattle.feature_core.specs.declared.engine.Taken.{Taken}
-use Rattle.feature_core.specs.declared.engine.Ask.TheVariants as asks
-use Rattle.feature_core.specs.Walks.{Way, numbers_where, told}
+use Rattle.walk_engine.specs.declared.walks.Taken.{Taken}
+use Rattle.walk_engine.specs.declared.walks.Ask.TheVariants as asks
+use Rattle.walk_engine.specs.Walks.{Way, numbers_where, told}
 use Rattle.guppy_vectors.specs.Listed.{ListedWay, way_of}
 use Rattle.guppy_vectors.proofs.Listed.{found_at}
 use Rattle.guppy_vectors.proofs.engine.ListedEdgeSource.take.Goals as goal

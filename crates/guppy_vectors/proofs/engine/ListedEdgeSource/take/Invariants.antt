@@ -1,6 +1,6 @@
 use Rattle.std.proofs.Common.{◌≡◌, map, drop}
 use Rattle.std.specs.Prelude.{slice_get, ◌==◌}
-use Rattle.feature_core.specs.Walks.{numbers_where}
+use Rattle.walk_engine.specs.Walks.{numbers_where}
 use Rattle.guppy_vectors.specs.Listed.{way_of}
 use Rattle.guppy_vectors.proofs.engine.ListedEdgeSource.take.Given as goal
 

@@ -1,0 +1,9 @@
+pub mod Answered
+pub mod Reaches
+pub mod Runs
+pub mod ReachLaws
+pub mod WayNumbers
+pub mod WalkMoves
+pub mod Asking
+pub mod WalkLoops
+pub mod WalkEnds

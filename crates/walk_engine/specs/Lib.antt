@@ -1,0 +1,4 @@
+pub mod Walks
+pub mod Explanations
+pub mod Laws
+pub mod inner

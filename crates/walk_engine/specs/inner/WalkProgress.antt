@@ -1,0 +1,139 @@
+-- What holds while a walk is under way.
+use Rattle.std.specs.Prelude.{◌≡◌, ◌+◌, ◌*◌, ℕ, Bool, true, false, List, [], ◌∷◌, ◌++◌, Option, Some, None, slice_get, slice_set, IsTrue, IsFalse, ◌&&◌, ◌||◌, ◌==◌, not, ◌<◌, ◌≤◌, if◌then◌else◌, length, count_by, All, vec_len, vec_capacity}
+use Rattle.guppy_support.specs.Bits.{has}
+use Rattle.walk_engine.specs.declared.walks.Half.{Half}
+use Rattle.walk_engine.specs.declared.walks.Ask.TheVariants as asks
+use Rattle.walk_engine.specs.declared.walks.progress.Found.{Found}
+use Rattle.walk_engine.specs.declared.walks.Step.{Step}
+use Rattle.walk_engine.specs.declared.walks.StepReason.{StepReason}
+use Rattle.walk_engine.specs.declared.walks.StepReason.TheVariants.{Initial, Offer}
+use Rattle.walk_engine.specs.Walks.{Content, Way, Call, IsWay, starting, releasing, has_half, has_gate, is_gated, Reach, was_made, was_accepted, IsLegal, GoesAlong, LegalRun, is_in}
+use Rattle.walk_engine.specs.Explanations.{HasReasons, Distinct, nodes_of, refused_of}
+
+-- what was found so far: the members, as a set and in order with their reasons, and the refused offers
+pub record Findings : Type 0 where
+  pub members : List Bool
+  pub order : List ℕ
+  pub steps : List Step
+  pub refused : List (ℕ × Half)
+
+abbrev pub findings : Found → Findings
+findings found = record { members = found.members; order = nodes_of found.steps.items; steps = found.steps.items; refused = found.refused.items }
+
+-- the node is listed where it was no member yet
+abbrev pub noted : Findings → ℕ → StepReason → Findings
+noted f n r = record {
+  members = slice_set f.members n true;
+  order = if has f.members n then f.order else f.order ++ n ∷ [];
+  steps = if has f.members n then f.steps else f.steps ++ record { node = n; reason = r } ∷ [];
+  refused = f.refused;
+}
+
+-- the offer is listed as refused
+abbrev pub refusing : Findings → ℕ → Half → Findings
+refusing f e h = record { members = f.members; order = f.order; steps = f.steps; refused = f.refused ++ (e, h) ∷ [] }
+
+-- what an answer leaves
+abbrev pub answered : Findings → ℕ → ℕ → Half → Bool → Findings
+answered f far e h true = noted f far (Offer e h)
+answered f far e h false = refusing f e h
+
+-- each member is listed once
+pub record IsListed (f : Findings) : Type 0 where
+  pub counted : count_by (λ b. b) f.members ≡ length f.steps
+  pub within : All (λ s. s.node < length f.members) f.steps
+
+-- k more steps and k more refused offers take no memory
+pub record HasRoom (k : ℕ) (found : Found) : Type 0 where
+  pub steps : vec_len found.steps + k ≤ vec_capacity found.steps
+  pub refused : vec_len found.refused + k ≤ vec_capacity found.refused
+
+-- one offer where it is wanted, and nothing else
+abbrev pub Asks : {O : Type 0} → (O → ℕ → Half → Bool → O → Type 0) → Bool → ℕ → Half → ℕ → O → Findings → O → Findings → Type 0
+Asks gives false e h far s f t g = (t ≡ s) × (g ≡ f)
+Asks gives true e h far s f t g = (answer : Bool) × gives s e h answer t × (g ≡ answered f far e h answer)
+
+-- one of the two conditions of a gated half comes; whether the other came before it
+abbrev pub Comes : Bool → ℕ → List Bool → Bool → List Bool → Type 0
+Comes false e old ready new = IsTrue ready × (new ≡ old)
+Comes true e old ready new = (ready ≡ has old e) × (new ≡ slice_set old e true)
+
+-- what holds between two offers
+pub record Core {O : Type 0} (c : Content) (I : ℕ → Bool) (gives : O → ℕ → Half → Bool → O → Type 0) (s0 : O) (run : List Call) (s : O) (f : Findings) : Type 0 where
+  pub calls : GoesAlong gives s0 run s
+  pub legal : IsLegal c I run
+  pub sound : (n : ℕ) → IsTrue (has f.members n) → Reach c I (was_accepted run) n
+  pub initial : (n : ℕ) → IsTrue (I n) → IsTrue (has f.members n)
+  pub ordered : (n : ℕ) → has f.members n ≡ is_in f.order n
+  pub distinct : Distinct f.order
+  pub named : f.order ≡ nodes_of f.steps
+  pub explained : HasReasons c I (was_accepted run) f.order f.steps
+  pub told : f.refused ≡ refused_of run
+
+-- what holds when the edges of T were taken and those of G released
+pub record IsAt {O : Type 0} (c : Content) (I : ℕ → Bool) (gives : O → ℕ → Half → Bool → O → Type 0) (s0 : O) (T G : ℕ → Bool) (s : O) (f : Findings) (met : List Bool) : Type 0 where
+  pub run : List Call
+  pub core : Core c I gives s0 run s f
+  pub accepted : (e : ℕ) (h : Half) (w : Way) → IsWay c e w → IsTrue (was_accepted run e h) → IsTrue (has f.members w.far)
+  pub started : (e : ℕ) (w : Way) → IsWay c e w → IsTrue (T e) → IsTrue (has f.members w.start)
+  pub freed : (e : ℕ) (w : Way) → IsWay c e w → IsTrue (G e) → IsTrue (has f.members w.gate)
+  pub unasked : (e : ℕ) (w : Way) → IsWay c e w → w.ask ≡ asks.Nobody → IsTrue (T e) → IsTrue (has f.members w.far)
+  pub made : (e : ℕ) (h : Half) (w : Way) → IsWay c e w → IsTrue (has_half w.ask h) → was_made run e h ≡ (T e && (not (has_gate w.ask h) || G e))
+  pub came : (e : ℕ) (w : Way) → IsWay c e w → IsTrue (is_gated w.ask) → has met e ≡ (T e || G e)
+
+abbrev pub with_edge : (ℕ → Bool) → ℕ → ℕ → Bool
+with_edge T e k = (k == e) || T k
+
+-- what taking the edge does to what holds
+abbrev pub TakesEdge : {O : Type 0} → Content → (O → ℕ → Half → Bool → O → Type 0) → ℕ → ℕ → O → Findings → List Bool → O → Findings → List Bool → Type 0
+TakesEdge {O} c gives node e s f met t g met' = (I : ℕ → Bool) (s0 : O) (T G : ℕ → Bool) → IsFalse (T e) → IsTrue (has f.members node) → IsAt c I gives s0 T G s f met → IsAt c I gives s0 (with_edge T e) G t g met'
+
+-- what releasing the edge does to what holds
+abbrev pub FreesEdge : {O : Type 0} → Content → (O → ℕ → Half → Bool → O → Type 0) → ℕ → ℕ → O → Findings → List Bool → O → Findings → List Bool → Type 0
+FreesEdge {O} c gives node e s f met t g met' = (I : ℕ → Bool) (s0 : O) (T G : ℕ → Bool) → IsFalse (G e) → IsTrue (has f.members node) → IsAt c I gives s0 T G s f met → IsAt c I gives s0 T (with_edge G e) t g met'
+
+-- what was listed stays listed, in its place
+abbrev pub Extends : Findings → Findings → Type 0
+Extends f g = (more : List ℕ) × (g.order ≡ f.order ++ more)
+
+-- what taking all edges of a member does to what holds
+abbrev pub TakesAll : {O : Type 0} → Content → (O → ℕ → Half → Bool → O → Type 0) → ℕ → O → Findings → List Bool → O → Findings → List Bool → Type 0
+TakesAll {O} c gives node s f met t g met' = (I : ℕ → Bool) (s0 : O) (T G : ℕ → Bool) → ((e : ℕ) → IsTrue (is_in (starting c node) e) → IsFalse (T e)) → IsTrue (has f.members node) → IsAt c I gives s0 T G s f met → IsTrue (has g.members node) × IsAt c I gives s0 (λ e. is_in (starting c node) e || T e) G t g met'
+
+-- what releasing all edges of a member does to what holds
+abbrev pub FreesAll : {O : Type 0} → Content → (O → ℕ → Half → Bool → O → Type 0) → ℕ → O → Findings → List Bool → O → Findings → List Bool → Type 0
+FreesAll {O} c gives node s f met t g met' = (I : ℕ → Bool) (s0 : O) (T G : ℕ → Bool) → ((e : ℕ) → IsTrue (is_in (releasing c node) e) → IsFalse (G e)) → IsTrue (has f.members node) → IsAt c I gives s0 T G s f met → IsTrue (has g.members node) × IsAt c I gives s0 T (λ e. is_in (releasing c node) e || G e) t g met'
+
+-- taking the edges of a member stopped for want of memory: the calls made are a legal run
+abbrev pub TakesStopped : {O : Type 0} → Content → (O → ℕ → Half → Bool → O → Type 0) → ℕ → O → Findings → List Bool → O → Type 0
+TakesStopped {O} c gives node s f met t = (I : ℕ → Bool) (s0 : O) (T G : ℕ → Bool) → ((e : ℕ) → IsTrue (is_in (starting c node) e) → IsFalse (T e)) → IsTrue (has f.members node) → IsAt c I gives s0 T G s f met → LegalRun c I gives s0 t
+
+-- the same of releasing them
+abbrev pub FreesStopped : {O : Type 0} → Content → (O → ℕ → Half → Bool → O → Type 0) → ℕ → O → Findings → List Bool → O → Type 0
+FreesStopped {O} c gives node s f met t = (I : ℕ → Bool) (s0 : O) (T G : ℕ → Bool) → ((e : ℕ) → IsTrue (is_in (releasing c node) e) → IsFalse (G e)) → IsTrue (has f.members node) → IsAt c I gives s0 T G s f met → LegalRun c I gives s0 t
+
+-- whether the way of a number passes
+abbrev pub of_way : (Way → Bool) → Option Way → Bool
+of_way p None = false
+of_way p (Some w) = p w
+
+abbrev pub passes : Content → (Way → Bool) → ℕ → Bool
+passes c p e = of_way p (slice_get c.ways e)
+
+-- the reads that the edges of these members cost
+abbrev pub reads_of : Content → List ℕ → ℕ
+reads_of c done = 2 * length done + count_by (λ w. is_in done w.start) c.ways + count_by (λ w. is_gated w.ask && is_in done w.gate) c.ways
+
+-- what holds when the edges of these members were taken and released
+abbrev pub IsDone : {O : Type 0} → Content → (ℕ → Bool) → (O → ℕ → Half → Bool → O → Type 0) → O → List ℕ → O → Findings → List Bool → Type 0
+IsDone c I gives s0 done s f met = IsAt c I gives s0 (passes c (λ w. is_in done w.start)) (passes c (λ w. is_gated w.ask && is_in done w.gate)) s f met
+
+-- the initial nodes are noted, and no others
+pub record Begun (I : ℕ → Bool) (f : Findings) : Type 0 where
+  pub named : f.order ≡ nodes_of f.steps
+  pub reasons : (k : ℕ) (step : Step) → slice_get f.steps k ≡ Some step → (step.reason ≡ Initial) × IsTrue (I step.node)
+  pub initial : (n : ℕ) → IsTrue (I n) → IsTrue (has f.members n)
+  pub only : (n : ℕ) → IsTrue (has f.members n) → IsTrue (I n)
+  pub ordered : (n : ℕ) → has f.members n ≡ is_in f.order n
+  pub distinct : Distinct f.order
+  pub silent : f.refused ≡ []

@@ -1,0 +1,318 @@
+//! A walk under way: what it found, and the conditions of its edges that have come.
+
+ghost use Rattle.std.specs.Prelude.{Some, None, ◌≡◌, ◌+◌, ◌^◌, ◌<◌, ◌≤◌, ℕ, suc, Bool, false, List, IsTrue, IsFalse, OnOk, OnErr, length, slice_get};
+ghost use Rattle.guppy_support.specs.Bits.{has};
+ghost use Rattle.walk_engine.specs.Walks.{Content, EndsAreNodes, LegalRun, MayAsk, starting, releasing};
+ghost use Rattle.walk_engine.specs.Explanations.{nodes_of};
+ghost use Rattle.walk_engine.specs.inner.WalkProgress.{IsListed, HasRoom, Asks, Comes, findings, noted, TakesEdge, FreesEdge, Extends, TakesAll, FreesAll, TakesStopped, FreesStopped, Begun, IsDone, reads_of};
+
+use super::{Ask, EdgeSource, Half, Offerer, Step, StepReason};
+use guppy_support::IxBitSet;
+use std::alloc::AllocError;
+
+/// What a walk found: the members, as a set and in order with what first reached each, and the refused offers.
+#[derive(Drop)]
+pub(super) struct Found {
+    pub(super) members: IxBitSet,
+    pub(super) steps: Vec<Step>,
+    pub(super) refused: Vec<(usize, Half)>,
+}
+
+/// Makes room for what one edge can add.
+fn make_room(found: &mut Found) -> Result<(), AllocError>
+    ensures room { OnOk result (HasRoom 2 found.new) }
+    ensures members { found.new.members ≡ found.old.members }
+    ensures steps { found.new.steps.items ≡ found.old.steps.items }
+    ensures refused { found.new.refused.items ≡ found.old.refused.items }
+{
+    found.steps.reserve(2)?;
+    found.refused.reserve(2)?;
+    Ok(())
+}
+
+/// Lists the node where it is no member yet.
+fn note(found: &mut Found, node: usize, reason: StepReason)
+    requires node { node < length found.old.members }
+    requires listed { IsListed (findings found.old) }
+    requires room { HasRoom 1 found.old }
+    ensures listed { IsListed (findings found.new) }
+    ensures room { (k : ℕ) → HasRoom (suc k) found.old → HasRoom k found.new }
+    ensures size { length found.new.members ≡ length found.old.members }
+    ensures noted { findings found.new ≡ noted (findings found.old) node reason }
+{
+    if found.members.contains(node) {
+        return;
+    }
+    found.members.insert(node);
+    found.steps.push_reserved(Step { node, reason });
+}
+
+/// Makes the offer where it is wanted, and lists the far end, or the refusal.
+fn offer_if<O: Offerer>(
+    wanted: bool,
+    offerer: &mut O,
+    found: &mut Found,
+    edge: usize,
+    half: Half,
+    far: usize,
+)
+    requires may { IsTrue wanted → O.can_offer offerer.old edge half }
+    requires node { far < length found.old.members }
+    requires listed { IsListed (findings found.old) }
+    requires room { HasRoom 1 found.old }
+    ensures listed { IsListed (findings found.new) }
+    ensures room { (k : ℕ) → HasRoom (suc k) found.old → HasRoom k found.new }
+    ensures size { length found.new.members ≡ length found.old.members }
+    ensures asked { Asks O.gives wanted edge half far
+        offerer.old (findings found.old) offerer.new (findings found.new) }
+{
+    if !wanted {
+        return;
+    }
+    if offerer.offer(edge, half) {
+        note(found, far, StepReason::Offer(edge, half));
+    } else {
+        found.refused.push_reserved((edge, half));
+    }
+}
+
+/// Notes that the start or the gate of an edge was reached, where its optional half waits for both; whether nothing
+/// is missing now.
+fn is_ready(met: &mut IxBitSet, edge: usize, gated: bool) -> bool
+    requires { edge < length met.old }
+    ensures { Comes gated edge met.old result met.new }
+{
+    if !gated {
+        return true;
+    }
+    let ready = met.contains(edge);
+    met.insert(edge);
+    ready
+}
+
+/// Takes one edge of a member and makes the offers that are due by it; whether there was one.
+fn take_one<S: EdgeSource, O: Offerer>(
+    source: &mut S,
+    offerer: &mut O,
+    found: &mut Found,
+    met: &mut IxBitSet,
+    node: usize,
+    place: usize,
+) -> bool
+    requires nodes { EndsAreNodes (S.content source.old) }
+    requires node { node < (S.content source.old).nodes }
+    requires few { S.reads source.old < 2 ^ 100 }
+    requires may { MayAsk O.can_offer O.gives (S.content source.old) offerer.old }
+    requires members { length found.old.members ≡ (S.content source.old).nodes }
+    requires edges { length met.old ≡ length (S.content source.old).ways }
+    requires listed { IsListed (findings found.old) }
+    requires room { HasRoom 2 found.old }
+    ensures same { S.content source.new ≡ S.content source.old }
+    ensures read { S.reads source.new ≡ S.reads source.old + 1 }
+    ensures may { MayAsk O.can_offer O.gives (S.content source.old) offerer.new }
+    ensures members { length found.new.members ≡ length found.old.members }
+    ensures edges { length met.new ≡ length met.old }
+    ensures listed { IsListed (findings found.new) }
+    ensures grown { Extends (findings found.old) (findings found.new) }
+    ensures taken { IsTrue result → (e : ℕ)
+        × (slice_get (starting (S.content source.old) node) place ≡ Some e)
+        × TakesEdge (S.content source.old) O.gives node e
+        offerer.old (findings found.old) met.old offerer.new (findings found.new) met.new }
+    ensures ended { IsFalse result → (slice_get (starting (S.content source.old) node) place ≡ None)
+        × (offerer.new ≡ offerer.old) × (findings found.new ≡ findings found.old) × (met.new ≡ met.old) }
+{
+    match source.take(node, place) {
+        None => false,
+        Some(taken) => {
+            match taken.ask {
+                Ask::Nobody => note(found, taken.far, StepReason::Edge(taken.edge)),
+                Ask::Full => offer_if(true, offerer, found, taken.edge, Half::Full, taken.far),
+                Ask::Weak { required, gated } => {
+                    offer_if(
+                        required,
+                        offerer,
+                        found,
+                        taken.edge,
+                        Half::Required,
+                        taken.far,
+                    );
+                    let ready = is_ready(met, taken.edge, gated);
+                    offer_if(ready, offerer, found, taken.edge, Half::Optional, taken.far);
+                }
+            }
+            true
+        }
+    }
+}
+
+/// Releases one edge of a gate and makes the offer that is due by it; whether there was one.
+fn release_one<S: EdgeSource, O: Offerer>(
+    source: &mut S,
+    offerer: &mut O,
+    found: &mut Found,
+    met: &mut IxBitSet,
+    node: usize,
+    place: usize,
+) -> bool
+    requires nodes { EndsAreNodes (S.content source.old) }
+    requires node { node < (S.content source.old).nodes }
+    requires few { S.reads source.old < 2 ^ 100 }
+    requires may { MayAsk O.can_offer O.gives (S.content source.old) offerer.old }
+    requires members { length found.old.members ≡ (S.content source.old).nodes }
+    requires edges { length met.old ≡ length (S.content source.old).ways }
+    requires listed { IsListed (findings found.old) }
+    requires room { HasRoom 2 found.old }
+    ensures same { S.content source.new ≡ S.content source.old }
+    ensures read { S.reads source.new ≡ S.reads source.old + 1 }
+    ensures may { MayAsk O.can_offer O.gives (S.content source.old) offerer.new }
+    ensures members { length found.new.members ≡ length found.old.members }
+    ensures edges { length met.new ≡ length met.old }
+    ensures listed { IsListed (findings found.new) }
+    ensures grown { Extends (findings found.old) (findings found.new) }
+    ensures taken { IsTrue result → (e : ℕ)
+        × (slice_get (releasing (S.content source.old) node) place ≡ Some e)
+        × FreesEdge (S.content source.old) O.gives node e
+        offerer.old (findings found.old) met.old offerer.new (findings found.new) met.new }
+    ensures ended { IsFalse result → (slice_get (releasing (S.content source.old) node) place ≡ None)
+        × (offerer.new ≡ offerer.old) × (findings found.new ≡ findings found.old) × (met.new ≡ met.old) }
+{
+    match source.release(node, place) {
+        None => false,
+        Some(taken) => {
+            let ready = is_ready(met, taken.edge, true);
+            offer_if(ready, offerer, found, taken.edge, Half::Optional, taken.far);
+            true
+        }
+    }
+}
+
+/// Takes all edges of a member.
+fn take_all<S: EdgeSource, O: Offerer>(
+    source: &mut S,
+    offerer: &mut O,
+    found: &mut Found,
+    met: &mut IxBitSet,
+    node: usize,
+) -> Result<(), AllocError>
+    requires nodes { EndsAreNodes (S.content source.old) }
+    requires node { node < (S.content source.old).nodes }
+    requires long { length (S.content source.old).ways < 2 ^ 64 }
+    requires few { S.reads source.old + length (S.content source.old).ways < 2 ^ 100 }
+    requires may { MayAsk O.can_offer O.gives (S.content source.old) offerer.old }
+    requires members { length found.old.members ≡ (S.content source.old).nodes }
+    requires edges { length met.old ≡ length (S.content source.old).ways }
+    requires listed { IsListed (findings found.old) }
+    ensures same { S.content source.new ≡ S.content source.old }
+    ensures read { OnOk result (S.reads source.new
+        ≡ S.reads source.old + (length (starting (S.content source.old) node) + 1)) }
+    ensures may { MayAsk O.can_offer O.gives (S.content source.old) offerer.new }
+    ensures members { length found.new.members ≡ length found.old.members }
+    ensures edges { length met.new ≡ length met.old }
+    ensures listed { IsListed (findings found.new) }
+    ensures grown { Extends (findings found.old) (findings found.new) }
+    ensures taken { OnOk result (TakesAll (S.content source.old) O.gives node
+        offerer.old (findings found.old) met.old offerer.new (findings found.new) met.new) }
+    ensures err { OnErr result (TakesStopped (S.content source.old) O.gives node
+        offerer.old (findings found.old) met.old offerer.new) }
+{
+    let mut place = 0;
+    make_room(found)?;
+    'edges: while take_one(source, offerer, found, met, node, place) {
+        make_room(found)?;
+        place += 1;
+    }
+    Ok(())
+}
+
+/// Releases all edges of a gate.
+fn release_all<S: EdgeSource, O: Offerer>(
+    source: &mut S,
+    offerer: &mut O,
+    found: &mut Found,
+    met: &mut IxBitSet,
+    node: usize,
+) -> Result<(), AllocError>
+    requires nodes { EndsAreNodes (S.content source.old) }
+    requires node { node < (S.content source.old).nodes }
+    requires long { length (S.content source.old).ways < 2 ^ 64 }
+    requires few { S.reads source.old + length (S.content source.old).ways < 2 ^ 100 }
+    requires may { MayAsk O.can_offer O.gives (S.content source.old) offerer.old }
+    requires members { length found.old.members ≡ (S.content source.old).nodes }
+    requires edges { length met.old ≡ length (S.content source.old).ways }
+    requires listed { IsListed (findings found.old) }
+    ensures same { S.content source.new ≡ S.content source.old }
+    ensures read { OnOk result (S.reads source.new
+        ≡ S.reads source.old + (length (releasing (S.content source.old) node) + 1)) }
+    ensures may { MayAsk O.can_offer O.gives (S.content source.old) offerer.new }
+    ensures members { length found.new.members ≡ length found.old.members }
+    ensures edges { length met.new ≡ length met.old }
+    ensures listed { IsListed (findings found.new) }
+    ensures grown { Extends (findings found.old) (findings found.new) }
+    ensures taken { OnOk result (FreesAll (S.content source.old) O.gives node
+        offerer.old (findings found.old) met.old offerer.new (findings found.new) met.new) }
+    ensures err { OnErr result (FreesStopped (S.content source.old) O.gives node
+        offerer.old (findings found.old) met.old offerer.new) }
+{
+    let mut place = 0;
+    make_room(found)?;
+    'edges: while release_one(source, offerer, found, met, node, place) {
+        make_room(found)?;
+        place += 1;
+    }
+    Ok(())
+}
+
+/// Notes the initial nodes.
+fn begin(found: &mut Found, initials: &IxBitSet) -> Result<(), AllocError>
+    requires members { length found.old.members ≡ length initials.now }
+    requires listed { IsListed (findings found.old) }
+    requires blank { Begun (λ _. false) (findings found.old) }
+    ensures members { length found.new.members ≡ length initials.now }
+    ensures listed { IsListed (findings found.new) }
+    ensures begun { OnOk result (Begun (has initials.now) (findings found.new)) }
+{
+    for node in initials.ones() {
+        make_room(found)?;
+        note(found, node, StepReason::Initial);
+    }
+    Ok(())
+}
+
+/// Takes and releases the edges of each member, in the order in which the members were reached.
+pub(super) fn walk_members<S: EdgeSource, O: Offerer>(
+    source: &mut S,
+    initials: &IxBitSet,
+    offerer: &mut O,
+    found: &mut Found,
+    met: &mut IxBitSet,
+) -> Result<(), AllocError>
+    requires nodes { EndsAreNodes (S.content source.old) }
+    requires long { length (S.content source.old).ways < 2 ^ 64 }
+    requires few { S.reads source.old < 2 ^ 99 }
+    requires may { MayAsk O.can_offer O.gives (S.content source.old) offerer.old }
+    requires size { length initials.now ≡ (S.content source.old).nodes }
+    requires members { length found.old.members ≡ length initials.now }
+    requires edges { length met.old ≡ length (S.content source.old).ways }
+    requires unmet { (e : ℕ) → IsFalse (has met.old e) }
+    requires listed { IsListed (findings found.old) }
+    requires blank { Begun (λ _. false) (findings found.old) }
+    ensures same { S.content source.new ≡ S.content source.old }
+    ensures members { length found.new.members ≡ length initials.now }
+    ensures read { OnOk result (S.reads source.new
+        ≡ S.reads source.old + reads_of (S.content source.old) (nodes_of found.new.steps.items)) }
+    ensures listed { IsListed (findings found.new) }
+    ensures done { OnOk result (IsDone (S.content source.old) (has initials.now) O.gives offerer.old
+        (nodes_of found.new.steps.items) offerer.new (findings found.new) met.new) }
+    ensures err { OnErr result (LegalRun (S.content source.old) (has initials.now) O.gives
+        offerer.old offerer.new) }
+{
+    begin(found, initials)?;
+    let mut next = 0;
+    'members: while next < found.steps.len() {
+        let node = found.steps[next].node;
+        take_all(source, offerer, found, met, node)?;
+        release_all(source, offerer, found, met, node)?;
+        next += 1;
+    }
+    Ok(())
+}
