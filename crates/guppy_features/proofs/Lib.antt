@@ -3,6 +3,7 @@ mod CandidateDecisions
 mod WarningDecisions
 mod BuiltLemmas
 mod NodePackages
+mod Offered
 mod PackageLemmas
 mod SetLemmas
 mod VerifyLemmas

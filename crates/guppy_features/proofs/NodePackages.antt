@@ -31,13 +31,13 @@ pub record IsOf (packages : List PackageTable) (p : ℕ) (id : Text) : Type 0 wh
   pub named : table.id ≡ id
 
 of_package : (q : ℕ) (packages : List PackageTable) (n p : ℕ) (name : Text × LabelName) → slice_get (map (λ x. x.0) (spread labels_of q packages)) n ≡ Some p
-    → slice_get (flat_map (λ t. names_of t.id (labels_of t)) packages) n ≡ Some name → (k : ℕ) × (p ≡ q + k) × IsOf packages k name.0
+    → slice_get (flat_map (λ t. names_of t.id (labels_of t)) packages) n ≡ Some name → (k : ℕ) × ((p ≡ q + k) × IsOf packages k name.0)
 of_package q [] n p name h i = cc
 of_package q (t ∷ ts) n p name h i = ⊎_elim
     (λ e. (0, (omega (arith, e.0), record { table = t; is = refl; named = e.1 })))
     (λ e.
     let r = of_package (q + 1) ts e.0 p name e.1 e.2 in
-    (suc r.0, (omega (arith, r.1), record { table = r.2.table; is = r.2.is; named = r.2.named })))
+    (suc r.0, (omega (arith, r.1.0), record { table = r.1.1.table; is = r.1.1.is; named = r.1.1.named })))
     (in_row q p t.id (labels_of t) (map (λ x. x.0) (spread labels_of (q + 1) ts)) (flat_map (λ t. names_of t.id (labels_of t)) ts) n name
     (subst (λ z. slice_get z n ≡ Some p) (map-append (λ x. x.0) (row_of q (labels_of t)) (spread labels_of (q + 1) ts)) h) i)
 
@@ -45,5 +45,5 @@ of_package q (t ∷ ts) n p name h i = ⊎_elim
 pub node_package : (t : Tables) (n p : ℕ) (name : Text × LabelName) → slice_get (node_packages t) n ≡ Some p → NodeNamed t n name → IsOf t.packages p name.0
 node_package t n p name h i =
     let r = of_package 0 t.packages n p name h i in
-    let same : r.0 ≡ p = omega (arith, r.1) in
-    subst (λ k. IsOf t.packages k name.0) same r.2
+    let same : r.0 ≡ p = omega (arith, r.1.0) in
+    subst (λ k. IsOf t.packages k name.0) same r.1.1

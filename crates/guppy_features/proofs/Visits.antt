@@ -1,10 +1,14 @@
 -- Walks of one who answers by another: what is said of the one's states is said of the other's.
-use Rattle.std.proofs.Common.{◌≡◌, ℕ, Bool, List, [], ◌∷◌, refl, ap, subst}
+use Rattle.std.proofs.Common.{◌≡◌, ℕ, Bool, List, [], ◌∷◌, refl, ap, sym, ◌∙◌, subst}
 use Rattle.std.specs.Prelude.{IsTrue}
-use Rattle.feature_core.specs.declared.engine.Half.{Half}
-use Rattle.feature_core.specs.declared.engine.Step.{Step}
-use Rattle.feature_core.specs.Explanations.{IsExplainedWalk}
-use Rattle.feature_core.specs.Walks.{Content, Way, Call, IsWay, has_half, GoesAlong, IsWalk, LegalRun, AreOffers, MayAsk}
+use Rattle.walk_engine.specs.declared.walks.Half.{Half}
+use Rattle.walk_engine.specs.declared.walks.Step.{Step}
+use Rattle.walk_engine.specs.Explanations.{IsExplainedWalk}
+use Rattle.walk_engine.specs.Walks.{Content, Way, Call, IsWay, has_half, GoesAlong, IsWalk, LegalRun, AreOffers, MayAsk}
+use Rattle.guppy_features.specs.LinkValues.{Link, has_facts}
+use Rattle.guppy_features.specs.Values.{Query}
+use Rattle.guppy_features.specs.Visits.{offered, showable, shown}
+use Rattle.guppy_features.specs.declared.resolve_with.Shown.{Shown}
 
 -- S answers by the T in it: while P holds, each step of S is one of T, and P goes on
 module _ {S T : Type 0} (P : S → Type 0) (v : S → T) (outer : S → ℕ → Half → Bool → S → Type 0) (inner : T → ℕ → Half → Bool → T → Type 0) where
@@ -30,6 +34,7 @@ module _ {S T : Type 0} (P : S → Type 0) (v : S → T) (outer : S → ℕ → 
 
   pub is_explained_walk : AnswersBy → (c : Content) (I : ℕ → Bool) (s t : S) (M : ℕ → Bool) (steps : List Step) (refused : List (ℕ × Half)) → P s
       → IsExplainedWalk c I outer s t M steps refused → P t × IsExplainedWalk c I inner (v s) (v t) M steps refused
+  unfolding is_walk
   is_explained_walk by c I s t M steps refused holds told =
       let moved = is_walk by c I s t M holds told.walk in
       (moved.0, record { walk = moved.1; explanation = told.explanation; listed = told.listed; refused_in_order = told.refused_in_order })
@@ -41,3 +46,38 @@ module _ {S T : Type 0} (P : S → Type 0) (v : S → T) (outer : S → ℕ → 
   may_ask by may can c s holds asked all run t offers calls e h w is half =
       let moved = goes_along by s run t holds calls in
       asked t e h w moved.0 is half (all run (v t) offers moved.1 e h w is half)
+
+-- an adapter that shows offers to the visitor in it keeps its context and its visitor's place
+module _ {V : Type 0} (may : V → Query → Link → Type 0) (gives : V → Query → Link → Bool → V → Type 0) where
+  abbrev AdapterMay : Shown V → ℕ → Half → Type 0
+  AdapterMay s e h = IsTrue (has_facts (offered s.cx.now.graph e h)) × showable may s.cx.now s.visitor.now e h
+
+  abbrev AdapterGives : Shown V → ℕ → Half → Bool → Shown V → Type 0
+  AdapterGives s e h answer t = (t.cx ≡ s.cx) × (t.visitor.ghost_name ≡ s.visitor.ghost_name) × shown gives s.cx.now s.visitor.now e h answer t.visitor.now
+
+  abbrev Stays : Shown V → Shown V → Type 0
+  Stays s p = (p.cx ≡ s.cx) × (p.visitor.ghost_name ≡ s.visitor.ghost_name)
+
+  answers_by : (s : Shown V) → AnswersBy (Stays s) (λ p. p.visitor.now) AdapterGives (shown gives s.cx.now)
+  answers_by s p e h answer r stays step =
+      ((step.0 ∙ stays.0, step.1 ∙ stays.1), subst (λ cx. gives p.visitor.now cx.now (offered cx.now.graph e h) answer r.visitor.now) stays.0 step.2)
+
+  pub shown_walk : (s t : Shown V) (c : Content) (I M : ℕ → Bool) → IsWalk c I AdapterGives s t M
+      → (t.visitor.ghost_name ≡ s.visitor.ghost_name) × IsWalk c I (shown gives s.cx.now) s.visitor.now t.visitor.now M
+  shown_walk s t c I M walk =
+      let moved = is_walk (Stays s) (λ p. p.visitor.now) AdapterGives (shown gives s.cx.now) (answers_by s) c I s t M (refl, refl) walk in
+      (moved.0.1, moved.1)
+
+  pub shown_run : (s t : Shown V) (c : Content) (I : ℕ → Bool) → LegalRun c I AdapterGives s t
+      → (t.visitor.ghost_name ≡ s.visitor.ghost_name) × LegalRun c I (shown gives s.cx.now) s.visitor.now t.visitor.now
+  shown_run s t c I run =
+      let moved = legal_run (Stays s) (λ p. p.visitor.now) AdapterGives (shown gives s.cx.now) (answers_by s) c I s t (refl, refl) run in
+      (moved.0.1, moved.1)
+
+  pub shown_may : (s : Shown V) (c : Content)
+      → ((e : ℕ) (h : Half) (w : Way) → IsWay c e w → IsTrue (has_half w.ask h) → IsTrue (has_facts (offered s.cx.now.graph e h)))
+      → MayAsk (showable may s.cx.now) (shown gives s.cx.now) c s.visitor.now → MayAsk AdapterMay AdapterGives c s
+  shown_may s c stand all = may_ask
+      (Stays s) (λ p. p.visitor.now) AdapterGives (shown gives s.cx.now) (answers_by s) AdapterMay (showable may s.cx.now) c s (refl, refl)
+      (λ p e h w stays is half can. subst (λ cx. IsTrue (has_facts (offered cx.now.graph e h)) × may p.visitor.now cx.now (offered cx.now.graph e h)) (sym stays.0) (stand e h w is half, can))
+      all

@@ -9,8 +9,8 @@ use Rattle.guppy_packages.specs.declared.direction.DependencyDirection.TheVarian
 use Rattle.guppy_packages.specs.declared.row.DependencyKind.{DependencyKind}
 use Rattle.guppy_packages.specs.declared.row.DependencyKind.TheVariants.{Normal, Build, Development}
 use Rattle.feature_labels.specs.Names.{LabelName}
-use Rattle.feature_core.specs.declared.engine.Half.{Half}
-use Rattle.feature_core.specs.declared.engine.Half.TheVariants.{Full, Required, Optional}
+use Rattle.walk_engine.specs.declared.walks.Half.{Half}
+use Rattle.walk_engine.specs.declared.walks.Half.TheVariants.{Full, Required, Optional}
 use Rattle.feature_core.specs.Edges.{EdgeFacts, full_link}
 use Rattle.feature_core.specs.Edges.EdgeFacts.{base_edge, feature_edge, colon_edge, strong_edge, weak_edge, section_edge}
 use Rattle.feature_core.specs.Links.{LinkFacts}

@@ -1,9 +1,9 @@
 -- Visitors of links as those who answer the offers of a walk.
 use Rattle.std.specs.Prelude.{◌≡◌, ℕ, Bool, Some, IsTrue, slice_get, length}
 use Rattle.guppy_support.specs.Bits.{has}
-use Rattle.feature_core.specs.declared.engine.Half.{Half}
+use Rattle.walk_engine.specs.declared.walks.Half.{Half}
 use Rattle.feature_core.specs.Nodes.{nodes}
-use Rattle.feature_core.specs.Walks.{Content}
+use Rattle.walk_engine.specs.Walks.{Content}
 use Rattle.feature_core.specs.Ways.{content}
 use Rattle.guppy_features.specs.Values.{Graph, Query}
 use Rattle.guppy_features.specs.LinkValues.{Link, start_name}

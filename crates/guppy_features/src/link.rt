@@ -12,11 +12,11 @@ ghost use Rattle.guppy_features.specs.Views.{graph_of, tables_of_graph, feature_
 use crate::graph::FeatureGraph;
 use crate::metadata::FeatureMetadata;
 use crate::package_links::PackageLinks;
-use feature_core::engine::Half;
 use feature_core::{ConditionalLinkImpl, FeatureEdge, SlashForm};
 use feature_labels::LinkDeclarations;
 use guppy_packages::{DependencyKind, PlatformStatus};
 use std::fmt;
+use walk_engine::Half;
 
 /// The full link of a conditional edge, or the half of a weak edge.
 fn link_in(edge: &FeatureEdge, half: Half) -> Option<&ConditionalLinkImpl>

@@ -2,7 +2,7 @@
 ghost use Rattle.std.specs.Prelude.{◌≡◌, IsTrue, IfOk, IfErr, OnErr, length};
 ghost use Rattle.guppy_support.specs.Bits.{has};
 ghost use Rattle.feature_core.specs.Nodes.{nodes};
-ghost use Rattle.feature_core.specs.Walks.{IsWalk, LegalRun, MayAsk};
+ghost use Rattle.walk_engine.specs.Walks.{IsWalk, LegalRun, MayAsk};
 ghost use Rattle.guppy_features.specs.ByClosure.{closure_can, closure_gives};
 ghost use Rattle.guppy_features.specs.LinkValues.{has_facts};
 ghost use Rattle.guppy_features.specs.Visits.{content_of, offered, showable, shown};
@@ -12,10 +12,10 @@ use crate::link::ConditionalLink;
 use crate::query::FeatureQuery;
 use crate::set::FeatureSet;
 use crate::visitor::{FeatureLinkVisitor, LinkVisitorFn};
-use feature_core::engine::{Half, Offerer};
-use feature_core::{Error, walk};
+use feature_core::{Error, Packed};
 use guppy_support::IxBitSet;
-use std::alloc::Global;
+use std::alloc::{AllocError, Global};
+use walk_engine::{Half, Offerer, walk_over};
 
 /// Shows each offer of a walk to a visitor, as a link.
 #[derive(Drop)]
@@ -39,7 +39,7 @@ impl<'c, 'g, 'v, V: FeatureLinkVisitor<'g>> Offerer for Shown<'c, 'g, 'v, V> {
 fn walk_shown<'c, 'g, 'v, V: FeatureLinkVisitor<'g>>(
     alloc: Global,
     adapter: &mut Shown<'c, 'g, 'v, V>,
-) -> Result<IxBitSet, Error<'g>>
+) -> Result<IxBitSet, AllocError>
     requires { MayAsk (showable V.can_visit adapter.old.cx.now) (shown V.visit_gives adapter.old.cx.now)
         (content_of adapter.old.cx.now) adapter.old.visitor.now }
     ensures same_reference { adapter.new.visitor.ghost_name ≡ adapter.old.visitor.ghost_name }
@@ -48,12 +48,12 @@ fn walk_shown<'c, 'g, 'v, V: FeatureLinkVisitor<'g>>(
         (shown V.visit_gives adapter.old.cx.now) adapter.old.visitor.now adapter.new.visitor.now (has members)) }
     ensures run { OnErr result (LegalRun (content_of adapter.old.cx.now) (has adapter.old.cx.now.initials)
         (shown V.visit_gives adapter.old.cx.now) adapter.old.visitor.now adapter.new.visitor.now) }
-    ensures refused { IfErr result (λ e. e ≡ Error.Memory) }
 {
     let query = adapter.cx.query();
     let built = query.graph().built;
     let initials = query.initials().members();
-    let walk = walk(alloc, built, query.direction(), initials, adapter)?;
+    let mut source = Packed::new(built, query.direction());
+    let walk = walk_over(alloc, &mut source, initials, adapter)?;
     Ok(walk.members)
 }
 
