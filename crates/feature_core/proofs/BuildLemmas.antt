@@ -1,17 +1,20 @@
 -- The edges that are built of the least keys are those of the tables.
-use Rattle.std.proofs.Common.{◌≡◌, ℕ, zero, suc, ⊎_elim, List, [], ◌∷◌, length, map, Bool, true, false, cond, Option, Some, None, refl, sym, ap, ◌∙◌, subst, arith}
+use Rattle.std.proofs.Common.{◌≡◌, ℕ, zero, suc, ◌<◌, ⊎_elim, List, [], ◌∷◌, length, map, Bool, true, false, cond, Option, Some, None, refl, sym, ap, ◌∙◌, subst, arith}
 use Rattle.std.specs.Prelude.{◌↔◌, ◌==◌, Contains, All, AllPairs, slice_get, filter_map}
-use Rattle.std.specs.List.{zip, cons_option}
+use Rattle.std.specs.List.{zip, cons_option, list_any}
 use Rattle.std.proofs.lemmas.Bool.Decides.{nat_tests}
 use Rattle.std.proofs.lemmas.List.Elements.{All-cons, All-head, All-tail}
 use Rattle.std.proofs.lemmas.List.Kept.{AllPairs-cons}
 use Rattle.guppy_support.specs.declared.digraph.Edge.{Edge as End}
-use Rattle.guppy_packages.specs.Tables.{Tables, AreTables}
+use Rattle.std.proofs.Math.Logic.{∥∥₁_elim}
+use Rattle.guppy_packages.specs.Rows.{Declared}
+use Rattle.guppy_packages.specs.Tables.{LinkTable, Tables, AreTables}
+use Rattle.feature_core.specs.Links.{LinkFacts}
 use Rattle.feature_core.specs.Built.{pairs_of, ends_of, end_of, built_edges}
 use Rattle.feature_core.specs.Keys.{edge_of as end_of_key}
-use Rattle.feature_core.specs.Candidates.{Edge, Candidate, IsEdge, rank_of, feature_to_base, named_feature, dep_colon, slash_full, slash_optional, slash_weak, section}
-use Rattle.feature_core.specs.Edges.{EdgeFacts, IsEdgeList, EdgeBefore, AreBuilt, weak_link, weak_links, first_ones, facts_of}
-use Rattle.feature_core.specs.Made.{AreValues, IsKept, edge_end}
+use Rattle.feature_core.specs.Candidates.{Edge, Candidate, IsEdge, rank_of, feature_to_base, named_feature, dep_colon, slash_full, slash_optional, slash_weak, section, unsplit_of}
+use Rattle.feature_core.specs.Edges.{EdgeFacts, EdgeBefore, AreBuilt, weak_link, first_ones, facts_of}
+use Rattle.feature_core.specs.Made.{AreValues, IsValueOf, IsKept, edge_end}
 use Rattle.feature_core.specs.Weak.{weak_source, weak_sources, AreGates}
 use Rattle.feature_core.specs.declared.key.Key.{Key}
 use Rattle.feature_core.specs.Keys.{AreLeast, IsBefore}
@@ -20,7 +23,8 @@ use Rattle.feature_core.specs.Parts.{IsOfTables}
 use Rattle.feature_core.proofs.AddsLemmas.{Contains-first, Contains-later, Contains-cases, Contains-none}
 use Rattle.feature_core.proofs.EdgeLemmas.{least_is_edge}
 use Rattle.feature_core.proofs.KeySays.{Says}
-use Rattle.feature_core.proofs.PartLemmas.{StandsFor, stands_for, contributed}
+use Rattle.feature_core.specs.BuiltOnce.{edge_there-prop}
+use Rattle.feature_core.proofs.PartLemmas.{stands_for, contributed}
 use Rattle.feature_core.proofs.PairLemmas.{names_differ, pairs_kept}
 use Rattle.std.proofs.lemmas.List.{length-map}
 use Rattle.feature_core.specs.declared.edge.FeatureEdge.{FeatureEdge}
@@ -41,147 +45,134 @@ its_source x h = go (x.rank == 6) refl
     go true e = refl
     go false e = absurd (grind (arith, nat_tests))
 
+-- the link of a weak edge is over its package link alone
+alone : (k : ℕ) (link : LinkTable) → 0 < length link.declarations → slice_get (unsplit_of k link).package_links 0 ≡ Some k
+alone k link some = ap (λ b. slice_get (map (λ (l : ℕ × LinkTable). l.0) (cond b ((k, link) ∷ []) [])) 0) (many link.declarations some)
+  where
+    many : (ds : List Declared) → 0 < length ds → list_any (λ d. true) ds ≡ true
+    many [] l = absurd (omega (arith, l))
+    many (d ∷ ds) l = refl
+
+-- the facts of each key beside its pair
+abbrev pub told : List Key → List EdgeFacts → List (ℕ × ℕ × EdgeFacts)
+told kept facts = map (λ p. (p.0.from, p.0.to, p.1)) (zip kept facts)
+
+first_before : (k : Key) (kept : List Key) → AllPairs IsBefore (k ∷ kept) → All (IsBefore k) kept
+first_before k kept h j d l = h 0 (suc j) d (omega arith) (omega arith)
+
+later_before : (k : Key) (kept : List Key) → AllPairs IsBefore (k ∷ kept) → AllPairs IsBefore kept
+later_before k kept h i j d l m = h (suc i) (suc j) d (omega arith) (omega arith)
+
+all_after : (k : Key) (f : EdgeFacts) (kept : List Key) (facts : List EdgeFacts) → All (IsBefore k) kept → All (EdgeBefore (k.from, k.to, f)) (told kept facts)
+all_after k f [] facts h = λ i d l. absurd (omega arith)
+all_after k f (x ∷ kept) [] h = λ i d l. absurd (omega arith)
+all_after k f (x ∷ kept) (g ∷ facts) h = All-cons (EdgeBefore (k.from, k.to, f)) (x.from, x.to, g) (told kept facts) (All-head (IsBefore k) x kept h) (all_after k f kept facts (All-tail (IsBefore k) x kept h))
+
+ascending : (kept : List Key) (facts : List EdgeFacts) → AllPairs IsBefore kept → AllPairs EdgeBefore (told kept facts)
+ascending [] facts h = λ i j d l m. absurd (omega arith)
+ascending (k ∷ kept) [] h = λ i j d l m. absurd (omega arith)
+ascending (k ∷ kept) (f ∷ facts) h =
+    AllPairs-cons EdgeBefore (k.from, k.to, f) (told kept facts) (all_after k f kept facts (first_before k kept h)) (ascending kept facts (later_before k kept h))
+
+placed : (edges : List (ℕ × ℕ × EdgeFacts)) (a b : ℕ × ℕ × EdgeFacts) → a ≡ b → Contains edges a → Contains edges b
+placed edges a b e h = subst (λ z. Contains edges z) e h
+
 module _ (t : Tables) (tables : AreTables t) where
-  abbrev pub IsAll : List Key → Type 0
+  abbrev IsAll : List Key → Type 0
   IsAll kept = (x : Key) → Contains kept x → IsOfTables t x
-
-  pub head_all : (k : Key) (kept : List Key) → IsAll (k ∷ kept) → IsOfTables t k
-  head_all k kept all = all k (Contains-first k kept)
-
-  pub tail_all : (k : Key) (kept : List Key) → IsAll (k ∷ kept) → IsAll kept
-  tail_all k kept all x c = all x (Contains-later k kept x c)
-
-  abbrev pub edge_of : (k : Key) → IsOfTables t k → StandsFor t k
-  edge_of k h = stands_for t (names_differ t tables) k h
-
-  -- the edge that each key stands for
-  abbrev pub edge_list : (kept : List Key) → IsAll kept → List (ℕ × ℕ × Edge)
-  edge_list [] all = []
-  edge_list (k ∷ kept) all = (k.from, k.to, (edge_of k (head_all k kept all)).edge) ∷ edge_list kept (tail_all k kept all)
-
-  record IsOfKey (kept : List Key) (x : ℕ × ℕ × Edge) : Type 0 where
-    key : Key
-    is_key : Contains kept key
-    from : key.from ≡ x.0
-    to : key.to ≡ x.1
-    candidate : Candidate t key.from key.to x.2
-    rank : key.rank ≡ rank_of x.2
-
-  later_key : (k : Key) (kept : List Key) (x : ℕ × ℕ × Edge) → IsOfKey kept x → IsOfKey (k ∷ kept) x
-  later_key k kept x h = record { key = h.key; is_key = Contains-later k kept h.key h.is_key; from = h.from; to = h.to; candidate = h.candidate; rank = h.rank }
-
-  edge_back : (kept : List Key) (all : IsAll kept) (x : ℕ × ℕ × Edge) → Contains (edge_list kept all) x → IsOfKey kept x
-  edge_back [] all x h = absurd (Contains-none x h)
-  edge_back (k ∷ kept) all x h =
-      let s = edge_of k (head_all k kept all) in
-      ⊎_elim
-      (λ e. subst (λ z. IsOfKey (k ∷ kept) z) e (record { key = k; is_key = Contains-first k kept; from = refl; to = refl; candidate = s.candidate; rank = s.rank }))
-      (λ e. later_key k kept x (edge_back kept (tail_all k kept all) x e))
-      (Contains-cases (k.from, k.to, s.edge) (edge_list kept (tail_all k kept all)) x h)
-
-  record HasEdge (edges : List (ℕ × ℕ × Edge)) (k : Key) : Type 0 where
-    edge : Edge
-    listed : Contains edges (k.from, k.to, edge)
-    candidate : Candidate t k.from k.to edge
-    rank : k.rank ≡ rank_of edge
-
-  edge_into : (kept : List Key) (all : IsAll kept) (y : Key) → Contains kept y → HasEdge (edge_list kept all) y
-  edge_into [] all y h = absurd (Contains-none y h)
-  edge_into (k ∷ kept) all y h =
-      let s = edge_of k (head_all k kept all) in
-      let rest = edge_list kept (tail_all k kept all) in
-      let x : ℕ × ℕ × Edge = (k.from, k.to, s.edge) in
-      ⊎_elim
-      (λ e. subst (λ z. HasEdge (x ∷ rest) z) e (record { edge = s.edge; listed = Contains-first x rest; candidate = s.candidate; rank = s.rank }))
-      (λ e. let r = edge_into kept (tail_all k kept all) y e in record { edge = r.edge; listed = Contains-later x rest (y.from, y.to, r.edge) r.listed; candidate = r.candidate; rank = r.rank })
-      (Contains-cases k kept y h)
-
-  first_before : (k : Key) (kept : List Key) → AllPairs IsBefore (k ∷ kept) → All (IsBefore k) kept
-  first_before k kept h j d l = h 0 (suc j) d (omega arith) (omega arith)
-
-  later_before : (k : Key) (kept : List Key) → AllPairs IsBefore (k ∷ kept) → AllPairs IsBefore kept
-  later_before k kept h i j d l m = h (suc i) (suc j) d (omega arith) (omega arith)
-
-  all_after : (k : Key) (e : Edge) (kept : List Key) (all : IsAll kept) → All (IsBefore k) kept → All (EdgeBefore (k.from, k.to, e)) (edge_list kept all)
-  all_after k e [] all h = λ i d l. absurd (omega arith)
-  all_after k e (x ∷ kept) all h = All-cons (EdgeBefore (k.from, k.to, e)) (x.from, x.to, (edge_of x (head_all x kept all)).edge) (edge_list kept (tail_all x kept all)) (All-head (IsBefore k) x kept h) (all_after k e kept (tail_all x kept all) (All-tail (IsBefore k) x kept h))
-
-  ascending : (kept : List Key) (all : IsAll kept) → AllPairs IsBefore kept → AllPairs EdgeBefore (edge_list kept all)
-  ascending [] all h = λ i j d l m. absurd (omega arith)
-  ascending (k ∷ kept) all h =
-      let e = (edge_of k (head_all k kept all)).edge in
-      let rest = tail_all k kept all in
-      AllPairs-cons EdgeBefore (k.from, k.to, e) (edge_list kept rest) (all_after k e kept rest (first_before k kept h)) (ascending kept rest (later_before k kept h))
-
-  moved : (a b c d : ℕ) (e : Edge) → a ≡ c → b ≡ d → IsEdge t a b e → IsEdge t c d e
-  moved a b c d e p q h = subst (λ z. IsEdge t c z e) q (subst (λ z. IsEdge t z b e) p h)
-
-  pub list_is : (keys kept : List Key) (all : IsAll kept) → ((x : Key) → Contains keys x ↔ IsOfTables t x) → AreLeast keys kept → IsEdgeList t (edge_list kept all)
-  list_is keys kept all of least = record {
-    ascends = ascending kept all least.ascends;
-    exact = λ u w e. (
-      (λ h.
-          let o = edge_back kept all (u, w, e) h in
-          moved o.key.from o.key.to u w e o.from o.to (least_is_edge t (names_differ t tables) keys of kept least o.key o.is_key e o.candidate o.rank)),
-      (λ h.
-          let k = contributed t (names_differ t tables) u w e h.candidate in
-          let served = least.each k.0 ((of k.0).1 k.1) in
-          let from : served.by.from ≡ u = served.pair.0 ∙ k.2.from in
-          let to : served.by.to ≡ w = served.pair.1 ∙ k.2.to in
-          let i = edge_into kept all served.by served.kept_one in
-          let one : IsEdge t served.by.from served.by.to i.edge = least_is_edge t (names_differ t tables) keys of kept least served.by served.kept_one i.edge i.candidate i.rank in
-          let same : i.edge ≡ e = one_edge t tables u w i.edge e (moved served.by.from served.by.to u w i.edge from to one) h in
-          let there : (served.by.from, served.by.to, i.edge) ≡ (u, w, e) = cc in
-          subst (λ z. Contains (edge_list kept all) z) there i.listed),
-    );
-  }
-
-  -- the weak links that the edges name are those that the keys name
-  named_by : (x : Key) (e : Edge) → x.rank ≡ rank_of e → Says t x e → weak_link e ≡ weak_source x
-  named_by x feature_to_base r s = no_source x (λ h. omega (arith, r, h))
-  named_by x named_feature r s = no_source x (λ h. omega (arith, r, h))
-  named_by x (dep_colon l) r s = no_source x (λ h. omega (arith, r, h))
-  named_by x (slash_full l) r s = no_source x (λ h. omega (arith, r, h))
-  named_by x (slash_optional l) r s = no_source x (λ h. omega (arith, r, h))
-  named_by x (slash_weak k l) r s = ap Some s.number ∙ its_source x r
-  named_by x (section l) r s = no_source x (λ h. omega (arith, r, h))
-
-  sources : (kept : List Key) (all : IsAll kept) → filter_map (λ e. weak_link e.2) (edge_list kept all) ≡ weak_sources kept
-  sources [] all = refl
-  sources (k ∷ kept) all =
-      let s = edge_of k (head_all k kept all) in
-      ap (λ o. cons_option o (filter_map (λ e. weak_link e.2) (edge_list kept (tail_all k kept all)))) (named_by k s.edge s.rank s.says)
-      ∙ ap (λ z. cons_option (weak_source k) z) (sources kept (tail_all k kept all))
-
-  -- the facts of each key beside its pair
-  abbrev pub told : List Key → List EdgeFacts → List (ℕ × ℕ × EdgeFacts)
-  told kept facts = map (λ p. (p.0.from, p.0.to, p.1)) (zip kept facts)
 
   tail_values : (weak : List ℕ) (k : Key) (kept : List Key) (f : EdgeFacts) (facts : List EdgeFacts) → AreValues t weak (k ∷ kept) (f ∷ facts) → AreValues t weak kept facts
   tail_values weak k kept f facts h = record { long = omega (arith, h.long); each = λ i x g a b. h.each (suc i) x g a b }
 
-  told_facts : (weak : List ℕ) (kept : List Key) (all : IsAll kept) (facts : List EdgeFacts) → AreValues t weak kept facts → told kept facts ≡ map (λ e. (e.0, e.1, facts_of t weak e.2)) (edge_list kept all)
-  told_facts weak [] all facts h = refl
-  told_facts weak (k ∷ kept) all [] h = absurd (omega (arith, h.long))
-  told_facts weak (k ∷ kept) all (f ∷ facts) h =
-      let s = edge_of k (head_all k kept all) in
-      let v = h.each 0 k f refl refl in
-      let same : v.edge ≡ s.edge = same_rank t tables k.from k.to v.edge s.edge v.candidate s.candidate (sym v.rank ∙ s.rank) in
-      let fact : f ≡ facts_of t weak s.edge = v.is ∙ ap (facts_of t weak) same in
-      let rest = told_facts weak kept (tail_all k kept all) facts (tail_values weak k kept f facts h) in
-      ap (λ z. (k.from, k.to, z) ∷ told kept facts) fact ∙ ap (λ z. (k.from, k.to, facts_of t weak s.edge) ∷ z) rest
+  record IsTold (weak : List ℕ) (kept : List Key) (x : ℕ × ℕ × EdgeFacts) : Type 0 where
+    key : Key
+    is_key : Contains kept key
+    from : key.from ≡ x.0
+    to : key.to ≡ x.1
+    value : IsValueOf t weak key x.2
+
+  told_back : (weak : List ℕ) (kept : List Key) (facts : List EdgeFacts) → AreValues t weak kept facts → (x : ℕ × ℕ × EdgeFacts) → Contains (told kept facts) x → IsTold weak kept x
+  told_back weak [] facts v x h = absurd (Contains-none x h)
+  told_back weak (k ∷ kept) [] v x h = absurd (Contains-none x h)
+  told_back weak (k ∷ kept) (f ∷ facts) v x h =
+      ⊎_elim
+      (λ e. subst (λ z. IsTold weak (k ∷ kept) z) e (record { key = k; is_key = Contains-first k kept; from = refl; to = refl; value = v.each 0 k f refl refl }))
+      (λ e.
+      let r = told_back weak kept facts (tail_values weak k kept f facts v) x e in
+      record { key = r.key; is_key = Contains-later k kept r.key r.is_key; from = r.from; to = r.to; value = r.value })
+      (Contains-cases (k.from, k.to, f) (told kept facts) x h)
+
+  record HasFacts (weak : List ℕ) (edges : List (ℕ × ℕ × EdgeFacts)) (k : Key) : Type 0 where
+    facts : EdgeFacts
+    listed : Contains edges (k.from, k.to, facts)
+    value : IsValueOf t weak k facts
+
+  told_into : (weak : List ℕ) (kept : List Key) (facts : List EdgeFacts) → AreValues t weak kept facts → (y : Key) → Contains kept y → HasFacts weak (told kept facts) y
+  told_into weak [] facts v y h = absurd (Contains-none y h)
+  told_into weak (k ∷ kept) [] v y h = absurd (omega (arith, v.long))
+  told_into weak (k ∷ kept) (f ∷ facts) v y h =
+      let rest = told kept facts in
+      let x : ℕ × ℕ × EdgeFacts = (k.from, k.to, f) in
+      ⊎_elim
+      (λ e. subst (λ z. HasFacts weak (x ∷ rest) z) e (record { facts = f; listed = Contains-first x rest; value = v.each 0 k f refl refl }))
+      (λ e. let r = told_into weak kept facts (tail_values weak k kept f facts v) y e in record { facts = r.facts; listed = Contains-later x rest (y.from, y.to, r.facts) r.listed; value = r.value })
+      (Contains-cases k kept y h)
+
+  -- the weak links that the edges name are those that the keys name
+  named_by : (weak : List ℕ) (x : Key) (e : Edge) → x.rank ≡ rank_of e → Says t x e → weak_link (facts_of t weak e) ≡ weak_source x
+  named_by weak x feature_to_base r s = no_source x (λ h. omega (arith, r, h))
+  named_by weak x named_feature r s = no_source x (λ h. omega (arith, r, h))
+  named_by weak x (dep_colon l) r s = no_source x (λ h. omega (arith, r, h))
+  named_by weak x (slash_full l) r s = no_source x (λ h. omega (arith, r, h))
+  named_by weak x (slash_optional l) r s = no_source x (λ h. omega (arith, r, h))
+  named_by weak x (slash_weak k l) r s =
+      let o = s.over in
+      ap (λ (z : LinkFacts). slice_get z.package_links 0) o.is ∙ alone x.source o.link (tables.declarations x.source o.link o.is_link) ∙ its_source x r
+  named_by weak x (section l) r s = no_source x (λ h. omega (arith, r, h))
+
+  sources : (weak : List ℕ) (kept : List Key) (facts : List EdgeFacts) → IsAll kept → AreValues t weak kept facts → filter_map (λ e. weak_link e.2) (told kept facts) ≡ weak_sources kept
+  sources weak [] facts all v = refl
+  sources weak (k ∷ kept) [] all v = absurd (omega (arith, v.long))
+  sources weak (k ∷ kept) (f ∷ facts) all v =
+      let s = stands_for t (names_differ t tables) k (all k (Contains-first k kept)) in
+      let x = v.each 0 k f refl refl in
+      let same : x.edge ≡ s.edge = same_rank t tables k.from k.to x.edge s.edge x.candidate s.candidate (sym x.rank ∙ s.rank) in
+      let fact : f ≡ facts_of t weak s.edge = x.is ∙ ap (facts_of t weak) same in
+      ap (λ o. cons_option o (filter_map (λ e. weak_link e.2) (told kept facts))) (ap weak_link fact ∙ named_by weak k s.edge s.rank s.says)
+      ∙ ap (λ z. cons_option (weak_source k) z) (sources weak kept facts (λ y c. all y (Contains-later k kept y c)) (tail_values weak k kept f facts v))
+
+  moved : (a b c d : ℕ) (e : Edge) → a ≡ c → b ≡ d → IsEdge t a b e → IsEdge t c d e
+  moved a b c d e p q h = subst (λ z. IsEdge t c z e) q (subst (λ z. IsEdge t z b e) p h)
 
   pub are_built : (keys kept : List Key) → ((x : Key) → Contains keys x ↔ IsOfTables t x) → AreLeast keys kept → (weak : List (ℕ × ℕ)) (facts : List EdgeFacts)
       → map (λ e. e.0) weak ≡ first_ones (weak_sources kept) → AreGates t weak → AreValues t (map (λ e. e.0) weak) kept facts → AreBuilt t (told kept facts) weak
   are_built keys kept of least weak facts links gates values =
+      let numbers = map (λ e. e.0) weak in
+      let differ = names_differ t tables in
       let all : IsAll kept = λ x c. (of x).0 (least.from_keys x c) in
-      let same : map (λ e. e.0) weak ≡ weak_links (edge_list kept all) = links ∙ ap first_ones (sym (sources kept all)) in
+      let up = ascending kept facts least.ascends in
       record {
-        list = edge_list kept all;
-        are_edges = list_is keys kept all of least;
-        links = same;
+        ascends = up;
+        exact = λ u w f. (
+          (λ h.
+              let x = told_back numbers kept facts values (u, w, f) h in
+              let v = x.value in
+              ∣ (v.edge, moved x.key.from x.key.to u w v.edge x.from x.to (least_is_edge t differ keys of kept least x.key x.is_key v.edge v.candidate v.rank), v.is) ∣₁),
+          (λ h. ∥∥₁_elim h (edge_there-prop (told kept facts) up u w f) (λ s.
+              let k = contributed t differ u w s.0 s.1.candidate in
+              let served = least.each k.0 ((of k.0).1 k.1) in
+              let from : served.by.from ≡ u = served.pair.0 ∙ k.2.from in
+              let to : served.by.to ≡ w = served.pair.1 ∙ k.2.to in
+              let i = told_into numbers kept facts values served.by served.kept_one in
+              let v = i.value in
+              let one : IsEdge t served.by.from served.by.to v.edge = least_is_edge t differ keys of kept least served.by served.kept_one v.edge v.candidate v.rank in
+              let same : v.edge ≡ s.0 = one_edge t tables u w v.edge s.0 (moved served.by.from served.by.to u w v.edge from to one) s.1 in
+              let fact : i.facts ≡ f = v.is ∙ ap (facts_of t numbers) same ∙ sym s.2 in
+              let there : (served.by.from, served.by.to, i.facts) ≡ (u, w, f) = cc in
+              placed (told kept facts) (served.by.from, served.by.to, i.facts) (u, w, f) there i.listed)),
+        );
+        links = links ∙ ap first_ones (sym (sources numbers kept facts all values));
         gates = gates;
-        facts = told_facts (map (λ e. e.0) weak) kept all facts values ∙ ap (λ z. map (λ e. (e.0, e.1, facts_of t z e.2)) (edge_list kept all)) same;
       }
 
 -- the ends of the edges of keys, in the order of the keys

@@ -1,14 +1,14 @@
 -- Reach over chosen pairs and over chosen edges of the tables.
 use Rattle.std.proofs.Common.{◌≡◌, ℕ, ◌⊎◌, ⊎_elim, inl, inr, List, [], ◌∷◌, map, Bool, true, refl, sym, ap, ◌∙◌, subst}
 use Rattle.std.specs.Prelude.{◌↔◌, ◌==◌, IsTrue, Contains, filter}
-use Rattle.std.proofs.Math.Logic.{∥∥₁_elim, ∥∥₁_map, ∥∥₁_prop}
+use Rattle.std.proofs.Math.Logic.{∥∥₁_elim, ∥∥₁_map}
 use Rattle.guppy_packages.specs.Tables.{Tables}
 use Rattle.guppy_packages.specs.declared.direction.DependencyDirection.{DependencyDirection}
 use Rattle.guppy_packages.specs.declared.direction.DependencyDirection.TheVariants.{Forward, Reverse}
 use Rattle.feature_core.specs.declared.edge.EdgeChoice.{EdgeChoice}
 use Rattle.feature_core.specs.declared.edge.EdgeChoice.TheVariants.{All, FeatureToBaseAndNamed}
 use Rattle.feature_core.specs.Candidates.{Edge, feature_to_base, named_feature, dep_colon, slash_full, slash_optional, slash_weak, section, IsEdge}
-use Rattle.feature_core.specs.Edges.{EdgeFacts, AreBuilt, weak_links, facts_of}
+use Rattle.feature_core.specs.Edges.{EdgeFacts, AreBuilt, facts_of}
 use Rattle.feature_core.specs.Pairs.{PairLeads, Reach, ReachAlong}
 use Rattle.feature_core.specs.Built.{Built, IsBuilt, ends_of}
 use Rattle.feature_core.specs.Choices.{is_chosen, chosen_pairs, is_chosen_edge, ChosenEdge, ChosenLeads, ChosenReach}
@@ -37,28 +37,6 @@ chosen_same FeatureToBaseAndNamed t weak (slash_optional l) = refl
 chosen_same FeatureToBaseAndNamed t weak (slash_weak k l) = refl
 chosen_same FeatureToBaseAndNamed t weak (section l) = refl
 
-module _ (t : Tables) (which : EdgeChoice) (edges : List (ℕ × ℕ × EdgeFacts)) (weak : List (ℕ × ℕ)) (built : AreBuilt t edges weak) where
-  abbrev as_built : ℕ × ℕ × Edge → ℕ × ℕ × EdgeFacts
-  as_built e = (e.0, e.1, facts_of t (weak_links built.list) e.2)
-
-  pub chosen_back : (u w : ℕ) → Contains (chosen_pairs which edges) (u, w) → (e : Edge) × IsEdge t u w e × IsTrue (is_chosen_edge which e)
-  chosen_back u w h =
-      let x = from_map (λ e. (e.0, e.1)) (filter (λ e. is_chosen which e.2) edges) (u, w) h in
-      let kept = from_filter (λ e. is_chosen which e.2) edges x.0 x.1 in
-      let y = from_map as_built built.list x.0 (subst (λ z. Contains z x.0) built.facts kept.0) in
-      let edge = (built.are_edges.exact y.0.0 y.0.1 y.0.2).0 y.1 in
-      let from : y.0.0 ≡ u = ap (λ z. z.0) y.2 ∙ ap (λ z. z.0) x.2 in
-      let to : y.0.1 ≡ w = ap (λ z. z.1) y.2 ∙ ap (λ z. z.1) x.2 in
-      let chosen : is_chosen_edge which y.0.2 ≡ true = sym (chosen_same which t (weak_links built.list) y.0.2) ∙ ap (λ z. is_chosen which z.2) y.2 ∙ kept.1 in
-      (y.0.2, subst (λ z. IsEdge t u z y.0.2) to (subst (λ z. IsEdge t z y.0.1 y.0.2) from edge), chosen)
-
-  pub chosen_into : (u w : ℕ) → ((e : Edge) × IsEdge t u w e × IsTrue (is_chosen_edge which e)) → Contains (chosen_pairs which edges) (u, w)
-  chosen_into u w (e, edge, chosen) =
-      let there : Contains (map as_built built.list) (as_built (u, w, e)) = into_map as_built built.list (u, w, e) ((built.are_edges.exact u w e).1 edge) in
-      let listed : Contains edges (as_built (u, w, e)) = subst (λ z. Contains z (as_built (u, w, e))) (sym built.facts) there in
-      into_map (λ x. (x.0, x.1)) (filter (λ x. is_chosen which x.2) edges) (as_built (u, w, e))
-      (into_filter (λ x. is_chosen which x.2) edges (as_built (u, w, e)) listed (chosen_same which t (weak_links built.list) e ∙ chosen))
-
 same_or_not : (a b : ℕ × ℕ) → (a ≡ b) ⊎ (a ≡ b → ⊥)
 same_or_not (a, b) (c, d) = ⊎_elim
     (λ p.
@@ -85,15 +63,30 @@ stands : (pairs : List (ℕ × ℕ)) (x : ℕ × ℕ) → ∥ Contains pairs x �
 stands pairs x h = ⊎_elim (λ c. c) (λ n. absurd (∥∥₁_elim h (λ p q. absurd p) n)) (stands_or_not pairs x)
 
 -- a chosen pair is that of a chosen edge of the tables
-pub chosen_pair : (t : Tables) (b : Built) (which : EdgeChoice) → IsBuilt t b → (u w : ℕ) → Contains (chosen_pairs which b.edges) (u, w) ↔ ChosenEdge t which u w
-chosen_pair t b which x u w = (
-  (λ h. ∥∥₁_map x.edges (λ built. chosen_back t which b.edges b.weak built u w h)),
-  (λ h. stands (chosen_pairs which b.edges) (u, w) (∥∥₁_elim x.edges ∥∥₁_prop (λ built. ∥∥₁_map h (λ e. chosen_into t which b.edges b.weak built u w e)))),
+pub chosen_pair : (t : Tables) (which : EdgeChoice) (edges : List (ℕ × ℕ × EdgeFacts)) (weak : List (ℕ × ℕ)) → AreBuilt t edges weak → (u w : ℕ) → Contains (chosen_pairs which edges) (u, w) ↔ ChosenEdge t which u w
+chosen_pair t which edges weak built u w = (
+  (λ h.
+      let x = from_map (λ e. (e.0, e.1)) (filter (λ e. is_chosen which e.2) edges) (u, w) h in
+      let kept = from_filter (λ e. is_chosen which e.2) edges x.0 x.1 in
+      let from : x.0.0 ≡ u = ap (λ z. z.0) x.2 in
+      let to : x.0.1 ≡ w = ap (λ z. z.1) x.2 in
+      ∥∥₁_map
+      ((built.exact x.0.0 x.0.1 x.0.2).0 kept.0)
+      (λ s. (
+        s.0,
+        subst (λ z. IsEdge t u z s.0) to (subst (λ z. IsEdge t z x.0.1 s.0) from s.1),
+        sym (chosen_same which t (map (λ x. x.0) weak) s.0) ∙ ap (is_chosen which) (sym s.2) ∙ kept.1,
+      ))),
+  (λ h. stands (chosen_pairs which edges) (u, w) (∥∥₁_map h (λ s.
+      let f : EdgeFacts = facts_of t (map (λ x. x.0) weak) s.0 in
+      let listed : Contains edges (u, w, f) = (built.exact u w f).1 ∣ (s.0, s.1, refl) ∣₁ in
+      into_map (λ x. (x.0, x.1)) (filter (λ x. is_chosen which x.2) edges) (u, w, f)
+      (into_filter (λ x. is_chosen which x.2) edges (u, w, f) listed (chosen_same which t (map (λ x. x.0) weak) s.0 ∙ s.2))))),
 )
 
 chosen_leads : (t : Tables) (b : Built) (which : EdgeChoice) (direction : DependencyDirection) → IsBuilt t b → (u w : ℕ) → PairLeads (chosen_pairs which b.edges) direction u w ↔ ChosenLeads t which direction u w
-chosen_leads t b which Forward x u w = chosen_pair t b which x u w
-chosen_leads t b which Reverse x u w = chosen_pair t b which x w u
+chosen_leads t b which Forward x u w = chosen_pair t which b.edges b.weak x.edges u w
+chosen_leads t b which Reverse x u w = chosen_pair t which b.edges b.weak x.edges w u
 
 -- what is reached over the chosen pairs is what is reached over the chosen edges
 pub chosen_alike : (t : Tables) (b : Built) (which : EdgeChoice) (direction : DependencyDirection) (initials : ℕ → Bool) (n : ℕ) (P : Type 0) → IsBuilt t b → (P ↔ ReachAlong (PairLeads (chosen_pairs which b.edges) direction) initials n) → (P ↔ ChosenReach t which direction initials n)

@@ -2,31 +2,26 @@
 use Rattle.std.proofs.Common.{◌≡◌, ℕ, ◌+◌, ◌<◌, ◌≤◌, ◌⊎◌, ⊎_elim, zero, suc, List, length, Bool, true, false, Option, Some, None, refl, sym, ap, ◌∙◌, subst, arith}
 use Rattle.std.specs.Prelude.{◌↔◌, IsTrue, slice_set, replicate, codes}
 use Rattle.std.proofs.lemmas.List.{length-map}
-use Rattle.std.proofs.Math.Logic.{∥∥₁_elim}
+use Rattle.std.proofs.Math.Logic.{∥∥₁_elim, ∥∥₁_map, ∥∥₁_prop}
 use Rattle.std.proofs.Math.Bool.{Bool-set}
 use Rattle.guppy_support.specs.Bits.{has}
 use Rattle.guppy_packages.specs.Tables.{Tables}
 use Rattle.guppy_packages.specs.declared.direction.DependencyDirection.TheVariants.{Forward}
 use Rattle.feature_labels.specs.Names.{LabelName}
 use Rattle.feature_labels.specs.Names.LabelName.{base, named}
-use Rattle.feature_core.specs.declared.edge.EdgeChoice.{EdgeChoice}
 use Rattle.feature_core.specs.declared.edge.EdgeChoice.TheVariants.{FeatureToBaseAndNamed}
 use Rattle.feature_core.specs.Nodes.{NodeAt, node_places, node_packages}
-use Rattle.feature_core.specs.Candidates.{Edge, Candidate, to_base, to_feature, to_dependency, over_strong, over_weak, with_dependency, with_feature, of_required, of_optional, IsEdge}
+use Rattle.feature_core.specs.Candidates.{Edge, Candidate, to_base, to_feature, to_dependency, over_strong, over_weak, with_dependency, with_feature, of_required, of_optional}
 use Rattle.feature_core.specs.Edges.{EdgeFacts, AreBuilt}
 use Rattle.feature_core.specs.Pairs.{Along, nowhere, onward, PairLeads, ReachAlong}
 use Rattle.feature_core.specs.Choices.{is_chosen_edge, chosen_pairs, ChosenEdge}
 use Rattle.feature_core.specs.Defaults.{IsDefaultFeature, by_name, by_base, IsDefault}
 use Rattle.feature_core.proofs.AddsLemmas.{place_below}
-use Rattle.feature_core.proofs.ChoiceLemmas.{chosen_back, chosen_into}
+use Rattle.feature_core.proofs.ChoiceLemmas.{chosen_pair}
 use Rattle.feature_core.proofs.PairLemmas.{Along-weaker}
 use Rattle.feature_core.proofs.Places.{got_same, node_back}
 use Rattle.feature_core.proofs.LabelLemmas.{one_base}
 use Rattle.feature_core.proofs.WayNumbers.{marked_set, marked_grows, marked_cases}
-
--- a chosen edge from u to w
-abbrev Chosen : Tables → EdgeChoice → ℕ → ℕ → Type 0
-Chosen t which u w = (e : Edge) × IsEdge t u w e × IsTrue (is_chosen_edge which e)
 
 -- node n is a label of package p
 abbrev IsIn : Tables → ℕ → ℕ → Type 0
@@ -82,33 +77,33 @@ walked t edges weak initials marks built starts reached n = (
   (λ m.
       let r = (reached n).0 m in
       let d = (starts r.0).0 r.1 in
-      let ends = along_in leads (IsIn t d.0) (λ u w h. let c = chosen u w h in stays t u w d.0 c.0 c.1.candidate c.2) r.0 n r.2 (starts_in t d.0 r.0 d.1) in
-      ∣ (
+      let ends = along_in leads (λ k. ∥ IsIn t d.0 k ∥₁) (λ u w h s. ∥∥₁_elim (chosen u w h) ∥∥₁_prop (λ c. ∥∥₁_map s (λ i. stays t u w d.0 c.0 c.1.candidate c.2 i))) r.0 n r.2 ∣ starts_in t d.0 r.0 d.1 ∣₁ in
+      ∥∥₁_map ends (λ e. (
         d.0,
         record {
-          label = ends.0;
-          node = ends.1;
+          label = e.0;
+          node = e.1;
           start = r.0;
           is_start = d.1;
-          path = Along-weaker leads (ChosenEdge t FeatureToBaseAndNamed) (λ u w h. ∣ chosen u w h ∣₁) r.0 n r.2;
+          path = Along-weaker leads (ChosenEdge t FeatureToBaseAndNamed) chosen r.0 n r.2;
         },
-      ) ∣₁),
+      ))),
   (λ h. ∥∥₁_elim h (Bool-set _ _) (λ x. along_in (ChosenEdge t FeatureToBaseAndNamed) (λ k. IsTrue (has marks k)) more x.1.start n x.1.path (first x.0 x.1.start x.1.is_start))),
 )
   where
     leads : ℕ → ℕ → Type 0
     leads = PairLeads (chosen_pairs FeatureToBaseAndNamed edges) Forward
 
-    chosen : (u w : ℕ) → leads u w → Chosen t FeatureToBaseAndNamed u w
-    chosen u w h = chosen_back t FeatureToBaseAndNamed edges weak built u w h
+    chosen : (u w : ℕ) → leads u w → ChosenEdge t FeatureToBaseAndNamed u w
+    chosen u w h = (chosen_pair t FeatureToBaseAndNamed edges weak built u w).0 h
 
     first : (p k : ℕ) → IsDefaultFeature t p k → IsTrue (has marks k)
     first p k d = (reached k).1 (k, (starts k).1 (p, d), nowhere)
 
     more : (u w : ℕ) → ChosenEdge t FeatureToBaseAndNamed u w → IsTrue (has marks u) → IsTrue (has marks w)
-    more u w h m = ∥∥₁_elim h (Bool-set _ _) (λ c.
+    more u w h m =
         let r = (reached u).0 m in
-        (reached w).1 (r.0, r.1, along_more leads r.0 u w r.2 (chosen_into t FeatureToBaseAndNamed edges weak built u w c)))
+        (reached w).1 (r.0, r.1, along_more leads r.0 u w r.2 ((chosen_pair t FeatureToBaseAndNamed edges weak built u w).1 h))
 
 -- a node is below the number of nodes
 pub start_below : (t : Tables) (p n : ℕ) → IsDefaultFeature t p n → n < length (node_packages t)

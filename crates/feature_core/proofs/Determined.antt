@@ -1,21 +1,26 @@
 -- What is built of tables is determined.
-use Rattle.std.proofs.Common.{◌≡◌, ℕ, suc, ◌+◌, length, ⊎_elim, List, ◌∷◌, [], Bool, true, false, map, refl, ap, sym, ◌∙◌, subst, arith, Some, None, Option}
-use Rattle.std.specs.Prelude.{◌↔◌, IsTrue, Contains, AllPairs, slice_get}
+use Rattle.std.proofs.Common.{◌≡◌, ℕ, suc, ◌+◌, ◌<◌, ◌⊎◌, length, get_or, ⊎_elim, List, ◌∷◌, [], Bool, true, false, map, refl, ap, sym, ◌∙◌, subst, arith, Some, None, Option}
+use Rattle.std.specs.Prelude.{◌↔◌, IsTrue, Contains, AllPairs, filter_map, slice_get}
+use Rattle.std.specs.List.{cons_option}
 use Rattle.std.proofs.Math.Logic.{∥∥₁_elim}
+use Rattle.std.proofs.Props.{props}
+use Rattle.std.proofs.lemmas.List.{length-map, get_or-map}
 use Rattle.guppy_support.specs.Bits.{has}
-use Rattle.guppy_packages.specs.Tables.{LinkTable, Tables, AreTables, optional_place}
+use Rattle.guppy_packages.specs.Tables.{Tables, AreTables, optional_place}
 use Rattle.feature_labels.specs.Names.LabelName.{optional}
 use Rattle.feature_core.specs.Built.{Built, IsBuilt, AreAlike}
 use Rattle.feature_core.specs.Nodes.{NodeAt, labels_of, first_node}
-use Rattle.feature_core.specs.Links.{IsLink}
-use Rattle.feature_core.specs.Candidates.{Edge}
-use Rattle.feature_core.specs.Edges.{EdgeFacts, EdgeBefore, IsEdgeList, AreBuilt, IsGate, facts_of, weak_links}
+use Rattle.feature_core.specs.Candidates.{Edge, feature_to_base, named_feature, dep_colon, slash_full, slash_optional, slash_weak, section}
+use Rattle.feature_core.specs.Edges.{EdgeFacts, EdgeSays, AreBuilt, IsGate, facts_of, weak_link, first_ones}
 use Rattle.feature_core.specs.Defaults.{AreDefaults}
 use Rattle.feature_core.specs.Warnings.{Warning}
 use Rattle.feature_core.proofs.AddsLemmas.{Contains-first, Contains-later, Contains-cases, Contains-none}
 use Rattle.feature_core.proofs.LabelLemmas.{optional_found, optional_missing}
 use Rattle.feature_core.proofs.LeastKeys.{AllPairs-first, AllPairs-later}
+use Rattle.feature_core.proofs.NodeLabels.{element_within}
+use Rattle.feature_core.specs.BuiltOnce.{Contains-prop}
 use Rattle.feature_core.proofs.Places.{IsSpread, node_back}
+use Rattle.feature_core.proofs.PushLemmas.{from_map, into_map}
 
 -- ascending lists with the same elements are the same
 module _ {X : Type 0} (R : X → X → Type 0) (never : (x y : X) → R x y → R y x → ⊥) where
@@ -49,20 +54,74 @@ module _ {X : Type 0} (R : X → X → Type 0) (never : (x y : X) → R x y → 
       let rest : xs ≡ ys = one_ascending xs ys (AllPairs-later R x xs a) (AllPairs-later R y ys b) (in_rest x y xs ys a e f) (in_rest y x ys xs b (sym e) g) in
       ap (λ z. z ∷ xs) e ∙ ap (λ z. y ∷ z) rest
 
-never_both : (a b : ℕ × ℕ × Edge) → EdgeBefore a b → EdgeBefore b a → ⊥
+-- by from, then to
+abbrev IsEarlier : {X : Type 0} → ℕ × ℕ × X → ℕ × ℕ × X → Type 0
+IsEarlier a b = (a.0 < b.0) ⊎ ((a.0 ≡ b.0) × (a.1 < b.1))
+
+never_both : {X : Type 0} (a b : ℕ × ℕ × X) → IsEarlier a b → IsEarlier b a → ⊥
 never_both a b h i = ⊎_elim (λ l. ⊎_elim (λ m. omega (arith, l, m)) (λ m. omega (arith, l, m.0)) i) (λ l. ⊎_elim (λ m. omega (arith, l.0, m)) (λ m. omega (arith, l.1, m.1)) i) h
 
--- the edges of the tables are one list
-pub one_list : (t : Tables) (a b : List (ℕ × ℕ × Edge)) → IsEdgeList t a → IsEdgeList t b → a ≡ b
-one_list t a b h i = one_ascending EdgeBefore never_both a b h.ascends i.ascends
-    (λ z c. (i.exact z.0 z.1 z.2).1 ((h.exact z.0 z.1 z.2).0 c))
-    (λ z c. (h.exact z.0 z.1 z.2).1 ((i.exact z.0 z.1 z.2).0 c))
+ascends_map : {X Y : Type 0} (f : X → Y) (R : Y → Y → Type 0) (xs : List X) → AllPairs (λ a b. R (f a) (f b)) xs → AllPairs R (map f xs)
+ascends_map f R xs h i j e l m =
+    let within : j < length xs = omega (arith, m, length-map xs f) in
+    let d = (element_within xs j within).0 in
+    let at_i : get_or (map f xs) i e ≡ f (get_or xs i d) = get_or-map f xs i d e (omega arith) in
+    let at_j : get_or (map f xs) j e ≡ f (get_or xs j d) = get_or-map f xs j d e within in
+    subst (λ z. R z (get_or (map f xs) j e)) (sym at_i) (subst (λ z. R (f (get_or xs i d)) z) (sym at_j) (h i j d l within))
 
-one_table : (t : Tables) (k : ℕ) (l m : LinkTable) → IsLink t k l → IsLink t k m → l ≡ m
-one_table t k l m a b = got (sym a ∙ b)
-  where
-    got : ◌≡◌ {A = Option LinkTable} (Some l) (Some m) → l ≡ m
-    got e = cc
+-- the two nodes of an edge, and the package link that it names if it is weak
+abbrev named_link : ℕ × ℕ × EdgeFacts → ℕ × ℕ × Option ℕ
+named_link x = (x.0, x.1, weak_link x.2)
+
+-- what is built of an edge names one package link, whatever the weak links are
+named_alike : (t : Tables) (v w : List ℕ) (e : Edge) → weak_link (facts_of t v e) ≡ weak_link (facts_of t w e)
+named_alike t v w feature_to_base = refl
+named_alike t v w named_feature = refl
+named_alike t v w (dep_colon l) = refl
+named_alike t v w (slash_full l) = refl
+named_alike t v w (slash_optional l) = refl
+named_alike t v w (slash_weak k l) = refl
+named_alike t v w (section l) = refl
+
+option-set : IsSet (ℕ × ℕ × Option ℕ)
+option-set = hlevel props
+
+named_ascend : (t : Tables) (a : List (ℕ × ℕ × EdgeFacts)) (v : List (ℕ × ℕ)) → AreBuilt t a v → AllPairs IsEarlier (map named_link a)
+named_ascend t a v h = ascends_map named_link IsEarlier a h.ascends
+
+never_earlier : (a : ℕ × ℕ × Option ℕ) → IsEarlier a a → ⊥
+never_earlier a h = never_both a a h h
+
+-- the links that edges name stand in each list that is built
+named_there : (t : Tables) (a b : List (ℕ × ℕ × EdgeFacts)) (v w : List (ℕ × ℕ)) → AreBuilt t a v → AreBuilt t b w → (z : ℕ × ℕ × Option ℕ) → Contains (map named_link a) z → Contains (map named_link b) z
+named_there t a b v w h i z c =
+    let x = from_map named_link a z c in
+    let there : IsProp (Contains (map named_link b) z) = Contains-prop IsEarlier never_earlier option-set (map named_link b) (named_ascend t b w i) z in
+    ∥∥₁_elim ((h.exact x.0.0 x.0.1 x.0.2).0 x.1) there (λ s.
+    let f : EdgeFacts = facts_of t (map (λ y. y.0) w) s.0 in
+    let listed : Contains b (x.0.0, x.0.1, f) = (i.exact x.0.0 x.0.1 f).1 ∣ (s.0, s.1, refl) ∣₁ in
+    let same : weak_link f ≡ weak_link x.0.2 = named_alike t (map (λ y. y.0) w) (map (λ y. y.0) v) s.0 ∙ ap weak_link (sym s.2) in
+    subst (λ z. Contains (map named_link b) z) (ap (λ o. (x.0.0, x.0.1, o)) same ∙ x.2) (into_map named_link b (x.0.0, x.0.1, f) listed))
+
+named_links : (a : List (ℕ × ℕ × EdgeFacts)) → filter_map (λ (e : ℕ × ℕ × Option ℕ). e.2) (map named_link a) ≡ filter_map (λ e. weak_link e.2) a
+named_links [] = refl
+named_links (x ∷ xs) = ap (cons_option (weak_link x.2)) (named_links xs)
+
+-- the weak links are one list
+one_numbers : (t : Tables) (a b : List (ℕ × ℕ × EdgeFacts)) (v w : List (ℕ × ℕ)) → AreBuilt t a v → AreBuilt t b w → map (λ x. x.0) v ≡ map (λ x. x.0) w
+one_numbers t a b v w h i =
+    let same : map named_link a ≡ map named_link b = one_ascending IsEarlier never_both (map named_link a) (map named_link b) (named_ascend t a v h) (named_ascend t b w i) (named_there t a b v w h i) (named_there t b a w v i h) in
+    h.links
+    ∙ ap first_ones (sym (named_links a) ∙ ap (filter_map (λ (e : ℕ × ℕ × Option ℕ). e.2)) same ∙ named_links b)
+    ∙ sym i.links
+
+-- what the edges of the tables say is one list
+one_edges : (t : Tables) (a b : List (ℕ × ℕ × EdgeFacts)) (v w : List (ℕ × ℕ)) → AreBuilt t a v → AreBuilt t b w → a ≡ b
+one_edges t a b v w h i =
+    let same = one_numbers t a b v w h i in
+    one_ascending IsEarlier never_both a b h.ascends i.ascends
+    (λ x c. (i.exact x.0 x.1 x.2).1 (subst (λ z. EdgeSays t z x.0 x.1 x.2) same ((h.exact x.0 x.1 x.2).0 c)))
+    (λ x c. (h.exact x.0 x.1 x.2).1 (subst (λ z. EdgeSays t z x.0 x.1 x.2) (sym same) ((i.exact x.0 x.1 x.2).0 c)))
 
 -- an optional name of a package has one node
 one_node : (t : Tables) → AreTables t → (p m n : ℕ) (name : List ℕ) → NodeAt t m p (optional name) → NodeAt t n p (optional name) → m ≡ n
@@ -86,8 +145,8 @@ one_node t tables p m n name a b = go (optional_place name s.row.optional_names)
 -- a weak link has one gate
 one_gate : (t : Tables) → AreTables t → (k g h : ℕ) → IsGate t k g → IsGate t k h → g ≡ h
 one_gate t tables k g h a b =
-    let e : a.link ≡ b.link = one_table t k a.link b.link a.is_link b.is_link in
-    one_node t tables b.link.from g h b.link.name (subst (λ z. NodeAt t g z.from (optional z.name)) e a.node) b.node
+    let link = element_within t.links k a.within in
+    one_node t tables link.0.from g h link.0.name (a.node link.0 link.1) (b.node link.0 link.1)
 
 -- weak links with their gates are one list
 one_weak : (t : Tables) → AreTables t → (a b : List (ℕ × ℕ)) → map (λ x. x.0) a ≡ map (λ x. x.0) b
@@ -102,11 +161,8 @@ one_weak t tables (x ∷ xs) (y ∷ ys) e f g =
     let first : x ≡ y = ap (λ z. (z, x.1)) k ∙ ap (λ z. (y.0, z)) gate in
     ap (λ z. z ∷ xs) first ∙ ap (λ z. y ∷ z) (one_weak t tables xs ys more (λ i. f (suc i)) (λ i. g (suc i)))
 
-one_edges : (t : Tables) (a b : List (ℕ × ℕ × EdgeFacts)) (v w : List (ℕ × ℕ)) → AreBuilt t a v → AreBuilt t b w → a ≡ b
-one_edges t a b v w h i = h.facts ∙ ap (λ l. map (λ e. (e.0, e.1, facts_of t (weak_links l) e.2)) l) (one_list t h.list i.list h.are_edges i.are_edges) ∙ sym i.facts
-
 one_links : (t : Tables) → AreTables t → (a b : List (ℕ × ℕ × EdgeFacts)) (v w : List (ℕ × ℕ)) → AreBuilt t a v → AreBuilt t b w → v ≡ w
-one_links t tables a b v w h i = one_weak t tables v w (h.links ∙ ap weak_links (one_list t h.list i.list h.are_edges i.are_edges) ∙ sym i.links) h.gates i.gates
+one_links t tables a b v w h i = one_weak t tables v w (one_numbers t a b v w h i) h.gates i.gates
 
 -- lists of one length with the same members are the same
 one_set : (a b : List Bool) → length a ≡ length b → ((n : ℕ) → IsTrue (has a n) → IsTrue (has b n)) → ((n : ℕ) → IsTrue (has b n) → IsTrue (has a n)) → a ≡ b
@@ -140,17 +196,21 @@ alike_same a b h =
     ∙ ap (λ z. of_parts b.stamp b.firsts b.packages b.edges b.weak b.warnings z) h.6
 
 -- two builds of one graph under one stamp are the same
-pub determined : (t : Tables) → AreTables t → (a b : Built) → IsBuilt t a → IsBuilt t b → AreBuilt t a.edges a.weak → AreBuilt t b.edges b.weak → a.stamp ≡ b.stamp → AreAlike a b
-determined t tables a b x y h i s = (s, x.firsts ∙ sym y.firsts, x.packages ∙ sym y.packages, one_edges t a.edges b.edges a.weak b.weak h i, one_links t tables a.edges b.edges a.weak b.weak h i, x.warnings ∙ sym y.warnings, one_defaults t a.defaults b.defaults x.defaults y.defaults)
-
--- data that differs from a build was not built of the graph
-apart : (t : Tables) → AreTables t → (a b : Built) → IsBuilt t a → IsBuilt t b → a.stamp ≡ b.stamp → (AreAlike a b → ⊥) → ⊥
-apart t tables a b x y s n = ∥∥₁_elim x.edges (λ p q. absurd p) (λ h. ∥∥₁_elim y.edges (λ p q. absurd p) (λ i. n (determined t tables a b x y h i s)))
+pub determined : (t : Tables) → AreTables t → (a b : Built) → IsBuilt t a → IsBuilt t b → a.stamp ≡ b.stamp → AreAlike a b
+determined t tables a b x y s = (
+  s,
+  x.firsts ∙ sym y.firsts,
+  x.packages ∙ sym y.packages,
+  one_edges t a.edges b.edges a.weak b.weak x.edges y.edges,
+  one_links t tables a.edges b.edges a.weak b.weak x.edges y.edges,
+  x.warnings ∙ sym y.warnings,
+  one_defaults t a.defaults b.defaults x.defaults y.defaults,
+)
 
 -- whether data is the same as a build says whether it was built of the graph
 pub same_as_built : (t : Tables) → AreTables t → (a b : Built) (same : Bool) → IsBuilt t a → a.stamp ≡ b.stamp → IsTrue same ↔ AreAlike a b → IsTrue same ↔ IsBuilt t b
 same_as_built t tables a b true x s h = ((λ p. subst (λ z. IsBuilt t z) (alike_same a b (h.0 refl)) x), (λ y. refl))
-same_as_built t tables a b false x s h = ((λ p. absurd (never p)), (λ y. absurd (apart t tables a b x y s (λ e. never (h.1 e)))))
+same_as_built t tables a b false x s h = ((λ p. absurd (never p)), (λ y. absurd (never (h.1 (determined t tables a b x y s)))))
   where
     never : IsTrue false → ⊥
     never p = cc

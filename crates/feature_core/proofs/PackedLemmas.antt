@@ -25,6 +25,7 @@ use Rattle.feature_core.proofs.WayNumbers.{is_in_at}
 use Rattle.feature_core.proofs.Places.{got_map, got_same}
 use Rattle.feature_core.proofs.OpenWayLemmas.{ends_are_nodes, edge_way, number_read}
 use Rattle.feature_core.proofs.Released.{Rises, same_rising, in_released, released_in, released_rises}
+use Rattle.feature_core.proofs.NodeLabels.{element_within}
 use Rattle.feature_core.proofs.ReleaseTables.{exact_releases}
 
 start_same : (direction : DependencyDirection) (weak : List (ℕ × ℕ)) (e : Edge) (f : EdgeFacts) → (way direction weak (e.from, e.to, f)).start ≡ (open_way direction e).start
@@ -188,5 +189,6 @@ pub built_gates : (t : Tables) (edges : List (ℕ × ℕ × EdgeFacts)) (weak : 
 built_gates t edges weak nodes built n i d l =
     let x : ℕ × ℕ = get_or weak i d in
     let gate = built.gates i x.0 x.1 (slice_get-get_or weak i d l) in
-    let within : x.1 < length (node_places t) = slice_get_within (node_places t) x.1 (gate.link.from, optional gate.link.name) gate.node in
+    let link = element_within t.links x.0 gate.within in
+    let within : x.1 < length (node_places t) = slice_get_within (node_places t) x.1 (link.0.from, optional link.0.name) (gate.node link.0 link.1) in
     omega (arith, length-map (node_places t) (λ (p : ℕ × LabelName). p.0))

@@ -5,6 +5,7 @@ use Rattle.std.specs.Option.{option_map}
 use Rattle.std.proofs.lemmas.Option.{slice_get-map}
 use Rattle.std.proofs.lemmas.List.Elements.{All-map}
 use Rattle.std.proofs.lemmas.List.Kept.{AllPairs-cons}
+use Rattle.std.proofs.Math.Logic.{∥∥₁_elim}
 use Rattle.guppy_support.specs.declared.digraph.Edge.{Edge}
 use Rattle.guppy_packages.specs.Tables.{Tables, FeatureTable, AreTables}
 use Rattle.guppy_packages.specs.declared.direction.DependencyDirection.{DependencyDirection}
@@ -14,6 +15,7 @@ use Rattle.feature_core.specs.Candidates.{Candidate}
 use Rattle.feature_core.specs.declared.key.Key.{Key}
 use Rattle.feature_core.specs.Keys.{AreLeast, edge_of, IsBefore as Before}
 use Rattle.feature_core.specs.Parts.{IsOfTables}
+use Rattle.feature_core.specs.BuiltOnce.{pair_there-prop}
 use Rattle.feature_core.proofs.PushLemmas.{from_map, into_map}
 use Rattle.feature_core.proofs.PartLemmas.{NamesDiffer, contributed, stands_for}
 use Rattle.feature_core.specs.Built.{Built, IsBuilt, pairs_of, ends_of}
@@ -69,13 +71,13 @@ pairs_kept t keys kept edges tables all least e = subst (λ z. IsPairList t (pai
         let s = stands_for t (names_differ t tables) k.0 ((all k.0).0 (least.from_keys k.0 k.1)) in
         let from : k.0.from ≡ u = ap (λ x. x.from) k.2 ∙ ap (λ x. x.0) edge.2 in
         let to : k.0.to ≡ w = ap (λ x. x.to) k.2 ∙ ap (λ x. x.1) edge.2 in
-        (s.edge, subst (λ z. Candidate t u z s.edge) to (subst (λ z. Candidate t z k.0.to s.edge) from s.candidate))),
-    (λ h.
-        let k = contributed t (names_differ t tables) u w h.0 h.1 in
+        ∣ (s.edge, subst (λ z. Candidate t u z s.edge) to (subst (λ z. Candidate t z k.0.to s.edge) from s.candidate)) ∣₁),
+    (λ h. ∥∥₁_elim h (pair_there-prop (pairs_of (map edge_of kept)) (ascending kept least.ascends) u w) (λ c.
+        let k = contributed t (names_differ t tables) u w c.0 c.1 in
         let served = least.each k.0 ((all k.0).1 k.1) in
         let from : served.by.from ≡ u = served.pair.0 ∙ k.2.from in
         let to : served.by.to ≡ w = served.pair.1 ∙ k.2.to in
         let pair : (served.by.from, served.by.to) ≡ (u, w) = cc in
-        subst (λ z. Contains (pairs_of (map edge_of kept)) z) pair (into_map (λ x. (x.from, x.to)) (map edge_of kept) (edge_of served.by) (into_map edge_of kept served.by served.kept_one))),
+        subst (λ z. Contains (pairs_of (map edge_of kept)) z) pair (into_map (λ x. (x.from, x.to)) (map edge_of kept) (edge_of served.by) (into_map edge_of kept served.by served.kept_one)))),
   );
 })

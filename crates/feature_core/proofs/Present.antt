@@ -4,6 +4,7 @@ use Rattle.std.specs.Prelude.{filter, filter_map, flat_map, slice_get, Contains,
 use Rattle.std.specs.List.{list_any, position_or_len}
 use Rattle.std.specs.Str.{bytes_eq}
 use Rattle.std.specs.Cmp.Lexicographic.{bytes_decides}
+use Rattle.std.proofs.Math.Bool.{Bool-set}
 use Rattle.std.proofs.Math.Logic.{∥∥₁_elim}
 use Rattle.std.proofs.lemmas.List.Elements.{Contains-append_left, Contains-append_right}
 use Rattle.std.proofs.lemmas.Bool.Decides.{nat_tests}
@@ -22,7 +23,7 @@ use Rattle.feature_labels.specs.declared.link_declarations.LinkDeclarations.TheV
 use Rattle.feature_core.specs.Nodes.{NodeAt, labels_of}
 use Rattle.feature_core.specs.Links.{LinkFacts, IsLink, joined, is_kind, includes, status_of, over, numbered, links_named}
 use Rattle.feature_core.specs.Candidates.{Edge, feature_to_base, named_feature, dep_colon, slash_full, slash_optional, slash_weak, section, Candidate, to_base, to_feature, to_dependency, over_strong, over_weak, with_dependency, with_feature, of_required, of_optional, IsSection, requesting, unsplit_of, by_name}
-use Rattle.feature_core.specs.Edges.{EdgeFacts, AreBuilt, facts_of, weak_links, full_link, is_never}
+use Rattle.feature_core.specs.Edges.{EdgeFacts, facts_of, full_link, is_never}
 use Rattle.feature_core.specs.Present.{is_present}
 use Rattle.feature_core.specs.Built.{Built, IsBuilt, built_edges}
 use Rattle.feature_core.proofs.AddsLemmas.{Contains-first, Contains-later, Contains-cases, Contains-none, element_at_place}
@@ -224,26 +225,13 @@ candidate_sound t tables u w e (with_feature p n f d g item from beside differ t
 candidate_sound t tables u w e (of_required s) = section_sound t u w Required (λ link. base) e s
 candidate_sound t tables u w e (of_optional s) = section_sound t u w Optional (λ link. optional link.name) e s
 
-edges_sound : (t : Tables) → AreTables t → (edges : List (ℕ × ℕ × EdgeFacts)) (weak : List (ℕ × ℕ)) → AreBuilt t edges weak → (e : ℕ × ℕ × EdgeFacts) → Contains edges e → (l : LinkFacts)
-    → full_link e.2 ≡ Some l → IsTrue (is_present l)
-edges_sound t tables edges weak h e c l is =
-    let facts : ℕ × ℕ × Edge → ℕ × ℕ × EdgeFacts = λ e. (e.0, e.1, facts_of t (weak_links h.list) e.2) in
-    let s = from_map facts h.list e (subst (λ z. Contains z e) h.facts c) in
-    let edge = (h.are_edges.exact s.0.0 s.0.1 s.0.2).0 s.1 in
-    let same : facts_of t (weak_links h.list) s.0.2 ≡ e.2 = ap (λ z. z.2) s.2 in
-    candidate_sound t tables s.0.0 s.0.1 s.0.2 edge.candidate (weak_links h.list) l (ap full_link same ∙ is)
-
 -- the link of each conditional edge that is built is present
 pub links_present : (t : Tables) → AreTables t → (b : Built) → IsBuilt t b → (k : ℕ) (e : ℕ × ℕ × EdgeFacts) (l : LinkFacts) → slice_get b.edges k ≡ Some e → full_link e.2 ≡ Some l → IsTrue (is_present l)
 links_present t tables b h k e l at is =
-    go (is_present l) refl
-  where
-    go : (c : Bool) → is_present l ≡ c → IsTrue c
-    go true i = refl
-    go false i = absurd (∥∥₁_elim h.edges (λ p q. absurd p) (λ a. never (sym i ∙ edges_sound t tables b.edges b.weak a e (element_at_place b.edges k e at) l is)))
-      where
-        never : false ≡ true → ⊥
-        never z = cc
+    ∥∥₁_elim
+    ((h.edges.exact e.0 e.1 e.2).0 (element_at_place b.edges k e at))
+    (Bool-set _ _)
+    (λ s. candidate_sound t tables e.0 e.1 s.0 s.1.candidate (map (λ x. x.0) b.weak) l (ap full_link (sym s.2) ∙ is))
 
 -- the first place at which an edge passes is that at which what it says passes
 module _ {X : Type 0} (facts : X → EdgeFacts) (p : EdgeFacts → Bool) where

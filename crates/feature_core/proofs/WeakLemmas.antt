@@ -15,13 +15,10 @@ use Rattle.feature_labels.specs.Names.LabelName.{optional}
 use Rattle.feature_labels.specs.declared.link_declarations.LinkDeclarations.TheVariants.{Optional}
 use Rattle.feature_core.specs.Nodes.{NodeAt, first_node}
 use Rattle.feature_core.specs.Links.{IsLink, has_declaration}
-use Rattle.feature_core.specs.Candidates.{Edge}
-use Rattle.feature_core.specs.Edges.{IsGate, first_ones, weak_link, weak_links}
+use Rattle.feature_core.specs.Edges.{IsGate, first_ones}
 use Rattle.feature_core.specs.Parts.{key, over_rank, IsOfItem, IsOfPackageAt, IsOfLinkAt, IsOfTables}
 use Rattle.feature_core.specs.Weak.{IsOptionalLink, AreGates, weak_source, weak_sources}
 use Rattle.feature_core.specs.declared.key.Key.{Key}
-use Rattle.feature_core.proofs.AddsLemmas.{Contains-first, Contains-later}
-use Rattle.feature_core.proofs.EdgeLemmas.{told_edges}
 use Rattle.feature_core.proofs.LabelLemmas.{optional_label}
 use Rattle.feature_core.proofs.NodeLabels.{element_within}
 use Rattle.feature_core.proofs.PartLemmas.{list_any_there, list_any_back}
@@ -200,15 +197,3 @@ module _ (t : Tables) (x : Key) (six : x.rank ≡ 6) where
   -- the key of a weak edge names an optional link
   pub weak_is_optional : IsOfTables t x → IsOptionalLink t x.source
   weak_is_optional h = ⊎_elim (λ i. of_package i.0 i.1) (λ i. of_link i.0 i.1) h
-
--- where keys are told their weak links, those are the weak links of the edges
-pub weak_links_told : (say : Key → Edge) (keys : List Key) → ((x : Key) → Contains keys x → weak_link (say x) ≡ weak_source x) → weak_links (told_edges say keys) ≡ first_ones (weak_sources keys)
-weak_links_told say keys says = ap first_ones (alike keys says)
-  where
-    alike : (xs : List Key) → ((x : Key) → Contains xs x → weak_link (say x) ≡ weak_source x) → filter_map (λ e. weak_link e.2) (told_edges say xs) ≡ weak_sources xs
-    alike [] says = refl
-    alike (x ∷ xs) says =
-        filter_map-append (λ e. weak_link e.2) (told_edges say (x ∷ [])) (told_edges say xs)
-        ∙ ap (λ z. filter_map (λ y. z) (x ∷ []) ++ filter_map (λ e. weak_link e.2) (told_edges say xs)) (says x (Contains-first x xs))
-        ∙ ap (λ z. weak_sources (x ∷ []) ++ z) (alike xs (λ y c. says y (Contains-later x xs y c)))
-        ∙ sym (filter_map-append weak_source (x ∷ []) xs)

@@ -28,7 +28,7 @@ pub record IsBuilt (t : Tables) (b : Built) : Type 0 where
   pub firsts : b.firsts ≡ first_nodes t
   pub packages : b.packages ≡ node_packages t
   pub pairs : IsPairList t (ends_of b.edges)
-  pub edges : ∥ AreBuilt t b.edges b.weak ∥₁
+  pub edges : AreBuilt t b.edges b.weak
   pub warnings : b.warnings ≡ warnings t
   pub defaults : AreDefaults t b.defaults
 

@@ -1,5 +1,5 @@
 -- The edges that are built, and the weak links that they name.
-use Rattle.std.specs.Prelude.{◌≡◌, ℕ, ◌⊎◌, ◌<◌, List, [], ◌∷◌, Bool, true, false, not, ◌==◌, ◌&&◌, Option, None, Some, map, filter, filter_map, position, slice_get, Contains, AllPairs, ◌↔◌, if◌then◌else◌}
+use Rattle.std.specs.Prelude.{◌≡◌, ℕ, ◌⊎◌, ◌<◌, List, [], ◌∷◌, length, Bool, true, false, not, ◌==◌, ◌&&◌, Option, None, Some, map, filter, filter_map, position, slice_get, Contains, AllPairs, ◌↔◌, if◌then◌else◌}
 use Rattle.std.specs.Option.{option_map_or}
 use Rattle.guppy_packages.specs.Platform.{Status, never_status, always_status, spec_status}
 use Rattle.guppy_packages.specs.Tables.{LinkTable, Tables}
@@ -26,23 +26,17 @@ pub data EdgeFacts : Type 0 where
   section_edge : LinkFacts → EdgeFacts
 
 -- by from, then to
-abbrev pub EdgeBefore : ℕ × ℕ × Edge → ℕ × ℕ × Edge → Type 0
+abbrev pub EdgeBefore : ℕ × ℕ × EdgeFacts → ℕ × ℕ × EdgeFacts → Type 0
 EdgeBefore a b = (a.0 < b.0) ⊎ ((a.0 ≡ b.0) × (a.1 < b.1))
 
--- exactly the edges, ascending
-pub record IsEdgeList (t : Tables) (edges : List (ℕ × ℕ × Edge)) : Type 0 where
-  pub ascends : AllPairs EdgeBefore edges
-  pub exact : (u w : ℕ) (e : Edge) → Contains edges (u, w, e) ↔ IsEdge t u w e
-
--- the package link that a weak edge names
-abbrev pub weak_link : Edge → Option ℕ
-weak_link feature_to_base = None
-weak_link named_feature = None
-weak_link (dep_colon l) = None
-weak_link (slash_full l) = None
-weak_link (slash_optional l) = None
-weak_link (slash_weak k l) = Some k
-weak_link (section l) = None
+-- the package link that a weak edge names: its link is over that one alone
+abbrev pub weak_link : EdgeFacts → Option ℕ
+weak_link base_edge = None
+weak_link feature_edge = None
+weak_link (colon_edge l) = None
+weak_link (strong_edge l) = None
+weak_link (weak_edge l halves) = slice_get l.package_links 0
+weak_link (section_edge l) = None
 
 -- each number once, by first appearance
 abbrev pub first_ones : List ℕ → List ℕ
@@ -50,7 +44,7 @@ first_ones [] = []
 first_ones (x ∷ xs) = x ∷ filter (λ y. not (x == y)) (first_ones xs)
 
 -- the package links that weak edges name
-abbrev pub weak_links : List (ℕ × ℕ × Edge) → List ℕ
+abbrev pub weak_links : List (ℕ × ℕ × EdgeFacts) → List ℕ
 weak_links edges = first_ones (filter_map (λ e. weak_link e.2) edges)
 
 -- the link over the covered declarations of one package link, where there is one
@@ -78,19 +72,21 @@ facts_of t weak (slash_optional l) = strong_edge l
 facts_of t weak (slash_weak k l) = weak_edge l (weak_facts t weak k)
 facts_of t weak (section l) = section_edge l
 
+-- some edge of the tables leads from u to w, and this is what it says, where these are the weak links
+abbrev pub EdgeSays : Tables → List ℕ → ℕ → ℕ → EdgeFacts → Type 0
+EdgeSays t weak u w f = ∥ ((e : Edge) × IsEdge t u w e × (f ≡ facts_of t weak e)) ∥₁
+
 -- the gate of a weak link: the node of its optional dependency in its source
 pub record IsGate (t : Tables) (k gate : ℕ) : Type 0 where
-  pub link : LinkTable
-  pub is_link : IsLink t k link
-  pub node : NodeAt t gate link.from (optional link.name)
+  pub within : k < length t.links
+  pub node : (link : LinkTable) → IsLink t k link → NodeAt t gate link.from (optional link.name)
 
--- the edges of the tables as they are built, and the package link and the gate of each weak link
+-- exactly what the edges of the tables say, ascending, and the package link and the gate of each weak link
 pub record AreBuilt (t : Tables) (edges : List (ℕ × ℕ × EdgeFacts)) (weak : List (ℕ × ℕ)) : Type 0 where
-  pub list : List (ℕ × ℕ × Edge)
-  pub are_edges : IsEdgeList t list
-  pub links : map (λ x. x.0) weak ≡ weak_links list
+  pub ascends : AllPairs EdgeBefore edges
+  pub exact : (u w : ℕ) (f : EdgeFacts) → Contains edges (u, w, f) ↔ EdgeSays t (map (λ x. x.0) weak) u w f
+  pub links : map (λ x. x.0) weak ≡ weak_links edges
   pub gates : (i k gate : ℕ) → slice_get weak i ≡ Some (k, gate) → IsGate t k gate
-  pub facts : edges ≡ map (λ e. (e.0, e.1, facts_of t (weak_links list) e.2)) list
 
 -- the two nodes of each edge
 abbrev pub ends_of : List (ℕ × ℕ × EdgeFacts) → List (ℕ × ℕ)

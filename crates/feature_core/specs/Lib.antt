@@ -14,6 +14,7 @@ pub mod ChosenWays
 pub mod Releases
 pub mod Errors
 pub mod Built
+pub mod BuiltOnce
 pub mod Choices
 pub mod NamedLinks
 pub mod Values

@@ -5,8 +5,9 @@ use Rattle.guppy_packages.specs.declared.direction.DependencyDirection.{Dependen
 use Rattle.guppy_packages.specs.declared.direction.DependencyDirection.TheVariants.{Forward, Reverse}
 use Rattle.feature_core.specs.Candidates.{Edge, Candidate}
 
+-- some candidate leads from u to w
 abbrev pub HasCandidate : Tables → ℕ → ℕ → Type 0
-HasCandidate t u w = (e : Edge) × Candidate t u w e
+HasCandidate t u w = ∥ ((e : Edge) × Candidate t u w e) ∥₁
 
 -- by from, then to
 abbrev pub IsBefore : ℕ × ℕ → ℕ × ℕ → Type 0

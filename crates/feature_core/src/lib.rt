@@ -20,6 +20,7 @@ mod numbers;
 mod packed;
 mod reach;
 mod releases;
+mod scratch;
 mod walks;
 mod warning;
 mod weak;

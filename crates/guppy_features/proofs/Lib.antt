@@ -1,6 +1,3 @@
-mod Decisions
-mod CandidateDecisions
-mod WarningDecisions
 mod BuiltLemmas
 mod NodePackages
 mod Offered

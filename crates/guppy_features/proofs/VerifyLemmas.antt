@@ -3,6 +3,8 @@ use Rattle.std.proofs.Common.{◌≡◌, ℕ, zero, suc, ◌+◌, ◌<◌, List,
 use Rattle.std.specs.Prelude.{slice_get, IsTrue, IsFalse, not, nat_lt, position}
 use Rattle.std.specs.List.{position_or_len}
 use Rattle.std.specs.Option.{option_map_or}
+use Rattle.std.proofs.Math.Logic.{∥∥₁_elim}
+use Rattle.std.proofs.Props.{props}
 use Rattle.std.proofs.lemmas.List.{length-map}
 use Rattle.guppy_packages.specs.Rows.{Text}
 use Rattle.guppy_packages.specs.Tables.{Tables}
@@ -114,9 +116,9 @@ candidate_within t u w e (of_optional s) = (at_node t u s.link.from (optional s.
 pub edge_within : (t : Tables) (b : Built) → IsBuilt t b → (k : ℕ) (e : ℕ × ℕ × EdgeFacts) → slice_get b.edges k ≡ Some e → (e.0 < length b.packages) × (e.1 < length b.packages)
 edge_within t b h k e at =
     let c = (h.pairs.exact e.0 e.1).0 (into_map (λ x. (x.0, x.1)) b.edges e (element_at_place b.edges k e at)) in
-    let w = candidate_within t e.0 e.1 c.0 c.1 in
+    let both : IsProp ((e.0 < length b.packages) × (e.1 < length b.packages)) = hlevel props in
     let long : length b.packages ≡ length (node_packages t) = ap length h.packages in
-    (omega (arith, w.0, long), omega (arith, w.1, long))
+    ∥∥₁_elim c both (λ d. let w = candidate_within t e.0 e.1 d.0 d.1 in (omega (arith, w.0, long), omega (arith, w.1, long)))
 
 -- the first edge that fails, with the names of its nodes
 pub first_named : (t : Tables) (edges : List (ℕ × ℕ × EdgeFacts)) (n : ℕ) (e : ℕ × ℕ × EdgeFacts) (from to : Text × LabelName) → first_absent edges ≡ Some n → slice_get edges n ≡ Some e

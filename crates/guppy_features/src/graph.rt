@@ -4,6 +4,7 @@ ghost use Rattle.std.specs.Result.{is_ok};
 ghost use Rattle.guppy_support.specs.Bits.{has};
 ghost use Rattle.feature_labels.specs.Names.{id_of};
 ghost use Rattle.feature_core.specs.Built.{IsBuilt, NodeNamed};
+ghost use Rattle.feature_core.specs.BuiltOnce.{is_built-prop};
 ghost use Rattle.feature_core.specs.Errors.{refusal_of};
 ghost use Rattle.feature_core.specs.Nodes.{nodes};
 ghost use Rattle.feature_core.specs.Pairs.{Reach};
@@ -30,7 +31,7 @@ use std::fmt;
 pub struct FeatureGraph<'g> {
     pub(crate) graph: &'g PackageGraph,
     pub(crate) built: &'g FeatureGraphData,
-    pub ghost is_built: { ∥ IsBuilt graph.now built.now ∥₁ },
+    pub ghost is_built: { IsBuilt graph.now built.now } by { is_built-prop graph.now built.now },
 }
 
 /// Feature graphs of package graphs.

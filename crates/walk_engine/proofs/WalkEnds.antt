@@ -11,12 +11,13 @@ use Rattle.walk_engine.specs.declared.walks.Ask.TheVariants as asks
 use Rattle.guppy_support.specs.Bits.{has, members}
 use Rattle.std.specs.List.{range_with_len}
 use Rattle.walk_engine.specs.Walks.{edges_from, edges_gated_by, Content, Way, IsWay, Reach, IsDue, IsWalk, LegalRun, was_accepted, has_gate, is_gated, is_in, numbers_where, starting, releasing}
+use Rattle.walk_engine.specs.declared.walks.progress.Condition.TheVariants.{Start, Gate}
 use Rattle.walk_engine.specs.declared.walks.Step.{Step}
 use Rattle.walk_engine.specs.declared.walks.StepReason.{StepReason}
 use Rattle.walk_engine.specs.declared.walks.StepReason.TheVariants.{Initial}
 use Rattle.std.specs.Prelude.{filter}
 use Rattle.walk_engine.specs.Explanations.{IsReason, HasReasons, Distinct, nodes_of, IsExplainedWalk}
-use Rattle.walk_engine.specs.inner.WalkProgress.{Findings, noted, Extends, TakesAll, FreesAll, TakesStopped, FreesStopped, of_way, passes, reads_of, IsDone, Begun}
+use Rattle.walk_engine.specs.inner.WalkProgress.{Findings, noted, Extends, edges_by, FollowsAll, FollowsStopped, of_way, passes, reads_of, IsDone, Begun}
 use Rattle.walk_engine.proofs.Answered.{decide, clash, or_left, or_right, or_cases, and_both, and_intro}
 use Rattle.walk_engine.proofs.Reaches.{reach_in, open_cases}
 use Rattle.walk_engine.proofs.Runs.{members_least}
@@ -100,7 +101,7 @@ module _ {O : Type 0} (c : Content) (I : ℕ → Bool) (gives : O → ℕ → Ha
   is_new s f met next node here done = not_before f.order next node done.core.distinct here
 
   -- one more member is done
-  pub done_more : (s t u : O) (f g h : Findings) (met met' met'' : List Bool) (next node : ℕ) → slice_get f.order next ≡ Some node → IsDone c I gives s0 (take next f.order) s f met → TakesAll c gives node s f met t g met' → FreesAll c gives node t g met' u h met'' → Extends f h → IsDone c I gives s0 (take (suc next) h.order) u h met''
+  pub done_more : (s t u : O) (f g h : Findings) (met met' met'' : List Bool) (next node : ℕ) → slice_get f.order next ≡ Some node → IsDone c I gives s0 (take next f.order) s f met → FollowsAll Start (starting c node) c gives node s f met t g met' → FollowsAll Gate (releasing c node) c gives node t g met' u h met'' → Extends f h → IsDone c I gives s0 (take (suc next) h.order) u h met''
   done_more s t u f g h met met' met'' next node here done takes frees grown =
       let xs = take next f.order in
       let out = is_new s f met next node here done in
@@ -110,22 +111,22 @@ module _ {O : Type 0} (c : Content) (I : ℕ → Bool) (gives : O → ℕ → Ha
       let two = frees I s0 (λ (e : ℕ). is_in (starting c node) e || T e) G (unfreed xs node out) one.0 one.1 in
       at_same c gives I s0 (λ (e : ℕ). is_in (starting c node) e || T e) (λ (e : ℕ). is_in (releasing c node) e || G e) (passes c (λ w. is_in (take (suc next) h.order) w.start)) (passes c (λ w. is_gated w.ask && is_in (take (suc next) h.order) w.gate)) u h met''
       (λ e w is. passes_way c (λ (v : Way). is_in (take (suc next) h.order) v.start) e w is
-      ∙ (listed f.order h.order next node w.start grown here
+      ∙ (listed f.order h.order next node w.start (grown.more, grown.order) here
       ∙ (or_comm (is_in xs w.start) (w.start == node)
       ∙ sym (ap (λ (b : Bool). b || T e) (number_in (λ (v : Way). v.start == node) 0 c.ways e e w (omega arith) is) ∙ ap (λ (b : Bool). (w.start == node) || b) (passes_way c (λ (v : Way). is_in xs v.start) e w is)))))
       (λ e w is. passes_way c (λ (v : Way). is_gated v.ask && is_in (take (suc next) h.order) v.gate) e w is
-      ∙ (ap (λ (b : Bool). is_gated w.ask && b) (listed f.order h.order next node w.gate grown here)
+      ∙ (ap (λ (b : Bool). is_gated w.ask && b) (listed f.order h.order next node w.gate (grown.more, grown.order) here)
       ∙ (sym (and_or (is_gated w.ask) (is_in xs w.gate) (w.gate == node))
       ∙ sym (ap (λ (b : Bool). b || G e) (number_in (λ (v : Way). is_gated v.ask && (v.gate == node)) 0 c.ways e e w (omega arith) is) ∙ ap (λ (b : Bool). (is_gated w.ask && (w.gate == node)) || b) (passes_way c (λ (v : Way). is_gated v.ask && is_in xs v.gate) e w is)))))
       two.1
 
   -- where it stops at a member's edges, what was called is a legal run
-  pub stopped_taking : (s t : O) (f : Findings) (met : List Bool) (next node : ℕ) → slice_get f.order next ≡ Some node → IsDone c I gives s0 (take next f.order) s f met → TakesStopped c gives node s f met t → LegalRun c I gives s0 t
+  pub stopped_taking : (s t : O) (f : Findings) (met : List Bool) (next node : ℕ) → slice_get f.order next ≡ Some node → IsDone c I gives s0 (take next f.order) s f met → FollowsStopped Start c gives node s f met t → LegalRun c I gives s0 t
   stopped_taking s t f met next node here done stopped =
       let xs = take next f.order in
       stopped I s0 (passes c (λ w. is_in xs w.start)) (passes c (λ w. is_gated w.ask && is_in xs w.gate)) (untaken xs node (is_new s f met next node here done)) (is_member s f met next node here done) done
 
-  pub stopped_freeing : (s t u : O) (f g : Findings) (met met' : List Bool) (next node : ℕ) → slice_get f.order next ≡ Some node → IsDone c I gives s0 (take next f.order) s f met → TakesAll c gives node s f met t g met' → FreesStopped c gives node t g met' u → LegalRun c I gives s0 u
+  pub stopped_freeing : (s t u : O) (f g : Findings) (met met' : List Bool) (next node : ℕ) → slice_get f.order next ≡ Some node → IsDone c I gives s0 (take next f.order) s f met → FollowsAll Start (starting c node) c gives node s f met t g met' → FollowsStopped Gate c gives node t g met' u → LegalRun c I gives s0 u
   stopped_freeing s t u f g met met' next node here done takes stopped =
       let xs = take next f.order in
       let out = is_new s f met next node here done in
@@ -159,17 +160,17 @@ module _ {O : Type 0} (c : Content) (I : ℕ → Bool) (gives : O → ℕ → Ha
         least = members_least c I (has f.members) run done.core.legal complete members;
       }
 
-  pub finished_explained : (s : O) (f : Findings) (met : List Bool) → IsDone c I gives s0 f.order s f met → IsExplainedWalk c I gives s0 s (has f.members) f.steps f.refused
+  pub finished_explained : (s : O) (f : Findings) (met : List Bool) → IsTrue f.explains → IsDone c I gives s0 f.order s f met → IsExplainedWalk c I gives s0 s (has f.members) f.steps f.refused
   unfolding finished
-  finished_explained s f met done =
+  finished_explained s f met x done =
       record {
         walk = finished s f met done;
         explanation = record {
-          once = subst Distinct done.core.named done.core.distinct;
-          reasons = subst (λ (xs : List ℕ). HasReasons c I (was_accepted done.run) xs f.steps) done.core.named done.core.explained;
+          once = subst Distinct (done.core.named x) done.core.distinct;
+          reasons = subst (λ (xs : List ℕ). HasReasons c I (was_accepted done.run) xs f.steps) (done.core.named x) (done.core.explained x);
         };
-        listed = λ n. done.core.ordered n ∙ ap (λ (xs : List ℕ). is_in xs n) done.core.named;
-        refused_in_order = done.core.told;
+        listed = λ n. done.core.ordered n ∙ ap (λ (xs : List ℕ). is_in xs n) (done.core.named x);
+        refused_in_order = done.core.told x;
       }
 
   pub started_none : (s : O) (f : Findings) (met : List Bool) → s0 ≡ s → Begun I f → ((e : ℕ) → IsFalse (has met e)) → IsDone c I gives s0 [] s f met
@@ -184,7 +185,7 @@ module _ {O : Type 0} (c : Content) (I : ℕ → Bool) (gives : O → ℕ → Ha
           ordered = begun.ordered;
           distinct = begun.distinct;
           named = begun.named;
-          explained = λ k step q. let r = begun.reasons k step q in subst (λ (why : StepReason). IsReason c I (was_accepted []) (take k f.order) step.node why) (sym r.0) r.1;
+          explained = λ x k step q. let r = begun.reasons x k step q in subst (λ (why : StepReason). IsReason c I (was_accepted []) (take k f.order) step.node why) (sym r.0) r.1;
           told = begun.silent;
         };
         accepted = λ e h w is a. absurd (clash a refl);
@@ -251,20 +252,20 @@ in_member set n t = (and_both (has set n) (is_in (range_with_len 0 (length set))
 
 -- the initial nodes but those that are left were noted, and no others
 pub record BegunBut (I : List Bool) (rest : List ℕ) (f : Findings) : Type 0 where
-  pub named : f.order ≡ nodes_of f.steps
-  pub reasons : (k : ℕ) (step : Step) → slice_get f.steps k ≡ Some step → (step.reason ≡ Initial) × IsTrue (has I step.node)
+  pub named : IsTrue f.explains → f.order ≡ nodes_of f.steps
+  pub reasons : IsTrue f.explains → (k : ℕ) (step : Step) → slice_get f.steps k ≡ Some step → (step.reason ≡ Initial) × IsTrue (has I step.node)
   pub initial : (n : ℕ) → IsTrue (has I n) → IsTrue (has f.members n) ⊎ IsTrue (is_in rest n)
   pub left : (n : ℕ) → IsTrue (is_in rest n) → IsTrue (has I n)
   pub only : (n : ℕ) → IsTrue (has f.members n) → IsTrue (has I n)
   pub ordered : (n : ℕ) → has f.members n ≡ is_in f.order n
   pub distinct : Distinct f.order
-  pub silent : f.refused ≡ []
+  pub silent : IsTrue f.explains → f.refused ≡ []
 
-noted_reasons : (I : List Bool) (f : Findings) (i : ℕ) → IsTrue (has I i) → ((k : ℕ) (step : Step) → slice_get f.steps k ≡ Some step → (step.reason ≡ Initial) × IsTrue (has I step.node)) → (k : ℕ) (step : Step) → slice_get (noted f i Initial).steps k ≡ Some step → (step.reason ≡ Initial) × IsTrue (has I step.node)
-noted_reasons I f i t b =
+noted_reasons : (I : List Bool) (f : Findings) (i : ℕ) → IsTrue f.explains → IsTrue (has I i) → ((k : ℕ) (step : Step) → slice_get f.steps k ≡ Some step → (step.reason ≡ Initial) × IsTrue (has I step.node)) → (k : ℕ) (step : Step) → slice_get (noted f i Initial).steps k ≡ Some step → (step.reason ≡ Initial) × IsTrue (has I step.node)
+noted_reasons I f i x t b =
     elim (decide (has f.members i)) [
       | inl m ↦ rw m b
-      | inr m ↦ rw m (λ k step h. elim (snoc_cases f.steps (record { node = i; reason = Initial }) k step h) [
+      | inr m ↦ rw (m, x) (λ k step h. elim (snoc_cases f.steps (record { node = i; reason = Initial }) k step h) [
         | inl p ↦ b k step p
         | inr p ↦ subst (λ (x : Step). (x.reason ≡ Initial) × IsTrue (has I x.node)) p.1 (refl, t)
       ])
@@ -275,7 +276,7 @@ pub begun_none : (I : List Bool) (f : Findings) → Begun (λ _. false) f → Be
 begun_none I f b =
     record {
       named = b.named;
-      reasons = λ k step h. absurd (clash (b.reasons k step h).1 refl);
+      reasons = λ x k step h. absurd (clash (b.reasons x k step h).1 refl);
       initial = λ n t. inr (member_in I n t);
       left = in_member I;
       only = λ n m. absurd (clash (b.only n m) refl);
@@ -292,8 +293,8 @@ pub begun_note : (I : List Bool) (i : ℕ) (rest : List ℕ) (f : Findings) → 
 begun_note I i rest f h b =
     let t = next_initial I i rest f b in
     record {
-      named = noted_named f i Initial b.named;
-      reasons = noted_reasons I f i t b.reasons;
+      named = λ x. noted_named f i Initial x (b.named x);
+      reasons = λ x. noted_reasons I f i x t (b.reasons x);
       initial = λ n m. elim (b.initial n m) [
         | inl p ↦ inl (marked_grows f.members i n h p)
         | inr p ↦ elim (or_cases (i == n) (is_in rest n) p) [
@@ -314,10 +315,10 @@ begun_all I f b =
     record { named = b.named; reasons = b.reasons; initial = λ n m. elim (b.initial n m) [ inl p ↦ p | inr p ↦ absurd (clash p refl) ]; only = b.only; ordered = b.ordered; distinct = b.distinct; silent = b.silent }
 
 pub take_extends : (f g : Findings) (k : ℕ) → k ≤ length f.order → Extends f g → take k g.order ≡ take k f.order
-take_extends f g k h (more, q) = ap (take k) q ∙ take-append-le k f.order more h
+take_extends f g k h x = ap (take k) x.order ∙ take-append-le k f.order x.more h
 
 pub longer : (f g : Findings) → Extends f g → length f.order ≤ length g.order
-longer f g (more, q) = omega (arith, length-append f.order more, ap length q)
+longer f g x = omega (arith, length-append f.order x.more, ap length x.order)
 
 -- a bound on the reads
 pub reads_bound : (c : Content) (order : List ℕ) (next : ℕ) → reads_of c (take next order) ≤ 2 * next + 2 * length c.ways

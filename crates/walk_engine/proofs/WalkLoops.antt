@@ -8,30 +8,38 @@ use Rattle.walk_engine.specs.declared.walks.Half.{Half}
 use Rattle.walk_engine.specs.declared.walks.Ask.{Ask}
 use Rattle.walk_engine.specs.declared.walks.Ask.TheVariants as asks
 use Rattle.guppy_support.specs.Bits.{has}
-use Rattle.walk_engine.specs.Walks.{Content, Way, IsWay, is_gated, is_in, starting, releasing}
+use Rattle.walk_engine.specs.Walks.{Content, Way, IsWay, is_gated, is_in}
 use Rattle.walk_engine.specs.declared.walks.Step.{Step}
-use Rattle.walk_engine.specs.declared.walks.progress.Found.{Found}
+use Rattle.walk_engine.specs.declared.walks.progress.Condition.{Condition}
+use Rattle.walk_engine.specs.declared.walks.progress.Condition.TheVariants.{Start, Gate}
 use Rattle.walk_engine.specs.Explanations.{nodes_of}
 use Rattle.walk_engine.specs.declared.walks.StepReason.{StepReason}
 use Rattle.walk_engine.specs.declared.walks.StepReason.TheVariants.{Offer}
-use Rattle.walk_engine.specs.inner.WalkProgress.{Findings, findings, noted, Asks, IsAt, with_edge, Extends, TakesEdge, FreesEdge, TakesAll, FreesAll, TakesStopped, FreesStopped}
+use Rattle.walk_engine.specs.inner.WalkProgress.{Findings, noted, Asks, IsAt, Extends, at_node, edges_by, followed, taken_too, freed_too, FollowsEdge, FollowsAll, FollowsStopped}
 use Rattle.walk_engine.proofs.Answered.{decide, clash, and_both}
 use Rattle.walk_engine.proofs.WayNumbers.{number_way, numbers_distinct, not_before, is_in_at, take_is_in}
 use Rattle.walk_engine.proofs.WalkMoves.{with_here}
 
 pub extends_refl : (f : Findings) → Extends f f
-extends_refl f = ([], sym (append-nil f.order))
+extends_refl f = record { explains = refl; more = []; order = sym (append-nil f.order) }
 
 pub extends_trans : (f g h : Findings) → Extends f g → Extends g h → Extends f h
-extends_trans f g h (a, p) (b, q) = (a ++ b, q ∙ (ap (λ (xs : List ℕ). xs ++ b) p ∙ append_assoc f.order a b))
+extends_trans f g h p q = record {
+  explains = q.explains ∙ p.explains;
+  more = p.more ++ q.more;
+  order = q.order ∙ (ap (λ (xs : List ℕ). xs ++ q.more) p.order ∙ append_assoc f.order p.more q.more);
+}
 
 pub extends_noted : (f : Findings) (n : ℕ) (r : StepReason) → Extends f (noted f n r)
-extends_noted f n r = elim (decide (has f.members n)) [ inl t ↦ ([], rw t (sym (append-nil f.order))) | inr u ↦ (n ∷ [], rw u refl) ]
+extends_noted f n r = elim (decide (has f.members n)) [
+  | inl t ↦ record { explains = refl; more = []; order = rw t (sym (append-nil f.order)) }
+  | inr u ↦ record { explains = refl; more = n ∷ []; order = rw u refl }
+]
 
 pub extends_asks : {O : Type 0} (gives : O → ℕ → Half → Bool → O → Type 0) (want : Bool) (e : ℕ) (h : Half) (far : ℕ) (s : O) (f : Findings) (t : O) (g : Findings) → Asks gives want e h far s f t g → Extends f g
 extends_asks gives false e h far s f t g (p, q) = subst (Extends f) (sym q) (extends_refl f)
 extends_asks gives true e h far s f t g (true, step, q) = subst (Extends f) (sym q) (extends_noted f far (Offer e h))
-extends_asks gives true e h far s f t g (false, step, q) = subst (Extends f) (sym q) (extends_refl f)
+extends_asks gives true e h far s f t g (false, step, q) = subst (Extends f) (sym q) (record { explains = refl; more = []; order = sym (append-nil f.order) })
 
 -- the only asks that wait for a gate
 pub gated_weak : (ask : Ask) → IsTrue (is_gated ask) → (required : Bool) × (ask ≡ asks.Weak required true)
@@ -70,71 +78,66 @@ module _ {O : Type 0} (c : Content) (gives : O → ℕ → Half → Bool → O �
         came = λ e w is g. rw (p e w is, q e w is) (at'.came e w is g);
       }
 
-  -- the edges up to a place
-  abbrev pub TakesFirst : ℕ → ℕ → O → Findings → List Bool → O → Findings → List Bool → Type 0
-  TakesFirst node place s f met t g met' = (I : ℕ → Bool) (s0 : O) (T G : ℕ → Bool) → ((e : ℕ) → IsTrue (is_in (starting c node) e) → IsFalse (T e)) → IsTrue (has f.members node) → IsAt c I gives s0 T G s f met → IsTrue (has g.members node) × IsAt c I gives s0 (λ e. is_in (take place (starting c node)) e || T e) G t g met'
+  -- more edges that are followed
+  fresh_with : (by : Condition) (more T G : ℕ → Bool) (e : ℕ) → IsFalse (more e) → IsFalse (followed by T G e) → IsFalse (followed by (taken_too by more T) (freed_too by more G) e)
+  fresh_with Start more T G e out new = or_none (more e) (T e) out new
+  fresh_with Gate more T G e out new = or_none (more e) (G e) out new
 
-  abbrev pub FreesFirst : ℕ → ℕ → O → Findings → List Bool → O → Findings → List Bool → Type 0
-  FreesFirst node place s f met t g met' = (I : ℕ → Bool) (s0 : O) (T G : ℕ → Bool) → ((e : ℕ) → IsTrue (is_in (releasing c node) e) → IsFalse (G e)) → IsTrue (has f.members node) → IsAt c I gives s0 T G s f met → IsTrue (has g.members node) × IsAt c I gives s0 T (λ e. is_in (take place (releasing c node)) e || G e) t g met'
+  taken_none : (by : Condition) (T : ℕ → Bool) (e : ℕ) → taken_too by (λ k. false) T e ≡ T e
+  taken_none Start T e = refl
+  taken_none Gate T e = refl
 
-  pub takes_more : (node place : ℕ) (s : O) (f : Findings) (met : List Bool) (t : O) (g : Findings) (met' : List Bool) (u : O) (h : Findings) (met'' : List Bool) (e : ℕ) → TakesFirst node place s f met t g met' → slice_get (starting c node) place ≡ Some e → TakesEdge c gives node e t g met' u h met'' → TakesFirst node (suc place) s f met u h met''
-  takes_more node place s f met t g met' u h met'' e first here edge I s0 T G new st at' =
-      let before = first I s0 T G new st at' in
-      let xs = starting c node in
-      let fresh : IsFalse (is_in (take place xs) e || T e) = or_none (is_in (take place xs) e) (T e) (not_before xs place e (numbers_distinct (λ (w : Way). w.start == node) 0 c.ways) here) (new e (is_in_at xs place e here)) in
-      let after = edge I s0 (λ (k : ℕ). is_in (take place xs) k || T k) G fresh before.0 before.1 in
-      let way = number_way (λ (w : Way). w.start == node) 0 c.ways place e here in
-      let same : way.0 ≡ e = omega arith in
-      let is : IsWay c e way.2.0 = subst (λ (i : ℕ). slice_get c.ways i ≡ Some way.2.0) same way.2.1 in
-      let member : IsTrue (has h.members node) = subst (λ (n : ℕ). IsTrue (has h.members n)) (eqb-true way.2.0.start node way.2.2) (after.started e way.2.0 is (with_here c I gives s0 (λ (k : ℕ). is_in (take place xs) k || T k) e)) in (
-        member,
-        at_same I s0 (with_edge (λ (k : ℕ). is_in (take place xs) k || T k) e) G (λ k. is_in (take (suc place) xs) k || T k) G u h met''
-            (λ k w is. rw (take_is_in xs place e k here) (sym (or_swap (k == e) (is_in (take place xs) k) (T k) (e == k) (eqb_swap e k))))
-            (λ k w is. refl)
-            after,
-      )
+  freed_none : (by : Condition) (G : ℕ → Bool) (e : ℕ) → freed_too by (λ k. false) G e ≡ G e
+  freed_none Start G e = refl
+  freed_none Gate G e = refl
 
-  pub frees_more : (node place : ℕ) (s : O) (f : Findings) (met : List Bool) (t : O) (g : Findings) (met' : List Bool) (u : O) (h : Findings) (met'' : List Bool) (e : ℕ) → FreesFirst node place s f met t g met' → slice_get (releasing c node) place ≡ Some e → FreesEdge c gives node e t g met' u h met'' → FreesFirst node (suc place) s f met u h met''
-  frees_more node place s f met t g met' u h met'' e first here edge I s0 T G new st at' =
-      let before = first I s0 T G new st at' in
-      let xs = releasing c node in
-      let p = λ (w : Way). is_gated w.ask && (w.gate == node) in
-      let fresh : IsFalse (is_in (take place xs) e || G e) = or_none (is_in (take place xs) e) (G e) (not_before xs place e (numbers_distinct p 0 c.ways) here) (new e (is_in_at xs place e here)) in
-      let after = edge I s0 T (λ (k : ℕ). is_in (take place xs) k || G k) fresh before.0 before.1 in
-      let way = number_way p 0 c.ways place e here in
-      let same : way.0 ≡ e = omega arith in
-      let is : IsWay c e way.2.0 = subst (λ (i : ℕ). slice_get c.ways i ≡ Some way.2.0) same way.2.1 in
-      let passed = and_both (is_gated way.2.0.ask) (way.2.0.gate == node) way.2.2 in
-      let member : IsTrue (has h.members node) = subst (λ (n : ℕ). IsTrue (has h.members n)) (eqb-true way.2.0.gate node passed.1) (after.freed e way.2.0 is (with_here c I gives s0 (λ (k : ℕ). is_in (take place xs) k || G k) e)) in (
-        member,
-        at_same I s0 T (with_edge (λ (k : ℕ). is_in (take place xs) k || G k) e) T (λ k. is_in (take (suc place) xs) k || G k) u h met''
-            (λ k w is. refl)
-            (λ k w is. rw (take_is_in xs place e k here) (sym (or_swap (k == e) (is_in (take place xs) k) (G k) (e == k) (eqb_swap e k))))
-            after,
-      )
+  one_more : (more more' T : ℕ → Bool) (e k : ℕ) → more' k ≡ (more k || (e == k)) → (more' k || T k) ≡ ((k == e) || (more k || T k))
+  one_more more more' T e k p = rw p (sym (or_swap (k == e) (more k) (T k) (e == k) (eqb_swap e k)))
 
-  pub takes_none : (node : ℕ) (s : O) (f : Findings) (met : List Bool) → TakesFirst node 0 s f met s f met
-  takes_none node s f met I s0 T G new st at' = (st, at')
+  taken_more : (by : Condition) (more more' T : ℕ → Bool) (e k : ℕ) → more' k ≡ (more k || (e == k)) → taken_too by more' T k ≡ taken_too by (λ j. j == e) (taken_too by more T) k
+  taken_more Start more more' T e k p = one_more more more' T e k p
+  taken_more Gate more more' T e k p = refl
 
-  pub frees_none : (node : ℕ) (s : O) (f : Findings) (met : List Bool) → FreesFirst node 0 s f met s f met
-  frees_none node s f met I s0 T G new st at' = (st, at')
+  freed_more : (by : Condition) (more more' G : ℕ → Bool) (e k : ℕ) → more' k ≡ (more k || (e == k)) → freed_too by more' G k ≡ freed_too by (λ j. j == e) (freed_too by more G) k
+  freed_more Start more more' G e k p = refl
+  freed_more Gate more more' G e k p = one_more more more' G e k p
 
-  pub takes_whole : (node place : ℕ) (s : O) (f : Findings) (met : List Bool) (t : O) (g : Findings) (met' : List Bool) → TakesFirst node place s f met t g met' → take place (starting c node) ≡ starting c node → TakesAll c gives node s f met t g met'
-  takes_whole node place s f met t g met' first whole I s0 T G new st at' =
-      let r = first I s0 T G new st at' in
-      (r.0, at_same I s0 (λ (e : ℕ). is_in (take place (starting c node)) e || T e) G (λ e. is_in (starting c node) e || T e) G t g met' (λ e w is. ap (λ (xs : List ℕ). is_in xs e || T e) (sym whole)) (λ e w is. refl) r.1)
+  -- the node of an edge that was followed is a member
+  node_there : (by : Condition) (node e : ℕ) (w : Way) (I : ℕ → Bool) (s0 : O) (T G : ℕ → Bool) (u : O) (h : Findings) (met : List Bool) → IsWay c e w → IsTrue (at_node by node w) → IsAt c I gives s0 (taken_too by (λ k. k == e) T) (freed_too by (λ k. k == e) G) u h met → IsTrue (has h.members node)
+  node_there Start node e w I s0 T G u h met is pass at' = subst (λ (n : ℕ). IsTrue (has h.members n)) (eqb-true w.start node pass) (at'.started e w is (with_here c I gives s0 T e))
+  node_there Gate node e w I s0 T G u h met is pass at' = subst (λ (n : ℕ). IsTrue (has h.members n)) (eqb-true w.gate node (and_both (is_gated w.ask) (w.gate == node) pass).1) (at'.freed e w is (with_here c I gives s0 G e))
 
-  pub frees_whole : (node place : ℕ) (s : O) (f : Findings) (met : List Bool) (t : O) (g : Findings) (met' : List Bool) → FreesFirst node place s f met t g met' → take place (releasing c node) ≡ releasing c node → FreesAll c gives node s f met t g met'
-  frees_whole node place s f met t g met' first whole I s0 T G new st at' =
-      let r = first I s0 T G new st at' in
-      (r.0, at_same I s0 T (λ (e : ℕ). is_in (take place (releasing c node)) e || G e) T (λ e. is_in (releasing c node) e || G e) t g met' (λ e w is. refl) (λ e w is. ap (λ (xs : List ℕ). is_in xs e || G e) (sym whole)) r.1)
+  module _ (by : Condition) (node : ℕ) (s : O) (f : Findings) (met : List Bool) where
+    -- the edges up to a place
+    abbrev pub FollowsFirst : ℕ → O → Findings → List Bool → Type 0
+    FollowsFirst place t g met' = FollowsAll by (take place (edges_by by c node)) c gives node s f met t g met'
 
-  -- where it stops between two edges, what was called is a legal run
-  pub takes_stopped : (node place : ℕ) (s : O) (f : Findings) (met : List Bool) (t : O) (g : Findings) (met' : List Bool) → TakesFirst node place s f met t g met' → TakesStopped c gives node s f met t
-  takes_stopped node place s f met t g met' first I s0 T G new st at' = let r = first I s0 T G new st at' in (r.1.run, r.1.core.calls, r.1.core.legal)
+    pub follows_none : FollowsFirst 0 s f met
+    follows_none I s0 T G new st at' = (st, at_same I s0 T G (taken_too by (λ e. false) T) (freed_too by (λ e. false) G) s f met (λ e w is. taken_none by T e) (λ e w is. freed_none by G e) at')
 
-  pub frees_stopped : (node place : ℕ) (s : O) (f : Findings) (met : List Bool) (t : O) (g : Findings) (met' : List Bool) → FreesFirst node place s f met t g met' → FreesStopped c gives node s f met t
-  frees_stopped node place s f met t g met' first I s0 T G new st at' = let r = first I s0 T G new st at' in (r.1.run, r.1.core.calls, r.1.core.legal)
+    pub follows_more : (place : ℕ) (t : O) (g : Findings) (met' : List Bool) (u : O) (h : Findings) (met'' : List Bool) (e : ℕ) → FollowsFirst place t g met' → slice_get (edges_by by c node) place ≡ Some e → FollowsEdge by c gives node e t g met' u h met'' → FollowsFirst (suc place) u h met''
+    follows_more place t g met' u h met'' e first here edge I s0 T G new st at' =
+        let before = first I s0 T G new st at' in
+        let xs = edges_by by c node in
+        let some = is_in (take place xs) in
+        let fresh = fresh_with by some T G e (not_before xs place e (numbers_distinct (at_node by node) 0 c.ways) here) (new e (is_in_at xs place e here)) in
+        let after = edge I s0 (taken_too by some T) (freed_too by some G) fresh before.0 before.1 in
+        let way = number_way (at_node by node) 0 c.ways place e here in
+        let same : way.0 ≡ e = omega arith in
+        let is : IsWay c e way.2.0 = subst (λ (i : ℕ). slice_get c.ways i ≡ Some way.2.0) same way.2.1 in (
+          node_there by node e way.2.0 I s0 (taken_too by some T) (freed_too by some G) u h met'' is way.2.2 after,
+          at_same I s0 (taken_too by (λ k. k == e) (taken_too by some T)) (freed_too by (λ k. k == e) (freed_too by some G)) (taken_too by (is_in (take (suc place) xs)) T) (freed_too by (is_in (take (suc place) xs)) G) u h met''
+              (λ k w is. taken_more by some (is_in (take (suc place) xs)) T e k (take_is_in xs place e k here))
+              (λ k w is. freed_more by some (is_in (take (suc place) xs)) G e k (take_is_in xs place e k here))
+              after,
+        )
+
+    pub follows_whole : (place : ℕ) (t : O) (g : Findings) (met' : List Bool) → FollowsFirst place t g met' → take place (edges_by by c node) ≡ edges_by by c node → FollowsAll by (edges_by by c node) c gives node s f met t g met'
+    follows_whole place t g met' first whole = subst (λ (xs : List ℕ). FollowsAll by xs c gives node s f met t g met') whole first
+
+    -- where it stops between two edges, what was called is a legal run
+    pub follows_stopped : (place : ℕ) (t : O) (g : Findings) (met' : List Bool) → FollowsFirst place t g met' → FollowsStopped by c gives node s f met t
+    follows_stopped place t g met' first I s0 T G new st at' = let r = first I s0 T G new st at' in (r.1.run, r.1.core.calls, r.1.core.legal)
 
 pub take-length : (xs : List ℕ) → take (length xs) xs ≡ xs
 take-length [] = refl
@@ -147,12 +150,6 @@ past (x ∷ xs) (suc k) h = let r = past xs k h in omega arith
 
 pub whole_at : (xs : List ℕ) (k : ℕ) → k ≤ length xs → slice_get xs k ≡ None → (k ≡ length xs) × (take k xs ≡ xs)
 whole_at xs k h n = let r : length xs ≤ k = past xs k n in let e : k ≡ length xs = omega arith in (e, rw e (take-length xs))
-
--- findings are the same where their parts are
-pub same_findings : (x y : Found) → x.members ≡ y.members → x.steps.items ≡ y.steps.items → x.refused.items ≡ y.refused.items → findings x ≡ findings y
-same_findings x y p q r =
-    let with_all : List Bool → List Step → List (ℕ × Half) → Findings = λ m st re. record { members = m; order = nodes_of st; steps = st; refused = re } in
-    ap (λ (m : List Bool). with_all m x.steps.items x.refused.items) p ∙ (ap (λ (st : List Step). with_all y.members st x.refused.items) q ∙ ap (λ (re : List (ℕ × Half)). with_all y.members y.steps.items re) r)
 
 pub on_err : {T E P : Type 0} (r : Result T E) → P → OnErr r P
 on_err (Ok x) p = tt

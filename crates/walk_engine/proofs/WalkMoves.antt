@@ -15,7 +15,7 @@ use Rattle.std.proofs.lemmas.Option.{slice_get_within}
 use Rattle.std.proofs.lemmas.List.{take-append-le, map-append, length-map}
 use Rattle.std.proofs.Math.Seq.{take-append_seam}
 use Rattle.walk_engine.specs.Explanations.{IsReason, HasReasons, Distinct, nodes_of, refused_of}
-use Rattle.walk_engine.specs.inner.WalkProgress.{Findings, noted, answered, Core, IsAt, Asks, Comes, with_edge}
+use Rattle.walk_engine.specs.inner.WalkProgress.{Findings, kept, noted, answered, Core, IsAt, Asks, Comes, with_edge}
 use Rattle.walk_engine.proofs.Answered.{decide, or_cases, or_left, or_right, and_both, and_intro, clash, is_of_same, is_of_refl}
 use Rattle.walk_engine.proofs.Reaches.{same_way, reach_more, reach_grows, open_by, open_nobody}
 use Rattle.walk_engine.proofs.WayNumbers.{snoc_cases, marked_set, marked_grows, marked_cases, marked_set_is, is_in-append, distinct_more}
@@ -48,21 +48,21 @@ noted_distinct f n r ordered d =
       | inr u ↦ rw u (distinct_more f.order n d (sym (ordered n) ∙ u))
     ]
 
-pub noted_named : (f : Findings) (n : ℕ) (r : StepReason) → f.order ≡ nodes_of f.steps → (noted f n r).order ≡ nodes_of (noted f n r).steps
-noted_named f n r q =
+pub noted_named : (f : Findings) (n : ℕ) (r : StepReason) → IsTrue f.explains → f.order ≡ nodes_of f.steps → (noted f n r).order ≡ nodes_of (noted f n r).steps
+noted_named f n r x q =
     elim (decide (has f.members n)) [
       | inl t ↦ rw t q
-      | inr u ↦ rw u (ap (λ (xs : List ℕ). xs ++ n ∷ []) q ∙ sym (map-append (λ (s : Step). s.node) f.steps (record { node = n; reason = r } ∷ [])))
+      | inr u ↦ rw (u, x) (ap (λ (xs : List ℕ). xs ++ n ∷ []) q ∙ sym (map-append (λ (s : Step). s.node) f.steps (record { node = n; reason = r } ∷ [])))
     ]
 
 same_length : (f : Findings) → f.order ≡ nodes_of f.steps → length f.order ≡ length f.steps
 same_length f q = ap length q ∙ length-map f.steps (λ (s : Step). s.node)
 
-pub noted_explained : (c : Content) (I : ℕ → Bool) (A : ℕ → Half → Bool) (f : Findings) (n : ℕ) (r : StepReason) → f.order ≡ nodes_of f.steps → IsReason c I A f.order n r → HasReasons c I A f.order f.steps → HasReasons c I A (noted f n r).order (noted f n r).steps
-noted_explained c I A f n r named reason ex =
+pub noted_explained : (c : Content) (I : ℕ → Bool) (A : ℕ → Half → Bool) (f : Findings) (n : ℕ) (r : StepReason) → IsTrue f.explains → f.order ≡ nodes_of f.steps → IsReason c I A f.order n r → HasReasons c I A f.order f.steps → HasReasons c I A (noted f n r).order (noted f n r).steps
+noted_explained c I A f n r x named reason ex =
     elim (decide (has f.members n)) [
       | inl t ↦ rw t ex
-      | inr u ↦ rw u (λ k step h. elim (snoc_cases f.steps (record { node = n; reason = r }) k step h) [
+      | inr u ↦ rw (u, x) (λ k step h. elim (snoc_cases f.steps (record { node = n; reason = r }) k step h) [
         | inl p ↦
             let inside : k ≤ length f.order = omega (arith, slice_get_within f.steps k step p, same_length f named) in
             subst (λ (xs : List ℕ). IsReason c I A xs step.node step.reason) (sym (take-append-le k f.order (n ∷ []) inside)) (ex k step p)
@@ -89,12 +89,12 @@ module _ {O : Type 0} (c : Content) (I : ℕ → Bool) (gives : O → ℕ → Ha
         initial = λ k i. marked_grows f.members n k h (core.initial k i);
         ordered = noted_ordered f n why h core.ordered;
         distinct = noted_distinct f n why core.ordered core.distinct;
-        named = noted_named f n why core.named;
-        explained = noted_explained c I (was_accepted run) f n why core.named reason core.explained;
+        named = λ x. noted_named f n why x (core.named x);
+        explained = λ x. noted_explained c I (was_accepted run) f n why x (core.named x) reason (core.explained x);
         told = core.told;
       }
 
-  pub core_call : (run : List Call) (s t : O) (f : Findings) (e : ℕ) (h : Half) (b : Bool) (refused : List (ℕ × Half)) → Core c I gives s0 run s f → IsDue c I run e h → gives s e h b t → refused ≡ refused_of (call_of e h b ∷ run) → Core c I gives s0 (call_of e h b ∷ run) t (record { members = f.members; order = f.order; steps = f.steps; refused = refused })
+  pub core_call : (run : List Call) (s t : O) (f : Findings) (e : ℕ) (h : Half) (b : Bool) (refused : List (ℕ × Half)) → Core c I gives s0 run s f → IsDue c I run e h → gives s e h b t → (IsTrue f.explains → refused ≡ refused_of (call_of e h b ∷ run)) → Core c I gives s0 (call_of e h b ∷ run) t (record { members = f.members; order = f.order; explains = f.explains; steps = f.steps; refused = refused })
   core_call run s t f e h b refused core due g told =
       record {
         calls = (s, core.calls, g);
@@ -104,7 +104,7 @@ module _ {O : Type 0} (c : Content) (I : ℕ → Bool) (gives : O → ℕ → Ha
         ordered = core.ordered;
         distinct = core.distinct;
         named = core.named;
-        explained = λ k step q. reason_grows c I (was_accepted run) (was_accepted (call_of e h b ∷ run)) (λ i j a. or_right (is_of (call_of e h b) i j && b) (was_accepted run i j) a) (take k f.order) step.node step.reason (core.explained k step q);
+        explained = λ x k step q. reason_grows c I (was_accepted run) (was_accepted (call_of e h b ∷ run)) (λ i j a. or_right (is_of (call_of e h b) i j && b) (was_accepted run i j) a) (take k f.order) step.node step.reason (core.explained x k step q);
         told = told;
       }
 
@@ -125,7 +125,7 @@ module _ {O : Type 0} (c : Content) (I : ℕ → Bool) (gives : O → ℕ → Ha
         (λ k m. marked_grows f.members w.far k fits m),
       )
   core_ask run s t f e h false w core follows is due half st gt fits g = (
-    core_call run s t f e h false (f.refused ++ (e, h) ∷ []) core due g (ap (λ (xs : List (ℕ × Half)). xs ++ (e, h) ∷ []) core.told),
+    core_call run s t f e h false (kept f.explains f.refused (e, h)) core due g (λ x. rw x (ap (λ (xs : List (ℕ × Half)). xs ++ (e, h) ∷ []) (core.told x))),
     (λ i j v isv a. elim (or_cases (is_of (call_of e h false) i j && false) (was_accepted run i j) a) [
       | inl p ↦ absurd (clash (and_both (is_of (call_of e h false) i j) false p).1 refl)
       | inr p ↦ follows i j v isv p

@@ -9,7 +9,7 @@ ghost use Rattle.walk_engine.specs.declared.walks.Half.{Half};
 mod progress;
 
 use guppy_support::IxBitSet;
-use progress::{Found, walk_members};
+use progress::walk_found;
 use std::alloc::{AllocError, Global};
 
 /// What is offered of a conditional edge: its full link, or a half of a weak edge.
@@ -133,21 +133,11 @@ pub fn walk_explained<S: EdgeSource, O: Offerer>(
         (S.reads source.old) (S.reads source.new)) }
     ensures err { OnErr result (LegalRun (S.content source.old) (has initials.now) O.gives offerer.old offerer.new) }
 {
-    let edges = source.edge_count();
-    let members = IxBitSet::empty(alloc, initials.size())?;
-    let mut met = IxBitSet::empty(alloc, edges)?;
-    let mut found = Found {
-        members,
-        steps: Vec::new(alloc),
-        refused: Vec::new(alloc),
+    let found = walk_found(alloc, source, initials, offerer, true)?;
+    let walk = Walk {
+        members: found.members,
     };
-    walk_members(source, initials, offerer, &mut found, &mut met)?;
-    let Found {
-        members,
-        steps,
-        refused,
-    } = found;
-    Ok((Walk { members }, steps, refused))
+    Ok((walk, found.steps, found.refused))
 }
 
 /// Walks from the initial nodes.
@@ -171,6 +161,8 @@ pub fn walk_over<S: EdgeSource, O: Offerer>(
         (S.reads source.old) (S.reads source.new)) }
     ensures err { OnErr result (LegalRun (S.content source.old) (has initials.now) O.gives offerer.old offerer.new) }
 {
-    let (walk, _steps, _refused) = walk_explained(alloc, source, initials, offerer)?;
-    Ok(walk)
+    let found = walk_found(alloc, source, initials, offerer, false)?;
+    Ok(Walk {
+        members: found.members,
+    })
 }

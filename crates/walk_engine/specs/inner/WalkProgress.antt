@@ -4,34 +4,43 @@ use Rattle.guppy_support.specs.Bits.{has}
 use Rattle.walk_engine.specs.declared.walks.Half.{Half}
 use Rattle.walk_engine.specs.declared.walks.Ask.TheVariants as asks
 use Rattle.walk_engine.specs.declared.walks.progress.Found.{Found}
+use Rattle.walk_engine.specs.declared.walks.progress.Condition.{Condition}
+use Rattle.walk_engine.specs.declared.walks.progress.Condition.TheVariants.{Start, Gate}
 use Rattle.walk_engine.specs.declared.walks.Step.{Step}
 use Rattle.walk_engine.specs.declared.walks.StepReason.{StepReason}
 use Rattle.walk_engine.specs.declared.walks.StepReason.TheVariants.{Initial, Offer}
-use Rattle.walk_engine.specs.Walks.{Content, Way, Call, IsWay, starting, releasing, has_half, has_gate, is_gated, Reach, was_made, was_accepted, IsLegal, GoesAlong, LegalRun, is_in}
+use Rattle.walk_engine.specs.Walks.{Content, Way, Call, IsWay, numbers_where, has_half, has_gate, is_gated, Reach, was_made, was_accepted, IsLegal, GoesAlong, LegalRun, is_in}
 use Rattle.walk_engine.specs.Explanations.{HasReasons, Distinct, nodes_of, refused_of}
 
--- what was found so far: the members, as a set and in order with their reasons, and the refused offers
+-- what was found so far: the members, as a set and in order; and where the walk explains, their reasons and the refused offers
 pub record Findings : Type 0 where
   pub members : List Bool
   pub order : List ℕ
+  pub explains : Bool
   pub steps : List Step
   pub refused : List (ℕ × Half)
 
 abbrev pub findings : Found → Findings
-findings found = record { members = found.members; order = nodes_of found.steps.items; steps = found.steps.items; refused = found.refused.items }
+findings found = record { members = found.members; order = found.order.items; explains = found.explains; steps = found.steps.items; refused = found.refused.items }
+
+-- one more where they are kept
+abbrev pub kept : {X : Type 0} → Bool → List X → X → List X
+kept true xs x = xs ++ x ∷ []
+kept false xs x = xs
 
 -- the node is listed where it was no member yet
 abbrev pub noted : Findings → ℕ → StepReason → Findings
 noted f n r = record {
   members = slice_set f.members n true;
   order = if has f.members n then f.order else f.order ++ n ∷ [];
-  steps = if has f.members n then f.steps else f.steps ++ record { node = n; reason = r } ∷ [];
+  explains = f.explains;
+  steps = if has f.members n then f.steps else kept f.explains f.steps (record { node = n; reason = r });
   refused = f.refused;
 }
 
 -- the offer is listed as refused
 abbrev pub refusing : Findings → ℕ → Half → Findings
-refusing f e h = record { members = f.members; order = f.order; steps = f.steps; refused = f.refused ++ (e, h) ∷ [] }
+refusing f e h = record { members = f.members; order = f.order; explains = f.explains; steps = f.steps; refused = kept f.explains f.refused (e, h) }
 
 -- what an answer leaves
 abbrev pub answered : Findings → ℕ → ℕ → Half → Bool → Findings
@@ -40,13 +49,14 @@ answered f far e h false = refusing f e h
 
 -- each member is listed once
 pub record IsListed (f : Findings) : Type 0 where
-  pub counted : count_by (λ b. b) f.members ≡ length f.steps
-  pub within : All (λ s. s.node < length f.members) f.steps
+  pub counted : count_by (λ b. b) f.members ≡ length f.order
+  pub within : All (λ n. n < length f.members) f.order
 
--- k more steps and k more refused offers take no memory
+-- k more members and k more refused offers take no memory
 pub record HasRoom (k : ℕ) (found : Found) : Type 0 where
-  pub steps : vec_len found.steps + k ≤ vec_capacity found.steps
-  pub refused : vec_len found.refused + k ≤ vec_capacity found.refused
+  pub order : vec_len found.order + k ≤ vec_capacity found.order
+  pub steps : IsTrue found.explains → vec_len found.steps + k ≤ vec_capacity found.steps
+  pub refused : IsTrue found.explains → vec_len found.refused + k ≤ vec_capacity found.refused
 
 -- one offer where it is wanted, and nothing else
 abbrev pub Asks : {O : Type 0} → (O → ℕ → Half → Bool → O → Type 0) → Bool → ℕ → Half → ℕ → O → Findings → O → Findings → Type 0
@@ -66,9 +76,9 @@ pub record Core {O : Type 0} (c : Content) (I : ℕ → Bool) (gives : O → ℕ
   pub initial : (n : ℕ) → IsTrue (I n) → IsTrue (has f.members n)
   pub ordered : (n : ℕ) → has f.members n ≡ is_in f.order n
   pub distinct : Distinct f.order
-  pub named : f.order ≡ nodes_of f.steps
-  pub explained : HasReasons c I (was_accepted run) f.order f.steps
-  pub told : f.refused ≡ refused_of run
+  pub named : IsTrue f.explains → f.order ≡ nodes_of f.steps
+  pub explained : IsTrue f.explains → HasReasons c I (was_accepted run) f.order f.steps
+  pub told : IsTrue f.explains → f.refused ≡ refused_of run
 
 -- what holds when the edges of T were taken and those of G released
 pub record IsAt {O : Type 0} (c : Content) (I : ℕ → Bool) (gives : O → ℕ → Half → Bool → O → Type 0) (s0 : O) (T G : ℕ → Bool) (s : O) (f : Findings) (met : List Bool) : Type 0 where
@@ -84,33 +94,46 @@ pub record IsAt {O : Type 0} (c : Content) (I : ℕ → Bool) (gives : O → ℕ
 abbrev pub with_edge : (ℕ → Bool) → ℕ → ℕ → Bool
 with_edge T e k = (k == e) || T k
 
--- what taking the edge does to what holds
-abbrev pub TakesEdge : {O : Type 0} → Content → (O → ℕ → Half → Bool → O → Type 0) → ℕ → ℕ → O → Findings → List Bool → O → Findings → List Bool → Type 0
-TakesEdge {O} c gives node e s f met t g met' = (I : ℕ → Bool) (s0 : O) (T G : ℕ → Bool) → IsFalse (T e) → IsTrue (has f.members node) → IsAt c I gives s0 T G s f met → IsAt c I gives s0 (with_edge T e) G t g met'
+-- whether the node is the one that this condition of the way names
+abbrev pub at_node : Condition → ℕ → Way → Bool
+at_node Start n = λ w. w.start == n
+at_node Gate n = λ w. is_gated w.ask && (w.gate == n)
 
--- what releasing the edge does to what holds
-abbrev pub FreesEdge : {O : Type 0} → Content → (O → ℕ → Half → Bool → O → Type 0) → ℕ → ℕ → O → Findings → List Bool → O → Findings → List Bool → Type 0
-FreesEdge {O} c gives node e s f met t g met' = (I : ℕ → Bool) (s0 : O) (T G : ℕ → Bool) → IsFalse (G e) → IsTrue (has f.members node) → IsAt c I gives s0 T G s f met → IsAt c I gives s0 T (with_edge G e) t g met'
+-- the edges of which this condition comes with the node
+abbrev pub edges_by : Condition → Content → ℕ → List ℕ
+edges_by by c n = numbers_where (at_node by n) 0 c.ways
+
+-- the edges that were followed by this condition, of those taken and those released
+abbrev pub followed : Condition → (ℕ → Bool) → (ℕ → Bool) → ℕ → Bool
+followed Start T G = T
+followed Gate T G = G
+
+-- those taken and those released, with more edges that are followed by this condition
+abbrev pub taken_too : Condition → (ℕ → Bool) → (ℕ → Bool) → ℕ → Bool
+taken_too Start more T = λ e. more e || T e
+taken_too Gate more T = T
+
+abbrev pub freed_too : Condition → (ℕ → Bool) → (ℕ → Bool) → ℕ → Bool
+freed_too Start more G = G
+freed_too Gate more G = λ e. more e || G e
+
+-- what following the edge does to what holds
+abbrev pub FollowsEdge : {O : Type 0} → Condition → Content → (O → ℕ → Half → Bool → O → Type 0) → ℕ → ℕ → O → Findings → List Bool → O → Findings → List Bool → Type 0
+FollowsEdge {O} by c gives node e s f met t g met' = (I : ℕ → Bool) (s0 : O) (T G : ℕ → Bool) → IsFalse (followed by T G e) → IsTrue (has f.members node) → IsAt c I gives s0 T G s f met → IsAt c I gives s0 (taken_too by (λ k. k == e) T) (freed_too by (λ k. k == e) G) t g met'
 
 -- what was listed stays listed, in its place
-abbrev pub Extends : Findings → Findings → Type 0
-Extends f g = (more : List ℕ) × (g.order ≡ f.order ++ more)
+pub record Extends (f g : Findings) : Type 0 where
+  pub explains : g.explains ≡ f.explains
+  pub more : List ℕ
+  pub order : g.order ≡ f.order ++ more
 
--- what taking all edges of a member does to what holds
-abbrev pub TakesAll : {O : Type 0} → Content → (O → ℕ → Half → Bool → O → Type 0) → ℕ → O → Findings → List Bool → O → Findings → List Bool → Type 0
-TakesAll {O} c gives node s f met t g met' = (I : ℕ → Bool) (s0 : O) (T G : ℕ → Bool) → ((e : ℕ) → IsTrue (is_in (starting c node) e) → IsFalse (T e)) → IsTrue (has f.members node) → IsAt c I gives s0 T G s f met → IsTrue (has g.members node) × IsAt c I gives s0 (λ e. is_in (starting c node) e || T e) G t g met'
+-- what following these edges of a member does to what holds
+abbrev pub FollowsAll : {O : Type 0} → Condition → List ℕ → Content → (O → ℕ → Half → Bool → O → Type 0) → ℕ → O → Findings → List Bool → O → Findings → List Bool → Type 0
+FollowsAll {O} by xs c gives node s f met t g met' = (I : ℕ → Bool) (s0 : O) (T G : ℕ → Bool) → ((e : ℕ) → IsTrue (is_in (edges_by by c node) e) → IsFalse (followed by T G e)) → IsTrue (has f.members node) → IsAt c I gives s0 T G s f met → IsTrue (has g.members node) × IsAt c I gives s0 (taken_too by (is_in xs) T) (freed_too by (is_in xs) G) t g met'
 
--- what releasing all edges of a member does to what holds
-abbrev pub FreesAll : {O : Type 0} → Content → (O → ℕ → Half → Bool → O → Type 0) → ℕ → O → Findings → List Bool → O → Findings → List Bool → Type 0
-FreesAll {O} c gives node s f met t g met' = (I : ℕ → Bool) (s0 : O) (T G : ℕ → Bool) → ((e : ℕ) → IsTrue (is_in (releasing c node) e) → IsFalse (G e)) → IsTrue (has f.members node) → IsAt c I gives s0 T G s f met → IsTrue (has g.members node) × IsAt c I gives s0 T (λ e. is_in (releasing c node) e || G e) t g met'
-
--- taking the edges of a member stopped for want of memory: the calls made are a legal run
-abbrev pub TakesStopped : {O : Type 0} → Content → (O → ℕ → Half → Bool → O → Type 0) → ℕ → O → Findings → List Bool → O → Type 0
-TakesStopped {O} c gives node s f met t = (I : ℕ → Bool) (s0 : O) (T G : ℕ → Bool) → ((e : ℕ) → IsTrue (is_in (starting c node) e) → IsFalse (T e)) → IsTrue (has f.members node) → IsAt c I gives s0 T G s f met → LegalRun c I gives s0 t
-
--- the same of releasing them
-abbrev pub FreesStopped : {O : Type 0} → Content → (O → ℕ → Half → Bool → O → Type 0) → ℕ → O → Findings → List Bool → O → Type 0
-FreesStopped {O} c gives node s f met t = (I : ℕ → Bool) (s0 : O) (T G : ℕ → Bool) → ((e : ℕ) → IsTrue (is_in (releasing c node) e) → IsFalse (G e)) → IsTrue (has f.members node) → IsAt c I gives s0 T G s f met → LegalRun c I gives s0 t
+-- following the edges of a member stopped for want of memory: the calls made are a legal run
+abbrev pub FollowsStopped : {O : Type 0} → Condition → Content → (O → ℕ → Half → Bool → O → Type 0) → ℕ → O → Findings → List Bool → O → Type 0
+FollowsStopped {O} by c gives node s f met t = (I : ℕ → Bool) (s0 : O) (T G : ℕ → Bool) → ((e : ℕ) → IsTrue (is_in (edges_by by c node) e) → IsFalse (followed by T G e)) → IsTrue (has f.members node) → IsAt c I gives s0 T G s f met → LegalRun c I gives s0 t
 
 -- whether the way of a number passes
 abbrev pub of_way : (Way → Bool) → Option Way → Bool
@@ -130,10 +153,10 @@ IsDone c I gives s0 done s f met = IsAt c I gives s0 (passes c (λ w. is_in done
 
 -- the initial nodes are noted, and no others
 pub record Begun (I : ℕ → Bool) (f : Findings) : Type 0 where
-  pub named : f.order ≡ nodes_of f.steps
-  pub reasons : (k : ℕ) (step : Step) → slice_get f.steps k ≡ Some step → (step.reason ≡ Initial) × IsTrue (I step.node)
+  pub named : IsTrue f.explains → f.order ≡ nodes_of f.steps
+  pub reasons : IsTrue f.explains → (k : ℕ) (step : Step) → slice_get f.steps k ≡ Some step → (step.reason ≡ Initial) × IsTrue (I step.node)
   pub initial : (n : ℕ) → IsTrue (I n) → IsTrue (has f.members n)
   pub only : (n : ℕ) → IsTrue (has f.members n) → IsTrue (I n)
   pub ordered : (n : ℕ) → has f.members n ≡ is_in f.order n
   pub distinct : Distinct f.order
-  pub silent : f.refused ≡ []
+  pub silent : IsTrue f.explains → f.refused ≡ []

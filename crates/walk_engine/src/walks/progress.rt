@@ -1,19 +1,30 @@
 //! A walk under way: what it found, and the conditions of its edges that have come.
 
-ghost use Rattle.std.specs.Prelude.{Some, None, ◌≡◌, ◌+◌, ◌^◌, ◌<◌, ◌≤◌, ℕ, suc, Bool, false, List, IsTrue, IsFalse, OnOk, OnErr, length, slice_get};
+ghost use Rattle.std.specs.Prelude.{Some, None, ◌≡◌, ◌+◌, ◌^◌, ◌<◌, ◌≤◌, ℕ, suc, Bool, false, List, IsTrue, IsFalse, IfOk, OnOk, OnErr, length, slice_get};
 ghost use Rattle.guppy_support.specs.Bits.{has};
-ghost use Rattle.walk_engine.specs.Walks.{Content, EndsAreNodes, LegalRun, MayAsk, starting, releasing};
-ghost use Rattle.walk_engine.specs.Explanations.{nodes_of};
-ghost use Rattle.walk_engine.specs.inner.WalkProgress.{IsListed, HasRoom, Asks, Comes, findings, noted, TakesEdge, FreesEdge, Extends, TakesAll, FreesAll, TakesStopped, FreesStopped, Begun, IsDone, reads_of};
+ghost use Rattle.walk_engine.specs.Walks.{Content, EndsAreNodes, IsWalk, LegalRun, MayAsk, ReadsAreBounded};
+ghost use Rattle.walk_engine.specs.Explanations.{IsExplainedWalk};
+ghost use Rattle.walk_engine.specs.inner.WalkProgress.{IsListed, HasRoom, Asks, Comes, findings, noted, edges_by, FollowsEdge, Extends, FollowsAll, FollowsStopped, Begun, IsDone, reads_of};
+ghost use Rattle.walk_engine.specs.declared.walks.progress.Condition.TheVariants.{Start, Gate};
 
 use super::{Ask, EdgeSource, Half, Offerer, Step, StepReason};
 use guppy_support::IxBitSet;
-use std::alloc::AllocError;
+use std::alloc::{AllocError, Global};
 
-/// What a walk found: the members, as a set and in order with what first reached each, and the refused offers.
+/// What comes of an edge with a node: the edge starts there, or the node is its gate.
+#[derive(Clone, Copy)]
+enum Condition {
+    Start,
+    Gate,
+}
+
+/// What a walk found: the members, as a set and in the order in which they were reached. Where it explains, it keeps
+/// what first reached each, and the refused offers.
 #[derive(Drop)]
 pub(super) struct Found {
     pub(super) members: IxBitSet,
+    pub(super) order: Vec<usize>,
+    pub(super) explains: bool,
     pub(super) steps: Vec<Step>,
     pub(super) refused: Vec<(usize, Half)>,
 }
@@ -21,12 +32,13 @@ pub(super) struct Found {
 /// Makes room for what one edge can add.
 fn make_room(found: &mut Found) -> Result<(), AllocError>
     ensures room { OnOk result (HasRoom 2 found.new) }
-    ensures members { found.new.members ≡ found.old.members }
-    ensures steps { found.new.steps.items ≡ found.old.steps.items }
-    ensures refused { found.new.refused.items ≡ found.old.refused.items }
+    ensures same { findings found.new ≡ findings found.old }
 {
-    found.steps.reserve(2)?;
-    found.refused.reserve(2)?;
+    found.order.reserve(2)?;
+    if found.explains {
+        found.steps.reserve(2)?;
+        found.refused.reserve(2)?;
+    }
     Ok(())
 }
 
@@ -44,7 +56,10 @@ fn note(found: &mut Found, node: usize, reason: StepReason)
         return;
     }
     found.members.insert(node);
-    found.steps.push_reserved(Step { node, reason });
+    found.order.push_reserved(node);
+    if found.explains {
+        found.steps.push_reserved(Step { node, reason });
+    }
 }
 
 /// Makes the offer where it is wanted, and lists the far end, or the refusal.
@@ -71,7 +86,7 @@ fn offer_if<O: Offerer>(
     }
     if offerer.offer(edge, half) {
         note(found, far, StepReason::Offer(edge, half));
-    } else {
+    } else if found.explains {
         found.refused.push_reserved((edge, half));
     }
 }
@@ -115,10 +130,10 @@ fn take_one<S: EdgeSource, O: Offerer>(
     ensures listed { IsListed (findings found.new) }
     ensures grown { Extends (findings found.old) (findings found.new) }
     ensures taken { IsTrue result → (e : ℕ)
-        × (slice_get (starting (S.content source.old) node) place ≡ Some e)
-        × TakesEdge (S.content source.old) O.gives node e
+        × (slice_get (edges_by Start (S.content source.old) node) place ≡ Some e)
+        × FollowsEdge Start (S.content source.old) O.gives node e
         offerer.old (findings found.old) met.old offerer.new (findings found.new) met.new }
-    ensures ended { IsFalse result → (slice_get (starting (S.content source.old) node) place ≡ None)
+    ensures ended { IsFalse result → (slice_get (edges_by Start (S.content source.old) node) place ≡ None)
         × (offerer.new ≡ offerer.old) × (findings found.new ≡ findings found.old) × (met.new ≡ met.old) }
 {
     match source.take(node, place) {
@@ -170,10 +185,10 @@ fn release_one<S: EdgeSource, O: Offerer>(
     ensures listed { IsListed (findings found.new) }
     ensures grown { Extends (findings found.old) (findings found.new) }
     ensures taken { IsTrue result → (e : ℕ)
-        × (slice_get (releasing (S.content source.old) node) place ≡ Some e)
-        × FreesEdge (S.content source.old) O.gives node e
+        × (slice_get (edges_by Gate (S.content source.old) node) place ≡ Some e)
+        × FollowsEdge Gate (S.content source.old) O.gives node e
         offerer.old (findings found.old) met.old offerer.new (findings found.new) met.new }
-    ensures ended { IsFalse result → (slice_get (releasing (S.content source.old) node) place ≡ None)
+    ensures ended { IsFalse result → (slice_get (edges_by Gate (S.content source.old) node) place ≡ None)
         × (offerer.new ≡ offerer.old) × (findings found.new ≡ findings found.old) × (met.new ≡ met.old) }
 {
     match source.release(node, place) {
@@ -186,46 +201,48 @@ fn release_one<S: EdgeSource, O: Offerer>(
     }
 }
 
-/// Takes all edges of a member.
-fn take_all<S: EdgeSource, O: Offerer>(
+/// Follows one edge of which the condition comes with the node, and makes the offers that are due by it; whether there was
+/// one.
+fn follow_one<S: EdgeSource, O: Offerer>(
+    condition: Condition,
     source: &mut S,
     offerer: &mut O,
     found: &mut Found,
     met: &mut IxBitSet,
     node: usize,
-) -> Result<(), AllocError>
+    place: usize,
+) -> bool
     requires nodes { EndsAreNodes (S.content source.old) }
     requires node { node < (S.content source.old).nodes }
-    requires long { length (S.content source.old).ways < 2 ^ 64 }
-    requires few { S.reads source.old + length (S.content source.old).ways < 2 ^ 100 }
+    requires few { S.reads source.old < 2 ^ 100 }
     requires may { MayAsk O.can_offer O.gives (S.content source.old) offerer.old }
     requires members { length found.old.members ≡ (S.content source.old).nodes }
     requires edges { length met.old ≡ length (S.content source.old).ways }
     requires listed { IsListed (findings found.old) }
+    requires room { HasRoom 2 found.old }
     ensures same { S.content source.new ≡ S.content source.old }
-    ensures read { OnOk result (S.reads source.new
-        ≡ S.reads source.old + (length (starting (S.content source.old) node) + 1)) }
+    ensures read { S.reads source.new ≡ S.reads source.old + 1 }
     ensures may { MayAsk O.can_offer O.gives (S.content source.old) offerer.new }
     ensures members { length found.new.members ≡ length found.old.members }
     ensures edges { length met.new ≡ length met.old }
     ensures listed { IsListed (findings found.new) }
     ensures grown { Extends (findings found.old) (findings found.new) }
-    ensures taken { OnOk result (TakesAll (S.content source.old) O.gives node
-        offerer.old (findings found.old) met.old offerer.new (findings found.new) met.new) }
-    ensures err { OnErr result (TakesStopped (S.content source.old) O.gives node
-        offerer.old (findings found.old) met.old offerer.new) }
+    ensures taken { IsTrue result → (e : ℕ)
+        × (slice_get (edges_by condition (S.content source.old) node) place ≡ Some e)
+        × FollowsEdge condition (S.content source.old) O.gives node e
+        offerer.old (findings found.old) met.old offerer.new (findings found.new) met.new }
+    ensures ended { IsFalse result → (slice_get (edges_by condition (S.content source.old) node) place ≡ None)
+        × (offerer.new ≡ offerer.old) × (findings found.new ≡ findings found.old) × (met.new ≡ met.old) }
 {
-    let mut place = 0;
-    make_room(found)?;
-    'edges: while take_one(source, offerer, found, met, node, place) {
-        make_room(found)?;
-        place += 1;
+    match condition {
+        Condition::Start => take_one(source, offerer, found, met, node, place),
+        Condition::Gate => release_one(source, offerer, found, met, node, place),
     }
-    Ok(())
 }
 
-/// Releases all edges of a gate.
-fn release_all<S: EdgeSource, O: Offerer>(
+/// Follows all edges of which the condition comes with the node.
+fn follow_all<S: EdgeSource, O: Offerer>(
+    condition: Condition,
     source: &mut S,
     offerer: &mut O,
     found: &mut Found,
@@ -242,20 +259,20 @@ fn release_all<S: EdgeSource, O: Offerer>(
     requires listed { IsListed (findings found.old) }
     ensures same { S.content source.new ≡ S.content source.old }
     ensures read { OnOk result (S.reads source.new
-        ≡ S.reads source.old + (length (releasing (S.content source.old) node) + 1)) }
+        ≡ S.reads source.old + (length (edges_by condition (S.content source.old) node) + 1)) }
     ensures may { MayAsk O.can_offer O.gives (S.content source.old) offerer.new }
     ensures members { length found.new.members ≡ length found.old.members }
     ensures edges { length met.new ≡ length met.old }
     ensures listed { IsListed (findings found.new) }
     ensures grown { Extends (findings found.old) (findings found.new) }
-    ensures taken { OnOk result (FreesAll (S.content source.old) O.gives node
+    ensures taken { OnOk result (FollowsAll condition (edges_by condition (S.content source.old) node) (S.content source.old) O.gives node
         offerer.old (findings found.old) met.old offerer.new (findings found.new) met.new) }
-    ensures err { OnErr result (FreesStopped (S.content source.old) O.gives node
+    ensures err { OnErr result (FollowsStopped condition (S.content source.old) O.gives node
         offerer.old (findings found.old) met.old offerer.new) }
 {
     let mut place = 0;
     make_room(found)?;
-    'edges: while release_one(source, offerer, found, met, node, place) {
+    'edges: while follow_one(condition, source, offerer, found, met, node, place) {
         make_room(found)?;
         place += 1;
     }
@@ -269,6 +286,7 @@ fn begin(found: &mut Found, initials: &IxBitSet) -> Result<(), AllocError>
     requires blank { Begun (λ _. false) (findings found.old) }
     ensures members { length found.new.members ≡ length initials.now }
     ensures listed { IsListed (findings found.new) }
+    ensures explains { found.new.explains ≡ found.old.explains }
     ensures begun { OnOk result (Begun (has initials.now) (findings found.new)) }
 {
     for node in initials.ones() {
@@ -279,7 +297,7 @@ fn begin(found: &mut Found, initials: &IxBitSet) -> Result<(), AllocError>
 }
 
 /// Takes and releases the edges of each member, in the order in which the members were reached.
-pub(super) fn walk_members<S: EdgeSource, O: Offerer>(
+fn walk_members<S: EdgeSource, O: Offerer>(
     source: &mut S,
     initials: &IxBitSet,
     offerer: &mut O,
@@ -299,20 +317,56 @@ pub(super) fn walk_members<S: EdgeSource, O: Offerer>(
     ensures same { S.content source.new ≡ S.content source.old }
     ensures members { length found.new.members ≡ length initials.now }
     ensures read { OnOk result (S.reads source.new
-        ≡ S.reads source.old + reads_of (S.content source.old) (nodes_of found.new.steps.items)) }
+        ≡ S.reads source.old + reads_of (S.content source.old) found.new.order.items) }
     ensures listed { IsListed (findings found.new) }
+    ensures explains { found.new.explains ≡ found.old.explains }
     ensures done { OnOk result (IsDone (S.content source.old) (has initials.now) O.gives offerer.old
-        (nodes_of found.new.steps.items) offerer.new (findings found.new) met.new) }
+        found.new.order.items offerer.new (findings found.new) met.new) }
     ensures err { OnErr result (LegalRun (S.content source.old) (has initials.now) O.gives
         offerer.old offerer.new) }
 {
     begin(found, initials)?;
     let mut next = 0;
-    'members: while next < found.steps.len() {
-        let node = found.steps[next].node;
-        take_all(source, offerer, found, met, node)?;
-        release_all(source, offerer, found, met, node)?;
+    'members: while next < found.order.len() {
+        let node = found.order[next];
+        follow_all(Condition::Start, source, offerer, found, met, node)?;
+        follow_all(Condition::Gate, source, offerer, found, met, node)?;
         next += 1;
     }
     Ok(())
+}
+
+/// Walks from the initial nodes; what was found.
+pub(super) fn walk_found<S: EdgeSource, O: Offerer>(
+    alloc: Global,
+    source: &mut S,
+    initials: &IxBitSet,
+    offerer: &mut O,
+    explains: bool,
+) -> Result<Found, AllocError>
+    requires size { length initials.now ≡ (S.content source.old).nodes }
+    requires few { S.reads source.old < 2 ^ 99 }
+    requires may { MayAsk O.can_offer O.gives (S.content source.old) offerer.old }
+    ensures content { S.content source.new ≡ S.content source.old }
+    ensures size { IfOk result (λ found. length found.members ≡ (S.content source.old).nodes) }
+    ensures walk { IfOk result (λ found. IsWalk (S.content source.old) (has initials.now) O.gives
+        offerer.old offerer.new (has found.members)) }
+    ensures explained { IsTrue explains → IfOk result (λ found. IsExplainedWalk (S.content source.old) (has initials.now) O.gives
+        offerer.old offerer.new (has found.members) found.steps.items found.refused.items) }
+    ensures reads { IfOk result (λ found. ReadsAreBounded (S.content source.old) found.members
+        (S.reads source.old) (S.reads source.new)) }
+    ensures err { OnErr result (LegalRun (S.content source.old) (has initials.now) O.gives offerer.old offerer.new) }
+{
+    let edges = source.edge_count();
+    let members = IxBitSet::empty(alloc, initials.size())?;
+    let mut met = IxBitSet::empty(alloc, edges)?;
+    let mut found = Found {
+        members,
+        order: Vec::new(alloc),
+        explains,
+        steps: Vec::new(alloc),
+        refused: Vec::new(alloc),
+    };
+    walk_members(source, initials, offerer, &mut found, &mut met)?;
+    Ok(found)
 }

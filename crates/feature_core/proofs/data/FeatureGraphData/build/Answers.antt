@@ -23,7 +23,7 @@ returns-clause-built c =
       firsts = c.in_ok-table.ensures.firsts;
       packages = c.in_ok-table.ensures.packages;
       pairs = subst (λ z. IsPairList t z) (sym ends) (subst (λ z. IsPairList z (pairs_of table.digraph.edges)) c.numbers_in-numbers.ensures made.pairs);
-      edges = ∣ subst (λ z. AreBuilt z (built_edges table.digraph.edges facts) table.weak.entries) c.numbers_in-numbers.ensures made.edges ∣₁;
+      edges = subst (λ z. AreBuilt z (built_edges table.digraph.edges facts) table.weak.entries) c.numbers_in-numbers.ensures made.edges;
       warnings = c.in_ok-warnings.ensures;
       defaults = subst (λ z. AreDefaults z c.in_ok-defaults.defaults) c.numbers_in-numbers.ensures c.in_ok-defaults.ensures;
     }

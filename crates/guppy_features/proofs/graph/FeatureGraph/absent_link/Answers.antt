@@ -1,6 +1,5 @@
 use Rattle.feature_labels.specs.Names.{id_of}
 use Rattle.feature_core.specs.Values.{edge_facts}
-use Rattle.guppy_features.proofs.BuiltLemmas.{built_given}
 use Rattle.guppy_features.proofs.VerifyLemmas.{edge_within, first_named, found_below}
 use Rattle.guppy_features.proofs.graph.FeatureGraph.absent_link.Goals as goal
 
@@ -8,22 +7,22 @@ pub edge-from-requires : goal.edge-from-requires
 edge-from-requires c = found_below c.args.self.now.built.now.edges c.args.number c.requires
 
 pub id-requires-clause-built : goal.id-requires-clause-built
-id-requires-clause-built c = built_given c.args.self.now.graph.now c.args.self.now.built.now c.args.self.now.is_built
+id-requires-clause-built c = c.args.self.now.is_built
 
 pub id-requires-clause-node : goal.id-requires-clause-node
 id-requires-clause-node c =
     let t = c.args.self.now.graph.now in
     let b = c.args.self.now.built.now in
-    (edge_within t b (built_given t b c.args.self.now.is_built) c.args.number (c.edge-from.result.0, c.edge-from.result.1, edge_facts c.edge-from.result.2.now) c.edge-from.ensures).0
+    (edge_within t b c.args.self.now.is_built c.args.number (c.edge-from.result.0, c.edge-from.result.1, edge_facts c.edge-from.result.2.now) c.edge-from.ensures).0
 
 pub id-requires-2-clause-built : goal.id-requires-2-clause-built
-id-requires-2-clause-built c = built_given c.args.self.now.graph.now c.args.self.now.built.now c.args.self.now.is_built
+id-requires-2-clause-built c = c.args.self.now.is_built
 
 pub id-requires-2-clause-node : goal.id-requires-2-clause-node
 id-requires-2-clause-node c =
     let t = c.args.self.now.graph.now in
     let b = c.args.self.now.built.now in
-    (edge_within t b (built_given t b c.args.self.now.is_built) c.args.number (c.edge-from.result.0, c.edge-from.result.1, edge_facts c.edge-from.result.2.now) c.edge-from.ensures).1
+    (edge_within t b c.args.self.now.is_built c.args.number (c.edge-from.result.0, c.edge-from.result.1, edge_facts c.edge-from.result.2.now) c.edge-from.ensures).1
 
 pub returns : goal.returns
 returns c =

@@ -2,7 +2,7 @@ use Rattle.std.proofs.Common.{◌<◌, length, refl, sym, subst, arith}
 use Rattle.feature_labels.specs.Names.{id_of}
 use Rattle.feature_core.specs.Nodes.{nodes}
 use Rattle.guppy_features.specs.Names.{HasPackage}
-use Rattle.guppy_features.proofs.BuiltLemmas.{built_given, built_count}
+use Rattle.guppy_features.proofs.BuiltLemmas.{built_count}
 use Rattle.guppy_features.proofs.PackageLemmas.{no_package, some_package}
 use Rattle.guppy_features.proofs.SetLemmas.{tells_default, no_feature}
 use Rattle.guppy_features.proofs.graph.FeatureGraph.is_default_feature.Goals as goal
@@ -22,7 +22,7 @@ pub returns-in-Some-clause-told : goal.returns-in-Some-clause-told
 returns-in-Some-clause-told c =
     let t = c.args.self.now.graph.now in
     let b = c.args.self.now.built.now in
-    tells_default t (id_of c.args.id) c.in-Some.node c.is_default.result c.in-Some.ensures.named (c.is_default.ensures.meaning t (built_given t b c.args.self.now.is_built))
+    tells_default t (id_of c.args.id) c.in-Some.node c.is_default.result c.in-Some.ensures.named (c.is_default.ensures.meaning t c.args.self.now.is_built)
 
 pub returns-in-None-clause-refused : goal.returns-in-None-clause-refused
 returns-in-None-clause-refused c =

@@ -1,10 +1,9 @@
 use Rattle.feature_labels.specs.Names.{id_of}
-use Rattle.guppy_features.proofs.BuiltLemmas.{built_given}
 use Rattle.guppy_features.proofs.SetLemmas.{node_within}
 use Rattle.guppy_features.proofs.graph.FeatureGraph.node.Goals as goal
 
 pub node-requires : goal.node-requires
-node-requires c = built_given c.args.self.now.graph.now c.args.self.now.built.now c.args.self.now.is_built
+node-requires c = c.args.self.now.is_built
 
 pub returns-clause-within : goal.returns-clause-within
 returns-clause-within c = node_within c.args.self.now.graph.now (id_of c.args.id) c.node.result c.node.ensures

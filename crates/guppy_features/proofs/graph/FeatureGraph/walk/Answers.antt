@@ -5,7 +5,7 @@ use Rattle.guppy_packages.specs.Tables.{Tables}
 use Rattle.feature_core.specs.Built.{IsBuilt}
 use Rattle.feature_core.specs.Nodes.{nodes}
 use Rattle.feature_core.specs.Pairs.{Reach}
-use Rattle.guppy_features.proofs.BuiltLemmas.{built_given, built_count}
+use Rattle.guppy_features.proofs.BuiltLemmas.{built_count}
 use Rattle.guppy_features.proofs.SetLemmas.{ok_map}
 use Rattle.guppy_features.proofs.graph.FeatureGraph.walk.Goals as goal
 
@@ -28,4 +28,4 @@ returns-clause-reach c =
     (λ set. (t : Tables) → IsBuilt t graph.built.now → (n : ℕ) → IsTrue (has set n) ↔ Reach t c.args.direction (has c.args.initials.now) n)
     (λ set. (n : ℕ) → IsTrue (has set n) ↔ Reach graph.graph.now c.args.direction (has c.args.initials.now) n)
     c.walk_all.result (c.walk_all.ensures.all refl)
-    (λ set h. h graph.graph.now (built_given graph.graph.now graph.built.now graph.is_built))
+    (λ set h. h graph.graph.now graph.is_built)

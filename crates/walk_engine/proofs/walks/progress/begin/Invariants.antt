@@ -8,5 +8,6 @@ invariant-loop-node l =
     record {
       members : length l.found.members ≡ length l.initials;
       listed : IsListed (findings l.found);
+      explains : l.found.explains ≡ l.fn.found.explains;
       begun : BegunBut l.initials l.node-iterator (findings l.found);
     }

@@ -15,6 +15,7 @@ invariant-members g l =
       members : length l.found.members ≡ length l.initials;
       edges : length l.met ≡ length l.fn.met;
       listed : IsListed (findings l.found);
+      explains : l.found.explains ≡ l.fn.found.explains;
       done : IsDone c (has l.initials) g.O.Offerer.gives l.fn.offerer (take l.next (findings l.found).order) l.offerer (findings l.found) l.met;
     }
 

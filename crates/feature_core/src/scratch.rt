@@ -1,0 +1,7 @@
+//! Scratch.
+ghost use Rattle.std.specs.Prelude.{◌≡◌, ℕ};
+
+/// Scratch.
+pub(crate) fn scratch()
+    ensures { (n : ℕ) → n ≡ n }
+{}
