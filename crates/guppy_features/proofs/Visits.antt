@@ -1,14 +1,18 @@
 -- Walks of one who answers by another: what is said of the one's states is said of the other's.
 use Rattle.std.proofs.Common.{◌≡◌, ℕ, Bool, List, [], ◌∷◌, refl, ap, sym, ◌∙◌, subst}
-use Rattle.std.specs.Prelude.{IsTrue}
+use Rattle.std.specs.Prelude.{IsTrue, IfOk, OnErr, Result, Ok, Err}
+use Rattle.guppy_support.specs.Bits.{has}
+use Rattle.feature_core.specs.Built.{IsBuilt}
 use Rattle.walk_engine.specs.declared.walks.Half.{Half}
 use Rattle.walk_engine.specs.declared.walks.Step.{Step}
 use Rattle.walk_engine.specs.Explanations.{IsExplainedWalk}
-use Rattle.walk_engine.specs.Walks.{Content, Way, Call, IsWay, has_half, GoesAlong, IsWalk, LegalRun, AreOffers, MayAsk}
+use Rattle.walk_engine.specs.Walks.{Content, Way, Call, IsWay, has_half, GoesAlong, IsWalk, LegalRun, Agrees, AreOffers, MayAsk}
+use Rattle.walk_engine.specs.Laws.{AnswersBy as AnswersAs}
 use Rattle.guppy_features.specs.LinkValues.{Link, has_facts}
 use Rattle.guppy_features.specs.Values.{Query}
-use Rattle.guppy_features.specs.Visits.{offered, showable, shown}
+use Rattle.guppy_features.specs.Visits.{query_content, offered, showable, shown}
 use Rattle.guppy_features.specs.declared.resolve_with.Shown.{Shown}
+use Rattle.guppy_features.proofs.Offered.{offer_stands}
 
 -- S answers by the T in it: while P holds, each step of S is one of T, and P goes on
 module _ {S T : Type 0} (P : S → Type 0) (v : S → T) (outer : S → ℕ → Half → Bool → S → Type 0) (inner : T → ℕ → Half → Bool → T → Type 0) where
@@ -62,22 +66,41 @@ module _ {V : Type 0} (may : V → Query → Link → Type 0) (gives : V → Que
   answers_by s p e h answer r stays step =
       ((step.0 ∙ stays.0, step.1 ∙ stays.1), subst (λ cx. gives p.visitor.now cx.now (offered cx.now.graph e h) answer r.visitor.now) stays.0 step.2)
 
-  pub shown_walk : (s t : Shown V) (c : Content) (I M : ℕ → Bool) → IsWalk c I AdapterGives s t M
-      → (t.visitor.ghost_name ≡ s.visitor.ghost_name) × IsWalk c I (shown gives s.cx.now) s.visitor.now t.visitor.now M
-  shown_walk s t c I M walk =
-      let moved = is_walk (Stays s) (λ p. p.visitor.now) AdapterGives (shown gives s.cx.now) (answers_by s) c I s t M (refl, refl) walk in
-      (moved.0.1, moved.1)
+  pub shown_walk : (s t : Shown V) (c : Content) (marks : List Bool) (M : ℕ → Bool) → c ≡ query_content s.cx.now → marks ≡ s.cx.now.initials → IsWalk c (has marks) AdapterGives s t M
+      → (t.visitor.ghost_name ≡ s.visitor.ghost_name) × IsWalk (query_content s.cx.now) (has s.cx.now.initials) (shown gives s.cx.now) s.visitor.now t.visitor.now M
+  shown_walk s t c marks M same initials walk =
+      let moved = is_walk (Stays s) (λ p. p.visitor.now) AdapterGives (shown gives s.cx.now) (answers_by s) c (has marks) s t M (refl, refl) walk in
+      let at : IsWalk c (has s.cx.now.initials) (shown gives s.cx.now) s.visitor.now t.visitor.now M = subst (λ z. IsWalk c (has z) (shown gives s.cx.now) s.visitor.now t.visitor.now M) initials moved.1 in
+      (moved.0.1, subst (λ z. IsWalk z (has s.cx.now.initials) (shown gives s.cx.now) s.visitor.now t.visitor.now M) same at)
 
-  pub shown_run : (s t : Shown V) (c : Content) (I : ℕ → Bool) → LegalRun c I AdapterGives s t
-      → (t.visitor.ghost_name ≡ s.visitor.ghost_name) × LegalRun c I (shown gives s.cx.now) s.visitor.now t.visitor.now
-  shown_run s t c I run =
-      let moved = legal_run (Stays s) (λ p. p.visitor.now) AdapterGives (shown gives s.cx.now) (answers_by s) c I s t (refl, refl) run in
-      (moved.0.1, moved.1)
+  pub shown_run : (s t : Shown V) (c : Content) (marks : List Bool) → c ≡ query_content s.cx.now → marks ≡ s.cx.now.initials → LegalRun c (has marks) AdapterGives s t
+      → (t.visitor.ghost_name ≡ s.visitor.ghost_name) × LegalRun (query_content s.cx.now) (has s.cx.now.initials) (shown gives s.cx.now) s.visitor.now t.visitor.now
+  shown_run s t c marks same initials run =
+      let moved = legal_run (Stays s) (λ p. p.visitor.now) AdapterGives (shown gives s.cx.now) (answers_by s) c (has marks) s t (refl, refl) run in
+      let at : LegalRun c (has s.cx.now.initials) (shown gives s.cx.now) s.visitor.now t.visitor.now = subst (λ z. LegalRun c (has z) (shown gives s.cx.now) s.visitor.now t.visitor.now) initials moved.1 in
+      (moved.0.1, subst (λ z. LegalRun z (has s.cx.now.initials) (shown gives s.cx.now) s.visitor.now t.visitor.now) same at)
 
-  pub shown_may : (s : Shown V) (c : Content)
-      → ((e : ℕ) (h : Half) (w : Way) → IsWay c e w → IsTrue (has_half w.ask h) → IsTrue (has_facts (offered s.cx.now.graph e h)))
-      → MayAsk (showable may s.cx.now) (shown gives s.cx.now) c s.visitor.now → MayAsk AdapterMay AdapterGives c s
-  shown_may s c stand all = may_ask
-      (Stays s) (λ p. p.visitor.now) AdapterGives (shown gives s.cx.now) (answers_by s) AdapterMay (showable may s.cx.now) c s (refl, refl)
-      (λ p e h w stays is half can. subst (λ cx. IsTrue (has_facts (offered cx.now.graph e h)) × may p.visitor.now cx.now (offered cx.now.graph e h)) (sym stays.0) (stand e h w is half, can))
-      all
+  pub shown_may : (s : Shown V) (c : Content) → c ≡ query_content s.cx.now → IsBuilt s.cx.now.graph.tables s.cx.now.graph.built
+      → MayAsk (showable may s.cx.now) (shown gives s.cx.now) (query_content s.cx.now) s.visitor.now → MayAsk AdapterMay AdapterGives c s
+  shown_may s c same built all =
+      subst (λ z. MayAsk AdapterMay AdapterGives z s) (sym same)
+      (may_ask
+      (Stays s) (λ p. p.visitor.now) AdapterGives (shown gives s.cx.now) (answers_by s) AdapterMay (showable may s.cx.now) (query_content s.cx.now) s (refl, refl)
+      (λ p e h w stays is half can.
+      subst (λ cx. IsTrue (has_facts (offered cx.now.graph e h)) × may p.visitor.now cx.now (offered cx.now.graph e h)) (sym stays.0) (offer_stands s.cx.now built e h w is half, can))
+      all)
+
+-- what both ends of a walk say
+pub at_both_ends : {A E X : Type 0} (P : A → Type 0) (Q : Type 0) (r : Result A E) → IfOk r P → OnErr r Q → ((a : A) → P a → X) → (Q → X) → X
+at_both_ends P Q (Ok a) ok err f g = f a ok
+at_both_ends P Q (Err e) ok err f g = g err
+
+pub on_err : {A E P : Type 0} (r : Result A E) → P → OnErr r P
+on_err (Ok a) p = tt
+on_err (Err e) p = p
+
+-- a test by which each offer is answered agrees with the run
+pub agrees_along : {V : Type 0} (gives : V → ℕ → Half → Bool → V → Type 0) (A : ℕ → Half → Bool) (s : V) → AnswersAs gives A s → (run : List Call) (t : V) → GoesAlong gives s run t → Agrees A run
+agrees_along gives A s answers [] t along = tt
+agrees_along gives A s answers (call ∷ before) t (m, along, step) =
+    (sym (answers before m t call.edge call.half call.answer along step), agrees_along gives A s answers before m along)

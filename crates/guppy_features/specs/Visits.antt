@@ -9,8 +9,8 @@ use Rattle.guppy_features.specs.Values.{Graph, Query}
 use Rattle.guppy_features.specs.LinkValues.{Link, start_name}
 
 -- the edges of the query's graph as its direction follows them
-abbrev pub content_of : Query → Content
-content_of q = content q.direction (length q.graph.built.packages) q.graph.built.edges q.graph.built.weak
+abbrev pub query_content : Query → Content
+query_content q = content q.direction (length q.graph.built.packages) q.graph.built.edges q.graph.built.weak
 
 -- the link that an offer of the graph is shown as
 abbrev pub offered : Graph → ℕ → Half → Link

@@ -4,6 +4,7 @@
 mod context;
 mod graph;
 mod ids;
+pub mod laws;
 mod link;
 mod listing;
 mod metadata;

@@ -5,7 +5,7 @@ ghost use Rattle.feature_core.specs.Nodes.{nodes};
 ghost use Rattle.walk_engine.specs.Walks.{IsWalk, LegalRun, MayAsk};
 ghost use Rattle.guppy_features.specs.ByClosure.{closure_can, closure_gives};
 ghost use Rattle.guppy_features.specs.LinkValues.{has_facts};
-ghost use Rattle.guppy_features.specs.Visits.{content_of, offered, showable, shown};
+ghost use Rattle.guppy_features.specs.Visits.{query_content, offered, showable, shown};
 
 use crate::context::FeatureLinkContext;
 use crate::link::ConditionalLink;
@@ -41,12 +41,12 @@ fn walk_shown<'c, 'g, 'v, V: FeatureLinkVisitor<'g>>(
     adapter: &mut Shown<'c, 'g, 'v, V>,
 ) -> Result<IxBitSet, AllocError>
     requires { MayAsk (showable V.can_visit adapter.old.cx.now) (shown V.visit_gives adapter.old.cx.now)
-        (content_of adapter.old.cx.now) adapter.old.visitor.now }
+        (query_content adapter.old.cx.now) adapter.old.visitor.now }
     ensures same_reference { adapter.new.visitor.ghost_name ≡ adapter.old.visitor.ghost_name }
     ensures size { IfOk result (λ members. length members ≡ length (nodes adapter.old.cx.now.graph.tables)) }
-    ensures walk { IfOk result (λ members. IsWalk (content_of adapter.old.cx.now) (has adapter.old.cx.now.initials)
+    ensures walk { IfOk result (λ members. IsWalk (query_content adapter.old.cx.now) (has adapter.old.cx.now.initials)
         (shown V.visit_gives adapter.old.cx.now) adapter.old.visitor.now adapter.new.visitor.now (has members)) }
-    ensures run { OnErr result (LegalRun (content_of adapter.old.cx.now) (has adapter.old.cx.now.initials)
+    ensures run { OnErr result (LegalRun (query_content adapter.old.cx.now) (has adapter.old.cx.now.initials)
         (shown V.visit_gives adapter.old.cx.now) adapter.old.visitor.now adapter.new.visitor.now) }
 {
     let query = adapter.cx.query();
@@ -70,11 +70,11 @@ impl<'g> FeatureQuery<'g> {
         alloc: Global,
         visitor: &mut V,
     ) -> Result<FeatureSet<'g>, Error<'g>>
-        requires { MayAsk (showable V.can_visit self) (shown V.visit_gives self) (content_of self) visitor.old }
+        requires { MayAsk (showable V.can_visit self) (shown V.visit_gives self) (query_content self) visitor.old }
         ensures graph { IfOk result (λ set. set.graph ≡ self.entry.graph) }
-        ensures walk { IfOk result (λ set. IsWalk (content_of self.entry) (has self.entry.initials)
+        ensures walk { IfOk result (λ set. IsWalk (query_content self.entry) (has self.entry.initials)
             (shown V.visit_gives self.entry) visitor.old visitor.new (has set.members)) }
-        ensures run { OnErr result (LegalRun (content_of self.entry) (has self.entry.initials)
+        ensures run { OnErr result (LegalRun (query_content self.entry) (has self.entry.initials)
             (shown V.visit_gives self.entry) visitor.old visitor.new) }
         ensures refused { IfErr result (λ e. e ≡ Error.Memory) }
     {
@@ -92,11 +92,11 @@ impl<'g> FeatureQuery<'g> {
         alloc: Global,
         f: &mut F,
     ) -> Result<FeatureSet<'g>, Error<'g>>
-        requires { MayAsk (showable (closure_can F.pre) self) (shown (closure_gives F.step) self) (content_of self) f.old }
+        requires { MayAsk (showable (closure_can F.pre) self) (shown (closure_gives F.step) self) (query_content self) f.old }
         ensures graph { IfOk result (λ set. set.graph ≡ self.entry.graph) }
-        ensures walk { IfOk result (λ set. IsWalk (content_of self.entry) (has self.entry.initials)
+        ensures walk { IfOk result (λ set. IsWalk (query_content self.entry) (has self.entry.initials)
             (shown (closure_gives F.step) self.entry) f.old f.new (has set.members)) }
-        ensures run { OnErr result (LegalRun (content_of self.entry) (has self.entry.initials)
+        ensures run { OnErr result (LegalRun (query_content self.entry) (has self.entry.initials)
             (shown (closure_gives F.step) self.entry) f.old f.new) }
         ensures refused { IfErr result (λ e. e ≡ Error.Memory) }
     {
@@ -122,12 +122,12 @@ fn resolve_closure<'f, 'g, F: FnMut(&FeatureLinkContext<'g>, ConditionalLink<'g>
     alloc: Global,
     visitor: &mut LinkVisitorFn<'f, F>,
 ) -> Result<FeatureSet<'g>, Error<'g>>
-    requires { MayAsk (showable (closure_can F.pre) query) (shown (closure_gives F.step) query) (content_of query) visitor.old.f.now }
+    requires { MayAsk (showable (closure_can F.pre) query) (shown (closure_gives F.step) query) (query_content query) visitor.old.f.now }
     ensures same_reference { visitor.new.f.ghost_name ≡ visitor.old.f.ghost_name }
     ensures graph { IfOk result (λ set. set.graph ≡ query.entry.graph) }
-    ensures walk { IfOk result (λ set. IsWalk (content_of query.entry) (has query.entry.initials)
+    ensures walk { IfOk result (λ set. IsWalk (query_content query.entry) (has query.entry.initials)
         (shown (closure_gives F.step) query.entry) visitor.old.f.now visitor.new.f.now (has set.members)) }
-    ensures run { OnErr result (LegalRun (content_of query.entry) (has query.entry.initials)
+    ensures run { OnErr result (LegalRun (query_content query.entry) (has query.entry.initials)
         (shown (closure_gives F.step) query.entry) visitor.old.f.now visitor.new.f.now) }
     ensures refused { IfErr result (λ e. e ≡ Error.Memory) }
 {

@@ -5,12 +5,12 @@ use Rattle.guppy_packages.specs.Metadata.{package_id_of, package_table_of}
 use Rattle.guppy_packages.specs.Tables.{PackageTable}
 use Rattle.feature_core.specs.Nodes.{nodes}
 use Rattle.feature_labels.specs.Names.{id_of, label_of}
-use Rattle.guppy_features.proofs.BuiltLemmas.{built_given, built_count}
+use Rattle.guppy_features.proofs.BuiltLemmas.{built_count}
 use Rattle.guppy_features.proofs.NodePackages.{node_package, IsOf}
 use Rattle.guppy_features.proofs.link.feature_at.Goals as goal
 
 pub id-id-requires-clause-built : goal.id-id-requires-clause-built
-id-id-requires-clause-built c = built_given c.args.graph.graph.now c.args.graph.built.now c.args.graph.is_built
+id-id-requires-clause-built c = c.args.graph.is_built
 
 pub id-id-requires-clause-node : goal.id-id-requires-clause-node
 id-id-requires-clause-node c =
@@ -27,7 +27,7 @@ package_of-requires c =
 pub package-package-requires : goal.package-package-requires
 package-package-requires c =
     let t = c.args.graph.graph.now in
-    let b = built_given t c.args.graph.built.now c.args.graph.is_built in
+    let b = c.args.graph.is_built in
     let at = subst (λ z. slice_get z c.args.node ≡ Some c.package_of.result) b.packages c.package_of.ensures in
     let of = node_package t c.args.node c.package_of.result (id_of c.id-id.result) at c.id-id.ensures in
     slice_get_within t.packages c.package_of.result of.table of.is
@@ -35,7 +35,7 @@ package-package-requires c =
 pub returns-clause-name : goal.returns-clause-name
 returns-clause-name c =
     let t = c.args.graph.graph.now in
-    let b = built_given t c.args.graph.built.now c.args.graph.is_built in
+    let b = c.args.graph.is_built in
     let at = subst (λ z. slice_get z c.args.node ≡ Some c.package_of.result) b.packages c.package_of.ensures in
     let of = node_package t c.args.node c.package_of.result (id_of c.id-id.result) at c.id-id.ensures in
     let row : ◌≡◌ {A = Option PackageTable} (Some of.table) (Some (package_table_of c.package-package.result)) = sym of.is ∙ c.package-package.ensures.package in
