@@ -1,5 +1,8 @@
 mod BuiltLemmas
+mod NodePackages
+mod Offered
 mod PackageLemmas
 mod SetLemmas
 mod VerifyLemmas
 pub mod MemberNames
+mod Visits

@@ -2,3 +2,9 @@ pub mod Values
 pub mod Names
 pub mod Views
 pub mod Verified
+pub mod LinkValues
+pub mod LinkViews
+pub mod PackageLinkViews
+pub mod Visits
+pub mod Boxed
+pub mod ByClosure

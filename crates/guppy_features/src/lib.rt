@@ -1,15 +1,22 @@
 //! The feature graph: queries and sets of features.
 #![tactic(auto)]
 
+mod context;
 mod graph;
 mod ids;
+pub mod laws;
+mod link;
 mod listing;
 mod metadata;
+mod package_links;
 mod query;
+mod resolve_with;
 mod set;
 #[cfg(test)]
 mod tests;
+mod visitor;
 
+pub use context::FeatureLinkContext;
 pub use feature_core::{
     ConditionalLinkImpl, EdgeChoice, EnabledLink, Error, FeatureEdge, FeatureGraphData,
     FeatureGraphWarning, SlashForm, WeakIndex, WeakSlashImpl,
@@ -24,6 +31,9 @@ pub use guppy_packages::{
     PackageId, PackageLink, PackageMetadata, PlatformStatus, PlatformStatusImpl, Row, RowError,
     RowFault, Spec, UnknownPackageId,
 };
+pub use link::ConditionalLink;
 pub use metadata::FeatureMetadata;
+pub use package_links::PackageLinks;
 pub use query::FeatureQuery;
 pub use set::{FeatureSet, IdsByNode};
+pub use visitor::{FeatureLinkObject, FeatureLinkVisitor};

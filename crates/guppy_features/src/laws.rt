@@ -1,0 +1,25 @@
+//! Laws of what the calls of this crate speak of. Each function's contract is the law, and it does nothing; those of the
+//! crates below are handed on.
+ghost use Rattle.std.specs.Prelude.{◌↔◌, ℕ, Bool, List, IsTrue};
+ghost use Rattle.guppy_support.specs.Bits.{has};
+ghost use Rattle.walk_engine.specs.declared.walks.Half.{Half};
+ghost use Rattle.walk_engine.specs.Laws.{AnswersBy};
+ghost use Rattle.walk_engine.specs.Walks.{Call, Agrees, GoesAlong, IsWalk, Least};
+ghost use Rattle.guppy_features.specs.Values.{Query};
+ghost use Rattle.guppy_features.specs.Visits.{query_content, shown};
+
+use crate::visitor::FeatureLinkVisitor;
+pub use feature_core::laws::{
+    agrees_by_answer, least_monotone, links_are_present, one_candidate, one_result, reach_additive,
+    reach_both_ways, required_half_is_due, reverse_accept_all, warning_equality,
+};
+
+/// Where a visitor answers the links of a query as a test of offers says, whatever it was shown before, the test agrees with
+/// each run of its answers, and the members of a walk are exactly the least set for the test.
+pub fn visitor_agrees_by_answer<'g, V: FeatureLinkVisitor<'g>>()
+    ensures agrees { (q : Query) (A : ℕ → Half → Bool) (s t : V) (run : List Call) → AnswersBy (shown V.visit_gives q) A s
+        → GoesAlong (shown V.visit_gives q) s run t → Agrees A run }
+    ensures least { (q : Query) (A : ℕ → Half → Bool) (s t : V) (M : ℕ → Bool) → AnswersBy (shown V.visit_gives q) A s
+        → IsWalk (query_content q) (has q.initials) (shown V.visit_gives q) s t M
+        → (n : ℕ) → IsTrue (M n) ↔ Least (query_content q) (has q.initials) A n }
+{}
