@@ -6,3 +6,5 @@ mod PackageLemmas
 mod SetLemmas
 mod VerifyLemmas
 pub mod MemberNames
+pub mod WorkspaceLemmas
+pub mod ListedLemmas

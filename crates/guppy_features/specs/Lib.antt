@@ -2,3 +2,6 @@ pub mod Values
 pub mod Names
 pub mod Views
 pub mod Verified
+pub mod Filters
+pub mod Boxed
+pub mod ListedFilters

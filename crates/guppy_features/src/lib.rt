@@ -1,12 +1,16 @@
 //! The feature graph: queries and sets of features.
 #![tactic(auto)]
 
+mod filter;
 mod graph;
 mod ids;
+mod listed_filters;
 mod listing;
 mod metadata;
 mod query;
 mod set;
+mod standard_features;
+mod workspace;
 #[cfg(test)]
 mod tests;
 
@@ -18,12 +22,17 @@ pub use feature_labels::{
     DisplayFeatures, FeatureId, FeatureKind, FeatureLabel, FeatureList, LinkDeclarations,
     feature_list,
 };
+pub use filter::{FeatureFilter, FeatureFilterFn, FeatureFilterObject};
 pub use graph::{FeatureGraph, FeatureGraphExt};
 pub use guppy_packages::{
     Declaration, DependencyDirection, DependencyKind, NamedFeature, NamedFeatureDep, PackageGraph,
     PackageId, PackageLink, PackageMetadata, PlatformStatus, PlatformStatusImpl, Row, RowError,
     RowFault, Spec, UnknownPackageId,
 };
+pub use listed_filters::{
+    FeatureIdFilter, NamedFeatureFilter, feature_id_filter, named_feature_filter,
+};
 pub use metadata::FeatureMetadata;
 pub use query::FeatureQuery;
 pub use set::{FeatureSet, IdsByNode};
+pub use standard_features::StandardFeatures;
