@@ -6,3 +6,5 @@ mod SetLemmas
 mod VerifyLemmas
 pub mod MemberNames
 mod Visits
+pub mod WorkspaceLemmas
+pub mod ListedLemmas

@@ -8,3 +8,5 @@ pub mod PackageLinkViews
 pub mod Visits
 pub mod Boxed
 pub mod ByClosure
+pub mod Filters
+pub mod ListedFilters

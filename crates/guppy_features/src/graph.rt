@@ -291,6 +291,17 @@ impl<'g> FeatureGraph<'g> {
         }
     }
 
+    /// Whether the feature, which the graph has, is on by default in its package.
+    pub(crate) fn is_default(&self, id: FeatureId<'_>) -> bool
+        requires { HasFeature (tables_of_graph self.now) (id_of id) }
+        ensures { TellsDefault (tables_of_graph self.now) (id_of id.entry) result }
+    {
+        match self.node(id) {
+            Some(node) => self.built.is_default(node),
+            None => unreachable!(),
+        }
+    }
+
     /// Whether the feature is on by default in its package: whether the package's feature named `default`, or its base
     /// where it has none, leads to it over edges to the base and between the package's named features. It is an error
     /// where no package has the id's package, and another where the package lacks the feature.

@@ -30,7 +30,7 @@ pub(crate) fn first_unknown<'a>(
 }
 
 /// Puts the feature into the set, where the graph has it.
-fn insert_id(graph: FeatureGraph<'_>, id: FeatureId<'_>, members: &mut IxBitSet)
+pub(crate) fn insert_id(graph: FeatureGraph<'_>, id: FeatureId<'_>, members: &mut IxBitSet)
     requires { length members.old ≡ length (nodes (tables_of_graph graph)) }
     ensures size { length members.new ≡ length members.old }
     ensures members { (n : ℕ) → IsTrue (has members.new n) ↔ (IsTrue (has members.old n) ⊎ NodeNamed (tables_of_graph graph.entry) n (id_of id.entry)) }

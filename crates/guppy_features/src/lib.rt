@@ -6,12 +6,16 @@ mod graph;
 mod ids;
 pub mod laws;
 mod link;
+mod filter;
+mod listed_filters;
 mod listing;
 mod metadata;
 mod package_links;
 mod query;
 mod resolve_with;
 mod set;
+mod standard_features;
+mod workspace;
 #[cfg(test)]
 mod tests;
 mod visitor;
@@ -25,6 +29,7 @@ pub use feature_labels::{
     DisplayFeatures, FeatureId, FeatureKind, FeatureLabel, FeatureList, LinkDeclarations,
     feature_list,
 };
+pub use filter::{FeatureFilter, FeatureFilterFn, FeatureFilterObject};
 pub use graph::{FeatureGraph, FeatureGraphExt};
 pub use guppy_packages::{
     Declaration, DependencyDirection, DependencyKind, NamedFeature, NamedFeatureDep, PackageGraph,
@@ -32,8 +37,12 @@ pub use guppy_packages::{
     RowFault, Spec, UnknownPackageId,
 };
 pub use link::ConditionalLink;
+pub use listed_filters::{
+    FeatureIdFilter, NamedFeatureFilter, feature_id_filter, named_feature_filter,
+};
 pub use metadata::FeatureMetadata;
 pub use package_links::PackageLinks;
 pub use query::FeatureQuery;
 pub use set::{FeatureSet, IdsByNode};
 pub use visitor::{FeatureLinkObject, FeatureLinkVisitor};
+pub use standard_features::StandardFeatures;
