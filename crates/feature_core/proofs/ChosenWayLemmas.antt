@@ -25,67 +25,20 @@ use Rattle.feature_core.proofs.Answered.{clash}
 use Rattle.feature_core.proofs.Places.{got_map}
 use Rattle.feature_core.proofs.Reaches.{reach_in, reach_more, open_nobody, open_cases}
 use Rattle.feature_core.proofs.PushLemmas.{from_filter, into_filter, from_map, into_map}
-use Rattle.feature_core.proofs.OpenWayLemmas.{ends_are_nodes, edge_way, number_read}
+use Rattle.feature_core.proofs.OpenWayLemmas.{ends_are_nodes, edge_way}
 use Rattle.feature_core.proofs.PackedLemmas.{built_edge_at, edge_of_facts, length-built_edges}
-
--- the edges that start at a node are those of the digraph
-starts_same : (which : EdgeChoice) (direction : DependencyDirection) (n first : ℕ) (es : List Edge) (fs : List EdgeFacts) → length fs ≡ length es → numbers_where (λ w. w.start == n) first (map (chosen_way which direction) (built_edges es fs)) ≡ numbers_where (λ w. w.start == n) first (map (open_way direction) es)
-starts_same which direction n first [] fs l = refl
-starts_same which direction n first (e ∷ es) [] l = absurd (omega arith)
-starts_same which Forward n first (e ∷ es) (f ∷ fs) l = rw (starts_same which Forward n (suc first) es fs (omega arith)) refl
-starts_same which Reverse n first (e ∷ es) (f ∷ fs) l = rw (starts_same which Reverse n (suc first) es fs (omega arith)) refl
-
-way_at : (which : EdgeChoice) (direction : DependencyDirection) (es : List Edge) (fs : List EdgeFacts) (k : ℕ) (e : Edge) (f : EdgeFacts) → slice_get es k ≡ Some e → slice_get fs k ≡ Some f → slice_get (map (chosen_way which direction) (built_edges es fs)) k ≡ Some (chosen_way which direction (e.from, e.to, f))
-way_at which direction es fs k e f p q = slice_get-map (chosen_way which direction) (built_edges es fs) k ∙ ap (option_map (chosen_way which direction)) (built_edge_at k es fs e f p q)
-
--- what is told of an edge
-pub told_chosen : (which : EdgeChoice) (direction : DependencyDirection) (nodes : ℕ) (es : List Edge) (fs : List EdgeFacts) (k : ℕ) (e : Edge) (f : EdgeFacts) → slice_get es k ≡ Some e → slice_get fs k ≡ Some f → ◌≡◌ {A = Option Taken} (Some (record { edge = k; far = (open_way direction e).far; ask = ask_where (is_chosen which f) })) (told (chosen_content which direction nodes (built_edges es fs)) (Some k))
-told_chosen which Forward nodes es fs k e f p q = sym (ap (taken_of k) (way_at which Forward es fs k e f p q))
-told_chosen which Reverse nodes es fs k e f p q = sym (ap (taken_of k) (way_at which Reverse es fs k e f p q))
 
 ungated : (b : Bool) → IsFalse (is_gated (ask_where b))
 ungated true = refl
 ungated false = refl
 
 -- no way is gated
-none_gated : (which : EdgeChoice) (direction : DependencyDirection) (n first : ℕ) (edges : List (ℕ × ℕ × EdgeFacts)) → numbers_where (λ w. is_gated w.ask && (w.gate == n)) first (map (chosen_way which direction) edges) ≡ []
+pub none_gated : (which : EdgeChoice) (direction : DependencyDirection) (n first : ℕ) (edges : List (ℕ × ℕ × EdgeFacts)) → numbers_where (λ w. is_gated w.ask && (w.gate == n)) first (map (chosen_way which direction) edges) ≡ []
 none_gated which direction n first [] = refl
 none_gated which direction n first (x ∷ edges) = rw (ungated (is_chosen which x.2)) (none_gated which direction n (suc first) edges)
 
-pub none_released : (which : EdgeChoice) (direction : DependencyDirection) (nodes gate place : ℕ) (edges : List (ℕ × ℕ × EdgeFacts)) → ◌≡◌ {A = Option Taken} None (told (chosen_content which direction nodes edges) (slice_get (releasing (chosen_content which direction nodes edges) gate) place))
-none_released which direction nodes gate place edges = sym (ap (λ (numbers : List ℕ). told (chosen_content which direction nodes edges) (slice_get numbers place)) (none_gated which direction gate 0 edges))
-
-ways_within : (which : EdgeChoice) (direction : DependencyDirection) (nodes : ℕ) (x : ℕ × ℕ × EdgeFacts) → x.0 < nodes → x.1 < nodes → ((chosen_way which direction x).start < nodes) × ((chosen_way which direction x).far < nodes) × (IsTrue (is_gated (chosen_way which direction x).ask) → (chosen_way which direction x).gate < nodes)
-ways_within which Forward nodes x a b = (a, b, λ t. absurd (clash t (ungated (is_chosen which x.2))))
-ways_within which Reverse nodes x a b = (b, a, λ t. absurd (clash t (ungated (is_chosen which x.2))))
-
 way_edge : (which : EdgeChoice) (direction : DependencyDirection) (nodes : ℕ) (edges : List (ℕ × ℕ × EdgeFacts)) (k : ℕ) (w : Way) → IsWay (chosen_content which direction nodes edges) k w → (x : ℕ × ℕ × EdgeFacts) × (slice_get edges k ≡ Some x) × (chosen_way which direction x ≡ w)
 way_edge which direction nodes edges k w is = got_map (chosen_way which direction) (slice_get edges k) w (sym (slice_get-map (chosen_way which direction) edges k) ∙ is)
-
--- the ends of every way are nodes
-pub chosen_ends : (which : EdgeChoice) (direction : DependencyDirection) (g : Graph) (fs : List EdgeFacts) → IsDigraph g → EndsAreNodes (chosen_content which direction g.nodes (built_edges g.edges fs))
-chosen_ends which direction g fs sound k w is =
-    let x = way_edge which direction g.nodes (built_edges g.edges fs) k w is in
-    let e = edge_of_facts k g.edges fs x.0 x.1 in
-    let ends = ends_are_nodes Forward g sound k (open_way Forward e.0) (edge_way Forward g k e.0 e.1) in
-    subst (λ (v : Way). (v.start < g.nodes) × (v.far < g.nodes) × (IsTrue (is_gated v.ask) → v.gate < g.nodes)) x.2
-    (ways_within which direction g.nodes x.0 (subst (λ (n : ℕ). n < g.nodes) e.2 ends.0) (subst (λ (n : ℕ). n < g.nodes) e.3 ends.1))
-
-pub chosen_length : (which : EdgeChoice) (direction : DependencyDirection) (es : List Edge) (fs : List EdgeFacts) → length fs ≡ length es → length es ≡ length (map (chosen_way which direction) (built_edges es fs))
-chosen_length which direction es fs l = sym (length-map (built_edges es fs) (chosen_way which direction) ∙ length-built_edges es fs l)
-
-module _ (which : EdgeChoice) (direction : DependencyDirection) (g : Graph) (fs : List EdgeFacts) (each : length fs ≡ length g.edges) where
-  abbrev c : Content
-  c = chosen_content which direction g.nodes (built_edges g.edges fs)
-
-  -- the number that is read at a place
-  pub chosen_some : (n place : ℕ) (numbers : List ℕ) (k : ℕ) → numbers ≡ starting (open_ways direction g) n → place < length numbers → k ≡ get_or numbers place k → slice_get (starting c n) place ≡ Some k
-  chosen_some n place numbers k same within is = ap (λ (xs : List ℕ). slice_get xs place) (starts_same which direction n 0 g.edges fs each) ∙ number_read direction g n place numbers k same within is
-
-  pub chosen_none : (n place : ℕ) (numbers : List ℕ) → numbers ≡ starting (open_ways direction g) n → length numbers ≤ place → ◌≡◌ {A = Option Taken} None (told c (slice_get (starting c n) place))
-  chosen_none n place numbers same past =
-      let none : slice_get (starting c n) place ≡ None = ap (λ (xs : List ℕ). slice_get xs place) (starts_same which direction n 0 g.edges fs each ∙ sym same) ∙ slice_get_past numbers place past in
-      sym (ap (told c) none)
 
 or_false : (a b c : Bool) → b ≡ false → c ≡ false → ((a && b) || c) ≡ false
 or_false true b c p q = ap (λ z. z || c) p ∙ q

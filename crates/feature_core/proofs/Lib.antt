@@ -15,6 +15,7 @@ pub mod Released
 pub mod ReleaseTables
 pub mod PackedLemmas
 pub mod ChosenWayLemmas
+pub mod AskingLemmas
 pub mod NameLemmas
 pub mod GroupedLinks
 pub mod PushLemmas

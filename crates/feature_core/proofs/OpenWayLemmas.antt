@@ -1,19 +1,20 @@
 -- The edges of a digraph as ways that are open to all.
-use Rattle.std.proofs.Common.{◌≡◌, ℕ, suc, ◌<◌, List, [], ◌∷◌, Some, length, get_or, map, refl, sym, ◌∙◌, ap, subst, arith}
+use Rattle.std.proofs.Common.{◌≡◌, ℕ, suc, ◌+◌, ◌-◌, ◌<◌, List, [], ◌∷◌, Some, None, length, get_or, map, refl, sym, ◌∙◌, ap, subst, arith}
 use Rattle.std.specs.Prelude.{IsTrue, ◌==◌, slice_get}
+use Rattle.std.specs.List.{range_with_len}
 use Rattle.std.proofs.lemmas.List.{get_or-map}
-use Rattle.std.proofs.lemmas.Option.{slice_get-map, slice_get_within, slice_get_read, get_or_from_slice_get}
+use Rattle.std.proofs.lemmas.List.FromFn.{get_or-range_with_len, length-range_with_len}
+use Rattle.std.proofs.lemmas.Option.{slice_get-map, slice_get_within, slice_get_read, slice_get_past, get_or_from_slice_get}
 use Rattle.std.specs.Option.{option_map}
 use Rattle.guppy_support.specs.declared.digraph.Edge.{Edge}
 use Rattle.guppy_support.specs.Graph.{Graph, IsDigraph, sources, targets}
-use Rattle.guppy_support.specs.Rows.{places_from}
+use Rattle.guppy_support.specs.Rows.{places, places_from}
 use Rattle.guppy_packages.specs.declared.direction.DependencyDirection.{DependencyDirection}
 use Rattle.guppy_packages.specs.declared.direction.DependencyDirection.TheVariants.{Forward, Reverse}
 use Rattle.walk_engine.specs.Walks.{Way, IsWay, EndsAreNodes, numbers_where, starting, is_gated}
 use Rattle.feature_core.specs.OpenWays.{open_way, open_ways}
 use Rattle.feature_core.proofs.Answered.{clash}
 use Rattle.feature_core.proofs.Places.{got_map}
-use Rattle.feature_core.proofs.WayNumbers.{number_way}
 
 -- the ways that start at a node are the edges that leave it, or that enter it
 pub forward_numbers : (n first : ℕ) (es : List Edge) → numbers_where (λ w. w.start == n) first (map (open_way Forward) es) ≡ places_from n first (sources es)
@@ -31,17 +32,19 @@ way_edge direction g k w is = got_map (open_way direction) (slice_get g.edges k)
 pub edge_way : (direction : DependencyDirection) (g : Graph) (k : ℕ) (e : Edge) → slice_get g.edges k ≡ Some e → IsWay (open_ways direction g) k (open_way direction e)
 edge_way direction g k e is = slice_get-map (open_way direction) g.edges k ∙ ap (option_map (open_way direction)) is
 
--- the number that is read at a place
-pub number_read : (direction : DependencyDirection) (g : Graph) (n place : ℕ) (numbers : List ℕ) (k : ℕ) → numbers ≡ starting (open_ways direction g) n → place < length numbers → k ≡ get_or numbers place k → slice_get (starting (open_ways direction g) n) place ≡ Some k
-number_read direction g n place numbers k same within is =
-    subst (λ (xs : List ℕ). slice_get xs place ≡ Some k) same (slice_get_read numbers (length numbers) place k refl within is)
+-- the edge at a place of those that leave a node
+pub out_place : (g : Graph) (n start end place : ℕ) → range_with_len start (end - start) ≡ places n (sources g.edges) → place < end - start → Some (start + place) ≡ slice_get (starting (open_ways Forward g) n) place
+out_place g n start end place same within =
+    let range : List ℕ = range_with_len start (end - start) in
+    let here : start + place ≡ get_or range place (start + place) = sym (get_or-range_with_len start (end - start) place (start + place) within) in
+    let read : slice_get range place ≡ Some (start + place) = slice_get_read range (length range) place (start + place) refl (omega (arith, length-range_with_len start (end - start))) here in
+    sym read ∙ ap (λ (xs : List ℕ). slice_get xs place) (same ∙ sym (forward_numbers n 0 g.edges))
 
--- the number of a way that starts somewhere is the number of an edge
-pub starting_edge : (direction : DependencyDirection) (g : Graph) (n place k : ℕ) → slice_get (starting (open_ways direction g) n) place ≡ Some k → k < length g.edges
-starting_edge direction g n place k is =
-    let found = number_way (λ w. w.start == n) 0 (open_ways direction g).ways place k is in
-    let e = way_edge direction g found.0 found.2.0 found.2.1 in
-    omega (arith, found.1, slice_get_within g.edges found.0 e.0 e.1)
+pub out_past : (g : Graph) (n start end place : ℕ) → range_with_len start (end - start) ≡ places n (sources g.edges) → (place < end - start → ⊥) → None ≡ slice_get (starting (open_ways Forward g) n) place
+out_past g n start end place same past =
+    let range : List ℕ = range_with_len start (end - start) in
+    let none : slice_get range place ≡ None = slice_get_past range place (omega (arith, length-range_with_len start (end - start))) in
+    sym none ∙ ap (λ (xs : List ℕ). slice_get xs place) (same ∙ sym (forward_numbers n 0 g.edges))
 
 -- both ends of a way are nodes
 ways_within : (direction : DependencyDirection) (n : ℕ) (e : Edge) → e.from < n → e.to < n → ((open_way direction e).start < n) × ((open_way direction e).far < n) × (IsTrue (is_gated (open_way direction e).ask) → (open_way direction e).gate < n)

@@ -23,25 +23,10 @@ use Rattle.feature_core.specs.Releases.{AreTied, released_by, releases_from}
 use Rattle.feature_core.proofs.Answered.{decide}
 use Rattle.feature_core.proofs.WayNumbers.{is_in_at}
 use Rattle.feature_core.proofs.Places.{got_map, got_same}
-use Rattle.feature_core.proofs.OpenWayLemmas.{ends_are_nodes, edge_way, number_read}
+use Rattle.feature_core.proofs.OpenWayLemmas.{ends_are_nodes, edge_way}
 use Rattle.feature_core.proofs.Released.{Rises, same_rising, in_released, released_in, released_rises}
 use Rattle.feature_core.proofs.NodeLabels.{element_within}
 use Rattle.feature_core.proofs.ReleaseTables.{exact_releases}
-
-start_same : (direction : DependencyDirection) (weak : List (ℕ × ℕ)) (e : Edge) (f : EdgeFacts) → (way direction weak (e.from, e.to, f)).start ≡ (open_way direction e).start
-start_same Forward weak e f = refl
-start_same Reverse weak e f = refl
-
-far_same : (direction : DependencyDirection) (weak : List (ℕ × ℕ)) (e : Edge) (f : EdgeFacts) → (way direction weak (e.from, e.to, f)).far ≡ (open_way direction e).far
-far_same Forward weak e f = refl
-far_same Reverse weak e f = refl
-
--- the edges that start at a node are those of the digraph
-pub starts_same : (direction : DependencyDirection) (weak : List (ℕ × ℕ)) (n first : ℕ) (es : List Edge) (fs : List EdgeFacts) → length fs ≡ length es → numbers_where (λ w. w.start == n) first (ways direction (built_edges es fs) weak) ≡ numbers_where (λ w. w.start == n) first (map (open_way direction) es)
-starts_same direction weak n first [] fs l = refl
-starts_same direction weak n first (e ∷ es) [] l = absurd (omega arith)
-starts_same Forward weak n first (e ∷ es) (f ∷ fs) l = rw (starts_same Forward weak n (suc first) es fs (omega arith)) refl
-starts_same Reverse weak n first (e ∷ es) (f ∷ fs) l = rw (starts_same Reverse weak n (suc first) es fs (omega arith)) refl
 
 -- an edge with what it says
 pub built_edge_at : (k : ℕ) (es : List Edge) (fs : List EdgeFacts) (e : Edge) (f : EdgeFacts) → slice_get es k ≡ Some e → slice_get fs k ≡ Some f → slice_get (built_edges es fs) k ≡ Some (e.from, e.to, f)
@@ -58,14 +43,6 @@ edge_of_facts k [] fs x p = absurd (cc)
 edge_of_facts k (e ∷ es) [] x p = absurd (cc)
 edge_of_facts zero (e ∷ es) (f ∷ fs) x p = (e, refl, some_ap (λ z. z.0) (e.from, e.to, f) x p, some_ap (λ z. z.1) (e.from, e.to, f) x p)
 edge_of_facts (suc k) (e ∷ es) (f ∷ fs) x p = edge_of_facts k es fs x p
-
-way_at : (direction : DependencyDirection) (weak : List (ℕ × ℕ)) (es : List Edge) (fs : List EdgeFacts) (k : ℕ) (e : Edge) (f : EdgeFacts) → slice_get es k ≡ Some e → slice_get fs k ≡ Some f → slice_get (ways direction (built_edges es fs) weak) k ≡ Some (way direction weak (e.from, e.to, f))
-way_at direction weak es fs k e f p q = slice_get-map (way direction weak) (built_edges es fs) k ∙ ap (option_map (way direction weak)) (built_edge_at k es fs e f p q)
-
--- what is told of an edge
-pub told_taken : (direction : DependencyDirection) (nodes : ℕ) (weak : List (ℕ × ℕ)) (es : List Edge) (fs : List EdgeFacts) (k : ℕ) (e : Edge) (f : EdgeFacts) → slice_get es k ≡ Some e → slice_get fs k ≡ Some f → ◌≡◌ {A = Option Taken} (Some (record { edge = k; far = (open_way direction e).far; ask = asked direction f })) (told (content direction nodes (built_edges es fs) weak) (Some k))
-told_taken Forward nodes weak es fs k e f p q = sym (ap (taken_of k) (way_at Forward weak es fs k e f p q))
-told_taken Reverse nodes weak es fs k e f p q = sym (ap (taken_of k) (way_at Reverse weak es fs k e f p q))
 
 -- in reverse no half waits
 none_asked : (f : EdgeFacts) → IsFalse (is_gated (asked Reverse f))
@@ -127,7 +104,7 @@ gate_below [] nodes index some h = some
 gate_below (x ∷ weak) nodes zero some h = h 0 x (omega arith)
 gate_below (x ∷ weak) nodes (suc index) some h = gate_below weak nodes index some (λ k d l. h (suc k) d (omega arith))
 
-gate_within : (weak : List (ℕ × ℕ)) (nodes : ℕ) (f : EdgeFacts) → 0 < nodes → GatesAreNodes nodes weak → option_map_or (λ gate. gate) (gate_of weak f) 0 < nodes
+pub gate_within : (weak : List (ℕ × ℕ)) (nodes : ℕ) (f : EdgeFacts) → 0 < nodes → GatesAreNodes nodes weak → option_map_or (λ gate. gate) (gate_of weak f) 0 < nodes
 gate_within weak nodes base_edge some h = some
 gate_within weak nodes feature_edge some h = some
 gate_within weak nodes (colon_edge l) some h = some
@@ -135,54 +112,10 @@ gate_within weak nodes (strong_edge l) some h = some
 gate_within weak nodes (weak_edge l half) some h = gate_below weak nodes half.index some h
 gate_within weak nodes (section_edge l) some h = some
 
-ways_within : (direction : DependencyDirection) (weak : List (ℕ × ℕ)) (nodes : ℕ) (x : ℕ × ℕ × EdgeFacts) → x.0 < nodes → x.1 < nodes → GatesAreNodes nodes weak → ((way direction weak x).start < nodes) × ((way direction weak x).far < nodes) × (IsTrue (is_gated (way direction weak x).ask) → (way direction weak x).gate < nodes)
-ways_within Forward weak nodes x a b h = (a, b, λ _. gate_within weak nodes x.2 (omega arith) h)
-ways_within Reverse weak nodes x a b h = (b, a, λ _. gate_within weak nodes x.2 (omega arith) h)
-
--- the ends of every way are nodes
-pub packed_ends : (direction : DependencyDirection) (g : Graph) (fs : List EdgeFacts) (weak : List (ℕ × ℕ)) → IsDigraph g → GatesAreNodes g.nodes weak → EndsAreNodes (content direction g.nodes (built_edges g.edges fs) weak)
-packed_ends direction g fs weak sound gates k w is =
-    let x = got_map (way direction weak) (slice_get (built_edges g.edges fs) k) w (sym (slice_get-map (way direction weak) (built_edges g.edges fs) k) ∙ is) in
-    let e = edge_of_facts k g.edges fs x.0 x.1 in
-    let ends = ends_are_nodes Forward g sound k (open_way Forward e.0) (edge_way Forward g k e.0 e.1) in
-    subst (λ (v : Way). (v.start < g.nodes) × (v.far < g.nodes) × (IsTrue (is_gated v.ask) → v.gate < g.nodes)) x.2
-    (ways_within direction weak g.nodes x.0 (subst (λ (n : ℕ). n < g.nodes) e.2 ends.0) (subst (λ (n : ℕ). n < g.nodes) e.3 ends.1) gates)
-
 pub length-built_edges : (es : List Edge) (fs : List EdgeFacts) → length fs ≡ length es → length (built_edges es fs) ≡ length es
 length-built_edges [] fs l = refl
 length-built_edges (e ∷ es) [] l = absurd (omega arith)
 length-built_edges (e ∷ es) (f ∷ fs) l = let r : length (built_edges es fs) ≡ length es = length-built_edges es fs (omega arith) in omega arith
-
-pub packed_length : (direction : DependencyDirection) (g : Graph) (fs : List EdgeFacts) (weak : List (ℕ × ℕ)) → length fs ≡ length g.edges → length g.edges ≡ length (ways direction (built_edges g.edges fs) weak)
-packed_length direction g fs weak l = sym (length-map (built_edges g.edges fs) (way direction weak) ∙ length-built_edges g.edges fs l)
-
-module _ (direction : DependencyDirection) (g : Graph) (fs : List EdgeFacts) (weak : List (ℕ × ℕ)) (each : length fs ≡ length g.edges) where
-  -- the number that is read at a place
-  pub take_some : (n place : ℕ) (numbers : List ℕ) (k : ℕ) → numbers ≡ starting (open_ways direction g) n → place < length numbers → k ≡ get_or numbers place k → slice_get (starting (content direction g.nodes (built_edges g.edges fs) weak) n) place ≡ Some k
-  take_some n place numbers k same within is = ap (λ (xs : List ℕ). slice_get xs place) (starts_same direction weak n 0 g.edges fs each) ∙ number_read direction g n place numbers k same within is
-
-  pub take_none : (n place : ℕ) (numbers : List ℕ) → numbers ≡ starting (open_ways direction g) n → length numbers ≤ place → ◌≡◌ {A = Option Taken} None (told (content direction g.nodes (built_edges g.edges fs) weak) (slice_get (starting (content direction g.nodes (built_edges g.edges fs) weak) n) place))
-  take_none n place numbers same past =
-      let none : slice_get (starting (content direction g.nodes (built_edges g.edges fs) weak) n) place ≡ None = ap (λ (xs : List ℕ). slice_get xs place) (starts_same direction weak n 0 g.edges fs each ∙ sym same) ∙ slice_get_past numbers place past in
-      sym (ap (told (content direction g.nodes (built_edges g.edges fs) weak)) none)
-
--- the edge at a place of those that a gate releases
-pub release_read : (g : Graph) (fs : List EdgeFacts) (weak released : List (ℕ × ℕ)) (gate place : ℕ) (found : Option ℕ) → AreTied g fs weak released → found ≡ slice_get (released_by gate released) place → slice_get (releasing (content Forward g.nodes (built_edges g.edges fs) weak) gate) place ≡ found
-release_read g fs weak released gate place found tied is = ap (λ (xs : List ℕ). slice_get xs place) (sym (releases_same g.nodes gate g fs weak released tied)) ∙ sym is
-
-pub release_within : (g : Graph) (fs : List EdgeFacts) (weak released : List (ℕ × ℕ)) (gate place k : ℕ) → AreTied g fs weak released → ◌≡◌ {A = Option ℕ} (Some k) (slice_get (released_by gate released) place) → k < length g.edges
-release_within g fs weak released gate place k tied is =
-    let listed : IsTrue (is_in (released_by gate released) k) = is_in_at (released_by gate released) place k (sym is) in
-    let edge = (tied.releases.exact gate k).0 (in_released gate k released listed) in
-    omega (arith, slice_get_within fs k edge.0 edge.1, tied.each)
-
-pub forward_read : (direction : DependencyDirection) (g : Graph) (fs : List EdgeFacts) (weak released : List (ℕ × ℕ)) (gate place : ℕ) (found : Option ℕ) → direction ≡ Forward → AreTied g fs weak released → found ≡ slice_get (released_by gate released) place → slice_get (releasing (content direction g.nodes (built_edges g.edges fs) weak) gate) place ≡ found
-forward_read Forward g fs weak released gate place found f tied is = release_read g fs weak released gate place found tied is
-forward_read Reverse g fs weak released gate place found f tied is = absurd (cc)
-
-pub reverse_read : (direction : DependencyDirection) (g : Graph) (fs : List EdgeFacts) (weak : List (ℕ × ℕ)) (gate place : ℕ) → direction ≡ Reverse → slice_get (releasing (content direction g.nodes (built_edges g.edges fs) weak) gate) place ≡ None
-reverse_read Forward g fs weak gate place f = absurd (cc)
-reverse_read Reverse g fs weak gate place f = ap (λ (xs : List ℕ). slice_get xs place) (none_waits weak gate 0 g.edges fs)
 
 -- the gates that are built are nodes
 pub built_gates : (t : Tables) (edges : List (ℕ × ℕ × EdgeFacts)) (weak : List (ℕ × ℕ)) (nodes : ℕ) → AreBuilt t edges weak → nodes ≡ length (node_packages t) → GatesAreNodes nodes weak

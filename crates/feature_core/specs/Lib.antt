@@ -12,6 +12,7 @@ pub mod OpenWays
 pub mod Ways
 pub mod ChosenWays
 pub mod Releases
+pub mod Asking
 pub mod Errors
 pub mod Built
 pub mod BuiltOnce

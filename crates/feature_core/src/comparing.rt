@@ -149,7 +149,7 @@ pub(crate) fn same_numbers(a: &[usize], b: &[usize]) -> bool
 pub(crate) fn same_sets(a: &IxBitSet, b: &IxBitSet) -> bool
     ensures { IsTrue result ↔ (a.now ≡ b.now) }
 {
-    a == b
+    a.is_identical(b)
 }
 
 /// Whether digraphs have edges between the same nodes.

@@ -1,23 +1,57 @@
 //! The edges of a feature graph as a source for walks.
-ghost use Rattle.std.specs.Prelude.{◌≡◌, ◌+◌, ◌^◌, ◌<◌, ℕ, List, Some, length, map, slice_get};
+ghost use Rattle.std.specs.Prelude.{◌≡◌, ◌+◌, ◌^◌, ◌<◌, ℕ, Some, length, map, slice_get};
 ghost use Rattle.walk_engine.specs.Walks.{Content, EndsAreNodes, starting, releasing, told};
 ghost use Rattle.feature_core.specs.Built.{built_edges};
 ghost use Rattle.feature_core.specs.Ways.{asked, content, waits, GatesAreNodes, Reading};
+ghost use Rattle.feature_core.specs.Asking.{ask_in, held, IsTied, IsOrdered, released_place};
+ghost use Rattle.feature_core.specs.ChosenWays.{ask_where, chosen_content};
+ghost use Rattle.feature_core.specs.OpenWays.{open_way, open_ways};
 ghost use Rattle.feature_core.specs.Releases.{AreTied};
 ghost use Rattle.feature_core.specs.Values.{edge_facts};
 
 use crate::data::FeatureGraphData;
-use crate::edge::{FeatureEdge, SlashForm};
+use crate::edge::{EdgeChoice, FeatureEdge, SlashForm};
 use crate::engine::{Ask, EdgeSource, Taken};
-use crate::reach::{edges_at, far_end};
 use crate::releases::released_at;
 use guppy_packages::DependencyDirection;
-use guppy_support::Digraph;
+use guppy_support::{Digraph, Edge};
 use indexmap::IndexMap;
 use std::marker::Model;
 
-/// What is asked of an edge, as the direction follows it.
-fn ask_of(direction: DependencyDirection, edge: &FeatureEdge) -> Ask
+/// What is asked of edges.
+#[derive(Drop)]
+pub(crate) enum Asking<'a> {
+    /// The offers of each conditional edge. Forward, optional halves wait for their gates.
+    Offers {
+        weak: &'a IndexMap<usize, usize>,
+        released: &'a [(usize, usize)],
+    },
+    /// Nothing of these edges, and the full link of each other one.
+    Chosen(EdgeChoice),
+}
+
+/// What is asked of an edge.
+fn ask_of(asking: &Asking<'_>, direction: DependencyDirection, edge: &FeatureEdge) -> Ask
+    ensures { result ≡ ask_in asking.now direction (edge_facts edge.now) }
+{
+    match asking {
+        Asking::Offers {
+            weak: _,
+            released: _,
+        } => offers_of(direction, edge),
+        Asking::Chosen(which) => ask_unless(edge.is_chosen(*which)),
+    }
+}
+
+/// The full link where the edge isn't chosen.
+fn ask_unless(chosen: bool) -> Ask
+    ensures { result ≡ ask_where chosen }
+{
+    if chosen { Ask::Nobody } else { Ask::Full }
+}
+
+/// The offers of an edge, as the direction follows it.
+fn offers_of(direction: DependencyDirection, edge: &FeatureEdge) -> Ask
     ensures { result ≡ asked direction (edge_facts edge.now) }
 {
     match edge {
@@ -49,24 +83,23 @@ fn waits(direction: DependencyDirection) -> bool
 pub struct Packed<'a> {
     digraph: &'a Digraph,
     edges: &'a [FeatureEdge],
-    weak: &'a IndexMap<usize, usize>,
-    released: &'a [(usize, usize)],
+    asking: Asking<'a>,
     direction: DependencyDirection,
     reads: u128,
 }
 
 impl<'a> Model for Packed<'a> {
     ghost use Rattle.std.specs.Prelude.{map};
+    ghost use Rattle.feature_core.specs.Asking.{held, IsTied};
     ghost use Rattle.feature_core.specs.Built.{built_edges};
-    ghost use Rattle.feature_core.specs.Ways.{Reading, content};
-    ghost use Rattle.feature_core.specs.Releases.{AreTied};
+    ghost use Rattle.feature_core.specs.Ways.{Reading};
     ghost use Rattle.feature_core.specs.Values.{edge_facts};
 
     ghost Value = { Reading };
 
-    ghost view = { λ p. record { holds = content p.direction p.digraph.now.nodes (built_edges p.digraph.now.edges (map edge_facts p.edges.now)) p.weak.now.entries; reads = p.reads } };
+    ghost view = { λ p. record { holds = held p.asking p.direction p.digraph.now.nodes (built_edges p.digraph.now.edges (map edge_facts p.edges.now)); reads = p.reads } };
 
-    ghost invariant = { λ p. AreTied p.digraph.now (map edge_facts p.edges.now) p.weak.now.entries p.released.now };
+    ghost invariant = { λ p. IsTied p.asking p.digraph.now (map edge_facts p.edges.now) };
 }
 
 impl<'a> Packed<'a> {
@@ -91,8 +124,26 @@ impl<'a> Packed<'a> {
         Packed {
             digraph,
             edges,
-            weak,
-            released,
+            asking: Asking::Offers { weak, released },
+            direction,
+            reads: 0,
+        }
+    }
+
+    /// The source over these parts of which nobody is asked of a chosen edge, and the others are offered.
+    pub(crate) fn chosen(
+        digraph: &'a Digraph,
+        edges: &'a [FeatureEdge],
+        which: EdgeChoice,
+        direction: DependencyDirection,
+    ) -> Self
+        requires { length edges.now ≡ length digraph.now.edges }
+        ensures { result ≡ record { holds = chosen_content which direction digraph.now.nodes (built_edges digraph.now.edges (map edge_facts edges.now)); reads = 0 } }
+    {
+        Packed {
+            digraph,
+            edges,
+            asking: Asking::Chosen(which),
             direction,
             reads: 0,
         }
@@ -106,21 +157,81 @@ impl<'a> Packed<'a> {
     }
 }
 
+/// The number of the edge at this place, from 0, among those that start at the node, as the direction follows them.
+fn edge_number(
+    digraph: &Digraph,
+    direction: DependencyDirection,
+    node: usize,
+    place: usize,
+) -> Option<usize>
+    requires { node < digraph.now.nodes }
+    ensures { result ≡ slice_get (starting (open_ways direction digraph.now) node) place }
+{
+    match direction {
+        DependencyDirection::Forward => {
+            let edges = digraph.out_edges(node);
+            if place < edges.end - edges.start {
+                Some(edges.start + place)
+            } else {
+                None
+            }
+        }
+        DependencyDirection::Reverse => number_at(digraph.in_edges(node), place),
+    }
+}
+
+/// The number at a place of a list.
+fn number_at(numbers: &[usize], place: usize) -> Option<usize>
+    ensures { result ≡ slice_get numbers.now place }
+{
+    numbers.get(place).copied()
+}
+
+/// The number of the edge at this place, from 0, among those that wait for the gate, as the direction follows them.
+fn released_number(
+    asking: &Asking<'_>,
+    direction: DependencyDirection,
+    gate: usize,
+    place: usize,
+) -> Option<usize>
+    requires { IsOrdered asking.now }
+    ensures { result ≡ released_place asking.now direction gate place }
+{
+    match asking {
+        Asking::Offers { weak: _, released } => match direction {
+            DependencyDirection::Forward => released_at(released, gate, place),
+            DependencyDirection::Reverse => None,
+        },
+        Asking::Chosen(_) => None,
+    }
+}
+
+/// The end of an edge that the direction leads to.
+fn far_end(direction: DependencyDirection, edge: Edge) -> usize
+    ensures { result ≡ (open_way direction edge).far }
+{
+    match direction {
+        DependencyDirection::Forward => edge.to,
+        DependencyDirection::Reverse => edge.from,
+    }
+}
+
 /// What is told of an edge.
 fn taken(
     digraph: &Digraph,
     edges: &[FeatureEdge],
+    asking: &Asking<'_>,
     direction: DependencyDirection,
     edge: usize,
 ) -> Taken
     requires edge { edge < length digraph.now.edges }
     requires same { length edges.now ≡ length digraph.now.edges }
-    ensures { (weak : List (ℕ × ℕ)) → Some result ≡ told (content direction digraph.now.nodes (built_edges digraph.now.edges (map edge_facts edges.now)) weak) (Some edge) }
+    ensures { Some result ≡ told (held asking.now direction digraph.now.nodes (built_edges digraph.now.edges (map edge_facts edges.now))) (Some edge) }
 {
     Taken {
         edge,
         far: far_end(direction, digraph.edge(edge)),
-        ask: ask_of(direction, &edges[edge]),
+        ask: ask_of(asking, direction, &edges[edge]),
     }
 }
 
@@ -136,18 +247,13 @@ impl EdgeSource for Packed<'_> {
 
     fn take(&mut self, start: usize, place: usize) -> Option<Taken> {
         self.reads += 1;
-        let edge = *edges_at(self.digraph, self.direction, start).get(place)?;
-        Some(taken(self.digraph, self.edges, self.direction, edge))
+        let edge = edge_number(self.digraph, self.direction, start, place)?;
+        Some(taken(self.digraph, self.edges, &self.asking, self.direction, edge))
     }
 
     fn release(&mut self, gate: usize, place: usize) -> Option<Taken> {
         self.reads += 1;
-        match self.direction {
-            DependencyDirection::Forward => {
-                let edge = released_at(self.released, gate, place)?;
-                Some(taken(self.digraph, self.edges, self.direction, edge))
-            }
-            DependencyDirection::Reverse => None,
-        }
+        let edge = released_number(&self.asking, self.direction, gate, place)?;
+        Some(taken(self.digraph, self.edges, &self.asking, self.direction, edge))
     }
 }

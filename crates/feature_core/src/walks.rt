@@ -11,12 +11,12 @@ ghost use Rattle.feature_core.specs.Ways.{content};
 
 use crate::data::FeatureGraphData;
 use crate::edge::EdgeChoice;
-use crate::engine::{Offerer, Walk, walk_over};
 use crate::error::Error;
 use crate::packed::Packed;
 use guppy_packages::DependencyDirection;
 use guppy_support::IxBitSet;
 use std::alloc::Global;
+use walk_engine::{Offerer, Walk, walk_over};
 
 /// The nodes that are reached from the initial ones over the chosen edges, as the direction follows them.
 pub fn walk_all(

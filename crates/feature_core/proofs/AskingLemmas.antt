@@ -1,0 +1,86 @@
+-- What a source of edges holds, and what it tells.
+use Rattle.std.proofs.Common.{◌≡◌, ℕ, suc, ◌<◌, Bool, List, [], ◌∷◌, Option, Some, None, length, map, refl, sym, ◌∙◌, ap, subst, arith}
+use Rattle.std.specs.Prelude.{IsTrue, ◌==◌, slice_get}
+use Rattle.std.specs.Option.{option_map}
+use Rattle.std.proofs.lemmas.List.{length-map}
+use Rattle.std.proofs.lemmas.Option.{slice_get-map, slice_get_within}
+use Rattle.guppy_support.specs.declared.digraph.Edge.{Edge}
+use Rattle.guppy_support.specs.Graph.{Graph, IsDigraph}
+use Rattle.guppy_packages.specs.declared.direction.DependencyDirection.{DependencyDirection}
+use Rattle.guppy_packages.specs.declared.direction.DependencyDirection.TheVariants.{Forward, Reverse}
+use Rattle.walk_engine.specs.declared.walks.Taken.{Taken}
+use Rattle.walk_engine.specs.Walks.{Way, EndsAreNodes, numbers_where, starting, releasing, told, taken_of, is_gated}
+use Rattle.feature_core.specs.declared.packed.Asking.{Asking}
+use Rattle.feature_core.specs.declared.packed.Asking.TheVariants.{Offers, Chosen}
+use Rattle.feature_core.specs.Edges.{EdgeFacts}
+use Rattle.feature_core.specs.Built.{built_edges}
+use Rattle.feature_core.specs.Asking.{ask_in, gate_in, way_in, held, IsTied, IsOrdered, released_place}
+use Rattle.feature_core.specs.OpenWays.{open_way, open_ways}
+use Rattle.feature_core.proofs.Places.{got_map}
+use Rattle.feature_core.proofs.WayNumbers.{number_way}
+use Rattle.feature_core.proofs.OpenWayLemmas.{ends_are_nodes, edge_way}
+use Rattle.feature_core.proofs.PackedLemmas.{built_edge_at, edge_of_facts, length-built_edges, none_waits, releases_same, gate_within}
+use Rattle.feature_core.proofs.ChosenWayLemmas.{none_gated}
+
+pub tied_each : (asking : Asking) (g : Graph) (fs : List EdgeFacts) → IsTied asking g fs → length fs ≡ length g.edges
+tied_each (Offers weak released) g fs tied = tied.each
+tied_each (Chosen which) g fs tied = tied
+
+pub tied_ordered : (asking : Asking) (g : Graph) (fs : List EdgeFacts) → IsTied asking g fs → IsOrdered asking
+tied_ordered (Offers weak released) g fs tied = tied.releases.ascends
+tied_ordered (Chosen which) g fs tied = tt
+
+gate_there : (asking : Asking) (g : Graph) (fs : List EdgeFacts) (f : EdgeFacts) → 0 < g.nodes → IsTied asking g fs → gate_in asking f < g.nodes
+gate_there (Offers weak released) g fs f some tied = gate_within weak.now.entries g.nodes f some tied.gates
+gate_there (Chosen which) g fs f some tied = some
+
+-- the edge at a place of those that wait for the gate
+pub release_held : (asking : Asking) (direction : DependencyDirection) (g : Graph) (fs : List EdgeFacts) (gate place : ℕ) (found : Option ℕ) → IsTied asking g fs → found ≡ released_place asking direction gate place → slice_get (releasing (held asking direction g.nodes (built_edges g.edges fs)) gate) place ≡ found
+release_held (Offers weak released) Forward g fs gate place found tied is = ap (λ (xs : List ℕ). slice_get xs place) (sym (releases_same g.nodes gate g fs weak.now.entries released.now tied)) ∙ sym is
+release_held (Offers weak released) Reverse g fs gate place found tied is = ap (λ (xs : List ℕ). slice_get xs place) (none_waits weak.now.entries gate 0 g.edges fs) ∙ sym is
+release_held (Chosen which) direction g fs gate place found tied is = ap (λ (xs : List ℕ). slice_get xs place) (none_gated which direction gate 0 (built_edges g.edges fs)) ∙ sym is
+
+module _ (asking : Asking) where
+  -- the edges that start at a node are those of the digraph
+  starts_same : (direction : DependencyDirection) (n first : ℕ) (es : List Edge) (fs : List EdgeFacts) → length fs ≡ length es → numbers_where (λ w. w.start == n) first (map (way_in asking direction) (built_edges es fs)) ≡ numbers_where (λ w. w.start == n) first (map (open_way direction) es)
+  starts_same direction n first [] fs l = refl
+  starts_same direction n first (e ∷ es) [] l = absurd (omega arith)
+  starts_same Forward n first (e ∷ es) (f ∷ fs) l = rw (starts_same Forward n (suc first) es fs (omega arith)) refl
+  starts_same Reverse n first (e ∷ es) (f ∷ fs) l = rw (starts_same Reverse n (suc first) es fs (omega arith)) refl
+
+  pub take_held : (direction : DependencyDirection) (g : Graph) (fs : List EdgeFacts) (n place : ℕ) (found : Option ℕ) → IsTied asking g fs → found ≡ slice_get (starting (open_ways direction g) n) place → slice_get (starting (held asking direction g.nodes (built_edges g.edges fs)) n) place ≡ found
+  take_held direction g fs n place found tied is = ap (λ (xs : List ℕ). slice_get xs place) (starts_same direction n 0 g.edges fs (tied_each asking g fs tied)) ∙ sym is
+
+  -- what stands in a list of numbers is the number of an edge
+  pub number_below : (direction : DependencyDirection) (g : Graph) (fs : List EdgeFacts) (p : Way → Bool) (place k : ℕ) → IsTied asking g fs → slice_get (numbers_where p 0 (map (way_in asking direction) (built_edges g.edges fs))) place ≡ Some k → k < length g.edges
+  number_below direction g fs p place k tied is =
+      let edges = built_edges g.edges fs in
+      let found = number_way p 0 (map (way_in asking direction) edges) place k is in
+      let within : found.0 < length (map (way_in asking direction) edges) = slice_get_within (map (way_in asking direction) edges) found.0 found.2.0 found.2.1 in
+      omega (arith, found.1, length-map edges (way_in asking direction), length-built_edges g.edges fs (tied_each asking g fs tied))
+
+  way_at : (direction : DependencyDirection) (es : List Edge) (fs : List EdgeFacts) (k : ℕ) (e : Edge) (f : EdgeFacts) → slice_get es k ≡ Some e → slice_get fs k ≡ Some f → slice_get (map (way_in asking direction) (built_edges es fs)) k ≡ Some (way_in asking direction (e.from, e.to, f))
+  way_at direction es fs k e f p q = slice_get-map (way_in asking direction) (built_edges es fs) k ∙ ap (option_map (way_in asking direction)) (built_edge_at k es fs e f p q)
+
+  -- what is told of an edge
+  pub told_held : (direction : DependencyDirection) (nodes : ℕ) (es : List Edge) (fs : List EdgeFacts) (k : ℕ) (e : Edge) (f : EdgeFacts) → slice_get es k ≡ Some e → slice_get fs k ≡ Some f → ◌≡◌ {A = Option Taken} (Some (record { edge = k; far = (open_way direction e).far; ask = ask_in asking direction f })) (told (held asking direction nodes (built_edges es fs)) (Some k))
+  told_held Forward nodes es fs k e f p q = sym (ap (taken_of k) (way_at Forward es fs k e f p q))
+  told_held Reverse nodes es fs k e f p q = sym (ap (taken_of k) (way_at Reverse es fs k e f p q))
+
+  ways_within : (direction : DependencyDirection) (nodes : ℕ) (x : ℕ × ℕ × EdgeFacts) → x.0 < nodes → x.1 < nodes → gate_in asking x.2 < nodes → ((way_in asking direction x).start < nodes) × ((way_in asking direction x).far < nodes) × (IsTrue (is_gated (way_in asking direction x).ask) → (way_in asking direction x).gate < nodes)
+  ways_within Forward nodes x a b h = (a, b, λ _. h)
+  ways_within Reverse nodes x a b h = (b, a, λ _. h)
+
+  -- the ends of every way are nodes
+  pub held_ends : (direction : DependencyDirection) (g : Graph) (fs : List EdgeFacts) → IsDigraph g → IsTied asking g fs → EndsAreNodes (held asking direction g.nodes (built_edges g.edges fs))
+  held_ends direction g fs sound tied k w is =
+      let x = got_map (way_in asking direction) (slice_get (built_edges g.edges fs) k) w (sym (slice_get-map (way_in asking direction) (built_edges g.edges fs) k) ∙ is) in
+      let e = edge_of_facts k g.edges fs x.0 x.1 in
+      let ends = ends_are_nodes Forward g sound k (open_way Forward e.0) (edge_way Forward g k e.0 e.1) in
+      let from : x.0.0 < g.nodes = subst (λ (n : ℕ). n < g.nodes) e.2 ends.0 in
+      let to : x.0.1 < g.nodes = subst (λ (n : ℕ). n < g.nodes) e.3 ends.1 in
+      subst (λ (v : Way). (v.start < g.nodes) × (v.far < g.nodes) × (IsTrue (is_gated v.ask) → v.gate < g.nodes)) x.2
+      (ways_within direction g.nodes x.0 from to (gate_there asking g fs x.0.2 (omega arith) tied))
+
+  pub held_length : (direction : DependencyDirection) (g : Graph) (fs : List EdgeFacts) → IsTied asking g fs → length g.edges ≡ length (map (way_in asking direction) (built_edges g.edges fs))
+  held_length direction g fs tied = sym (length-map (built_edges g.edges fs) (way_in asking direction) ∙ length-built_edges g.edges fs (tied_each asking g fs tied))
