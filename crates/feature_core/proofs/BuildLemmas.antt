@@ -46,8 +46,8 @@ its_source x h = go (x.rank == 6) refl
     go false e = absurd (grind (arith, nat_tests))
 
 -- the link of a weak edge is over its package link alone
-alone : (k : ℕ) (link : LinkTable) → 0 < length link.declarations → slice_get (unsplit_of k link).package_links 0 ≡ Some k
-alone k link some = ap (λ b. slice_get (map (λ (l : ℕ × LinkTable). l.0) (cond b ((k, link) ∷ []) [])) 0) (many link.declarations some)
+pub alone : (k : ℕ) (link : LinkTable) → 0 < length link.declarations → (unsplit_of k link).package_links ≡ k ∷ []
+alone k link some = ap (λ b. map (λ (l : ℕ × LinkTable). l.0) (cond b ((k, link) ∷ []) [])) (many link.declarations some)
   where
     many : (ds : List Declared) → 0 < length ds → list_any (λ d. true) ds ≡ true
     many [] l = absurd (omega (arith, l))
@@ -127,7 +127,7 @@ module _ (t : Tables) (tables : AreTables t) where
   named_by weak x (slash_optional l) r s = no_source x (λ h. omega (arith, r, h))
   named_by weak x (slash_weak k l) r s =
       let o = s.over in
-      ap (λ (z : LinkFacts). slice_get z.package_links 0) o.is ∙ alone x.source o.link (tables.declarations x.source o.link o.is_link) ∙ its_source x r
+      ap (λ (z : LinkFacts). slice_get z.package_links 0) o.is ∙ ap (λ (z : List ℕ). slice_get z 0) (alone x.source o.link (tables.declarations x.source o.link o.is_link)) ∙ its_source x r
   named_by weak x (section l) r s = no_source x (λ h. omega (arith, r, h))
 
   sources : (weak : List ℕ) (kept : List Key) (facts : List EdgeFacts) → IsAll kept → AreValues t weak kept facts → filter_map (λ e. weak_link e.2) (told kept facts) ≡ weak_sources kept

@@ -124,7 +124,7 @@ one_edges t a b v w h i =
     (λ x c. (h.exact x.0 x.1 x.2).1 (subst (λ z. EdgeSays t z x.0 x.1 x.2) (sym same) ((i.exact x.0 x.1 x.2).0 c)))
 
 -- an optional name of a package has one node
-one_node : (t : Tables) → AreTables t → (p m n : ℕ) (name : List ℕ) → NodeAt t m p (optional name) → NodeAt t n p (optional name) → m ≡ n
+pub one_node : (t : Tables) → AreTables t → (p m n : ℕ) (name : List ℕ) → NodeAt t m p (optional name) → NodeAt t n p (optional name) → m ≡ n
 one_node t tables p m n name a b = go (optional_place name s.row.optional_names) refl
   where
     s : IsSpread labels_of t.packages m p (optional name)

@@ -38,3 +38,8 @@ pub mod Determined
 pub mod SameLists
 pub mod SameData
 pub mod DefaultLemmas
+pub mod OfferLemmas
+pub mod LinkNumbers
+pub mod OfferNames
+pub mod GraphContent
+pub mod SoundEnds

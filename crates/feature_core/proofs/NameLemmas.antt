@@ -58,15 +58,15 @@ node_name t n p label table is h =
     let same : s.row ≡ table = got_same s.row table (sym s.is_row ∙ is) in
     named_there labels_of name_of p n t.packages label s ∙ ap (λ z. Some (z.id, label)) same
 
-record IsNamedNode (t : Tables) (n : ℕ) (name : Text × LabelName) : Type 0 where
-  place : ℕ
-  table : PackageTable
-  is_package : IsPackage t place table
-  id : table.id ≡ name.0
-  node : NodeAt t n place name.1
+pub record IsNamedNode (t : Tables) (n : ℕ) (name : Text × LabelName) : Type 0 where
+  pub place : ℕ
+  pub table : PackageTable
+  pub is_package : IsPackage t place table
+  pub id : table.id ≡ name.0
+  pub node : NodeAt t n place name.1
 
 -- a named node has a package of that id
-named_node : (t : Tables) (n : ℕ) (name : Text × LabelName) → NodeNamed t n name → IsNamedNode t n name
+pub named_node : (t : Tables) (n : ℕ) (name : Text × LabelName) → NodeNamed t n name → IsNamedNode t n name
 named_node t n name h =
     let b = named_back labels_of name_of n t.packages name h in
     let s = b.1.1.0 in
@@ -75,7 +75,7 @@ named_node t n name h =
     let at : NodeAt t n b.0 b.1.0 = there labels_of 0 b.0 n t.packages b.1.0 s ∙ ap (λ z. Some (z, b.1.0)) (omega arith) in
     record { place = b.0; table = s.row; is_package = s.is_row; id = ap (λ z. z.0) e; node = subst (λ z. NodeAt t n b.0 z) label at }
 
-id_at : (t : Tables) (p : ℕ) (table : PackageTable) (id : Text) → IsPackage t p table → table.id ≡ id → slice_get (map (λ q. q.id) t.packages) p ≡ Some id
+pub id_at : (t : Tables) (p : ℕ) (table : PackageTable) (id : Text) → IsPackage t p table → table.id ≡ id → slice_get (map (λ q. q.id) t.packages) p ≡ Some id
 id_at t p table id is e = slice_get-map (λ q. q.id) t.packages p ∙ ap (option_map (λ q. q.id)) is ∙ ap Some e
 
 -- where a package has the id, its nodes are those of that name

@@ -1,11 +1,11 @@
 -- What is built of tables.
-use Rattle.std.specs.Prelude.{◌≡◌, ℕ, List, Bool, Some, map, not, slice_get}
+use Rattle.std.specs.Prelude.{◌≡◌, ◌↔◌, ℕ, List, Bool, Some, Contains, map, not, slice_get}
 use Rattle.std.specs.List.{zip}
 use Rattle.guppy_support.specs.declared.digraph.Edge.{Edge}
 use Rattle.guppy_packages.specs.Rows.{Text}
-use Rattle.guppy_packages.specs.Tables.{Tables}
+use Rattle.guppy_packages.specs.Tables.{PackageTable, Tables}
 use Rattle.feature_labels.specs.Names.{LabelName}
-use Rattle.feature_core.specs.Nodes.{nodes, first_nodes, node_packages}
+use Rattle.feature_core.specs.Nodes.{labels_of, nodes, first_nodes, node_packages}
 pub use Rattle.feature_core.specs.Edges.{ends_of}
 use Rattle.feature_core.specs.Edges.{EdgeFacts, AreBuilt, is_dev_only}
 use Rattle.feature_core.specs.Defaults.{AreDefaults}
@@ -39,6 +39,10 @@ AreAlike a b = (a.stamp ≡ b.stamp) × (a.firsts ≡ b.firsts) × (a.packages �
 -- node n has this name: the id of its package, and its label
 abbrev pub NodeNamed : Tables → ℕ → Text × LabelName → Type 0
 NodeNamed t n name = slice_get (nodes t) n ≡ Some name
+
+-- the names of nodes are the labels of packages, beside the packages' ids
+abbrev pub NamesAreLabels : Tables → Type 0
+NamesAreLabels t = (name : Text × LabelName) → ((n : ℕ) × NodeNamed t n name) ↔ ((table : PackageTable) × Contains t.packages table × (table.id ≡ name.0) × Contains (labels_of table) name.1)
 
 abbrev pub pairs_of : List Edge → List (ℕ × ℕ)
 pairs_of edges = map (λ e. (e.from, e.to)) edges

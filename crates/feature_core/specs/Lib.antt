@@ -17,6 +17,7 @@ pub mod Built
 pub mod BuiltOnce
 pub mod Choices
 pub mod NamedLinks
+pub mod Offers
 pub mod Values
 pub mod Collected
 pub mod Made

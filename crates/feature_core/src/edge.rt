@@ -3,11 +3,13 @@ ghost use Rattle.std.specs.Prelude.{◌≡◌, IfOk, not, option_copied, positio
 ghost use Rattle.std.specs.Option.{option_map};
 ghost use Rattle.feature_core.specs.Edges.{full_link, is_dev_only};
 ghost use Rattle.feature_core.specs.Choices.{is_chosen};
+ghost use Rattle.feature_core.specs.Offers.{halves_of, link_at};
 ghost use Rattle.feature_core.specs.Present.{has_present_link};
 ghost use Rattle.feature_core.specs.Values.{link_facts, half_facts, weak_facts_of, slash_facts, edge_facts};
 
 use crate::link::{ConditionalLinkImpl, EnabledLink};
 use std::alloc::{AllocError, Global};
+use walk_engine::Half;
 
 /// The number of a weak link. Edges that name the same package link have the same one.
 #[derive(Clone, Copy, PartialEq, Eq, PartialOrd, Ord, Hash, Debug)]
@@ -159,6 +161,37 @@ impl FeatureEdge {
             FeatureEdge::DependenciesSection(link)
             | FeatureEdge::NamedFeatureDepColon(link)
             | FeatureEdge::NamedFeatureWithSlash { link, slash: _ } => Some(link),
+        }
+    }
+
+    /// The halves of a weak edge.
+    fn halves(&self) -> Option<&WeakSlashImpl>
+        ensures { option_map weak_facts_of (option_copied result) ≡ halves_of (edge_facts self.now) }
+    {
+        match self {
+            FeatureEdge::NamedFeatureWithSlash {
+                link: _,
+                slash: SlashForm::Weak(weak),
+            } => Some(weak),
+            _ => None,
+        }
+    }
+
+    /// The link that an offer of it has: the full link of a conditional edge, or a half of a weak one, where the half has a
+    /// declaration.
+    pub fn link(&self, half: Half) -> Option<&ConditionalLinkImpl>
+        ensures { option_map link_facts (option_copied result) ≡ link_at (edge_facts self.now) half }
+    {
+        match half {
+            Half::Full => self.full_link(),
+            Half::Required => match self.halves() {
+                Some(weak) => weak.required().get(),
+                None => None,
+            },
+            Half::Optional => match self.halves() {
+                Some(weak) => weak.optional().get(),
+                None => None,
+            },
         }
     }
 

@@ -1,0 +1,73 @@
+-- The offers of a feature graph, and their links.
+use Rattle.std.specs.Prelude.{◌≡◌, ℕ, ◌∷◌, [], List, Option, None, Some, IsTrue, length, slice_get}
+use Rattle.std.specs.Option.{option_map_or}
+use Rattle.guppy_packages.specs.Tables.{LinkTable, Tables}
+use Rattle.guppy_packages.specs.declared.direction.DependencyDirection.{DependencyDirection}
+use Rattle.feature_labels.specs.Names.LabelName.{optional}
+use Rattle.walk_engine.specs.declared.walks.Half.{Half}
+use Rattle.walk_engine.specs.declared.walks.Half.TheVariants.{Full, Required, Optional}
+use Rattle.walk_engine.specs.Walks.{Way, Content, IsWay, has_half}
+use Rattle.feature_core.specs.Built.{Built}
+use Rattle.feature_core.specs.Edges.{WeakFacts, EdgeFacts, base_edge, feature_edge, colon_edge, strong_edge, weak_edge, section_edge, full_link}
+use Rattle.feature_core.specs.Links.{LinkFacts, IsLink}
+use Rattle.feature_core.specs.Nodes.{NodeAt}
+use Rattle.feature_core.specs.Ways.{content}
+
+
+-- the halves of a weak edge
+abbrev pub halves_of : EdgeFacts → Option WeakFacts
+halves_of base_edge = None
+halves_of feature_edge = None
+halves_of (colon_edge l) = None
+halves_of (strong_edge l) = None
+halves_of (weak_edge l halves) = Some halves
+halves_of (section_edge l) = None
+
+-- the link of an edge: the full link of a conditional one, or a half of a weak one
+abbrev pub link_at : EdgeFacts → Half → Option LinkFacts
+link_at f Full = full_link f
+link_at f Required = option_map_or (λ w. w.required) (halves_of f) None
+link_at f Optional = option_map_or (λ w. w.optional) (halves_of f) None
+
+-- what walks of a feature graph follow, in a direction
+abbrev pub content_of : DependencyDirection → Built → Content
+content_of direction b = content direction (length b.packages) b.edges b.weak
+
+-- a half of an edge that is offered
+pub record IsOffer (c : Content) (e : ℕ) (h : Half) : Type 0 where
+  pub way : Way
+  pub is_way : IsWay c e way
+  pub half : IsTrue (has_half way.ask h)
+
+-- the link of edge e, full or of a half
+pub record IsLinkOf (b : Built) (e : ℕ) (h : Half) (l : LinkFacts) : Type 0 where
+  pub edge : ℕ × ℕ × EdgeFacts
+  pub is_edge : slice_get b.edges e ≡ Some edge
+  pub is_link : link_at edge.2 h ≡ Some l
+
+-- two offers lead from one node to another over the same declarations
+pub record HaveOneName (b : Built) (d : ℕ) (g : Half) (e : ℕ) (h : Half) : Type 0 where
+  pub one : ℕ × ℕ × EdgeFacts
+  pub is_one : slice_get b.edges d ≡ Some one
+  pub other : ℕ × ℕ × EdgeFacts
+  pub is_other : slice_get b.edges e ≡ Some other
+  pub from : one.0 ≡ other.0
+  pub to : one.1 ≡ other.1
+  pub link : LinkFacts
+  pub is_link : link_at one.2 g ≡ Some link
+  pub other_link : LinkFacts
+  pub is_other_link : link_at other.2 h ≡ Some other_link
+  pub declarations : link.declarations ≡ other_link.declarations
+
+-- a weak edge: its index is that of its package link, whose gate is the optional dependency of the link's name in its source,
+-- and its optional half is there
+pub record IsWeakEdge (t : Tables) (b : Built) (l : LinkFacts) (halves : WeakFacts) : Type 0 where
+  pub number : ℕ
+  pub gate : ℕ
+  pub entry : slice_get b.weak halves.index ≡ Some (number, gate)
+  pub link : LinkTable
+  pub is_link : IsLink t number link
+  pub is_gate : NodeAt t gate link.from (optional link.name)
+  pub over : l.package_links ≡ number ∷ []
+  pub half : LinkFacts
+  pub is_half : halves.optional ≡ Some half

@@ -1,0 +1,85 @@
+//! Laws of feature graphs as they are built. Each function does nothing, and its contract is the law: it speaks of whatever
+//! is built of the package graph.
+
+ghost use Rattle.std.specs.Prelude.{◌≡◌, ◌↔◌, ◌<◌, ℕ, Bool, Some, length, map, slice_get};
+ghost use Rattle.guppy_packages.specs.Rows.{Text};
+ghost use Rattle.guppy_packages.specs.declared.direction.DependencyDirection.{DependencyDirection};
+ghost use Rattle.guppy_packages.specs.declared.direction.DependencyDirection.TheVariants.{Forward, Reverse};
+ghost use Rattle.feature_labels.specs.Names.{LabelName};
+ghost use Rattle.walk_engine.specs.declared.walks.Half.{Half};
+ghost use Rattle.walk_engine.specs.Laws.{every, AreReverse, IsUngated};
+ghost use Rattle.walk_engine.specs.Walks.{EndsAreNodes, Reach as ReachOver};
+ghost use Rattle.feature_core.specs.Built.{Built, IsBuilt, NodeNamed, NamesAreLabels};
+ghost use Rattle.feature_core.specs.Candidates.{Edge, IsEdge};
+ghost use Rattle.feature_core.specs.Edges.{EdgeFacts, WeakFacts, EdgeSays, facts_of, weak_edge};
+ghost use Rattle.feature_core.specs.Links.{LinkFacts};
+ghost use Rattle.feature_core.specs.Nodes.{nodes};
+ghost use Rattle.feature_core.specs.Offers.{content_of, IsOffer, IsLinkOf, HaveOneName, IsWeakEdge};
+ghost use Rattle.feature_core.specs.Pairs.{Reach};
+
+use guppy_packages::PackageGraph;
+
+/// Each edge says what the edge of its pair says by the tables, and a pair has one edge.
+pub fn edges_say(graph: &PackageGraph)
+    ensures says { (b : Built) (k : ℕ) (x : ℕ × ℕ × EdgeFacts) → IsBuilt graph.now b → slice_get b.edges k ≡ Some x
+        → EdgeSays graph.now (map (λ w. w.0) b.weak) x.0 x.1 x.2 }
+    ensures same { (b : Built) (k : ℕ) (x : ℕ × ℕ × EdgeFacts) (e : Edge) → IsBuilt graph.now b → slice_get b.edges k ≡ Some x
+        → IsEdge graph.now x.0 x.1 e → x.2 ≡ facts_of graph.now (map (λ w. w.0) b.weak) e }
+    ensures once { (b : Built) (j k : ℕ) (x y : ℕ × ℕ × EdgeFacts) → IsBuilt graph.now b → slice_get b.edges j ≡ Some x
+        → slice_get b.edges k ≡ Some y → x.0 ≡ y.0 → x.1 ≡ y.1 → j ≡ k }
+{
+    graph.facts();
+}
+
+/// Every offer of the graph, in either direction, has its link.
+pub fn offers_are_links(graph: &PackageGraph)
+    ensures { (b : Built) (direction : DependencyDirection) (e : ℕ) (h : Half) → IsBuilt graph.now b
+        → IsOffer (content_of direction b) e h → (l : LinkFacts) × IsLinkOf b e h l }
+{
+    graph.facts();
+}
+
+/// An offer is named by its two nodes and by which declarations its link covers, and a node by its package's id and its
+/// label.
+pub fn link_names_offer(graph: &PackageGraph)
+    ensures offers { (b : Built) (direction : DependencyDirection) (d : ℕ) (g : Half) (e : ℕ) (h : Half) → IsBuilt graph.now b
+        → IsOffer (content_of direction b) d g → IsOffer (content_of direction b) e h → HaveOneName b d g e h
+        → (d ≡ e) × (g ≡ h) }
+    ensures nodes { (name : Text × LabelName) (m n : ℕ) → NodeNamed graph.now m name → NodeNamed graph.now n name → m ≡ n }
+{
+    graph.facts();
+}
+
+/// The names of nodes are exactly the labels of the packages, each beside its package's id.
+pub fn node_names(graph: &PackageGraph)
+    ensures { NamesAreLabels graph.now }
+{}
+
+/// The package links of each link are links of the package graph.
+pub fn link_numbers(graph: &PackageGraph)
+    ensures { (b : Built) (e : ℕ) (h : Half) (l : LinkFacts) (i k : ℕ) → IsBuilt graph.now b → IsLinkOf b e h l
+        → slice_get l.package_links i ≡ Some k → k < length graph.now.links }
+{}
+
+/// Each weak edge has its place among the weak links, its gate and its optional half.
+pub fn weak_edges(graph: &PackageGraph)
+    ensures { (b : Built) (k u w : ℕ) (l : LinkFacts) (halves : WeakFacts) → IsBuilt graph.now b
+        → slice_get b.edges k ≡ Some (u, w, weak_edge l halves) → IsWeakEdge graph.now b l halves }
+{
+    graph.facts();
+}
+
+/// What walks of a feature graph follow: the ends and gates of its ways are nodes, the two directions are each other's
+/// reverse, in reverse no half waits for a gate, and what is reached over all offers is what is reached over the
+/// candidates of the tables.
+pub fn content_of_graph(graph: &PackageGraph)
+    ensures count { (b : Built) → IsBuilt graph.now b → length b.packages ≡ length (nodes graph.now) }
+    ensures ends { (b : Built) (direction : DependencyDirection) → IsBuilt graph.now b → EndsAreNodes (content_of direction b) }
+    ensures reverse { (b : Built) → AreReverse (content_of Forward b) (content_of Reverse b) }
+    ensures back { (b : Built) → AreReverse (content_of Reverse b) (content_of Forward b) }
+    ensures ungated { (b : Built) → IsUngated (content_of Reverse b) }
+    ensures reach { (b : Built) (direction : DependencyDirection) (initials : ℕ → Bool) (n : ℕ) → IsBuilt graph.now b
+        → ReachOver (content_of direction b) initials every n ↔ Reach graph.now direction initials n }
+{
+    graph.facts();
+}

@@ -1,7 +1,0 @@
-//! Scratch.
-ghost use Rattle.std.specs.Prelude.{◌≡◌, ℕ};
-
-/// Scratch.
-pub(crate) fn scratch()
-    ensures { (n : ℕ) → n ≡ n }
-{}
