@@ -12,7 +12,7 @@ use Rattle.guppy_features.specs.LinkValues.{Link, has_facts}
 use Rattle.guppy_features.specs.Values.{Query}
 use Rattle.guppy_features.specs.Visits.{query_content, offered, showable, shown}
 use Rattle.guppy_features.specs.declared.resolve_with.Shown.{Shown}
-use Rattle.guppy_features.proofs.Offered.{offer_stands}
+use Rattle.guppy_features.proofs.Offered.{OffersAreLinks, offer_stands}
 
 -- S answers by the T in it: while P holds, each step of S is one of T, and P goes on
 module _ {S T : Type 0} (P : S → Type 0) (v : S → T) (outer : S → ℕ → Half → Bool → S → Type 0) (inner : T → ℕ → Half → Bool → T → Type 0) where
@@ -80,14 +80,14 @@ module _ {V : Type 0} (may : V → Query → Link → Type 0) (gives : V → Que
       let at : LegalRun c (has s.cx.now.initials) (shown gives s.cx.now) s.visitor.now t.visitor.now = subst (λ z. LegalRun c (has z) (shown gives s.cx.now) s.visitor.now t.visitor.now) initials moved.1 in
       (moved.0.1, subst (λ z. LegalRun z (has s.cx.now.initials) (shown gives s.cx.now) s.visitor.now t.visitor.now) same at)
 
-  pub shown_may : (s : Shown V) (c : Content) → c ≡ query_content s.cx.now → IsBuilt s.cx.now.graph.tables s.cx.now.graph.built
+  pub shown_may : (s : Shown V) (c : Content) → c ≡ query_content s.cx.now → OffersAreLinks s.cx.now.graph.tables → IsBuilt s.cx.now.graph.tables s.cx.now.graph.built
       → MayAsk (showable may s.cx.now) (shown gives s.cx.now) (query_content s.cx.now) s.visitor.now → MayAsk AdapterMay AdapterGives c s
-  shown_may s c same built all =
+  shown_may s c same law built all =
       subst (λ z. MayAsk AdapterMay AdapterGives z s) (sym same)
       (may_ask
       (Stays s) (λ p. p.visitor.now) AdapterGives (shown gives s.cx.now) (answers_by s) AdapterMay (showable may s.cx.now) (query_content s.cx.now) s (refl, refl)
       (λ p e h w stays is half can.
-      subst (λ cx. IsTrue (has_facts (offered cx.now.graph e h)) × may p.visitor.now cx.now (offered cx.now.graph e h)) (sym stays.0) (offer_stands s.cx.now built e h w is half, can))
+      subst (λ cx. IsTrue (has_facts (offered cx.now.graph e h)) × may p.visitor.now cx.now (offered cx.now.graph e h)) (sym stays.0) (offer_stands s.cx.now law built e h w is half, can))
       all)
 
 -- what both ends of a walk say

@@ -10,11 +10,10 @@ use Rattle.guppy_packages.specs.declared.row.DependencyKind.{DependencyKind}
 use Rattle.guppy_packages.specs.declared.row.DependencyKind.TheVariants.{Normal, Build, Development}
 use Rattle.feature_labels.specs.Names.{LabelName}
 use Rattle.walk_engine.specs.declared.walks.Half.{Half}
-use Rattle.walk_engine.specs.declared.walks.Half.TheVariants.{Full, Required, Optional}
-use Rattle.feature_core.specs.Edges.{EdgeFacts, full_link}
-use Rattle.feature_core.specs.Edges.EdgeFacts.{base_edge, feature_edge, colon_edge, strong_edge, weak_edge, section_edge}
+use Rattle.feature_core.specs.Edges.{EdgeFacts}
 use Rattle.feature_core.specs.Links.{LinkFacts}
 use Rattle.feature_core.specs.Nodes.{nodes}
+use Rattle.feature_core.specs.Offers.{link_at}
 use Rattle.guppy_features.specs.Values.{Graph}
 
 -- the full link of an edge of the graph, or a half of it
@@ -22,22 +21,6 @@ pub record Link : Type 0 where
   pub graph : Graph
   pub edge : ℕ
   pub half : Half
-
-abbrev pub link_at : EdgeFacts → Half → Option LinkFacts
-link_at base_edge h = None
-link_at feature_edge h = None
-link_at (colon_edge l) Full = Some l
-link_at (colon_edge l) Required = None
-link_at (colon_edge l) Optional = None
-link_at (strong_edge l) Full = Some l
-link_at (strong_edge l) Required = None
-link_at (strong_edge l) Optional = None
-link_at (weak_edge l halves) Full = Some l
-link_at (weak_edge l halves) Required = halves.required
-link_at (weak_edge l halves) Optional = halves.optional
-link_at (section_edge l) Full = Some l
-link_at (section_edge l) Required = None
-link_at (section_edge l) Optional = None
 
 -- the edge: its two nodes, and what it says
 abbrev pub edge_of : Link → Option (ℕ × ℕ × EdgeFacts)

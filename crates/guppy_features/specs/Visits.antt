@@ -1,16 +1,16 @@
 -- Visitors of links as those who answer the offers of a walk.
-use Rattle.std.specs.Prelude.{◌≡◌, ℕ, Bool, Some, IsTrue, slice_get, length}
+use Rattle.std.specs.Prelude.{◌≡◌, ℕ, Bool, Some, IsTrue, slice_get}
 use Rattle.guppy_support.specs.Bits.{has}
 use Rattle.walk_engine.specs.declared.walks.Half.{Half}
 use Rattle.feature_core.specs.Nodes.{nodes}
 use Rattle.walk_engine.specs.Walks.{Content}
-use Rattle.feature_core.specs.Ways.{content}
+use Rattle.feature_core.specs.Offers.{content_of}
 use Rattle.guppy_features.specs.Values.{Graph, Query}
 use Rattle.guppy_features.specs.LinkValues.{Link, start_name}
 
 -- the edges of the query's graph as its direction follows them
 abbrev pub query_content : Query → Content
-query_content q = content q.direction (length q.graph.built.packages) q.graph.built.edges q.graph.built.weak
+query_content q = content_of q.direction q.graph.built
 
 -- the link that an offer of the graph is shown as
 abbrev pub offered : Graph → ℕ → Half → Link

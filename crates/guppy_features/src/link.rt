@@ -1,45 +1,23 @@
 //! Links between features.
-ghost use Rattle.std.specs.Prelude.{◌≡◌, ◌↔◌, ◌<◌, Some, IsTrue, length, option_copied};
+ghost use Rattle.std.specs.Prelude.{◌≡◌, ◌↔◌, ◌<◌, Some, IsTrue, length};
 ghost use Rattle.std.specs.Option.{option_map};
 ghost use Rattle.guppy_packages.specs.Platform.{status_of};
 ghost use Rattle.feature_core.specs.Built.{NodeNamed};
 ghost use Rattle.feature_core.specs.Edges.{is_dev_link};
 ghost use Rattle.feature_core.specs.Nodes.{nodes};
-ghost use Rattle.feature_core.specs.Values.{edge_facts, link_facts};
-ghost use Rattle.guppy_features.specs.LinkValues.{has_facts, facts_of, from_name, to_name, status_for, link_at, numbered_links};
+ghost use Rattle.feature_core.specs.Values.{link_facts};
+ghost use Rattle.guppy_features.specs.LinkValues.{has_facts, facts_of, from_name, to_name, status_for, numbered_links};
 ghost use Rattle.guppy_features.specs.Views.{graph_of, tables_of_graph, feature_name_of, feature_tables_of};
 
 use crate::graph::FeatureGraph;
 use crate::metadata::FeatureMetadata;
 use crate::package_links::PackageLinks;
-use feature_core::{ConditionalLinkImpl, FeatureEdge, SlashForm};
+use feature_core::ConditionalLinkImpl;
+use feature_core::graph_laws::{content_of_graph, link_numbers};
 use feature_labels::LinkDeclarations;
 use guppy_packages::{DependencyKind, PlatformStatus};
 use std::fmt;
 use walk_engine::Half;
-
-/// The full link of a conditional edge, or the half of a weak edge.
-fn link_in(edge: &FeatureEdge, half: Half) -> Option<&ConditionalLinkImpl>
-    ensures { option_map link_facts (option_copied result) ≡ link_at (edge_facts edge.now) half }
-{
-    match edge {
-        FeatureEdge::FeatureToBase | FeatureEdge::NamedFeature => None,
-        FeatureEdge::DependenciesSection(link) | FeatureEdge::NamedFeatureDepColon(link) => {
-            if half == Half::Full { Some(link) } else { None }
-        }
-        FeatureEdge::NamedFeatureWithSlash { link, slash } => match half {
-            Half::Full => Some(link),
-            Half::Required => match slash {
-                SlashForm::Strong => None,
-                SlashForm::Weak(weak) => weak.required().get(),
-            },
-            Half::Optional => match slash {
-                SlashForm::Strong => None,
-                SlashForm::Weak(weak) => weak.optional().get(),
-            },
-        },
-    }
-}
 
 /// The feature of a node.
 fn feature_at<'g>(graph: FeatureGraph<'g>, node: usize) -> FeatureMetadata<'g>
@@ -81,7 +59,7 @@ impl<'g> ConditionalLink<'g> {
         ensures { facts_of (link_of self.now) ≡ Some (link_facts result.now) }
     {
         let (_, _, edge) = self.graph.built.edge(self.edge);
-        match link_in(edge, self.half) {
+        match edge.link(self.half) {
             Some(link) => link,
             None => unreachable!(),
         }
@@ -92,6 +70,7 @@ impl<'g> ConditionalLink<'g> {
         ensures name { from_name (link_of self.now) ≡ Some (feature_name_of result) }
         ensures tables { feature_tables_of result ≡ (link_of self.now).graph.tables }
     {
+        content_of_graph(self.graph.graph);
         let (from, _, _) = self.graph.built.edge(self.edge);
         feature_at(self.graph, from)
     }
@@ -101,6 +80,7 @@ impl<'g> ConditionalLink<'g> {
         ensures name { to_name (link_of self.now) ≡ Some (feature_name_of result) }
         ensures tables { feature_tables_of result ≡ (link_of self.now).graph.tables }
     {
+        content_of_graph(self.graph.graph);
         let (_, to, _) = self.graph.built.edge(self.edge);
         feature_at(self.graph, to)
     }
@@ -165,6 +145,7 @@ impl<'g> ConditionalLink<'g> {
     pub fn package_links(&self) -> PackageLinks<'g>
         ensures { option_map (λ facts. numbered_links (link_of self.now).graph.tables facts.package_links) (facts_of (link_of self.now)) ≡ Some result }
     {
+        link_numbers(self.graph.graph);
         PackageLinks::new(self.graph.graph, self.facts().package_link_ixs())
     }
 }

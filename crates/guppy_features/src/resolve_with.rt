@@ -12,6 +12,7 @@ use crate::link::ConditionalLink;
 use crate::query::FeatureQuery;
 use crate::set::FeatureSet;
 use crate::visitor::{FeatureLinkVisitor, LinkVisitorFn};
+use feature_core::graph_laws::offers_are_links;
 use feature_core::{Error, Packed};
 use guppy_support::IxBitSet;
 use std::alloc::{AllocError, Global};
@@ -50,9 +51,10 @@ fn walk_shown<'c, 'g, 'v, V: FeatureLinkVisitor<'g>>(
         (shown V.visit_gives adapter.old.cx.now) adapter.old.visitor.now adapter.new.visitor.now) }
 {
     let query = adapter.cx.query();
-    let built = query.graph().built;
+    let graph = query.graph();
+    offers_are_links(graph.graph);
     let initials = query.initials().members();
-    let mut source = Packed::new(built, query.direction());
+    let mut source = Packed::new(graph.built, query.direction());
     let walk = walk_over(alloc, &mut source, initials, adapter)?;
     Ok(walk.members)
 }

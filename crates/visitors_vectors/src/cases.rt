@@ -30,46 +30,56 @@ pub const CASES: [Case; 14] = [
         direction: Forward,
         initials: &[0, 1, 2],
         rule: Rule::All,
-        says: &["0 1 2 3 4 5 6 :\n\
+        says: &[
+            "0 1 2 3 4 5 6 :\n\
             main/dep:smallvec>sv/[base] O * - - main>sv:smallvec +\n\
             main/smallvec-union>sv/union O * - - main>sv:smallvec +\n\
-            main/smallvec>main/dep:smallvec U * - - main>sv:smallvec +\n"],
+            main/smallvec>main/dep:smallvec U * - - main>sv:smallvec +\n",
+        ],
     },
     Case {
         file: OPTIONAL_AND_WEAK,
         direction: Forward,
         initials: &[0, 1, 2],
         rule: Rule::Nothing,
-        says: &["0 1 2 3 :\n\
-            main/smallvec>main/dep:smallvec U * - - main>sv:smallvec -\n"],
+        says: &[
+            "0 1 2 3 :\n\
+            main/smallvec>main/dep:smallvec U * - - main>sv:smallvec -\n",
+        ],
     },
     Case {
         file: OPTIONAL_AND_WEAK,
         direction: Reverse,
         initials: &[6],
         rule: Rule::All,
-        says: &["2 6 :\n\
-            main/smallvec-union>sv/union O * - - main>sv:smallvec +\n"],
+        says: &[
+            "2 6 :\n\
+            main/smallvec-union>sv/union O * - - main>sv:smallvec +\n",
+        ],
     },
     Case {
         file: BOTH_HALVES,
         direction: Forward,
         initials: &[1, 2],
         rule: Rule::All,
-        says: &["0 1 2 3 4 :\n\
+        says: &[
+            "0 1 2 3 4 :\n\
             main/[base]>foo/[base] R * - - main>foo:foo +\n\
             main/dep:foo>foo/[base] O - * - main>foo:foo +\n\
             main/weak>foo/std O - * - main>foo:foo +\n\
-            main/weak>foo/std R * - - main>foo:foo +\n"],
+            main/weak>foo/std R * - - main>foo:foo +\n",
+        ],
     },
     Case {
         file: BOTH_HALVES,
         direction: Reverse,
         initials: &[4],
         rule: Rule::All,
-        says: &["1 4 :\n\
+        says: &[
+            "1 4 :\n\
             main/weak>foo/std O - * - main>foo:foo +\n\
-            main/weak>foo/std R * - - main>foo:foo +\n"],
+            main/weak>foo/std R * - - main>foo:foo +\n",
+        ],
     },
     Case {
         file: BOTH_HALVES,
@@ -90,11 +100,13 @@ pub const CASES: [Case; 14] = [
         direction: Forward,
         initials: &[1, 2],
         rule: Rule::Nothing,
-        says: &["0 1 2 :\n\
+        says: &[
+            "0 1 2 :\n\
             main/[base]>foo/[base] R * - - main>foo:foo -\n\
             main/dep:foo>foo/[base] O - * - main>foo:foo -\n\
             main/weak>foo/std O - * - main>foo:foo -\n\
-            main/weak>foo/std R * - - main>foo:foo -\n"],
+            main/weak>foo/std R * - - main>foo:foo -\n",
+        ],
     },
     Case {
         file: CIRCLE_THROUGH_GATE,
@@ -108,30 +120,36 @@ pub const CASES: [Case; 14] = [
         direction: Forward,
         initials: &[1],
         rule: Rule::Nothing,
-        says: &["0 1 :\n\
+        says: &[
+            "0 1 :\n\
             namespaced-weak/bar>av/std U * - - namespaced-weak>av:arrayvec -\n\
             namespaced-weak/bar>namespaced-weak/arrayvec O * - - namespaced-weak>av:arrayvec -\n\
-            namespaced-weak/bar>namespaced-weak/dep:arrayvec O * - - namespaced-weak>av:arrayvec -\n"],
+            namespaced-weak/bar>namespaced-weak/dep:arrayvec O * - - namespaced-weak>av:arrayvec -\n",
+        ],
     },
     Case {
         file: TWO_OF_ONE_NAME,
         direction: Forward,
         initials: &[1],
         rule: Rule::Nothing,
-        says: &["0 1 :\n\
+        says: &[
+            "0 1 :\n\
             main/serde>main/dep:serde U * - - main>serde_core:serde main>serde:serde -\n\
             main/serde>serde/std U cfg(any()) - - main>serde:serde -\n\
-            main/serde>serde_core/std U * - - main>serde_core:serde -\n"],
+            main/serde>serde_core/std U * - - main>serde_core:serde -\n",
+        ],
     },
     Case {
         file: STRONG_AND_WEAK,
         direction: Forward,
         initials: &[1],
         rule: Rule::All,
-        says: &["0 1 2 3 4 :\n\
+        says: &[
+            "0 1 2 3 4 :\n\
             main/a>foo/b U * - - main>foo:foo +\n\
             main/a>main/dep:foo O * - - main>foo:foo +\n\
-            main/dep:foo>foo/[base] O * - - main>foo:foo +\n"],
+            main/dep:foo>foo/[base] O * - - main>foo:foo +\n",
+        ],
     },
     Case {
         file: TWO_WEAK_ITEMS,
@@ -145,7 +163,8 @@ pub const CASES: [Case; 14] = [
         direction: Forward,
         initials: &[1, 2],
         rule: Rule::All,
-        says: &["0 1 2 3 4 5 6 7 8 9 :\n\
+        says: &[
+            "0 1 2 3 4 5 6 7 8 9 :\n\
             main/dep:p>p/[base] O * - - main>p:p +\n\
             main/dep:q>q/[base] O * - - main>q:q +\n\
             main/ep>main/dep:p U * - - main>p:p +\n\
@@ -155,6 +174,7 @@ pub const CASES: [Case; 14] = [
             p/[base]>main/[base] R - - * ! p>main:m +\n\
             p/[base]>main/eq R - - * ! p>main:m +\n\
             q/[base]>main/[base] R - - * ! q>main:m +\n\
-            q/[base]>main/ep R - - * ! q>main:m +\n"],
+            q/[base]>main/ep R - - * ! q>main:m +\n",
+        ],
     },
 ];

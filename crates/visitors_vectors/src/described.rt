@@ -1,5 +1,5 @@
 //! Links as texts.
-use guppy_features::{ConditionalLink, LinkDeclarations};
+use guppy_features::{ConditionalLink, FeatureId, LinkDeclarations};
 use guppy_packages::{PackageLink, PlatformStatus};
 use std::alloc::{AllocError, Global};
 
@@ -33,13 +33,26 @@ fn letter(declarations: LinkDeclarations) -> &'static str {
     }
 }
 
+/// How a link is named: its ends, and a letter for its declarations.
+pub fn name_of(
+    alloc: Global,
+    from: FeatureId<'_>,
+    to: FeatureId<'_>,
+    declarations: LinkDeclarations,
+) -> Result<String, AllocError> {
+    format!(in alloc; "{from}>{to} {}", letter(declarations))
+}
+
 /// A link: its ends, a letter for its declarations, where it is for normal use, builds and development, `!` where it is
 /// for development alone, and its package links.
 pub fn describe(alloc: Global, link: ConditionalLink<'_>) -> Result<String, AllocError> {
-    let mut text = String::new(alloc);
     let (from, to) = link.endpoints();
-    let (from, to) = (from.feature_id(), to.feature_id());
-    write!(text, "{from}>{to} {}", letter(link.declarations()))?;
+    let mut text = name_of(
+        alloc,
+        from.feature_id(),
+        to.feature_id(),
+        link.declarations(),
+    )?;
     push_status(&mut text, link.normal())?;
     push_status(&mut text, link.build())?;
     push_status(&mut text, link.dev())?;

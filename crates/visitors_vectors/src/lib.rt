@@ -11,6 +11,8 @@ mod files;
 #[cfg(test)]
 mod forms;
 #[cfg(test)]
+mod judge;
+#[cfg(test)]
 mod notes;
 pub mod platform;
 #[cfg(test)]

@@ -1,8 +1,7 @@
 //! Visitors that write down what they are shown.
-use crate::described::describe;
-use guppy_features::{
-    ConditionalLink, FeatureLinkContext, FeatureLinkObject, FeatureLinkVisitor,
-};
+use crate::described::{describe, name_of};
+use crate::judge::Answered;
+use guppy_features::{ConditionalLink, FeatureLinkContext, FeatureLinkObject, FeatureLinkVisitor};
 use std::alloc::{AllocError, Global};
 use std::cell::RefCell;
 use std::rc::Rc;
@@ -25,6 +24,7 @@ pub struct Notes {
     rule: Rule,
     calls: usize,
     lines: Vec<String>,
+    run: Vec<Answered>,
     is_short: bool,
 }
 
@@ -36,6 +36,7 @@ impl Notes {
             rule,
             calls: 0,
             lines: Vec::new(alloc),
+            run: Vec::new(alloc),
             is_short: false,
         }
     }
@@ -58,7 +59,16 @@ impl Notes {
     fn note(&mut self, link: ConditionalLink<'_>, accepted: bool) -> Result<(), AllocError> {
         let mut line = describe(self.alloc, link)?;
         line.push_str(if accepted { " +\n" } else { " -\n" })?;
-        self.lines.push(line)
+        self.lines.push(line)?;
+        let (from, to) = link.endpoints();
+        let (from, to) = (from.feature_id(), to.feature_id());
+        let name = name_of(self.alloc, from, to, link.declarations())?;
+        self.run.push(Answered { name, accepted })
+    }
+
+    /// The run, oldest call first.
+    pub fn run(&self) -> &[Answered] {
+        self.run.as_slice()
     }
 
     /// Answers for a link, and writes it down.
@@ -115,5 +125,21 @@ impl FeatureLinkObject for Shared {
             Ok(mut notes) => notes.answer(link),
             Err(_) => false,
         }
+    }
+}
+
+/// Another visitor for a box: it refuses every link.
+#[derive(Drop)]
+pub struct Refusing;
+
+impl FeatureLinkObject for Refusing {
+    ghost use Rattle.std.specs.Prelude.{◌≡◌, false};
+
+    ghost can_visit_any = { λ _ _ _. Unit {0} };
+
+    ghost visit_any_gives = { λ _ _ _ answer _. answer ≡ false };
+
+    fn visit_any(&mut self, _cx: &FeatureLinkContext<'_>, _link: ConditionalLink<'_>) -> bool {
+        false
     }
 }

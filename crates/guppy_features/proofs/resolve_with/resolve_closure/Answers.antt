@@ -10,8 +10,8 @@ pub resolve_with-requires : goal.resolve_with-requires
 resolve_with-requires g c κs = (
   (refl, tt),
   may_ask
-  (λ s. s.f.ghost_name ≡ c.args.visitor.now.f.ghost_name) (λ s. s.f.now) _ _ (λ p e h answer r holds step. (step.0 ∙ holds, step.1))
-  _ _ (query_content c.args.query) c.args.visitor.now refl (λ p e h w holds is half can. can) c.requires,
+      (λ s. s.f.ghost_name ≡ c.args.visitor.now.f.ghost_name) (λ s. s.f.now) _ _ (λ p e h answer r holds step. (step.0 ∙ holds, step.1))
+      _ _ (query_content c.args.query) c.args.visitor.now refl (λ p e h w holds is half can. can) c.requires,
 )
 
 pub returns-clause-same_reference : goal.returns-clause-same_reference

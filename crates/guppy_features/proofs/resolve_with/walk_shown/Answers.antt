@@ -5,7 +5,7 @@ use Rattle.guppy_support.specs.Bits.{has}
 use Rattle.guppy_features.specs.Values.{Query}
 use Rattle.guppy_features.specs.Views.{graph_of}
 use Rattle.guppy_features.proofs.BuiltLemmas.{built_count}
-use Rattle.guppy_features.proofs.Offered.{query_parts, content_is, nodes_are}
+use Rattle.guppy_features.proofs.Offered.{OffersAreLinks, query_parts, content_is, nodes_are}
 use Rattle.guppy_features.proofs.Visits.{shown_may, shown_run, shown_walk, on_err}
 use Rattle.guppy_features.proofs.resolve_with.walk_shown.Goals as goal
 
@@ -29,7 +29,8 @@ walk_over-requires-clause-may g c =
     let parts : p ≡ c.query-query.result.now = query_parts c.query-query.result.now (graph_of graph) c.direction.result c.initials.result.now c.members-initials.result.now c.graph.ensures c.direction.ensures c.initials.ensures c.members-initials.ensures.value in
     let same = content_is p c.query-query.result.now c.args.adapter.now.cx.now c.new-source.result parts c.query-query.ensures c.new-source.ensures in
     let built : IsBuilt c.args.adapter.now.cx.now.graph.tables c.args.adapter.now.cx.now.graph.built = subst (λ x. IsBuilt x.graph.tables x.graph.built) (parts ∙ c.query-query.ensures) graph.is_built in
-    shown_may g.V.FeatureLinkVisitor.can_visit g.V.FeatureLinkVisitor.visit_gives c.args.adapter.now c.new-source.result.holds same built c.requires
+    let law : OffersAreLinks c.args.adapter.now.cx.now.graph.tables = subst (λ x. OffersAreLinks x.graph.tables) (parts ∙ c.query-query.ensures) c.offers_are_links.ensures in
+    shown_may g.V.FeatureLinkVisitor.can_visit g.V.FeatureLinkVisitor.visit_gives c.args.adapter.now c.new-source.result.holds same law built c.requires
 
 pub returns-in_err-walk-clause-same_reference : goal.returns-in_err-walk-clause-same_reference
 returns-in_err-walk-clause-same_reference g c =
