@@ -8,3 +8,4 @@ pub mod MemberNames
 mod Visits
 pub mod WorkspaceLemmas
 pub mod ListedLemmas
+pub mod RangeLemmas

@@ -10,3 +10,4 @@ pub mod Boxed
 pub mod ByClosure
 pub mod Filters
 pub mod ListedFilters
+pub mod Packages

@@ -16,8 +16,6 @@ mod resolve_with;
 mod set;
 mod standard_features;
 mod workspace;
-#[cfg(test)]
-mod tests;
 mod visitor;
 
 pub use context::FeatureLinkContext;
@@ -43,6 +41,6 @@ pub use listed_filters::{
 pub use metadata::FeatureMetadata;
 pub use package_links::PackageLinks;
 pub use query::FeatureQuery;
-pub use set::{FeatureSet, IdsByNode};
-pub use visitor::{FeatureLinkObject, FeatureLinkVisitor};
+pub use set::{FeatureSet, IdsByNode, InitialPackages};
 pub use standard_features::StandardFeatures;
+pub use visitor::{FeatureLinkObject, FeatureLinkVisitor};
