@@ -8,11 +8,6 @@ use Rattle.guppy_packages.specs.Rows.{Text}
 use Rattle.row_files.specs.Lines.{kept_lines, is_skipped, fields_in, line_text, line_texts}
 use Rattle.row_files.specs.declared.lines.Line.{Line}
 
--- the items of `map f xs` from i on, at the item x
-pub drop_map_at : {X Y : Type 0} (f : X → Y) (xs : List X) (i : ℕ) (x : X) → i < length xs → x ≡ get_or xs i x → drop i (map f xs) ≡ f x ∷ drop (i + 1) (map f xs)
-drop_map_at f xs i x h e =
-    rw (drop-map f i xs, drop-map f (i + 1) xs, add-one, drop-cons xs i x h) (ap (λ y. f y ∷ map f (drop (suc i) xs)) (sym e))
-
 pub skipped_line : (front : List (ℕ × List Text)) (n : ℕ) (line : Text) (lines rest : List Text) (all : List (ℕ × List Text))
     → front ++ kept_lines n lines ≡ all → lines ≡ line ∷ rest → is_skipped line ≡ true → front ++ kept_lines (n + 1) rest ≡ all
 skipped_line front n line lines rest all given at skips =

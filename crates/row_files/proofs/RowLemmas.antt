@@ -7,7 +7,7 @@ use Rattle.guppy_packages.specs.Rows.{RowText, Text, texts}
 use Rattle.row_files.specs.RowOfLine.{row_of}
 use Rattle.row_files.specs.Lines.{line_text, line_texts}
 use Rattle.row_files.specs.declared.lines.Line.{Line}
-use Rattle.row_files.proofs.LineLemmas.{drop_map_at}
+use Rattle.row_files.specs.FirstFaultLaws.{drop_map_at}
 
 -- the texts of a part of all fields
 range_texts : (fields : List (Bor Text)) (start end : ℕ) → texts (take (end - start) (drop start fields)) ≡ slice_range (texts fields) start end

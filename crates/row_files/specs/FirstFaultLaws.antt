@@ -1,6 +1,7 @@
 -- How the first fault of several items is found: item by item, from the front.
-use Rattle.std.proofs.Common.{◌≡◌, ℕ, ◌≤◌, ◌++◌, List, [], ◌∷◌, Result, Ok, Err, Option, None, Some, find, is_none, length, drop, cond, sym, ap, ◌∙◌, refl, append_assoc, append-nil, suc}
+use Rattle.std.proofs.Common.{◌≡◌, ℕ, ◌+◌, ◌<◌, ◌≤◌, ◌++◌, List, [], ◌∷◌, Result, Ok, Err, Option, None, Some, find, is_none, length, drop, map, get_or, add-one, drop-cons, cond, sym, ap, ◌∙◌, refl, append_assoc, append-nil, suc}
 use Rattle.std.proofs.Math.ListN.{drop_of_length-le}
+use Rattle.std.proofs.lemmas.List.{drop-map}
 use Rattle.std.specs.List.{filter_map, cons_option}
 use Rattle.std.specs.Option.{option_map_or}
 use Rattle.row_files.specs.FirstFault.{each_or}
@@ -51,3 +52,8 @@ pub none_left : {A B E : Type 0} (f : A → Option B) (fault : A → E) (front :
     → with_front front (each_or f fault (drop i all)) ≡ each_or f fault all → each_or f fault all ≡ Ok front
 none_left f fault front i all past given =
     sym given ∙ ap (λ ys. with_front front (each_or f fault ys)) (drop_of_length-le all past) ∙ ap Ok (append-nil front)
+
+-- the items of `map f xs` from i on, at the item x
+pub drop_map_at : {X Y : Type 0} (f : X → Y) (xs : List X) (i : ℕ) (x : X) → i < length xs → x ≡ get_or xs i x → drop i (map f xs) ≡ f x ∷ drop (i + 1) (map f xs)
+drop_map_at f xs i x h e =
+    rw (drop-map f i xs, drop-map f (i + 1) xs, add-one, drop-cons xs i x h) (ap (λ y. f y ∷ map f (drop (suc i) xs)) (sym e))

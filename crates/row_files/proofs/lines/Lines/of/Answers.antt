@@ -1,6 +1,7 @@
 use Rattle.std.proofs.lemmas.List.{get_or_default}
 use Rattle.std.proofs.Common.{get_or, ◌+◌, [], rules}
-use Rattle.row_files.proofs.LineLemmas.{drop_map_at, skipped_line, kept_line}
+use Rattle.row_files.specs.FirstFaultLaws.{drop_map_at}
+use Rattle.row_files.proofs.LineLemmas.{skipped_line, kept_line}
 use Rattle.row_files.proofs.lines.Lines.of.Goals as goal
 use Rattle.row_files.proofs.lines.Lines.of.Goals.{then-not-skips+in_ok-push, else-not-skips}
 
