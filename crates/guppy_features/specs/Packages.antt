@@ -5,7 +5,7 @@ use Rattle.guppy_support.specs.Bits.{has}
 use Rattle.guppy_packages.specs.Rows.{Text}
 use Rattle.guppy_packages.specs.Tables.{Tables, package_place}
 use Rattle.guppy_packages.specs.Metadata.{package_graph_of}
-use Rattle.guppy_packages.specs.declared.metadata.PackageMetadata.{PackageMetadata}
+use Rattle.guppy_packages.specs.declared.package_metadata.PackageMetadata.{PackageMetadata}
 use Rattle.feature_core.specs.Nodes.{node_packages}
 use Rattle.feature_core.specs.Errors.{Refusal, unknown_package}
 use Rattle.guppy_features.specs.Names.{HasPackage, at_places}
