@@ -1,6 +1,7 @@
 //! The edges of a package graph, from keys to what each edge says.
 ghost use Rattle.std.specs.Prelude.{◌≡◌, ◌↔◌, ℕ, AllPairs, Contains, IfOk, List, length, map};
 ghost use Rattle.std.specs.List.{zip};
+ghost use Rattle.guppy_support.specs.Graph.{IsDigraph};
 ghost use Rattle.feature_core.specs.declared.key.Key.{Key as KeyValue};
 ghost use Rattle.feature_core.specs.Built.{pairs_of, built_edges, end_of};
 ghost use Rattle.feature_core.specs.Edges.{AreBuilt};
@@ -21,7 +22,7 @@ use crate::nodes::NodeTable;
 use crate::numbers::Numbers;
 use crate::weak::weak_table;
 use guppy_packages::PackageGraph;
-use guppy_support::{Digraph, Edge, collect_exactly};
+use guppy_support::{Digraph, DigraphError, Edge, collect_exactly};
 use indexmap::IndexMap;
 use std::alloc::{AllocError, Global};
 
@@ -81,14 +82,16 @@ fn edge_ends(alloc: Global, kept: &[Key], edges: &[FeatureEdge]) -> Result<Vec<E
     )
 }
 
-/// The digraph of edges that are in order.
+/// The digraph of edges that are in order and join nodes. It fails only where memory is refused.
 fn digraph_of(alloc: Global, nodes: usize, ends: &[Edge]) -> Result<Digraph, AllocError>
+    requires { IsDigraph (record { nodes = nodes; edges = ends.now }) }
     ensures nodes { IfOk result (λ d. d.nodes ≡ nodes) }
     ensures edges { IfOk result (λ d. d.edges ≡ ends.now) }
 {
     match Digraph::new(alloc, nodes, ends) {
         Ok(digraph) => Ok(digraph),
-        Err(_) => Err(AllocError),
+        Err(DigraphError::Memory) => Err(AllocError),
+        Err(DigraphError::BadNode | DigraphError::Unsorted) => unreachable!(),
     }
 }
 

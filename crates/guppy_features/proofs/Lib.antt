@@ -1,3 +1,4 @@
+mod ListLemmas
 mod BuiltLemmas
 mod PackageLemmas
 mod SetLemmas

@@ -13,7 +13,7 @@ use Rattle.feature_labels.specs.declared.feature_id.FeatureId.{FeatureId}
 use Rattle.feature_core.specs.Built.{NodeNamed}
 use Rattle.feature_core.specs.Nodes.{nodes}
 use Rattle.feature_core.specs.Pairs.{Reach}
-use Rattle.feature_core.proofs.WayNumbers.{marked_set, marked_grows, marked_cases}
+use Rattle.guppy_features.proofs.ListLemmas.{marked_set, marked_grows, marked_cases}
 use Rattle.feature_core.specs.Defaults.{IsDefault}
 use Rattle.guppy_features.specs.Names.{HasFeature, AreKnown, IsFirstUnknown, HoldsExactly, TellsMember, TellsDefault}
 

@@ -2,24 +2,20 @@
 use Rattle.std.proofs.Common.{◌≡◌, ℕ, zero, suc, ◌+◌, ◌<◌, List, [], ◌∷◌, Bool, true, false, cond, Option, None, Some, length, refl, ap, sym, ◌∙◌, subst, arith}
 use Rattle.std.specs.Prelude.{slice_get, IsTrue, IsFalse, not, nat_lt, position}
 use Rattle.std.specs.List.{position_or_len}
-use Rattle.std.specs.Option.{option_map_or}
-use Rattle.std.proofs.Math.Logic.{∥∥₁_elim}
-use Rattle.std.proofs.Props.{props}
-use Rattle.std.proofs.lemmas.List.{length-map}
+use Rattle.std.specs.Option.{option_map, option_map_or}
+use Rattle.std.proofs.lemmas.Option.{slice_get-map}
 use Rattle.guppy_packages.specs.Rows.{Text}
 use Rattle.guppy_packages.specs.Tables.{Tables}
+use Rattle.guppy_packages.specs.declared.direction.DependencyDirection.TheVariants.{Forward}
+use Rattle.walk_engine.specs.Walks.{EndsAreNodes}
 use Rattle.feature_labels.specs.Names.{LabelName}
-use Rattle.feature_labels.specs.Names.LabelName.{base, named, optional}
-use Rattle.feature_core.specs.Built.{Built, IsBuilt, NodeNamed}
-use Rattle.feature_core.specs.Candidates.{Edge, Candidate, to_base, to_feature, to_dependency, over_strong, over_weak, with_dependency, with_feature, of_required, of_optional}
+use Rattle.feature_core.specs.Built.{Built, NodeNamed}
 use Rattle.feature_core.specs.Edges.{EdgeFacts, full_link}
 use Rattle.feature_core.specs.Links.{LinkFacts}
-use Rattle.feature_core.specs.Nodes.{NodeAt, node_places, node_packages}
+use Rattle.feature_core.specs.Offers.{content_of}
+use Rattle.feature_core.specs.Ways.{way}
 use Rattle.feature_core.specs.Present.{is_present, has_present_link, ArePresent}
-use Rattle.feature_core.proofs.AddsLemmas.{element_at_place, place_below}
-use Rattle.feature_core.proofs.LabelLemmas.{position_there, position_missing}
-use Rattle.feature_core.proofs.Places.{got_same}
-use Rattle.feature_core.proofs.PushLemmas.{into_map}
+use Rattle.guppy_features.proofs.ListLemmas.{place_below, position_there, position_missing, got_same}
 use Rattle.guppy_features.specs.Verified.{IsFirstAbsent}
 
 false_of : (b : Bool) → not b ≡ true → b ≡ false
@@ -91,34 +87,11 @@ some_absent edges n h present =
     let fails : has_present_link q.element.2 ≡ false = false_of (has_present_link q.element.2) q.passes in
     cc
 
--- the nodes of a candidate
-at_node : (t : Tables) (n p : ℕ) (label : LabelName) → NodeAt t n p label → n < length (node_packages t)
-at_node t n p label h =
-    let below : n < length (node_places t) = place_below (node_places t) n (p, label) h in
-    let long : length (node_packages t) ≡ length (node_places t) = length-map (node_places t) (λ x. x.0) in
-    omega (arith, below, long)
-
-abbrev AreWithin : Tables → ℕ → ℕ → Type 0
-AreWithin t u w = (u < length (node_packages t)) × (w < length (node_packages t))
-
-candidate_within : (t : Tables) (u w : ℕ) (e : Edge) → Candidate t u w e → AreWithin t u w
-candidate_within t u w e (to_base p label from differ to is) = (at_node t u p label from, at_node t w p base to)
-candidate_within t u w e (to_feature p f g item differ from to is) = (at_node t u p (named f) from, at_node t w p (named g) to)
-candidate_within t u w e (to_dependency p f d item from to is) = (at_node t u p (named f) from, at_node t w p (optional d) to)
-candidate_within t u w e (over_strong k link weak leads strong is) = (at_node t u link.from (named leads.f) leads.from_node, at_node t w link.to (named leads.g) leads.to_node)
-candidate_within t u w e (over_weak k link leads has is) = (at_node t u link.from (named leads.f) leads.from_node, at_node t w link.to (named leads.g) leads.to_node)
-candidate_within t u w e (with_dependency p f d g item from to is) = (at_node t u p (named f) from, at_node t w p (optional d) to)
-candidate_within t u w e (with_feature p n f d g item from beside differ to is) = (at_node t u p (named f) from, at_node t w p (named d) to)
-candidate_within t u w e (of_required s) = (at_node t u s.link.from base s.from_node, at_node t w s.link.to s.asked s.to_node)
-candidate_within t u w e (of_optional s) = (at_node t u s.link.from (optional s.link.name) s.from_node, at_node t w s.link.to s.asked s.to_node)
-
--- the nodes of an edge that is built
-pub edge_within : (t : Tables) (b : Built) → IsBuilt t b → (k : ℕ) (e : ℕ × ℕ × EdgeFacts) → slice_get b.edges k ≡ Some e → (e.0 < length b.packages) × (e.1 < length b.packages)
-edge_within t b h k e at =
-    let c = (h.pairs.exact e.0 e.1).0 (into_map (λ x. (x.0, x.1)) b.edges e (element_at_place b.edges k e at)) in
-    let both : IsProp ((e.0 < length b.packages) × (e.1 < length b.packages)) = hlevel props in
-    let long : length b.packages ≡ length (node_packages t) = ap length h.packages in
-    ∥∥₁_elim c both (λ d. let w = candidate_within t e.0 e.1 d.0 d.1 in (omega (arith, w.0, long), omega (arith, w.1, long)))
+-- the nodes of an edge, as those of its way
+pub edge_within : (b : Built) → EndsAreNodes (content_of Forward b) → (k : ℕ) (e : ℕ × ℕ × EdgeFacts) → slice_get b.edges k ≡ Some e → (e.0 < length b.packages) × (e.1 < length b.packages)
+edge_within b ends k e at =
+    let w = ends k (way Forward b.weak e) (slice_get-map (way Forward b.weak) b.edges k ∙ ap (option_map (way Forward b.weak)) at) in
+    (w.0, w.1)
 
 -- the first edge that fails, with the names of its nodes
 pub first_named : (t : Tables) (edges : List (ℕ × ℕ × EdgeFacts)) (n : ℕ) (e : ℕ × ℕ × EdgeFacts) (from to : Text × LabelName) → first_absent edges ≡ Some n → slice_get edges n ≡ Some e

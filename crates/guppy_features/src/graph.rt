@@ -18,6 +18,7 @@ use crate::listing::package_list;
 use crate::metadata::{FeatureMetadata, label_in};
 use crate::query::FeatureQuery;
 use crate::set::FeatureSet;
+use feature_core::graph_laws::{content_of_graph, node_names};
 use feature_core::laws::links_are_present;
 use feature_core::{EdgeChoice, Error, FeatureGraphData, FeatureGraphWarning, walk_all};
 use feature_labels::{FeatureId, FeatureList};
@@ -132,6 +133,7 @@ impl<'g> FeatureGraph<'g> {
         ensures refused { IfErr result (λ e. RefusesName (tables_of_graph self.now) (id_of id.entry) (refusal_of e)) }
     {
         self.graph.facts();
+        node_names(self.graph);
         let Ok(package) = self.graph.metadata(id.package_id()) else {
             return Err(Error::UnknownFeatureId(id));
         };
@@ -261,6 +263,7 @@ impl<'g> FeatureGraph<'g> {
         requires { position (λ e. not (has_present_link e.2)) (built_of self.now).edges ≡ Some number }
         ensures { RefusesEdges (tables_of_graph self.now) (built_of self.now).edges (refusal_of result) }
     {
+        content_of_graph(self.graph);
         let (from, to, _) = self.built.edge(number);
         Error::FeatureGraphInternalError {
             from: self.built.id(self.graph, from),

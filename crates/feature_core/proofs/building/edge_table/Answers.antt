@@ -1,4 +1,4 @@
-use Rattle.std.proofs.Common.{◌≡◌, ◌∙◌, ap, sym, subst, map, length, Some}
+use Rattle.std.proofs.Common.{rules, ◌≡◌, ◌∙◌, ap, sym, subst, map, length, Some}
 use Rattle.std.specs.Prelude.{◌↔◌, Contains, AllPairs, slice_get}
 use Rattle.feature_core.specs.declared.key.Key.{Key}
 use Rattle.feature_core.specs.Keys.{IsNoLater}
@@ -9,8 +9,11 @@ use Rattle.std.proofs.lemmas.List.{length-map}
 use Rattle.indexmap.specs.IndexMap.{keys}
 use Rattle.feature_core.specs.Edges.{first_ones}
 use Rattle.feature_core.specs.Made.{edge_end, AreValues}
+use Rattle.guppy_support.specs.Graph.{IsDigraph}
+use Rattle.feature_core.specs.Nodes.{node_packages}
 use Rattle.feature_core.specs.Values.{edge_facts}
 use Rattle.feature_core.specs.Weak.{weak_sources}
+use Rattle.feature_core.proofs.SoundEnds.{pairs_sound}
 use Rattle.feature_core.proofs.BuildLemmas.{IsMade, made_long, made_are, made_pairs, made_built}
 use Rattle.feature_core.proofs.building.edge_table.Goals as goal
 
@@ -37,6 +40,22 @@ returns-clause-edges c =
     let values : AreValues t (keys c.in_ok-weak.weak) c.in_ok-kept.field-0.kept.items (map edge_facts c.in_ok-edges.edges.items) = subst (λ z. AreValues t (keys c.in_ok-weak.weak) z (map edge_facts c.in_ok-edges.edges.items)) c.deref-2.ensures.value c.in_ok-edges.ensures in
     let links : map (λ e. e.0) c.in_ok-weak.weak.entries ≡ first_ones (weak_sources c.in_ok-kept.field-0.kept.items) = c.in_ok-weak.ensures.links ∙ ap (λ z. first_ones (weak_sources z)) c.deref.ensures.value in
     made_built c.in_ok-kept.field-0.kept.items c.in_ok-edges.edges.items c.in_ok-digraph.digraph.edges (made c) t c.facts.ensures c.in_ok-kept.ensures.kept c.in_ok-weak.weak.entries links c.in_ok-weak.ensures.gates values
+
+pub digraph_of-requires : goal.digraph_of-requires
+digraph_of-requires c =
+    let t = c.args.numbers.graph.now in
+    let kept = c.in_ok-kept.field-0.kept.items in
+    let edges = c.in_ok-edges.edges.items in
+    let ends = c.in_ok-ends.ends.items in
+    let same_kept : c.deref-2.result.now ≡ kept = c.deref-2.ensures.value in
+    let from_keys : IsMade kept edges ends = record {
+      long = sym (length-map edges edge_facts) ∙ c.in_ok-edges.ensures.long ∙ ap length same_kept;
+      ends = c.in_ok-ends.ensures ∙ ap (λ z. map (λ p. edge_end p.0 (edge_facts p.1)) (zip z c.deref-4.result.now)) c.deref-3.ensures.value ∙ ap (λ z. map (λ p. edge_end p.0 (edge_facts p.1)) (zip kept z)) c.deref-4.ensures.value;
+    } in
+    let sound = pairs_sound t ends (made_pairs kept edges ends from_keys t c.facts.ensures c.in_ok-kept.ensures.kept) in
+    let count : c.len.result ≡ length c.args.table.now.packages.items = search rules in
+    let nodes : length (node_packages t) ≡ c.len.result = sym (count ∙ ap length c.requires.packages) in
+    subst (λ z. IsDigraph (record { nodes = z; edges = c.deref-5.result.now })) nodes (subst (λ z. IsDigraph (record { nodes = length (node_packages t); edges = z })) (sym c.deref-5.ensures.value) sound)
 
 pub weak_table-requires : goal.weak_table-requires
 weak_table-requires c x h =

@@ -1,3 +1,4 @@
+use Rattle.guppy_packages.specs.declared.direction.DependencyDirection.TheVariants.{Forward}
 use Rattle.feature_labels.specs.Names.{id_of}
 use Rattle.feature_core.specs.Values.{edge_facts}
 use Rattle.guppy_features.proofs.VerifyLemmas.{edge_within, first_named, found_below}
@@ -11,18 +12,16 @@ id-requires-clause-built c = c.args.self.now.is_built
 
 pub id-requires-clause-node : goal.id-requires-clause-node
 id-requires-clause-node c =
-    let t = c.args.self.now.graph.now in
     let b = c.args.self.now.built.now in
-    (edge_within t b c.args.self.now.is_built c.args.number (c.edge-from.result.0, c.edge-from.result.1, edge_facts c.edge-from.result.2.now) c.edge-from.ensures).0
+    (edge_within b (c.content_of_graph.ensures.ends b Forward c.args.self.now.is_built) c.args.number (c.edge-from.result.0, c.edge-from.result.1, edge_facts c.edge-from.result.2.now) c.edge-from.ensures).0
 
 pub id-requires-2-clause-built : goal.id-requires-2-clause-built
 id-requires-2-clause-built c = c.args.self.now.is_built
 
 pub id-requires-2-clause-node : goal.id-requires-2-clause-node
 id-requires-2-clause-node c =
-    let t = c.args.self.now.graph.now in
     let b = c.args.self.now.built.now in
-    (edge_within t b c.args.self.now.is_built c.args.number (c.edge-from.result.0, c.edge-from.result.1, edge_facts c.edge-from.result.2.now) c.edge-from.ensures).1
+    (edge_within b (c.content_of_graph.ensures.ends b Forward c.args.self.now.is_built) c.args.number (c.edge-from.result.0, c.edge-from.result.1, edge_facts c.edge-from.result.2.now) c.edge-from.ensures).1
 
 pub returns : goal.returns
 returns c =

@@ -1,7 +1,7 @@
 use Rattle.std.proofs.Common.{◌≡◌, ◌∙◌, refl, subst}
 use Rattle.guppy_packages.specs.Metadata.{package_table_of}
 use Rattle.feature_core.specs.Links.{IsPackage}
-use Rattle.feature_core.proofs.AddsLemmas.{element_at_place}
+use Rattle.guppy_features.proofs.ListLemmas.{element_at_place}
 use Rattle.guppy_features.proofs.PackageLemmas.{no_package, id_found}
 use Rattle.guppy_features.proofs.graph.FeatureGraph.all_features_for.Goals as goal
 
