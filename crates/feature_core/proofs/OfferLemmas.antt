@@ -261,6 +261,6 @@ offer_link t tables b direction e h built offer =
     let x = way_edge b direction e offer.way offer.is_way in
     let half : IsTrue (has_half (asked direction x.0.2) h) = subst (λ (z : Way). IsTrue (has_half z.ask h)) (sym x.2) offer.half in
     let weak : (l : LinkFacts) (halves : WeakFacts) → x.0.2 ≡ weak_edge l halves → (m : LinkFacts) × (halves.optional ≡ Some m) = λ l halves is.
-        let w = weak_whole t tables b e x.0.0 x.0.1 l halves built (x.1 ∙ ap (λ z. Some (x.0.0, x.0.1, z)) is) in (w.half, w.is_half) in
+    let w = weak_whole t tables b e x.0.0 x.0.1 l halves built (x.1 ∙ ap (λ z. Some (x.0.0, x.0.1, z)) is) in (w.half, w.is_half) in
     let l = link_there direction x.0.2 h half weak in
     (l.0, record { edge = x.0; is_edge = x.1; is_link = l.1 })

@@ -13,7 +13,6 @@ use Rattle.feature_core.specs.Links.{LinkFacts, IsLink}
 use Rattle.feature_core.specs.Nodes.{NodeAt}
 use Rattle.feature_core.specs.Ways.{content}
 
-
 -- the halves of a weak edge
 abbrev pub halves_of : EdgeFacts → Option WeakFacts
 halves_of base_edge = None
