@@ -2,11 +2,11 @@
 #![tactic(auto)]
 
 mod context;
+mod filter;
 mod graph;
 mod ids;
 pub mod laws;
 mod link;
-mod filter;
 mod listed_filters;
 mod listing;
 mod metadata;
@@ -15,8 +15,8 @@ mod query;
 mod resolve_with;
 mod set;
 mod standard_features;
-mod workspace;
 mod visitor;
+mod workspace;
 
 pub use context::FeatureLinkContext;
 pub use feature_core::{

@@ -1,10 +1,10 @@
 use Rattle.std.proofs.Common.{◌<◌, length, arith}
 use Rattle.feature_core.specs.Nodes.{nodes}
-use Rattle.guppy_features.proofs.BuiltLemmas.{built_given, built_count}
+use Rattle.guppy_features.proofs.BuiltLemmas.{built_count}
 use Rattle.guppy_features.proofs.graph.FeatureGraph.id.Goals as goal
 
 pub id-requires-clause-built : goal.id-requires-clause-built
-id-requires-clause-built c = built_given c.args.self.now.graph.now c.args.self.now.built.now c.args.self.now.is_built
+id-requires-clause-built c = c.args.self.now.is_built
 
 pub id-requires-clause-node : goal.id-requires-clause-node
 id-requires-clause-node c =

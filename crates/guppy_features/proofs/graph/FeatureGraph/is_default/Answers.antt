@@ -1,7 +1,7 @@
 use Rattle.std.proofs.Common.{◌<◌, length, arith}
 use Rattle.feature_labels.specs.Names.{id_of}
 use Rattle.feature_core.specs.Nodes.{nodes}
-use Rattle.guppy_features.proofs.BuiltLemmas.{built_given, built_count}
+use Rattle.guppy_features.proofs.BuiltLemmas.{built_count}
 use Rattle.guppy_features.proofs.SetLemmas.{tells_default, no_feature}
 use Rattle.guppy_features.proofs.graph.FeatureGraph.is_default.Goals as goal
 
@@ -14,5 +14,4 @@ is_default-requires c =
 pub returns : goal.returns
 returns c =
     let t = c.args.self.now.graph.now in
-    let b = c.args.self.now.built.now in
-    tells_default t (id_of c.args.id) c.in-Some.node c.is_default.result c.in-Some.ensures.named (c.is_default.ensures.meaning t (built_given t b c.args.self.now.is_built))
+    tells_default t (id_of c.args.id) c.in-Some.node c.is_default.result c.in-Some.ensures.named (c.is_default.ensures.meaning t c.args.self.now.is_built)

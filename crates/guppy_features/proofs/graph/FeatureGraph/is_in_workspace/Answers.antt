@@ -2,7 +2,7 @@ use Rattle.std.proofs.Common.{◌≡◌, ◌<◌, length, Some, arith, subst}
 use Rattle.std.specs.Prelude.{slice_get}
 use Rattle.guppy_packages.specs.Metadata.{package_table_of}
 use Rattle.feature_core.specs.Nodes.{nodes, node_packages}
-use Rattle.guppy_features.proofs.BuiltLemmas.{built_given, built_count}
+use Rattle.guppy_features.proofs.BuiltLemmas.{built_count}
 use Rattle.guppy_features.proofs.WorkspaceLemmas.{package_below, mark_at}
 use Rattle.guppy_features.proofs.graph.FeatureGraph.is_in_workspace.Goals as goal
 
@@ -15,13 +15,13 @@ package_of-package_ix-requires c =
 pub package-requires : goal.package-requires
 package-requires c =
     let t = c.args.self.now.graph.now in
-    let built = built_given t c.args.self.now.built.now c.args.self.now.is_built in
+    let built = c.args.self.now.is_built in
     package_below t c.args.node c.package_of-package_ix.result (subst (λ l. slice_get l c.args.node ≡ Some c.package_of-package_ix.result) built.packages c.package_of-package_ix.ensures)
 
 pub returns : goal.returns
 returns c =
     let t = c.args.self.now.graph.now in
-    let built = built_given t c.args.self.now.built.now c.args.self.now.is_built in
+    let built = c.args.self.now.is_built in
     mark_at t c.args.node c.package_of-package_ix.result (package_table_of c.package.result) c.in_workspace.result
     (subst (λ l. slice_get l c.args.node ≡ Some c.package_of-package_ix.result) built.packages c.package_of-package_ix.ensures)
     c.package.ensures.package c.in_workspace.ensures
