@@ -2,6 +2,8 @@
 use crate::texts::label_of;
 use feature_labels::{FeatureId, FeatureLabel, LinkDeclarations};
 use guppy_packages::PackageId;
+use std::alloc::{AllocError, Global};
+use std::cmp::Ordering;
 use std::hash::{DefaultHasher, Hash, Hasher};
 use std::test::Fail;
 
@@ -38,20 +40,24 @@ fn kinds(rt: &HostRuntime, id: FeatureId<'_>) -> Result<String, Fail> {
     Ok(words)
 }
 
+/// What an id prints and its kinds.
+fn said_of(rt: &HostRuntime, id: FeatureId<'_>) -> Result<String, Fail> {
+    let kinds = kinds(rt, id)?;
+    Ok(format!(in rt.alloc(); "{id} {kinds}")?)
+}
+
 #[test]
 fn ids_print_their_parts(rt: HostRuntime) -> Result<(), Fail> {
     let package = PackageId::new(rt.alloc(), LONG_ID)?;
     for (text, kind) in LABELS {
         let id = FeatureId::new(&package, label_of(text));
-        let printed = format!(in rt.alloc(); "{id}")?;
-        let want = format!(in rt.alloc(); "{LONG_ID}/{text}")?;
-        assert_eq!(rt; printed.as_str(), want.as_str());
-        let said = kinds(&rt, id)?;
-        assert_eq!(rt; said.as_str(), kind, "{id}");
-        assert!(rt; id == constructed(&package, id.label()), "{id}");
+        let said = said_of(&rt, id)?;
+        let want = format!(in rt.alloc(); "{LONG_ID}/{text} {kind}")?;
+        assert_eq!(rt; said.as_str(), want.as_str());
+        assert!(rt; id == constructed(&package, id.label()), "{text}");
         assert!(rt;
             id == FeatureId::from((id.package_id(), id.label())),
-            "{id}"
+            "{text}"
         );
     }
     Ok(())
@@ -71,21 +77,26 @@ fn hash_of(id: FeatureId<'_>) -> u64 {
     hasher.finish()
 }
 
+/// How two ids compare, and whether they hash alike.
+fn compare(
+    alloc: Global,
+    (package, label): (&str, &str),
+    (other_package, other_label): (&str, &str),
+) -> Result<(Ordering, bool), AllocError> {
+    let package = PackageId::new(alloc, package)?;
+    let other_package = PackageId::new(alloc, other_package)?;
+    let id = FeatureId::new(&package, label_of(label));
+    let other = FeatureId::new(&other_package, label_of(other_label));
+    Ok((id.cmp(&other), hash_of(id) == hash_of(other)))
+}
+
 #[test]
 fn ids_are_ordered_and_hashed_by_value(rt: HostRuntime) -> Result<(), Fail> {
-    for (place, (package, label)) in IDS.iter().enumerate() {
-        let package = PackageId::new(rt.alloc(), package)?;
-        let id = FeatureId::new(&package, label_of(label));
-        for (other_place, (other_package, other_label)) in IDS.iter().enumerate() {
-            let other_package = PackageId::new(rt.alloc(), other_package)?;
-            let other_label = String::from_str(rt.alloc(), other_label)?;
-            let other = FeatureId::new(&other_package, label_of(other_label.as_str()));
-            assert_eq!(rt; id.cmp(&other), place.cmp(&other_place), "{id} {other}");
-            assert_eq!(rt;
-                hash_of(id) == hash_of(other),
-                place == other_place,
-                "{id} {other}"
-            );
+    for (place, id) in IDS.iter().enumerate() {
+        for (other_place, other) in IDS.iter().enumerate() {
+            let (order, alike) = compare(rt.alloc(), *id, *other)?;
+            assert_eq!(rt; order, place.cmp(&other_place), "{place} {other_place}");
+            assert_eq!(rt; alike, place == other_place, "{place} {other_place}");
         }
     }
     Ok(())

@@ -16,23 +16,34 @@ fn list_of<'g>(
     Ok(FeatureList::new(alloc, package, labels.as_slice())?)
 }
 
-/// The package of a list, what the list prints, by Display and by Debug, and what its iterators give.
-fn show_list(text: &mut String, list: &FeatureList<'_>) -> Result<(), AllocError> {
+/// The package of a list, and what the list prints, by Display and by Debug.
+fn show_printed(text: &mut String, list: &FeatureList<'_>) -> Result<(), AllocError> {
     let package = list.package();
     writeln!(text, "package {} {}", package.package_ix(), package.id())?;
     let labels = list.display_features();
-    writeln!(text, "{labels}\n{labels:?}\n{list:?}")?;
+    writeln!(text, "{labels}\n{labels:?}\n{list:?}")
+}
+
+fn show_named(text: &mut String, list: &FeatureList<'_>) -> Result<(), AllocError> {
     let names = list.named_features();
     write!(text, "named {:?}:", names.size_hint())?;
     for name in names {
         write!(text, " {name}")?;
     }
+    writeln!(text)
+}
+
+fn show_optional(text: &mut String, list: &FeatureList<'_>) -> Result<(), AllocError> {
     let names = list.optional_deps();
-    write!(text, "\noptional {:?}:", names.size_hint())?;
+    write!(text, "optional {:?}:", names.size_hint())?;
     for name in names {
         write!(text, " {name}")?;
     }
-    write!(text, "\n{} ids:", list.iter().len())?;
+    writeln!(text)
+}
+
+fn show_ids(text: &mut String, list: &FeatureList<'_>) -> Result<(), AllocError> {
+    write!(text, "{} ids:", list.iter().len())?;
     for id in list {
         write!(text, " {id}")?;
     }
@@ -82,7 +93,10 @@ fn said_of<'g>(
 ) -> Result<String, Fail> {
     let list = list_of(alloc, package, labels)?;
     let mut text = String::new(alloc);
-    show_list(&mut text, &list)?;
+    show_printed(&mut text, &list)?;
+    show_named(&mut text, &list)?;
+    show_optional(&mut text, &list)?;
+    show_ids(&mut text, &list)?;
     show_rest(&mut text, list)?;
     Ok(text)
 }
