@@ -17,7 +17,7 @@ use Rattle.walk_engine.specs.declared.walks.StepReason.{StepReason}
 use Rattle.walk_engine.specs.declared.walks.StepReason.TheVariants.{Initial}
 use Rattle.std.specs.Prelude.{filter}
 use Rattle.walk_engine.specs.Explanations.{IsReason, HasReasons, Distinct, nodes_of, IsExplainedWalk}
-use Rattle.walk_engine.specs.inner.WalkProgress.{Findings, noted, Extends, edges_by, FollowsAll, FollowsStopped, of_way, passes, reads_of, IsDone, Begun}
+use Rattle.walk_engine.specs.inner.WalkProgress.{Findings, noted, Extends, FollowsAll, FollowsStopped, of_way, passes, reads_of, IsDone, Begun}
 use Rattle.walk_engine.proofs.Answered.{decide, clash, or_left, or_right, or_cases, and_both, and_intro}
 use Rattle.walk_engine.proofs.Reaches.{reach_in, open_cases}
 use Rattle.walk_engine.proofs.Runs.{members_least}

@@ -1,4 +1,4 @@
-use Rattle.std.proofs.Common.{◌≡◌, ℕ, zero, suc, ◌≤◌, Bool, true, false, ◌&&◌, ◌||◌, List, [], ◌∷◌, ◌++◌, Some, None, length, take, refl, sym, ◌∙◌, ap, subst, inl, inr, arith, append_assoc}
+use Rattle.std.proofs.Common.{◌≡◌, ℕ, zero, suc, ◌≤◌, Bool, true, false, ◌||◌, List, [], ◌∷◌, ◌++◌, Some, None, length, take, refl, sym, ◌∙◌, ap, subst, inl, inr, arith, append_assoc}
 use Rattle.std.specs.Prelude.{IsTrue, IsFalse, slice_get, ◌==◌}
 use Rattle.std.proofs.Common.{Result, Ok, Err, OnErr}
 use Rattle.std.proofs.lemmas.Bool.{eqb-true, eq-eqb}
@@ -9,10 +9,8 @@ use Rattle.walk_engine.specs.declared.walks.Ask.{Ask}
 use Rattle.walk_engine.specs.declared.walks.Ask.TheVariants as asks
 use Rattle.guppy_support.specs.Bits.{has}
 use Rattle.walk_engine.specs.Walks.{Content, Way, IsWay, is_gated, is_in}
-use Rattle.walk_engine.specs.declared.walks.Step.{Step}
 use Rattle.walk_engine.specs.declared.walks.progress.Condition.{Condition}
 use Rattle.walk_engine.specs.declared.walks.progress.Condition.TheVariants.{Start, Gate}
-use Rattle.walk_engine.specs.Explanations.{nodes_of}
 use Rattle.walk_engine.specs.declared.walks.StepReason.{StepReason}
 use Rattle.walk_engine.specs.declared.walks.StepReason.TheVariants.{Offer}
 use Rattle.walk_engine.specs.inner.WalkProgress.{Findings, noted, Asks, IsAt, Extends, at_node, edges_by, followed, taken_too, freed_too, FollowsEdge, FollowsAll, FollowsStopped}

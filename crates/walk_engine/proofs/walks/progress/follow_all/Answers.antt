@@ -1,5 +1,5 @@
-use Rattle.std.proofs.Common.{◌≡◌, ◌<◌, suc, ℕ, Bool, List, ◌&&◌, Some, None, length, refl, sym, ◌∙◌, ap, subst, arith, add-one}
-use Rattle.std.specs.Prelude.{slice_get, ◌==◌}
+use Rattle.std.proofs.Common.{◌≡◌, ◌<◌, suc, ℕ, Bool, List, Some, None, length, refl, sym, ◌∙◌, ap, subst, arith, add-one}
+use Rattle.std.specs.Prelude.{slice_get}
 use Rattle.std.proofs.lemmas.Option.{slice_get_within}
 use Rattle.walk_engine.specs.Walks.{Content, EndsAreNodes, MayAsk}
 use Rattle.walk_engine.specs.inner.WalkProgress.{Findings, findings, IsListed, Extends, at_node, edges_by, FollowsEdge}
