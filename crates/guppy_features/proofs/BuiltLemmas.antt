@@ -62,7 +62,7 @@ length-spread {A} {B} f q (x ∷ xs) =
     ∙ ap (λ n. length (f x) + n) (length-spread f (q + 1) xs)
     ∙ sym (length-append (f x) (flat_map f xs))
 
-length-renamed : {A B C : Type 0} (f : A → List B) (g : A → B → C) (xs : List A) → length (flat_map (λ x. map (g x) (f x)) xs) ≡ length (flat_map f xs)
+pub length-renamed : {A B C : Type 0} (f : A → List B) (g : A → B → C) (xs : List A) → length (flat_map (λ x. map (g x) (f x)) xs) ≡ length (flat_map f xs)
 length-renamed f g [] = refl
 length-renamed f g (x ∷ xs) =
     length-append (map (g x) (f x)) (flat_map (λ y. map (g y) (f y)) xs)

@@ -8,3 +8,4 @@ mod VerifyLemmas
 pub mod MemberNames
 pub mod WorkspaceLemmas
 pub mod ListedLemmas
+pub mod RangeLemmas

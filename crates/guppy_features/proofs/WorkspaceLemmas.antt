@@ -177,11 +177,11 @@ module _ {S : Type 0} (gives : S → Graph → Text × LabelName → Bool → S 
         each = map-append (λ x. x.0) h.run ((asks.name, asks.answer) ∷ []) ∙ ap (λ l. l ++ asks.name ∷ []) h.each ∙ sym (picked_next node asks.name true asks.named mark);
         size = asks.size ∙ h.size;
         exact = λ n.
-          let new_is = asks.adds n in
-          let names_are = among_answered g.tables (accepted h.run) asks.name asks.answer n in (
-            (λ m. subst (λ l. IsAmong g.tables l n) (sym push) (names_are.1 (⊎_elim (λ old. inl ((h.exact n).0 old)) (λ is. inr is) (new_is.0 m)))),
-            (λ a. new_is.1 (⊎_elim (λ old. inl ((h.exact n).1 old)) (λ is. inr is) (names_are.0 (subst (λ l. IsAmong g.tables l n) push a)))),
-          );
+            let new_is = asks.adds n in
+            let names_are = among_answered g.tables (accepted h.run) asks.name asks.answer n in (
+              (λ m. subst (λ l. IsAmong g.tables l n) (sym push) (names_are.1 (⊎_elim (λ old. inl ((h.exact n).0 old)) (λ is. inr is) (new_is.0 m)))),
+              (λ a. new_is.1 (⊎_elim (λ old. inl ((h.exact n).1 old)) (λ is. inr is) (names_are.0 (subst (λ l. IsAmong g.tables l n) push a)))),
+            );
       }
 
   pub asked_all : (node : ℕ) (t : S) (members : List Bool) → node ≡ length (nodes g.tables) → AskedBelow node t members → SelectsByFilter gives g s t members

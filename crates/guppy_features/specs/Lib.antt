@@ -5,3 +5,4 @@ pub mod Verified
 pub mod Filters
 pub mod Boxed
 pub mod ListedFilters
+pub mod Packages

@@ -1,11 +1,11 @@
 //! Feature graphs.
-ghost use Rattle.std.specs.Prelude.{◌≡◌, ◌↔◌, ◌<◌, ℕ, Some, IsTrue, IfSome, IfOk, IfErr, true, false, length, map, not, position, replicate};
+ghost use Rattle.std.specs.Prelude.{◌≡◌, ◌↔◌, ◌+◌, ◌<◌, ℕ, Some, IsTrue, IfSome, IfOk, IfErr, true, false, length, map, not, position, replicate};
 ghost use Rattle.std.specs.Result.{is_ok};
 ghost use Rattle.guppy_support.specs.Bits.{has};
 ghost use Rattle.feature_labels.specs.Names.{id_of};
 ghost use Rattle.feature_core.specs.Built.{IsBuilt, NodeNamed};
 ghost use Rattle.feature_core.specs.Errors.{refusal_of};
-ghost use Rattle.feature_core.specs.Nodes.{nodes};
+ghost use Rattle.feature_core.specs.Nodes.{nodes, first_node};
 ghost use Rattle.feature_core.specs.Pairs.{Reach};
 ghost use Rattle.feature_core.specs.Present.{ArePresent, has_present_link};
 ghost use Rattle.feature_core.specs.Warnings.{warning_of, warnings};
@@ -24,6 +24,7 @@ use guppy_packages::{DependencyDirection, PackageGraph, PackageId};
 use guppy_support::IxBitSet;
 use std::alloc::Global;
 use std::fmt;
+use std::ops::Range;
 
 /// The feature graph of a package graph: a view of the packages and of what was built of them.
 #[derive(Clone, Copy)]
@@ -107,6 +108,22 @@ impl<'g> FeatureGraph<'g> {
         ensures { NodeNamed (tables_of_graph self.now) node (id_of result) }
     {
         self.built.id(self.graph, node)
+    }
+
+    /// The nodes of the package of this number.
+    pub(crate) fn nodes_of(&self, package_ix: usize) -> Range<usize>
+        requires { package_ix < length (tables_of_graph self.now).packages }
+        ensures first { result.start ≡ first_node (tables_of_graph self.now) package_ix }
+        ensures end { result.end ≡ first_node (tables_of_graph self.now) (package_ix + 1) }
+    {
+        let count = self.graph.package_count();
+        let next = package_ix + 1;
+        let end = if next < count {
+            self.built.first_node(next)
+        } else {
+            self.feature_count()
+        };
+        self.built.first_node(package_ix)..end
     }
 
     /// The nodes that are reached from the initial ones over all edges, those included.

@@ -11,8 +11,6 @@ mod query;
 mod set;
 mod standard_features;
 mod workspace;
-#[cfg(test)]
-mod tests;
 
 pub use feature_core::{
     ConditionalLinkImpl, EdgeChoice, EnabledLink, Error, FeatureEdge, FeatureGraphData,
@@ -34,5 +32,5 @@ pub use listed_filters::{
 };
 pub use metadata::FeatureMetadata;
 pub use query::FeatureQuery;
-pub use set::{FeatureSet, IdsByNode};
+pub use set::{FeatureSet, IdsByNode, InitialPackages};
 pub use standard_features::StandardFeatures;

@@ -19,10 +19,7 @@ use std::hash::{BuildHasherDefault, DefaultHasher, Hash};
 type Hashes = BuildHasherDefault<DefaultHasher>;
 
 /// The set of these items.
-fn set_of<T: Eq + Hash + Copy>(
-    alloc: Global,
-    items: &[T],
-) -> Result<HashSet<T, Hashes>, AllocError>
+fn set_of<T: Eq + Hash + Copy>(alloc: Global, items: &[T]) -> Result<HashSet<T, Hashes>, AllocError>
     ensures { IfOk result (λ set. (item : T) → contains T.eq set item ≡ list_any (T.eq item) items.now) }
 {
     let mut set = HashSet::with_hasher(alloc, BuildHasherDefault::new());

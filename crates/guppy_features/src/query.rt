@@ -1,13 +1,15 @@
 //! Queries: features to start from, and a way to follow edges.
-ghost use Rattle.std.specs.Prelude.{◌≡◌, ◌↔◌, ℕ, IsTrue, IfOk, IfErr, length};
+ghost use Rattle.std.specs.Prelude.{◌≡◌, ◌↔◌, ℕ, IsTrue, IfOk, IfErr, MatchResult, length};
 ghost use Rattle.guppy_support.specs.Bits.{has};
 ghost use Rattle.feature_core.specs.Nodes.{nodes};
+ghost use Rattle.feature_core.specs.Errors.{refusal_of};
 ghost use Rattle.feature_core.specs.Pairs.{Reach};
+ghost use Rattle.guppy_features.specs.Packages.{RefusesPackageId, TellsPackage, member_packages, numbered};
 
 use crate::graph::FeatureGraph;
-use crate::set::FeatureSet;
+use crate::set::{FeatureSet, InitialPackages};
 use feature_core::Error;
-use guppy_packages::DependencyDirection;
+use guppy_packages::{DependencyDirection, PackageId};
 use std::alloc::Global;
 use std::fmt;
 use std::marker::Model;
@@ -59,6 +61,22 @@ impl<'g> FeatureQuery<'g> {
         ensures { result.now ≡ record { graph = self.now.graph; members = self.now.initials } }
     {
         &self.initials
+    }
+
+    /// The packages of the features to start from, by number.
+    pub fn initial_packages(&self) -> InitialPackages<'g, '_>
+        ensures { result ≡ numbered self.now.graph.tables (member_packages self.now.graph.tables self.now.initials) }
+    {
+        self.initials.member_packages()
+    }
+
+    /// Whether a feature to start from is of the package, or an error where no package has the id.
+    pub fn starts_from_package<'a>(&self, package_id: &'a PackageId) -> Result<bool, Error<'a>>
+        ensures { MatchResult result
+            (λ answer. TellsPackage self.now.graph.tables self.now.initials package_id.now answer)
+            (λ e. RefusesPackageId self.now.graph.tables package_id.now (refusal_of e)) }
+    {
+        self.initials.contains_package(package_id)
     }
 
     /// All features that are reached over edges from the initial ones, those included. The only error is want of memory.

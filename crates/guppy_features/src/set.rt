@@ -7,10 +7,13 @@ ghost use Rattle.feature_core.specs.Nodes.{nodes};
 ghost use Rattle.feature_core.specs.Errors.{refusal_of};
 ghost use Rattle.guppy_features.specs.Names.{RefusesName, TellsMember};
 
+mod packages;
+
 use crate::graph::FeatureGraph;
 use feature_core::Error;
 use feature_labels::FeatureId;
 use guppy_support::{IxBitSet, Ones};
+pub use packages::InitialPackages;
 use std::fmt;
 use std::iter::FusedIterator;
 use std::marker::Model;

@@ -26,12 +26,7 @@ impl<'g> FeatureGraph<'g> {
     }
 
     /// Asks the filter for the feature of a node, and puts the node into the set where it accepts.
-    fn ask_node<F: FeatureFilter<'g>>(
-        &self,
-        node: usize,
-        filter: &mut F,
-        members: &mut IxBitSet,
-    )
+    fn ask_node<F: FeatureFilter<'g>>(&self, node: usize, filter: &mut F, members: &mut IxBitSet)
         requires node { node < length (nodes (tables_of_graph self.now)) }
         requires size { length members.old ≡ length (nodes (tables_of_graph self.now)) }
         requires allowed { (name : _) → NodeNamed (tables_of_graph self.now) node name → F.can_accept filter.old (graph_of self.now) name }

@@ -12,10 +12,14 @@ pub ask_node-requires : goal.ask_node-requires
 ask_node-requires g c κs =
     let asked = c.nodes.invariant in (
       (refl, tt),
-      (omega (arith, c.feature_count-count.ensures, c.nodes-test.true),
-      (asked.size,
-      λ name named. may_ask_node g.F.FeatureFilter.accept_gives (graph_of c.args.self.now) c.args.filter.now g.F.FeatureFilter.can_accept c.nodes.node c.nodes.filter c.nodes.members name
-          c.requires c.if-is_in_workspace.ensures asked named)),
+      (
+        omega (arith, c.feature_count-count.ensures, c.nodes-test.true),
+        (
+          asked.size,
+          λ name named. may_ask_node g.F.FeatureFilter.accept_gives (graph_of c.args.self.now) c.args.filter.now g.F.FeatureFilter.can_accept c.nodes.node c.nodes.filter c.nodes.members name
+              c.requires c.if-is_in_workspace.ensures asked named,
+        ),
+      ),
     )
 
 pub nodes-preserved : goal.nodes-preserved
@@ -37,5 +41,5 @@ new-initials-requires g c = c.nodes.invariant.size
 pub returns-clause-initials : goal.returns-clause-initials
 returns-clause-initials g c =
     let all = asked_all g.F.FeatureFilter.accept_gives (graph_of c.args.self.now) c.args.filter.now c.nodes.node c.nodes.filter c.nodes.members
-        (omega (arith, c.feature_count-count.ensures, c.nodes-test.false, c.nodes.auto.node-end)) c.nodes.invariant in
+    (omega (arith, c.feature_count-count.ensures, c.nodes-test.false, c.nodes.auto.node-end)) c.nodes.invariant in
     subst (λ m. SelectsByFilter g.F.FeatureFilter.accept_gives (graph_of c.args.self.now) c.args.filter.now c.nodes.filter m) (sym (ap (λ q. q.initials) c.new.ensures ∙ c.new-initials.ensures.members)) all

@@ -11,5 +11,5 @@ pub returns-in-Named : goal.returns-in-Named
 returns-in-Named g c =
     let bytes = c.in-Named.name.now in
     let found = listed (λ (name : Bor (List ℕ)). name.now) (λ name. bytes_eq bytes name.now) bytes c.args.self.now.names.keys
-        (λ name. ((λ e. sym ((bytes_decides bytes name.now).0 e)), (λ e. (bytes_decides bytes name.now).1 (sym e)))) in
+    (λ name. ((λ e. sym ((bytes_decides bytes name.now).0 e)), (λ e. (bytes_decides bytes name.now).1 (sym e)))) in
     subst (λ label. IsTrue c.contains.result ↔ ListsLabel (listed_names c.args.self.now) (label_of label)) (sym c.in-Named.is) (rw c.contains.ensures found)
