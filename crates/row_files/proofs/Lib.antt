@@ -1,0 +1,4 @@
+pub mod LineLemmas
+pub mod EachLemmas
+pub mod RowLemmas
+pub mod TableLemmas

@@ -1,0 +1,5 @@
+pub mod Lines
+pub mod RowOfLine
+pub mod FirstFault
+pub mod FirstFaultLaws
+pub mod RowFile

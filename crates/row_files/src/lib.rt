@@ -1,0 +1,13 @@
+//! Row files: from bytes to lines, to fields, to rows, and to the package graph or the first fault.
+#![tactic(auto)]
+
+mod cuts;
+mod error;
+mod lines;
+mod row_file;
+mod rows;
+
+pub use error::RowFileError;
+pub use lines::Lines;
+pub use row_file::{graph_of, graph_of_lines};
+pub use rows::rows_of;

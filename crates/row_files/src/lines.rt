@@ -1,0 +1,56 @@
+//! The lines of a text and their fields.
+ghost use Rattle.std.specs.Prelude.{◌≡◌, ◌+◌, ◌<◌, ◌≤◌, ◌++◌, [], ◌∷◌, length, map, IfOk, OnOk, All};
+
+use crate::cuts::{parts_at_line_feeds, push_fields, skips};
+use std::alloc::{AllocError, Global};
+
+/// A line that is not skipped: its number, and where its fields stand among all fields.
+#[derive(Clone, Copy)]
+pub struct Line {
+    pub(crate) number: usize,
+    pub(crate) start: usize,
+    pub(crate) end: usize,
+}
+
+/// The fields of the lines that are not skipped, all in one list, and the lines.
+#[derive(Drop)]
+pub struct Lines<'t> {
+    pub(crate) fields: Vec<&'t str>,
+    pub(crate) lines: Vec<Line>,
+    ghost within: { All (λ line. (line.start ≤ line.end) × (line.end ≤ length fields.items)) lines.items },
+}
+
+impl<'t> Lines<'t> {
+    ghost use Rattle.row_files.specs.Lines.{lines_in, fields_in, kept_lines};
+    ghost use Rattle.row_files.specs.RowFile.{lines_of};
+
+    /// Adds a line.
+    fn push(&mut self, number: usize, line: &'t str) -> Result<(), AllocError>
+        ensures { OnOk result (lines_of self.new ≡ lines_of self.old ++ (number, fields_in line.now) ∷ []) }
+    {
+        let start = self.fields.len();
+        push_fields(&mut self.fields, line)?;
+        let end = self.fields.len();
+        match self.lines.push(Line { number, start, end }) {
+            Ok(()) => Ok(()),
+            Err(_) => Err(AllocError),
+        }
+    }
+
+    /// The lines that count, with their numbers and fields.
+    pub fn of(alloc: Global, text: &'t str) -> Result<Self, AllocError>
+        ensures { IfOk result (λ l. lines_of l ≡ kept_lines 1 (lines_in text.now)) }
+    {
+        let parts = parts_at_line_feeds(alloc, text)?;
+        let mut lines = Lines {
+            fields: Vec::new(alloc),
+            lines: Vec::new(alloc),
+        };
+        for (index, part) in parts.iter().enumerate() {
+            if !skips(part) {
+                lines.push(index + 1, part)?;
+            }
+        }
+        Ok(lines)
+    }
+}

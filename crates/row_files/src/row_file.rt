@@ -1,0 +1,38 @@
+//! From the bytes of a row file to the package graph.
+ghost use Rattle.std.specs.Prelude.{◌≡◌};
+ghost use Rattle.row_files.specs.FirstFault.{Gives};
+ghost use Rattle.row_files.specs.RowFile.{lines_of, tables_of_lines, tables_in};
+
+use crate::error::RowFileError;
+use crate::lines::Lines;
+use crate::rows::rows_of;
+use guppy_packages::{PackageGraph, RowFault};
+use std::alloc::{AllocError, Global};
+
+/// The package graph of the lines that count, or the first fault: malformed lines come before rows.
+pub fn graph_of_lines(alloc: Global, lines: &Lines) -> Result<PackageGraph, RowFileError>
+    ensures { Gives (λ graph. graph) result (tables_of_lines (lines_of lines.now)) }
+{
+    let rows = rows_of(alloc, lines)?;
+    match PackageGraph::from_rows(alloc, &rows) {
+        Ok(graph) => Ok(graph),
+        Err(error) => match error.fault {
+            RowFault::Memory => Err(RowFileError::Memory),
+            fault => Err(RowFileError::Row {
+                line: lines.lines[error.row].number,
+                fault,
+            }),
+        },
+    }
+}
+
+/// The package graph of a row file's bytes, or the first fault.
+pub fn graph_of(alloc: Global, bytes: &[u8]) -> Result<PackageGraph, RowFileError>
+    ensures { Gives (λ graph. graph) result (tables_in bytes.now) }
+{
+    let Ok(text) = str::from_utf8(bytes) else {
+        return Err(RowFileError::NotText);
+    };
+    let lines = Lines::of(alloc, text)?;
+    graph_of_lines(alloc, &lines)
+}
