@@ -1,4 +1,4 @@
-//! Tests of the program's crate and of byte devices: words, texts of faults, and runs over awkward devices.
+//! Tests of the program's crate and of byte devices: runs over awkward devices, and texts of faults.
 #![tactic(auto)]
 
 #[cfg(test)]
