@@ -21,6 +21,7 @@ mod numbers;
 mod packed;
 mod reach;
 mod releases;
+mod text_map;
 mod walks;
 mod warning;
 mod weak;

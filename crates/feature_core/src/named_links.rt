@@ -4,12 +4,14 @@ ghost use Rattle.std.specs.Str.{bytes_eq};
 ghost use Rattle.guppy_packages.specs.Rows.{Text};
 ghost use Rattle.feature_core.specs.NamedLinks.{numbers_under, AreNamedLinks};
 
+use crate::text_map::TextMap;
 use guppy_packages::PackageGraph;
 use indexmap::IndexMap;
 use std::alloc::{AllocError, Global};
+use std::hash::BuildHasherDefault;
 
 /// The numbers of the links of each package under each name, ascending.
-pub(crate) type LinkGroups<'g> = IndexMap<(usize, &'g str), Vec<usize>>;
+pub(crate) type LinkGroups<'g> = TextMap<(usize, &'g str), Vec<usize>>;
 
 /// Appends a number to the list of a package and a name.
 fn note<'g>(
@@ -35,7 +37,7 @@ fn note<'g>(
 pub(crate) fn named_links(alloc: Global, graph: &PackageGraph) -> Result<LinkGroups<'_>, AllocError>
     ensures { IfOk result (λ groups. AreNamedLinks graph.now groups) }
 {
-    let mut groups = IndexMap::new(alloc);
+    let mut groups = IndexMap::with_hasher(alloc, BuildHasherDefault::new());
     for ix in 0..graph.link_count() {
         let link = graph.link(ix);
         note(

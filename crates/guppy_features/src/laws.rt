@@ -10,8 +10,9 @@ ghost use Rattle.guppy_features.specs.Visits.{query_content, shown};
 
 use crate::visitor::FeatureLinkVisitor;
 pub use feature_core::laws::{
-    agrees_by_answer, least_monotone, links_are_present, one_candidate, one_result, reach_additive,
-    reach_both_ways, required_half_is_due, reverse_accept_all, warning_equality,
+    agrees_by_answer, common_cycle_symmetric, least_monotone, links_are_present, one_candidate,
+    one_result, order_respects_edges, reach_additive, reach_both_ways, required_half_is_due,
+    reverse_accept_all, warning_equality,
 };
 
 /// Where a visitor answers the links of a query as a test of offers says, whatever it was shown before, the test agrees with

@@ -123,17 +123,20 @@ impl Edges {
             far,
         };
         match edge {
-            FeatureEdge::FeatureToBase | FeatureEdge::NamedFeature => self.free.push((start, far)),
-            FeatureEdge::DependenciesSection(link) | FeatureEdge::NamedFeatureDepColon(link) => {
-                self.offers.push(ends.offer(link, None, false)?)
+            FeatureEdge::FeatureToBase | FeatureEdge::NamedFeature => {
+                self.free.push((start, far))?;
             }
-            FeatureEdge::NamedFeatureWithSlash { link, slash } => match slash {
-                SlashForm::Strong => self.offers.push(ends.offer(link, None, false)?),
-                SlashForm::Weak(weak) => {
-                    self.push_weak(ends, weak, gate_of(built, direction, weak))
-                }
-            },
+            FeatureEdge::NamedFeatureWithSlash {
+                link: _,
+                slash: SlashForm::Weak(weak),
+            } => self.push_weak(ends, weak, gate_of(built, direction, weak))?,
+            FeatureEdge::DependenciesSection(link)
+            | FeatureEdge::NamedFeatureDepColon(link)
+            | FeatureEdge::NamedFeatureWithSlash { link, slash: _ } => {
+                self.offers.push(ends.offer(link, None, false)?)?;
+            }
         }
+        Ok(())
     }
 
     /// The ends of paths from the initial nodes over unconditional edges and over these offers.

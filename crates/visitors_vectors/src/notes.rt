@@ -63,7 +63,8 @@ impl Notes {
         let (from, to) = link.endpoints();
         let (from, to) = (from.feature_id(), to.feature_id());
         let name = name_of(self.alloc, from, to, link.declarations())?;
-        self.run.push(Answered { name, accepted })
+        self.run.push(Answered { name, accepted })?;
+        Ok(())
     }
 
     /// The run, oldest call first.

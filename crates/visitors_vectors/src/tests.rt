@@ -10,6 +10,7 @@ use guppy_features::{
 use guppy_packages::PackageGraph;
 use row_files::graph_of;
 use std::alloc::{AllocError, Global};
+use std::process::Abort;
 use std::test::Fail;
 
 /// The ids of the features, by node.

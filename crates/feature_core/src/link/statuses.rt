@@ -9,19 +9,21 @@ ghost use Rattle.guppy_packages.specs.Stored.{declared};
 ghost use Rattle.feature_core.specs.Links.{joined};
 ghost use Rattle.feature_core.specs.Collected.{HasPlatforms, HasKinds, texts_in};
 
+use crate::text_map::TextSet;
 use guppy_packages::{Declaration, DependencyKind, PlatformStatusImpl, Spec};
 use indexmap::IndexSet;
 use std::alloc::{AllocError, Global};
+use std::hash::BuildHasherDefault;
 
 /// Platforms so far: whether one of them is every platform, and the specs by first appearance.
 #[derive(Drop)]
 pub(crate) struct StatusCollector<'g> {
     always: bool,
-    specs: IndexSet<&'g str>,
+    specs: TextSet<&'g str>,
 }
 
 /// Adds the specs that are not in the set.
-fn insert_all<'g>(set: &mut IndexSet<&'g str>, specs: &'g [Spec]) -> Result<(), AllocError>
+fn insert_all<'g>(set: &mut TextSet<&'g str>, specs: &'g [Spec]) -> Result<(), AllocError>
     ensures { OnOk result ((before : List Text) → texts_in set.old ≡ firsts bytes_eq before → texts_in set.new ≡ firsts bytes_eq (before ++ map spec_text specs.now)) }
 {
     for spec in specs {
@@ -31,7 +33,7 @@ fn insert_all<'g>(set: &mut IndexSet<&'g str>, specs: &'g [Spec]) -> Result<(), 
 }
 
 /// A spec for each text of the set.
-fn specs_of(alloc: Global, set: &IndexSet<&str>) -> Result<Vec<Spec>, AllocError>
+fn specs_of(alloc: Global, set: &TextSet<&str>) -> Result<Vec<Spec>, AllocError>
     ensures { IfOk result (λ specs. map spec_text specs.items ≡ texts_in set.now) }
 {
     let texts = set.as_slice();
@@ -49,7 +51,7 @@ impl<'g> StatusCollector<'g> {
     {
         StatusCollector {
             always: false,
-            specs: IndexSet::new(alloc),
+            specs: IndexSet::with_hasher(alloc, BuildHasherDefault::new()),
         }
     }
 
