@@ -1,10 +1,10 @@
 //! The feature graph of package tables, and walks over it.
 #![tactic(auto)]
 
-mod building;
+mod edge_table;
 mod candidates;
-mod comparing;
-mod data;
+mod equality;
+mod feature_graph_data;
 mod declarations;
 mod defaults;
 mod edge;
@@ -19,14 +19,14 @@ mod named_links;
 mod nodes;
 mod numbers;
 mod packed;
-mod reach;
-mod releases;
+mod chosen_reach;
+mod gates;
 mod text_map;
 mod walks;
 mod warning;
-mod weak;
+mod weak_links;
 
-pub use data::FeatureGraphData;
+pub use feature_graph_data::FeatureGraphData;
 pub use edge::{EdgeChoice, FeatureEdge, SlashForm, WeakIndex, WeakSlashImpl};
 pub use error::Error;
 pub use link::{ConditionalLinkImpl, EnabledLink};

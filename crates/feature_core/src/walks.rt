@@ -9,7 +9,7 @@ ghost use Rattle.feature_core.specs.Pairs.{PairLeads, Reach, ReachAlong};
 ghost use Rattle.walk_engine.specs.Walks.{IsWalk, LegalRun, MayAsk};
 ghost use Rattle.feature_core.specs.Ways.{content};
 
-use crate::data::FeatureGraphData;
+use crate::feature_graph_data::FeatureGraphData;
 use crate::edge::EdgeChoice;
 use crate::error::Error;
 use crate::packed::Packed;
