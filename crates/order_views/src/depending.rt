@@ -1,7 +1,6 @@
 //! Whether a path leads from one node to another.
 ghost use Rattle.std.specs.Prelude.{◌≡◌, ◌↔◌, ◌<◌, ℕ, length, IfOk, OnOk, IsTrue};
 ghost use Rattle.guppy_support.specs.Paths.{Path};
-ghost use Rattle.order_views.specs.inner.Search.{IsSearch, Follows};
 
 use guppy_support::{Digraph, IxBitSet};
 use std::alloc::{AllocError, Global};
