@@ -1,2 +1,3 @@
+pub mod CycleLemmas
 pub mod Distinct
 pub mod Readings

@@ -36,8 +36,8 @@ LinksComeOnce =
 abbrev pub OneList : Type 0
 OneList = (g : Graph) (o p : Sequence) → IsOrderOf g o → IsOrderOf g p → o.list ≡ p.list
 
--- a component has a cycle exactly if a node of it lies on one
+-- a node's component has a cycle exactly if the node lies on one: a nonempty path leads from it to itself
 abbrev pub CyclicByCycles : Type 0
 CyclicByCycles =
-    (g : Graph) (o : Sequence) (c : ℕ) → IsOrderOf g o
-    → IsTrue (has_cycle g.edges o c) ↔ ((v : ℕ) × (v < g.nodes) × (component_of o v ≡ c) × OnCycle g.edges v v)
+    (g : Graph) (o : Sequence) (v : ℕ) → IsDigraph g → IsOrderOf g o → v < g.nodes
+    → IsTrue (has_cycle g.edges o (component_of o v)) ↔ OnCycle g.edges v v

@@ -6,7 +6,7 @@ ghost use Rattle.guppy_support.specs.Paths.{OnCycle};
 ghost use Rattle.guppy_support.specs.Sequences.{IsOrderOf};
 ghost use Rattle.order_views.specs.Cycles.{has_cycle, has_loop, cyclic_components};
 
-use guppy_support::{Digraph, Order};
+use guppy_support::{Digraph, Order, laws};
 use std::iter::FusedIterator;
 use std::marker::Model;
 
@@ -37,6 +37,9 @@ pub fn is_cyclic(order: &Order, digraph: &Digraph, a: usize, b: usize) -> bool
     requires b { b < digraph.now.nodes }
     ensures { IsTrue result ↔ OnCycle digraph.now.edges a b }
 {
+    order.facts();
+    digraph.facts();
+    laws::cycles_are_components();
     if a != b {
         order.is_same(a, b)
     } else {

@@ -18,9 +18,10 @@ pub fn one_list()
     guppy_support::laws::one_order();
 }
 
-/// A component has a cycle exactly if a node of it lies on one.
+/// A node's component has a cycle exactly if the node lies on one.
 pub fn cyclic_by_cycles()
     ensures { CyclicByCycles }
 {
     guppy_support::laws::cycles_are_components();
+    guppy_support::laws::order_lists_each();
 }
