@@ -62,7 +62,7 @@ pub record IsPlace (v s : ℕ) (xs : List ℕ) (p : ℕ) : Type 0 where
 later : {v s x p : ℕ} {xs : List ℕ} → IsPlace v (suc s) xs p → IsPlace v s (x ∷ xs) p
 later h = record { from = suc h.from; is = omega (arith, h.is); within = omega (arith, h.within); at = h.at }
 
-place_from : (v s : ℕ) (xs : List ℕ) (i p : ℕ) → slice_get (places_from v s xs) i ≡ Some p → IsPlace v s xs p
+pub place_from : (v s : ℕ) (xs : List ℕ) (i p : ℕ) → slice_get (places_from v s xs) i ≡ Some p → IsPlace v s xs p
 place_from v s [] i p e = absurd (cc)
 place_from v s (x ∷ xs) zero p e =
     elim (cases_Bool (x == v)) [

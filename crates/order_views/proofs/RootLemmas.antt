@@ -3,7 +3,7 @@ use Rattle.std.proofs.Common.{◌≡◌, ◌≢◌, ℕ, ◌+◌, ◌<◌, inl, 
 use Rattle.std.specs.Prelude.{Contains, filter, not, ◌==◌, ◌&&◌, ◌||◌, replicate, reverse}
 use Rattle.std.specs.List.{list_any, flat_map}
 use Rattle.std.proofs.lemmas.Bool.{cases_eq, cases_Bool, eq-eqb, ne_eqb}
-use Rattle.std.proofs.lemmas.List.{get_or-set_same, get_or-set_other, get_or-replicate}
+use Rattle.std.proofs.lemmas.List.{get_or-set_same, get_or-set_other, get_or-replicate, append_assoc, append-nil}
 use Rattle.std.proofs.lemmas.List.Elements.{All-append, All-from_get_or, All-filter, All-nil}
 use Rattle.guppy_support.specs.declared.digraph.Edge.{Edge}
 use Rattle.guppy_support.specs.Bits.{has}
@@ -72,3 +72,18 @@ noted_more p old new k ks all xs e is h =
 
 pub none_noted : (n c : ℕ) → c < n → has (replicate n false) c ≡ false
 none_noted n c h = get_or-replicate n c false false h
+
+-- ---- the members that pass
+
+pub kept_more : (p : ℕ → Bool) (xs iter rest all : List ℕ) (v : ℕ) → iter ≡ v ∷ rest → p v ≡ true → xs ++ filter p iter ≡ all → (xs ++ v ∷ []) ++ filter p rest ≡ all
+kept_more p xs iter rest all v e yields h =
+    let first : filter p (v ∷ rest) ≡ v ∷ filter p rest = rw yields refl in
+    append_assoc xs (v ∷ []) (filter p rest) ∙ ap (λ ys. xs ++ ys) (sym first) ∙ ap (λ ys. xs ++ filter p ys) (sym e) ∙ h
+
+pub passed_more : (p : ℕ → Bool) (xs iter rest all : List ℕ) (v : ℕ) → iter ≡ v ∷ rest → p v ≡ false → xs ++ filter p iter ≡ all → xs ++ filter p rest ≡ all
+passed_more p xs iter rest all v e fails h =
+    let first : filter p (v ∷ rest) ≡ filter p rest = rw fails refl in
+    ap (λ ys. xs ++ ys) (sym first) ∙ ap (λ ys. xs ++ filter p ys) (sym e) ∙ h
+
+pub kept_all : (p : ℕ → Bool) (xs iter all : List ℕ) → iter ≡ [] → xs ++ filter p iter ≡ all → xs ≡ all
+kept_all p xs iter all e h = sym (append-nil xs) ∙ ap (λ ys. xs ++ filter p ys) (sym e) ∙ h

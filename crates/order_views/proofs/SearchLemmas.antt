@@ -152,3 +152,7 @@ path_found found closed (onward {a = a} {b = b} e p) h = path_found found closed
 pub search_ends : (es : List Edge) (a b : ℕ) (found : List Bool) → IsSearch es a found [] → has found b ≡ false → ¬ Path es a b
 search_ends es a b found s missing path =
     false≢true (sym missing ∙ path_found found (λ u v t e. elim (s.closed u v t e) [ inl x ↦ x | inr x ↦ absurd (omega (arith, x.1)) ]) path s.start)
+
+-- who waits is a node
+pub waiting_within : (es : List Edge) (a node : ℕ) (found : List Bool) (rest : List ℕ) → IsSearch es a found (rest ++ node ∷ []) → node < length found
+waiting_within es a node found rest s = has_within found node (s.waits node (Contains-push rest node))
