@@ -1,4 +1,4 @@
-//! Package rows, their tables, package ids and links.
+//! Package rows, their tables, package ids, links and the order of packages.
 #![tactic(auto)]
 
 mod contents;
@@ -11,6 +11,7 @@ mod package_graph;
 mod package_id;
 mod package_link;
 mod package_metadata;
+mod package_order;
 mod platform;
 mod row;
 mod row_error;
