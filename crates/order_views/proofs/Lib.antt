@@ -1,0 +1,3 @@
+pub mod CycleLemmas
+pub mod Distinct
+pub mod Readings

@@ -1,0 +1,2 @@
+-- A search from a node.
+use Rattle.std.specs.Prelude.{ℕ}
