@@ -3,6 +3,7 @@ pub mod Items
 pub mod Metadata
 pub mod NamedFeature
 pub mod PackageOrder
+pub mod PackageSets
 pub mod Platform
 pub mod Rows
 pub mod Stored

@@ -1,4 +1,4 @@
-//! Package rows, their tables, package ids, links and the order of packages.
+//! Package rows, their tables, package ids, links, and the order and sets of packages.
 #![tactic(auto)]
 
 mod contents;
@@ -12,6 +12,7 @@ mod package_id;
 mod package_link;
 mod package_metadata;
 mod package_order;
+mod package_set;
 mod platform;
 mod row;
 mod row_error;
@@ -25,6 +26,7 @@ pub use package_graph::PackageGraph;
 pub use package_id::PackageId;
 pub use package_link::PackageLink;
 pub use package_metadata::{PackageMetadata, UnknownPackageId};
+pub use package_set::{PackageSet, Packages};
 pub use platform::{PlatformStatus, PlatformStatusImpl, Spec};
 pub use row::{DependencyKind, Row};
 pub use row_error::{RowError, RowFault};
