@@ -1,10 +1,10 @@
 -- The digraph of packages, whose order is the order of packages.
-use Rattle.std.specs.Prelude.{ℕ, List, Bool, Option, ◌&&◌, ◌==◌, filter_map, length, not}
+use Rattle.std.specs.Prelude.{◌≡◌, ◌↔◌, ℕ, Contains, List, Bool, Option, ◌&&◌, ◌==◌, filter_map, length, not}
 use Rattle.std.specs.List.{find, flat_map, range_with_len}
 use Rattle.std.specs.Option.{option_map}
-use Rattle.guppy_support.specs.Graph.{Graph}
+use Rattle.guppy_support.specs.Graph.{Graph, IsDigraph}
 use Rattle.guppy_support.specs.declared.digraph.Edge.{Edge}
-use Rattle.guppy_packages.specs.Tables.{LinkTable, Tables, is_dev_only}
+use Rattle.guppy_packages.specs.Tables.{AreTables, LinkTable, Tables, is_dev_only}
 
 abbrev pub leads : ℕ → ℕ → LinkTable → Bool
 leads from to l = (from == l.from) && (to == l.to)
@@ -24,3 +24,9 @@ edges_between count links = flat_map (λ from. filter_map (edge_between links fr
 -- packages as nodes, and links as edges
 unfoldable pub digraph_of_packages : Tables → Graph
 digraph_of_packages t = record { nodes = length t.packages; edges = edges_between (length t.packages) t.links }
+
+-- the edges of the digraph are exactly those of the links
+abbrev pub LinksAreEdges : Type 0
+LinksAreEdges =
+    (t : Tables) → AreTables t
+    → IsDigraph (digraph_of_packages t) × ((e : Edge) → Contains (digraph_of_packages t).edges e ↔ ((l : LinkTable) × Contains t.links l × (link_edge l ≡ e)))

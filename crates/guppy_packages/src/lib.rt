@@ -5,6 +5,7 @@ mod contents;
 mod declaration;
 mod direction;
 mod from_rows;
+pub mod laws;
 mod named_feature;
 mod named_feature_dep;
 mod package_graph;
