@@ -1,7 +1,7 @@
 //! The edges between the members of a set, in an order.
-ghost use Rattle.std.specs.Prelude.{◌≡◌, ◌+◌, ◌<◌, ◌≤◌, ◌∷◌, ℕ, [], All, length, drop, slice_get, slice_index, MatchOption, IfSome, IfNone, Some};
+ghost use Rattle.std.specs.Prelude.{◌≡◌, ◌+◌, ◌^◌, ◌<◌, ◌≤◌, ◌∷◌, ℕ, [], All, length, drop, slice_get, slice_index, MatchOption, IfSome, IfNone, Some};
 ghost use Rattle.std.specs.Iterator.{YieldsFirst, item_count};
-ghost use Rattle.order_views.specs.Views.{links_in_order, starting, end_of};
+ghost use Rattle.order_views.specs.Views.{links_in_order, starting, start_of, end_of};
 ghost use Rattle.order_views.specs.inner.Cursors.{links_after};
 
 use crate::in_order::InOrder;
@@ -66,7 +66,8 @@ impl<'a> LinksInOrder<'a> {
 // The edge at that place of those that start at the node.
 fn edge_at(digraph: &Digraph, reading: Reading, node: usize, place: usize) -> Option<usize>
     requires { node < digraph.now.nodes }
-    ensures { result ≡ slice_get (starting reading digraph.now.edges node) place }
+    ensures edge { result ≡ slice_get (starting reading digraph.now.edges node) place }
+    ensures few { IfSome result (λ _. place + 1 < 2 ^ 64) }
 {
     match reading {
         Reading::Forward => {
@@ -81,15 +82,16 @@ fn edge_at(digraph: &Digraph, reading: Reading, node: usize, place: usize) -> Op
     }
 }
 
-// The node at which the edge ends.
-fn end_at(digraph: &Digraph, reading: Reading, edge: usize) -> usize
+/// The nodes at which the edge starts and ends.
+pub(crate) fn ends_of(digraph: &Digraph, reading: Reading, edge: usize) -> (usize, usize)
     requires { edge < length digraph.now.edges }
-    ensures { result ≡ end_of reading digraph.now.edges edge }
+    ensures start { result.0 ≡ start_of reading digraph.now.edges edge }
+    ensures end { result.1 ≡ end_of reading digraph.now.edges edge }
 {
     let ends = digraph.edge(edge);
     match reading {
-        Reading::Forward => ends.to,
-        Reading::Backward => ends.from,
+        Reading::Forward => (ends.from, ends.to),
+        Reading::Backward => (ends.to, ends.from),
     }
 }
 
@@ -111,7 +113,7 @@ fn next_link(
     let mut place = from;
     while let Some(edge) = edge_at(digraph, reading, node, place) {
         place += 1;
-        if members.contains(end_at(digraph, reading, edge)) {
+        if members.contains(ends_of(digraph, reading, edge).1) {
             return Some((edge, place));
         }
     }

@@ -1,14 +1,32 @@
 //! The roots of a set.
-ghost use Rattle.std.specs.Prelude.{◌≡◌, ◌<◌, ℕ, length, IfOk};
+ghost use Rattle.std.specs.Prelude.{◌≡◌, ◌<◌, ◌||◌, ℕ, length, IfOk};
 ghost use Rattle.std.specs.List.{list_any};
 ghost use Rattle.guppy_support.specs.Bits.{has};
 ghost use Rattle.order_views.specs.Views.{links_in_order, leaves, roots_in_order};
 
 use crate::in_order::InOrder;
-use crate::links_in_order::LinksInOrder;
+use crate::links_in_order::{LinksInOrder, ends_of};
 use crate::reading::Reading;
 use guppy_support::{Digraph, IxBitSet, Order};
 use std::alloc::{AllocError, Global};
+
+// Notes the component that the edge leaves, if it leads to another.
+fn note(order: &Order, digraph: &Digraph, reading: Reading, edge: usize, left: &mut IxBitSet)
+    requires edge { edge < length digraph.now.edges }
+    requires order { length order.now.list ≡ digraph.now.nodes }
+    requires size { length left.old ≡ order.now.count }
+    ensures size { length left.new ≡ order.now.count }
+    ensures left { (c : ℕ) → c < order.now.count → has left.new c
+        ≡ (has left.old c || leaves reading digraph.now.edges order.now c edge) }
+{
+    order.facts();
+    digraph.facts();
+    let (start, end) = ends_of(digraph, reading, edge);
+    let component = order.component(start);
+    if order.component(end) != component {
+        left.insert(component);
+    }
+}
 
 // The components that an edge between members leads out of.
 fn left_components(
@@ -24,19 +42,9 @@ fn left_components(
     ensures left { IfOk result (λ left. (c : ℕ) → c < order.now.count → has left c
         ≡ list_any (leaves reading digraph.now.edges order.now c) (links_in_order reading digraph.now.edges order.now.list members.now)) }
 {
-    order.facts();
-    digraph.facts();
     let mut left = IxBitSet::empty(alloc, order.component_count())?;
-    for number in LinksInOrder::new(order, digraph, members, reading) {
-        let edge = digraph.edge(number);
-        let from = order.component(edge.from);
-        let to = order.component(edge.to);
-        if from != to {
-            left.insert(match reading {
-                Reading::Forward => from,
-                Reading::Backward => to,
-            });
-        }
+    for edge in LinksInOrder::new(order, digraph, members, reading) {
+        note(order, digraph, reading, edge, &mut left);
     }
     Ok(left)
 }

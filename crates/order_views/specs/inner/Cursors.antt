@@ -20,13 +20,10 @@ members_left r list set passed = filter (λ v. has set v) (drop passed (as_read 
 abbrev pub links_after : Reading → List Edge → List Bool → ℕ → ℕ → List ℕ
 links_after r es set v passed = filter (λ k. has set (end_of r es k)) (drop passed (starting r es v))
 
-abbrev pub links_at_hand : Reading → List Edge → List Bool → Option ℕ → ℕ → List ℕ
-links_at_hand r es set None passed = []
-links_at_hand r es set (Some v) passed = links_after r es set v passed
-
--- those of the node at hand, and those of the nodes that come after it
+-- those of the node at hand, and those of the nodes that come after it; none where no node is at hand
 abbrev pub links_left : Reading → List Edge → List Bool → Option ℕ → ℕ → List ℕ → List ℕ
-links_left r es set start passed nodes = links_at_hand r es set start passed ++ flat_map (links_of r es set) nodes
+links_left r es set None passed nodes = []
+links_left r es set (Some v) passed nodes = links_after r es set v passed ++ flat_map (links_of r es set) nodes
 
 -- the components below n that have a cycle, the last first
 abbrev pub cyclic_below : List Edge → Sequence → ℕ → List ℕ
