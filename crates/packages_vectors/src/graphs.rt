@@ -1,6 +1,6 @@
 //! Row files, with what their graphs say or with their first fault.
 use crate::rows::graph_of;
-use crate::shown::{show_graph, show_places};
+use crate::shown::{show_all_packages, show_graph, show_places};
 use guppy_packages::{PackageId, RowFault};
 use std::alloc::Global;
 use std::test::Fail;
@@ -117,6 +117,48 @@ fn packages_and_names_are_found(rt: HostRuntime) -> Result<(), Fail> {
             Err(_) => String::from_str(rt.alloc(), "unknown")?,
         };
         assert_eq!(rt; said.as_str(), want, "{id} {name}");
+    }
+    Ok(())
+}
+
+/// Row files, an id, and all packages of the graph in order and backwards, and whether the id is one of them.
+const ORDERS: [(&str, &str, &str); 3] = [
+    (
+        "package\tx\tworkspace\n\
+        dep\ty\ty\tdev\trequired\t*\tnodefault\n\
+        package\tr\tworkspace\n\
+        package\ty\texternal\n\
+        dep\tx\tx\tbuild\trequired\t*\tnodefault\n\
+        dep\ty\ty\tnormal\trequired\t*\tnodefault\n",
+        "y",
+        "PackageSet { len: 3 }: r y x, backwards: x y r, Ok(true)",
+    ),
+    (
+        "package\tx\tworkspace\n\
+        dep\ty\ty\tnormal\trequired\t*\tnodefault\n\
+        package\ty\texternal\n\
+        dep\tx\tx\tdev\trequired\t*\tnodefault\n",
+        "z",
+        "PackageSet { len: 2 }: x y, backwards: y x, Err(UnknownPackageId)",
+    ),
+    (
+        "",
+        "x",
+        "PackageSet { len: 0 }:, backwards:, Err(UnknownPackageId), empty",
+    ),
+];
+
+fn packages_of(alloc: Global, rows: &str, id: &str) -> Result<String, Fail> {
+    let graph = graph_of(alloc, rows)??;
+    let id = PackageId::new(alloc, id)?;
+    Ok(show_all_packages(alloc, &graph, &id)?)
+}
+
+#[test]
+fn packages_stand_in_this_order(rt: HostRuntime) -> Result<(), Fail> {
+    for (rows, id, want) in ORDERS {
+        let said = packages_of(rt.alloc(), rows, id)?;
+        assert_eq!(rt; said.as_str(), want, "{rows}");
     }
     Ok(())
 }

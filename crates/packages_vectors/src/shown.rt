@@ -1,7 +1,9 @@
 //! What a package graph says, as text.
 use guppy_packages::{
-    Declaration, NamedFeature, PackageGraph, PackageLink, PackageMetadata, PlatformStatus,
+    Declaration, DependencyDirection, NamedFeature, PackageGraph, PackageId, PackageLink,
+    PackageMetadata, PackageSet, PlatformStatus,
 };
+use guppy_support::IxBitSet;
 use std::alloc::{AllocError, Global};
 
 /// A place, or `none`.
@@ -157,5 +159,40 @@ pub fn show_places(
     show_place(&mut text, package.feature_place(name))?;
     write!(text, ", ")?;
     show_place(&mut text, package.optional_place(name))?;
+    Ok(text)
+}
+
+fn show_packages(
+    text: &mut String,
+    set: &PackageSet<'_>,
+    direction: DependencyDirection,
+) -> Result<(), AllocError> {
+    for package in set.packages(direction) {
+        write!(text, " {}", package.id())?;
+    }
+    Ok(())
+}
+
+fn show_set(text: &mut String, set: &PackageSet<'_>, id: &PackageId) -> Result<(), AllocError> {
+    write!(text, "{set:?}:")?;
+    show_packages(text, set, DependencyDirection::Forward)?;
+    write!(text, ", backwards:")?;
+    show_packages(text, set, DependencyDirection::Reverse)?;
+    write!(text, ", {:?}", set.contains(id))?;
+    if set.is_empty() {
+        write!(text, ", empty")?;
+    }
+    Ok(())
+}
+
+/// The set of all packages in order and backwards, and whether it has the id.
+pub fn show_all_packages(
+    alloc: Global,
+    graph: &PackageGraph,
+    id: &PackageId,
+) -> Result<String, AllocError> {
+    let mut text = String::new(alloc);
+    let members = IxBitSet::full(alloc, graph.package_count())?;
+    show_set(&mut text, &PackageSet::new(graph, members), id)?;
     Ok(text)
 }
