@@ -1,0 +1,226 @@
+//! Calls on digraphs and their orders.
+use crate::failure::Failure;
+use crate::out::Out;
+use crate::words::{cut, number};
+use guppy_support::{Digraph, DigraphError, Edge, Order};
+use std::alloc::Global;
+
+/// The edge between two numbers.
+fn between((from, to): (&str, &str), non_dev: bool) -> Result<Edge, Failure> {
+    Ok(Edge {
+        from: number(from)?,
+        to: number(to)?,
+        non_dev,
+    })
+}
+
+/// The edge of a word: `1>0`, or `1~0` where it is dev-only.
+fn edge_of(word: &str) -> Result<Edge, Failure> {
+    if let Some(ends) = word.split_once('>') {
+        return between(ends, true);
+    }
+    match word.split_once('~') {
+        Some(ends) => between(ends, false),
+        None => Err(Failure::Words),
+    }
+}
+
+fn push_edges(edges: &mut Vec<Edge>, words: &str) -> Result<(), Failure> {
+    for word in words.split_whitespace() {
+        edges.push(edge_of(word)?)?;
+    }
+    Ok(())
+}
+
+/// The edges of a text.
+fn edges_of(alloc: Global, words: &str) -> Result<Vec<Edge>, Failure> {
+    let mut edges = Vec::new(alloc);
+    push_edges(&mut edges, words)?;
+    Ok(edges)
+}
+
+/// The edge as a word.
+fn tell_edge(out: &mut Out, edge: Edge) {
+    let sign = if edge.non_dev { '>' } else { '~' };
+    out.part(format_args!(" {}{sign}{}", edge.from, edge.to));
+}
+
+/// What a digraph holds.
+fn tell_digraph(out: &mut Out, graph: &Digraph) {
+    let (nodes, edges) = (graph.node_count(), graph.edge_count());
+    out.part(format_args!("{nodes} nodes, {edges} edges:"));
+    for number in 0..graph.edge_count() {
+        tell_edge(out, graph.edge(number));
+    }
+    out.line("");
+}
+
+/// The nodes in order, each with its component.
+fn tell_order(out: &mut Out, order: &Order) {
+    order.facts();
+    let (nodes, components) = (order.list().len(), order.component_count());
+    out.part(format_args!("{nodes} in {components} components:"));
+    for node in order.list() {
+        if *node < order.list().len() {
+            out.part(format_args!(" {node}:{}", order.component(*node)));
+        }
+    }
+    out.line("");
+}
+
+/// The numbers of a node's edges, out of it and into it.
+fn tell_edges_at(out: &mut Out, graph: &Digraph, node: usize) {
+    if node < graph.node_count() {
+        out.part(format_args!("{node}: out"));
+        for number in graph.out_edges(node) {
+            out.part(format_args!(" {number}"));
+        }
+        out.part(", in");
+        out.numbers(graph.in_edges(node));
+    }
+}
+
+/// A node's place, and the nodes of its component.
+fn tell_place(out: &mut Out, order: &Order, node: usize) {
+    order.facts();
+    if node < order.list().len() {
+        out.part(format_args!(", at {}, with", order.place(node)));
+        out.numbers(order.component_nodes(order.component(node)));
+    }
+}
+
+/// For each node, its edges, its place and its component's nodes.
+fn tell_nodes(out: &mut Out, graph: &Digraph, order: &Order) {
+    for node in 0..graph.node_count() {
+        tell_edges_at(out, graph, node);
+        tell_place(out, order, node);
+        out.line("");
+    }
+}
+
+/// What is between two nodes: the number of an edge, and whether they are in one component.
+fn tell_pair(out: &mut Out, graph: &Digraph, order: &Order, from: usize, to: usize) {
+    order.facts();
+    if let Some(number) = graph.edge_between(from, to) {
+        tell_edge(out, graph.edge(number));
+        out.part(format_args!("={number}"));
+    }
+    if from < order.list().len() && to < order.list().len() && order.is_same(from, to) {
+        out.part(format_args!(" {from}={to}"));
+    }
+}
+
+/// What is between each node and each other.
+fn tell_pairs(out: &mut Out, graph: &Digraph, order: &Order) {
+    for from in 0..graph.node_count() {
+        for to in 0..graph.node_count() {
+            tell_pair(out, graph, order, from, to);
+        }
+    }
+    out.line("");
+}
+
+/// What a digraph and its order say, by the name of the call; and then what the digraph holds.
+fn tell(out: &mut Out, alloc: Global, name: &str, graph: &Digraph) {
+    match Order::new(alloc, graph) {
+        Ok(order) => match name {
+            "nodes" => tell_nodes(out, graph, &order),
+            "pairs" => tell_pairs(out, graph, &order),
+            _ => tell_order(out, &order),
+        },
+        Err(_) => out.failure(Failure::Memory),
+    }
+    tell_digraph(out, graph);
+}
+
+/// Makes a call on the digraph of so many nodes and these edges.
+pub fn given(out: &mut Out, alloc: Global, name: &str, words: &str) -> Result<(), Failure> {
+    let (nodes, listed) = cut(words);
+    let nodes = number(nodes)?;
+    let edges = edges_of(alloc, listed)?;
+    match Digraph::new(alloc, nodes, &edges) {
+        Ok(graph) => tell(out, alloc, name, &graph),
+        Err(DigraphError::Memory) => out.failure(Failure::Memory),
+        Err(error) => out.line(format_args!("{error:?}")),
+    }
+    Ok(())
+}
+
+/// Adds an edge.
+fn push(edges: &mut Vec<Edge>, from: usize, to: usize, non_dev: bool) -> Result<(), Failure> {
+    edges.push(Edge { from, to, non_dev })?;
+    Ok(())
+}
+
+/// The edges of one cycle of so many nodes.
+fn push_cycle(edges: &mut Vec<Edge>, nodes: usize) -> Result<(), Failure> {
+    for from in 1..nodes {
+        push(edges, from - 1, from, true)?;
+    }
+    push(edges, nodes.saturating_sub(1), 0, true)
+}
+
+/// The edges of one path of so many nodes.
+fn push_path(edges: &mut Vec<Edge>, nodes: usize) -> Result<(), Failure> {
+    for to in 1..nodes {
+        push(edges, to - 1, to, true)?;
+    }
+    Ok(())
+}
+
+/// The edges of cycles of two, so many nodes in all. Each cycle leads to the one before it, and its way back is dev-only.
+fn push_cycles(edges: &mut Vec<Edge>, nodes: usize) -> Result<(), Failure> {
+    for to in 1..nodes {
+        if to % 2 == 0 {
+            push(edges, to, to - 1, true)?;
+        } else {
+            push(edges, to - 1, to, true)?;
+            push(edges, to, to - 1, false)?;
+        }
+    }
+    Ok(())
+}
+
+/// The edges of the shape of this name with so many nodes.
+fn push_shape(edges: &mut Vec<Edge>, shape: &str, nodes: usize) -> Result<(), Failure> {
+    match shape {
+        "cycle" => push_cycle(edges, nodes),
+        "path" => push_path(edges, nodes),
+        "cycles" => push_cycles(edges, nodes),
+        _ => Err(Failure::Words),
+    }
+}
+
+/// How many components an order has, and the last node's.
+fn tell_last(out: &mut Out, order: &Order) {
+    order.facts();
+    let nodes = order.list().len();
+    out.part(format_args!("{nodes} in {} components", order.component_count()));
+    if nodes > 0 {
+        out.part(format_args!(", the last in {}", order.component(nodes - 1)));
+    }
+    out.line("");
+}
+
+/// Tells a large digraph's order.
+fn tell_large(out: &mut Out, alloc: Global, graph: &Digraph) {
+    out.part(format_args!("{} nodes, ", graph.node_count()));
+    match Order::new(alloc, graph) {
+        Ok(order) => tell_last(out, &order),
+        Err(_) => out.failure(Failure::Memory),
+    }
+}
+
+/// Makes a call on a digraph that is too large for a script, of a shape and so many nodes.
+pub fn large(out: &mut Out, alloc: Global, words: &str) -> Result<(), Failure> {
+    let (shape, nodes) = cut(words);
+    let nodes = number(nodes)?;
+    let mut edges = Vec::new(alloc);
+    push_shape(&mut edges, shape, nodes)?;
+    match Digraph::new(alloc, nodes, &edges) {
+        Ok(graph) => tell_large(out, alloc, &graph),
+        Err(DigraphError::Memory) => out.failure(Failure::Memory),
+        Err(error) => out.line(format_args!("{error:?}")),
+    }
+    Ok(())
+}
