@@ -2,18 +2,12 @@
 use crate::failure::Failure;
 use crate::out::Out;
 use crate::words::cut;
-use crate::{digraphs, sets};
+use crate::{digraphs, ids, lists, long_list, names, packages, platforms, sets};
 use guppy_packages::PackageGraph;
 use std::alloc::Global;
 
-/// Makes the call of this name with these words.
-fn call(
-    out: &mut Out,
-    alloc: Global,
-    graph: &PackageGraph,
-    name: &str,
-    words: &str,
-) -> Result<(), Failure> {
+/// Makes a call on numbers.
+fn number_call(out: &mut Out, alloc: Global, name: &str, words: &str) -> Result<(), Failure> {
     match name {
         "digraph" | "nodes" | "pairs" => digraphs::given(out, alloc, name, words),
         "large" => digraphs::large(out, alloc, words),
@@ -24,18 +18,59 @@ fn call(
     }
 }
 
-/// Makes the call of a line.
-fn make_call(out: &mut Out, alloc: Global, graph: &PackageGraph, line: &str) {
-    let (name, words) = cut(line);
-    if let Err(failure) = call(out, alloc, graph, name, words) {
-        out.failure(failure);
+/// Makes a call on texts.
+fn text_call(out: &mut Out, alloc: Global, name: &str, words: &str) -> Result<(), Failure> {
+    match name {
+        "specs" => platforms::specs(out, alloc, words),
+        "package-ids" => names::package_ids(out, alloc, words),
+        "id" => ids::id(out, alloc, words),
+        "compare" => ids::compare(out, alloc, words),
+        _ => number_call(out, alloc, name, words),
     }
+}
+
+/// Makes a call on a package graph.
+fn graph_call(
+    out: &mut Out,
+    alloc: Global,
+    graph: &PackageGraph,
+    name: &str,
+    words: &str,
+) -> Result<(), Failure> {
+    match name {
+        "place" => packages::place(out, alloc, graph, words),
+        "list" => lists::list(out, alloc, graph, words),
+        "held" => lists::held(out, alloc, graph, words),
+        "equal-lists" => lists::equal(out, alloc, graph, words),
+        "long-list" => long_list::long_list(out, alloc, graph, words),
+        _ => text_call(out, alloc, name, words),
+    }
+}
+
+/// Makes the call of a line.
+fn make_call(
+    out: &mut Out,
+    alloc: Global,
+    graph: &PackageGraph,
+    line: &str,
+) -> Result<(), Failure> {
+    let (name, words) = cut(line);
+    match name {
+        "graph" => packages::graph(out, graph),
+        "always" => platforms::always(out, alloc)?,
+        "item" => names::item(out, words),
+        "covered" => ids::covered(out),
+        _ => graph_call(out, alloc, graph, name, words)?,
+    }
+    Ok(())
 }
 
 /// Makes the calls of a script, in order.
 pub fn make_calls(out: &mut Out, alloc: Global, graph: &PackageGraph, script: &str) {
     for line in script.lines() {
         out.line(format_args!("< {line}"));
-        make_call(out, alloc, graph, line);
+        if let Err(failure) = make_call(out, alloc, graph, line) {
+            out.failure(failure);
+        }
     }
 }

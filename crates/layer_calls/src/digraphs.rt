@@ -98,23 +98,34 @@ fn tell_nodes(out: &mut Out, graph: &Digraph, order: &Order) {
     }
 }
 
-/// What is between two nodes: the number of an edge, and whether they are in one component.
-fn tell_pair(out: &mut Out, graph: &Digraph, order: &Order, from: usize, to: usize) {
-    order.facts();
+/// The edge between two nodes, with its number.
+fn tell_between(out: &mut Out, graph: &Digraph, from: usize, to: usize) {
     if let Some(number) = graph.edge_between(from, to) {
         tell_edge(out, graph.edge(number));
         out.part(format_args!("={number}"));
     }
-    if from < order.list().len() && to < order.list().len() && order.is_same(from, to) {
-        out.part(format_args!(" {from}={to}"));
+}
+
+/// Two nodes that are in one component.
+fn tell_same(out: &mut Out, order: &Order, one: usize, other: usize) {
+    order.facts();
+    if one < order.list().len() && other < order.list().len() && order.is_same(one, other) {
+        out.part(format_args!(" {one}={other}"));
     }
 }
 
-/// What is between each node and each other.
+/// The edges between each node and each other, and the pairs that are in one component.
 fn tell_pairs(out: &mut Out, graph: &Digraph, order: &Order) {
+    out.part("edges:");
     for from in 0..graph.node_count() {
         for to in 0..graph.node_count() {
-            tell_pair(out, graph, order, from, to);
+            tell_between(out, graph, from, to);
+        }
+    }
+    out.part("\nsame:");
+    for one in 0..graph.node_count() {
+        for other in 0..graph.node_count() {
+            tell_same(out, order, one, other);
         }
     }
     out.line("");

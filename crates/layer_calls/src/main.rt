@@ -7,7 +7,13 @@
 mod calls;
 mod digraphs;
 mod failure;
+mod ids;
+mod lists;
+mod long_list;
+mod names;
 mod out;
+mod packages;
+mod platforms;
 mod sets;
 mod words;
 
@@ -43,7 +49,7 @@ fn row_file(rt: &HostRuntime) -> Result<Vec<u8>, Failure> {
 }
 
 /// The package graph of a row file's text, or its first fault.
-fn packages(alloc: Global, text: &str) -> Result<PackageGraph, Failure> {
+fn graph_of(alloc: Global, text: &str) -> Result<PackageGraph, Failure> {
     let lines = Lines::of(alloc, text)?;
     let rows = rows_of(alloc, &lines)?;
     Ok(PackageGraph::from_rows(alloc, &rows)?)
@@ -53,7 +59,7 @@ fn packages(alloc: Global, text: &str) -> Result<PackageGraph, Failure> {
 fn package_graph(rt: &HostRuntime) -> Result<PackageGraph, Failure> {
     let bytes = row_file(rt)?;
     match str::from_utf8(&bytes) {
-        Ok(text) => packages(rt.alloc(), text),
+        Ok(text) => graph_of(rt.alloc(), text),
         Err(_) => Err(Failure::Words),
     }
 }

@@ -69,9 +69,7 @@ pub fn sets(out: &mut Out, alloc: Global, words: &str) -> Result<(), Failure> {
 fn tell_equal(out: &mut Out, one: &IxBitSet, other: &IxBitSet) {
     let (equal, unequal) = (one == other, one != other);
     let identical = one.is_identical(other);
-    out.line(format_args!(
-        "equal {equal}, unequal {unequal}, identical {identical}"
-    ));
+    out.line(format_args!("equal {equal}, unequal {unequal}, identical {identical}"));
 }
 
 /// How a set's copy compares with it.

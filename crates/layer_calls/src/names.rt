@@ -1,0 +1,67 @@
+//! Calls on the texts of items and on package ids.
+use crate::failure::Failure;
+use crate::out::Out;
+use crate::words::plain;
+use guppy_packages::{NamedFeatureDep, PackageId};
+use std::alloc::Global;
+use std::cmp::Ordering;
+
+/// What the text of an item means.
+pub fn item(out: &mut Out, text: &str) {
+    match NamedFeatureDep::from_cargo_string(text) {
+        NamedFeatureDep::NamedFeature(name) => out.line(format_args!("feature {name:?}")),
+        NamedFeatureDep::OptionalDependency(name) => out.line(format_args!("dependency {name:?}")),
+        NamedFeatureDep::DependencyNamedFeature {
+            dep_name,
+            feature,
+            weak,
+        } => {
+            out.part(if weak { "weak " } else { "" });
+            out.line(format_args!("feature {feature:?} of {dep_name:?}"));
+        }
+    }
+}
+
+/// How two values compare, as a sign.
+pub fn sign(order: Ordering) -> char {
+    match order {
+        Ordering::Less => '<',
+        Ordering::Equal => '=',
+        Ordering::Greater => '>',
+    }
+}
+
+fn push_ids(ids: &mut Vec<PackageId>, alloc: Global, words: &str) -> Result<(), Failure> {
+    for word in words.split(' ') {
+        ids.push(PackageId::new(alloc, plain(word))?)?;
+    }
+    Ok(())
+}
+
+/// How an id compares with each.
+fn tell_compared(out: &mut Out, id: &PackageId, ids: &[PackageId]) {
+    out.part(format_args!("{:?}:", id.repr()));
+    for other in ids {
+        out.part(format_args!(" {}", sign(id.cmp(other))));
+    }
+    out.line("");
+}
+
+/// Whether an id's copy is equal to it.
+fn tell_copy(out: &mut Out, alloc: Global, id: &PackageId) {
+    match id.try_clone(alloc) {
+        Ok(copy) => out.line(format_args!("{copy} {}", copy == *id)),
+        Err(_) => out.failure(Failure::Memory),
+    }
+}
+
+/// How each of some package ids compares with each, and whether its copy is equal to it.
+pub fn package_ids(out: &mut Out, alloc: Global, words: &str) -> Result<(), Failure> {
+    let mut ids = Vec::new(alloc);
+    push_ids(&mut ids, alloc, words)?;
+    for id in &ids {
+        tell_compared(out, id, &ids);
+        tell_copy(out, alloc, id);
+    }
+    Ok(())
+}
