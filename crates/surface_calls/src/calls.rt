@@ -1,7 +1,7 @@
 //! Which call a line asks for.
 use crate::given::{cut, given_in, ids_of};
 use crate::out::Out;
-use crate::{look_ups, selections, sets, told, visits};
+use crate::{items, look_ups, selections, sets, shown, told, visits};
 use guppy_features::{FeatureGraph, FeatureGraphData, FeatureGraphExt, FeatureId, PackageGraph};
 use std::alloc::{AllocError, Global};
 
@@ -78,8 +78,11 @@ fn call(
         "packages" => sets::packages(out, alloc, features, ids),
         "of-package" => sets::of_package(out, alloc, features, ids),
         "copy" => sets::clone(out, alloc, features, options, ids),
+        "twice" => visits::twice(out, alloc, features, options, ids),
+        "shown" => shown::shown(out, alloc, features, ids),
         "visit" => visits::visit(out, alloc, features, options, ids),
         "select-ids" => selections::select_ids(out, alloc, features, options, ids),
+        "items" => items::items(out, alloc, features, ids),
         _ => feature_calls(out, alloc, features, name, ids),
     }
 }

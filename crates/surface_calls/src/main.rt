@@ -7,12 +7,14 @@
 mod calls;
 mod filters;
 mod given;
+mod items;
 mod look_ups;
 mod out;
 mod recorder;
 mod rules;
 mod selections;
 mod sets;
+mod shown;
 mod told;
 mod visits;
 

@@ -2,7 +2,7 @@
 use crate::filters::{Choice, Chooser, Counting, SharedChooser};
 use crate::given::{cut, words_of};
 use crate::out::Out;
-use crate::told::{tell_error, tell_members};
+use crate::sets::tell;
 use guppy_features::{
     Error, FeatureFilterFn, FeatureFilterObject, FeatureGraph, FeatureId, FeatureQuery,
     StandardFeatures, feature_id_filter, named_feature_filter,
@@ -14,12 +14,9 @@ use std::rc::Rc;
 /// A query, or why there is none.
 type Selected<'g> = Result<FeatureQuery<'g>, Error<'g>>;
 
-/// Tells the features that were selected, and how often the filter was asked.
-fn tell(out: &mut Out, selected: Selected<'_>, asked: u64) {
-    match selected {
-        Ok(query) => tell_members(out, query.initials()),
-        Err(error) => tell_error(out, error),
-    }
+/// Tells the features that were selected and what they resolve to, and how often the filter was asked.
+fn tell_selected(out: &mut Out, alloc: Global, selected: Selected<'_>, asked: u64) {
+    tell(out, alloc, selected);
     out.line(format_args!("asked {asked}"));
 }
 
@@ -39,7 +36,7 @@ pub fn standard(out: &mut Out, alloc: Global, features: FeatureGraph<'_>, word: 
         asked: 0,
     };
     let selected = features.query_workspace(alloc, &mut filter);
-    tell(out, selected, filter.asked);
+    tell_selected(out, alloc, selected, filter.asked);
 }
 
 /// By a filter that is lent once more.
@@ -101,7 +98,7 @@ pub fn select(out: &mut Out, alloc: Global, features: FeatureGraph<'_>, options:
         asked: 0,
     };
     let selected = in_form(alloc, features, form, &mut chooser);
-    tell(out, selected, chooser.asked);
+    tell_selected(out, alloc, selected, chooser.asked);
 }
 
 /// By the named features of these names, over a base.
@@ -129,7 +126,7 @@ pub fn select_names(
         asked: 0,
     };
     let selected = by_names(alloc, features, &names, &mut base);
-    tell(out, selected, base.asked);
+    tell_selected(out, alloc, selected, base.asked);
     Ok(())
 }
 
@@ -157,5 +154,5 @@ pub fn select_ids<'g>(
         asked: 0,
     };
     let selected = by_ids(alloc, features, ids, &mut base);
-    tell(out, selected, base.asked);
+    tell_selected(out, alloc, selected, base.asked);
 }

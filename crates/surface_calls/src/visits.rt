@@ -65,6 +65,58 @@ fn in_form<'g>(
     }
 }
 
+/// What a query resolves to twice, by one visitor in a box that is lent for the second time.
+fn two_runs<'g>(
+    out: &mut Out,
+    alloc: Global,
+    query: FeatureQuery<'g>,
+    shared: SharedRecorder,
+) -> Result<(), Error<'g>> {
+    let second = query.try_clone(alloc)?;
+    let mut visitor: Box<dyn FeatureLinkObject> = Box::new(alloc, shared)?;
+    tell_set(out, query.resolve_with(alloc, &mut visitor));
+    let mut again = &mut visitor;
+    tell_set(out, second.resolve_with(alloc, &mut again));
+    Ok(())
+}
+
+/// Tells what a query resolves to twice, by one visitor in a box, and how often that was asked.
+fn tell_twice<'g>(
+    out: &mut Out,
+    alloc: Global,
+    query: FeatureQuery<'g>,
+    recorder: Recorder,
+) -> Result<(), Error<'g>> {
+    let count = Rc::new(alloc, Cell::new(0u64))?;
+    let calls = count.clone()?;
+    two_runs(out, alloc, query, SharedRecorder { recorder, calls })?;
+    out.line(format_args!("asked {}", count.get()));
+    Ok(())
+}
+
+/// What the query of the features resolves to twice, by direction and rule of its visitor.
+pub fn twice(
+    out: &mut Out,
+    alloc: Global,
+    features: FeatureGraph<'_>,
+    options: &str,
+    ids: &[FeatureId<'_>],
+) {
+    let (direction, rule) = cut(options);
+    let recorder = Recorder {
+        rule: Rule::of(alloc, rule),
+        calls: 0,
+        out: *out,
+    };
+    let told = match features.query_directed(alloc, ids, direction_of(direction)) {
+        Ok(query) => tell_twice(out, alloc, query, recorder),
+        Err(error) => return tell_error(out, error),
+    };
+    if let Err(error) = told {
+        tell_error(out, error);
+    }
+}
+
 /// Tells what a query resolves to, and how often the visitor was asked.
 fn tell_visit(
     out: &mut Out,
