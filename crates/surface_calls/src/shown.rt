@@ -39,9 +39,8 @@ fn more_filter_texts(out: &mut Out) {
     let by_closure = FeatureFilterFn::new(|_graph, _id| true);
     out.line(format_args!("{by_closure:?}"));
     for each in StandardFeatures::VALUES {
-        out.part(format_args!("{each:?} "));
+        out.line(format_args!("{each:?}"));
     }
-    out.line("");
 }
 
 /// The texts of the graph, of the first feature, of the query of the features, and of filters.
