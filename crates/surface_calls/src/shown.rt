@@ -1,0 +1,60 @@
+//! Debug texts.
+use crate::out::Out;
+use crate::told::tell_error;
+use guppy_features::{
+    Error, FeatureFilterFn, FeatureGraph, FeatureId, FeatureQuery, StandardFeatures,
+    feature_id_filter, named_feature_filter,
+};
+use std::alloc::Global;
+
+/// A query's text, and that of its set of initial features.
+fn query_text(out: &mut Out, query: &FeatureQuery<'_>) {
+    out.line(format_args!("{query:?}"));
+    out.line(format_args!("{:?}", query.initials()));
+}
+
+/// The texts of a feature, and of the list of its package's features.
+fn feature_text(out: &mut Out, alloc: Global, features: FeatureGraph<'_>, id: FeatureId<'_>) {
+    match features.metadata(id) {
+        Ok(metadata) => out.line(format_args!("{metadata:?}")),
+        Err(error) => out.line(format_args!("{error:?}")),
+    }
+    match features.all_features_for(alloc, id.package_id()) {
+        Ok(list) => out.line(format_args!("{list:?}")),
+        Err(error) => out.line(format_args!("{error:?}")),
+    }
+}
+
+/// The texts of filters.
+fn filter_texts<'a>(out: &mut Out, alloc: Global, ids: &[FeatureId<'a>]) -> Result<(), Error<'a>> {
+    let by_names = named_feature_filter(alloc, StandardFeatures::None, &["a"])?;
+    out.line(format_args!("{by_names:?}"));
+    let by_ids = feature_id_filter(alloc, StandardFeatures::None, ids)?;
+    out.line(format_args!("{by_ids:?}"));
+    Ok(())
+}
+
+/// The texts of a closure as a filter, and of the standard filters.
+fn more_filter_texts(out: &mut Out) {
+    let by_closure = FeatureFilterFn::new(|_graph, _id| true);
+    out.line(format_args!("{by_closure:?}"));
+    for each in StandardFeatures::VALUES {
+        out.line(format_args!("{each:?}"));
+    }
+}
+
+/// The texts of the graph, of the first feature, of the query of the features, and of filters.
+pub fn shown(out: &mut Out, alloc: Global, features: FeatureGraph<'_>, ids: &[FeatureId<'_>]) {
+    out.line(format_args!("{features:?}"));
+    if let Some(id) = ids.first() {
+        feature_text(out, alloc, features, *id);
+    }
+    match features.query_forward(alloc, ids) {
+        Ok(query) => query_text(out, &query),
+        Err(error) => tell_error(out, error),
+    }
+    if let Err(error) = filter_texts(out, alloc, ids) {
+        tell_error(out, error);
+    }
+    more_filter_texts(out);
+}
