@@ -18,7 +18,7 @@ A file of cases has, line by line:
     !N LINE            what must stand on standard error, and the exit status N; else nothing and 0
     !N                 the exit status N, and whatever stands on standard error
 
-In a file of the program surface_calls the word FILE stands for the path alone, and a case has also:
+In a file of a program of calls (surface_calls, layer_calls) the word FILE stands for the path alone, and a case has also:
 
     < CALL             a line of standard input, which the program repeats. The word FORM in it stands for each of the four
                        forms of visitors and filters: the case runs four times, and must print the same
@@ -66,7 +66,7 @@ class Case:
         self.line, self.status = '', 0
 
     def has_calls(self):
-        return self.program == 'surface_calls'
+        return self.program.endswith('_calls')
 
     def outs(self):
         """The texts that may be printed."""
@@ -158,7 +158,7 @@ class Run:
         wanted = [(sorted_runs(out) if self.case.has_calls() else out, line, self.case.status) for out in self.outs]
         if came not in wanted:
             return f'{self.words}\n  wanted {" or ".join(map(str, wanted))}\n  came   {came}'
-        if self.case.has_calls():
+        if self.case.program == 'surface_calls':
             return judge.fault_of(self.case.rows, printed.decode().split('\n')[:-1])
         return None
 
