@@ -2,7 +2,7 @@
 use Rattle.std.proofs.Common.{◌≡◌, ℕ, zero, suc, ◌+◌, ◌<◌, ◌⊎◌, inl, inr, ⊎_elim, List, ◌∷◌, [], ◌++◌, length, refl, ap, sym, subst, arith, Some}
 use Rattle.std.specs.Prelude.{Contains, slice_get, slice_index_or}
 use Rattle.std.proofs.lemmas.List.Elements.{Contains-append_left, Contains-append_right, Contains-append_cases}
-use Rattle.feature_core.specs.Adds.{Adds, Below}
+use Rattle.feature_core.specs.inner.Adds.{Adds, Below}
 
 pub Contains-first : {X : Type 0} (x : X) (xs : List X) → Contains (x ∷ xs) x
 Contains-first x xs = (0, omega arith, refl)

@@ -14,8 +14,8 @@ use Rattle.feature_core.specs.declared.packed.Asking.{Asking}
 use Rattle.feature_core.specs.declared.packed.Asking.TheVariants.{Offers, Chosen}
 use Rattle.feature_core.specs.Edges.{EdgeFacts}
 use Rattle.feature_core.specs.Built.{built_edges}
-use Rattle.feature_core.specs.Asking.{ask_in, gate_in, way_in, held, IsTied, IsOrdered, released_place}
-use Rattle.feature_core.specs.OpenWays.{open_way, open_ways}
+use Rattle.feature_core.specs.inner.Asking.{ask_in, gate_in, way_in, held, IsTied, IsOrdered, released_place}
+use Rattle.feature_core.specs.inner.OpenWays.{open_way, open_ways}
 use Rattle.feature_core.proofs.Places.{got_map}
 use Rattle.feature_core.proofs.WayNumbers.{number_way}
 use Rattle.feature_core.proofs.OpenWayLemmas.{ends_are_nodes, edge_way}

@@ -19,8 +19,8 @@ use Rattle.feature_core.specs.Pairs.Along.{nowhere, onward}
 use Rattle.feature_core.specs.Built.{built_edges}
 use Rattle.feature_core.specs.Choices.{is_chosen, chosen_pairs}
 use Rattle.feature_core.specs.Ways.{start_of, far_of}
-use Rattle.feature_core.specs.ChosenWays.{ask_where, chosen_way, chosen_content}
-use Rattle.feature_core.specs.OpenWays.{open_way, open_ways}
+use Rattle.feature_core.specs.inner.ChosenWays.{ask_where, chosen_way, chosen_content}
+use Rattle.feature_core.specs.inner.OpenWays.{open_way, open_ways}
 use Rattle.feature_core.proofs.Answered.{clash}
 use Rattle.feature_core.proofs.Places.{got_map}
 use Rattle.feature_core.proofs.Reaches.{reach_in, reach_more, open_nobody, open_cases}

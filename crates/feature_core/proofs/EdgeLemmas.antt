@@ -5,8 +5,8 @@ use Rattle.std.proofs.lemmas.List.Elements.{All-contains}
 use Rattle.guppy_packages.specs.Tables.{Tables}
 use Rattle.feature_core.specs.Candidates.{Edge, Candidate, IsEdge, rank_of}
 use Rattle.feature_core.specs.declared.key.Key.{Key}
-use Rattle.feature_core.specs.Keys.{AreLeast, IsBefore}
-use Rattle.feature_core.specs.Parts.{IsOfTables}
+use Rattle.feature_core.specs.inner.Keys.{AreLeast, IsBefore}
+use Rattle.feature_core.specs.inner.Parts.{IsOfTables}
 use Rattle.feature_core.proofs.AddsLemmas.{Contains-cases, Contains-none}
 use Rattle.feature_core.proofs.PartLemmas.{NamesDiffer, contributed}
 

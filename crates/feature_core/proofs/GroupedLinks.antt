@@ -14,7 +14,7 @@ use Rattle.indexmap.proofs.MapLemmas.{some_index}
 use Rattle.guppy_packages.specs.Rows.{Text}
 use Rattle.guppy_packages.specs.Tables.{LinkTable, Tables}
 use Rattle.feature_core.specs.Links.{numbered}
-use Rattle.feature_core.specs.NamedLinks.{link_numbers}
+use Rattle.feature_core.specs.inner.NamedLinks.{link_numbers}
 use Rattle.feature_core.proofs.NodeLemmas.{take-next, take-all, append-none}
 
 abbrev pub is_under : ℕ → Text → ℕ × Bor (List ℕ) → Bool

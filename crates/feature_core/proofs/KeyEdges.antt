@@ -4,8 +4,8 @@ use Rattle.guppy_packages.specs.Tables.{Tables}
 use Rattle.feature_core.specs.Links.{LinkFacts}
 use Rattle.feature_core.specs.Candidates.{Edge, feature_to_base, named_feature, dep_colon, slash_full, slash_optional, slash_weak, section, rank_of, Candidate}
 use Rattle.feature_core.specs.Edges.{EdgeFacts, base_edge, feature_edge, facts_of}
-use Rattle.feature_core.specs.Made.{IsValueOf}
-use Rattle.feature_core.specs.Parts.{IsOfTables}
+use Rattle.feature_core.specs.inner.Made.{IsValueOf}
+use Rattle.feature_core.specs.inner.Parts.{IsOfTables}
 use Rattle.feature_core.specs.declared.key.Key.{Key}
 use Rattle.feature_core.proofs.KeySays.{Says, SaysColon, SaysOver, SaysBeside, SaysSection}
 use Rattle.feature_core.proofs.PartLemmas.{NamesDiffer, stands_for}

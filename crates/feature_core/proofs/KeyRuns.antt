@@ -6,7 +6,7 @@ use Rattle.std.proofs.lemmas.List.{get_or-take, get_or-drop, length-take-le, len
 use Rattle.std.proofs.lemmas.Bool.Decides.{nat_tests}
 use Rattle.std.proofs.lemmas.List.Kept.{AllPairs-filter}
 use Rattle.feature_core.specs.declared.key.Key.{Key}
-use Rattle.feature_core.specs.Keys.{IsNoLater, IsRun, AreOfRank, is_pair_below, is_pair_up_to}
+use Rattle.feature_core.specs.inner.Keys.{IsNoLater, IsRun, AreOfRank, is_pair_below, is_pair_up_to}
 use Rattle.feature_core.proofs.AddsLemmas.{Contains-cases, Contains-none}
 
 clash : (b : Bool) → b ≡ true → b ≡ false → ⊥

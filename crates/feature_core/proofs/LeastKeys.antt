@@ -9,7 +9,7 @@ use Rattle.std.proofs.lemmas.List.Kept.{AllPairs-cons, Contains-from_dedup}
 use Rattle.std.specs.Prelude.{IsPermutation}
 use Rattle.std.proofs.lemmas.List.Sorted.{Contains-permutation, IsPermutation-sym}
 use Rattle.feature_core.specs.declared.key.Key.{Key}
-use Rattle.feature_core.specs.Keys.{IsBefore, IsPair, IsUpTo, IsNoLater, IsServed, AreLeast}
+use Rattle.feature_core.specs.inner.Keys.{IsBefore, IsPair, IsUpTo, IsNoLater, IsServed, AreLeast}
 
 abbrev pub same_pair : Key → Key → Bool
 same_pair a b = (a.from == b.from) && (a.to == b.to)

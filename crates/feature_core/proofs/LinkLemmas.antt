@@ -13,12 +13,12 @@ use Rattle.guppy_packages.specs.declared.row.DependencyKind.TheVariants.{Normal,
 use Rattle.feature_labels.specs.declared.link_declarations.LinkDeclarations.{LinkDeclarations}
 use Rattle.feature_labels.specs.declared.link_declarations.LinkDeclarations.TheVariants.{Unsplit}
 use Rattle.feature_core.specs.declared.link.statuses.KindCollectors.{KindCollectors}
-use Rattle.feature_core.specs.declared.link.building.LinkParts.{LinkParts}
+use Rattle.feature_core.specs.declared.link.from_declarations.LinkParts.{LinkParts}
 use Rattle.feature_core.specs.Links.{LinkFacts, IsLink, includes, is_kind, joined, platforms_of, status_of, over, over_parts, at_places, links_at, links_named, numbered, has_declaration}
-use Rattle.feature_core.specs.NamedLinks.{link_numbers}
+use Rattle.feature_core.specs.inner.NamedLinks.{link_numbers}
 use Rattle.feature_core.specs.Candidates.{unsplit_of}
 use Rattle.feature_core.specs.Edges.{half_of, half_over}
-use Rattle.feature_core.specs.Collected.{HasKinds, HasParts}
+use Rattle.feature_core.specs.inner.Collected.{HasKinds, HasParts}
 
 -- after these declarations, given in a row; whether there was one
 pub record Gathers (old new : KindCollectors) (any : Bool) (declarations : List Declared) : Type 0 where

@@ -12,7 +12,7 @@ use Rattle.guppy_support.specs.Rows.{places, places_from}
 use Rattle.guppy_packages.specs.declared.direction.DependencyDirection.{DependencyDirection}
 use Rattle.guppy_packages.specs.declared.direction.DependencyDirection.TheVariants.{Forward, Reverse}
 use Rattle.walk_engine.specs.Walks.{Way, IsWay, EndsAreNodes, numbers_where, starting, is_gated}
-use Rattle.feature_core.specs.OpenWays.{open_way, open_ways}
+use Rattle.feature_core.specs.inner.OpenWays.{open_way, open_ways}
 use Rattle.feature_core.proofs.Answered.{clash}
 use Rattle.feature_core.proofs.Places.{got_map}
 

@@ -16,10 +16,10 @@ use Rattle.feature_core.specs.Nodes.{node_packages, node_places}
 use Rattle.feature_core.specs.Edges.{EdgeFacts, AreBuilt}
 use Rattle.feature_core.specs.Edges.EdgeFacts.{base_edge, feature_edge, colon_edge, strong_edge, weak_edge, section_edge}
 use Rattle.walk_engine.specs.Walks.{Way, EndsAreNodes, numbers_where, starting, releasing, told, taken_of, is_gated, is_in}
-use Rattle.feature_core.specs.OpenWays.{open_way, open_ways}
+use Rattle.feature_core.specs.inner.OpenWays.{open_way, open_ways}
 use Rattle.feature_core.specs.Built.{built_edges}
 use Rattle.feature_core.specs.Ways.{way, ways, content, asked, gate_of, gate_at, GatesAreNodes}
-use Rattle.feature_core.specs.Releases.{AreTied, released_by, releases_from}
+use Rattle.feature_core.specs.inner.Releases.{AreTied, released_by, releases_from}
 use Rattle.feature_core.proofs.Answered.{decide}
 use Rattle.feature_core.proofs.WayNumbers.{is_in_at}
 use Rattle.feature_core.proofs.Places.{got_map, got_same}

@@ -13,8 +13,8 @@ use Rattle.guppy_packages.specs.declared.direction.DependencyDirection.TheVarian
 use Rattle.feature_core.specs.Pairs.{Along, nowhere, onward, ReachAlong, Reach, PairLeads, LeadsTo, IsPairList, IsBefore}
 use Rattle.feature_core.specs.Candidates.{Candidate}
 use Rattle.feature_core.specs.declared.key.Key.{Key}
-use Rattle.feature_core.specs.Keys.{AreLeast, edge_of, IsBefore as Before}
-use Rattle.feature_core.specs.Parts.{IsOfTables}
+use Rattle.feature_core.specs.inner.Keys.{AreLeast, edge_of, IsBefore as Before}
+use Rattle.feature_core.specs.inner.Parts.{IsOfTables}
 use Rattle.feature_core.specs.BuiltOnce.{pair_there-prop}
 use Rattle.feature_core.proofs.PushLemmas.{from_map, into_map}
 use Rattle.feature_core.proofs.PartLemmas.{NamesDiffer, contributed, stands_for}

@@ -12,7 +12,7 @@ use Rattle.std.proofs.lemmas.Bool.Decides.{nat_tests}
 use Rattle.feature_core.specs.Edges.{EdgeFacts}
 use Rattle.feature_core.specs.Pairs.{IsBefore}
 use Rattle.feature_core.specs.Ways.{gate_of}
-use Rattle.feature_core.specs.Releases.{releases_from, IsUpTo, AreReleases}
+use Rattle.feature_core.specs.inner.Releases.{releases_from, IsUpTo, AreReleases}
 use Rattle.feature_core.proofs.Answered.{decide, clash}
 use Rattle.feature_core.proofs.Released.{Contains-first, Contains-later, Contains-cases, none_contained, AllPairs-first, AllPairs-later}
 

@@ -11,12 +11,12 @@ use Rattle.guppy_packages.specs.Rows.{Text, Declared}
 use Rattle.guppy_packages.specs.Tables.{LinkTable, Tables}
 use Rattle.feature_labels.specs.Names.{LabelName}
 use Rattle.feature_labels.specs.Names.LabelName.{base, named, optional}
-use Rattle.feature_core.specs.Adds.{Adds, Below}
+use Rattle.feature_core.specs.inner.Adds.{Adds, Below}
 use Rattle.feature_core.specs.Nodes.{NodeAt, first_node}
 use Rattle.feature_core.specs.Links.{IsLink}
 use Rattle.feature_core.specs.Candidates.{requests}
 use Rattle.feature_core.specs.declared.key.Key.{Key}
-use Rattle.feature_core.specs.Parts.{key, IsTo, start_of, IsRequest, IsOfDeclarationAt, IsOfLinkAt}
+use Rattle.feature_core.specs.inner.Parts.{key, IsTo, start_of, IsRequest, IsOfDeclarationAt, IsOfLinkAt}
 use Rattle.feature_core.proofs.Places.{got_same}
 use Rattle.feature_core.proofs.PartLemmas.{base_back, list_any_there, list_any_back}
 use Rattle.feature_core.proofs.AddsLemmas.{Adds-nothing, Adds-then, Adds-as, Adds-turn}

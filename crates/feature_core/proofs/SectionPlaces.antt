@@ -23,8 +23,8 @@ use Rattle.feature_core.proofs.SectionLemmas.{ArePassing}
 use Rattle.feature_core.specs.Links.{LinkFacts, IsLink, includes, has_declaration}
 use Rattle.feature_core.specs.Candidates.{requests, requesting}
 use Rattle.feature_core.specs.declared.key.Key.{Key}
-use Rattle.feature_core.specs.Keys.{IsNoLater, IsRun}
-use Rattle.feature_core.specs.Parts.{key, IsOfItem, IsOfPackageAt, IsOfTables, start_of}
+use Rattle.feature_core.specs.inner.Keys.{IsNoLater, IsRun}
+use Rattle.feature_core.specs.inner.Parts.{key, IsOfItem, IsOfPackageAt, IsOfTables, start_of}
 use Rattle.std.proofs.lemmas.List.Elements.{Contains-get_or}
 use Rattle.feature_core.proofs.PushLemmas.{from_map, into_map}
 use Rattle.feature_core.proofs.KeySays.{SaysSection}

@@ -19,7 +19,7 @@ use Rattle.guppy_packages.proofs.Firsts.{firsts-push}
 use Rattle.guppy_packages.proofs.Lists.{list_any-map}
 use Rattle.feature_core.specs.declared.link.statuses.StatusCollector.{StatusCollector}
 use Rattle.feature_core.specs.Links.{is_kind, platforms_of}
-use Rattle.feature_core.specs.Collected.{HasPlatforms, texts_in}
+use Rattle.feature_core.specs.inner.Collected.{HasPlatforms, texts_in}
 
 text_along : (a b c : Text) → bytes_eq a b ≡ true → bytes_eq b c ≡ true → bytes_eq a c ≡ true
 text_along a b c h k = (bytes_decides a c).1 ((bytes_decides a b).0 h ∙ (bytes_decides b c).0 k)

@@ -5,7 +5,7 @@ use Rattle.std.proofs.lemmas.List.{length-take-le}
 use Rattle.std.proofs.lemmas.Option.{slice_get_within}
 use Rattle.guppy_packages.specs.Tables.{Tables}
 use Rattle.feature_core.specs.Edges.{EdgeFacts}
-use Rattle.feature_core.specs.Made.{IsValueOf, AreValues}
+use Rattle.feature_core.specs.inner.Made.{IsValueOf, AreValues}
 use Rattle.feature_core.specs.declared.key.Key.{Key}
 use Rattle.feature_core.proofs.Places.{get_cases}
 

@@ -16,8 +16,8 @@ use Rattle.feature_labels.specs.declared.link_declarations.LinkDeclarations.TheV
 use Rattle.feature_core.specs.Nodes.{NodeAt, first_node}
 use Rattle.feature_core.specs.Links.{IsLink, has_declaration}
 use Rattle.feature_core.specs.Edges.{IsGate, first_ones}
-use Rattle.feature_core.specs.Parts.{key, over_rank, IsOfItem, IsOfPackageAt, IsOfLinkAt, IsOfTables}
-use Rattle.feature_core.specs.Weak.{IsOptionalLink, AreGates, weak_source, weak_sources}
+use Rattle.feature_core.specs.inner.Parts.{key, over_rank, IsOfItem, IsOfPackageAt, IsOfLinkAt, IsOfTables}
+use Rattle.feature_core.specs.inner.Weak.{IsOptionalLink, AreGates, weak_source, weak_sources}
 use Rattle.feature_core.specs.declared.key.Key.{Key}
 use Rattle.feature_core.proofs.LabelLemmas.{optional_label}
 use Rattle.feature_core.proofs.NodeLabels.{element_within}

@@ -1,7 +1,8 @@
 -- What is built of tables.
-use Rattle.std.specs.Prelude.{◌≡◌, ◌↔◌, ℕ, List, Bool, Some, Contains, map, not, slice_get}
+use Rattle.std.specs.Prelude.{◌≡◌, ◌↔◌, ℕ, List, Bool, Some, Contains, length, map, not, slice_get}
 use Rattle.std.specs.List.{zip}
 use Rattle.guppy_support.specs.declared.digraph.Edge.{Edge}
+use Rattle.guppy_support.specs.Graph.{Graph}
 use Rattle.guppy_packages.specs.Rows.{Text}
 use Rattle.guppy_packages.specs.Tables.{PackageTable, Tables}
 use Rattle.feature_labels.specs.Names.{LabelName}
@@ -54,3 +55,7 @@ built_edges edges facts = map (λ p. (p.0.from, p.0.to, p.1)) (zip edges facts)
 -- the edge of a digraph: its two nodes, and whether it is more than dev-only
 abbrev pub end_of : ℕ × ℕ × EdgeFacts → Edge
 end_of e = record { from = e.0; to = e.1; non_dev = not (is_dev_only e.2) }
+
+-- the digraph of the nodes
+abbrev pub digraph_of : Built → Graph
+digraph_of b = record { nodes = length b.packages; edges = map end_of b.edges }

@@ -10,10 +10,10 @@ ghost use Rattle.guppy_packages.specs.NamedFeature.{feature_table};
 ghost use Rattle.guppy_packages.specs.Stored.{declared};
 ghost use Rattle.feature_labels.specs.Names.LabelName.{base, named, optional};
 ghost use Rattle.feature_core.specs.declared.key.Key.{Key as KeyValue};
-ghost use Rattle.feature_core.specs.Adds.{Adds, Below};
+ghost use Rattle.feature_core.specs.inner.Adds.{Adds, Below};
 ghost use Rattle.feature_core.specs.Nodes.{NodeAt, first_node, labels_of};
-ghost use Rattle.feature_core.specs.NamedLinks.{AreNamedLinks};
-ghost use Rattle.feature_core.specs.Parts.{key, over_rank, IsToFirst, IsOverLink, start_of, IsOver, IsBeside, IsOfItem, IsOfItemAt, IsOfFeatureAt, IsOfPackageAt, IsRequest, IsOfDeclarationAt, IsOfLinkAt, IsOfTables};
+ghost use Rattle.feature_core.specs.inner.NamedLinks.{AreNamedLinks};
+ghost use Rattle.feature_core.specs.inner.Parts.{key, over_rank, IsToFirst, IsOverLink, start_of, IsOver, IsBeside, IsOfItem, IsOfItemAt, IsOfFeatureAt, IsOfPackageAt, IsRequest, IsOfDeclarationAt, IsOfLinkAt, IsOfTables};
 
 use crate::declarations::push_links;
 use crate::key::Key;

@@ -3,10 +3,10 @@ ghost use Rattle.std.specs.Prelude.{◌≡◌, ◌<◌, ◌↔◌, ℕ, OnOk, So
 ghost use Rattle.guppy_packages.specs.Tables.{LinkTable};
 ghost use Rattle.guppy_packages.specs.Metadata.{package_graph_of, link_graph_of, link_table_of};
 ghost use Rattle.guppy_packages.specs.Stored.{declared};
-ghost use Rattle.feature_core.specs.Adds.{Adds};
+ghost use Rattle.feature_core.specs.inner.Adds.{Adds};
 ghost use Rattle.feature_core.specs.Links.{IsLink};
 ghost use Rattle.feature_core.specs.Nodes.{NodeAt};
-ghost use Rattle.feature_core.specs.Parts.{start_of, IsRequest, IsOfDeclarationAt, IsOfLinkAt};
+ghost use Rattle.feature_core.specs.inner.Parts.{start_of, IsRequest, IsOfDeclarationAt, IsOfLinkAt};
 
 use crate::candidates::push_to;
 use crate::key::Key;

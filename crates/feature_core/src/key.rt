@@ -1,6 +1,6 @@
 //! Candidates for edges as small keys, and the least of each pair of nodes.
 ghost use Rattle.std.specs.Prelude.{◌≡◌, ◌==◌, IsPermutation, AllPairs, IfOk, filter};
-ghost use Rattle.feature_core.specs.Keys.{IsNoLater, AreLeast, IsRun, AreOfRank, is_pair_below, is_pair_up_to};
+ghost use Rattle.feature_core.specs.inner.Keys.{IsNoLater, AreLeast, IsRun, AreOfRank, is_pair_below, is_pair_up_to};
 
 use std::alloc::{AllocError, Global};
 

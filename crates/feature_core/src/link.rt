@@ -6,7 +6,7 @@ ghost use Rattle.feature_core.specs.Edges.{is_dev_link};
 ghost use Rattle.feature_core.specs.Present.{is_present};
 ghost use Rattle.feature_core.specs.Values.{link_facts, half_facts};
 
-pub(crate) mod building;
+pub(crate) mod from_declarations;
 mod statuses;
 
 use feature_labels::LinkDeclarations;

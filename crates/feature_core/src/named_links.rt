@@ -2,7 +2,7 @@
 ghost use Rattle.std.specs.Prelude.{◌≡◌, ◌++◌, ◌∷◌, [], ◌==◌, ◌&&◌, ℕ, IfOk, OnOk, if◌then◌else◌};
 ghost use Rattle.std.specs.Str.{bytes_eq};
 ghost use Rattle.guppy_packages.specs.Rows.{Text};
-ghost use Rattle.feature_core.specs.NamedLinks.{numbers_under, AreNamedLinks};
+ghost use Rattle.feature_core.specs.inner.NamedLinks.{numbers_under, AreNamedLinks};
 
 use crate::text_map::TextMap;
 use guppy_packages::PackageGraph;

@@ -3,16 +3,16 @@ ghost use Rattle.std.specs.Prelude.{◌≡◌, ◌+◌, ◌^◌, ◌<◌, ℕ, S
 ghost use Rattle.walk_engine.specs.Walks.{Content, EndsAreNodes, starting, releasing, told};
 ghost use Rattle.feature_core.specs.Built.{built_edges};
 ghost use Rattle.feature_core.specs.Ways.{asked, content, waits, GatesAreNodes, Reading};
-ghost use Rattle.feature_core.specs.Asking.{ask_in, held, IsTied, IsOrdered, released_place};
-ghost use Rattle.feature_core.specs.ChosenWays.{ask_where, chosen_content};
-ghost use Rattle.feature_core.specs.OpenWays.{open_way, open_ways};
-ghost use Rattle.feature_core.specs.Releases.{AreTied};
+ghost use Rattle.feature_core.specs.inner.Asking.{ask_in, held, IsTied, IsOrdered, released_place};
+ghost use Rattle.feature_core.specs.inner.ChosenWays.{ask_where, chosen_content};
+ghost use Rattle.feature_core.specs.inner.OpenWays.{open_way, open_ways};
+ghost use Rattle.feature_core.specs.inner.Releases.{AreTied};
 ghost use Rattle.feature_core.specs.Values.{edge_facts};
 
-use crate::data::FeatureGraphData;
 use crate::edge::{EdgeChoice, FeatureEdge, SlashForm};
 use crate::engine::{Ask, EdgeSource, Taken};
-use crate::releases::released_at;
+use crate::feature_graph_data::FeatureGraphData;
+use crate::gates::released_at;
 use guppy_packages::DependencyDirection;
 use guppy_support::{Digraph, Edge};
 use indexmap::IndexMap;
@@ -90,7 +90,7 @@ pub struct Packed<'a> {
 
 impl<'a> Model for Packed<'a> {
     ghost use Rattle.std.specs.Prelude.{map};
-    ghost use Rattle.feature_core.specs.Asking.{held, IsTied};
+    ghost use Rattle.feature_core.specs.inner.Asking.{held, IsTied};
     ghost use Rattle.feature_core.specs.Built.{built_edges};
     ghost use Rattle.feature_core.specs.Ways.{Reading};
     ghost use Rattle.feature_core.specs.Values.{edge_facts};

@@ -6,7 +6,7 @@ ghost use Rattle.guppy_packages.specs.Metadata.{package_id_of, package_graph_of,
 ghost use Rattle.guppy_packages.specs.NamedFeature.{feature_table};
 ghost use Rattle.guppy_packages.specs.Stored.{declared};
 ghost use Rattle.guppy_packages.specs.Tables.{has_name};
-ghost use Rattle.feature_core.specs.NamedLinks.{AreNamedLinks, link_numbers};
+ghost use Rattle.feature_core.specs.inner.NamedLinks.{AreNamedLinks, link_numbers};
 ghost use Rattle.feature_core.specs.Links.{links_named};
 ghost use Rattle.feature_core.specs.Warnings.{warnings_in, missing_feature, self_loop, lack_of, lack_over, lacks_over, of_item, of_package, of_link, warnings};
 

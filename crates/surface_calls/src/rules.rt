@@ -1,10 +1,28 @@
 //! Which links a visitor accepts.
 use crate::given::cut;
-use guppy_features::{ConditionalLink, DependencyKind, PlatformStatus};
+use guppy_features::{ConditionalLink, DependencyKind, PlatformStatus, Spec};
 use std::alloc::Global;
 
-/// The specs that a rule may name.
-const SPECS: [&str; 4] = ["cfg(unix)", "cfg(any())", "cfg(a)", "cfg(b)"];
+/// The spec of this number that a rule may name, or a text that is none. (What a box holds has no texts.)
+fn spec_at(number: u8) -> &'static str {
+    match number {
+        1 => "cfg(unix)",
+        2 => "cfg(any())",
+        3 => "cfg(a)",
+        4 => "cfg(b)",
+        _ => "no spec",
+    }
+}
+
+/// The number of a spec.
+fn spec_number(word: &str) -> u8 {
+    for number in 1..5 {
+        if spec_at(number) == word {
+            return number;
+        }
+    }
+    0
+}
 
 /// The kinds and the spec of one platform.
 #[derive(Clone, Copy)]
@@ -12,7 +30,8 @@ pub struct Platform {
     normal: bool,
     build: bool,
     dev: bool,
-    spec: Option<&'static str>,
+    /// The number of its spec.
+    spec: u8,
 }
 
 /// Which links a visitor accepts.
@@ -45,18 +64,22 @@ impl Platform {
             normal: lists(kinds, "normal"),
             build: lists(kinds, "build"),
             dev: lists(kinds, "dev"),
-            spec: SPECS.iter().copied().find(|one| *one == spec),
+            spec: spec_number(spec),
         }
+    }
+
+    /// Whether its spec is among these.
+    fn is_among(self, specs: &[Spec]) -> bool {
+        let spec = spec_at(self.spec);
+        specs.iter().any(|one| one.text() == spec)
     }
 
     /// Whether a status holds on it.
     fn meets(self, status: PlatformStatus<'_>) -> bool {
-        match (status, self.spec) {
-            (PlatformStatus::Always, _) => true,
-            (PlatformStatus::PlatformDependent(specs), Some(spec)) => {
-                specs.iter().any(|one| one.text() == spec)
-            }
-            _ => false,
+        match status {
+            PlatformStatus::Never => false,
+            PlatformStatus::Always => true,
+            PlatformStatus::PlatformDependent(specs) => self.is_among(specs),
         }
     }
 

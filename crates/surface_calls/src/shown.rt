@@ -2,7 +2,7 @@
 use crate::out::Out;
 use crate::told::tell_error;
 use guppy_features::{
-    Error, FeatureFilterFn, FeatureGraph, FeatureId, FeatureQuery, StandardFeatures,
+    FeatureFilterFn, FeatureGraph, FeatureId, FeatureQuery, StandardFeatures,
     feature_id_filter, named_feature_filter,
 };
 use std::alloc::Global;
@@ -25,13 +25,20 @@ fn feature_text(out: &mut Out, alloc: Global, features: FeatureGraph<'_>, id: Fe
     }
 }
 
-/// The texts of filters.
-fn filter_texts<'a>(out: &mut Out, alloc: Global, ids: &[FeatureId<'a>]) -> Result<(), Error<'a>> {
-    let by_names = named_feature_filter(alloc, StandardFeatures::None, &["a"])?;
-    out.line(format_args!("{by_names:?}"));
-    let by_ids = feature_id_filter(alloc, StandardFeatures::None, ids)?;
-    out.line(format_args!("{by_ids:?}"));
-    Ok(())
+/// The text of a filter over names.
+fn names_text<'a>(out: &mut Out, alloc: Global, names: &[&'a str]) {
+    match named_feature_filter(alloc, StandardFeatures::None, names) {
+        Ok(filter) => out.line(format_args!("{filter:?}")),
+        Err(error) => tell_error(out, error),
+    }
+}
+
+/// The text of a filter over ids.
+fn ids_text<'a>(out: &mut Out, alloc: Global, ids: &[FeatureId<'a>]) {
+    match feature_id_filter(alloc, StandardFeatures::None, ids) {
+        Ok(filter) => out.line(format_args!("{filter:?}")),
+        Err(error) => tell_error(out, error),
+    }
 }
 
 /// The texts of a closure as a filter, and of the standard filters.
@@ -53,8 +60,7 @@ pub fn shown(out: &mut Out, alloc: Global, features: FeatureGraph<'_>, ids: &[Fe
         Ok(query) => query_text(out, &query),
         Err(error) => tell_error(out, error),
     }
-    if let Err(error) = filter_texts(out, alloc, ids) {
-        tell_error(out, error);
-    }
+    names_text(out, alloc, &["a"]);
+    ids_text(out, alloc, ids);
     more_filter_texts(out);
 }

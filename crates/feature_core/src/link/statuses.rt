@@ -7,7 +7,7 @@ ghost use Rattle.guppy_packages.specs.Platform.{platform_specs, impl_status, spe
 ghost use Rattle.guppy_packages.specs.Rows.{Text, Declared};
 ghost use Rattle.guppy_packages.specs.Stored.{declared};
 ghost use Rattle.feature_core.specs.Links.{joined};
-ghost use Rattle.feature_core.specs.Collected.{HasPlatforms, HasKinds, texts_in};
+ghost use Rattle.feature_core.specs.inner.Collected.{HasPlatforms, HasKinds, texts_in};
 
 use crate::text_map::TextSet;
 use guppy_packages::{Declaration, DependencyKind, PlatformStatusImpl, Spec};

@@ -1,6 +1,6 @@
 use Rattle.std.proofs.Common.{arith}
 use Rattle.guppy_packages.specs.NamedFeature.{feature_table}
-use Rattle.feature_core.specs.Parts.{IsOfItemAt}
+use Rattle.feature_core.specs.inner.Parts.{IsOfItemAt}
 use Rattle.feature_core.proofs.AddsLemmas.{Adds-turn, Adds-start}
 use Rattle.feature_core.proofs.PushLemmas.{item_at, items_within, Adds-all}
 use Rattle.feature_core.proofs.candidates.push_feature.Goals as goal

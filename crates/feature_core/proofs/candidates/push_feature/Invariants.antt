@@ -1,6 +1,6 @@
 use Rattle.guppy_packages.specs.NamedFeature.{feature_table}
-use Rattle.feature_core.specs.Adds.{Adds, Below}
-use Rattle.feature_core.specs.Parts.{IsOfItemAt}
+use Rattle.feature_core.specs.inner.Adds.{Adds, Below}
+use Rattle.feature_core.specs.inner.Parts.{IsOfItemAt}
 use Rattle.feature_core.proofs.candidates.push_feature.Given as goal
 
 abbrev pub invariant-loop-ix : goal.invariant-loop-ix

@@ -5,7 +5,7 @@ use Rattle.std.proofs.lemmas.List.{length-map}
 use Rattle.std.proofs.lemmas.Option.{slice_get-map, slice_get_read}
 use Rattle.guppy_packages.specs.NamedFeature.{feature_table}
 use Rattle.guppy_packages.specs.Metadata.{package_table_of}
-use Rattle.feature_core.specs.Parts.{IsOfFeatureAt}
+use Rattle.feature_core.specs.inner.Parts.{IsOfFeatureAt}
 use Rattle.feature_core.proofs.AddsLemmas.{Adds-turn, Adds-start}
 use Rattle.feature_core.proofs.PushLemmas.{feature_at, features_within, Adds-all}
 use Rattle.feature_core.proofs.candidates.push_features.Goals as goal

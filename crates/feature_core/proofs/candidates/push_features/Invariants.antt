@@ -1,6 +1,6 @@
 use Rattle.guppy_packages.specs.Metadata.{package_table_of}
-use Rattle.feature_core.specs.Adds.{Adds, Below}
-use Rattle.feature_core.specs.Parts.{IsOfFeatureAt}
+use Rattle.feature_core.specs.inner.Adds.{Adds, Below}
+use Rattle.feature_core.specs.inner.Parts.{IsOfFeatureAt}
 use Rattle.feature_core.proofs.candidates.push_features.Given as goal
 
 abbrev pub invariant-loop-ix : goal.invariant-loop-ix

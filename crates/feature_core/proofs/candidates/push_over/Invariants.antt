@@ -1,4 +1,4 @@
-use Rattle.feature_core.specs.Adds.{Adds, Below}
+use Rattle.feature_core.specs.inner.Adds.{Adds, Below}
 use Rattle.feature_core.proofs.PushLemmas.{OverAt}
 use Rattle.feature_core.proofs.candidates.push_over.Given as goal
 

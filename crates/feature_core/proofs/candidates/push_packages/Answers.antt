@@ -1,6 +1,6 @@
 use Rattle.std.proofs.Common.{arith, subst}
-use Rattle.feature_core.specs.Adds.{Adds}
-use Rattle.feature_core.specs.Parts.{IsOfPackageAt}
+use Rattle.feature_core.specs.inner.Adds.{Adds}
+use Rattle.feature_core.specs.inner.Parts.{IsOfPackageAt}
 use Rattle.feature_core.proofs.AddsLemmas.{Adds-turn, Adds-start}
 use Rattle.feature_core.proofs.PushLemmas.{packages_within, Adds-all}
 use Rattle.feature_core.proofs.candidates.push_packages.Goals as goal

@@ -1,5 +1,5 @@
-use Rattle.feature_core.specs.Adds.{Adds, Below}
-use Rattle.feature_core.specs.Parts.{IsOfPackageAt}
+use Rattle.feature_core.specs.inner.Adds.{Adds, Below}
+use Rattle.feature_core.specs.inner.Parts.{IsOfPackageAt}
 use Rattle.feature_core.proofs.candidates.push_packages.Given as goal
 
 abbrev pub invariant-loop-ix : goal.invariant-loop-ix

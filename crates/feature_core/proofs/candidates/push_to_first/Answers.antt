@@ -1,5 +1,5 @@
 use Rattle.std.proofs.Common.{arith, inr}
-use Rattle.feature_core.specs.Parts.{IsToFirst}
+use Rattle.feature_core.specs.inner.Parts.{IsToFirst}
 use Rattle.feature_core.proofs.AddsLemmas.{Adds-turn}
 use Rattle.feature_core.proofs.PushLemmas.{first_pushed, first_none, first_end}
 use Rattle.feature_core.proofs.candidates.push_to_first.Goals as goal

@@ -1,5 +1,5 @@
-use Rattle.feature_core.specs.Adds.{Adds, Below}
-use Rattle.feature_core.specs.Parts.{IsToFirst}
+use Rattle.feature_core.specs.inner.Adds.{Adds, Below}
+use Rattle.feature_core.specs.inner.Parts.{IsToFirst}
 use Rattle.feature_core.proofs.candidates.push_to_first.Given as goal
 
 abbrev pub invariant-loop-place : goal.invariant-loop-place

@@ -1,4 +1,4 @@
-use Rattle.feature_core.specs.Adds.{Adds, Below}
+use Rattle.feature_core.specs.inner.Adds.{Adds, Below}
 use Rattle.feature_core.proofs.RequestLemmas.{IsOfDeclaration}
 use Rattle.feature_core.proofs.declarations.push_link.Given as goal
 

@@ -1,5 +1,5 @@
 use Rattle.std.proofs.Common.{arith}
-use Rattle.feature_core.specs.Parts.{IsOfLinkAt}
+use Rattle.feature_core.specs.inner.Parts.{IsOfLinkAt}
 use Rattle.feature_core.proofs.AddsLemmas.{Adds-turn, Adds-start}
 use Rattle.feature_core.proofs.PushLemmas.{links_within, Adds-all}
 use Rattle.feature_core.proofs.declarations.push_links.Goals as goal

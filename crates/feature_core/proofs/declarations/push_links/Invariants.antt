@@ -1,5 +1,5 @@
-use Rattle.feature_core.specs.Adds.{Adds, Below}
-use Rattle.feature_core.specs.Parts.{IsOfLinkAt}
+use Rattle.feature_core.specs.inner.Adds.{Adds, Below}
+use Rattle.feature_core.specs.inner.Parts.{IsOfLinkAt}
 use Rattle.feature_core.proofs.declarations.push_links.Given as goal
 
 abbrev pub invariant-loop-ix : goal.invariant-loop-ix

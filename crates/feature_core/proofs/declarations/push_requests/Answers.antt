@@ -3,7 +3,7 @@ use Rattle.std.specs.String.{string_bytes}
 use Rattle.std.specs.Prelude.{slice_get}
 use Rattle.guppy_packages.specs.Stored.{declared}
 use Rattle.feature_labels.specs.Names.LabelName.{base}
-use Rattle.feature_core.specs.Adds.{Adds}
+use Rattle.feature_core.specs.inner.Adds.{Adds}
 use Rattle.feature_core.proofs.RequestLemmas.{mapped_at, mapped_length, listed_turn, requested, found_adds, base_found, with_default, without_default, IsByDefault}
 use Rattle.feature_core.proofs.declarations.push_requests.Goals.{then-default_features+in_ok-push_to-2, else-default_features}
 use Rattle.feature_core.proofs.declarations.push_requests.Goals as goal

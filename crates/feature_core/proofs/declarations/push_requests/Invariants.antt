@@ -1,5 +1,5 @@
 use Rattle.guppy_packages.specs.Stored.{declared}
-use Rattle.feature_core.specs.Adds.{Adds, Below}
+use Rattle.feature_core.specs.inner.Adds.{Adds, Below}
 use Rattle.feature_core.proofs.RequestLemmas.{IsListed}
 use Rattle.feature_core.proofs.declarations.push_requests.Given as goal
 

@@ -3,7 +3,7 @@ use Rattle.std.specs.Prelude.{slice_get}
 use Rattle.std.proofs.lemmas.List.{map-append}
 use Rattle.std.proofs.lemmas.Option.{slice_get-get_or}
 use Rattle.indexmap.specs.IndexMap.{keys}
-use Rattle.feature_core.specs.Made.{AreValues}
+use Rattle.feature_core.specs.inner.Made.{AreValues}
 use Rattle.feature_core.specs.Values.{edge_facts}
 use Rattle.feature_core.specs.declared.key.Key.{Key}
 use Rattle.feature_core.proofs.ValueLemmas.{values_none, values_more, values_all}

@@ -1,6 +1,6 @@
 use Rattle.std.specs.Prelude.{take, map}
 use Rattle.indexmap.specs.IndexMap.{keys}
-use Rattle.feature_core.specs.Made.{AreValues}
+use Rattle.feature_core.specs.inner.Made.{AreValues}
 use Rattle.feature_core.specs.Values.{edge_facts}
 use Rattle.feature_core.proofs.edges.edges_of.Given as goal
 

@@ -2,7 +2,7 @@ use Rattle.std.proofs.Common.{rules, ◌∙◌, ap, sym, subst}
 use Rattle.std.specs.Prelude.{◌==◌, filter}
 use Rattle.std.proofs.lemmas.Fn.{filter_same}
 use Rattle.feature_core.specs.declared.key.Key.{Key}
-use Rattle.feature_core.specs.Keys.{AreOfRank}
+use Rattle.feature_core.specs.inner.Keys.{AreOfRank}
 use Rattle.feature_core.proofs.KeyRuns.{rank_filtered}
 use Rattle.feature_core.proofs.key.keys_of_rank.Goals as goal
 

@@ -8,7 +8,7 @@ use Rattle.std.proofs.lemmas.List.Sorted.{sorted_far, ranks_by}
 use Rattle.feature_core.specs.declared.key.Key.{Key}
 use Rattle.feature_core.specs.contracts.key.KeyOrd.TheImpl.{cmp-value}
 use Rattle.feature_core.specs.contracts.key.KeyOrd.TheImpl.Laws.{total-law}
-use Rattle.feature_core.specs.Keys.{IsNoLater}
+use Rattle.feature_core.specs.inner.Keys.{IsNoLater}
 use Rattle.feature_core.proofs.key.sort_keys.Goals as goal
 
 lex : (l e : Bool) (o : Ordering) → is_lt (ordering_then (cond l Less (cond e Equal Greater)) o) ≡ false → (l ≡ false) × ((e ≡ false) ⊎ (is_lt o ≡ false))

@@ -1,6 +1,6 @@
 use Rattle.std.proofs.Common.{◌∙◌, ◌≡◌, length, arith}
 use Rattle.guppy_packages.specs.Metadata.{link_table_of}
-use Rattle.feature_core.specs.NamedLinks.{numbers_under}
+use Rattle.feature_core.specs.inner.NamedLinks.{numbers_under}
 use Rattle.feature_core.proofs.GroupedLinks.{noted_next, numbers_all}
 use Rattle.feature_core.proofs.named_links.named_links.Goals as goal
 

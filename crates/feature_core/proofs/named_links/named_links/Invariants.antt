@@ -1,6 +1,6 @@
 use Rattle.std.proofs.Common.{◌≡◌, ℕ}
 use Rattle.guppy_packages.specs.Rows.{Text}
-use Rattle.feature_core.specs.NamedLinks.{numbers_under}
+use Rattle.feature_core.specs.inner.NamedLinks.{numbers_under}
 use Rattle.feature_core.proofs.GroupedLinks.{numbers_before}
 use Rattle.feature_core.proofs.named_links.named_links.Given as goal
 

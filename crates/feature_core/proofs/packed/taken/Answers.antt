@@ -4,7 +4,7 @@ use Rattle.std.specs.Option.{option_map}
 use Rattle.std.proofs.lemmas.Option.{slice_get-map, slice_get_read}
 use Rattle.walk_engine.specs.declared.walks.Ask.{Ask}
 use Rattle.walk_engine.specs.declared.walks.Taken.{Taken}
-use Rattle.feature_core.specs.Asking.{ask_in}
+use Rattle.feature_core.specs.inner.Asking.{ask_in}
 use Rattle.feature_core.specs.Values.{edge_facts}
 use Rattle.feature_core.proofs.AskingLemmas.{told_held}
 use Rattle.feature_core.proofs.packed.taken.Goals as goal

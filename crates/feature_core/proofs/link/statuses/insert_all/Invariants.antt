@@ -3,7 +3,7 @@ use Rattle.std.specs.Str.{bytes_eq}
 use Rattle.guppy_packages.specs.Graph.{firsts}
 use Rattle.guppy_packages.specs.Platform.{spec_text}
 use Rattle.guppy_packages.specs.Rows.{Text}
-use Rattle.feature_core.specs.Collected.{texts_in}
+use Rattle.feature_core.specs.inner.Collected.{texts_in}
 use Rattle.feature_core.proofs.link.statuses.insert_all.Given as goal
 
 abbrev pub invariant-loop-spec : goal.invariant-loop-spec

@@ -5,7 +5,7 @@ use Rattle.walk_engine.specs.declared.walks.Taken.{Taken}
 use Rattle.feature_core.specs.Values.{edge_facts}
 use Rattle.walk_engine.specs.Walks.{starting, told}
 use Rattle.feature_core.specs.Built.{built_edges}
-use Rattle.feature_core.specs.Asking.{held}
+use Rattle.feature_core.specs.inner.Asking.{held}
 use Rattle.feature_core.specs.Ways.{Reading}
 use Rattle.feature_core.proofs.AskingLemmas.{take_held, number_below, tied_each}
 use Rattle.feature_core.proofs.packed.PackedEdgeSource.take.Goals as goal

@@ -1,6 +1,0 @@
-use Rattle.feature_core.specs.Values.{edge_facts}
-use Rattle.feature_core.proofs.SameLists.{AreSame}
-use Rattle.feature_core.proofs.comparing.same_edges.Given as goal
-
-abbrev pub invariant-loop-ix : goal.invariant-loop-ix
-invariant-loop-ix l = AreSame edge_facts l.a l.b l.ix

@@ -1,0 +1,20 @@
+use Rattle.std.proofs.Common.{◌∙◌, map, ap, sym, subst}
+use Rattle.feature_core.specs.inner.Weak.{AreGates}
+use Rattle.feature_core.proofs.WeakLemmas.{links_next, links_same, gates_inserted, weak_is_optional}
+use Rattle.feature_core.proofs.weak_links.note_gate.Goals as goal
+
+pub returns-then-key-ne6-clause-links : goal.returns-then-key-ne6-clause-links
+returns-then-key-ne6-clause-links c done h = links_same done c.args.key (map (λ e. e.0) c.args.table.now.entries) c.if-key-ne6.true h
+
+pub gate_of-gate-requires : goal.gate_of-gate-requires
+gate_of-gate-requires c = weak_is_optional c.args.numbers.graph.now c.args.key c.if-key-ne6.false c.requires
+
+pub returns-clause-links : goal.returns-clause-links
+returns-clause-links c done h =
+    ap (map (λ e. e.0)) c.in_ok-insert.ensures.entries
+    ∙ links_next done c.gate_of-gate.result c.args.key c.args.table.now.entries c.if-key-ne6.false h
+
+pub returns-clause-gates : goal.returns-clause-gates
+returns-clause-gates c old =
+    let t = c.args.numbers.graph.now in
+    subst (λ z. AreGates t z) (sym c.in_ok-insert.ensures.entries) (gates_inserted t c.args.key.source c.gate_of-gate.result c.args.table.now.entries old c.gate_of-gate.ensures)

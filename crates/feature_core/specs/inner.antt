@@ -1,0 +1,11 @@
+pub mod Adds
+pub mod Keys
+pub mod Parts
+pub mod OpenWays
+pub mod ChosenWays
+pub mod Releases
+pub mod Asking
+pub mod NamedLinks
+pub mod Collected
+pub mod Made
+pub mod Weak

@@ -1,0 +1,232 @@
+//! Whether data says what a build of a package graph says.
+ghost use Rattle.std.specs.Prelude.{◌≡◌, ◌<◌, ◌↔◌, ℕ, Some, IfOk, IfErr, IsTrue, map, slice_get};
+ghost use Rattle.indexmap.specs.IndexMap.{index_map_len};
+ghost use Rattle.feature_core.specs.Built.{IsBuilt, pairs_of};
+ghost use Rattle.feature_core.specs.Values.{link_facts, half_facts, weak_facts_of, slash_facts, edge_facts};
+ghost use Rattle.feature_core.specs.Warnings.{warning_of};
+ghost use Rattle.guppy_packages.specs.Platform.{spec_text, status_of};
+
+use crate::edge::{FeatureEdge, SlashForm, WeakSlashImpl};
+use crate::error::Error;
+use crate::feature_graph_data::FeatureGraphData;
+use crate::laws::warning_equality;
+use crate::link::{ConditionalLinkImpl, EnabledLink};
+use crate::warning::FeatureGraphWarning;
+use guppy_packages::{PackageGraph, PlatformStatus, Spec};
+use guppy_support::{Digraph, Edge, IxBitSet};
+use indexmap::IndexMap;
+use std::alloc::Global;
+
+/// Whether specs have the same text.
+fn same_spec(a: &Spec, b: &Spec) -> bool
+    ensures { IsTrue result ↔ (spec_text a.now ≡ spec_text b.now) }
+{
+    a.text() == b.text()
+}
+
+/// Whether the texts of specs are the same, in the same order.
+fn same_specs(a: &[Spec], b: &[Spec]) -> bool
+    ensures { IsTrue result ↔ (map spec_text a.now ≡ map spec_text b.now) }
+{
+    if a.len() != b.len() {
+        return false;
+    }
+    for ix in 0..a.len() {
+        if !same_spec(&a[ix], &b[ix]) {
+            return false;
+        }
+    }
+    true
+}
+
+/// Whether statuses are on the same platforms.
+fn same_status(a: PlatformStatus<'_>, b: PlatformStatus<'_>) -> bool
+    ensures { IsTrue result ↔ (status_of a.entry ≡ status_of b.entry) }
+{
+    match (a, b) {
+        (PlatformStatus::Never, PlatformStatus::Never) => true,
+        (PlatformStatus::Always, PlatformStatus::Always) => true,
+        (PlatformStatus::PlatformDependent(a), PlatformStatus::PlatformDependent(b)) => {
+            same_specs(a, b)
+        }
+        _ => false,
+    }
+}
+
+/// Whether links say the same.
+fn same_link(a: &ConditionalLinkImpl, b: &ConditionalLinkImpl) -> bool
+    ensures { IsTrue result ↔ (link_facts a.now ≡ link_facts b.now) }
+{
+    a.declarations() == b.declarations()
+        && same_status(a.normal(), b.normal())
+        && same_status(a.build(), b.build())
+        && same_status(a.dev(), b.dev())
+        && a.package_link_ixs() == b.package_link_ixs()
+}
+
+/// Whether halves say the same.
+fn same_half(a: &EnabledLink, b: &EnabledLink) -> bool
+    ensures { IsTrue result ↔ (half_facts a.now ≡ half_facts b.now) }
+{
+    match (a.get(), b.get()) {
+        (Some(a), Some(b)) => same_link(a, b),
+        (None, None) => true,
+        _ => false,
+    }
+}
+
+/// Whether weak edges say the same.
+fn same_weak(a: &WeakSlashImpl, b: &WeakSlashImpl) -> bool
+    ensures { IsTrue result ↔ (weak_facts_of a.now ≡ weak_facts_of b.now) }
+{
+    a.index() == b.index()
+        && same_half(a.required(), b.required())
+        && same_half(a.optional(), b.optional())
+}
+
+/// Whether forms say the same.
+fn same_slash(a: &SlashForm, b: &SlashForm) -> bool
+    ensures { IsTrue result ↔ (slash_facts a.now ≡ slash_facts b.now) }
+{
+    match (a, b) {
+        (SlashForm::Strong, SlashForm::Strong) => true,
+        (SlashForm::Weak(a), SlashForm::Weak(b)) => same_weak(a, b),
+        _ => false,
+    }
+}
+
+/// Whether edges say the same.
+fn same_edge(a: &FeatureEdge, b: &FeatureEdge) -> bool
+    ensures { IsTrue result ↔ (edge_facts a.now ≡ edge_facts b.now) }
+{
+    match (a, b) {
+        (FeatureEdge::FeatureToBase, FeatureEdge::FeatureToBase) => true,
+        (FeatureEdge::NamedFeature, FeatureEdge::NamedFeature) => true,
+        (FeatureEdge::DependenciesSection(a), FeatureEdge::DependenciesSection(b)) => {
+            same_link(a, b)
+        }
+        (FeatureEdge::NamedFeatureDepColon(a), FeatureEdge::NamedFeatureDepColon(b)) => {
+            same_link(a, b)
+        }
+        (
+            FeatureEdge::NamedFeatureWithSlash { link: a, slash: c },
+            FeatureEdge::NamedFeatureWithSlash { link: b, slash: d },
+        ) => same_link(a, b) && same_slash(c, d),
+        _ => false,
+    }
+}
+
+/// Whether edges say the same, in the same order.
+pub(crate) fn same_edges(a: &[FeatureEdge], b: &[FeatureEdge]) -> bool
+    ensures { IsTrue result ↔ (map edge_facts a.now ≡ map edge_facts b.now) }
+{
+    if a.len() != b.len() {
+        return false;
+    }
+    for ix in 0..a.len() {
+        if !same_edge(&a[ix], &b[ix]) {
+            return false;
+        }
+    }
+    true
+}
+
+/// Whether edges of digraphs have the same ends.
+fn same_ends(a: Edge, b: Edge) -> bool
+    ensures { IsTrue result ↔ ◌≡◌ {A = ℕ × ℕ} (a.from, a.to) (b.from, b.to) }
+{
+    a.from == b.from && a.to == b.to
+}
+
+/// Whether numbers are the same, in the same order.
+pub(crate) fn same_numbers(a: &[usize], b: &[usize]) -> bool
+    ensures { IsTrue result ↔ (a.now ≡ b.now) }
+{
+    a == b
+}
+
+/// Whether sets have the same numbers, below the same bound.
+pub(crate) fn same_sets(a: &IxBitSet, b: &IxBitSet) -> bool
+    ensures { IsTrue result ↔ (a.now ≡ b.now) }
+{
+    a.is_identical(b)
+}
+
+/// Whether digraphs have edges between the same nodes.
+pub(crate) fn same_pairs(a: &Digraph, b: &Digraph) -> bool
+    ensures { IsTrue result ↔ (pairs_of a.now.edges ≡ pairs_of b.now.edges) }
+{
+    if a.edge_count() != b.edge_count() {
+        return false;
+    }
+    for ix in 0..a.edge_count() {
+        let one = a.edge(ix);
+        let other = b.edge(ix);
+        if !same_ends(one, other) {
+            return false;
+        }
+    }
+    true
+}
+
+/// Whether warnings say the same, in the same order.
+pub(crate) fn same_warnings(a: &[FeatureGraphWarning], b: &[FeatureGraphWarning]) -> bool
+    ensures { IsTrue result ↔ (map warning_of a.now ≡ map warning_of b.now) }
+{
+    if a.len() != b.len() {
+        return false;
+    }
+    for ix in 0..a.len() {
+        if !warning_equality(&a[ix], &b[ix]) {
+            return false;
+        }
+    }
+    true
+}
+
+/// A weak link with its gate, by its place.
+fn gate_at(weak: &IndexMap<usize, usize>, ix: usize) -> (usize, usize)
+    requires { ix < index_map_len weak.now }
+    ensures { slice_get weak.now.entries ix ≡ Some result }
+{
+    match weak.get_index(ix) {
+        Some((link, gate)) => (*link, *gate),
+        None => unreachable!(),
+    }
+}
+
+/// Whether a weak link and its gate are the same.
+fn same_gate(a: (usize, usize), b: (usize, usize)) -> bool
+    ensures { IsTrue result ↔ (a ≡ b) }
+{
+    a.0 == b.0 && a.1 == b.1
+}
+
+/// Whether the weak links and their gates are the same, in the same order.
+pub(crate) fn same_gates(a: &IndexMap<usize, usize>, b: &IndexMap<usize, usize>) -> bool
+    ensures { IsTrue result ↔ (a.now.entries ≡ b.now.entries) }
+{
+    if a.len() != b.len() {
+        return false;
+    }
+    for ix in 0..a.len() {
+        let one = gate_at(a, ix);
+        let other = gate_at(b, ix);
+        if !same_gate(one, other) {
+            return false;
+        }
+    }
+    true
+}
+
+impl FeatureGraphData {
+    /// Whether a build of this package graph, under the same stamp, gives the same. It fails only where memory is refused.
+    pub fn is_built_from(&self, alloc: Global, graph: &PackageGraph) -> Result<bool, Error<'static>>
+        ensures answer { IfOk result (λ same. IsTrue same ↔ IsBuilt graph.now self.now) }
+        ensures refused { IfErr result (λ e. e ≡ Error.Memory) }
+    {
+        let made = FeatureGraphData::build(alloc, graph, self.stamp())?;
+        graph.facts();
+        Ok(made.is_same(self))
+    }
+}

@@ -1,0 +1,353 @@
+//! The feature graph as it is built of a package graph.
+ghost use Rattle.std.specs.Prelude.{◌≡◌, ◌+◌, ◌<◌, ◌↔◌, ℕ, Some, IfOk, IfErr, IsTrue, length, map, not, position, slice_get, slice_index};
+ghost use Rattle.guppy_packages.specs.Metadata.{package_graph_of, package_table_of};
+ghost use Rattle.guppy_packages.specs.Tables.{Tables};
+ghost use Rattle.feature_labels.specs.Names.{id_of, label_of};
+ghost use Rattle.feature_core.specs.Nodes.{NodeAt, nodes, first_node, first_nodes, node_packages, labels_of};
+ghost use Rattle.guppy_support.specs.Bits.{has};
+ghost use Rattle.feature_core.specs.Pairs.{PairLeads, ReachAlong};
+ghost use Rattle.guppy_support.specs.Sequences.{IsOrderOf};
+ghost use Rattle.feature_core.specs.Built.{AreAlike, IsBuilt, NodeNamed, digraph_of, end_of};
+ghost use Rattle.feature_core.specs.Choices.{chosen_pairs};
+ghost use Rattle.feature_core.specs.Defaults.{IsDefault};
+ghost use Rattle.feature_core.specs.Present.{has_present_link};
+ghost use Rattle.feature_core.specs.Values.{edge_facts};
+ghost use Rattle.feature_core.specs.Warnings.{warning_of};
+ghost use Rattle.feature_core.specs.Ways.{content};
+
+use crate::chosen_reach::reach_chosen;
+use crate::defaults::default_marks;
+use crate::edge::{EdgeChoice, FeatureEdge, first_absent};
+use crate::edge_table::{EdgeTable, edge_table};
+use crate::equality::{same_edges, same_gates, same_numbers, same_pairs, same_sets, same_warnings};
+use crate::error::Error;
+use crate::gates::release_table;
+use crate::named_links::named_links;
+use crate::nodes::{NodeTable, node_table};
+use crate::numbers::{Numbers, label_at};
+use crate::packed::Packed;
+use crate::warning::{FeatureGraphWarning, warnings};
+use feature_labels::{FeatureId, FeatureLabel};
+use guppy_packages::{DependencyDirection, PackageGraph, PackageMetadata};
+use guppy_support::{Digraph, IxBitSet, Order};
+use indexmap::IndexMap;
+use std::alloc::{AllocError, Global};
+use std::marker::Model;
+
+/// The nodes and edges of a package graph's features. A contract sees the stamp, the table of nodes, the edges with what
+/// each says, the weak links with their gates, the warnings, and the features that are on by default.
+#[derive(Drop)]
+pub struct FeatureGraphData {
+    stamp: u64,
+    table: NodeTable,
+    digraph: Digraph,
+    order: Order,
+    edges: Vec<FeatureEdge>,
+    weak: IndexMap<usize, usize>,
+    released: Vec<(usize, usize)>,
+    warnings: Vec<FeatureGraphWarning>,
+    defaults: IxBitSet,
+}
+
+impl Model for FeatureGraphData {
+    ghost use Rattle.std.specs.Prelude.{◌≡◌, length, map};
+    ghost use Rattle.guppy_support.specs.Sequences.{IsOrderOf};
+    ghost use Rattle.feature_core.specs.Built.{Built, built_edges, end_of};
+    ghost use Rattle.feature_core.specs.Values.{edge_facts};
+    ghost use Rattle.feature_core.specs.inner.Releases.{AreTied};
+    ghost use Rattle.feature_core.specs.Warnings.{warnings_in};
+
+    ghost Value = { Built };
+
+    ghost view = { λ d. record { stamp = d.stamp; firsts = d.table.firsts.items; packages = d.table.packages.items; edges = built_edges d.digraph.edges (map edge_facts d.edges.items); weak = d.weak.entries; warnings = warnings_in d.warnings; defaults = d.defaults } };
+
+    ghost invariant = { λ d.
+        (d.digraph.nodes ≡ length d.table.packages.items)
+        × (length d.edges.items ≡ length d.digraph.edges)
+        × (d.digraph.edges ≡ map end_of (built_edges d.digraph.edges (map edge_facts d.edges.items)))
+        × AreTied d.digraph (map edge_facts d.edges.items) d.weak.entries d.released.items
+        × (length d.defaults ≡ length d.table.packages.items)
+        × IsOrderOf d.digraph d.order };
+}
+
+/// The numbers of the nodes in this table.
+fn numbers_in<'a>(graph: &'a PackageGraph, table: &'a NodeTable) -> Numbers<'a>
+    requires firsts { table.now.firsts.items ≡ first_nodes graph.now }
+    requires packages { table.now.packages.items ≡ node_packages graph.now }
+    ensures { result.graph.now ≡ graph.now }
+{
+    Numbers {
+        graph,
+        firsts: table.firsts.as_slice(),
+    }
+}
+
+/// The node of a label of a package, where the package has the label.
+fn number_of(
+    numbers: Numbers<'_>,
+    metadata: PackageMetadata<'_>,
+    label: FeatureLabel<'_>,
+) -> Option<usize>
+    requires { package_graph_of metadata ≡ numbers.graph.now }
+    ensures { (n : ℕ) → (result ≡ Some n) ↔ NodeAt numbers.entry.graph.now n metadata.entry.package_ix (label_of label.entry) }
+{
+    match label {
+        FeatureLabel::Base => Some(numbers.base(metadata)),
+        FeatureLabel::Named(name) => numbers.named(metadata, name),
+        FeatureLabel::OptionalDependency(name) => numbers.optional(metadata, name),
+    }
+}
+
+impl FeatureGraphData {
+    /// The feature graph of a package graph, under a stamp of the caller's.
+    pub fn build(
+        alloc: Global,
+        graph: &PackageGraph,
+        stamp: u64,
+    ) -> Result<FeatureGraphData, Error<'static>>
+        ensures built { IfOk result (λ b. IsBuilt graph.now b) }
+        ensures stamp { IfOk result (λ b. b.stamp ≡ stamp) }
+        ensures refused { IfErr result (λ e. e ≡ Error.Memory) }
+    {
+        let table = node_table(alloc, graph)?;
+        let groups = named_links(alloc, graph)?;
+        let numbers = numbers_in(graph, &table);
+        let edge_table = edge_table(alloc, numbers, &table, &groups)?;
+        let defaults = default_marks(alloc, numbers, &edge_table)?;
+        let released = release_table(alloc, &edge_table.edges, &edge_table.weak)?;
+        let warnings = warnings(alloc, graph, &groups)?;
+        let order = Order::new(alloc, &edge_table.digraph)?;
+        let EdgeTable {
+            digraph,
+            edges,
+            weak,
+        } = edge_table;
+        Ok(FeatureGraphData {
+            stamp,
+            table,
+            digraph,
+            order,
+            edges,
+            weak,
+            released,
+            warnings,
+            defaults,
+        })
+    }
+
+    /// The stamp that the caller gave.
+    pub fn stamp(&self) -> u64
+        ensures { result ≡ self.now.stamp }
+    {
+        self.stamp
+    }
+
+    /// What building noted: the items of features and then the listed names that ask for what is not there.
+    pub fn warnings(&self) -> &[FeatureGraphWarning]
+        ensures { map warning_of result.now ≡ self.now.warnings }
+    {
+        self.warnings.as_slice()
+    }
+
+    /// How many nodes there are.
+    pub fn node_count(&self) -> usize
+        ensures { result ≡ length self.now.packages }
+    {
+        self.table.packages.len()
+    }
+
+    /// How many edges there are.
+    pub fn edge_count(&self) -> usize
+        ensures { result ≡ length self.now.edges }
+    {
+        self.digraph.edge_count()
+    }
+
+    /// The edges as a digraph of the nodes. An edge counts as dev-only there where it is conditional, and its link is
+    /// neither for normal use nor for builds.
+    pub fn digraph(&self) -> &Digraph
+        ensures nodes { result.now.nodes ≡ length self.now.packages }
+        ensures edges { result.now.edges ≡ map end_of self.now.edges }
+    {
+        &self.digraph
+    }
+
+    /// The nodes in order, and their components: those of the digraph. It was made with the graph.
+    pub fn order(&self) -> &Order
+        ensures { IsOrderOf (digraph_of self.now) result.now }
+    {
+        &self.order
+    }
+
+    /// The two nodes of an edge, and what it says.
+    pub fn edge(&self, number: usize) -> (usize, usize, &FeatureEdge)
+        requires { number < length self.now.edges }
+        ensures { slice_get self.now.edges number ≡ Some (result.0, result.1, edge_facts result.2.now) }
+    {
+        let ends = self.digraph.edge(number);
+        (ends.from, ends.to, &self.edges[number])
+    }
+
+    /// The first edge whose link is present for no kind, where there is one.
+    pub fn first_absent_link(&self) -> Option<usize>
+        ensures { result ≡ position (λ e. not (has_present_link e.2)) self.now.edges }
+    {
+        first_absent(self.edges.as_slice())
+    }
+
+    /// The weak links, by index: the package link that weak edges name, and the node on whose being reached their
+    /// optional halves wait.
+    pub fn weak_links(&self) -> &IndexMap<usize, usize>
+        ensures { result.now.entries ≡ self.now.weak }
+    {
+        &self.weak
+    }
+
+    /// The number of a node's package.
+    pub fn package_of(&self, ix: usize) -> usize
+        requires { ix < length self.now.packages }
+        ensures { slice_get self.now.packages ix ≡ Some result }
+    {
+        self.table.packages[ix]
+    }
+
+    /// The first node of a package.
+    pub fn first_node(&self, package_ix: usize) -> usize
+        requires { package_ix < length self.now.firsts }
+        ensures { slice_get self.now.firsts package_ix ≡ Some result }
+    {
+        self.table.firsts[package_ix]
+    }
+
+    /// Whether a node is on by default: at the end of a path from its package's default feature, over edges to the base
+    /// and between the package's named features.
+    pub fn is_default(&self, ix: usize) -> bool
+        requires { ix < length self.now.packages }
+        ensures mark { result ≡ has self.now.defaults ix }
+        ensures meaning { (t : Tables) → IsBuilt t self.now → IsTrue result ↔ IsDefault t ix }
+    {
+        self.defaults.contains(ix)
+    }
+}
+
+impl FeatureGraphData {
+    /// The node of a feature, or none where the graph has no such feature. The data is built of this package graph.
+    pub fn node(&self, graph: &PackageGraph, id: FeatureId<'_>) -> Option<usize>
+        requires { IsBuilt graph.now self.now }
+        ensures { (n : ℕ) → (result ≡ Some n) ↔ NodeNamed graph.now n (id_of id.entry) }
+    {
+        graph.facts();
+        match graph.metadata(id.package_id()) {
+            Ok(metadata) => number_of(numbers_in(graph, &self.table), metadata, id.label()),
+            Err(_) => None,
+        }
+    }
+
+    /// The id of a node. The data is built of this package graph.
+    pub fn id<'g>(&self, graph: &'g PackageGraph, ix: usize) -> FeatureId<'g>
+        requires built { IsBuilt graph.now self.now }
+        requires node { ix < length self.now.packages }
+        ensures { NodeNamed graph.now ix (id_of result) }
+    {
+        let metadata = graph.package(self.package_of(ix));
+        let label = label_at(graph, &self.table.firsts, &self.table.packages, ix);
+        FeatureId::new(metadata.id(), label)
+    }
+}
+
+impl FeatureGraphData {
+    /// What is reached from the initial nodes over the chosen edges.
+    pub(crate) fn reach(
+        &self,
+        alloc: Global,
+        direction: DependencyDirection,
+        initials: &IxBitSet,
+        which: EdgeChoice,
+    ) -> Result<IxBitSet, AllocError>
+        requires { length initials.now ≡ length self.now.packages }
+        ensures size { IfOk result (λ set. length set ≡ length self.now.packages) }
+        ensures members { IfOk result (λ set. (n : ℕ) → IsTrue (has set n) ↔ ReachAlong (PairLeads (chosen_pairs which self.now.edges) direction) (has initials.now) n) }
+    {
+        let says = self.edges.as_slice();
+        let set = reach_chosen(alloc, &self.digraph, says, which, direction, initials)?;
+        Ok(set)
+    }
+
+    /// Its edges as a source of walks, as the direction follows them.
+    pub(crate) fn packed(&self, direction: DependencyDirection) -> Packed<'_>
+        ensures { result ≡ record { holds = content direction (length self.now.packages) self.now.edges self.now.weak; reads = 0 } }
+    {
+        Packed::over(
+            &self.digraph,
+            &self.edges,
+            &self.weak,
+            &self.released,
+            direction,
+        )
+    }
+}
+
+impl FeatureGraphData {
+    /// Whether the first nodes of packages are the same.
+    fn has_same_firsts(&self, other: &FeatureGraphData) -> bool
+        ensures { IsTrue result ↔ (self.now.firsts ≡ other.now.firsts) }
+    {
+        let own = self.table.firsts.as_slice();
+        let others = other.table.firsts.as_slice();
+        same_numbers(own, others)
+    }
+
+    /// Whether the packages of nodes are the same.
+    fn has_same_packages(&self, other: &FeatureGraphData) -> bool
+        ensures { IsTrue result ↔ (self.now.packages ≡ other.now.packages) }
+    {
+        let own = self.table.packages.as_slice();
+        let others = other.table.packages.as_slice();
+        same_numbers(own, others)
+    }
+
+    /// Whether the edges are the same, with all that they say.
+    fn has_same_edges(&self, other: &FeatureGraphData) -> bool
+        ensures { IsTrue result ↔ (self.now.edges ≡ other.now.edges) }
+    {
+        let own = self.edges.as_slice();
+        let others = other.edges.as_slice();
+        same_pairs(&self.digraph, &other.digraph) && same_edges(own, others)
+    }
+
+    /// Whether the weak links are the same, with their gates.
+    fn has_same_gates(&self, other: &FeatureGraphData) -> bool
+        ensures { IsTrue result ↔ (self.now.weak ≡ other.now.weak) }
+    {
+        same_gates(&self.weak, &other.weak)
+    }
+
+    /// Whether the warnings are the same.
+    fn has_same_warnings(&self, other: &FeatureGraphData) -> bool
+        ensures { IsTrue result ↔ (self.now.warnings ≡ other.now.warnings) }
+    {
+        let own = self.warnings();
+        let others = other.warnings();
+        same_warnings(own, others)
+    }
+
+    /// Whether the same nodes are on by default.
+    fn has_same_defaults(&self, other: &FeatureGraphData) -> bool
+        ensures { IsTrue result ↔ (self.now.defaults ≡ other.now.defaults) }
+    {
+        same_sets(&self.defaults, &other.defaults)
+    }
+
+    /// Whether two are the same in each part.
+    pub(crate) fn is_same(&self, other: &FeatureGraphData) -> bool
+        ensures { IsTrue result ↔ AreAlike self.now other.now }
+    {
+        self.stamp() == other.stamp()
+            && self.has_same_firsts(other)
+            && self.has_same_packages(other)
+            && self.has_same_edges(other)
+            && self.has_same_gates(other)
+            && self.has_same_warnings(other)
+            && self.has_same_defaults(other)
+    }
+}

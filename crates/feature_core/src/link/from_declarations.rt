@@ -1,0 +1,260 @@
+//! Links over declarations of package links.
+ghost use Rattle.std.specs.Prelude.{◌≡◌, ◌++◌, ◌∷◌, ◌<◌, [], ℕ, true, if◌then◌else◌, List, Some, IfOk, OnOk, length, map, filter, filter_map, is_some, slice_get};
+ghost use Rattle.std.specs.List.{list_any};
+ghost use Rattle.guppy_packages.specs.Metadata.{link_table_of};
+ghost use Rattle.guppy_packages.specs.Rows.{Text, Declared};
+ghost use Rattle.guppy_packages.specs.Stored.{declared};
+ghost use Rattle.guppy_packages.specs.Tables.{LinkTable};
+ghost use Rattle.feature_core.specs.Candidates.{unsplit_of, by_name};
+ghost use Rattle.feature_core.specs.inner.Collected.{HasKinds, HasParts};
+ghost use Rattle.feature_core.specs.Edges.{half_of};
+ghost use Rattle.feature_core.specs.Links.{IsLink, includes, has_declaration, links_at, at_places, over, over_parts, over_places};
+ghost use Rattle.feature_core.specs.inner.NamedLinks.{AreNamedLinks};
+ghost use Rattle.feature_core.specs.Values.{link_facts, half_facts};
+
+use crate::link::statuses::KindCollectors;
+use crate::link::{ConditionalLinkImpl, EnabledLink};
+use crate::named_links::{LinkGroups, numbers_of};
+use feature_labels::LinkDeclarations;
+use guppy_packages::{Declaration, PackageGraph, PackageLink};
+use smallvec::SmallVec;
+use std::alloc::{AllocError, Global};
+
+/// A link so far: the statuses of its declarations, and the package links that have one of them.
+#[derive(Drop)]
+pub(crate) struct LinkParts<'g> {
+    statuses: KindCollectors<'g>,
+    links: SmallVec<usize, 2>,
+}
+
+/// Whether a declaration is covered.
+fn is_included(which: LinkDeclarations, declaration: &Declaration) -> bool
+    ensures { result ≡ includes which (declared declaration.now) }
+{
+    match which {
+        LinkDeclarations::Unsplit => true,
+        LinkDeclarations::Required => !declaration.optional(),
+        LinkDeclarations::Optional => declaration.optional(),
+    }
+}
+
+/// Whether a declaration is covered by some.
+fn is_any_included(which: LinkDeclarations, declarations: &[Declaration]) -> bool
+    ensures { result ≡ list_any (λ d. includes which (declared d)) declarations.now }
+{
+    declarations
+        .iter()
+        .any(|declaration| is_included(which, declaration))
+}
+
+/// Adds a declaration if it is covered, and says whether it is.
+fn add_included<'g>(
+    statuses: &mut KindCollectors<'g>,
+    declaration: &'g Declaration,
+    which: LinkDeclarations,
+) -> Result<bool, AllocError>
+    ensures kinds { OnOk result ((before : List Declared) → HasKinds statuses.old before → HasKinds statuses.new (before ++ filter (λ d. includes which d) (map declared (declaration.now ∷ [])))) }
+    ensures added { IfOk result (λ added. added ≡ includes which (declared declaration.now)) }
+{
+    if is_included(which, declaration) {
+        statuses.add(declaration)?;
+        return Ok(true);
+    }
+    Ok(false)
+}
+
+/// Adds the declarations that are covered, and says whether there is one.
+fn add_all_included<'g>(
+    statuses: &mut KindCollectors<'g>,
+    declarations: &'g [Declaration],
+    which: LinkDeclarations,
+) -> Result<bool, AllocError>
+    ensures kinds { OnOk result ((before : List Declared) → HasKinds statuses.old before → HasKinds statuses.new (before ++ filter (λ d. includes which d) (map declared declarations.now))) }
+    ensures added { IfOk result (λ added. added ≡ list_any (λ d. true) (filter (λ d. includes which d) (map declared declarations.now))) }
+{
+    let mut any = false;
+    for declaration in declarations {
+        let added = add_included(statuses, declaration, which)?;
+        any |= added;
+    }
+    Ok(any)
+}
+
+/// Adds the declaration at a place, where there is one, and says whether there is.
+fn add_at<'g>(
+    statuses: &mut KindCollectors<'g>,
+    declarations: &'g [Declaration],
+    place: usize,
+) -> Result<bool, AllocError>
+    ensures kinds { OnOk result ((before : List Declared) → HasKinds statuses.old before → HasKinds statuses.new (before ++ at_places (map declared declarations.now) (place ∷ []))) }
+    ensures added { IfOk result (λ added. added ≡ is_some (slice_get (map declared declarations.now) place)) }
+{
+    if place < declarations.len() {
+        statuses.add(&declarations[place])?;
+        return Ok(true);
+    }
+    Ok(false)
+}
+
+/// Adds the declarations at places, in their order, and says whether there is one.
+fn add_all_at<'g>(
+    statuses: &mut KindCollectors<'g>,
+    declarations: &'g [Declaration],
+    places: &[usize],
+) -> Result<bool, AllocError>
+    ensures kinds { OnOk result ((before : List Declared) → HasKinds statuses.old before → HasKinds statuses.new (before ++ at_places (map declared declarations.now) places.now)) }
+    ensures added { IfOk result (λ added. added ≡ list_any (λ d. true) (at_places (map declared declarations.now) places.now)) }
+{
+    let mut any = false;
+    for place in places {
+        let added = add_at(statuses, declarations, *place)?;
+        any |= added;
+    }
+    Ok(any)
+}
+
+impl<'g> LinkParts<'g> {
+    /// No declaration yet.
+    fn new(alloc: Global) -> Self
+        ensures { HasParts result [] }
+    {
+        LinkParts {
+            statuses: KindCollectors::new(alloc),
+            links: SmallVec::new(alloc),
+        }
+    }
+
+    /// Notes a package link of which a declaration was added.
+    fn note(&mut self, link_ix: usize, added: bool) -> Result<(), AllocError>
+        ensures links { OnOk result (self.new.links.items ≡ (if added then self.old.links.items ++ link_ix ∷ [] else self.old.links.items)) }
+        ensures statuses { self.new.statuses ≡ self.old.statuses }
+    {
+        if added {
+            self.links.push(link_ix)?;
+        }
+        Ok(())
+    }
+
+    /// Adds the covered declarations of a package link.
+    fn add_link(&mut self, link: PackageLink<'g>, which: LinkDeclarations) -> Result<(), AllocError>
+        ensures { OnOk result ((before : List (ℕ × List Declared)) → HasParts self.old before → HasParts self.new (before ++ (link.entry.link_ix, filter (λ d. includes which d) (link_table_of link.entry).declarations) ∷ [])) }
+    {
+        let added = add_all_included(&mut self.statuses, link.declarations(), which)?;
+        self.note(link.link_ix(), added)?;
+        Ok(())
+    }
+
+    /// Adds the declarations of a package link at places.
+    fn add_places(&mut self, link: PackageLink<'g>, places: &[usize]) -> Result<(), AllocError>
+        ensures { OnOk result ((before : List (ℕ × List Declared)) → HasParts self.old before → HasParts self.new (before ++ (link.entry.link_ix, at_places (link_table_of link.entry).declarations places.now) ∷ [])) }
+    {
+        let added = add_all_at(&mut self.statuses, link.declarations(), places)?;
+        self.note(link.link_ix(), added)?;
+        Ok(())
+    }
+
+    /// The link, as one that covers these.
+    fn into_link(
+        self,
+        alloc: Global,
+        which: LinkDeclarations,
+    ) -> Result<ConditionalLinkImpl, AllocError>
+        ensures { IfOk result (λ l. (parts : List (ℕ × List Declared)) → HasParts self.entry parts → link_facts l ≡ over_parts which parts) }
+    {
+        let LinkParts { statuses, links } = self;
+        let normal = statuses.normal.status(alloc)?;
+        let build = statuses.build.status(alloc)?;
+        let dev = statuses.dev.status(alloc)?;
+        Ok(ConditionalLinkImpl {
+            declarations: which,
+            normal,
+            build,
+            dev,
+            package_link_ixs: links,
+        })
+    }
+}
+
+/// The link over the covered declarations of package links.
+pub(crate) fn links_over(
+    alloc: Global,
+    graph: &PackageGraph,
+    links: &[usize],
+    which: LinkDeclarations,
+) -> Result<ConditionalLinkImpl, AllocError>
+    requires { (i k : ℕ) → slice_get links.now i ≡ Some k → k < length graph.now.links }
+    ensures { IfOk result (λ l. link_facts l ≡ over which (λ d. includes which d) (links_at graph.now links.now)) }
+{
+    let mut parts = LinkParts::new(alloc);
+    for link_ix in links {
+        parts.add_link(graph.link(*link_ix), which)?;
+    }
+    let link = parts.into_link(alloc, which)?;
+    Ok(link)
+}
+
+/// The link over the covered declarations of one package link.
+pub(crate) fn link_of(
+    alloc: Global,
+    graph: &PackageGraph,
+    link_ix: usize,
+    which: LinkDeclarations,
+) -> Result<ConditionalLinkImpl, AllocError>
+    requires { link_ix < length graph.now.links }
+    ensures { IfOk result (λ l. (link : LinkTable) → IsLink graph.now link_ix link → link_facts l ≡ over which (λ d. includes which d) ((link_ix, link) ∷ [])) }
+{
+    let links = [link_ix];
+    let link = links_over(alloc, graph, &links, which)?;
+    Ok(link)
+}
+
+/// One half of a weak edge over a package link.
+pub(crate) fn half_of(
+    alloc: Global,
+    graph: &PackageGraph,
+    link_ix: usize,
+    which: LinkDeclarations,
+) -> Result<EnabledLink, AllocError>
+    requires { link_ix < length graph.now.links }
+    ensures { IfOk result (λ half. half_facts half ≡ half_of graph.now which link_ix) }
+{
+    if !is_any_included(which, graph.link(link_ix).declarations()) {
+        return Ok(EnabledLink { link: None });
+    }
+    let link = link_of(alloc, graph, link_ix, which)?;
+    Ok(EnabledLink { link: Some(link) })
+}
+
+/// The link over the covered declarations of all links of a package under a name.
+pub(crate) fn named_link(
+    alloc: Global,
+    graph: &PackageGraph,
+    groups: &LinkGroups<'_>,
+    package_ix: usize,
+    name: &str,
+    which: LinkDeclarations,
+) -> Result<ConditionalLinkImpl, AllocError>
+    requires { AreNamedLinks graph.now groups.now }
+    ensures { IfOk result (λ l. link_facts l ≡ by_name graph.now package_ix which name.now) }
+{
+    let links = numbers_of(groups, package_ix, name);
+    let link = links_over(alloc, graph, links, which)?;
+    Ok(link)
+}
+
+/// The link over the declarations of one package link at places, in their order.
+pub(crate) fn section_link(
+    alloc: Global,
+    graph: &PackageGraph,
+    link_ix: usize,
+    which: LinkDeclarations,
+    places: &[usize],
+) -> Result<ConditionalLinkImpl, AllocError>
+    requires { link_ix < length graph.now.links }
+    ensures { IfOk result (λ l. (link : LinkTable) → IsLink graph.now link_ix link → link_facts l ≡ over_places which link_ix link places.now) }
+{
+    let mut parts = LinkParts::new(alloc);
+    parts.add_places(graph.link(link_ix), places)?;
+    let link = parts.into_link(alloc, which)?;
+    Ok(link)
+}
