@@ -158,9 +158,11 @@ class Run:
         wanted = [(sorted_runs(out) if self.case.has_calls() else out, line, self.case.status) for out in self.outs]
         if came not in wanted:
             return f'{self.words}\n  wanted {" or ".join(map(str, wanted))}\n  came   {came}'
-        if self.case.program == 'surface_calls':
-            return judge.fault_of(self.case.rows, printed.decode().split('\n')[:-1])
-        return None
+        return self.fault_of_offers(printed.decode().split('\n')[:-1])
+
+    def fault_of_offers(self, lines):
+        """Why what a visitor was asked isn't a run by the rules, or None."""
+        return judge.fault_of(self.case.rows, lines) if self.case.program == 'surface_calls' else None
 
 
 def sorted_runs(text):

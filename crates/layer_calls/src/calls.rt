@@ -68,7 +68,8 @@ fn make_call(
 /// Makes the calls of a script, in order.
 pub fn make_calls(out: &mut Out, alloc: Global, graph: &PackageGraph, script: &str) {
     for line in script.lines() {
-        out.line(format_args!("< {line}"));
+        out.text("< ", line);
+        out.line("");
         if let Err(failure) = make_call(out, alloc, graph, line) {
             out.failure(failure);
         }

@@ -41,28 +41,37 @@ fn edges_of(alloc: Global, words: &str) -> Result<Vec<Edge>, Failure> {
 
 /// The edge as a word.
 fn tell_edge(out: &mut Out, edge: Edge) {
-    let sign = if edge.non_dev { '>' } else { '~' };
-    out.part(format_args!(" {}{sign}{}", edge.from, edge.to));
+    out.number(" ", edge.from);
+    out.number(if edge.non_dev { ">" } else { "~" }, edge.to);
 }
 
 /// What a digraph holds.
 fn tell_digraph(out: &mut Out, graph: &Digraph) {
-    let (nodes, edges) = (graph.node_count(), graph.edge_count());
-    out.part(format_args!("{nodes} nodes, {edges} edges:"));
+    out.number("", graph.node_count());
+    out.number(" nodes, ", graph.edge_count());
+    out.part(" edges:");
     for number in 0..graph.edge_count() {
         tell_edge(out, graph.edge(number));
     }
     out.line("");
 }
 
+/// How many nodes an order has, and how many components.
+fn tell_counts(out: &mut Out, order: &Order) {
+    out.number("", order.list().len());
+    out.number(" in ", order.component_count());
+    out.part(" components");
+}
+
 /// The nodes in order, each with its component.
 fn tell_order(out: &mut Out, order: &Order) {
     order.facts();
-    let (nodes, components) = (order.list().len(), order.component_count());
-    out.part(format_args!("{nodes} in {components} components:"));
+    tell_counts(out, order);
+    out.part(":");
     for node in order.list() {
         if *node < order.list().len() {
-            out.part(format_args!(" {node}:{}", order.component(*node)));
+            out.number(" ", *node);
+            out.number(":", order.component(*node));
         }
     }
     out.line("");
@@ -71,9 +80,10 @@ fn tell_order(out: &mut Out, order: &Order) {
 /// The numbers of a node's edges, out of it and into it.
 fn tell_edges_at(out: &mut Out, graph: &Digraph, node: usize) {
     if node < graph.node_count() {
-        out.part(format_args!("{node}: out"));
+        out.number("", node);
+        out.part(": out");
         for number in graph.out_edges(node) {
-            out.part(format_args!(" {number}"));
+            out.number(" ", number);
         }
         out.part(", in");
         out.numbers(graph.in_edges(node));
@@ -84,7 +94,8 @@ fn tell_edges_at(out: &mut Out, graph: &Digraph, node: usize) {
 fn tell_place(out: &mut Out, order: &Order, node: usize) {
     order.facts();
     if node < order.list().len() {
-        out.part(format_args!(", at {}, with", order.place(node)));
+        out.number(", at ", order.place(node));
+        out.part(", with");
         out.numbers(order.component_nodes(order.component(node)));
     }
 }
@@ -102,7 +113,7 @@ fn tell_nodes(out: &mut Out, graph: &Digraph, order: &Order) {
 fn tell_between(out: &mut Out, graph: &Digraph, from: usize, to: usize) {
     if let Some(number) = graph.edge_between(from, to) {
         tell_edge(out, graph.edge(number));
-        out.part(format_args!("={number}"));
+        out.number("=", number);
     }
 }
 
@@ -110,7 +121,8 @@ fn tell_between(out: &mut Out, graph: &Digraph, from: usize, to: usize) {
 fn tell_same(out: &mut Out, order: &Order, one: usize, other: usize) {
     order.facts();
     if one < order.list().len() && other < order.list().len() && order.is_same(one, other) {
-        out.part(format_args!(" {one}={other}"));
+        out.number(" ", one);
+        out.number("=", other);
     }
 }
 
@@ -144,6 +156,14 @@ fn tell(out: &mut Out, alloc: Global, name: &str, graph: &Digraph) {
     tell_digraph(out, graph);
 }
 
+/// Why there is no digraph.
+fn tell_fault(out: &mut Out, error: DigraphError) {
+    match error {
+        DigraphError::Memory => out.failure(Failure::Memory),
+        _ => out.debug_line(error),
+    }
+}
+
 /// Makes a call on the digraph of so many nodes and these edges.
 pub fn given(out: &mut Out, alloc: Global, name: &str, words: &str) -> Result<(), Failure> {
     let (nodes, listed) = cut(words);
@@ -151,8 +171,7 @@ pub fn given(out: &mut Out, alloc: Global, name: &str, words: &str) -> Result<()
     let edges = edges_of(alloc, listed)?;
     match Digraph::new(alloc, nodes, &edges) {
         Ok(graph) => tell(out, alloc, name, &graph),
-        Err(DigraphError::Memory) => out.failure(Failure::Memory),
-        Err(error) => out.line(format_args!("{error:?}")),
+        Err(error) => tell_fault(out, error),
     }
     Ok(())
 }
@@ -202,22 +221,25 @@ fn push_shape(edges: &mut Vec<Edge>, shape: &str, nodes: usize) -> Result<(), Fa
     }
 }
 
-/// How many components an order has, and the last node's.
+/// The counts of an order, and the last node's component.
 fn tell_last(out: &mut Out, order: &Order) {
     order.facts();
+    tell_counts(out, order);
     let nodes = order.list().len();
-    out.part(format_args!("{nodes} in {} components", order.component_count()));
     if nodes > 0 {
-        out.part(format_args!(", the last in {}", order.component(nodes - 1)));
+        out.number(", the last in ", order.component(nodes - 1));
     }
     out.line("");
 }
 
 /// Tells a large digraph's order.
 fn tell_large(out: &mut Out, alloc: Global, graph: &Digraph) {
-    out.part(format_args!("{} nodes, ", graph.node_count()));
     match Order::new(alloc, graph) {
-        Ok(order) => tell_last(out, &order),
+        Ok(order) => {
+            out.number("nodes ", graph.node_count());
+            out.part(", ");
+            tell_last(out, &order);
+        }
         Err(_) => out.failure(Failure::Memory),
     }
 }
@@ -230,8 +252,7 @@ pub fn large(out: &mut Out, alloc: Global, words: &str) -> Result<(), Failure> {
     push_shape(&mut edges, shape, nodes)?;
     match Digraph::new(alloc, nodes, &edges) {
         Ok(graph) => tell_large(out, alloc, &graph),
-        Err(DigraphError::Memory) => out.failure(Failure::Memory),
-        Err(error) => out.line(format_args!("{error:?}")),
+        Err(error) => tell_fault(out, error),
     }
     Ok(())
 }

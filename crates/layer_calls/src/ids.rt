@@ -21,16 +21,12 @@ fn constructed<'g>(package: &'g PackageId, label: FeatureLabel<'g>) -> FeatureId
 fn tell_id(out: &mut Out, id: FeatureId<'_>) {
     let package = id.package_id();
     out.part(id);
-    out.part(if id.is_base() { ", base" } else { "" });
-    out.part(if id.is_named() { ", named" } else { "" });
-    out.part(if id.is_optional_dependency() {
-        ", optional"
-    } else {
-        ""
-    });
-    let again = constructed(package, id.label()) == id;
-    let from = FeatureId::from((package, id.label())) == id;
-    out.line(format_args!(", again {again} {from}"));
+    out.part_if(id.is_base(), ", base");
+    out.part_if(id.is_named(), ", named");
+    out.part_if(id.is_optional_dependency(), ", optional");
+    out.answer(", again ", constructed(package, id.label()) == id);
+    out.answer(" ", FeatureId::from((package, id.label())) == id);
+    out.line("");
 }
 
 /// The id of a package and a label.
@@ -50,9 +46,12 @@ fn hash_of(id: FeatureId<'_>) -> u64 {
 
 /// How two ids compare, and whether they are equal and hash alike.
 fn tell_compared(out: &mut Out, id: FeatureId<'_>, other: FeatureId<'_>) {
-    let (order, equal) = (sign(id.cmp(&other)), id == other);
-    let alike = hash_of(id) == hash_of(other);
-    out.line(format_args!("{id} {order} {other}, equal {equal}, alike {alike}"));
+    out.part(id);
+    out.text(sign(id.cmp(&other)), " ");
+    out.part(other);
+    out.answer(", equal ", id == other);
+    out.answer(", alike ", hash_of(id) == hash_of(other));
+    out.line("");
 }
 
 /// How two ids compare.
@@ -71,8 +70,10 @@ pub fn compare(out: &mut Out, alloc: Global, words: &str) -> Result<(), Failure>
 
 /// Which declarations a link covers.
 fn tell_covered(out: &mut Out, link: LinkDeclarations) {
-    let (required, optional) = (link.includes_required(), link.includes_optional());
-    out.line(format_args!("{link:?}: required {required}, optional {optional}"));
+    out.debug(link);
+    out.answer(": required ", link.includes_required());
+    out.answer(", optional ", link.includes_optional());
+    out.line("");
 }
 
 /// Which declarations each kind of link covers.

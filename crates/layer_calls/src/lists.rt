@@ -40,18 +40,27 @@ fn list_of<'g>(
 /// What a list prints.
 fn tell_printed(out: &mut Out, list: &FeatureList<'_>) {
     let package = list.package();
-    out.line(format_args!("package {} {}", package.package_ix(), package.id()));
+    out.number("package ", package.package_ix());
+    out.text(" ", package.id().repr());
+    out.line("");
     out.line(list.display_features());
-    out.line(format_args!("{:?}", list.display_features()));
-    out.line(format_args!("{list:?}"));
+    out.debug_line(list.display_features());
+    out.debug_line(list);
+}
+
+/// How many items are left of an iterator, by its bounds.
+fn tell_bounds(out: &mut Out, bounds: (usize, Option<usize>)) {
+    out.part(" ");
+    out.debug(bounds);
 }
 
 /// The names of a list's named features.
 fn tell_named(out: &mut Out, list: &FeatureList<'_>) {
     let names = list.named_features();
-    out.part(format_args!("named {:?}:", names.size_hint()));
+    out.part("named");
+    tell_bounds(out, names.size_hint());
     for name in names {
-        out.part(format_args!(" {name}"));
+        out.text(" ", name);
     }
     out.line("");
 }
@@ -59,18 +68,20 @@ fn tell_named(out: &mut Out, list: &FeatureList<'_>) {
 /// The names of a list's optional dependencies.
 fn tell_optional(out: &mut Out, list: &FeatureList<'_>) {
     let names = list.optional_deps();
-    out.part(format_args!("optional {:?}:", names.size_hint()));
+    out.part("optional");
+    tell_bounds(out, names.size_hint());
     for name in names {
-        out.part(format_args!(" {name}"));
+        out.text(" ", name);
     }
     out.line("");
 }
 
 /// The ids of a list.
 fn tell_ids(out: &mut Out, list: &FeatureList<'_>) {
-    out.part(format_args!("{} ids:", list.iter().len()));
+    out.number("ids ", list.iter().len());
     for id in list {
-        out.part(format_args!(" {id}"));
+        out.part(" ");
+        out.part(id);
     }
     out.line("");
 }
@@ -78,17 +89,21 @@ fn tell_ids(out: &mut Out, list: &FeatureList<'_>) {
 /// A list's copy.
 fn tell_copy(out: &mut Out, alloc: Global, list: &FeatureList<'_>) -> Result<(), Failure> {
     let copy = list.try_clone(alloc)?;
-    out.part(format_args!("copy equal {}, ", copy == *list));
-    out.line(format_args!("{} labels", copy.into_labels().len()));
+    out.answer("copy ", copy == *list);
+    out.number(", labels ", copy.into_labels().len());
+    out.line("");
     Ok(())
 }
 
 /// What is left of a list that is given up, id by id.
 fn tell_rest(out: &mut Out, list: FeatureList<'_>) {
     let mut ids = list.into_iter();
-    out.part(format_args!("{} {:?}", ids.len(), ids.size_hint()));
+    out.number("left ", ids.len());
+    tell_bounds(out, ids.size_hint());
     while let Some(id) = ids.next() {
-        out.part(format_args!(" {id} {:?}", ids.size_hint()));
+        out.part(" ");
+        out.part(id);
+        tell_bounds(out, ids.size_hint());
     }
     out.line("");
 }
@@ -122,7 +137,10 @@ fn has(list: &FeatureList<'_>, label: FeatureLabel<'_>) -> bool {
 /// Whether a list holds a label, asked in two ways.
 fn tell_held(out: &mut Out, list: &FeatureList<'_>, word: &str) {
     let label = label_of(word);
-    out.line(format_args!("{label} {} {}", list.contains(label), has(list, label)));
+    out.part(label);
+    out.answer(" ", list.contains(label));
+    out.answer(" ", has(list, label));
+    out.line("");
 }
 
 /// Whether a list holds each of some labels.

@@ -27,22 +27,19 @@ fn push_labels<'t>(labels: &mut Vec<FeatureLabel<'t>>, names: &'t [String]) -> R
     Ok(())
 }
 
-/// How many of the names the list has as features and as optional dependencies, and how many stand in its order.
+/// How many labels a list has, and the first of the names that doesn't stand in their order, isn't found in the list as a
+/// feature or is found as an optional dependency.
 fn tell_found(out: &mut Out, list: &FeatureList<'_>, names: &[String]) {
-    let (mut placed, mut found, mut optional) = (0u64, 0u64, 0u64);
+    out.number("", list.labels().len());
     for (name, label) in names.iter().zip(list.labels()) {
-        if *label == FeatureLabel::Named(name.as_str()) && placed < u64::MAX {
-            placed += 1;
-        }
-        if list.has_named_feature(name.as_str()) && found < u64::MAX {
-            found += 1;
-        }
-        if list.has_optional_dependency(name.as_str()) && optional < u64::MAX {
-            optional += 1;
+        if *label != FeatureLabel::Named(name.as_str())
+            || !list.has_named_feature(name.as_str())
+            || list.has_optional_dependency(name.as_str())
+        {
+            return out.line(name.as_str());
         }
     }
-    out.part(format_args!("{} labels, {placed} in order, ", list.labels().len()));
-    out.line(format_args!("{found} found, {optional} as optional"));
+    out.line(" labels, each in order and found");
 }
 
 /// The list of these names, handed over from the last to the first.

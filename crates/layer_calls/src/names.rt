@@ -6,28 +6,30 @@ use guppy_packages::{NamedFeatureDep, PackageId};
 use std::alloc::Global;
 use std::cmp::Ordering;
 
-/// What the text of an item means.
+/// What the text of an item means. Names stand in brackets.
 pub fn item(out: &mut Out, text: &str) {
     match NamedFeatureDep::from_cargo_string(text) {
-        NamedFeatureDep::NamedFeature(name) => out.line(format_args!("feature {name:?}")),
-        NamedFeatureDep::OptionalDependency(name) => out.line(format_args!("dependency {name:?}")),
+        NamedFeatureDep::NamedFeature(name) => out.text("feature [", name),
+        NamedFeatureDep::OptionalDependency(name) => out.text("dependency [", name),
         NamedFeatureDep::DependencyNamedFeature {
             dep_name,
             feature,
             weak,
         } => {
-            out.part(if weak { "weak " } else { "" });
-            out.line(format_args!("feature {feature:?} of {dep_name:?}"));
+            out.part_if(weak, "weak ");
+            out.text("feature [", feature);
+            out.text("] of [", dep_name);
         }
     }
+    out.line("]");
 }
 
 /// How two values compare, as a sign.
-pub fn sign(order: Ordering) -> char {
+pub fn sign(order: Ordering) -> &'static str {
     match order {
-        Ordering::Less => '<',
-        Ordering::Equal => '=',
-        Ordering::Greater => '>',
+        Ordering::Less => " <",
+        Ordering::Equal => " =",
+        Ordering::Greater => " >",
     }
 }
 
@@ -40,9 +42,9 @@ fn push_ids(ids: &mut Vec<PackageId>, alloc: Global, words: &str) -> Result<(), 
 
 /// How an id compares with each.
 fn tell_compared(out: &mut Out, id: &PackageId, ids: &[PackageId]) {
-    out.part(format_args!("{:?}:", id.repr()));
+    out.text(id.repr(), ":");
     for other in ids {
-        out.part(format_args!(" {}", sign(id.cmp(other))));
+        out.part(sign(id.cmp(other)));
     }
     out.line("");
 }
@@ -50,9 +52,10 @@ fn tell_compared(out: &mut Out, id: &PackageId, ids: &[PackageId]) {
 /// Whether an id's copy is equal to it.
 fn tell_copy(out: &mut Out, alloc: Global, id: &PackageId) {
     match id.try_clone(alloc) {
-        Ok(copy) => out.line(format_args!("{copy} {}", copy == *id)),
-        Err(_) => out.failure(Failure::Memory),
+        Ok(copy) => out.answer("copy ", copy == *id),
+        Err(_) => out.part("out of memory"),
     }
+    out.line("");
 }
 
 /// How each of some package ids compares with each, and whether its copy is equal to it.

@@ -37,10 +37,48 @@ impl Out {
         self.part("\n");
     }
 
+    /// Writes a text where an answer is yes.
+    pub fn part_if(&mut self, answer: bool, text: &str) {
+        if answer {
+            self.part(text);
+        }
+    }
+
+    /// Writes what Debug prints.
+    pub fn debug<T: fmt::Debug + Drop>(&mut self, value: T) {
+        if write!(self.stdout, "{value:?}").is_err() {
+            self.has_failed = true;
+        }
+    }
+
+    /// Writes what Debug prints, as a line or the rest of one.
+    pub fn debug_line<T: fmt::Debug + Drop>(&mut self, value: T) {
+        self.debug(value);
+        self.line("");
+    }
+
+    /// Writes two texts.
+    pub fn text(&mut self, before: &str, text: &str) {
+        self.part(before);
+        self.part(text);
+    }
+
+    /// Writes a text and a number.
+    pub fn number(&mut self, before: &str, number: usize) {
+        self.part(before);
+        self.part(number);
+    }
+
+    /// Writes a text and an answer.
+    pub fn answer(&mut self, before: &str, answer: bool) {
+        self.part(before);
+        self.part(answer);
+    }
+
     /// Writes numbers, each after a blank.
     pub fn numbers(&mut self, numbers: &[usize]) {
         for number in numbers {
-            self.part(format_args!(" {number}"));
+            self.number(" ", *number);
         }
     }
 
@@ -48,7 +86,11 @@ impl Out {
     pub fn failure(&mut self, failure: Failure) {
         match failure {
             Failure::Words => self.line("bad words"),
-            Failure::Row(error) => self.line(format_args!("row {}: {:?}", error.row, error.fault)),
+            Failure::Row(error) => {
+                self.number("row ", error.row);
+                self.part(": ");
+                self.debug_line(error.fault);
+            }
             Failure::Memory => self.line("out of memory"),
         }
     }

@@ -9,47 +9,51 @@ use guppy_packages::{
 };
 use std::alloc::Global;
 
-/// A place, or `none`.
-fn tell_place(out: &mut Out, place: Option<usize>) {
+/// A text that stands before a place, and the place or `none`.
+fn tell_place(out: &mut Out, before: &str, place: Option<usize>) {
     match place {
-        Some(place) => out.part(place),
-        None => out.part("none"),
+        Some(place) => out.number(before, place),
+        None => out.text(before, "none"),
     }
 }
 
 /// A named feature and its items.
 fn tell_feature(out: &mut Out, package: PackageMetadata<'_>, feature: &NamedFeature) {
-    out.part(format_args!("feature {} at ", feature.name()));
-    tell_place(out, package.feature_place(feature.name()));
+    out.text("feature ", feature.name());
+    tell_place(out, " at ", package.feature_place(feature.name()));
     out.part(":");
     for ix in 0..feature.item_count() {
-        out.part(format_args!(" {}", feature.item(ix)));
+        out.text(" ", feature.item(ix));
     }
     out.line("");
 }
 
 /// A name that an optional dependency has.
 fn tell_optional(out: &mut Out, package: PackageMetadata<'_>, name: &str) {
-    out.part(format_args!("optional {name} at "));
-    tell_place(out, package.optional_place(name));
+    out.text("optional ", name);
+    tell_place(out, " at ", package.optional_place(name));
     out.line("");
 }
 
-/// A package, its features and its optional names.
-fn tell_package(out: &mut Out, package: PackageMetadata<'_>) {
-    out.part(format_args!("package {} {}", package.package_ix(), package.id()));
+/// What a package says of itself.
+fn tell_facts(out: &mut Out, package: PackageMetadata<'_>) {
+    out.number("package ", package.package_ix());
+    out.text(" ", package.id().repr());
     out.part(if package.in_workspace() {
         " workspace"
     } else {
         " external"
     });
-    out.part(if package.has_default_feature() {
-        ", has a default"
-    } else {
-        ""
-    });
+    out.part_if(package.has_default_feature(), ", has a default");
     let links = package.direct_links();
-    out.line(format_args!(", links {}..{}", links.start, links.end));
+    out.number(", links ", links.start);
+    out.number("..", links.end);
+    out.line("");
+}
+
+/// A package, its features and its optional names.
+fn tell_package(out: &mut Out, package: PackageMetadata<'_>) {
+    tell_facts(out, package);
     for feature in package.named_features() {
         tell_feature(out, package, feature);
     }
@@ -60,20 +64,16 @@ fn tell_package(out: &mut Out, package: PackageMetadata<'_>) {
 
 /// A declaration of a link.
 fn tell_declaration(out: &mut Out, declaration: &Declaration) {
-    let need = if declaration.optional() {
-        "optional"
+    out.debug(declaration.kind());
+    out.part(if declaration.optional() {
+        ", optional, "
     } else {
-        "required"
-    };
-    out.part(format_args!("{:?}, {need}, ", declaration.kind()));
-    tell_status(out, PlatformStatus::new(declaration.platform()));
-    out.part(if declaration.default_features() {
-        ", with defaults"
-    } else {
-        ""
+        ", required, "
     });
+    tell_status(out, PlatformStatus::new(declaration.platform()));
+    out.part_if(declaration.default_features(), ", with defaults");
     for name in declaration.features() {
-        out.part(format_args!(", {name}"));
+        out.text(", ", name.as_str());
     }
     out.line("");
 }
@@ -81,15 +81,13 @@ fn tell_declaration(out: &mut Out, declaration: &Declaration) {
 /// A link and its declarations.
 fn tell_link(out: &mut Out, link: PackageLink<'_>) {
     let (from, to) = (link.from(), link.to());
-    out.part(format_args!("link {} ", link.link_ix()));
-    out.part(format_args!("{}-{} ", from.package_ix(), to.package_ix()));
-    out.part(link.dep_name());
-    out.part(if from == to { ", to itself" } else { "" });
-    out.line(if link.dev_only() {
-        ", for development alone"
-    } else {
-        ""
-    });
+    out.number("link ", link.link_ix());
+    out.number(" ", from.package_ix());
+    out.number("-", to.package_ix());
+    out.text(" ", link.dep_name());
+    out.part_if(from == to, ", to itself");
+    out.part_if(link.dev_only(), ", for development alone");
+    out.line("");
     for declaration in link.declarations() {
         tell_declaration(out, declaration);
     }
@@ -107,14 +105,10 @@ pub fn graph(out: &mut Out, graph: &PackageGraph) {
 
 /// Where a package has a name: the places among its features and among its optional names.
 fn tell_places(out: &mut Out, package: PackageMetadata<'_>, name: &str) {
-    out.part(format_args!(
-        "{} is package {}, ",
-        package.id().repr(),
-        package.package_ix()
-    ));
-    tell_place(out, package.feature_place(name));
-    out.part(" among its features, ");
-    tell_place(out, package.optional_place(name));
+    out.part(package.id());
+    out.number(" is package ", package.package_ix());
+    tell_place(out, ", ", package.feature_place(name));
+    tell_place(out, " among its features, ", package.optional_place(name));
     out.line(" among its optional names");
 }
 
@@ -129,7 +123,7 @@ pub fn place(
     let id = PackageId::new(alloc, id)?;
     match graph.metadata(&id) {
         Ok(package) => tell_places(out, package, name),
-        Err(error) => out.line(format_args!("{error:?}")),
+        Err(error) => out.debug_line(error),
     }
     Ok(())
 }

@@ -12,7 +12,7 @@ fn tell_platforms(out: &mut Out, status: PlatformStatus<'_>) {
         PlatformStatus::PlatformDependent(specs) => {
             out.part("on");
             for spec in specs {
-                out.part(format_args!(" {}", spec.text()));
+                out.text(" ", spec.text());
             }
         }
     }
@@ -21,9 +21,9 @@ fn tell_platforms(out: &mut Out, status: PlatformStatus<'_>) {
 /// A status, with the answers to its three questions.
 pub fn tell_status(out: &mut Out, status: PlatformStatus<'_>) {
     tell_platforms(out, status);
-    out.part(if status.is_never() { ", never" } else { "" });
-    out.part(if status.is_always() { ", always" } else { "" });
-    out.part(if status.is_present() { ", present" } else { "" });
+    out.part_if(status.is_never(), ", never");
+    out.part_if(status.is_always(), ", always");
+    out.part_if(status.is_present(), ", present");
 }
 
 fn push_specs(specs: &mut Vec<Spec>, alloc: Global, words: &str) -> Result<(), Failure> {

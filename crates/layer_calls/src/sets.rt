@@ -27,10 +27,13 @@ fn set_of(alloc: Global, words: &str) -> Result<IxBitSet, Failure> {
 
 /// A set's numbers, counted twice, and its bound.
 fn tell(out: &mut Out, name: &str, set: &IxBitSet) {
-    let (count, ones) = (set.count(), set.ones().len());
-    out.part(format_args!("{name}: {count}, {ones} of {}:", set.size()));
+    out.part(name);
+    out.number(": ", set.count());
+    out.number(", ", set.ones().len());
+    out.number(" of ", set.size());
+    out.part(":");
     for number in set.ones() {
-        out.part(format_args!(" {number}"));
+        out.number(" ", number);
     }
     out.line("");
 }
@@ -67,9 +70,10 @@ pub fn sets(out: &mut Out, alloc: Global, words: &str) -> Result<(), Failure> {
 
 /// How two sets compare.
 fn tell_equal(out: &mut Out, one: &IxBitSet, other: &IxBitSet) {
-    let (equal, unequal) = (one == other, one != other);
-    let identical = one.is_identical(other);
-    out.line(format_args!("equal {equal}, unequal {unequal}, identical {identical}"));
+    out.answer("equal ", one == other);
+    out.answer(", unequal ", one != other);
+    out.answer(", identical ", one.is_identical(other));
+    out.line("");
 }
 
 /// How a set's copy compares with it.
@@ -94,9 +98,10 @@ pub fn equal(out: &mut Out, alloc: Global, words: &str) -> Result<(), Failure> {
 pub fn full(out: &mut Out, alloc: Global, words: &str) -> Result<(), Failure> {
     let size = number(words)?;
     let set = IxBitSet::full(alloc, size)?;
-    out.part(format_args!("{} of {}", set.count(), set.size()));
+    out.number("", set.count());
+    out.number(" of ", set.size());
     if size > 0 && size == set.size() {
-        out.part(format_args!(", the last {}", set.contains(size - 1)));
+        out.answer(", the last ", set.contains(size - 1));
     }
     out.line("");
     Ok(())
