@@ -65,12 +65,7 @@ fn tell_link(out: &mut Out, link: ConditionalLink<'_>) {
 }
 
 /// Tells how a copy of the context answers for a link.
-fn tell_copy(
-    out: &mut Out,
-    alloc: Global,
-    cx: &FeatureLinkContext<'_>,
-    link: ConditionalLink<'_>,
-) {
+fn tell_copy(out: &mut Out, alloc: Global, cx: &FeatureLinkContext<'_>, link: ConditionalLink<'_>) {
     match cx.try_clone(alloc) {
         Ok(copy) => {
             out.part(format_args!(" copied {:?}", copy.direction()));

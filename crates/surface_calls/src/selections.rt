@@ -46,7 +46,11 @@ fn lent<'g>(alloc: Global, features: FeatureGraph<'g>, chooser: &mut Chooser) ->
 }
 
 /// By a closure.
-fn by_closure<'g>(alloc: Global, features: FeatureGraph<'g>, chooser: &mut Chooser) -> Selected<'g> {
+fn by_closure<'g>(
+    alloc: Global,
+    features: FeatureGraph<'g>,
+    chooser: &mut Chooser,
+) -> Selected<'g> {
     let mut own = *chooser;
     let mut filter = FeatureFilterFn::new(|graph, id| own.answer(graph, id));
     let selected = features.query_workspace(alloc, &mut filter);
@@ -63,7 +67,10 @@ fn counted<'g>(
     count: &Rc<Cell<u64>>,
 ) -> Selected<'g> {
     let asked = count.clone()?;
-    let mut filter: Box<dyn FeatureFilterObject> = Box::new(alloc, SharedChooser { chooser, asked })?;
+    let mut filter: Box<dyn FeatureFilterObject> = Box::new(
+        alloc,
+        SharedChooser { chooser, asked },
+    )?;
     features.query_workspace(alloc, &mut filter)
 }
 

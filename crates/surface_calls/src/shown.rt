@@ -2,8 +2,8 @@
 use crate::out::Out;
 use crate::told::tell_error;
 use guppy_features::{
-    FeatureFilterFn, FeatureGraph, FeatureId, FeatureQuery, StandardFeatures,
-    feature_id_filter, named_feature_filter,
+    FeatureFilterFn, FeatureGraph, FeatureId, FeatureQuery, StandardFeatures, feature_id_filter,
+    named_feature_filter,
 };
 use std::alloc::Global;
 

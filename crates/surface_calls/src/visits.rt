@@ -5,9 +5,7 @@ use crate::recorder::{Recorder, SharedRecorder};
 use crate::rules::Rule;
 use crate::sets::direction_of;
 use crate::told::{tell_error, tell_set};
-use guppy_features::{
-    Error, FeatureGraph, FeatureId, FeatureLinkObject, FeatureQuery, FeatureSet,
-};
+use guppy_features::{Error, FeatureGraph, FeatureId, FeatureLinkObject, FeatureQuery, FeatureSet};
 use std::alloc::Global;
 use std::cell::Cell;
 use std::rc::Rc;
@@ -37,8 +35,10 @@ fn counted<'g>(
     count: &Rc<Cell<u64>>,
 ) -> Resolved<'g> {
     let calls = count.clone()?;
-    let mut visitor: Box<dyn FeatureLinkObject> =
-        Box::new(alloc, SharedRecorder { recorder, calls })?;
+    let mut visitor: Box<dyn FeatureLinkObject> = Box::new(
+        alloc,
+        SharedRecorder { recorder, calls },
+    )?;
     query.resolve_with(alloc, &mut visitor)
 }
 
@@ -65,78 +65,46 @@ fn in_form<'g>(
     }
 }
 
-/// What a query resolves to twice, by one visitor in a box that is lent for the second time.
-fn two_runs<'g>(
+/// Tells what a query resolves to, and gives what an equal one does by the same visitor, in the state that the first left.
+fn second_run<'g>(
     out: &mut Out,
     alloc: Global,
     query: FeatureQuery<'g>,
-    shared: SharedRecorder,
-) -> Result<(), Error<'g>> {
+    form: &str,
+    recorder: &mut Recorder,
+) -> Resolved<'g> {
     let second = query.try_clone(alloc)?;
-    let mut visitor: Box<dyn FeatureLinkObject> = Box::new(alloc, shared)?;
-    tell_set(out, query.resolve_with(alloc, &mut visitor));
-    let mut again = &mut visitor;
-    tell_set(out, second.resolve_with(alloc, &mut again));
-    Ok(())
+    tell_set(out, in_form(alloc, query, form, recorder));
+    in_form(alloc, second, form, recorder)
 }
 
-/// Tells what a query resolves to twice, by one visitor in a box, and how often that was asked.
-fn tell_twice<'g>(
-    out: &mut Out,
-    alloc: Global,
-    query: FeatureQuery<'g>,
-    recorder: Recorder,
-) -> Result<(), Error<'g>> {
-    let count = Rc::new(alloc, Cell::new(0u64))?;
-    let calls = count.clone()?;
-    two_runs(out, alloc, query, SharedRecorder { recorder, calls })?;
-    out.line(format_args!("asked {}", count.get()));
-    Ok(())
-}
-
-/// What the query of the features resolves to twice, by direction and rule of its visitor.
-pub fn twice(
-    out: &mut Out,
-    alloc: Global,
-    features: FeatureGraph<'_>,
-    options: &str,
-    ids: &[FeatureId<'_>],
-) {
-    let (direction, rule) = cut(options);
-    let recorder = Recorder {
-        rule: Rule::of(alloc, rule),
-        calls: 0,
-        out: *out,
-    };
-    let told = match features.query_directed(alloc, ids, direction_of(direction)) {
-        Ok(query) => tell_twice(out, alloc, query, recorder),
-        Err(error) => return tell_error(out, error),
-    };
-    if let Err(error) = told {
-        tell_error(out, error);
-    }
-}
-
-/// Tells what a query resolves to, and how often the visitor was asked.
+/// Tells what a query resolves to by a visitor in this form, once or twice, and how often the visitor was asked.
 fn tell_visit(
     out: &mut Out,
     alloc: Global,
     query: FeatureQuery<'_>,
+    name: &str,
     form: &str,
     recorder: &mut Recorder,
 ) {
-    tell_set(out, in_form(alloc, query, form, recorder));
+    let resolved = if name == "twice" {
+        second_run(out, alloc, query, form, recorder)
+    } else {
+        in_form(alloc, query, form, recorder)
+    };
+    tell_set(out, resolved);
     out.line(format_args!("asked {}", recorder.calls));
 }
 
-/// What the query of the features resolves to, by form, direction and rule of its visitor.
+/// What the query of the features resolves to, once or twice by the call's name, by form, direction and rule of its visitor.
 pub fn visit(
     out: &mut Out,
     alloc: Global,
     features: FeatureGraph<'_>,
-    options: &str,
+    words: &str,
     ids: &[FeatureId<'_>],
 ) {
+    let (name, options) = cut(words);
     let (form, others) = cut(options);
     let (direction, rule) = cut(others);
     let mut recorder = Recorder {
@@ -145,7 +113,7 @@ pub fn visit(
         out: *out,
     };
     match features.query_directed(alloc, ids, direction_of(direction)) {
-        Ok(query) => tell_visit(out, alloc, query, form, &mut recorder),
+        Ok(query) => tell_visit(out, alloc, query, name, form, &mut recorder),
         Err(error) => tell_error(out, error),
     }
 }
