@@ -10,7 +10,7 @@ use Rattle.guppy_features.specs.Names.{AreKnown, HoldsExactly, at_places}
 use Rattle.guppy_features.specs.Views.{tables_of_graph}
 use Rattle.guppy_tool.specs.Answers.{Resolves, listing}
 use Rattle.guppy_tool.specs.Words.{given_of}
-use Rattle.guppy_tool.proofs.answer.resolved.Goals as goal
+use Rattle.guppy_tool.proofs.resolving.resolved.Goals as goal
 
 pub returns : goal.returns
 returns c =
