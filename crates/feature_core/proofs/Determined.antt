@@ -8,7 +8,10 @@ use Rattle.std.proofs.lemmas.List.{length-map, get_or-map}
 use Rattle.guppy_support.specs.Bits.{has}
 use Rattle.guppy_packages.specs.Tables.{Tables, AreTables, optional_place}
 use Rattle.feature_labels.specs.Names.LabelName.{optional}
+use Rattle.guppy_packages.specs.declared.direction.DependencyDirection.{DependencyDirection}
 use Rattle.feature_core.specs.Built.{Built, IsBuilt, AreAlike}
+use Rattle.feature_core.specs.Offers.{content_of}
+use Rattle.feature_core.specs.Ways.{content}
 use Rattle.feature_core.specs.Nodes.{NodeAt, labels_of, first_node}
 use Rattle.feature_core.specs.Candidates.{Edge, feature_to_base, named_feature, dep_colon, slash_full, slash_optional, slash_weak, section}
 use Rattle.feature_core.specs.Edges.{EdgeFacts, EdgeSays, AreBuilt, IsGate, facts_of, weak_link, first_ones}
@@ -214,3 +217,13 @@ same_as_built t tables a b false x s h = ((λ p. absurd (never p)), (λ y. absur
   where
     never : IsTrue false → ⊥
     never p = cc
+
+-- so is what walks follow
+pub one_content : (t : Tables) → AreTables t → (a b : Built) (direction : DependencyDirection) → IsBuilt t a → IsBuilt t b → content_of direction a ≡ content_of direction b
+one_content t tables a b direction x y =
+    same_content direction (length a.packages) (length b.packages) a.edges b.edges a.weak b.weak (ap length (x.packages ∙ sym y.packages))
+    (one_edges t a.edges b.edges a.weak b.weak x.edges y.edges)
+    (one_links t tables a.edges b.edges a.weak b.weak x.edges y.edges)
+  where
+    same_content : (direction : DependencyDirection) (m n : ℕ) (xs ys : List (ℕ × ℕ × EdgeFacts)) (v w : List (ℕ × ℕ)) → m ≡ n → xs ≡ ys → v ≡ w → content direction m xs v ≡ content direction n ys w
+    same_content direction m n xs ys v w e f g = ap (λ z. content direction z xs v) e ∙ ap (λ z. content direction n z v) f ∙ ap (λ z. content direction n ys z) g

@@ -8,10 +8,10 @@ ghost use Rattle.feature_core.specs.Edges.{AreBuilt};
 ghost use Rattle.feature_core.specs.Nodes.{node_packages};
 ghost use Rattle.feature_core.specs.Values.{edge_facts};
 
-use crate::edge_table::EdgeTable;
-use crate::edge::EdgeChoice;
-use crate::numbers::Numbers;
 use crate::chosen_reach::reach_chosen;
+use crate::edge::EdgeChoice;
+use crate::edge_table::EdgeTable;
+use crate::numbers::Numbers;
 use guppy_packages::{DependencyDirection, PackageMetadata};
 use guppy_support::IxBitSet;
 use std::alloc::{AllocError, Global};

@@ -6,9 +6,9 @@ ghost use Rattle.feature_core.specs.Values.{link_facts, half_facts, weak_facts_o
 ghost use Rattle.feature_core.specs.Warnings.{warning_of};
 ghost use Rattle.guppy_packages.specs.Platform.{spec_text, status_of};
 
-use crate::feature_graph_data::FeatureGraphData;
 use crate::edge::{FeatureEdge, SlashForm, WeakSlashImpl};
 use crate::error::Error;
+use crate::feature_graph_data::FeatureGraphData;
 use crate::laws::warning_equality;
 use crate::link::{ConditionalLinkImpl, EnabledLink};
 use crate::warning::FeatureGraphWarning;

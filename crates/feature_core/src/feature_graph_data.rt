@@ -15,19 +15,17 @@ ghost use Rattle.feature_core.specs.Values.{edge_facts};
 ghost use Rattle.feature_core.specs.Warnings.{warning_of};
 ghost use Rattle.feature_core.specs.Ways.{content};
 
-use crate::edge_table::{EdgeTable, edge_table};
-use crate::equality::{
-    same_edges, same_gates, same_numbers, same_pairs, same_sets, same_warnings,
-};
+use crate::chosen_reach::reach_chosen;
 use crate::defaults::default_marks;
 use crate::edge::{EdgeChoice, FeatureEdge, first_absent};
+use crate::edge_table::{EdgeTable, edge_table};
+use crate::equality::{same_edges, same_gates, same_numbers, same_pairs, same_sets, same_warnings};
 use crate::error::Error;
+use crate::gates::release_table;
 use crate::named_links::named_links;
 use crate::nodes::{NodeTable, node_table};
 use crate::numbers::{Numbers, label_at};
 use crate::packed::Packed;
-use crate::chosen_reach::reach_chosen;
-use crate::gates::release_table;
 use crate::warning::{FeatureGraphWarning, warnings};
 use feature_labels::{FeatureId, FeatureLabel};
 use guppy_packages::{DependencyDirection, PackageGraph, PackageMetadata};
@@ -65,11 +63,11 @@ impl Model for FeatureGraphData {
 
     ghost invariant = { λ d.
         (d.digraph.nodes ≡ length d.table.packages.items)
-        × IsOrderOf d.digraph d.order
         × (length d.edges.items ≡ length d.digraph.edges)
         × (d.digraph.edges ≡ map end_of (built_edges d.digraph.edges (map edge_facts d.edges.items)))
         × AreTied d.digraph (map edge_facts d.edges.items) d.weak.entries d.released.items
-        × (length d.defaults ≡ length d.table.packages.items) };
+        × (length d.defaults ≡ length d.table.packages.items)
+        × IsOrderOf d.digraph d.order };
 }
 
 /// The numbers of the nodes in this table.

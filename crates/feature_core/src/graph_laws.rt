@@ -83,3 +83,11 @@ pub fn content_of_graph(graph: &PackageGraph)
 {
     graph.facts();
 }
+
+/// What walks follow in a direction is determined by the package graph: any two builds of it agree.
+pub fn one_content(graph: &PackageGraph)
+    ensures { (a b : Built) (direction : DependencyDirection) → IsBuilt graph.now a → IsBuilt graph.now b
+        → content_of direction a ≡ content_of direction b }
+{
+    graph.facts();
+}

@@ -1,16 +1,18 @@
 //! The feature graph of package tables, and walks over it.
 #![tactic(auto)]
 
-mod edge_table;
 mod candidates;
-mod equality;
-mod feature_graph_data;
+mod chosen_reach;
 mod declarations;
 mod defaults;
 mod edge;
+mod edge_table;
 mod edges;
 pub mod engine;
+mod equality;
 mod error;
+mod feature_graph_data;
+mod gates;
 pub mod graph_laws;
 mod key;
 pub mod laws;
@@ -19,16 +21,14 @@ mod named_links;
 mod nodes;
 mod numbers;
 mod packed;
-mod chosen_reach;
-mod gates;
 mod text_map;
 mod walks;
 mod warning;
 mod weak_links;
 
-pub use feature_graph_data::FeatureGraphData;
 pub use edge::{EdgeChoice, FeatureEdge, SlashForm, WeakIndex, WeakSlashImpl};
 pub use error::Error;
+pub use feature_graph_data::FeatureGraphData;
 pub use link::{ConditionalLinkImpl, EnabledLink};
 pub use packed::Packed;
 pub use walks::{walk, walk_all};

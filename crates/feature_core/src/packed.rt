@@ -9,9 +9,9 @@ ghost use Rattle.feature_core.specs.inner.OpenWays.{open_way, open_ways};
 ghost use Rattle.feature_core.specs.inner.Releases.{AreTied};
 ghost use Rattle.feature_core.specs.Values.{edge_facts};
 
-use crate::feature_graph_data::FeatureGraphData;
 use crate::edge::{EdgeChoice, FeatureEdge, SlashForm};
 use crate::engine::{Ask, EdgeSource, Taken};
+use crate::feature_graph_data::FeatureGraphData;
 use crate::gates::released_at;
 use guppy_packages::DependencyDirection;
 use guppy_support::{Digraph, Edge};

@@ -9,9 +9,9 @@ ghost use Rattle.feature_core.specs.Pairs.{PairLeads, Reach, ReachAlong};
 ghost use Rattle.walk_engine.specs.Walks.{IsWalk, LegalRun, MayAsk};
 ghost use Rattle.feature_core.specs.Ways.{content};
 
-use crate::feature_graph_data::FeatureGraphData;
 use crate::edge::EdgeChoice;
 use crate::error::Error;
+use crate::feature_graph_data::FeatureGraphData;
 use crate::packed::Packed;
 use guppy_packages::DependencyDirection;
 use guppy_support::IxBitSet;

@@ -43,7 +43,6 @@ invariant_of-result c =
     let built : AreBuilt t (built_edges table.digraph.edges facts) table.weak.entries = subst (λ z. AreBuilt z (built_edges table.digraph.edges facts) table.weak.entries) c.numbers_in-numbers.ensures made.edges in
     let nodes : table.digraph.nodes ≡ length (node_packages t) = made.nodes ∙ ap length c.in_ok-table.ensures.packages in (
       made.nodes,
-      c.in_ok-order.ensures,
       made.long,
       made.ends,
       record {
@@ -52,6 +51,7 @@ invariant_of-result c =
         releases = subst (λ z. AreReleases (map edge_facts z) table.weak.entries c.in_ok-released.released.items) c.deref.ensures.value c.in_ok-released.ensures;
       },
       c.in_ok-defaults.ensures.long ∙ ap (λ z. length (node_packages z)) c.numbers_in-numbers.ensures ∙ sym (ap length c.in_ok-table.ensures.packages),
+      c.in_ok-order.ensures,
     )
 
 pub default_marks-requires : goal.default_marks-requires
