@@ -1,6 +1,6 @@
 -- Ascending lists with the same elements are the same.
-use Rattle.std.proofs.Common.{◌≡◌, ℕ, zero, suc, ◌<◌, ◌⊎◌, ⊎_elim, inl, inr, List, [], ◌∷◌, length, Ordering, Less, refl, ap, sym, subst, ◌∙◌, arith}
-use Rattle.std.specs.Prelude.{Contains, slice_index_or}
+use Rattle.std.proofs.Common.{◌≡◌, ℕ, zero, suc, ◌+◌, ◌<◌, ◌⊎◌, ⊎_elim, inl, inr, List, [], ◌∷◌, length, Ordering, Less, refl, ap, sym, subst, ◌∙◌, arith}
+use Rattle.std.specs.Prelude.{Contains, Some, slice_get, slice_index_or}
 use Rattle.std.specs.Cmp.{IsTotalOrder}
 use Rattle.std.specs.Ordering.{ordering_reverse}
 use Rattle.std.specs.List.{AllByRecursion}
@@ -22,6 +22,15 @@ later_element x xs y h = let within = h.1 in (suc h.0, omega arith, h.2)
 
 no_element : {X : Type 0} (x : X) → Contains [] x → ⊥
 no_element x h = omega (arith, h.1)
+
+-- an element stands at some place
+pub place_of_element : {X : Type 0} (xs : List X) (x : X) → Contains xs x → (k : ℕ) × (slice_get xs k ≡ Some x)
+place_of_element [] x h = absurd (no_element x h)
+place_of_element (y ∷ ys) x h =
+    ⊎_elim
+    (λ e. (0, ap Some e))
+    (λ e. let r = place_of_element ys x e in (suc r.0, r.1))
+    (at_cons y ys x h.0 h.1 h.2)
 
 of_all : {X : Type 0} (P : X → Type 0) (xs : List X) (y : X) → AllByRecursion P xs → Contains xs y → P y
 of_all P [] y h c = absurd (no_element y c)

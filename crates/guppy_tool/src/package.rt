@@ -48,7 +48,10 @@ pub fn listed(alloc: Global, graph: &PackageGraph, package_id: &PackageId) -> Re
     let Ok(built) = FeatureGraphData::build(alloc, graph, 0) else {
         return Err(Fault::Memory);
     };
-    match graph.feature_graph(&built).all_features_for(alloc, package_id) {
+    match graph
+        .feature_graph(&built)
+        .all_features_for(alloc, package_id)
+    {
         Ok(labels) => Ok(line_of(alloc, &labels)?),
         Err(error) => Err(fault_of(alloc, error)),
     }

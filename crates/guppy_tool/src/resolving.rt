@@ -22,7 +22,7 @@ use guppy_packages::{DependencyDirection, PackageGraph};
 use std::alloc::{AllocError, Global};
 
 /// The ids that the words gave.
-fn ids_of<'a>(alloc: Global, given: &'a [GivenId<'a>]) -> Result<Vec<FeatureId<'a>>, AllocError>
+fn ids_of<'a, 'b>(alloc: Global, given: &'a [GivenId<'b>]) -> Result<Vec<FeatureId<'a>>, AllocError>
     ensures { IfOk result (λ ids. map id_of ids.items ≡ map given_of given.now) }
 {
     let mut ids = Vec::new(alloc);

@@ -32,7 +32,9 @@ pub enum Command<'a> {
         ids: Vec<GivenId<'a>>,
     },
     /// The labels of a package.
-    List { package_id: PackageId },
+    List {
+        package_id: PackageId,
+    },
     /// What building noted of items and listed names that ask for what is not there.
     Warnings,
 }
@@ -124,7 +126,7 @@ fn listing<'a>(alloc: Global, arguments: &[&'a str]) -> Result<Command<'a>, Faul
 }
 
 /// The command of a word, over its arguments.
-fn command<'a>(alloc: Global, word: &str, arguments: &[&'a str]) -> Result<Command<'a>, Fault>
+fn asked<'a>(alloc: Global, word: &str, arguments: &[&'a str]) -> Result<Command<'a>, Fault>
     ensures { Gives command_of result (command_in word.now (texts arguments.now)) }
 {
     if word == "resolve" {
@@ -154,5 +156,5 @@ pub fn parse_words<'a>(alloc: Global, words: &[&'a str]) -> Result<(&'a str, Com
     let [file, word, arguments @ ..] = words else {
         return Err(Fault::Usage);
     };
-    Ok((file, command(alloc, word, arguments)?))
+    Ok((file, asked(alloc, word, arguments)?))
 }
