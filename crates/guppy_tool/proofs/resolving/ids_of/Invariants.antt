@@ -1,7 +1,7 @@
 use Rattle.std.proofs.Common.{◌≡◌, map, take}
 use Rattle.feature_labels.specs.Names.{id_of}
 use Rattle.guppy_tool.specs.Words.{given_of}
-use Rattle.guppy_tool.proofs.answer.ids_of.Given as goal
+use Rattle.guppy_tool.proofs.resolving.ids_of.Given as goal
 
 -- The ids so far.
 abbrev pub invariant-loop-id : goal.invariant-loop-id
