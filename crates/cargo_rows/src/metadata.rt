@@ -1,0 +1,55 @@
+//! The rows of a document.
+use crate::dependencies::{check_names, dependencies_of};
+use crate::fault::Fault;
+use crate::nodes::{Dep, members_in, nodes_in};
+use crate::packages::{Package, packages_in};
+use crate::rows::{push_dependencies, push_features, push_package};
+use serde_json::Value;
+use std::alloc::Global;
+
+/// Adds the rows of one package.
+fn push_rows<'p, 'v>(
+    alloc: Global,
+    rows: &mut String,
+    package: &'p Package<'v>,
+    is_member: bool,
+    deps: &[Dep<'p, 'v>],
+) -> Result<(), Fault> {
+    push_package(alloc, rows, package, is_member)?;
+    push_features(alloc, rows, &package.features)?;
+    let dependencies = dependencies_of(alloc, package, deps)?;
+    check_names(alloc, package, &dependencies)?;
+    push_dependencies(alloc, rows, &dependencies)
+}
+
+/// The rows of a document, as text.
+fn rows_of_document(alloc: Global, document: &Value) -> Result<String, Fault> {
+    let packages = packages_in(alloc, document)?;
+    let members = members_in(alloc, &packages, document)?;
+    let nodes = nodes_in(alloc, &packages, document)?;
+    let mut rows = String::new(alloc);
+    for (id, package) in &packages {
+        let deps = match nodes.get(*id) {
+            Some(deps) => deps.as_slice(),
+            None => &[],
+        };
+        push_rows(alloc, &mut rows, package, members.contains(*id), deps)?;
+    }
+    Ok(rows)
+}
+
+/// The rows of the document that the bytes are, as text.
+pub(crate) fn rows_of_bytes(alloc: Global, bytes: Vec<u8>) -> Result<String, Fault> {
+    let Ok(text) = std::str::from_utf8(&bytes) else {
+        return Err(Fault::NotText);
+    };
+    let document = match Value::from_str(alloc, text) {
+        Ok(document) => document,
+        Err(error) if error.is_memory() => return Err(Fault::Memory),
+        Err(error) => {
+            return Err(Fault::NotJson { line: error.line(), column: error.column() });
+        }
+    };
+    drop(bytes);
+    rows_of_document(alloc, &document)
+}
