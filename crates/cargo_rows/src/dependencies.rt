@@ -49,70 +49,84 @@ fn is_used(declaration: &Declaration<'_>, dep: &Dep<'_, '_>) -> bool {
         .any(|it| it.kind == declaration.kind && it.platform == declaration.platform)
 }
 
-/// The packages that fit the declaration, and of these those that are used for it.
-fn used_packages<'p, 'v>(
-    alloc: Global,
-    declaration: &Declaration<'v>,
-    deps: &[Dep<'p, 'v>],
-) -> Result<Vec<&'p Package<'v>>, AllocError> {
-    let mut found = Vec::new(alloc);
+/// What was found among packages.
+#[derive(Clone, Copy)]
+pub(crate) enum Found<'p, 'v> {
+    Nothing,
+    One(&'p Package<'v>),
+    Several,
+}
+
+impl<'p, 'v> Found<'p, 'v> {
+    /// What was found with one more package.
+    fn with(self, package: &'p Package<'v>) -> Found<'p, 'v> {
+        match self {
+            Found::Nothing => Found::One(package),
+            _ => Found::Several,
+        }
+    }
+}
+
+/// The packages that are used for the declaration.
+fn used<'p, 'v>(declaration: &Declaration<'_>, deps: &[Dep<'p, 'v>]) -> Found<'p, 'v> {
+    let mut found = Found::Nothing;
     for dep in deps {
         if fits(declaration, dep) && is_used(declaration, dep) {
-            found.push(dep.package)?;
+            found = found.with(dep.package);
         }
     }
-    Ok(found)
+    found
 }
 
-/// The packages that fit the declaration.
-fn fitting_packages<'p, 'v>(
+/// The packages that are used for the declaration, and that its requirement admits.
+fn used_and_admitted<'p, 'v>(
     alloc: Global,
-    declaration: &Declaration<'v>,
+    declaration: &Declaration<'_>,
     deps: &[Dep<'p, 'v>],
-) -> Result<Vec<&'p Package<'v>>, AllocError> {
-    let mut found = Vec::new(alloc);
+) -> Result<Found<'p, 'v>, AllocError> {
+    let mut found = Found::Nothing;
     for dep in deps {
-        if fits(declaration, dep) {
-            found.push(dep.package)?;
+        if fits(declaration, dep)
+            && is_used(declaration, dep)
+            && admits(alloc, declaration.requirement, dep.package.version)?
+        {
+            found = found.with(dep.package);
         }
     }
     Ok(found)
 }
 
-/// Those whose version the declaration admits.
+/// The packages that fit the declaration, and that its requirement admits.
 fn admitted<'p, 'v>(
     alloc: Global,
-    declaration: &Declaration<'v>,
-    packages: &[&'p Package<'v>],
-) -> Result<Vec<&'p Package<'v>>, AllocError> {
-    let mut found = Vec::new(alloc);
-    for package in packages {
-        if admits(alloc, declaration.requirement, package.version)? {
-            found.push(*package)?;
+    declaration: &Declaration<'_>,
+    deps: &[Dep<'p, 'v>],
+) -> Result<Found<'p, 'v>, AllocError> {
+    let mut found = Found::Nothing;
+    for dep in deps {
+        if fits(declaration, dep) && admits(alloc, declaration.requirement, dep.package.version)? {
+            found = found.with(dep.package);
         }
     }
     Ok(found)
 }
 
-/// The packages that the declaration may lead to.
-fn chosen<'p, 'v>(
+/// What the declaration leads to. The requirement is asked only where more than one package is used for the
+/// declaration, or where none is and it is optional.
+fn choice<'p, 'v>(
     alloc: Global,
-    declaration: &Declaration<'v>,
+    declaration: &Declaration<'_>,
     deps: &[Dep<'p, 'v>],
-) -> Result<Vec<&'p Package<'v>>, AllocError> {
-    let used = used_packages(alloc, declaration, deps)?;
-    if used.len() == 1 {
-        return Ok(used);
+) -> Result<Found<'p, 'v>, AllocError> {
+    match used(declaration, deps) {
+        Found::One(package) => Ok(Found::One(package)),
+        Found::Nothing if declaration.is_optional => admitted(alloc, declaration, deps),
+        Found::Nothing => Ok(Found::Nothing),
+        Found::Several => match used_and_admitted(alloc, declaration, deps)? {
+            Found::Nothing => Ok(Found::Several),
+            narrowed => Ok(narrowed),
+        },
     }
-    if used.is_empty() {
-        if !declaration.is_optional {
-            return Ok(used);
-        }
-        let fitting = fitting_packages(alloc, declaration, deps)?;
-        return admitted(alloc, declaration, &fitting);
-    }
-    let narrowed = admitted(alloc, declaration, &used)?;
-    if narrowed.is_empty() { Ok(used) } else { Ok(narrowed) }
 }
 
 /// The fault that more than one package meets a declaration.
@@ -127,14 +141,13 @@ fn ambiguous(alloc: Global, package: &str, name: &str) -> Result<Fault, AllocErr
 fn target_of<'p, 'v>(
     alloc: Global,
     id: &str,
-    declaration: &Declaration<'v>,
+    declaration: &Declaration<'_>,
     deps: &[Dep<'p, 'v>],
 ) -> Result<Option<&'p Package<'v>>, Fault> {
-    let found = chosen(alloc, declaration, deps)?;
-    match found.as_slice() {
-        [] => Ok(None),
-        [target] => Ok(Some(*target)),
-        _ => Err(ambiguous(alloc, id, declaration.name)?),
+    match choice(alloc, declaration, deps)? {
+        Found::Nothing => Ok(None),
+        Found::One(target) => Ok(Some(target)),
+        Found::Several => Err(ambiguous(alloc, id, declaration.name)?),
     }
 }
 

@@ -7,17 +7,20 @@ use crate::rows::{push_dependencies, push_features, push_package};
 use serde_json::Value;
 use std::alloc::Global;
 
-/// Adds the rows of one package.
+/// Adds the rows of one package, of whose dependencies the node tells, where it has one.
 fn push_rows<'p, 'v>(
     alloc: Global,
     rows: &mut String,
     package: &'p Package<'v>,
     is_member: bool,
-    deps: &[Dep<'p, 'v>],
+    deps: Option<&Vec<Dep<'p, 'v>>>,
 ) -> Result<(), Fault> {
     push_package(alloc, rows, package, is_member)?;
     push_features(alloc, rows, &package.features)?;
-    let dependencies = dependencies_of(alloc, package, deps)?;
+    let dependencies = match deps {
+        Some(deps) => dependencies_of(alloc, package, deps)?,
+        None => Vec::new(alloc),
+    };
     check_names(alloc, package, &dependencies)?;
     push_dependencies(alloc, rows, &dependencies)
 }
@@ -29,11 +32,8 @@ fn rows_of_document(alloc: Global, document: &Value) -> Result<String, Fault> {
     let nodes = nodes_in(alloc, &packages, document)?;
     let mut rows = String::new(alloc);
     for (id, package) in &packages {
-        let deps = match nodes.get(*id) {
-            Some(deps) => deps.as_slice(),
-            None => &[],
-        };
-        push_rows(alloc, &mut rows, package, members.contains(*id), deps)?;
+        let is_member = members.contains(*id);
+        push_rows(alloc, &mut rows, package, is_member, nodes.get(*id))?;
     }
     Ok(rows)
 }
