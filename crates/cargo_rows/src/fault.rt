@@ -1,4 +1,7 @@
 //! Why there are no rows.
+ghost use Rattle.std.specs.Prelude.{◌≡◌};
+ghost use Rattle.cargo_rows.specs.Faults.{refusal_of, read_refusal};
+
 use byte_devices::ReadError;
 use std::alloc::{AllocError, AllocFailed};
 use std::fmt;
@@ -85,7 +88,6 @@ pub enum Fault {
 
 impl From<AllocError> for Fault {
     ghost use Rattle.cargo_rows.specs.declared.fault.Fault.TheVariants.{Memory};
-    ghost use Rattle.std.specs.Prelude.{◌≡◌};
 
     ghost from_gives = { λ _ fault. fault ≡ Memory };
 
@@ -96,7 +98,6 @@ impl From<AllocError> for Fault {
 
 impl<T: Drop> From<AllocFailed<T>> for Fault {
     ghost use Rattle.cargo_rows.specs.declared.fault.Fault.TheVariants.{Memory};
-    ghost use Rattle.std.specs.Prelude.{◌≡◌};
 
     ghost from_gives = { λ _ fault. fault ≡ Memory };
 
@@ -106,6 +107,8 @@ impl<T: Drop> From<AllocFailed<T>> for Fault {
 }
 
 impl From<ReadError> for Fault {
+    ghost from_gives = { λ error fault. refusal_of fault ≡ read_refusal error };
+
     fn from(error: ReadError) -> Fault {
         match error {
             ReadError::Failed => Fault::CannotRead,
