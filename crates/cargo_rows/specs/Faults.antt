@@ -4,6 +4,8 @@ use Rattle.std.specs.String.{string_bytes}
 use Rattle.byte_devices.specs.declared.whole.ReadError.{ReadError}
 use Rattle.byte_devices.specs.declared.whole.ReadError.TheVariants as error
 use Rattle.cargo_rows.specs.declared.fault.Place.{Place}
+use Rattle.cargo_rows.specs.declared.fault.DocumentFault.{DocumentFault}
+use Rattle.cargo_rows.specs.declared.fault.DocumentFault.TheVariants as refused
 use Rattle.cargo_rows.specs.declared.fault.Fault.{Fault}
 use Rattle.cargo_rows.specs.declared.fault.Fault.TheVariants as fault
 
@@ -11,12 +13,8 @@ use Rattle.cargo_rows.specs.declared.fault.Fault.TheVariants as fault
 abbrev pub Text : Type 0
 Text = List ℕ
 
--- why there are no rows
+-- why a document has no rows
 pub data Refusal : Type 0 where
-  usage : Refusal
-  cannot_read : Refusal
-  not_text : Refusal
-  not_json : ℕ → ℕ → Refusal
   bad_field : Place → Text → Refusal
   repeated : Place → Refusal
   no_package : Place → Text → Text → Refusal
@@ -24,26 +22,20 @@ pub data Refusal : Type 0 where
   two_names : Text → Text → Text → Text → Refusal
   control : Text → Refusal
   out_of_memory : Refusal
-  cannot_write : Refusal
 
-abbrev pub refusal_of : Fault → Refusal
-refusal_of fault.Usage = usage
-refusal_of fault.CannotRead = cannot_read
-refusal_of fault.NotText = not_text
-refusal_of (fault.NotJson line column) = not_json line column
-refusal_of (fault.Field place name) = bad_field place name.now
-refusal_of (fault.Repeated place) = repeated place
-refusal_of (fault.NoPackage place name id) = no_package place name.now (string_bytes id)
-refusal_of (fault.Ambiguous owner name) = ambiguous (string_bytes owner) (string_bytes name)
-refusal_of (fault.TwoNames owner target first second) = two_names (string_bytes owner) (string_bytes target) (string_bytes first) (string_bytes second)
-refusal_of (fault.Control text) = control (string_bytes text)
-refusal_of fault.Memory = out_of_memory
-refusal_of fault.CannotWrite = cannot_write
+abbrev pub refusal_of : DocumentFault → Refusal
+refusal_of (refused.Field place name) = bad_field place name.now
+refusal_of (refused.Repeated place) = repeated place
+refusal_of (refused.NoPackage place name id) = no_package place name.now (string_bytes id)
+refusal_of (refused.Ambiguous owner name) = ambiguous (string_bytes owner) (string_bytes name)
+refusal_of (refused.TwoNames owner target first second) = two_names (string_bytes owner) (string_bytes target) (string_bytes first) (string_bytes second)
+refusal_of (refused.Control text) = control (string_bytes text)
+refusal_of refused.Memory = out_of_memory
 
 -- why not all bytes were read
-abbrev pub read_refusal : ReadError → Refusal
-read_refusal error.Failed = cannot_read
-read_refusal error.Memory = out_of_memory
+abbrev pub read_fault : ReadError → Fault
+read_fault error.Failed = fault.CannotRead
+read_fault error.Memory = fault.Memory
 
 -- want of memory claims nothing
 abbrev pub IfNotMemory : Refusal → Type 0 → Type 0
@@ -51,7 +43,7 @@ IfNotMemory out_of_memory claim = Unit {0}
 IfNotMemory _ claim = claim
 
 -- A call answered what is given, its value seen by a view.
-abbrev pub Gives : {X Y : Type 0} → (X → Y) → Result X Fault → Result Y Refusal → Type 0
+abbrev pub Gives : {X Y : Type 0} → (X → Y) → Result X DocumentFault → Result Y Refusal → Type 0
 Gives view (Ok x) given = given ≡ Ok (view x)
 Gives view (Err e) given = IfNotMemory (refusal_of e) (given ≡ Err (refusal_of e))
 

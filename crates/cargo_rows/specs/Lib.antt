@@ -1,3 +1,6 @@
 pub mod Faults
 pub mod Fields
 pub mod Requirements
+pub mod Dependencies
+pub mod Rows
+pub mod Run

@@ -20,9 +20,9 @@ numbers_in (Ok v) = Some (plain_version v)
 numbers_in (Err e) = None
 
 abbrev pub admits_numbers : Result (List Held) Error → Option Parts → Bool
+admits_numbers cs None = false
 admits_numbers (Ok cs) (Some v) = list_all (λ c. matches_view (plain_comparator c) v) cs
-admits_numbers (Ok cs) None = false
-admits_numbers (Err e) v = false
+admits_numbers (Err e) (Some v) = false
 
 -- Each comparator of the requirement admits the version. A text that is no requirement, or no version, admits nothing.
 abbrev pub admits : Text → Text → Bool

@@ -1,6 +1,6 @@
 //! Why there are no rows.
 ghost use Rattle.std.specs.Prelude.{◌≡◌};
-ghost use Rattle.cargo_rows.specs.Faults.{refusal_of, read_refusal};
+ghost use Rattle.cargo_rows.specs.Faults.{read_fault};
 
 use byte_devices::ReadError;
 use std::alloc::{AllocError, AllocFailed};
@@ -51,17 +51,9 @@ impl fmt::Display for Place {
     }
 }
 
-/// Why there are no rows; its Display is the line for standard error.
+/// Why a document has no rows.
 #[derive(Debug, Drop, Error)]
-pub enum Fault {
-    #[error("usage: rows [FILE]")]
-    Usage,
-    #[error("cannot read")]
-    CannotRead,
-    #[error("not UTF-8")]
-    NotText,
-    #[error("line {line}, column {column}: not JSON")]
-    NotJson { line: usize, column: usize },
+pub enum DocumentFault {
     /// A field that lacks, or has another type than is wanted.
     #[error("{place}{name}: missing or of another type")]
     Field { place: Place, name: &'static str },
@@ -82,32 +74,49 @@ pub enum Fault {
     Control { text: String },
     #[error("out of memory")]
     Memory,
+}
+
+impl From<AllocError> for DocumentFault {
+    ghost use Rattle.cargo_rows.specs.declared.fault.DocumentFault.TheVariants.{Memory};
+
+    ghost from_gives = { λ _ fault. fault ≡ Memory };
+
+    fn from(_: AllocError) -> DocumentFault {
+        DocumentFault::Memory
+    }
+}
+
+impl<T: Drop> From<AllocFailed<T>> for DocumentFault {
+    ghost use Rattle.cargo_rows.specs.declared.fault.DocumentFault.TheVariants.{Memory};
+
+    ghost from_gives = { λ _ fault. fault ≡ Memory };
+
+    fn from(_: AllocFailed<T>) -> DocumentFault {
+        DocumentFault::Memory
+    }
+}
+
+/// Why there are no rows; its Display is the line for standard error.
+#[derive(Debug, Drop, Error)]
+pub enum Fault {
+    #[error("usage: rows [FILE]")]
+    Usage,
+    #[error("cannot read")]
+    CannotRead,
+    #[error("not UTF-8")]
+    NotText,
+    #[error("line {line}, column {column}: not JSON")]
+    NotJson { line: usize, column: usize },
+    #[error("{fault}")]
+    Document { fault: DocumentFault },
+    #[error("out of memory")]
+    Memory,
     #[error("cannot write")]
     CannotWrite,
 }
 
-impl From<AllocError> for Fault {
-    ghost use Rattle.cargo_rows.specs.declared.fault.Fault.TheVariants.{Memory};
-
-    ghost from_gives = { λ _ fault. fault ≡ Memory };
-
-    fn from(_: AllocError) -> Fault {
-        Fault::Memory
-    }
-}
-
-impl<T: Drop> From<AllocFailed<T>> for Fault {
-    ghost use Rattle.cargo_rows.specs.declared.fault.Fault.TheVariants.{Memory};
-
-    ghost from_gives = { λ _ fault. fault ≡ Memory };
-
-    fn from(_: AllocFailed<T>) -> Fault {
-        Fault::Memory
-    }
-}
-
 impl From<ReadError> for Fault {
-    ghost from_gives = { λ error fault. refusal_of fault ≡ read_refusal error };
+    ghost from_gives = { λ error fault. fault ≡ read_fault error };
 
     fn from(error: ReadError) -> Fault {
         match error {

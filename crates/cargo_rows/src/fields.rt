@@ -4,17 +4,17 @@ ghost use Rattle.serde_json.specs.View.{view, items_view, members_view};
 ghost use Rattle.cargo_rows.specs.Faults.{Gives};
 ghost use Rattle.cargo_rows.specs.Fields as spec;
 
-use crate::fault::{Fault, Place};
+use crate::fault::{DocumentFault, Place};
 use serde_json::{Map, Value};
 use std::alloc::Global;
 
 /// The field that is a text.
-pub(crate) fn text_in<'v>(object: &'v Value, place: Place, name: &'static str) -> Result<&'v str, Fault>
+pub(crate) fn text_in<'v>(object: &'v Value, place: Place, name: &'static str) -> Result<&'v str, DocumentFault>
     ensures { Gives (λ s. s.now) result (spec.text_in place name.now (view object.now)) }
 {
     match object.get(name) {
         Some(Value::String(text)) => Ok(text.as_str()),
-        _ => Err(Fault::Field { place, name }),
+        _ => Err(DocumentFault::Field { place, name }),
     }
 }
 
@@ -23,33 +23,33 @@ pub(crate) fn optional_text_in<'v>(
     object: &'v Value,
     place: Place,
     name: &'static str,
-) -> Result<Option<&'v str>, Fault>
+) -> Result<Option<&'v str>, DocumentFault>
     ensures { Gives (λ o. option_map (λ s. s.now) o) result (spec.optional_text_in place name.now (view object.now)) }
 {
     match object.get(name) {
         Some(Value::String(text)) => Ok(Some(text.as_str())),
         Some(Value::Null) => Ok(None),
-        _ => Err(Fault::Field { place, name }),
+        _ => Err(DocumentFault::Field { place, name }),
     }
 }
 
 /// The field that is true or false.
-pub(crate) fn flag_in(object: &Value, place: Place, name: &'static str) -> Result<bool, Fault>
+pub(crate) fn flag_in(object: &Value, place: Place, name: &'static str) -> Result<bool, DocumentFault>
     ensures { Gives (λ b. b) result (spec.flag_in place name.now (view object.now)) }
 {
     match object.get(name) {
         Some(Value::Bool(flag)) => Ok(*flag),
-        _ => Err(Fault::Field { place, name }),
+        _ => Err(DocumentFault::Field { place, name }),
     }
 }
 
 /// The field that is a list.
-pub(crate) fn list_in<'v>(object: &'v Value, place: Place, name: &'static str) -> Result<&'v Vec<Value>, Fault>
+pub(crate) fn list_in<'v>(object: &'v Value, place: Place, name: &'static str) -> Result<&'v Vec<Value>, DocumentFault>
     ensures { Gives (λ v. items_view v.now.items) result (spec.list_in place name.now (view object.now)) }
 {
     match object.get(name) {
         Some(Value::Array(items)) => Ok(items),
-        _ => Err(Fault::Field { place, name }),
+        _ => Err(DocumentFault::Field { place, name }),
     }
 }
 
@@ -58,12 +58,12 @@ pub(crate) fn object_in<'v>(
     object: &'v Value,
     place: Place,
     name: &'static str,
-) -> Result<&'v Map<String, Value>, Fault>
+) -> Result<&'v Map<String, Value>, DocumentFault>
     ensures { Gives (λ m. members_view m.now.entries) result (spec.object_in place name.now (view object.now)) }
 {
     match object.get(name) {
         Some(Value::Object(members)) => Ok(members),
-        _ => Err(Fault::Field { place, name }),
+        _ => Err(DocumentFault::Field { place, name }),
     }
 }
 
@@ -73,14 +73,14 @@ pub(crate) fn texts_of<'v>(
     items: &'v Vec<Value>,
     place: Place,
     name: &'static str,
-) -> Result<Vec<&'v str>, Fault>
+) -> Result<Vec<&'v str>, DocumentFault>
     ensures { Gives (λ texts. map (λ s. s.now) texts.items) result (spec.wanted place name.now (spec.all_texts (items_view items.now.items))) }
 {
     let mut texts = Vec::with_capacity(alloc, items.len())?;
     for item in items {
         match item {
             Value::String(text) => texts.push(text.as_str())?,
-            _ => return Err(Fault::Field { place, name }),
+            _ => return Err(DocumentFault::Field { place, name }),
         }
     }
     Ok(texts)
@@ -92,7 +92,7 @@ pub(crate) fn texts_in<'v>(
     object: &'v Value,
     place: Place,
     name: &'static str,
-) -> Result<Vec<&'v str>, Fault>
+) -> Result<Vec<&'v str>, DocumentFault>
     ensures { Gives (λ texts. map (λ s. s.now) texts.items) result (spec.texts_in place name.now (view object.now)) }
 {
     texts_of(alloc, list_in(object, place, name)?, place, name)

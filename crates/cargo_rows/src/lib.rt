@@ -13,4 +13,4 @@ mod rows;
 
 pub use byte_devices::{ByteInput, ByteOutput, Failed, FromReader, ToWriter};
 pub use engine::run;
-pub use fault::{Fault, Place};
+pub use fault::{DocumentFault, Fault, Place};

@@ -1,6 +1,10 @@
 //! The rows of a document.
+ghost use Rattle.std.specs.Prelude.{OnOk, IfErr};
+ghost use Rattle.serde_json.specs.Data.{Data};
+ghost use Rattle.cargo_rows.specs.Run.{IsDocument, Refuses};
+
 use crate::dependencies::{check_names, dependencies_of};
-use crate::fault::Fault;
+use crate::fault::{DocumentFault, Fault};
 use crate::nodes::{Dep, members_in, nodes_in};
 use crate::packages::{Package, packages_in};
 use crate::rows::{push_dependencies, push_features, push_package};
@@ -14,7 +18,7 @@ fn push_rows<'p, 'v>(
     package: &'p Package<'v>,
     is_member: bool,
     deps: Option<&Vec<Dep<'p, 'v>>>,
-) -> Result<(), Fault> {
+) -> Result<(), DocumentFault> {
     push_package(alloc, rows, package, is_member)?;
     push_features(alloc, rows, &package.features)?;
     let dependencies = match deps {
@@ -26,7 +30,7 @@ fn push_rows<'p, 'v>(
 }
 
 /// The rows of a document, as text.
-fn rows_of_document(alloc: Global, document: &Value) -> Result<String, Fault> {
+fn rows_of_document(alloc: Global, document: &Value) -> Result<String, DocumentFault> {
     let packages = packages_in(alloc, document)?;
     let members = members_in(alloc, &packages, document)?;
     let nodes = nodes_in(alloc, &packages, document)?;
@@ -39,7 +43,10 @@ fn rows_of_document(alloc: Global, document: &Value) -> Result<String, Fault> {
 }
 
 /// The rows of the document that the bytes are, as text.
-pub(crate) fn rows_of_bytes(alloc: Global, bytes: Vec<u8>) -> Result<String, Fault> {
+pub(crate) fn rows_of_bytes(alloc: Global, bytes: Vec<u8>) -> Result<String, Fault>
+    ensures ok { OnOk result ((d : Data) × IsDocument bytes.items d) }
+    ensures fault { IfErr result (λ fault. Refuses bytes.items fault) }
+{
     let Ok(text) = std::str::from_utf8(&bytes) else {
         return Err(Fault::NotText);
     };
@@ -51,5 +58,9 @@ pub(crate) fn rows_of_bytes(alloc: Global, bytes: Vec<u8>) -> Result<String, Fau
         }
     };
     drop(bytes);
-    rows_of_document(alloc, &document)
+    match rows_of_document(alloc, &document) {
+        Ok(rows) => Ok(rows),
+        Err(DocumentFault::Memory) => Err(Fault::Memory),
+        Err(fault) => Err(Fault::Document { fault }),
+    }
 }

@@ -1,5 +1,5 @@
 //! Which package each dependency was resolved to.
-use crate::fault::{Fault, Place};
+use crate::fault::{DocumentFault, Place};
 use crate::fields::{list_in, optional_text_in, text_in, texts_in};
 use crate::packages::{Kind, Package, Packages, kind_in};
 use serde_json::Value;
@@ -17,7 +17,7 @@ pub(crate) struct Use<'v> {
 #[derive(Drop)]
 pub(crate) struct Dep<'p, 'v> {
     pub(crate) extern_name: &'v str,
-    pub(crate) package: &'p Package<'v>,
+    pub(crate) target: &'p Package<'v>,
     pub(crate) uses: Vec<Use<'v>>,
 }
 
@@ -25,13 +25,13 @@ pub(crate) struct Dep<'p, 'v> {
 pub(crate) type Nodes<'p, 'v> = BTreeMap<&'v str, Vec<Dep<'p, 'v>>>;
 
 /// The fault that no package has this id.
-fn no_package(alloc: Global, place: Place, name: &'static str, id: &str) -> Result<Fault, AllocError> {
+fn no_package(alloc: Global, place: Place, name: &'static str, id: &str) -> Result<DocumentFault, AllocError> {
     let id = String::from_str(alloc, id)?;
-    Ok(Fault::NoPackage { place, name, id })
+    Ok(DocumentFault::NoPackage { place, name, id })
 }
 
 /// The kinds and platforms for which a dependency is used.
-fn uses_of<'v>(alloc: Global, objects: &'v Vec<Value>, node: usize, dep: usize) -> Result<Vec<Use<'v>>, Fault> {
+fn uses_of<'v>(alloc: Global, objects: &'v Vec<Value>, node: usize, dep: usize) -> Result<Vec<Use<'v>>, DocumentFault> {
     let mut uses = Vec::with_capacity(alloc, objects.len())?;
     for (kind, object) in objects.iter().enumerate() {
         let place = Place::DepKind { node, dep, kind };
@@ -49,16 +49,16 @@ fn dep_of<'p, 'v>(
     object: &'v Value,
     node: usize,
     dep: usize,
-) -> Result<Dep<'p, 'v>, Fault> {
+) -> Result<Dep<'p, 'v>, DocumentFault> {
     let place = Place::Dep { node, dep };
     let extern_name = text_in(object, place, "name")?;
     let id = text_in(object, place, "pkg")?;
     let kinds = list_in(object, place, "dep_kinds")?;
-    let Some(package) = packages.get(id) else {
+    let Some(target) = packages.get(id) else {
         return Err(no_package(alloc, place, "pkg", id)?);
     };
     let uses = uses_of(alloc, kinds, node, dep)?;
-    Ok(Dep { extern_name, package, uses })
+    Ok(Dep { extern_name, target, uses })
 }
 
 /// The packages that the node of this place uses.
@@ -67,7 +67,7 @@ fn deps_of<'p, 'v>(
     packages: &'p Packages<'v>,
     objects: &'v Vec<Value>,
     node: usize,
-) -> Result<Vec<Dep<'p, 'v>>, Fault> {
+) -> Result<Vec<Dep<'p, 'v>>, DocumentFault> {
     let mut deps = Vec::with_capacity(alloc, objects.len())?;
     for (dep, object) in objects.iter().enumerate() {
         deps.push(dep_of(alloc, packages, object, node, dep)?)?;
@@ -80,9 +80,9 @@ pub(crate) fn nodes_in<'p, 'v>(
     alloc: Global,
     packages: &'p Packages<'v>,
     document: &'v Value,
-) -> Result<Nodes<'p, 'v>, Fault> {
+) -> Result<Nodes<'p, 'v>, DocumentFault> {
     let Some(resolve) = document.get("resolve") else {
-        return Err(Fault::Field { place: Place::Document, name: "resolve" });
+        return Err(DocumentFault::Field { place: Place::Document, name: "resolve" });
     };
     let objects = list_in(resolve, Place::Resolve, "nodes")?;
     let mut nodes = BTreeMap::new(alloc);
@@ -94,7 +94,7 @@ pub(crate) fn nodes_in<'p, 'v>(
         }
         let deps = deps_of(alloc, packages, list_in(object, place, "deps")?, node)?;
         if nodes.insert(id, deps)?.is_some() {
-            return Err(Fault::Repeated { place });
+            return Err(DocumentFault::Repeated { place });
         }
     }
     Ok(nodes)
@@ -105,7 +105,7 @@ pub(crate) fn members_in<'v>(
     alloc: Global,
     packages: &Packages<'v>,
     document: &'v Value,
-) -> Result<BTreeSet<&'v str>, Fault> {
+) -> Result<BTreeSet<&'v str>, DocumentFault> {
     let ids = texts_in(alloc, document, Place::Document, "workspace_members")?;
     let mut members = BTreeSet::new(alloc);
     for id in ids {

@@ -1,5 +1,5 @@
 //! The packages of a document, with what they declare.
-use crate::fault::{Fault, Place};
+use crate::fault::{DocumentFault, Place};
 use crate::fields::{flag_in, list_in, object_in, optional_text_in, text_in, texts_in, texts_of};
 use serde_json::{Map, Value};
 use std::alloc::Global;
@@ -49,17 +49,17 @@ pub(crate) struct Package<'v> {
 pub(crate) type Packages<'v> = BTreeMap<&'v str, Package<'v>>;
 
 /// The field `kind` of a declaration or of a way in which a dependency is used.
-pub(crate) fn kind_in(object: &Value, place: Place) -> Result<Kind, Fault> {
+pub(crate) fn kind_in(object: &Value, place: Place) -> Result<Kind, DocumentFault> {
     match optional_text_in(object, place, "kind")? {
         None => Ok(Kind::Normal),
         Some("build") => Ok(Kind::Build),
         Some("dev") => Ok(Kind::Dev),
-        Some(_) => Err(Fault::Field { place, name: "kind" }),
+        Some(_) => Err(DocumentFault::Field { place, name: "kind" }),
     }
 }
 
 /// One declaration.
-fn declaration_of<'v>(alloc: Global, object: &'v Value, place: Place) -> Result<Declaration<'v>, Fault> {
+fn declaration_of<'v>(alloc: Global, object: &'v Value, place: Place) -> Result<Declaration<'v>, DocumentFault> {
     Ok(Declaration {
         name: text_in(object, place, "name")?,
         rename: optional_text_in(object, place, "rename")?,
@@ -77,7 +77,7 @@ fn declarations_of<'v>(
     alloc: Global,
     objects: &'v Vec<Value>,
     package: usize,
-) -> Result<Vec<Declaration<'v>>, Fault> {
+) -> Result<Vec<Declaration<'v>>, DocumentFault> {
     let mut declarations = Vec::with_capacity(alloc, objects.len())?;
     for (dependency, object) in objects.iter().enumerate() {
         let place = Place::Dependency { package, dependency };
@@ -91,11 +91,11 @@ fn features_of<'v>(
     alloc: Global,
     members: &'v Map<String, Value>,
     place: Place,
-) -> Result<Vec<Feature<'v>>, Fault> {
+) -> Result<Vec<Feature<'v>>, DocumentFault> {
     let mut features = Vec::with_capacity(alloc, members.len())?;
     for (name, value) in members {
         let Value::Array(items) = value else {
-            return Err(Fault::Field { place, name: "features" });
+            return Err(DocumentFault::Field { place, name: "features" });
         };
         let items = texts_of(alloc, items, place, "features")?;
         features.push(Feature { name: name.as_str(), items })?;
@@ -112,7 +112,7 @@ fn is_library_kind(kind: &str) -> bool {
 }
 
 /// The name of the target, where it is a library.
-fn library_of<'v>(alloc: Global, object: &'v Value, place: Place) -> Result<Option<&'v str>, Fault> {
+fn library_of<'v>(alloc: Global, object: &'v Value, place: Place) -> Result<Option<&'v str>, DocumentFault> {
     let name = text_in(object, place, "name")?;
     let kinds = texts_in(alloc, object, place, "kind")?;
     if kinds.iter().any(|kind| is_library_kind(kind)) {
@@ -127,7 +127,7 @@ fn first_library<'v>(
     alloc: Global,
     objects: &'v Vec<Value>,
     package: usize,
-) -> Result<Option<&'v str>, Fault> {
+) -> Result<Option<&'v str>, DocumentFault> {
     let mut first = None;
     for (target, object) in objects.iter().enumerate() {
         let found = library_of(alloc, object, Place::Target { package, target })?;
@@ -139,7 +139,7 @@ fn first_library<'v>(
 }
 
 /// One package, by its place.
-fn package_of<'v>(alloc: Global, object: &'v Value, package: usize) -> Result<Package<'v>, Fault> {
+fn package_of<'v>(alloc: Global, object: &'v Value, package: usize) -> Result<Package<'v>, DocumentFault> {
     let place = Place::Package { package };
     let declared = list_in(object, place, "dependencies")?;
     let targets = list_in(object, place, "targets")?;
@@ -155,13 +155,13 @@ fn package_of<'v>(alloc: Global, object: &'v Value, package: usize) -> Result<Pa
 }
 
 /// The packages of the document, by their ids.
-pub(crate) fn packages_in<'v>(alloc: Global, document: &'v Value) -> Result<Packages<'v>, Fault> {
+pub(crate) fn packages_in<'v>(alloc: Global, document: &'v Value) -> Result<Packages<'v>, DocumentFault> {
     let objects = list_in(document, Place::Document, "packages")?;
     let mut packages = BTreeMap::new(alloc);
     for (place, object) in objects.iter().enumerate() {
         let package = package_of(alloc, object, place)?;
         if packages.insert(package.id, package)?.is_some() {
-            return Err(Fault::Repeated { place: Place::Package { package: place } });
+            return Err(DocumentFault::Repeated { place: Place::Package { package: place } });
         }
     }
     Ok(packages)

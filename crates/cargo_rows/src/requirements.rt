@@ -1,9 +1,10 @@
 //! Which versions a requirement admits.
-ghost use Rattle.std.specs.Prelude.{◌≡◌, IfOk, option_map};
+ghost use Rattle.std.specs.Prelude.{◌≡◌, Some, IfOk, option_map};
+ghost use Rattle.std.specs.List.{list_all};
 ghost use Rattle.semver.specs.Identifiers.{comparator_view, parts_of};
-ghost use Rattle.semver.specs.Parse.{version_parts};
+ghost use Rattle.semver.specs.Parse.{req_of, version_parts};
 ghost use Rattle.semver.specs.EvalViews.{matches_view};
-ghost use Rattle.cargo_rows.specs.Requirements.{plain_comparator, plain_version, numbers_in, admits};
+ghost use Rattle.cargo_rows.specs.Requirements.{plain_comparator, plain_version, numbers_in, admits_numbers, admits};
 
 use semver::{Comparator, Error, Prerelease, Version, VersionReq};
 use std::alloc::{AllocError, Global};
@@ -33,20 +34,34 @@ fn numbers_of(alloc: Global, text: &str) -> Result<Option<Version>, AllocError>
     }
 }
 
+/// Whether each comparator admits the version, with pre-releases left out.
+fn admits_each(requirement: &VersionReq, version: &Version) -> bool
+    ensures { result ≡ list_all (λ c. matches_view (plain_comparator (comparator_view c)) (parts_of version.now)) requirement.now.comparators.items }
+{
+    requirement
+        .comparators
+        .iter()
+        .all(|comparator| admits_plainly(comparator, version))
+}
+
+/// Whether the requirement admits the version, with pre-releases left out. A text that is no requirement admits nothing.
+fn admits_version(alloc: Global, requirement: &str, version: &Version) -> Result<bool, AllocError>
+    ensures { IfOk result (λ b. b ≡ admits_numbers (req_of requirement.now) (Some (parts_of version.now))) }
+{
+    match VersionReq::parse(alloc, requirement) {
+        Ok(parsed) => Ok(admits_each(&parsed, version)),
+        Err(error) if error == Error::from(AllocError) => Err(AllocError),
+        Err(_) => Ok(false),
+    }
+}
+
 /// Whether the requirement admits the version, with pre-releases left out on both sides. A text that is no
 /// requirement, or no version, admits nothing.
 pub(crate) fn admits(alloc: Global, requirement: &str, version: &str) -> Result<bool, AllocError>
     ensures { IfOk result (λ b. b ≡ admits requirement.now version.now) }
 {
-    let Some(version) = numbers_of(alloc, version)? else {
-        return Ok(false);
-    };
-    match VersionReq::parse(alloc, requirement) {
-        Ok(requirement) => Ok(requirement
-            .comparators
-            .iter()
-            .all(|comparator| admits_plainly(comparator, &version))),
-        Err(error) if error == Error::from(AllocError) => Err(AllocError),
-        Err(_) => Ok(false),
+    match numbers_of(alloc, version)? {
+        Some(version) => admits_version(alloc, requirement, &version),
+        None => Ok(false),
     }
 }

@@ -1,7 +1,7 @@
 //! The program `rows [FILE]`.
 //!
-//! FILE is what `cargo metadata --format-version 1` wrote; without it, that is read from standard input. The rows
-//! go to standard output; a fault is one line on standard error, and the exit status is 1, or 2 where the words
+//! FILE is what `cargo metadata --format-version 1` wrote; without it, or where it is `-`, that is read from standard
+//! input. The rows go to standard output; a fault is one line on standard error, and the exit status is 1, or 2 where the words
 //! were at fault.
 #![tactic(auto)]
 
@@ -18,17 +18,26 @@ fn answer(rt: &HostRuntime) -> Result<(), Fault> {
         Err(error) if error.kind() == ErrorKind::InvalidData => return Err(Fault::Usage),
         Err(_) => return Err(Fault::Memory),
     };
-    let mut writer = ToWriter::new(io::writer(rt));
-    let Some(file) = words.next() else {
-        let mut reader = FromReader::new(rt.stdin());
-        return run(rt.alloc(), &mut reader, &mut writer);
-    };
+    let file = words.next();
     if words.next().is_some() {
         return Err(Fault::Usage);
     }
-    let Ok(opened) = File::open(rt, file.as_str()) else {
+    match file {
+        Some(file) if file.as_str() != "-" => answer_file(rt, file.as_str()),
+        _ => {
+            let mut writer = ToWriter::new(io::writer(rt));
+            let mut reader = FromReader::new(rt.stdin());
+            run(rt.alloc(), &mut reader, &mut writer)
+        }
+    }
+}
+
+/// Writes the rows of the file of this path.
+fn answer_file(rt: &HostRuntime, path: &str) -> Result<(), Fault> {
+    let Ok(opened) = File::open(rt, path) else {
         return Err(Fault::CannotRead);
     };
+    let mut writer = ToWriter::new(io::writer(rt));
     let mut reader = FromReader::new(opened);
     run(rt.alloc(), &mut reader, &mut writer)
 }
