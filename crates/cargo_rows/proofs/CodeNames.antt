@@ -34,15 +34,15 @@ step xs ys i h k = rw (add-one, drop-cons xs i 0 h, drop-cons ys i 0 k) refl
 
 pub in_code_same : (xs ys : List ℕ) (i : ℕ) → i < length xs → i < length ys → get_or xs i 0 ≡ in_code (get_or ys i 0) → is_in_code (drop i xs) (drop i ys) ≡ is_in_code (drop (i + 1) xs) (drop (i + 1) ys)
 unfolding is_in_code
-in_code_same xs ys i h k e = step xs ys i h k ∙ and_true _ _ (same_true _ _ e)
+in_code_same xs ys i h k e = step xs ys i h k ∙ and_true (same (get_or xs i 0) (get_or ys i 0)) (pointwise same (drop (i + 1) xs) (drop (i + 1) ys)) (same_true (get_or xs i 0) (get_or ys i 0) e)
 
 pub in_code_other : (xs ys : List ℕ) (i : ℕ) → i < length xs → i < length ys → (get_or xs i 0 ≡ in_code (get_or ys i 0) → ⊥) → is_in_code (drop i xs) (drop i ys) ≡ false
 unfolding is_in_code
-in_code_other xs ys i h k n = step xs ys i h k ∙ and_false _ _ (same_false _ _ n)
+in_code_other xs ys i h k n = step xs ys i h k ∙ and_false (same (get_or xs i 0) (get_or ys i 0)) (pointwise same (drop (i + 1) xs) (drop (i + 1) ys)) (same_false (get_or xs i 0) (get_or ys i 0) n)
 
 pub in_code_long : (xs ys : List ℕ) → (length xs ≡ length ys → ⊥) → is_in_code xs ys ≡ false
 unfolding is_in_code
-in_code_long xs ys n = not_true _ (λ e. n (pointwise_long same xs ys e))
+in_code_long xs ys n = not_true (pointwise same xs ys) (λ e. n (pointwise_long same xs ys e))
 
 pub in_code_end : (xs ys : List ℕ) (i : ℕ) → i ≡ length xs → i ≡ length ys → is_in_code (drop i xs) (drop i ys) ≡ true
 unfolding is_in_code

@@ -21,9 +21,9 @@ tested : (t : Dep → Bool) (ds : List Dep) (z : Dep) (b : Bool) → t z ≡ b �
 tested t ds z true e = rw (filter-append t ds (z ∷ []), e, map-append target (filter t ds) (z ∷ [])) (found_of-more _ _)
 tested t ds z false e = rw (filter-append t ds (z ∷ []), e, map-append target (filter t ds) []) (ap found_of (append-nil _))
 
-pub pick_none : (ask : Asked) (d : Declaration) (ds : List Dep) → pick ask d (take 0 ds) ≡ nothing
+pub pick_none : (ask : Asked) (d : Declaration) → pick ask d [] ≡ nothing
 unfolding pick
-pick_none ask d ds = refl
+pick_none ask d = refl
 
 pub pick_step : (ask : Asked) (d : Declaration) (ds : List Dep) (i : ℕ) (z : Dep) → i < length ds → z ≡ get_or ds i z → and_one (meets ask d z) (pick ask d (take i ds)) z.target.now ≡ pick ask d (take (i + 1) ds)
 unfolding pick

@@ -1,6 +1,5 @@
 -- The text of rows.
-use Rattle.std.specs.Prelude.{ℕ, ◌||◌, ◌==◌, ◌++◌, List, [], ◌∷◌, nat_lt, flat_map, map, codes, Option, Some, None, Bool, true, false, not, Result, Ok, Err, if◌then◌else◌, ⊤}
-use Rattle.std.specs.List.{list_any}
+use Rattle.std.specs.Prelude.{ℕ, ◌||◌, ◌==◌, ◌++◌, List, [], ◌∷◌, nat_lt, flat_map, map, codes, Option, Some, None, Bool, true, false, Result, Ok, Err, if◌then◌else◌, ⊤}
 use Rattle.std.specs.Char.{is_ascii_control}
 use Rattle.std.specs.Borrow.{Bor}
 use Rattle.cargo_rows.specs.declared.packages.Kind.{Kind}
@@ -11,14 +10,15 @@ use Rattle.cargo_rows.specs.declared.packages.Package.{Package}
 use Rattle.cargo_rows.specs.Dependencies.{name_of}
 use Rattle.cargo_rows.specs.Faults.{Text, Refusal, control}
 
--- whether a text may stand in a row: it has no control character
-abbrev pub can_stand : Text → Bool
-can_stand s = not (list_any is_ascii_control s)
+-- whether a text has a control character, so that it can't stand in a row
+abbrev pub has_control : Text → Bool
+has_control [] = false
+has_control (b ∷ rest) = is_ascii_control b || has_control rest
 
 -- the first text that may not stand in a row is refused
 abbrev pub allowed : List Text → Result ⊤ Refusal
 allowed [] = Ok tt
-allowed (s ∷ rest) = if can_stand s then allowed rest else Err (control s)
+allowed (s ∷ rest) = if has_control s then Err (control s) else allowed rest
 
 -- fields, a tab before each
 abbrev pub fields_text : List Text → Text

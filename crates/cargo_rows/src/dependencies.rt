@@ -99,9 +99,8 @@ fn same_platform(one: Option<&str>, other: Option<&str>) -> bool
 fn is_used(declaration: &Declaration<'_>, dep: &Dep<'_, '_>) -> bool
     ensures { result ≡ spec.is_used declaration.now dep.now }
 {
-    dep.uses
-        .iter()
-        .any(|it| same_kind(it.kind, declaration.kind) && same_platform(it.platform, declaration.platform))
+    dep.uses.iter().any(|it| same_kind(it.kind, declaration.kind)
+        && same_platform(it.platform, declaration.platform))
 }
 
 /// What is asked of a package that fits a declaration by its names.
@@ -264,7 +263,10 @@ pub(crate) fn dependencies_of<'p, 'v>(
     let mut dependencies = Vec::new(alloc);
     for declaration in &package.declarations {
         if let Some(target) = target_of(alloc, package.id, declaration, deps)? {
-            dependencies.push(Dependency { declaration, target })?;
+            dependencies.push(Dependency {
+                declaration,
+                target,
+            })?;
         }
     }
     Ok(dependencies)

@@ -15,17 +15,34 @@ pub enum Place {
     /// `resolve`
     Resolve,
     /// `packages[package]`
-    Package { package: usize },
+    Package {
+        package: usize,
+    },
     /// `packages[package].dependencies[dependency]`
-    Dependency { package: usize, dependency: usize },
+    Dependency {
+        package: usize,
+        dependency: usize,
+    },
     /// `packages[package].targets[target]`
-    Target { package: usize, target: usize },
+    Target {
+        package: usize,
+        target: usize,
+    },
     /// `resolve.nodes[node]`
-    Node { node: usize },
+    Node {
+        node: usize,
+    },
     /// `resolve.nodes[node].deps[dep]`
-    Dep { node: usize, dep: usize },
+    Dep {
+        node: usize,
+        dep: usize,
+    },
     /// `resolve.nodes[node].deps[dep].dep_kinds[kind]`
-    DepKind { node: usize, dep: usize, kind: usize },
+    DepKind {
+        node: usize,
+        dep: usize,
+        kind: usize,
+    },
 }
 
 impl fmt::Display for Place {
@@ -56,22 +73,41 @@ impl fmt::Display for Place {
 pub enum DocumentFault {
     /// A field that lacks, or has another type than is wanted.
     #[error("{place}{name}: missing or of another type")]
-    Field { place: Place, name: &'static str },
+    Field {
+        place: Place,
+        name: &'static str,
+    },
     /// The id of a package, or of a node, that an earlier one has.
     #[error("{place}id: repeated")]
-    Repeated { place: Place },
+    Repeated {
+        place: Place,
+    },
     /// The id of a package that isn't there.
     #[error("{place}{name}: no package {id:?}")]
-    NoPackage { place: Place, name: &'static str, id: String },
+    NoPackage {
+        place: Place,
+        name: &'static str,
+        id: String,
+    },
     /// A declaration that more than one package meets.
     #[error("package {package:?}: dependency {name:?} is ambiguous")]
-    Ambiguous { package: String, name: String },
+    Ambiguous {
+        package: String,
+        name: String,
+    },
     /// Two names of one dependency between two packages.
     #[error("package {package:?}: dependency on {target:?} is named {first:?} and {second:?}")]
-    TwoNames { package: String, target: String, first: String, second: String },
+    TwoNames {
+        package: String,
+        target: String,
+        first: String,
+        second: String,
+    },
     /// A text that can't stand in a row file.
     #[error("control character in {text:?}")]
-    Control { text: String },
+    Control {
+        text: String,
+    },
     #[error("out of memory")]
     Memory,
 }

@@ -9,7 +9,11 @@ use serde_json::{Map, Value};
 use std::alloc::Global;
 
 /// The field that is a text.
-pub(crate) fn text_in<'v>(object: &'v Value, place: Place, name: &'static str) -> Result<&'v str, DocumentFault>
+pub(crate) fn text_in<'v>(
+    object: &'v Value,
+    place: Place,
+    name: &'static str,
+) -> Result<&'v str, DocumentFault>
     ensures { Gives (λ s. s.now) result (spec.text_in place name.now (view object.now)) }
 {
     match object.get(name) {
@@ -34,7 +38,11 @@ pub(crate) fn optional_text_in<'v>(
 }
 
 /// The field that is true or false.
-pub(crate) fn flag_in(object: &Value, place: Place, name: &'static str) -> Result<bool, DocumentFault>
+pub(crate) fn flag_in(
+    object: &Value,
+    place: Place,
+    name: &'static str,
+) -> Result<bool, DocumentFault>
     ensures { Gives (λ b. b) result (spec.flag_in place name.now (view object.now)) }
 {
     match object.get(name) {
@@ -44,7 +52,11 @@ pub(crate) fn flag_in(object: &Value, place: Place, name: &'static str) -> Resul
 }
 
 /// The field that is a list.
-pub(crate) fn list_in<'v>(object: &'v Value, place: Place, name: &'static str) -> Result<&'v Vec<Value>, DocumentFault>
+pub(crate) fn list_in<'v>(
+    object: &'v Value,
+    place: Place,
+    name: &'static str,
+) -> Result<&'v Vec<Value>, DocumentFault>
     ensures { Gives (λ v. items_view v.now.items) result (spec.list_in place name.now (view object.now)) }
 {
     match object.get(name) {

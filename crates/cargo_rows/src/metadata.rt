@@ -1,6 +1,5 @@
 //! The rows of a document.
 ghost use Rattle.std.specs.Prelude.{OnOk, IfErr};
-ghost use Rattle.serde_json.specs.Data.{Data};
 ghost use Rattle.cargo_rows.specs.Run.{IsDocument, Refuses};
 
 use crate::dependencies::{check_names, dependencies_of};
@@ -42,21 +41,34 @@ fn rows_of_document(alloc: Global, document: &Value) -> Result<String, DocumentF
     Ok(rows)
 }
 
-/// The rows of the document that the bytes are, as text.
-pub(crate) fn rows_of_bytes(alloc: Global, bytes: Vec<u8>) -> Result<String, Fault>
-    ensures ok { OnOk result ((d : Data) × IsDocument bytes.items d) }
-    ensures fault { IfErr result (λ fault. Refuses bytes.items fault) }
+/// The document that the bytes are.
+fn document_of(alloc: Global, bytes: &[u8]) -> Result<Value, Fault>
+    ensures ok { OnOk result (IsDocument bytes.now) }
+    ensures fault { IfErr result (λ fault. Refuses bytes.now fault) }
 {
-    let Ok(text) = std::str::from_utf8(&bytes) else {
+    let Ok(text) = str::from_utf8(bytes) else {
         return Err(Fault::NotText);
     };
-    let document = match Value::from_str(alloc, text) {
-        Ok(document) => document,
-        Err(error) if error.is_memory() => return Err(Fault::Memory),
+    match Value::from_str(alloc, text) {
+        Ok(document) => Ok(document),
         Err(error) => {
-            return Err(Fault::NotJson { line: error.line(), column: error.column() });
+            if error.is_memory() {
+                return Err(Fault::Memory);
+            }
+            Err(Fault::NotJson {
+                line: error.line(),
+                column: error.column(),
+            })
         }
-    };
+    }
+}
+
+/// The rows of the document that the bytes are, as text.
+pub(crate) fn rows_of_bytes(alloc: Global, bytes: Vec<u8>) -> Result<String, Fault>
+    ensures ok { OnOk result (IsDocument bytes.items) }
+    ensures fault { IfErr result (λ fault. Refuses bytes.items fault) }
+{
+    let document = document_of(alloc, &bytes)?;
     drop(bytes);
     match rows_of_document(alloc, &document) {
         Ok(rows) => Ok(rows),

@@ -25,13 +25,23 @@ pub(crate) struct Dep<'p, 'v> {
 pub(crate) type Nodes<'p, 'v> = BTreeMap<&'v str, Vec<Dep<'p, 'v>>>;
 
 /// The fault that no package has this id.
-fn no_package(alloc: Global, place: Place, name: &'static str, id: &str) -> Result<DocumentFault, AllocError> {
+fn no_package(
+    alloc: Global,
+    place: Place,
+    name: &'static str,
+    id: &str,
+) -> Result<DocumentFault, AllocError> {
     let id = String::from_str(alloc, id)?;
     Ok(DocumentFault::NoPackage { place, name, id })
 }
 
 /// The kinds and platforms for which a dependency is used.
-fn uses_of<'v>(alloc: Global, objects: &'v Vec<Value>, node: usize, dep: usize) -> Result<Vec<Use<'v>>, DocumentFault> {
+fn uses_of<'v>(
+    alloc: Global,
+    objects: &'v Vec<Value>,
+    node: usize,
+    dep: usize,
+) -> Result<Vec<Use<'v>>, DocumentFault> {
     let mut uses = Vec::with_capacity(alloc, objects.len())?;
     for (kind, object) in objects.iter().enumerate() {
         let place = Place::DepKind { node, dep, kind };
@@ -58,7 +68,11 @@ fn dep_of<'p, 'v>(
         return Err(no_package(alloc, place, "pkg", id)?);
     };
     let uses = uses_of(alloc, kinds, node, dep)?;
-    Ok(Dep { extern_name, target, uses })
+    Ok(Dep {
+        extern_name,
+        target,
+        uses,
+    })
 }
 
 /// The packages that the node of this place uses.
@@ -82,7 +96,10 @@ pub(crate) fn nodes_in<'p, 'v>(
     document: &'v Value,
 ) -> Result<Nodes<'p, 'v>, DocumentFault> {
     let Some(resolve) = document.get("resolve") else {
-        return Err(DocumentFault::Field { place: Place::Document, name: "resolve" });
+        return Err(DocumentFault::Field {
+            place: Place::Document,
+            name: "resolve",
+        });
     };
     let objects = list_in(resolve, Place::Resolve, "nodes")?;
     let mut nodes = BTreeMap::new(alloc);

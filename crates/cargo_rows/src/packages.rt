@@ -54,12 +54,19 @@ pub(crate) fn kind_in(object: &Value, place: Place) -> Result<Kind, DocumentFaul
         None => Ok(Kind::Normal),
         Some("build") => Ok(Kind::Build),
         Some("dev") => Ok(Kind::Dev),
-        Some(_) => Err(DocumentFault::Field { place, name: "kind" }),
+        Some(_) => Err(DocumentFault::Field {
+            place,
+            name: "kind",
+        }),
     }
 }
 
 /// One declaration.
-fn declaration_of<'v>(alloc: Global, object: &'v Value, place: Place) -> Result<Declaration<'v>, DocumentFault> {
+fn declaration_of<'v>(
+    alloc: Global,
+    object: &'v Value,
+    place: Place,
+) -> Result<Declaration<'v>, DocumentFault> {
     Ok(Declaration {
         name: text_in(object, place, "name")?,
         rename: optional_text_in(object, place, "rename")?,
@@ -80,7 +87,10 @@ fn declarations_of<'v>(
 ) -> Result<Vec<Declaration<'v>>, DocumentFault> {
     let mut declarations = Vec::with_capacity(alloc, objects.len())?;
     for (dependency, object) in objects.iter().enumerate() {
-        let place = Place::Dependency { package, dependency };
+        let place = Place::Dependency {
+            package,
+            dependency,
+        };
         declarations.push(declaration_of(alloc, object, place)?)?;
     }
     Ok(declarations)
@@ -95,10 +105,16 @@ fn features_of<'v>(
     let mut features = Vec::with_capacity(alloc, members.len())?;
     for (name, value) in members {
         let Value::Array(items) = value else {
-            return Err(DocumentFault::Field { place, name: "features" });
+            return Err(DocumentFault::Field {
+                place,
+                name: "features",
+            });
         };
         let items = texts_of(alloc, items, place, "features")?;
-        features.push(Feature { name: name.as_str(), items })?;
+        features.push(Feature {
+            name: name.as_str(),
+            items,
+        })?;
     }
     Ok(features)
 }
@@ -112,7 +128,11 @@ fn is_library_kind(kind: &str) -> bool {
 }
 
 /// The name of the target, where it is a library.
-fn library_of<'v>(alloc: Global, object: &'v Value, place: Place) -> Result<Option<&'v str>, DocumentFault> {
+fn library_of<'v>(
+    alloc: Global,
+    object: &'v Value,
+    place: Place,
+) -> Result<Option<&'v str>, DocumentFault> {
     let name = text_in(object, place, "name")?;
     let kinds = texts_in(alloc, object, place, "kind")?;
     if kinds.iter().any(|kind| is_library_kind(kind)) {
@@ -139,7 +159,11 @@ fn first_library<'v>(
 }
 
 /// One package, by its place.
-fn package_of<'v>(alloc: Global, object: &'v Value, package: usize) -> Result<Package<'v>, DocumentFault> {
+fn package_of<'v>(
+    alloc: Global,
+    object: &'v Value,
+    package: usize,
+) -> Result<Package<'v>, DocumentFault> {
     let place = Place::Package { package };
     let declared = list_in(object, place, "dependencies")?;
     let targets = list_in(object, place, "targets")?;
@@ -155,13 +179,18 @@ fn package_of<'v>(alloc: Global, object: &'v Value, package: usize) -> Result<Pa
 }
 
 /// The packages of the document, by their ids.
-pub(crate) fn packages_in<'v>(alloc: Global, document: &'v Value) -> Result<Packages<'v>, DocumentFault> {
+pub(crate) fn packages_in<'v>(
+    alloc: Global,
+    document: &'v Value,
+) -> Result<Packages<'v>, DocumentFault> {
     let objects = list_in(document, Place::Document, "packages")?;
     let mut packages = BTreeMap::new(alloc);
     for (place, object) in objects.iter().enumerate() {
         let package = package_of(alloc, object, place)?;
         if packages.insert(package.id, package)?.is_some() {
-            return Err(DocumentFault::Repeated { place: Place::Package { package: place } });
+            return Err(DocumentFault::Repeated {
+                place: Place::Package { package: place },
+            });
         }
     }
     Ok(packages)

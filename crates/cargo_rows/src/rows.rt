@@ -8,11 +8,16 @@ use crate::fault::DocumentFault;
 use crate::packages::{Feature, Kind, Package};
 use std::alloc::{AllocError, Global};
 
-/// Whether a text may stand in a row: it has no control character.
-fn can_stand(text: &str) -> bool
-    ensures { result ≡ spec.can_stand text.now }
+/// Whether one of the bytes is a control character.
+fn has_control(bytes: &[u8]) -> bool
+    ensures { result ≡ spec.has_control bytes.now }
 {
-    !text.as_bytes().iter().any(|byte| byte.is_ascii_control())
+    for byte in bytes {
+        if byte.is_ascii_control() {
+            return true;
+        }
+    }
+    false
 }
 
 /// Refuses the first text that may not stand in a row.
@@ -20,7 +25,7 @@ fn check_fields(alloc: Global, fields: &[&str]) -> Result<(), DocumentFault>
     ensures { Gives (λ _. tt) result (spec.allowed (map (λ s. s.now) fields.now)) }
 {
     for text in fields {
-        if !can_stand(text) {
+        if has_control(text.as_bytes()) {
             let text = String::from_str(alloc, text)?;
             return Err(DocumentFault::Control { text });
         }
@@ -40,7 +45,12 @@ fn push_fields(rows: &mut String, fields: &[&str]) -> Result<(), AllocError>
 }
 
 /// Adds a row: its word, and its fields.
-fn push_row(alloc: Global, rows: &mut String, word: &str, fields: &[&str]) -> Result<(), DocumentFault>
+fn push_row(
+    alloc: Global,
+    rows: &mut String,
+    word: &str,
+    fields: &[&str],
+) -> Result<(), DocumentFault>
     ensures checked { Gives (λ _. tt) result (spec.allowed (map (λ s. s.now) fields.now)) }
     ensures row { OnOk result (string_bytes rows.new ≡ string_bytes rows.old ++ spec.row_text word.now (map (λ s. s.now) fields.now)) }
 {
@@ -73,7 +83,11 @@ fn feature_fields<'v>(alloc: Global, feature: &Feature<'v>) -> Result<Vec<&'v st
 }
 
 /// Adds the rows of features.
-pub(crate) fn push_features(alloc: Global, rows: &mut String, features: &[Feature<'_>]) -> Result<(), DocumentFault> {
+pub(crate) fn push_features(
+    alloc: Global,
+    rows: &mut String,
+    features: &[Feature<'_>],
+) -> Result<(), DocumentFault> {
     for feature in features {
         let fields = feature_fields(alloc, feature)?;
         push_row(alloc, rows, "feature", &fields)?;
@@ -113,11 +127,18 @@ fn need_word(is_optional: bool) -> &'static str
 fn defaults_word(has_default_features: bool) -> &'static str
     ensures { result.now ≡ spec.defaults_word has_default_features }
 {
-    if has_default_features { "default" } else { "nodefault" }
+    if has_default_features {
+        "default"
+    } else {
+        "nodefault"
+    }
 }
 
 /// The fields of a dependency's row.
-fn dependency_fields<'v>(alloc: Global, dependency: &Dependency<'_, 'v>) -> Result<Vec<&'v str>, AllocError>
+fn dependency_fields<'v>(
+    alloc: Global,
+    dependency: &Dependency<'_, 'v>,
+) -> Result<Vec<&'v str>, AllocError>
     ensures { IfOk result (λ fields. map (λ s. s.now) fields.items ≡ spec.dependency_fields dependency.now.declaration.now dependency.now.target.now) }
 {
     let declaration = dependency.declaration;
