@@ -1,4 +1,9 @@
 //! The packages of a document, with what they declare.
+ghost use Rattle.std.specs.Prelude.{Some};
+ghost use Rattle.serde_json.specs.View.{view};
+ghost use Rattle.cargo_rows.specs.Faults.{Gives};
+ghost use Rattle.cargo_rows.specs.Packages as spec;
+
 use crate::fault::{DocumentFault, Place};
 use crate::fields::{flag_in, list_in, object_in, optional_text_in, text_in, texts_in, texts_of};
 use serde_json::{Map, Value};
@@ -48,16 +53,29 @@ pub(crate) struct Package<'v> {
 /// Packages by their ids.
 pub(crate) type Packages<'v> = BTreeMap<&'v str, Package<'v>>;
 
-/// The field `kind` of a declaration or of a way in which a dependency is used.
-pub(crate) fn kind_in(object: &Value, place: Place) -> Result<Kind, DocumentFault> {
-    match optional_text_in(object, place, "kind")? {
-        None => Ok(Kind::Normal),
-        Some("build") => Ok(Kind::Build),
-        Some("dev") => Ok(Kind::Dev),
-        Some(_) => Err(DocumentFault::Field {
+/// The kind that a text names, in the object of this place.
+fn kind_named(text: &str, place: Place) -> Result<Kind, DocumentFault>
+    ensures { Gives (λ k. k) result (spec.kind_of place (Some text.now)) }
+{
+    if text == "build" {
+        Ok(Kind::Build)
+    } else if text == "dev" {
+        Ok(Kind::Dev)
+    } else {
+        Err(DocumentFault::Field {
             place,
             name: "kind",
-        }),
+        })
+    }
+}
+
+/// The field `kind` of a declaration or of a way in which a dependency is used.
+pub(crate) fn kind_in(object: &Value, place: Place) -> Result<Kind, DocumentFault>
+    ensures { Gives (λ k. k) result (spec.kind_in place (view object.now)) }
+{
+    match optional_text_in(object, place, "kind")? {
+        None => Ok(Kind::Normal),
+        Some(text) => kind_named(text, place),
     }
 }
 
@@ -66,7 +84,9 @@ fn declaration_of<'v>(
     alloc: Global,
     object: &'v Value,
     place: Place,
-) -> Result<Declaration<'v>, DocumentFault> {
+) -> Result<Declaration<'v>, DocumentFault>
+    ensures { Gives spec.declaration_view result (spec.declaration_in place (view object.now)) }
+{
     Ok(Declaration {
         name: text_in(object, place, "name")?,
         rename: optional_text_in(object, place, "rename")?,
