@@ -11,7 +11,10 @@ fn ids(out: &mut Out, set: &FeatureSet<'_>) {
         None => out.line("no first"),
     }
     let mut ids = set.ids_by_node();
-    let count = ids.by_ref().count();
+    let count = ids.len();
+    for _step in 0..count {
+        let _id = ids.next();
+    }
     out.part(format_args!("then {count} and {} left ", ids.len()));
     out.line(ids.next().is_none());
 }
@@ -23,7 +26,10 @@ fn packages(out: &mut Out, query: &FeatureQuery<'_>) {
         None => out.line("no first"),
     }
     let mut packages = query.initial_packages();
-    let count = packages.by_ref().count();
+    let count = packages.len();
+    for _step in 0..count {
+        let _package = packages.next();
+    }
     out.part(format_args!("then {count} and {} left ", packages.len()));
     out.line(packages.next().is_none());
 }
