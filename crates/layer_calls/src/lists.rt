@@ -175,16 +175,17 @@ fn turned(alloc: Global, graph: &PackageGraph) -> Result<PackageGraph, Failure> 
     Ok(PackageGraph::from_rows(alloc, &rows)?)
 }
 
-/// Whether two lists are equal, each over its graph.
+/// Whether a list is equal to that of a text, which may be over another graph.
 fn tell_equal(
     out: &mut Out,
     alloc: Global,
-    (graph, words): (&PackageGraph, &str),
-    (other_graph, other_words): (&PackageGraph, &str),
+    list: &FeatureList<'_>,
+    graph: &PackageGraph,
+    words: &str,
 ) -> Result<(), Failure> {
-    let list = list_of(alloc, graph, words)?;
-    let other = list_of(alloc, other_graph, other_words)?;
-    out.line(list == other);
+    let other = list_of(alloc, graph, words)?;
+    out.answer("", *list == other);
+    out.line("");
     Ok(())
 }
 
@@ -196,7 +197,8 @@ pub fn equal(
     words: &str,
 ) -> Result<(), Failure> {
     let (words, other) = halves(words)?;
-    tell_equal(out, alloc, (graph, words), (graph, other))?;
+    let list = list_of(alloc, graph, words)?;
+    tell_equal(out, alloc, &list, graph, other)?;
     let turned = turned(alloc, graph)?;
-    tell_equal(out, alloc, (graph, words), (&turned, other))
+    tell_equal(out, alloc, &list, &turned, other)
 }
