@@ -129,7 +129,8 @@ def cases_of(path):
 
 def in_form(text, form):
     """The text with this form in place of FORM, as a word."""
-    return b'\n'.join(b' '.join(form.encode() if it == b'FORM' else it for it in line.split(b' ')) for line in text.split(b'\n'))
+    lines = [[form.encode() if it == b'FORM' else it for it in line.split(b' ')] for line in text.split(b'\n')]
+    return b'\n'.join(b' '.join(words) for words in lines)
 
 
 class Run:
