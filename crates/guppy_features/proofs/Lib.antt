@@ -10,3 +10,4 @@ mod Visits
 pub mod WorkspaceLemmas
 pub mod ListedLemmas
 pub mod RangeLemmas
+pub mod SameFeatures

@@ -1,4 +1,5 @@
 pub mod Values
+pub mod SetValues
 pub mod Names
 pub mod Views
 pub mod Verified

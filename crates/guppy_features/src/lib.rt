@@ -13,6 +13,7 @@ mod metadata;
 mod package_links;
 mod query;
 mod resolve_with;
+mod same_graph;
 mod set;
 mod standard_features;
 mod visitor;

@@ -7,6 +7,7 @@ ghost use Rattle.feature_core.specs.Nodes.{nodes};
 ghost use Rattle.feature_core.specs.Errors.{refusal_of};
 ghost use Rattle.guppy_features.specs.Names.{RefusesName, TellsMember};
 
+mod algebra;
 mod packages;
 
 use crate::graph::FeatureGraph;
