@@ -11,3 +11,4 @@ pub mod WorkspaceLemmas
 pub mod ListedLemmas
 pub mod RangeLemmas
 pub mod SameFeatures
+pub mod PackageListLemmas

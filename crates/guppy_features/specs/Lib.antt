@@ -12,3 +12,5 @@ pub mod ByClosure
 pub mod Filters
 pub mod ListedFilters
 pub mod Packages
+pub mod PackageLists
+pub mod inner

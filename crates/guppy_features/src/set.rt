@@ -8,6 +8,7 @@ ghost use Rattle.feature_core.specs.Errors.{refusal_of};
 ghost use Rattle.guppy_features.specs.Names.{RefusesName, TellsMember};
 
 mod algebra;
+mod lists;
 mod packages;
 
 use crate::graph::FeatureGraph;
