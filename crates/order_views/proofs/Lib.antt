@@ -1,0 +1,10 @@
+pub mod Copied
+pub mod CycleLemmas
+pub mod Distinct
+pub mod Followed
+pub mod LinkSteps
+pub mod OnceLemmas
+pub mod Places
+pub mod Readings
+pub mod RootLemmas
+pub mod SearchLemmas

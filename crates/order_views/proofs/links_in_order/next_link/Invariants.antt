@@ -1,0 +1,11 @@
+use Rattle.std.proofs.Common.{◌≡◌, ◌-◌, length}
+use Rattle.order_views.specs.Views.{starting}
+use Rattle.order_views.specs.inner.Cursors.{links_after}
+use Rattle.order_views.proofs.links_in_order.next_link.Given as goal
+
+-- no link stands between
+abbrev pub invariant-loop-edge : goal.invariant-loop-edge
+invariant-loop-edge l = links_after l.reading l.digraph.edges l.members l.node l.from ≡ links_after l.reading l.digraph.edges l.members l.node l.place
+
+abbrev pub decreases-loop-edge : goal.decreases-loop-edge
+decreases-loop-edge l = length (starting l.reading l.digraph.edges l.node) - l.place

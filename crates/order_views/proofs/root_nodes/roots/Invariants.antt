@@ -1,0 +1,12 @@
+use Rattle.std.proofs.Common.{◌≡◌, ◌<◌, ◌++◌, length, All}
+use Rattle.std.specs.Prelude.{filter}
+use Rattle.order_views.specs.Views.{is_root, roots_in_order}
+use Rattle.order_views.proofs.root_nodes.roots.Given as goal
+
+-- the roots so far, and those to come
+abbrev pub invariant-loop-node : goal.invariant-loop-node
+invariant-loop-node l = record {
+  within : All (λ v. v < length l.order.list) l.node-iterator;
+  roots : l.roots.items ++ filter (is_root l.fn.reading l.digraph.edges l.order l.members) l.node-iterator
+      ≡ roots_in_order l.fn.reading l.digraph.edges l.order l.members;
+}

@@ -1,0 +1,4 @@
+pub mod Views
+pub mod Cycles
+pub mod Laws
+pub mod inner

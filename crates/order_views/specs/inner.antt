@@ -1,0 +1,2 @@
+pub mod Cursors
+pub mod Search

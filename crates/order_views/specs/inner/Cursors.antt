@@ -1,0 +1,30 @@
+-- What iterators that stand inside their lists have left.
+use Rattle.std.specs.Prelude.{ℕ, Bool, List, [], ◌++◌, Option, Some, None, filter, drop, reverse, flat_map}
+use Rattle.guppy_support.specs.declared.digraph.Edge.{Edge}
+use Rattle.guppy_support.specs.Bits.{has}
+use Rattle.guppy_support.specs.Sequences.{Sequence}
+use Rattle.order_views.specs.declared.reading.Reading.{Reading}
+use Rattle.order_views.specs.declared.reading.Reading.TheVariants.{Forward, Backward}
+use Rattle.order_views.specs.Views.{starting, end_of, links_of}
+use Rattle.order_views.specs.Cycles.{has_cycle, descending}
+
+abbrev pub as_read : Reading → List ℕ → List ℕ
+as_read Forward list = list
+as_read Backward list = reverse list
+
+-- the members after the first so many nodes of the list as it is read
+abbrev pub members_left : Reading → List ℕ → List Bool → ℕ → List ℕ
+members_left r list set passed = filter (λ v. has set v) (drop passed (as_read r list))
+
+-- the edges of v to members, after the first so many that start at v
+abbrev pub links_after : Reading → List Edge → List Bool → ℕ → ℕ → List ℕ
+links_after r es set v passed = filter (λ k. has set (end_of r es k)) (drop passed (starting r es v))
+
+-- those of the node at hand, and those of the nodes that come after it; none where no node is at hand
+abbrev pub links_left : Reading → List Edge → List Bool → Option ℕ → ℕ → List ℕ → List ℕ
+links_left r es set None passed nodes = []
+links_left r es set (Some v) passed nodes = links_after r es set v passed ++ flat_map (links_of r es set) nodes
+
+-- the components below n that have a cycle, the last first
+abbrev pub cyclic_below : List Edge → Sequence → ℕ → List ℕ
+cyclic_below es o n = filter (has_cycle es o) (descending n)

@@ -1,0 +1,76 @@
+//! Whether a path leads from one node to another.
+ghost use Rattle.std.specs.Prelude.{◌≡◌, ◌↔◌, ◌<◌, ◌++◌, ◌∷◌, [], cond, true, false, length, replicate, slice_set, IfOk, OnOk, IsTrue};
+ghost use Rattle.guppy_support.specs.Bits.{has};
+ghost use Rattle.guppy_support.specs.Paths.{HasEdge, Path};
+ghost use Rattle.order_views.specs.inner.Search.{Finds};
+
+use guppy_support::{Digraph, IxBitSet};
+use std::alloc::{AllocError, Global};
+
+// Puts the node into the set and on the list, unless it was found before.
+fn find(found: &mut IxBitSet, waiting: &mut Vec<usize>, node: usize) -> Result<(), AllocError>
+    requires { node < length found.old }
+    ensures found { found.new ≡ slice_set found.old node true }
+    ensures waiting { OnOk result (waiting.new.items ≡ cond (has found.old node) waiting.old.items (waiting.old.items ++ node ∷ [])) }
+{
+    if !found.contains(node) {
+        found.insert(node);
+        waiting.push(node)?;
+    }
+    Ok(())
+}
+
+// Finds the targets of the node's edges.
+fn follow(
+    digraph: &Digraph,
+    node: usize,
+    found: &mut IxBitSet,
+    waiting: &mut Vec<usize>,
+) -> Result<(), AllocError>
+    requires node { node < digraph.now.nodes }
+    requires size { length found.old ≡ digraph.now.nodes }
+    ensures { OnOk result (Finds (HasEdge digraph.now.edges node) found.old waiting.old.items found.new waiting.new.items) }
+{
+    digraph.facts();
+    let numbers = digraph.out_edges(node);
+    for number in numbers.start..numbers.end {
+        find(found, waiting, digraph.edge(number).to)?;
+    }
+    Ok(())
+}
+
+// The search begins: the node was found, and waits.
+fn begin(alloc: Global, nodes: usize, node: usize) -> Result<(IxBitSet, Vec<usize>), AllocError>
+    requires { node < nodes }
+    ensures found { IfOk result (λ p. p.0 ≡ slice_set (replicate nodes false) node true) }
+    ensures waiting { IfOk result (λ p. p.1.items ≡ node ∷ []) }
+{
+    let mut found = IxBitSet::empty(alloc, nodes)?;
+    found.insert(node);
+    let mut waiting = Vec::new(alloc);
+    waiting.push(node)?;
+    Ok((found, waiting))
+}
+
+/// Whether a path, possibly empty, leads from the first node to the other. It stops when the other is found.
+///
+/// Memory is taken for a bit a node and for the nodes that are found; the error is want of it.
+pub fn depends_on(
+    alloc: Global,
+    digraph: &Digraph,
+    a: usize,
+    b: usize,
+) -> Result<bool, AllocError>
+    requires a { a < digraph.now.nodes }
+    requires b { b < digraph.now.nodes }
+    ensures { IfOk result (λ answer. IsTrue answer ↔ Path digraph.now.edges a b) }
+{
+    let (mut found, mut waiting) = begin(alloc, digraph.node_count(), a)?;
+    while !found.contains(b) {
+        let Some(node) = waiting.pop() else {
+            return Ok(false);
+        };
+        follow(digraph, node, &mut found, &mut waiting)?;
+    }
+    Ok(true)
+}

@@ -1,0 +1,27 @@
+//! Laws of the views. Each function does nothing: its contract is the law.
+ghost use Rattle.order_views.specs.Laws.{MembersComeOnce, LinksComeOnce, OneList, CyclicByCycles};
+
+/// The members in order are exactly the members, each once.
+pub fn members_come_once()
+    ensures { MembersComeOnce }
+{}
+
+/// The links in order are exactly the edges with both ends in the set, each once.
+pub fn links_come_once()
+    ensures { LinksComeOnce }
+{}
+
+/// Two orders of one digraph have the same list.
+pub fn one_list()
+    ensures { OneList }
+{
+    guppy_support::laws::one_order();
+}
+
+/// A node's component has a cycle exactly if the node lies on one.
+pub fn cyclic_by_cycles()
+    ensures { CyclicByCycles }
+{
+    guppy_support::laws::cycles_are_components();
+    guppy_support::laws::order_lists_each();
+}

@@ -1,0 +1,18 @@
+//! What an order shows of a set of nodes: the members, the edges between them, their roots; the components that have a
+//! cycle; and which node depends on which. Nodes and edges are numbers.
+#![tactic(auto)]
+
+mod cycles;
+mod depending;
+mod in_order;
+pub mod laws;
+mod links_in_order;
+mod reading;
+mod root_nodes;
+
+pub use cycles::{CyclicComponents, is_cyclic, is_cyclic_component};
+pub use depending::depends_on;
+pub use in_order::InOrder;
+pub use links_in_order::LinksInOrder;
+pub use reading::Reading;
+pub use root_nodes::roots;

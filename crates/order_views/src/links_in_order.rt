@@ -1,0 +1,144 @@
+//! The edges between the members of a set, in an order.
+ghost use Rattle.std.specs.Prelude.{◌≡◌, ◌+◌, ◌^◌, ◌<◌, ◌≤◌, ◌∷◌, ℕ, [], All, length, drop, slice_get, slice_index, MatchOption, IfSome, IfNone, Some};
+ghost use Rattle.std.specs.Iterator.{YieldsFirst, item_count};
+ghost use Rattle.order_views.specs.Views.{links_in_order, starting, start_of, end_of};
+ghost use Rattle.order_views.specs.inner.Cursors.{links_after};
+
+use crate::in_order::InOrder;
+use crate::reading::Reading;
+use guppy_support::{Digraph, IxBitSet, Order};
+use std::iter::FusedIterator;
+use std::marker::Model;
+
+/// The numbers of the edges whose two ends are members: by the place of the edge's start in the members' order of the same
+/// reading, and those of one start by the ascending number of the other end. It is seen as the list of those that are left.
+#[derive(Debug, Drop)]
+pub struct LinksInOrder<'a> {
+    digraph: &'a Digraph,
+    members: &'a IxBitSet,
+    reading: Reading,
+    // the members that come after the one at hand
+    nodes: InOrder<'a>,
+    start: Option<usize>,
+    // how many edges of the member at hand are passed
+    passed: usize,
+}
+
+impl<'a> Model for LinksInOrder<'a> {
+    ghost use Rattle.std.specs.Prelude.{List, ℕ, ◌≡◌, ◌<◌, length, IfSome, All};
+    ghost use Rattle.order_views.specs.inner.Cursors.{links_left};
+
+    ghost Value = { List ℕ };
+
+    ghost view = { λ it. links_left it.reading it.digraph.now.edges it.members.now it.start it.passed it.nodes };
+
+    ghost invariant = { λ it.
+        (length it.members.now ≡ it.digraph.now.nodes)
+        × IfSome it.start (λ v. v < it.digraph.now.nodes)
+        × All (λ v. v < it.digraph.now.nodes) it.nodes };
+}
+
+impl<'a> LinksInOrder<'a> {
+    /// The edges of the digraph with both ends among the members. The order need not be that digraph's own.
+    pub fn new(
+        order: &'a Order,
+        digraph: &'a Digraph,
+        members: &'a IxBitSet,
+        reading: Reading,
+    ) -> Self
+        requires order { length order.now.list ≡ digraph.now.nodes }
+        requires size { length members.now ≡ digraph.now.nodes }
+        ensures { result ≡ links_in_order reading digraph.now.edges order.now.list members.now }
+    {
+        let mut nodes = InOrder::new(order, members, reading);
+        let start = nodes.next();
+        LinksInOrder {
+            digraph,
+            members,
+            reading,
+            nodes,
+            start,
+            passed: 0,
+        }
+    }
+}
+
+// The edge at that place of those that start at the node.
+fn edge_at(digraph: &Digraph, reading: Reading, node: usize, place: usize) -> Option<usize>
+    requires { node < digraph.now.nodes }
+    ensures edge { result ≡ slice_get (starting reading digraph.now.edges node) place }
+    ensures few { IfSome result (λ _. place + 1 < 2 ^ 64) }
+{
+    match reading {
+        Reading::Forward => {
+            let numbers = digraph.out_edges(node);
+            if place < numbers.end - numbers.start {
+                Some(numbers.start + place)
+            } else {
+                None
+            }
+        }
+        Reading::Backward => digraph.in_edges(node).get(place).copied(),
+    }
+}
+
+/// The nodes at which the edge starts and ends.
+pub(crate) fn ends_of(digraph: &Digraph, reading: Reading, edge: usize) -> (usize, usize)
+    requires { edge < length digraph.now.edges }
+    ensures start { result.0 ≡ start_of reading digraph.now.edges edge }
+    ensures end { result.1 ≡ end_of reading digraph.now.edges edge }
+{
+    let ends = digraph.edge(edge);
+    match reading {
+        Reading::Forward => (ends.from, ends.to),
+        Reading::Backward => (ends.to, ends.from),
+    }
+}
+
+// The first edge of the node, from that place on, that ends at a member, and the place after it.
+fn next_link(
+    digraph: &Digraph,
+    members: &IxBitSet,
+    reading: Reading,
+    node: usize,
+    from: usize,
+) -> Option<(usize, usize)>
+    requires node { node < digraph.now.nodes }
+    requires size { length members.now ≡ digraph.now.nodes }
+    ensures { MatchOption result (links_after reading digraph.now.edges members.now node from ≡ [])
+        (λ p. links_after reading digraph.now.edges members.now node from
+        ≡ p.0 ∷ links_after reading digraph.now.edges members.now node p.1) }
+{
+    digraph.facts();
+    let mut place = from;
+    while let Some(edge) = edge_at(digraph, reading, node, place) {
+        place += 1;
+        if members.contains(ends_of(digraph, reading, edge).1) {
+            return Some((edge, place));
+        }
+    }
+    None
+}
+
+impl<'a> Iterator for LinksInOrder<'a> {
+    type Item = usize;
+
+    ghost next_gives = { YieldsFirst (λ rest. rest) };
+
+    ghost remaining = { item_count (λ rest. rest) };
+
+    fn next(&mut self) -> Option<usize> {
+        while let Some(node) = self.start {
+            let found = next_link(self.digraph, self.members, self.reading, node, self.passed);
+            if let Some((edge, passed)) = found {
+                self.passed = passed;
+                return Some(edge);
+            }
+            self.start = self.nodes.next();
+            self.passed = 0;
+        }
+        None
+    }
+}
+
+impl<'a> FusedIterator for LinksInOrder<'a> {}
