@@ -13,4 +13,5 @@ pub mod Filters
 pub mod ListedFilters
 pub mod Packages
 pub mod PackageLists
+pub mod Ordered
 pub mod inner

@@ -42,6 +42,9 @@ pub use listed_filters::{
 pub use metadata::FeatureMetadata;
 pub use package_links::PackageLinks;
 pub use query::FeatureQuery;
-pub use set::{FeatureSet, IdsByNode, InitialPackages};
+pub use set::{
+    ConditionalLinks, FeatureIds, FeatureSet, Features, IdsByNode, InitialPackages, Links, RootFeatures,
+    RootIds,
+};
 pub use standard_features::StandardFeatures;
 pub use visitor::{FeatureLinkObject, FeatureLinkVisitor};
