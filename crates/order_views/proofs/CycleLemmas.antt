@@ -1,15 +1,14 @@
 -- A component has a cycle exactly if its nodes lie on one.
-use Rattle.std.proofs.Common.{◌≡◌, ◌≢◌, ◌↔◌, ℕ, suc, zero, ◌+◌, ◌-◌, ◌<◌, ◌≤◌, inl, inr, Bool, true, false, List, [], ◌∷◌, length, get_or, map, refl, ap, sym, ◌∙◌, subst, arith, Option, Some, None, ◌&&◌, ◌||◌}
-use Rattle.std.specs.Prelude.{Contains, filter, nat_eq, nat_lt, ◌==◌, IfSome, IfNone, IsTrue, is_some}
+use Rattle.std.proofs.Common.{◌≡◌, ◌≢◌, ◌↔◌, ℕ, ◌<◌, inl, inr, Bool, true, false, List, length, get_or, refl, ap, sym, ◌∙◌, subst, arith, Option, Some, None, ◌&&◌}
+use Rattle.std.specs.Prelude.{Contains, nat_eq, nat_lt, ◌==◌, IfSome, IfNone, IsTrue, is_some}
 use Rattle.std.specs.List.{IsDistinct, list_any}
-use Rattle.std.specs.Cmp.{unsigned_Decides}
 use Rattle.std.proofs.lemmas.Bool.{ltb-true, lt-ltb, eq-eqb, eqb-true, eqb-false, false_from_ne_true, and_from, and_parts, or_cases, or_left, or_right, cases_eq, cases_order}
-use Rattle.std.proofs.lemmas.List.{get_or-map, length-map, get_or_default}
+use Rattle.std.proofs.lemmas.List.{get_or-map, get_or_default}
 use Rattle.std.proofs.lemmas.List.Elements.{Contains-get_or}
 use Rattle.std.proofs.lemmas.List.Folds.{Any-from_list_any, list_any_at, list_any-from_Any}
 use Rattle.std.proofs.lemmas.Map.Keys.{apart_from_distinct}
 use Rattle.guppy_support.specs.declared.digraph.Edge.{Edge}
-use Rattle.guppy_support.specs.Graph.{Graph, IsDigraph, IsEdgeAt, sources, targets, source_of, target_of}
+use Rattle.guppy_support.specs.Graph.{Graph, IsDigraph, IsEdgeAt, target_of}
 use Rattle.guppy_support.specs.Laws.{CyclesAreComponents}
 use Rattle.guppy_support.specs.Orders.{ListsEach}
 use Rattle.guppy_support.specs.Paths.{HasEdge, Path, nowhere, onward, SameComponent, OnCycle}

@@ -1,17 +1,15 @@
 -- Lists of numbers that have each number once.
-use Rattle.std.proofs.Common.{◌≡◌, ◌≢◌, ℕ, suc, zero, ◌+◌, ◌-◌, ◌<◌, ◌≤◌, inl, inr, Bool, true, false, cond, List, [], ◌∷◌, ◌++◌, length, get_or, refl, ap, sym, ◌∙◌, subst, arith, All, not, ◌&&◌}
-use Rattle.std.specs.Prelude.{Contains, filter, reverse, count_by, map, nat_eq, Decides, IsTrue}
-use Rattle.std.specs.List.{IsDistinct, range_with_len, AllByRecursion, fold}
+use Rattle.std.proofs.Common.{◌≡◌, ◌≢◌, ℕ, ◌<◌, inl, inr, Bool, true, false, List, [], ◌∷◌, ◌++◌, length, get_or, refl, ap, sym, ◌∙◌, arith, ◌&&◌}
+use Rattle.std.specs.Prelude.{Contains, filter, reverse, nat_eq}
+use Rattle.std.specs.List.{IsDistinct, range_with_len}
 use Rattle.std.specs.Cmp.{unsigned_Decides}
 use Rattle.std.specs.Set.{is_member}
 use Rattle.std.proofs.lemmas.Bool.{ne_eqb, cases_Bool, and_from, and_parts}
 use Rattle.std.proofs.lemmas.Bool.Decides.{same_from_decides}
 use Rattle.std.proofs.lemmas.Cmp.{nat_eq_equiv}
-use Rattle.std.proofs.lemmas.List.{get_or-reverse, length-reverse, reverse-append, append-nil, get_or_default}
-use Rattle.std.proofs.lemmas.List.Elements.{filter-append, All-filter, All-from_recursion, recursion_from_All, Contains-get_or}
-use Rattle.std.proofs.lemmas.List.Folds.{fold-map}
-use Rattle.std.proofs.lemmas.List.FromFn.{get_or-range_with_len, length-range_with_len, fill_by_all}
-use Rattle.std.proofs.lemmas.List.Sums.{length-filter}
+use Rattle.std.proofs.lemmas.List.{reverse-append, append-nil, get_or_default}
+use Rattle.std.proofs.lemmas.List.Elements.{filter-append, All-filter, All-from_recursion, recursion_from_All}
+use Rattle.std.proofs.lemmas.List.FromFn.{get_or-range_with_len, length-range_with_len}
 use Rattle.std.proofs.lemmas.Map.Keys.{IsDistinct-from_apart, IsDistinct-cons, IsDistinct-head, IsDistinct-tail}
 use Rattle.std.proofs.lemmas.Map.Made.{length-from_same_keys, is_member-filter, is_member-Decides}
 
@@ -62,9 +60,9 @@ pub record HasBelow (n : ℕ) (xs : List ℕ) : Type 0 where
 
 pub range_has : (n : ℕ) → HasBelow n (range_with_len 0 n)
 range_has n = record {
-    every = λ v h. (v, omega (arith, length-range_with_len 0 n), omega (arith, get_or-range_with_len 0 n v v h));
-    below = λ v h. omega (arith, h.1, h.2, length-range_with_len 0 n, get_or-range_with_len 0 n h.0 v (omega (arith, h.1, length-range_with_len 0 n)));
-  }
+  every = λ v h. (v, omega (arith, length-range_with_len 0 n), omega (arith, get_or-range_with_len 0 n v v h));
+  below = λ v h. omega (arith, h.1, h.2, length-range_with_len 0 n, get_or-range_with_len 0 n h.0 v (omega (arith, h.1, length-range_with_len 0 n)));
+}
 
 pub same_members : (n : ℕ) (xs ys : List ℕ) → HasBelow n xs → HasBelow n ys → (q : ℕ) → is_member nat_eq xs q ≡ is_member nat_eq ys q
 same_members n xs ys a b q =

@@ -1,13 +1,13 @@
 -- The edges of a node, one after the other.
-use Rattle.std.proofs.Common.{◌≡◌, ◌⊎◌, ℕ, suc, zero, ◌+◌, ◌-◌, ◌<◌, ◌≤◌, inl, inr, Bool, true, false, List, [], ◌∷◌, length, get_or, set, map, refl, ap, sym, ◌∙◌, subst, arith, Some}
-use Rattle.std.specs.Prelude.{Contains, slice_get}
+use Rattle.std.proofs.Common.{◌≡◌, ℕ, suc, zero, ◌+◌, ◌-◌, ◌<◌, ◌≤◌, inl, inr, Bool, true, false, List, [], ◌∷◌, length, get_or, set, ap, sym, ◌∙◌, arith, Some}
+use Rattle.std.specs.Prelude.{slice_get}
 use Rattle.std.specs.List.{range_with_len}
 use Rattle.std.proofs.lemmas.Bool.{cases_lt}
 use Rattle.std.proofs.lemmas.List.{get_or-map, length-map, get_or_default}
 use Rattle.std.proofs.lemmas.List.Elements.{Contains-get_or}
 use Rattle.std.proofs.lemmas.List.FromFn.{length-range_with_len}
 use Rattle.guppy_support.specs.declared.digraph.Edge.{Edge}
-use Rattle.guppy_support.specs.Graph.{sources, targets, source_of, target_of}
+use Rattle.guppy_support.specs.Graph.{sources, source_of, target_of}
 use Rattle.guppy_support.specs.Paths.{HasEdge}
 use Rattle.guppy_support.specs.Rows.{places}
 use Rattle.order_views.specs.inner.Search.{Finds, LeadsTo}
@@ -48,7 +48,7 @@ follow_all es node low high old found was waiting numbers h =
     (λ v e.
     let back : low + (e.edge - low) ≡ e.edge = omega (arith, e.from) in
     let at : slice_get (places node (sources es)) (e.edge - low) ≡ Some e.edge =
-        ap (λ xs. slice_get xs (e.edge - low)) (sym numbers) ∙ get_range low (high - low) (e.edge - low) (omega (arith, e.from, e.below)) ∙ ap Some back in
+    ap (λ xs. slice_get xs (e.edge - low)) (sym numbers) ∙ get_range low (high - low) (e.edge - low) (omega (arith, e.from, e.below)) ∙ ap Some back in
     let place = place_is node (sources es) (e.edge - low) e.edge at in
     let inside : e.edge < length es = omega (arith, place.within, length-map es (λ (x : Edge). x.from)) in
     record {

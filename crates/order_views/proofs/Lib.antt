@@ -8,3 +8,4 @@ pub mod Places
 pub mod Readings
 pub mod RootLemmas
 pub mod SearchLemmas
+pub mod WithinLemmas

@@ -1,13 +1,12 @@
 -- The links that are left.
-use Rattle.std.proofs.Common.{◌≡◌, ℕ, suc, zero, ◌+◌, ◌-◌, ◌<◌, ◌≤◌, inl, inr, Bool, true, false, cond, List, [], ◌∷◌, length, get_or, drop, refl, ap, sym, ◌∙◌, subst, arith, Option, Some, None, All}
-use Rattle.std.specs.Prelude.{Contains, slice_get, filter, reverse, MatchOption, IfSome, flat_map, ◌++◌}
+use Rattle.std.proofs.Common.{◌≡◌, ℕ, ◌+◌, ◌<◌, inl, inr, Bool, true, false, List, [], ◌∷◌, length, refl, ap, sym, ◌∙◌, subst, Option, Some, None, All}
+use Rattle.std.specs.Prelude.{slice_get, filter, MatchOption, IfSome, flat_map, ◌++◌}
 use Rattle.std.proofs.lemmas.Bool.{cases_lt, false≢true}
-use Rattle.std.proofs.lemmas.List.{get_or_past, get_or-reverse, length-reverse}
-use Rattle.std.proofs.lemmas.List.Elements.{All-contains, Contains-get_or, All-weaker, All-head, All-rest, All-same, All-nil, filter_passes}
+use Rattle.std.proofs.lemmas.List.{get_or_past}
+use Rattle.std.proofs.lemmas.List.Elements.{All-weaker, All-head, All-rest, All-same, All-nil, filter_passes}
 use Rattle.guppy_support.specs.declared.digraph.Edge.{Edge}
 use Rattle.guppy_support.specs.Bits.{has}
 use Rattle.order_views.specs.declared.reading.Reading.{Reading}
-use Rattle.order_views.specs.declared.reading.Reading.TheVariants.{Forward, Backward}
 use Rattle.order_views.specs.Views.{in_order, starting, end_of, links_of}
 use Rattle.order_views.specs.inner.Cursors.{as_read, members_left, links_after, links_left}
 use Rattle.order_views.proofs.Readings.{left_start}

@@ -1,7 +1,7 @@
 -- The members come once, and so do the edges between them.
-use Rattle.std.proofs.Common.{◌≡◌, ◌≢◌, ◌⊎◌, ℕ, suc, zero, ◌+◌, ◌-◌, ◌<◌, ◌≤◌, inl, inr, Bool, true, false, List, [], ◌∷◌, ◌++◌, length, get_or, map, refl, ap, sym, ◌∙◌, subst, arith, Some}
-use Rattle.std.specs.Prelude.{Contains, filter, reverse, flat_map, nat_eq, IsTrue, slice_get, ◌==◌}
-use Rattle.std.specs.List.{IsDistinct, AllByRecursion}
+use Rattle.std.proofs.Common.{◌≡◌, ℕ, suc, ◌+◌, ◌-◌, ◌<◌, inl, inr, Bool, false, List, [], ◌∷◌, ◌++◌, length, get_or, refl, ap, sym, ◌∙◌, subst, arith, Some}
+use Rattle.std.specs.Prelude.{Contains, reverse, flat_map, nat_eq, IsTrue, slice_get, ◌==◌}
+use Rattle.std.specs.List.{IsDistinct}
 use Rattle.std.proofs.lemmas.Bool.{cases_Bool, cases_eq, eqb-false, ne_eqb}
 use Rattle.std.proofs.lemmas.List.{get_or-reverse, length-reverse, get_or_default, length-map}
 use Rattle.std.proofs.lemmas.List.Elements.{Contains-append_left, Contains-append_right, Contains-append_cases, Contains-get_or, All-from_get_or, recursion_from_All, All-contains, All-from_recursion}
@@ -16,11 +16,11 @@ use Rattle.order_views.specs.declared.reading.Reading.{Reading}
 use Rattle.order_views.specs.declared.reading.Reading.TheVariants.{Forward, Backward}
 use Rattle.order_views.specs.Views.{in_order, links_of, links_in_order, starting, start_of, end_of}
 use Rattle.order_views.specs.Laws.{ListsOnce, IsLink, MembersComeOnce, LinksComeOnce}
-use Rattle.order_views.specs.inner.Cursors.{as_read, members_left}
+use Rattle.order_views.specs.inner.Cursors.{as_read}
 use Rattle.order_views.proofs.Distinct.{distinct_from_apart, distinct_filter, to_filter, from_filter}
 use Rattle.order_views.proofs.LinkSteps.{has_within}
 use Rattle.order_views.proofs.Places.{get_some, within_some, place_from, place_listed, starts_at}
-use Rattle.order_views.proofs.Readings.{left_start, length_as_read}
+use Rattle.order_views.proofs.Readings.{left_start}
 
 -- ---- lists in general
 
@@ -105,9 +105,9 @@ distinct_places v s (x ∷ xs) =
 
 once : {Is : ℕ → Type 0} (xs : List ℕ) → IsDistinct nat_eq xs → ((x : ℕ) → Contains xs x → Is x) → ((x : ℕ) → Is x → Contains xs x) → ListsOnce Is xs
 once xs d to back = record {
-    exactly = λ x. (to x, back x);
-    apart = λ i j l h. eqb-false (get_or xs i 0) (get_or xs j 0) (apart_from_distinct nat_eq xs i j 0 d l h);
-  }
+  exactly = λ x. (to x, back x);
+  apart = λ i j l h. eqb-false (get_or xs i 0) (get_or xs j 0) (apart_from_distinct nat_eq xs i j 0 d l h);
+}
 
 read_distinct : (r : Reading) (o : Sequence) → IsSequence o → IsDistinct nat_eq (as_read r o.list)
 read_distinct Forward o ok = distinct_from_apart o.list ok.each.apart
@@ -174,8 +174,8 @@ links_come_once es o set r ok long =
     let ends : ℕ → Bool = λ k. has set (end_of r es k) in
     let nodes = in_order r o.list set in
     let start : (v k : ℕ) → Contains (links_of r es set v) k → start_of r es k ≡ v = λ v k h.
-        let at = place_of (starting r es v) k (from_filter ends (starting r es v) k h).0 in
-        (starts_at r es v at.0 k at.1).start in
+    let at = place_of (starting r es v) k (from_filter ends (starting r es v) k h).0 in
+    (starts_at r es v at.0 k at.1).start in
     once (links_in_order r es o.list set)
     (distinct_flat_map (links_of r es set) (start_of r es) start (λ v. distinct_filter ends (starting r es v) (starting_distinct r es v)) nodes (members_distinct o set r ok))
     (λ k h.

@@ -1,8 +1,8 @@
 -- The members that are left of a list as it is read.
-use Rattle.std.proofs.Common.{◌≡◌, ◌≢◌, ℕ, suc, zero, ◌+◌, ◌-◌, ◌<◌, ◌≤◌, inl, inr, Bool, true, false, cond, List, [], ◌∷◌, length, get_or, drop, refl, ap, sym, ◌∙◌, subst, arith, All}
-use Rattle.std.specs.Prelude.{Contains, filter, reverse, count_by, map, nat_eq}
-use Rattle.std.specs.List.{IsDistinct, range_with_len, fold}
-use Rattle.std.proofs.lemmas.List.{get_or-reverse, length-reverse, drop_more, drop_all, get_or_default}
+use Rattle.std.proofs.Common.{◌≡◌, ℕ, ◌+◌, ◌<◌, ◌≤◌, Bool, true, false, cond, List, [], ◌∷◌, length, get_or, drop, refl, ap, sym, ◌∙◌, subst, arith}
+use Rattle.std.specs.Prelude.{filter, count_by, map, nat_eq}
+use Rattle.std.specs.List.{IsDistinct, range_with_len}
+use Rattle.std.proofs.lemmas.List.{length-reverse, drop_more, drop_all, get_or_default}
 use Rattle.std.proofs.lemmas.List.Folds.{fold-map}
 use Rattle.std.proofs.lemmas.List.FromFn.{fill_by_all}
 use Rattle.std.proofs.lemmas.List.Sums.{length-filter}
@@ -55,9 +55,9 @@ list_distinct list each = distinct_from_apart list each.apart
 
 list_has : (list : List ℕ) → ListsEach (length list) list → HasBelow (length list) list
 list_has list each = record {
-    every = each.every;
-    below = λ v h. subst (λ x. x < length list) (get_or_default list h.0 0 v h.1 ∙ h.2) (each.below h.0 h.1);
-  }
+  every = each.every;
+  below = λ v h. subst (λ x. x < length list) (get_or_default list h.0 0 v h.1 ∙ h.2) (each.below h.0 h.1);
+}
 
 pub left_count : (r : Reading) (list : List ℕ) (set : List Bool) → ListsEach (length list) list → length set ≡ length list
     → count_by (λ b. b) set ≡ length (members_left r list set 0)

@@ -1,10 +1,10 @@
 -- Components that an edge leaves.
-use Rattle.std.proofs.Common.{◌≡◌, ◌≢◌, ℕ, ◌+◌, ◌<◌, inl, inr, Bool, true, false, cond, List, [], ◌∷◌, ◌++◌, length, get_or, set, refl, ap, sym, ◌∙◌, subst, arith, All}
-use Rattle.std.specs.Prelude.{Contains, filter, not, ◌==◌, ◌&&◌, ◌||◌, replicate, reverse}
+use Rattle.std.proofs.Common.{◌≡◌, ◌≢◌, ℕ, ◌<◌, inl, inr, Bool, true, false, List, [], ◌∷◌, ◌++◌, length, set, refl, ap, sym, ◌∙◌, All}
+use Rattle.std.specs.Prelude.{filter, not, ◌==◌, ◌&&◌, ◌||◌, replicate}
 use Rattle.std.specs.List.{list_any, flat_map}
-use Rattle.std.proofs.lemmas.Bool.{cases_eq, cases_Bool, eq-eqb, ne_eqb}
+use Rattle.std.proofs.lemmas.Bool.{cases_eq, eq-eqb, ne_eqb}
 use Rattle.std.proofs.lemmas.List.{get_or-set_same, get_or-set_other, get_or-replicate, append_assoc, append-nil}
-use Rattle.std.proofs.lemmas.List.Elements.{All-append, All-from_get_or, All-filter, All-nil}
+use Rattle.std.proofs.lemmas.List.Elements.{All-append, All-filter, All-nil}
 use Rattle.guppy_support.specs.declared.digraph.Edge.{Edge}
 use Rattle.guppy_support.specs.Bits.{has}
 use Rattle.guppy_support.specs.Sequences.{Sequence, component_of}
@@ -35,7 +35,7 @@ pub noted_inside : (r : Reading) (es : List Edge) (o : Sequence) (left : List Bo
     → has left c ≡ (has left c || leaves r es o c k)
 noted_inside r es o left k c e =
     let inside : leaves r es o c k ≡ false =
-        ap (λ x. (component_of o (start_of r es k) == c) && not (x == c)) e ∙ contradicts (component_of o (start_of r es k) == c) in
+    ap (λ x. (component_of o (start_of r es k) == c) && not (x == c)) e ∙ contradicts (component_of o (start_of r es k) == c) in
     or_false (has left c) ∙ ap (λ b. has left c || b) (sym inside)
   where
     contradicts : (b : Bool) → (b && not b) ≡ false

@@ -1,17 +1,14 @@
 -- A search keeps what is known of it, and its end decides whether there is a path.
-use Rattle.std.proofs.Common.{◌≡◌, ◌≢◌, ◌⊎◌, ◌↔◌, ℕ, suc, zero, ◌+◌, ◌-◌, ◌<◌, ◌≤◌, inl, inr, Bool, true, false, cond, List, [], ◌∷◌, ◌++◌, length, get_or, set, replicate, map, refl, ap, sym, ◌∙◌, subst, arith}
-use Rattle.std.specs.Prelude.{Contains, IsTrue, count_by, not, slice_get, Some}
-use Rattle.std.specs.List.{range_with_len}
-use Rattle.std.proofs.lemmas.Bool.{cases_eq, cases_lt, cases_Bool, false≢true}
-use Rattle.std.proofs.lemmas.List.{get_or_past, get_or-set_same, get_or-set_other, length-set, length-replicate, get_or-replicate, length_push, set-get_or, get_or-map, length-map, get_or_default}
-use Rattle.std.proofs.lemmas.List.Elements.{Contains-append_left, Contains-append_cases, Contains-push, Contains-push_cases}
+use Rattle.std.proofs.Common.{◌≡◌, ◌⊎◌, ℕ, ◌+◌, ◌<◌, inl, inr, Bool, true, false, cond, List, [], ◌∷◌, ◌++◌, length, set, replicate, refl, ap, sym, ◌∙◌, subst, arith}
+use Rattle.std.specs.Prelude.{Contains, count_by, not}
+use Rattle.std.proofs.lemmas.Bool.{cases_eq, cases_Bool, false≢true}
+use Rattle.std.proofs.lemmas.List.{get_or-set_same, get_or-set_other, length-set, length-replicate, get_or-replicate, length_push, set-get_or}
+use Rattle.std.proofs.lemmas.List.Elements.{Contains-append_left, Contains-push, Contains-push_cases}
 use Rattle.std.proofs.lemmas.List.Sums.{sum_by-set}
 use Rattle.guppy_support.specs.declared.digraph.Edge.{Edge}
-use Rattle.guppy_support.specs.Graph.{Graph, sources, targets, source_of, target_of}
-use Rattle.guppy_support.specs.Rows.{places}
 use Rattle.guppy_support.specs.Bits.{has}
 use Rattle.guppy_support.specs.Paths.{HasEdge, Path, nowhere, onward}
-use Rattle.order_views.specs.inner.Search.{IsSearch, Finds, left_over}
+use Rattle.order_views.specs.inner.Search.{IsSearch, Finds}
 use Rattle.order_views.proofs.LinkSteps.{has_within}
 
 -- ---- one more member
@@ -39,26 +36,26 @@ fewer found v h e =
 
 pub finds_none : (found : List Bool) (waiting : List ℕ) → Finds (λ _. ⊥) found waiting found waiting
 finds_none found waiting = record {
-    size = refl;
-    kept = λ v h. h;
-    finds = λ v h. absurd h;
-    fresh = λ v h. inl h;
-    stays = λ v h. h;
-    waits = λ v h. inl h;
-    same = refl;
-  }
+  size = refl;
+  kept = λ v h. h;
+  finds = λ v h. absurd h;
+  fresh = λ v h. inl h;
+  stays = λ v h. h;
+  waits = λ v h. inl h;
+  same = refl;
+}
 
 -- the same kind in other words
 pub finds_alike : {P Q : ℕ → Type 0} {old found : List Bool} {was waiting : List ℕ} → ((v : ℕ) → P v → Q v) → ((v : ℕ) → Q v → P v) → Finds P old was found waiting → Finds Q old was found waiting
 finds_alike to back h = record {
-    size = h.size;
-    kept = h.kept;
-    finds = λ v q. h.finds v (back v q);
-    fresh = λ v t. elim (h.fresh v t) [ inl x ↦ inl x | inr x ↦ inr (to v x.0, x.1) ];
-    stays = h.stays;
-    waits = h.waits;
-    same = h.same;
-  }
+  size = h.size;
+  kept = h.kept;
+  finds = λ v q. h.finds v (back v q);
+  fresh = λ v t. elim (h.fresh v t) [ inl x ↦ inl x | inr x ↦ inr (to v x.0, x.1) ];
+  stays = h.stays;
+  waits = h.waits;
+  same = h.same;
+}
 
 -- the list after a find
 abbrev pub listed : List Bool → List ℕ → ℕ → List ℕ
@@ -71,33 +68,33 @@ finds_more {P} old found was waiting t l h =
       | inl e ↦
           let list : listed found waiting t ≡ waiting = rw e refl in
           let both : Finds (λ v. P v ⊎ (v ≡ t)) old was found waiting = record {
-              size = h.size;
-              kept = h.kept;
-              finds = λ v q. elim q [ inl p ↦ h.finds v p | inr is ↦ ap (has found) is ∙ e ];
-              fresh = λ v x. elim (h.fresh v x) [ inl y ↦ inl y | inr y ↦ inr (inl y.0, y.1) ];
-              stays = h.stays;
-              waits = h.waits;
-              same = h.same;
-            } in
+            size = h.size;
+            kept = h.kept;
+            finds = λ v q. elim q [ inl p ↦ h.finds v p | inr is ↦ ap (has found) is ∙ e ];
+            fresh = λ v x. elim (h.fresh v x) [ inl y ↦ inl y | inr y ↦ inr (inl y.0, y.1) ];
+            stays = h.stays;
+            waits = h.waits;
+            same = h.same;
+          } in
           subst (λ f. Finds (λ v. P v ⊎ (v ≡ t)) old was f (listed found waiting t)) (sym (set_again found t e)) (subst (Finds (λ v. P v ⊎ (v ≡ t)) old was found) (sym list) both)
       | inr e ↦
           let list : listed found waiting t ≡ waiting ++ t ∷ [] = rw e refl in
           let one = fewer found t l e in
           let both : Finds (λ v. P v ⊎ (v ≡ t)) old was (set found t true) (waiting ++ t ∷ []) = record {
-              size = length-set found t true ∙ h.size;
-              kept = λ v x. has_kept found t v (h.kept v x);
-              finds = λ v q. elim q [ inl p ↦ has_kept found t v (h.finds v p) | inr is ↦ ap (has (set found t true)) is ∙ has_new found t l ];
-              fresh = λ v x. elim (has_cases found t v x) [
-                  | inl y ↦ elim (h.fresh v y) [ inl z ↦ inl z | inr z ↦ inr (inl z.0, Contains-append_left waiting (t ∷ []) v z.1) ]
-                  | inr is ↦ inr (inr is, subst (Contains (waiting ++ t ∷ [])) (sym is) (Contains-push waiting t))
-                ];
-              stays = λ v x. Contains-append_left waiting (t ∷ []) v (h.stays v x);
-              waits = λ v x. elim (Contains-push_cases waiting t v x) [
-                  | inl y ↦ elim (h.waits v y) [ inl z ↦ inl z | inr z ↦ inr (has_kept found t v z) ]
-                  | inr is ↦ inr (ap (has (set found t true)) (sym is) ∙ has_new found t l)
-                ];
-              same = let long = length_push waiting t in omega (arith, one, long, h.same);
-            } in
+            size = length-set found t true ∙ h.size;
+            kept = λ v x. has_kept found t v (h.kept v x);
+            finds = λ v q. elim q [ inl p ↦ has_kept found t v (h.finds v p) | inr is ↦ ap (has (set found t true)) is ∙ has_new found t l ];
+            fresh = λ v x. elim (has_cases found t v x) [
+              | inl y ↦ elim (h.fresh v y) [ inl z ↦ inl z | inr z ↦ inr (inl z.0, Contains-append_left waiting (t ∷ []) v z.1) ]
+              | inr is ↦ inr (inr is, subst (Contains (waiting ++ t ∷ [])) (sym is) (Contains-push waiting t))
+            ];
+            stays = λ v x. Contains-append_left waiting (t ∷ []) v (h.stays v x);
+            waits = λ v x. elim (Contains-push_cases waiting t v x) [
+              | inl y ↦ elim (h.waits v y) [ inl z ↦ inl z | inr z ↦ inr (has_kept found t v z) ]
+              | inr is ↦ inr (ap (has (set found t true)) (sym is) ∙ has_new found t l)
+            ];
+            same = let long = length_push waiting t in omega (arith, one, long, h.same);
+          } in
           subst (Finds (λ v. P v ⊎ (v ≡ t)) old was (set found t true)) (sym list) both
     ]
 
@@ -109,9 +106,9 @@ search_begins es n a h =
     let long : length none ≡ n = length-replicate n false in
     let in' : a < length none = omega arith in
     let only : (v : ℕ) → has (set none a true) v ≡ true → v ≡ a = λ v t. elim (has_cases none a v t) [
-        | inl old ↦ absurd (false≢true (sym (get_or-replicate n v false false (let w = has_within none v old in omega arith)) ∙ old))
-        | inr e ↦ e
-      ] in
+      | inl old ↦ absurd (false≢true (sym (get_or-replicate n v false false (let w = has_within none v old in omega arith)) ∙ old))
+      | inr e ↦ e
+    ] in
     record {
       start = has_new none a in';
       reached = λ v t. subst (Path es a) (sym (only v t)) nowhere;
@@ -133,15 +130,15 @@ search_goes es a node old found rest waiting s f =
       reached = λ v t. elim (f.fresh v t) [ inl x ↦ s.reached v x | inr x ↦ further (s.reached node known) x.0 ];
       waits = λ v w. elim (f.waits v w) [ inl x ↦ f.kept v (s.waits v (Contains-append_left rest (node ∷ []) v x)) | inr x ↦ x ];
       closed = λ u v t e. elim (f.fresh u t) [
-          | inl x ↦ elim (s.closed u v x e) [
-              | inl y ↦ inl (f.kept v y)
-              | inr y ↦ elim (Contains-push_cases rest node u y) [
-                  | inl z ↦ inr (f.stays u z)
-                  | inr is ↦ inl (f.finds v (subst (λ w. HasEdge es w v) (sym is) e))
-                ]
-            ]
-          | inr x ↦ inr x.1
-        ];
+        | inl x ↦ elim (s.closed u v x e) [
+          | inl y ↦ inl (f.kept v y)
+          | inr y ↦ elim (Contains-push_cases rest node u y) [
+            | inl z ↦ inr (f.stays u z)
+            | inr is ↦ inl (f.finds v (subst (λ w. HasEdge es w v) (sym is) e))
+          ]
+        ]
+        | inr x ↦ inr x.1
+      ];
     }
 
 -- nothing waits: what can be reached was found

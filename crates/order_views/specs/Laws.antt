@@ -1,13 +1,13 @@
 -- What holds of every view.
-use Rattle.std.specs.Prelude.{◌≡◌, ◌≢◌, ◌↔◌, ◌<◌, ℕ, Bool, List, Contains, IsTrue, length, slice_index, count_by}
+use Rattle.std.specs.Prelude.{◌≡◌, ◌≢◌, ◌↔◌, ◌<◌, ℕ, Bool, List, Contains, IsTrue, All, length, slice_index}
 use Rattle.guppy_support.specs.declared.digraph.Edge.{Edge}
 use Rattle.guppy_support.specs.Graph.{Graph, IsDigraph, source_of, target_of}
 use Rattle.guppy_support.specs.Paths.{OnCycle}
 use Rattle.guppy_support.specs.Bits.{has}
 use Rattle.guppy_support.specs.Sequences.{Sequence, IsSequence, IsOrderOf, component_of}
 use Rattle.order_views.specs.declared.reading.Reading.{Reading}
-use Rattle.order_views.specs.Views.{in_order, links_in_order, start_of, end_of}
-use Rattle.order_views.specs.Cycles.{has_cycle}
+use Rattle.order_views.specs.Views.{in_order, links_in_order, roots_in_order}
+use Rattle.order_views.specs.Cycles.{has_cycle, cyclic_components}
 
 -- the list has exactly the numbers of that kind, each once
 pub record ListsOnce (Is : ℕ → Type 0) (xs : List ℕ) : Type 0 where
@@ -31,6 +31,19 @@ abbrev pub LinksComeOnce : Type 0
 LinksComeOnce =
     (es : List Edge) (o : Sequence) (set : List Bool) (r : Reading) → IsSequence o → length set ≡ length o.list
     → ListsOnce (IsLink es set) (links_in_order r es o.list set)
+
+-- each member, link, root and component that a view shows is a number of its kind
+abbrev pub MembersAreNodes : Type 0
+MembersAreNodes = (r : Reading) (list : List ℕ) (set : List Bool) → All (λ v. v < length set) (in_order r list set)
+
+abbrev pub LinksAreEdges : Type 0
+LinksAreEdges = (r : Reading) (es : List Edge) (list : List ℕ) (set : List Bool) → All (λ k. k < length es) (links_in_order r es list set)
+
+abbrev pub RootsAreNodes : Type 0
+RootsAreNodes = (r : Reading) (es : List Edge) (o : Sequence) (set : List Bool) → All (λ v. v < length set) (roots_in_order r es o set)
+
+abbrev pub CyclesAreNumbered : Type 0
+CyclesAreNumbered = (es : List Edge) (o : Sequence) → All (λ c. c < o.count) (cyclic_components es o)
 
 -- two orders of one digraph have one list
 abbrev pub OneList : Type 0

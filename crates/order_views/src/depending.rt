@@ -55,12 +55,7 @@ fn begin(alloc: Global, nodes: usize, node: usize) -> Result<(IxBitSet, Vec<usiz
 /// Whether a path, possibly empty, leads from the first node to the other. It stops when the other is found.
 ///
 /// Memory is taken for a bit a node and for the nodes that are found; the error is want of it.
-pub fn depends_on(
-    alloc: Global,
-    digraph: &Digraph,
-    a: usize,
-    b: usize,
-) -> Result<bool, AllocError>
+pub fn depends_on(alloc: Global, digraph: &Digraph, a: usize, b: usize) -> Result<bool, AllocError>
     requires a { a < digraph.now.nodes }
     requires b { b < digraph.now.nodes }
     ensures { IfOk result (λ answer. IsTrue answer ↔ Path digraph.now.edges a b) }

@@ -64,12 +64,7 @@ fn node_at(list: &[usize], reading: Reading, place: usize) -> usize
 }
 
 // The place of the first member from that place on, in the list as it is read.
-fn next_place(
-    list: &[usize],
-    members: &IxBitSet,
-    reading: Reading,
-    from: usize,
-) -> Option<usize>
+fn next_place(list: &[usize], members: &IxBitSet, reading: Reading, from: usize) -> Option<usize>
     requires from { from ≤ length list.now }
     requires nodes { (i : ℕ) → i < length list.now → slice_index list.now i < length members.now }
     ensures { MatchOption result (members_left reading list.now members.now from ≡ [])

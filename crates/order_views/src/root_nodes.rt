@@ -11,13 +11,7 @@ use guppy_support::{Digraph, IxBitSet, Order};
 use std::alloc::{AllocError, Global};
 
 // Notes the component that the edge leaves, if it leads to another.
-fn note(
-    order: &Order,
-    digraph: &Digraph,
-    reading: Reading,
-    edge: usize,
-    left: &mut IxBitSet,
-)
+fn note(order: &Order, digraph: &Digraph, reading: Reading, edge: usize, left: &mut IxBitSet)
     requires edge { edge < length digraph.now.edges }
     requires order { length order.now.list ≡ digraph.now.nodes }
     requires size { length left.old ≡ order.now.count }

@@ -1,5 +1,5 @@
 -- A search along edges: the set of the nodes that were found, and the list of those that wait to be followed.
-use Rattle.std.specs.Prelude.{◌≡◌, ◌⊎◌, ◌+◌, ◌<◌, ◌≤◌, ℕ, Bool, true, List, Contains, IsTrue, length, count_by, not}
+use Rattle.std.specs.Prelude.{◌≡◌, ◌⊎◌, ◌+◌, ◌<◌, ◌≤◌, ℕ, Bool, List, Contains, IsTrue, length, count_by, not}
 use Rattle.guppy_support.specs.declared.digraph.Edge.{Edge}
 use Rattle.guppy_support.specs.Graph.{target_of}
 use Rattle.guppy_support.specs.Bits.{has}

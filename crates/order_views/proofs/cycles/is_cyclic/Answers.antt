@@ -1,4 +1,4 @@
-use Rattle.std.proofs.Common.{◌≡◌, ℕ, ◌∙◌, ap, sym, subst}
+use Rattle.std.proofs.Common.{◌≡◌, ◌∙◌, ap, sym, subst}
 use Rattle.guppy_support.specs.Orders.{ListsEach}
 use Rattle.guppy_support.specs.Paths.{OnCycle}
 use Rattle.guppy_support.specs.Sequences.{component_of}

@@ -1,7 +1,6 @@
 use Rattle.std.proofs.Common.{◌≡◌, ◌∙◌, ◌∷◌, ◌++◌, [], ℕ, Bool, List, true, false, length, set, replicate, refl, ap, sym, subst, arith, rules, vec_len}
 use Rattle.std.proofs.lemmas.Bool.{false≢true}
 use Rattle.std.proofs.lemmas.List.{length-set, length-replicate, nil_from_length}
-use Rattle.guppy_support.specs.Bits.{has}
 use Rattle.order_views.specs.inner.Search.{IsSearch}
 use Rattle.order_views.proofs.SearchLemmas.{search_begins, search_goes, search_ends, waiting_within}
 use Rattle.order_views.proofs.depending.depends_on.Goals as goal
@@ -15,8 +14,8 @@ loop-waiting-init c =
     record {
       size = ap length c.in_ok-found.ensures.found ∙ length-set (replicate n false) a true ∙ length-replicate n false ∙ c.node_count.ensures;
       known =
-        subst (λ (f : List Bool). IsSearch es a f c.in_ok-found.waiting.items) (sym c.in_ok-found.ensures.found)
-        (subst (IsSearch es a (set (replicate n false) a true)) (sym c.in_ok-found.ensures.waiting) begins);
+          subst (λ (f : List Bool). IsSearch es a f c.in_ok-found.waiting.items) (sym c.in_ok-found.ensures.found)
+          (subst (IsSearch es a (set (replicate n false) a true)) (sym c.in_ok-found.ensures.waiting) begins);
     }
 
 pub follow-requires-clause-node : goal.follow-requires-clause-node

@@ -7,9 +7,9 @@ use Rattle.order_views.proofs.depending.follow.Goals as goal
 
 pub loop-number-init : goal.loop-number-init
 loop-number-init c = record {
-    size = c.requires.size;
-    finds = follow_none c.args.digraph.now.edges c.out_edges-numbers.result.start c.args.found.now c.args.waiting.now.items;
-  }
+  size = c.requires.size;
+  finds = follow_none c.args.digraph.now.edges c.out_edges-numbers.result.start c.args.found.now c.args.waiting.now.items;
+}
 
 pub edge-requires : goal.edge-requires
 edge-requires c = omega (arith, c.loop-number-test.true, c.out_edges-numbers.ensures.within)
@@ -33,8 +33,8 @@ loop-number-preserved c =
     record {
       size = ap length c.find.ensures.found ∙ length-set c.loop-number.found t true ∙ c.loop-number.invariant.size;
       finds =
-        subst (λ (f : List Bool). Finds (LeadsTo es low (k + 1)) c.args.found.now c.args.waiting.now.items f c.find.new.waiting.items) (sym c.find.ensures.found)
-        (subst (λ (w : List ℕ). Finds (LeadsTo es low (k + 1)) c.args.found.now c.args.waiting.now.items (set c.loop-number.found t true) w) (sym c.in_ok-find.ensures.waiting) more);
+          subst (λ (f : List Bool). Finds (LeadsTo es low (k + 1)) c.args.found.now c.args.waiting.now.items f c.find.new.waiting.items) (sym c.find.ensures.found)
+          (subst (λ (w : List ℕ). Finds (LeadsTo es low (k + 1)) c.args.found.now c.args.waiting.now.items (set c.loop-number.found t true) w) (sym c.in_ok-find.ensures.waiting) more);
     }
 
 pub returns : goal.returns

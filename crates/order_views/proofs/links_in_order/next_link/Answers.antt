@@ -1,5 +1,4 @@
-use Rattle.std.proofs.Common.{◌≡◌, ◌∙◌, ap, sym, arith, Some}
-use Rattle.std.specs.Prelude.{slice_get}
+use Rattle.std.proofs.Common.{◌∙◌, ap, sym, arith}
 use Rattle.guppy_support.specs.Bits.{has}
 use Rattle.order_views.specs.Views.{starting}
 use Rattle.order_views.proofs.LinkSteps.{after_yes, after_no, after_end}

@@ -16,9 +16,9 @@ loop-edge-init c =
       size = ap length c.in_ok-left.ensures ∙ length-replicate c.component_count.result false ∙ c.component_count.ensures;
       within = subst (All (λ (k : ℕ). k < length es)) (sym items) (links_within c.args.reading es c.args.order.now.list c.args.members.now);
       left = λ k h.
-        let test = leaves c.args.reading es c.args.order.now k in
-        let none : has c.in_ok-left.left k ≡ false = ap (λ (s : List Bool). has s k) c.in_ok-left.ensures ∙ none_noted c.component_count.result k (omega (arith, h, c.component_count.ensures)) in
-        ap (λ (b : Bool). b || list_any test c.into_iter-edge-iterator.result) none ∙ ap (list_any test) items;
+          let test = leaves c.args.reading es c.args.order.now k in
+          let none : has c.in_ok-left.left k ≡ false = ap (λ (s : List Bool). has s k) c.in_ok-left.ensures ∙ none_noted c.component_count.result k (omega (arith, h, c.component_count.ensures)) in
+          ap (λ (b : Bool). b || list_any test c.into_iter-edge-iterator.result) none ∙ ap (list_any test) items;
     }
 
 pub note-requires-clause-edge : goal.note-requires-clause-edge
@@ -33,7 +33,7 @@ loop-edge-preserved c =
       size = c.note.ensures.size;
       within = All-rest (λ (k : ℕ). k < length es) c.in-Some.edge c.next.new.self c.loop-edge.edge-iterator c.in-Some.ensures.steps c.loop-edge.invariant.within;
       left = λ k h.
-        noted_more (leaves c.args.reading es c.args.order.now k) (has c.loop-edge.left k) (has c.note.new.left k) c.in-Some.edge c.next.new.self
-        (links_in_order c.args.reading es c.args.order.now.list c.args.members.now) c.loop-edge.edge-iterator c.in-Some.ensures.steps
-        (c.note.ensures.left k h) (c.loop-edge.invariant.left k h);
+          noted_more (leaves c.args.reading es c.args.order.now k) (has c.loop-edge.left k) (has c.note.new.left k) c.in-Some.edge c.next.new.self
+          (links_in_order c.args.reading es c.args.order.now.list c.args.members.now) c.loop-edge.edge-iterator c.in-Some.ensures.steps
+          (c.note.ensures.left k h) (c.loop-edge.invariant.left k h);
     }

@@ -1,5 +1,4 @@
-use Rattle.std.proofs.Common.{◌<◌, ℕ, List, All, sym, subst}
-use Rattle.std.specs.Prelude.{length}
+use Rattle.std.proofs.Common.{◌<◌, ℕ, All, sym, subst}
 use Rattle.order_views.specs.Views.{in_order}
 use Rattle.order_views.proofs.LinkSteps.{members_below, first_below}
 use Rattle.order_views.proofs.links_in_order.LinksInOrder.new.Goals as goal

@@ -16,8 +16,8 @@ loop-self-preserved c =
       start = parts.0;
       nodes = parts.1;
       left =
-        sym (next_start r es set inside.nodes c.next-self-inside.new.self c.next-self-inside.result steps)
-        ∙ sym (none_at_hand r es set c.in-Some.node inside.passed inside.nodes c.in_default-found.ensures)
-        ∙ ap (λ (o : Option ℕ). links_left r es set o inside.passed inside.nodes) (sym c.in-Some.is)
-        ∙ c.loop-self.invariant.left;
+          sym (next_start r es set inside.nodes c.next-self-inside.new.self c.next-self-inside.result steps)
+          ∙ sym (none_at_hand r es set c.in-Some.node inside.passed inside.nodes c.in_default-found.ensures)
+          ∙ ap (λ (o : Option ℕ). links_left r es set o inside.passed inside.nodes) (sym c.in-Some.is)
+          ∙ c.loop-self.invariant.left;
     }
