@@ -12,3 +12,5 @@ pub mod ListedLemmas
 pub mod RangeLemmas
 pub mod SameFeatures
 pub mod PackageListLemmas
+pub mod OrderedLemmas
+pub mod PartLemmas

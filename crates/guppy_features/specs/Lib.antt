@@ -14,4 +14,7 @@ pub mod ListedFilters
 pub mod Packages
 pub mod PackageLists
 pub mod Ordered
+pub mod Parts
+pub mod Results
+pub mod Tied
 pub mod inner

@@ -2,6 +2,8 @@
 #![tactic(auto)]
 
 mod context;
+mod cycles;
+mod dependencies;
 mod filter;
 mod graph;
 mod ids;
@@ -20,6 +22,7 @@ mod visitor;
 mod workspace;
 
 pub use context::FeatureLinkContext;
+pub use cycles::{AllCycles, Cycles};
 pub use feature_core::{
     ConditionalLinkImpl, EdgeChoice, EnabledLink, Error, FeatureEdge, FeatureGraphData,
     FeatureGraphWarning, SlashForm, WeakIndex, WeakSlashImpl,

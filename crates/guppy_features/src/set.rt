@@ -12,6 +12,7 @@ mod links;
 mod lists;
 mod ordered;
 mod packages;
+mod parts;
 mod roots;
 
 use crate::graph::FeatureGraph;
