@@ -14,3 +14,4 @@ pub mod SameFeatures
 pub mod PackageListLemmas
 pub mod OrderedLemmas
 pub mod PartLemmas
+pub mod TiedLemmas

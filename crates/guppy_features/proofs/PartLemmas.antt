@@ -89,11 +89,13 @@ calls_made {F} {A} step first second direction s t numbers f g one other a b sam
     let called : HasCalled step first second s.graph.tables numbers [] f g one other = subst (λ u. HasCalled step first second u numbers [] f g one other) same called_at in (
       order.0,
       order.1,
-      called.calls,
-      record { each = sym (append-nil (map (λ x. x.0) called.calls)) ∙ called.each ∙ order.2; steps = called.steps },
       (
-        part called.calls first a one a_graph a_members called.one_filled,
-        part called.calls second b other b_graph b_members called.other_filled,
+        called.calls,
+        record { each = sym (append-nil (map (λ x. x.0) called.calls)) ∙ called.each ∙ order.2; steps = called.steps },
+        (
+          part called.calls first a one a_graph a_members called.one_filled,
+          part called.calls second b other b_graph b_members called.other_filled,
+        ),
       ),
     )
   where
