@@ -71,10 +71,10 @@ module _ {F A : Type 0} (step : F → FeatureMetadata → A → F → Type 0) (f
   called_more numbers rest node g h one other one_more other_more m answer before is of named made put put_other = record {
     calls = before.calls ++ (node, answer) ∷ [];
     each =
-      ap (λ l. l ++ rest) (map-append {A = ℕ × A} (λ x. x.0) before.calls ((node, answer) ∷ []))
-      ∙ append_assoc (map (λ x. x.0) before.calls) (node ∷ []) rest
-      ∙ ap (λ l. map (λ x. x.0) before.calls ++ l) (sym is)
-      ∙ before.each;
+        ap (λ l. l ++ rest) (map-append {A = ℕ × A} (λ x. x.0) before.calls ((node, answer) ∷ []))
+        ∙ append_assoc (map (λ x. x.0) before.calls) (node ∷ []) rest
+        ∙ ap (λ l. map (λ x. x.0) before.calls ++ l) (sym is)
+        ∙ before.each;
     steps = FoldsTo-push (λ p x q. CallsAt step t p x q) f before.calls g (node, answer) h before.steps (record { feature = m; of_graph = of; named = named; call_step = made });
     one_filled = filled_more first before.calls (length (nodes t)) node answer one one_more before.one_filled put;
     other_filled = filled_more second before.calls (length (nodes t)) node answer other other_more before.other_filled put_other;

@@ -45,8 +45,7 @@ pub set_eq-Decides : (a b : Set) → Decides (set_eq a b) (AreEqualSets a b)
 set_eq-Decides a b =
     let graphs = Decides-and (nat_eq a.graph.built.stamp b.graph.built.stamp) (pointwise name_eq (nodes a.graph.tables) (nodes b.graph.tables))
     (Decides-eqb a.graph.built.stamp b.graph.built.stamp) (names_eq-Decides (nodes a.graph.tables) (nodes b.graph.tables)) in
-    let all = Decides-and (graph_eq a.graph b.graph) (pointwise nat_eq (members a.members) (members b.members)) graphs (bytes_decides (members a.members) (members b.members)) in
-    (
+    let all = Decides-and (graph_eq a.graph b.graph) (pointwise nat_eq (members a.members) (members b.members)) graphs (bytes_decides (members a.members) (members b.members)) in (
       λ e. let both = all.0 e in record { graph = record { stamp = both.0.0; names = both.0.1 }; members = both.1 },
       λ e. all.1 ((e.graph.stamp, e.graph.names), e.members),
     )

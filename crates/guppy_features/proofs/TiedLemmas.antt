@@ -19,9 +19,9 @@ tells_tied Tied t a b m n answer nodes tied = record {
   first = (m, (nodes.first m).1 refl);
   second = (n, (nodes.second n).1 refl);
   tells = λ j k at other.
-    let first : j ≡ m = (nodes.first j).0 at in
-    let second : k ≡ n = (nodes.second k).0 other in
-    subst (λ z. IsTrue answer ↔ Tied z k) (sym first) (subst (λ z. IsTrue answer ↔ Tied m z) (sym second) tied);
+      let first : j ≡ m = (nodes.first j).0 at in
+      let second : k ≡ n = (nodes.second k).0 other in
+      subst (λ z. IsTrue answer ↔ Tied z k) (sym first) (subst (λ z. IsTrue answer ↔ Tied m z) (sym second) tied);
 }
 
 edge_there : (es : List Edge) (k u w : ℕ) → k < length es → source_of es k ≡ u → target_of es k ≡ w → HasEdge es u w

@@ -69,7 +69,9 @@ impl<'g> Cycles<'g> {
 
 impl fmt::Debug for Cycles<'_> {
     fn fmt<W: fmt::Write>(&self, f: &mut fmt::Formatter<W>) -> fmt::Result {
-        f.debug_struct("Cycles").field("graph", &self.graph).finish()
+        f.debug_struct("Cycles")
+            .field("graph", &self.graph)
+            .finish()
     }
 }
 
@@ -128,7 +130,11 @@ impl<'g> Iterator for AllCycles<'g> {
             None => return None,
         };
         let component = components.next()?;
-        match ids_of(self.alloc, self.graph, self.order.component_nodes(component)) {
+        match ids_of(
+            self.alloc,
+            self.graph,
+            self.order.component_nodes(component),
+        ) {
             Ok(ids) => Some(Ok(ids)),
             Err(_) => {
                 self.components = None;

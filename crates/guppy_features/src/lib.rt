@@ -46,8 +46,8 @@ pub use metadata::FeatureMetadata;
 pub use package_links::PackageLinks;
 pub use query::FeatureQuery;
 pub use set::{
-    ConditionalLinks, FeatureIds, FeatureSet, Features, IdsByNode, InitialPackages, Links, RootFeatures,
-    RootIds,
+    ConditionalLinks, FeatureIds, FeatureSet, Features, IdsByNode, InitialPackages, Links,
+    RootFeatures, RootIds,
 };
 pub use standard_features::StandardFeatures;
 pub use visitor::{FeatureLinkObject, FeatureLinkVisitor};

@@ -30,7 +30,12 @@ impl<'g> FeatureSet<'g> {
     {
         views_stay_within();
         let built = self.graph.built;
-        LinksInOrder::new(built.order(), built.digraph(), &self.members, reading(direction))
+        LinksInOrder::new(
+            built.order(),
+            built.digraph(),
+            &self.members,
+            reading(direction),
+        )
     }
 
     /// The edges whose two features the set has, each as the ids of the feature that asks and of the one that is asked for,
@@ -131,7 +136,6 @@ pub struct ConditionalLinks<'g, 'a> {
 
 impl<'g, 'a> Model for ConditionalLinks<'g, 'a> {
     ghost use Rattle.std.specs.Prelude.{List, All, ◌<◌, length};
-
     ghost use Rattle.guppy_features.specs.LinkValues.{Link};
     ghost use Rattle.guppy_features.specs.Ordered.{full_links};
     ghost use Rattle.guppy_features.specs.Views.{built_of, graph_of};

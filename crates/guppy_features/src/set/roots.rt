@@ -34,7 +34,13 @@ impl<'g> FeatureSet<'g> {
     {
         views_stay_within();
         let built = self.graph.built;
-        roots(alloc, built.order(), built.digraph(), &self.members, reading(direction))
+        roots(
+            alloc,
+            built.order(),
+            built.digraph(),
+            &self.members,
+            reading(direction),
+        )
     }
 
     /// The ids of the set's roots, in the order of `feature_ids`. Forward, a feature is a root where no edge leads from its

@@ -22,5 +22,5 @@ invariant_of-self-in-Ok c =
       order = c.self.invariant.order;
       long = c.self.invariant.long;
       within = All-rest (λ k. k < o.count) c.in_ok-component.component c.next.new.self _ c.in_ok-component.ensures.steps
-        (subst (λ z. IfSome z (All (λ k. k < o.count))) c.in-Some.is c.self.invariant.within);
+          (subst (λ z. IfSome z (All (λ k. k < o.count))) c.in-Some.is c.self.invariant.within);
     }

@@ -28,8 +28,8 @@ loop-node-preserved g c =
       callable = search of_calls;
       within = All-rest (λ n. n < length (nodes t)) c.in-Some.node c.next.new.self c.loop-node.numbers c.in-Some.ensures.steps c.loop-node.invariant.within;
       called = called_more (goal.F-step g) g.A.Answer.first g.A.Answer.second t c.args.numbers c.args.f.now c.loop-node.numbers c.next.new.self c.in-Some.node c.loop-node.f c.f-answer.new.self
-        c.loop-node.one c.loop-node.other c.put.new.members c.put-in-Some.new.members c.feature_at.result c.f-answer.result
-        c.loop-node.invariant.called c.in-Some.ensures.steps c.feature_at.ensures.tables c.feature_at.ensures.name c.f-answer.ensures
-        (subst (λ say. IsPut say c.in-Some.node c.loop-node.one c.put.new.members) c.is_first.ensures c.put.ensures)
-        (subst (λ say. IsPut say c.in-Some.node c.loop-node.other c.put-in-Some.new.members) c.is_second.ensures c.put-in-Some.ensures);
+          c.loop-node.one c.loop-node.other c.put.new.members c.put-in-Some.new.members c.feature_at.result c.f-answer.result
+          c.loop-node.invariant.called c.in-Some.ensures.steps c.feature_at.ensures.tables c.feature_at.ensures.name c.f-answer.ensures
+          (subst (λ say. IsPut say c.in-Some.node c.loop-node.one c.put.new.members) c.is_first.ensures c.put.ensures)
+          (subst (λ say. IsPut say c.in-Some.node c.loop-node.other c.put-in-Some.new.members) c.is_second.ensures c.put-in-Some.ensures);
     }
