@@ -14,4 +14,5 @@ pub mod SameFeatures
 pub mod PackageListLemmas
 pub mod OrderedLemmas
 pub mod PartLemmas
+pub mod SplitLemmas
 pub mod TiedLemmas

@@ -15,6 +15,7 @@ pub mod Packages
 pub mod PackageLists
 pub mod Ordered
 pub mod Parts
+pub mod PartLaws
 pub mod Results
 pub mod Tied
 pub mod inner
