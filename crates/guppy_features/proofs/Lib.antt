@@ -10,3 +10,9 @@ mod Visits
 pub mod WorkspaceLemmas
 pub mod ListedLemmas
 pub mod RangeLemmas
+pub mod SameFeatures
+pub mod PackageListLemmas
+pub mod OrderedLemmas
+pub mod PartLemmas
+pub mod SplitLemmas
+pub mod TiedLemmas

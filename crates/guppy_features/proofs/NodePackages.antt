@@ -1,12 +1,14 @@
 -- The package of a node, by the node's name.
-use Rattle.std.proofs.Common.{◌≡◌, ℕ, zero, suc, ◌+◌, ◌⊎◌, inl, inr, ⊎_elim, List, [], ◌∷◌, ◌++◌, Some, map, refl, ap, subst, arith}
+use Rattle.std.proofs.Common.{◌≡◌, ℕ, zero, suc, ◌+◌, ◌⊎◌, inl, inr, ⊎_elim, List, [], ◌∷◌, ◌++◌, Option, Some, map, refl, ap, sym, ◌∙◌, subst, arith}
 use Rattle.std.specs.Prelude.{slice_get, flat_map}
 use Rattle.std.proofs.lemmas.List.{map-append}
+use Rattle.std.proofs.lemmas.Option.{slice_get-map}
+use Rattle.std.specs.Option.{option_map}
 use Rattle.guppy_packages.specs.Rows.{Text}
 use Rattle.guppy_packages.specs.Tables.{PackageTable, Tables}
 use Rattle.feature_labels.specs.Names.{LabelName}
 use Rattle.feature_core.specs.Built.{NodeNamed}
-use Rattle.feature_core.specs.Nodes.{labels_of, spread, node_packages}
+use Rattle.feature_core.specs.Nodes.{NodeAt, labels_of, spread, node_packages, node_places}
 
 abbrev row_of : ℕ → List LabelName → List (ℕ × LabelName)
 row_of q labels = map (λ y. (q, y)) labels
@@ -47,3 +49,28 @@ node_package t n p name h i =
     let r = of_package 0 t.packages n p name h i in
     let same : r.0 ≡ p = omega (arith, r.1.0) in
     subst (λ k. IsOf t.packages k name.0) same r.1.1
+
+in_place : (q : ℕ) (id : Text) (labels : List LabelName) (rest : List (ℕ × LabelName)) (names : List (Text × LabelName)) (n : ℕ) (name : Text × LabelName)
+    → slice_get (names_of id labels ++ names) n ≡ Some name
+    → (slice_get (row_of q labels ++ rest) n ≡ Some (q, name.1)) ⊎ ((m : ℕ) × (slice_get (row_of q labels ++ rest) n ≡ slice_get rest m) × (slice_get names m ≡ Some name))
+in_place q id [] rest names n name h = inr (n, refl, h)
+in_place q id (l ∷ ls) rest names zero name h =
+    let same : ◌≡◌ {A = Text × LabelName} (id, l) name = cc in
+    inl (ap (λ z. Some (q, z.1)) same)
+in_place q id (l ∷ ls) rest names (suc n) name h = in_place q id ls rest names n name h
+
+label_there : (q : ℕ) (packages : List PackageTable) (n : ℕ) (name : Text × LabelName) → slice_get (flat_map (λ t. names_of t.id (labels_of t)) packages) n ≡ Some name
+    → (p : ℕ) × (slice_get (spread labels_of q packages) n ≡ Some (p, name.1))
+label_there q [] n name h = cc
+label_there q (t ∷ ts) n name h = ⊎_elim
+    (λ e. (q, e))
+    (λ e. let r = label_there (q + 1) ts e.0 name e.2 in (r.0, e.1 ∙ r.1))
+    (in_place q t.id (labels_of t) (spread labels_of (q + 1) ts) (flat_map (λ t. names_of t.id (labels_of t)) ts) n name h)
+
+-- a node's label is its label in its package
+pub label_at_node : (t : Tables) (n p : ℕ) (name : Text × LabelName) → slice_get (node_packages t) n ≡ Some p → NodeNamed t n name → NodeAt t n p name.1
+label_at_node t n p name of named =
+    let r = label_there 0 t.packages n name named in
+    let both : ◌≡◌ {A = Option ℕ} (Some r.0) (Some p) = sym (slice_get-map (λ x. x.0) (node_places t) n ∙ ap (option_map (λ x. x.0)) r.1) ∙ of in
+    let same : r.0 ≡ p = cc in
+    subst (λ z. NodeAt t n z name.1) same r.1

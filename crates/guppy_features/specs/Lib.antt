@@ -1,4 +1,5 @@
 pub mod Values
+pub mod SetValues
 pub mod Names
 pub mod Views
 pub mod Verified
@@ -11,3 +12,10 @@ pub mod ByClosure
 pub mod Filters
 pub mod ListedFilters
 pub mod Packages
+pub mod PackageLists
+pub mod Ordered
+pub mod Parts
+pub mod PartLaws
+pub mod Results
+pub mod Tied
+pub mod inner

@@ -5,6 +5,7 @@ ghost use Rattle.guppy_support.specs.Bits.{has};
 ghost use Rattle.walk_engine.specs.declared.walks.Half.{Half};
 ghost use Rattle.walk_engine.specs.Laws.{AnswersBy};
 ghost use Rattle.walk_engine.specs.Walks.{Call, Agrees, GoesAlong, IsWalk, Least};
+ghost use Rattle.guppy_features.specs.PartLaws.{FilterIsFirst, PartitionIsSplit};
 ghost use Rattle.guppy_features.specs.Values.{Query};
 ghost use Rattle.guppy_features.specs.Visits.{query_content, shown};
 
@@ -24,3 +25,13 @@ pub fn visitor_agrees_by_answer<'g, V: FeatureLinkVisitor<'g>>()
         → IsWalk (query_content q) (has q.initials) (shown V.visit_gives q) s t M
         → (n : ℕ) → IsTrue (M n) ↔ Least (query_content q) (has q.initials) A n }
 {}
+
+/// Where a callback answered yes or no once for each feature of a set, the features with yes and those with no have none in
+/// common, and are the set together. The same answers make the same part, by `filter` and by `partition`.
+pub fn partition_is_split()
+    ensures split { PartitionIsSplit }
+    ensures first { FilterIsFirst }
+{
+    guppy_support::laws::order_lists_each();
+    order_views::laws::members_come_once();
+}

@@ -2,6 +2,8 @@
 #![tactic(auto)]
 
 mod context;
+mod cycles;
+mod dependencies;
 mod filter;
 mod graph;
 mod ids;
@@ -13,12 +15,14 @@ mod metadata;
 mod package_links;
 mod query;
 mod resolve_with;
+mod same_graph;
 mod set;
 mod standard_features;
 mod visitor;
 mod workspace;
 
 pub use context::FeatureLinkContext;
+pub use cycles::{AllCycles, Cycles};
 pub use feature_core::{
     ConditionalLinkImpl, EdgeChoice, EnabledLink, Error, FeatureEdge, FeatureGraphData,
     FeatureGraphWarning, SlashForm, WeakIndex, WeakSlashImpl,
@@ -41,6 +45,9 @@ pub use listed_filters::{
 pub use metadata::FeatureMetadata;
 pub use package_links::PackageLinks;
 pub use query::FeatureQuery;
-pub use set::{FeatureSet, IdsByNode, InitialPackages};
+pub use set::{
+    ConditionalLinks, FeatureIds, FeatureSet, Features, IdsByNode, InitialPackages, Links,
+    RootFeatures, RootIds,
+};
 pub use standard_features::StandardFeatures;
 pub use visitor::{FeatureLinkObject, FeatureLinkVisitor};

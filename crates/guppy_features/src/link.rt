@@ -20,7 +20,7 @@ use std::fmt;
 use walk_engine::Half;
 
 /// The feature of a node.
-fn feature_at<'g>(graph: FeatureGraph<'g>, node: usize) -> FeatureMetadata<'g>
+pub(crate) fn feature_at<'g>(graph: FeatureGraph<'g>, node: usize) -> FeatureMetadata<'g>
     requires { node < length (nodes (tables_of_graph graph)) }
     ensures name { NodeNamed (tables_of_graph graph.entry) node (feature_name_of result) }
     ensures tables { feature_tables_of result ≡ tables_of_graph graph.entry }

@@ -7,13 +7,22 @@ ghost use Rattle.feature_core.specs.Nodes.{nodes};
 ghost use Rattle.feature_core.specs.Errors.{refusal_of};
 ghost use Rattle.guppy_features.specs.Names.{RefusesName, TellsMember};
 
+mod algebra;
+mod links;
+mod lists;
+mod ordered;
 mod packages;
+mod parts;
+mod roots;
 
 use crate::graph::FeatureGraph;
 use feature_core::Error;
 use feature_labels::FeatureId;
 use guppy_support::{IxBitSet, Ones};
+pub use links::{ConditionalLinks, Links};
+pub use ordered::{FeatureIds, Features};
 pub use packages::InitialPackages;
+pub use roots::{RootFeatures, RootIds};
 use std::fmt;
 use std::iter::FusedIterator;
 use std::marker::Model;

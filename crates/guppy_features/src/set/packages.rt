@@ -13,7 +13,7 @@ use std::marker::Model;
 
 impl<'g> FeatureSet<'g> {
     /// Whether the set has a feature of the package of this number.
-    fn has_member_of(&self, package_ix: usize) -> bool
+    pub(crate) fn has_member_of(&self, package_ix: usize) -> bool
         requires { package_ix < length self.now.graph.tables.packages }
         ensures { result ≡ has_member_of self.now.graph.tables self.now.members package_ix }
     {

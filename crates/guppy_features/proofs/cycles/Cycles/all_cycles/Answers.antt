@@ -1,0 +1,17 @@
+use Rattle.std.proofs.Common.{◌<◌}
+use Rattle.std.proofs.lemmas.List.Elements.{All-same}
+use Rattle.order_views.specs.Cycles.{cyclic_components}
+use Rattle.guppy_features.specs.Views.{tables_of_graph, built_of}
+use Rattle.guppy_features.proofs.OrderedLemmas.{order_long}
+use Rattle.guppy_features.proofs.cycles.Cycles.all_cycles.Goals as goal
+
+pub invariant_of-result : goal.invariant_of-result
+invariant_of-result c =
+    let g = c.args.self.now.graph in
+    let o = c.order-order.result.now in
+    let es = c.digraph.result.now.edges in
+    record {
+      order = c.facts.ensures;
+      long = order_long (tables_of_graph g) (built_of g) o g.is_built c.order-order.ensures;
+      within = All-same (λ k. k < o.count) c.new.result (cyclic_components es o) c.new.ensures (c.views_stay_within.ensures.components es o);
+    }

@@ -1,0 +1,13 @@
+-- Iterators whose items may be refused for want of memory.
+use Rattle.std.specs.Prelude.{◌≡◌, ◌≢◌, List, [], ◌∷◌, Option, Some, None}
+use Rattle.std.specs.declared.result.Result.{Result}
+use Rattle.std.specs.declared.result.Result.TheVariants.{Ok, Err}
+use Rattle.feature_core.specs.declared.error.Error.{Error}
+use Rattle.feature_core.specs.declared.error.Error.TheVariants.{Memory}
+
+-- what is given is the first of what is left, or an error where memory was refused, after which nothing is left; nothing is
+-- given where nothing is left
+abbrev pub GivesOrEnds : {S A B : Type 0} → (A → B → Type 0) → (S → List B) → S → Option (Result A Error) → S → Type 0
+GivesOrEnds Is rest s None t = (rest s ≡ []) × (rest t ≡ [])
+GivesOrEnds {S} {A} {B} Is rest s (Some (Ok item)) t = (first : B) × Is item first × (rest s ≡ first ∷ rest t)
+GivesOrEnds Is rest s (Some (Err e)) t = (e ≡ Memory) × (rest s ≢ []) × (rest t ≡ [])

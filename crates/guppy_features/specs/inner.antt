@@ -1,0 +1,3 @@
+pub mod CycleSteps
+pub mod MemberLabels
+pub mod Sorting
