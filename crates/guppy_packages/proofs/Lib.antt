@@ -1,10 +1,13 @@
 pub mod Apart
+pub mod Ascending
 pub mod EachAfter
 pub mod Firsts
 pub mod ItemLemmas
 pub mod Joined
+pub mod LinkEdges
 pub mod LinkRanges
 pub mod Lists
+pub mod PackageOrders
 pub mod Passes
 pub mod Sections
 pub mod Sound

@@ -2,6 +2,8 @@ pub mod Graph
 pub mod Items
 pub mod Metadata
 pub mod NamedFeature
+pub mod PackageOrder
+pub mod PackageSets
 pub mod Platform
 pub mod Rows
 pub mod Stored

@@ -15,6 +15,7 @@ use crate::declaration::Declaration;
 use crate::named_feature::NamedFeature;
 use crate::package_graph::PackageGraph;
 use crate::package_id::PackageId;
+use crate::package_order::package_order;
 use crate::platform::{PlatformStatusImpl, Spec};
 use crate::row::{DependencyKind, Row};
 use crate::row_error::{RowError, RowFault};
@@ -294,6 +295,11 @@ impl PackageGraph {
     {
         let packages = take_packages(alloc, rows)?;
         let links = take_links(alloc, &packages, rows)?;
-        Ok(PackageGraph { packages, links })
+        let order = package_order(alloc, &packages, &links)?;
+        Ok(PackageGraph {
+            packages,
+            links,
+            order,
+        })
     }
 }

@@ -1,16 +1,19 @@
-//! Package rows, their tables, package ids and links.
+//! Package rows, their tables, package ids, links, and the order and sets of packages.
 #![tactic(auto)]
 
 mod contents;
 mod declaration;
 mod direction;
 mod from_rows;
+pub mod laws;
 mod named_feature;
 mod named_feature_dep;
 mod package_graph;
 mod package_id;
 mod package_link;
 mod package_metadata;
+mod package_order;
+mod package_set;
 mod platform;
 mod row;
 mod row_error;
@@ -24,6 +27,7 @@ pub use package_graph::PackageGraph;
 pub use package_id::PackageId;
 pub use package_link::PackageLink;
 pub use package_metadata::{PackageMetadata, UnknownPackageId};
+pub use package_set::{PackageSet, Packages};
 pub use platform::{PlatformStatus, PlatformStatusImpl, Spec};
 pub use row::{DependencyKind, Row};
 pub use row_error::{RowError, RowFault};

@@ -1,5 +1,7 @@
 //! The package graph.
 ghost use Rattle.std.specs.Prelude.{◌≡◌, ◌<◌, Some, None, length, nat_le, nat_lt, slice_get, IfOk, MatchResult};
+ghost use Rattle.guppy_support.specs.Sequences.{IsOrderOf};
+ghost use Rattle.guppy_packages.specs.PackageOrder.{digraph_of_packages};
 ghost use Rattle.guppy_packages.specs.Tables.{package_place, AreLinksFrom, AreTables};
 
 use crate::contents::{LinkData, PackageData};
@@ -7,6 +9,7 @@ use crate::package_id::PackageId;
 use crate::package_link::PackageLink;
 use crate::package_metadata::{PackageMetadata, UnknownPackageId};
 use crate::text_map::TextMap;
+use guppy_support::Order;
 use indexmap::IndexMap;
 use std::marker::Model;
 use std::ops::Range;
@@ -16,6 +19,7 @@ use std::ops::Range;
 pub struct PackageGraph {
     pub(crate) packages: TextMap<PackageId, PackageData>,
     pub(crate) links: IndexMap<(usize, usize), LinkData>,
+    pub(crate) order: Order,
 }
 
 impl Model for PackageGraph {
@@ -23,11 +27,15 @@ impl Model for PackageGraph {
 
     ghost Value = { Tables };
 
+    ghost use Rattle.guppy_support.specs.Sequences.{IsOrderOf};
+    ghost use Rattle.guppy_packages.specs.PackageOrder.{digraph_of_packages};
     ghost use Rattle.guppy_packages.specs.Stored.{package_tables, link_tables};
 
     ghost view = { λ g. record { packages = package_tables g.packages; links = link_tables g.links } };
 
-    ghost invariant = { λ g. AreTables (record { packages = package_tables g.packages; links = link_tables g.links }) };
+    ghost invariant = { λ g.
+        AreTables (record { packages = package_tables g.packages; links = link_tables g.links })
+        × IsOrderOf (digraph_of_packages (record { packages = package_tables g.packages; links = link_tables g.links })) g.order };
 }
 
 impl PackageGraph {
@@ -78,6 +86,14 @@ impl PackageGraph {
             Some((pair, data)) => PackageLink::new(self, ix, *pair, data),
             None => unreachable!(),
         }
+    }
+
+    /// The order of the packages, by their numbers: that of the digraph of their links, in which a link that is dev-only doesn't
+    /// order its two packages.
+    pub fn order(&self) -> &Order
+        ensures { IsOrderOf (digraph_of_packages self.now) result.now }
+    {
+        &self.order
     }
 
     /// The numbers of the links that leave the package of this number. Links stand in the order of the packages that they leave.

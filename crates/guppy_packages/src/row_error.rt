@@ -62,3 +62,17 @@ impl<T: Drop> From<AllocFailed<T>> for RowFault {
         RowFault::Memory
     }
 }
+
+impl From<AllocError> for RowError {
+    ghost use Rattle.std.specs.Prelude.{◌≡◌};
+    ghost use Rattle.guppy_packages.specs.declared.row_error.RowFault.TheVariants.{Memory};
+
+    ghost from_gives = { λ _ e. e ≡ record { row = 0; fault = Memory } };
+
+    fn from(_: AllocError) -> RowError {
+        RowError {
+            row: 0,
+            fault: RowFault::Memory,
+        }
+    }
+}

@@ -1,19 +1,26 @@
 -- One command and one content of bytes have one answer.
-use Rattle.std.proofs.Common.{◌≡◌, ◌≢◌, ℕ, ◌<◌, ◌+◌, ◌⊎◌, inl, inr, List, [], ◌∷◌, Bool, true, false, Result, Ok, Err, Some, sym, ap, ◌∙◌, refl, cond, filter, map, arith, subst, rules}
+use Rattle.std.proofs.Common.{◌≡◌, ◌≢◌, ℕ, ◌<◌, ◌+◌, ◌⊎◌, inl, inr, List, [], ◌∷◌, ◌++◌, Bool, true, false, Result, Ok, Err, Some, sym, ap, ◌∙◌, refl, cond, filter, map, arith, subst, rules}
 use Rattle.std.specs.Prelude.{◌↔◌, IsTrue, slice_get}
 use Rattle.std.specs.List.{enumerate_from}
 use Rattle.guppy_support.specs.Bits.{has}
 use Rattle.guppy_packages.specs.Rows.{Text}
 use Rattle.guppy_packages.specs.Tables.{Tables}
 use Rattle.guppy_packages.specs.declared.direction.DependencyDirection.{DependencyDirection}
-use Rattle.feature_labels.specs.Names.{LabelName, id_text}
+use Rattle.feature_labels.specs.Names.{LabelName, id_text, label_cmp}
+use Rattle.std.specs.Cmp.{IsTotalOrder}
 use Rattle.feature_core.specs.Nodes.{nodes}
 use Rattle.feature_core.specs.Pairs.{Reach}
+use Rattle.feature_core.specs.Offers.{content_of}
+use Rattle.feature_labels.specs.Lists.{joined}
+use Rattle.walk_engine.specs.declared.walks.Half.{Half}
+use Rattle.walk_engine.specs.Walks.{Content, Least}
+use Rattle.walk_engine.specs.Laws.{every}
 use Rattle.guppy_features.specs.Names.{AreKnown, IsFirstUnknown, HoldsExactly, HasFeature, at_places}
-use Rattle.guppy_tool.specs.Faults.{Refusal, unknown_feature}
+use Rattle.guppy_tool.specs.Faults.{Refusal, unknown_feature, unknown_package}
 use Rattle.guppy_tool.specs.RowFileRefusals.{tables_in}
-use Rattle.guppy_tool.specs.Words.{CommandText, resolve}
-use Rattle.guppy_tool.specs.Answers.{Resolves, NamesUnknown, listing}
+use Rattle.guppy_tool.specs.Words.{CommandText, resolve, visit, list_of, all_warnings}
+use Rattle.guppy_tool.specs.Answers.{Resolves, Visits, ListsFeatures, NamesUnknown, listing}
+use Rattle.guppy_tool.proofs.LabelLists.{one_list}
 use Rattle.guppy_tool.specs.Run.{IsOutputOf, IsAnswer}
 
 -- tests that pass alike
@@ -45,6 +52,28 @@ one_text t direction ids x y a b =
     let same : (n : ℕ) → has a.members n ≡ has b.members n = λ n. same_test (has a.members n) (has b.members n) (reached_too t direction ids x y a b n) (reached_too t direction ids y x b a n) in
     a.lines ∙ ap listing (at_places_alike (has a.members) (has b.members) (nodes t) same) ∙ sym b.lines
 
+-- a set that is least from more initials has more
+least_grows : (c : Content) (p q : ℕ → Bool) (A : ℕ → Half → Bool) (n : ℕ) → ((u : ℕ) → IsTrue (p u) → IsTrue (q u)) → Least c p A n → Least c q A n
+least_grows c p q A n more least S is_closed = least S (record { initial = λ u h. is_closed.initial u (more u h); unasked = is_closed.unasked; offered = is_closed.offered })
+
+visited_too : (t : Tables) (direction : DependencyDirection) (ids : List (Text × LabelName)) (x y : Text) (a : Visits t direction ids x) (b : Visits t direction ids y) (n : ℕ) → IsTrue (has a.members n) → IsTrue (has b.members n)
+visited_too t direction ids x y a b n h =
+    (b.least a.built a.is_built n).1
+    (least_grows (content_of direction a.built) (has a.initials) (has b.initials) every n (same_initials t a.initials b.initials ids a.given b.given) ((a.least a.built a.is_built n).0 h))
+
+one_visit : (t : Tables) (direction : DependencyDirection) (ids : List (Text × LabelName)) (x y : Text) → Visits t direction ids x → Visits t direction ids y → x ≡ y
+one_visit t direction ids x y a b =
+    let same : (n : ℕ) → has a.members n ≡ has b.members n = λ n. same_test (has a.members n) (has b.members n) (visited_too t direction ids x y a b n) (visited_too t direction ids y x b a n) in
+    a.lines ∙ ap listing (at_places_alike (has a.members) (has b.members) (nodes t) same) ∙ sym b.lines
+
+one_line : IsTotalOrder label_cmp → (t : Tables) (id x y : Text) → ListsFeatures t id x → ListsFeatures t id y → x ≡ y
+one_line order t id x y a b =
+    let table = a.known.0 in
+    let mine = a.own table a.known.1 a.known.2 in
+    let its = b.own table a.known.1 a.known.2 in
+    let same : a.labels ≡ b.labels = one_list label_cmp order a.labels b.labels a.ascends b.ascends (λ l h. (its l).0 ((mine l).1 h)) (λ l h. (mine l).0 ((its l).1 h)) in
+    a.line ∙ ap (λ labels. joined labels ++ 10 ∷ []) same ∙ sym b.line
+
 -- where all names are known, none is the first unknown one
 not_both : (t : Tables) (ids : List (Text × LabelName)) (id : Text × LabelName) → AreKnown t ids → IsFirstUnknown t ids id → ⊥
 not_both t ids id known first = first.unknown (known first.place id first.at)
@@ -65,13 +94,25 @@ one_first t ids x y a b =
       ]
     ]
 
-one_output : (command : CommandText) (tables : Result Tables Refusal) (a b : Result Text Refusal) → IsOutputOf command tables a → IsOutputOf command tables b → a ≡ b
-one_output command (Err refusal) a b x y = x ∙ sym y
-one_output (resolve direction ids) (Ok t) (Ok text) (Ok other) x y = ap Ok (one_text t direction ids text other x y)
-one_output (resolve direction ids) (Ok t) (Ok text) (Err refusal) x y = absurd (not_both t ids y.id x.known y.first)
-one_output (resolve direction ids) (Ok t) (Err refusal) (Ok text) x y = absurd (not_both t ids x.id y.known x.first)
-one_output (resolve direction ids) (Ok t) (Err refusal) (Err other) x y =
+one_output : IsTotalOrder label_cmp → (command : CommandText) (tables : Result Tables Refusal) (a b : Result Text Refusal) → IsOutputOf command tables a → IsOutputOf command tables b → a ≡ b
+one_output order command (Err refusal) a b x y = x ∙ sym y
+one_output order (resolve direction ids) (Ok t) (Ok text) (Ok other) x y = ap Ok (one_text t direction ids text other x y)
+one_output order (resolve direction ids) (Ok t) (Ok text) (Err refusal) x y = absurd (not_both t ids y.id x.known y.first)
+one_output order (resolve direction ids) (Ok t) (Err refusal) (Ok text) x y = absurd (not_both t ids x.id y.known x.first)
+one_output order (resolve direction ids) (Ok t) (Err refusal) (Err other) x y =
     ap Err (x.named ∙ ap (λ id. unknown_feature (id_text id)) (one_first t ids x.id y.id x.first y.first) ∙ sym y.named)
+one_output order (visit direction ids) (Ok t) (Ok text) (Ok other) x y = ap Ok (one_visit t direction ids text other x y)
+one_output order (visit direction ids) (Ok t) (Ok text) (Err refusal) x y = absurd (not_both t ids y.id x.known y.first)
+one_output order (visit direction ids) (Ok t) (Err refusal) (Ok text) x y = absurd (not_both t ids x.id y.known x.first)
+one_output order (visit direction ids) (Ok t) (Err refusal) (Err other) x y =
+    ap Err (x.named ∙ ap (λ id. unknown_feature (id_text id)) (one_first t ids x.id y.id x.first y.first) ∙ sym y.named)
+one_output order (list_of id) (Ok t) (Ok text) (Ok other) x y = ap Ok (one_line order t id text other x y)
+one_output order (list_of id) (Ok t) (Ok text) (Err refusal) x y = absurd (y.1 x.known)
+one_output order (list_of id) (Ok t) (Err refusal) (Ok text) x y = absurd (x.1 y.known)
+one_output order (list_of id) (Ok t) (Err refusal) (Err other) x y = ap Err (x.0 ∙ sym y.0)
+one_output order all_warnings (Ok t) (Ok text) (Ok other) x y = ap Ok (x ∙ sym y)
+one_output order all_warnings (Ok t) (Ok text) (Err refusal) x y = absurd y
+one_output order all_warnings (Ok t) (Err refusal) answer x y = absurd x
 
-pub one_answer : (command : CommandText) (bytes : Text) (a b : Result Text Refusal) → IsAnswer command bytes a → IsAnswer command bytes b → a ≡ b
-one_answer command bytes a b = one_output command (tables_in bytes) a b
+pub one_answer : IsTotalOrder label_cmp → (command : CommandText) (bytes : Text) (a b : Result Text Refusal) → IsAnswer command bytes a → IsAnswer command bytes b → a ≡ b
+one_answer order command bytes a b = one_output order command (tables_in bytes) a b

@@ -1,4 +1,5 @@
 pub mod RefusalLemmas
 pub mod WordLemmas
 pub mod AnswerLemmas
+pub mod LabelLists
 pub mod LawLemmas

@@ -1,26 +1,32 @@
 -- What the words of the command line ask for.
-use Rattle.std.specs.Prelude.{ℕ, List, ◌∷◌, Bool, ◌&&◌, Option, None, Some, Result, Ok, Err, take, drop, map, ◌==◌, if◌then◌else◌, codes}
+use Rattle.std.specs.Prelude.{ℕ, List, [], ◌∷◌, Bool, ◌&&◌, Option, None, Some, Result, Ok, Err, take, drop, map, ◌==◌, if◌then◌else◌, codes}
 use Rattle.std.specs.List.{list_any, before_last, after_last}
 use Rattle.std.specs.Str.{bytes_eq}
 use Rattle.guppy_packages.specs.Rows.{Text}
 use Rattle.guppy_packages.specs.declared.direction.DependencyDirection.{DependencyDirection}
-use Rattle.guppy_packages.specs.declared.direction.DependencyDirection.TheVariants.{Forward}
+use Rattle.guppy_packages.specs.declared.direction.DependencyDirection.TheVariants.{Forward, Reverse}
 use Rattle.feature_labels.specs.Names.{LabelName, base, named, optional, label_of}
 use Rattle.guppy_tool.specs.Faults.{Refusal, usage, bad_id}
 use Rattle.row_files.specs.FirstFault.{each_or}
 use Rattle.guppy_tool.specs.declared.words.GivenId.{GivenId}
 use Rattle.guppy_tool.specs.declared.words.Command.{Command}
-use Rattle.guppy_tool.specs.declared.words.Command.TheVariants.{Resolve}
+use Rattle.guppy_tool.specs.declared.words.Command.TheVariants as commands
 
 -- a command, with texts in place of strings
 pub data CommandText : Type 0 where
   resolve : DependencyDirection → List (Text × LabelName) → CommandText
+  visit : DependencyDirection → List (Text × LabelName) → CommandText
+  list_of : Text → CommandText
+  all_warnings : CommandText
 
 abbrev pub given_of : GivenId → Text × LabelName
 given_of id = (id.package_id, label_of id.label)
 
 abbrev pub command_of : Command → CommandText
-command_of (Resolve direction ids) = resolve direction (map given_of ids.items)
+command_of (commands.Resolve direction ids) = resolve direction (map given_of ids.items)
+command_of (commands.Visit direction ids) = visit direction (map given_of ids.items)
+command_of (commands.List package_id) = list_of package_id
+command_of commands.Warnings = all_warnings
 
 abbrev pub is_slash : ℕ → Bool
 is_slash b = b == 47
@@ -52,12 +58,52 @@ id_or_refusal word (Some id) = Ok id
 abbrev pub ids_in : List Text → Result (List (Text × LabelName)) Refusal
 ids_in = each_or id_in bad_id
 
-abbrev pub resolving : Text → DependencyDirection → Result (List (Text × LabelName)) Refusal → Result (Text × CommandText) Refusal
-resolving file direction (Ok ids) = Ok (file, resolve direction ids)
-resolving file direction (Err e) = Err e
+abbrev pub direction_in : Text → Option DependencyDirection
+direction_in word =
+    if bytes_eq word (codes "forward") then Some Forward
+    else (if bytes_eq word (codes "reverse") then Some Reverse else None)
+
+abbrev pub beside : DependencyDirection → Result (List (Text × LabelName)) Refusal → Result (DependencyDirection × List (Text × LabelName)) Refusal
+beside direction (Ok ids) = Ok (direction, ids)
+beside direction (Err e) = Err e
+
+abbrev pub ids_after : Option DependencyDirection → List Text → Result (DependencyDirection × List (Text × LabelName)) Refusal
+ids_after None words = Err usage
+ids_after (Some direction) words = beside direction (ids_in words)
+
+-- a direction, and the ids after it
+abbrev pub directed_ids : List Text → Result (DependencyDirection × List (Text × LabelName)) Refusal
+directed_ids [] = Err usage
+directed_ids (word ∷ words) = ids_after (direction_in word) words
+
+-- a command over directed ids
+abbrev pub over : (DependencyDirection → List (Text × LabelName) → CommandText) → Result (DependencyDirection × List (Text × LabelName)) Refusal → Result CommandText Refusal
+over command (Ok asked) = Ok (command asked.0 asked.1)
+over command (Err e) = Err e
+
+-- one package, and nothing after it
+abbrev pub one_package : List Text → Result CommandText Refusal
+one_package (id ∷ []) = Ok (list_of id)
+one_package _ = Err usage
+
+-- a command that has no arguments
+abbrev pub alone : CommandText → List Text → Result CommandText Refusal
+alone command [] = Ok command
+alone command (word ∷ words) = Err usage
+
+-- the command of a word, and its arguments
+abbrev pub command_in : Text → List Text → Result CommandText Refusal
+command_in word arguments =
+    if bytes_eq word (codes "resolve") then over resolve (directed_ids arguments)
+    else (if bytes_eq word (codes "visit") then over visit (directed_ids arguments)
+    else (if bytes_eq word (codes "list") then one_package arguments
+    else (if bytes_eq word (codes "warnings") then alone all_warnings arguments else Err usage)))
+
+abbrev pub of_file : Text → Result CommandText Refusal → Result (Text × CommandText) Refusal
+of_file file (Ok command) = Ok (file, command)
+of_file file (Err e) = Err e
 
 -- the file and the command of the words
 abbrev pub words_ask : List Text → Result (Text × CommandText) Refusal
-words_ask (file ∷ command ∷ direction ∷ ids) =
-    if bytes_eq command (codes "resolve") && bytes_eq direction (codes "forward") then resolving file Forward (ids_in ids) else Err usage
+words_ask (file ∷ command ∷ arguments) = of_file file (command_in command arguments)
 words_ask _ = Err usage

@@ -6,6 +6,8 @@ mod engine;
 mod fault;
 pub mod laws;
 mod listing;
+mod package;
+mod resolving;
 mod words;
 
 pub use byte_devices::{ByteInput, ByteOutput, Failed, FromReader, ToWriter};

@@ -4,7 +4,7 @@ ghost use Rattle.std.specs.Option.{option_map};
 ghost use Rattle.guppy_packages.specs.Rows.{Text, texts};
 ghost use Rattle.feature_labels.specs.Names.{label_of, id_of, LabelName};
 ghost use Rattle.guppy_tool.specs.Faults.{Gives};
-ghost use Rattle.guppy_tool.specs.Words.{given_of, command_of, cut_at_last_slash as slash_cut, label_in, id_in, ids_in, words_ask, id_or_refusal};
+ghost use Rattle.guppy_tool.specs.Words.{given_of, command_of, cut_at_last_slash as slash_cut, label_in, id_in, ids_in, words_ask, id_or_refusal, direction_in, directed_ids, command_in, one_package};
 
 use crate::fault::Fault;
 use feature_labels::{FeatureId, FeatureLabel};
@@ -26,6 +26,17 @@ pub enum Command<'a> {
         direction: DependencyDirection,
         ids: Vec<GivenId<'a>>,
     },
+    /// The features of the least set that holds the given ones and is closed in this direction where every link is accepted.
+    Visit {
+        direction: DependencyDirection,
+        ids: Vec<GivenId<'a>>,
+    },
+    /// The labels of a package.
+    List {
+        package_id: PackageId,
+    },
+    /// What building noted of items and listed names that ask for what is not there.
+    Warnings,
 }
 
 /// The two parts of a word round its last slash.
@@ -73,20 +84,77 @@ fn ids<'a>(alloc: Global, words: &[&'a str]) -> Result<Vec<GivenId<'a>>, Fault>
     Ok(ids)
 }
 
+/// The direction that a word names.
+fn direction(word: &str) -> Option<DependencyDirection>
+    ensures { result ≡ direction_in word.now }
+{
+    if word == "forward" {
+        return Some(DependencyDirection::Forward);
+    }
+    if word == "reverse" {
+        return Some(DependencyDirection::Reverse);
+    }
+    None
+}
+
+/// The direction and the ids of a command's arguments.
+fn directed<'a>(
+    alloc: Global,
+    arguments: &[&'a str],
+) -> Result<(DependencyDirection, Vec<GivenId<'a>>), Fault>
+    ensures { Gives (λ asked. (asked.0, map given_of asked.1.items)) result (directed_ids (texts arguments.now)) }
+{
+    let [word, rest @ ..] = arguments else {
+        return Err(Fault::Usage);
+    };
+    let Some(direction) = direction(word) else {
+        return Err(Fault::Usage);
+    };
+    Ok((direction, ids(alloc, rest)?))
+}
+
+/// The command that lists the one package of the arguments.
+fn listing<'a>(alloc: Global, arguments: &[&'a str]) -> Result<Command<'a>, Fault>
+    ensures { Gives command_of result (one_package (texts arguments.now)) }
+{
+    let [package_id] = arguments else {
+        return Err(Fault::Usage);
+    };
+    Ok(Command::List {
+        package_id: PackageId::new(alloc, package_id)?,
+    })
+}
+
+/// The command of a word, over its arguments.
+fn asked<'a>(alloc: Global, word: &str, arguments: &[&'a str]) -> Result<Command<'a>, Fault>
+    ensures { Gives command_of result (command_in word.now (texts arguments.now)) }
+{
+    if word == "resolve" {
+        let (direction, ids) = directed(alloc, arguments)?;
+        return Ok(Command::Resolve { direction, ids });
+    }
+    if word == "visit" {
+        let (direction, ids) = directed(alloc, arguments)?;
+        return Ok(Command::Visit { direction, ids });
+    }
+    if word == "list" {
+        return listing(alloc, arguments);
+    }
+    if word == "warnings" && arguments.is_empty() {
+        return Ok(Command::Warnings);
+    }
+    Err(Fault::Usage)
+}
+
 /// The file and the command that the words after the program's name ask for.
 ///
-/// `FILE resolve forward ID...` is the one form; all else is the usage fault. The first ID without a
-/// slash is a bad id.
+/// `FILE resolve DIRECTION ID...`, `FILE visit DIRECTION ID...`, `FILE list PACKAGE` and `FILE warnings` are the forms, where
+/// DIRECTION is `forward` or `reverse`; all else is the usage fault. The first ID without a slash is a bad id.
 pub fn parse_words<'a>(alloc: Global, words: &[&'a str]) -> Result<(&'a str, Command<'a>), Fault>
     ensures { Gives (λ asked. (asked.0.now, command_of asked.1)) result (words_ask (texts words.now)) }
 {
-    let [file, command, direction, arguments @ ..] = words else {
+    let [file, word, arguments @ ..] = words else {
         return Err(Fault::Usage);
     };
-    if *command != "resolve" || *direction != "forward" {
-        return Err(Fault::Usage);
-    }
-    let ids = ids(alloc, arguments)?;
-    let direction = DependencyDirection::Forward;
-    Ok((file, Command::Resolve { direction, ids }))
+    Ok((file, asked(alloc, word, arguments)?))
 }

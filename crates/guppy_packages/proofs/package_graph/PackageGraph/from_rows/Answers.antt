@@ -17,4 +17,10 @@ returns-in_err-links-clause-tables c =
     rw (p.1, p.2) (MatchMemory-map error.fault (error.row ≡ 0) (first_or (faults_by (link_fault packages) all) (links_of (dependencies_of packages all)) ≡ Err error) (tables_of all ≡ Err error) (second_refused all packages c.in_ok-packages.ensures.tables error (links_of (dependencies_of packages all))) c.in_err-links.ensures.tables)
 
 pub invariant_of-result : goal.invariant_of-result
-invariant_of-result c = tables_hold (map row_text c.args.rows.now) (package_tables c.in_ok-packages.packages) c.in_ok-packages.ensures.tables (link_tables c.in_ok-links.links) c.in_ok-links.ensures.tables AreTables (tables_sound (map row_text c.args.rows.now))
+invariant_of-result c = (
+  tables_hold (map row_text c.args.rows.now) (package_tables c.in_ok-packages.packages) c.in_ok-packages.ensures.tables (link_tables c.in_ok-links.links) c.in_ok-links.ensures.tables AreTables (tables_sound (map row_text c.args.rows.now)),
+  c.in_ok-order.ensures,
+)
+
+pub package_order-requires : goal.package_order-requires
+package_order-requires c = tables_hold (map row_text c.args.rows.now) (package_tables c.in_ok-packages.packages) c.in_ok-packages.ensures.tables (link_tables c.in_ok-links.links) c.in_ok-links.ensures.tables AreTables (tables_sound (map row_text c.args.rows.now))

@@ -10,7 +10,7 @@ pub returns : goal.returns
 returns c =
     let es = c.self.inside.links.entries in
     let ix = c.args.package_ix in
-    let ordered = entries_ordered es c.self.invariant.order in
+    let ordered = entries_ordered es c.self.invariant.0.order in
     let low = c.partition_point-first.ensures.partitioned (λ e. nat_lt e.0.0 ix) (always_returns_same _ _ _ (λ a r f k. search (rules, of_calls))) (IsPartitionedBy-ltb (λ e. e.0.0) es ix ordered) in
     let high = c.partition_point-end.ensures.partitioned (λ e. nat_le e.0.0 ix) (always_returns_same _ _ _ (λ a r f k. search (rules, of_calls))) (IsPartitionedBy-leb (λ e. e.0.0) es ix ordered) in
     subst (λ t. AreLinksFrom t.links ix c.partition_point-first.result c.partition_point-end.result) c.self.view_is

@@ -1,0 +1,3 @@
+pub mod CodeNames
+pub mod Picks
+pub mod Comparators

@@ -1,0 +1,54 @@
+-- Faults, with texts in place of strings, and steps that may be refused.
+use Rattle.std.specs.Prelude.{◌≡◌, ℕ, List, Option, Some, None, Result, Ok, Err}
+use Rattle.std.specs.String.{string_bytes}
+use Rattle.byte_devices.specs.declared.whole.ReadError.{ReadError}
+use Rattle.byte_devices.specs.declared.whole.ReadError.TheVariants as error
+use Rattle.cargo_rows.specs.declared.fault.Place.{Place}
+use Rattle.cargo_rows.specs.declared.fault.DocumentFault.{DocumentFault}
+use Rattle.cargo_rows.specs.declared.fault.DocumentFault.TheVariants as refused
+use Rattle.cargo_rows.specs.declared.fault.Fault.{Fault}
+use Rattle.cargo_rows.specs.declared.fault.Fault.TheVariants as fault
+
+-- a text, by its bytes
+abbrev pub Text : Type 0
+Text = List ℕ
+
+-- why a document has no rows
+pub data Refusal : Type 0 where
+  bad_field : Place → Text → Refusal
+  repeated : Place → Refusal
+  no_package : Place → Text → Text → Refusal
+  ambiguous : Text → Text → Refusal
+  two_names : Text → Text → Text → Text → Refusal
+  control : Text → Refusal
+  out_of_memory : Refusal
+
+abbrev pub refusal_of : DocumentFault → Refusal
+refusal_of (refused.Field place name) = bad_field place name.now
+refusal_of (refused.Repeated place) = repeated place
+refusal_of (refused.NoPackage place name id) = no_package place name.now (string_bytes id)
+refusal_of (refused.Ambiguous owner name) = ambiguous (string_bytes owner) (string_bytes name)
+refusal_of (refused.TwoNames owner target first second) = two_names (string_bytes owner) (string_bytes target) (string_bytes first) (string_bytes second)
+refusal_of (refused.Control text) = control (string_bytes text)
+refusal_of refused.Memory = out_of_memory
+
+-- why not all bytes were read
+abbrev pub read_fault : ReadError → Fault
+read_fault error.Failed = fault.CannotRead
+read_fault error.Memory = fault.Memory
+
+-- want of memory claims nothing
+abbrev pub IfNotMemory : Refusal → Type 0 → Type 0
+IfNotMemory out_of_memory claim = Unit {0}
+IfNotMemory _ claim = claim
+
+-- A call answered what is given, its value seen by a view.
+abbrev pub Gives : {X Y : Type 0} → (X → Y) → Result X DocumentFault → Result Y Refusal → Type 0
+Gives view (Ok x) given = given ≡ Ok (view x)
+Gives view (Err e) given = IfNotMemory (refusal_of e) (given ≡ Err (refusal_of e))
+
+-- the second step, if the first gave a value
+infixl 10 ◌>>=◌
+abbrev pub ◌>>=◌ : {A B : Type 0} → Result A Refusal → (A → Result B Refusal) → Result B Refusal
+(Ok x) >>= f = f x
+(Err e) >>= f = Err e

@@ -1,0 +1,315 @@
+//! The package that each declaration leads to.
+ghost use Rattle.std.specs.Prelude.{◌≡◌, IfOk};
+ghost use Rattle.cargo_rows.specs.Dependencies as spec;
+
+use crate::fault::DocumentFault;
+use crate::nodes::Dep;
+use crate::packages::{Declaration, Kind, Package};
+use crate::requirements::admits;
+use std::alloc::{AllocError, Global};
+
+/// A declaration, and the package that it leads to.
+#[derive(Clone, Copy)]
+pub(crate) struct Dependency<'p, 'v> {
+    pub(crate) declaration: &'p Declaration<'v>,
+    pub(crate) target: &'p Package<'v>,
+}
+
+impl<'p, 'v> Dependency<'p, 'v> {
+    ghost use Rattle.cargo_rows.specs.Dependencies.{name_of};
+
+    /// The name by which the package calls it.
+    pub(crate) fn name(&self) -> &'v str
+        ensures { result.now ≡ name_of self.now.declaration.now }
+    {
+        match self.declaration.rename {
+            Some(name) => name,
+            None => self.declaration.name,
+        }
+    }
+}
+
+/// A byte of a name as code has it.
+fn in_code(byte: u8) -> u8
+    ensures { result ≡ spec.in_code byte }
+{
+    if byte == b'-' { b'_' } else { byte }
+}
+
+/// Whether both are as long, and each byte is the other one as code has it.
+#[tactic(auto, using(crate::proofs::CodeNames::in_code_same, crate::proofs::CodeNames::in_code_other, crate::proofs::CodeNames::in_code_long, crate::proofs::CodeNames::in_code_end))]
+fn is_in_code(given: &[u8], plain: &[u8]) -> bool
+    ensures { result ≡ spec.is_in_code given.now plain.now }
+{
+    if given.len() != plain.len() {
+        return false;
+    }
+    for i in 0..given.len() {
+        if given[i] != in_code(plain[i]) {
+            return false;
+        }
+    }
+    true
+}
+
+/// The name that code calls a package by: the new one of the declaration, else its library's, else its own.
+fn called<'v>(rename: Option<&'v str>, package: &Package<'v>) -> &'v str
+    ensures { result.now ≡ spec.called rename.entry «package».now }
+{
+    match (rename, package.library) {
+        (Some(rename), _) => rename,
+        (None, Some(library)) => library,
+        (None, None) => package.name,
+    }
+}
+
+/// Whether the used package may be the declared one, by its names.
+fn fits(declaration: &Declaration<'_>, dep: &Dep<'_, '_>) -> bool
+    ensures { result ≡ spec.fits declaration.now dep.now }
+{
+    dep.target.name == declaration.name
+        && is_in_code(
+            dep.extern_name.as_bytes(),
+            called(declaration.rename, dep.target).as_bytes(),
+        )
+}
+
+/// Whether both kinds are the same.
+fn same_kind(one: Kind, other: Kind) -> bool
+    ensures { result ≡ spec.same_kind one other }
+{
+    matches!(
+        (one, other),
+        (Kind::Normal, Kind::Normal) | (Kind::Build, Kind::Build) | (Kind::Dev, Kind::Dev)
+    )
+}
+
+/// Whether both are every platform, or the same one.
+fn same_platform(one: Option<&str>, other: Option<&str>) -> bool
+    ensures { result ≡ spec.same_platform one.entry other.entry }
+{
+    match (one, other) {
+        (None, None) => true,
+        (Some(one), Some(other)) => one == other,
+        _ => false,
+    }
+}
+
+/// Whether the package is used for the kind and the platform of the declaration.
+fn is_used(declaration: &Declaration<'_>, dep: &Dep<'_, '_>) -> bool
+    ensures { result ≡ spec.is_used declaration.now dep.now }
+{
+    dep.uses.iter().any(|it| same_kind(it.kind, declaration.kind)
+        && same_platform(it.platform, declaration.platform))
+}
+
+/// What is asked of a package that fits a declaration by its names.
+#[derive(Clone, Copy)]
+pub(crate) enum Asked {
+    /// That it is used for the declaration's kind and platform.
+    Use,
+    /// That the declaration's requirement admits its version.
+    Version,
+    /// Both.
+    Both,
+}
+
+/// Whether what is asked holds of a used package.
+fn answers(
+    alloc: Global,
+    asked: Asked,
+    declaration: &Declaration<'_>,
+    dep: &Dep<'_, '_>,
+) -> Result<bool, AllocError>
+    ensures { IfOk result (λ b. b ≡ spec.answers asked declaration.now dep.now) }
+{
+    match asked {
+        Asked::Use => Ok(is_used(declaration, dep)),
+        Asked::Version => admits(alloc, declaration.requirement, dep.target.version),
+        Asked::Both => {
+            if is_used(declaration, dep) {
+                admits(alloc, declaration.requirement, dep.target.version)
+            } else {
+                Ok(false)
+            }
+        }
+    }
+}
+
+/// Whether the used package fits the declaration, and what is asked besides holds.
+#[tactic(auto, unfolding(crate::specs::Dependencies::meets))]
+fn meets(
+    alloc: Global,
+    asked: Asked,
+    declaration: &Declaration<'_>,
+    dep: &Dep<'_, '_>,
+) -> Result<bool, AllocError>
+    ensures { IfOk result (λ b. b ≡ spec.meets asked declaration.now dep.now) }
+{
+    if fits(declaration, dep) {
+        answers(alloc, asked, declaration, dep)
+    } else {
+        Ok(false)
+    }
+}
+
+/// What was found among packages.
+#[derive(Clone, Copy)]
+pub(crate) enum Found<'p, 'v> {
+    Nothing,
+    One(&'p Package<'v>),
+    Several,
+}
+
+impl<'p, 'v> Found<'p, 'v> {
+    /// What was found, with one more package.
+    fn with(self, package: &'p Package<'v>) -> Found<'p, 'v>
+        ensures { spec.found_view result ≡ spec.with_one (spec.found_view self.entry) «package».now }
+    {
+        match self {
+            Found::Nothing => Found::One(package),
+            _ => Found::Several,
+        }
+    }
+}
+
+/// What was found, with one more used package where it meets what is asked.
+fn and_one<'p, 'v>(
+    alloc: Global,
+    asked: Asked,
+    declaration: &Declaration<'_>,
+    dep: &Dep<'p, 'v>,
+    found: Found<'p, 'v>,
+) -> Result<Found<'p, 'v>, AllocError>
+    ensures { IfOk result (λ new. spec.found_view new ≡ spec.and_one (spec.meets asked declaration.now dep.now) (spec.found_view found.entry) dep.now.target.now) }
+{
+    if meets(alloc, asked, declaration, dep)? {
+        Ok(found.with(dep.target))
+    } else {
+        Ok(found)
+    }
+}
+
+/// What is found among the used packages.
+#[tactic(auto, using(crate::proofs::Picks::pick_none, crate::proofs::Picks::pick_step))]
+fn pick<'p, 'v>(
+    alloc: Global,
+    asked: Asked,
+    declaration: &Declaration<'_>,
+    deps: &[Dep<'p, 'v>],
+) -> Result<Found<'p, 'v>, AllocError>
+    ensures { IfOk result (λ found. spec.found_view found ≡ spec.pick asked declaration.now deps.now) }
+{
+    let mut found = Found::Nothing;
+    for dep in deps {
+        found = and_one(alloc, asked, declaration, dep, found)?;
+    }
+    Ok(found)
+}
+
+/// What the declaration leads to: the package that is used for it. Where several are, the requirement decides; where
+/// none is, it decides for an optional dependency alone.
+fn choice<'p, 'v>(
+    alloc: Global,
+    declaration: &Declaration<'_>,
+    deps: &[Dep<'p, 'v>],
+) -> Result<Found<'p, 'v>, AllocError>
+    ensures { IfOk result (λ found. spec.found_view found ≡ spec.choice declaration.now deps.now) }
+{
+    match pick(alloc, Asked::Use, declaration, deps)? {
+        Found::One(package) => Ok(Found::One(package)),
+        Found::Nothing => {
+            if declaration.is_optional {
+                pick(alloc, Asked::Version, declaration, deps)
+            } else {
+                Ok(Found::Nothing)
+            }
+        }
+        Found::Several => match pick(alloc, Asked::Both, declaration, deps)? {
+            Found::Nothing => Ok(Found::Several),
+            narrowed => Ok(narrowed),
+        },
+    }
+}
+
+/// The fault that more than one package meets a declaration.
+fn ambiguous(alloc: Global, package: &str, name: &str) -> Result<DocumentFault, AllocError> {
+    Ok(DocumentFault::Ambiguous {
+        package: String::from_str(alloc, package)?,
+        name: String::from_str(alloc, name)?,
+    })
+}
+
+/// The package that the declaration leads to, where there is one.
+fn target_of<'p, 'v>(
+    alloc: Global,
+    id: &str,
+    declaration: &Declaration<'_>,
+    deps: &[Dep<'p, 'v>],
+) -> Result<Option<&'p Package<'v>>, DocumentFault> {
+    match choice(alloc, declaration, deps)? {
+        Found::Nothing => Ok(None),
+        Found::One(target) => Ok(Some(target)),
+        Found::Several => Err(ambiguous(alloc, id, declaration.name)?),
+    }
+}
+
+/// The declarations of the package that lead to one, in their order.
+pub(crate) fn dependencies_of<'p, 'v>(
+    alloc: Global,
+    package: &'p Package<'v>,
+    deps: &[Dep<'p, 'v>],
+) -> Result<Vec<Dependency<'p, 'v>>, DocumentFault> {
+    let mut dependencies = Vec::new(alloc);
+    for declaration in &package.declarations {
+        if let Some(target) = target_of(alloc, package.id, declaration, deps)? {
+            dependencies.push(Dependency {
+                declaration,
+                target,
+            })?;
+        }
+    }
+    Ok(dependencies)
+}
+
+/// The fault that a dependency has two names.
+fn two_names(
+    alloc: Global,
+    package: &str,
+    one: &Dependency<'_, '_>,
+    other: &Dependency<'_, '_>,
+) -> Result<DocumentFault, AllocError> {
+    Ok(DocumentFault::TwoNames {
+        package: String::from_str(alloc, package)?,
+        target: String::from_str(alloc, one.target.id)?,
+        first: String::from_str(alloc, one.name())?,
+        second: String::from_str(alloc, other.name())?,
+    })
+}
+
+/// One of these that leads to the same package by another name.
+fn other_name<'a, 'p, 'v>(
+    dependencies: &'a [Dependency<'p, 'v>],
+    one: &Dependency<'p, 'v>,
+) -> Option<&'a Dependency<'p, 'v>> {
+    for other in dependencies {
+        if other.target.id == one.target.id && other.name() != one.name() {
+            return Some(other);
+        }
+    }
+    None
+}
+
+/// Refuses two names for one pair of packages, since a link has one.
+pub(crate) fn check_names(
+    alloc: Global,
+    package: &Package<'_>,
+    dependencies: &[Dependency<'_, '_>],
+) -> Result<(), DocumentFault> {
+    for one in dependencies {
+        if let Some(other) = other_name(dependencies, one) {
+            return Err(two_names(alloc, package.id, one, other)?);
+        }
+    }
+    Ok(())
+}

@@ -1,0 +1,173 @@
+//! Why there are no rows.
+ghost use Rattle.std.specs.Prelude.{◌≡◌};
+ghost use Rattle.cargo_rows.specs.Faults.{read_fault};
+
+use byte_devices::ReadError;
+use std::alloc::{AllocError, AllocFailed};
+use std::fmt;
+use thiserror::Error;
+
+/// An object of the document, by the places of the lists that lead to it, counted from 0.
+#[derive(Clone, Copy, PartialEq, Eq, Debug)]
+pub enum Place {
+    /// The document itself.
+    Document,
+    /// `resolve`
+    Resolve,
+    /// `packages[package]`
+    Package {
+        package: usize,
+    },
+    /// `packages[package].dependencies[dependency]`
+    Dependency {
+        package: usize,
+        dependency: usize,
+    },
+    /// `packages[package].targets[target]`
+    Target {
+        package: usize,
+        target: usize,
+    },
+    /// `resolve.nodes[node]`
+    Node {
+        node: usize,
+    },
+    /// `resolve.nodes[node].deps[dep]`
+    Dep {
+        node: usize,
+        dep: usize,
+    },
+    /// `resolve.nodes[node].deps[dep].dep_kinds[kind]`
+    DepKind {
+        node: usize,
+        dep: usize,
+        kind: usize,
+    },
+}
+
+impl fmt::Display for Place {
+    /// The path of the object, and the dot before its field's name.
+    fn fmt<W: fmt::Write>(&self, f: &mut fmt::Formatter<W>) -> fmt::Result {
+        match *self {
+            Place::Document => Ok(()),
+            Place::Resolve => write!(f, "resolve."),
+            Place::Package { package } => write!(f, "packages[{package}]."),
+            Place::Dependency {
+                package,
+                dependency,
+            } => write!(f, "packages[{package}].dependencies[{dependency}]."),
+            Place::Target { package, target } => {
+                write!(f, "packages[{package}].targets[{target}].")
+            }
+            Place::Node { node } => write!(f, "resolve.nodes[{node}]."),
+            Place::Dep { node, dep } => write!(f, "resolve.nodes[{node}].deps[{dep}]."),
+            Place::DepKind { node, dep, kind } => {
+                write!(f, "resolve.nodes[{node}].deps[{dep}].dep_kinds[{kind}].")
+            }
+        }
+    }
+}
+
+/// Why a document has no rows.
+#[derive(Debug, Drop, Error)]
+pub enum DocumentFault {
+    /// A field that lacks, or has another type than is wanted.
+    #[error("{place}{name}: missing or of another type")]
+    Field {
+        place: Place,
+        name: &'static str,
+    },
+    /// The id of a package, or of a node, that an earlier one has.
+    #[error("{place}id: repeated")]
+    Repeated {
+        place: Place,
+    },
+    /// The id of a package that isn't there.
+    #[error("{place}{name}: no package {id:?}")]
+    NoPackage {
+        place: Place,
+        name: &'static str,
+        id: String,
+    },
+    /// A declaration that more than one package meets.
+    #[error("package {package:?}: dependency {name:?} is ambiguous")]
+    Ambiguous {
+        package: String,
+        name: String,
+    },
+    /// Two names of one dependency between two packages.
+    #[error("package {package:?}: dependency on {target:?} is named {first:?} and {second:?}")]
+    TwoNames {
+        package: String,
+        target: String,
+        first: String,
+        second: String,
+    },
+    /// A text that can't stand in a row file.
+    #[error("control character in {text:?}")]
+    Control {
+        text: String,
+    },
+    #[error("out of memory")]
+    Memory,
+}
+
+impl From<AllocError> for DocumentFault {
+    ghost use Rattle.cargo_rows.specs.declared.fault.DocumentFault.TheVariants.{Memory};
+
+    ghost from_gives = { λ _ fault. fault ≡ Memory };
+
+    fn from(_: AllocError) -> DocumentFault {
+        DocumentFault::Memory
+    }
+}
+
+impl<T: Drop> From<AllocFailed<T>> for DocumentFault {
+    ghost use Rattle.cargo_rows.specs.declared.fault.DocumentFault.TheVariants.{Memory};
+
+    ghost from_gives = { λ _ fault. fault ≡ Memory };
+
+    fn from(_: AllocFailed<T>) -> DocumentFault {
+        DocumentFault::Memory
+    }
+}
+
+/// Why there are no rows; its Display is the line for standard error.
+#[derive(Debug, Drop, Error)]
+pub enum Fault {
+    #[error("usage: rows [FILE]")]
+    Usage,
+    #[error("cannot read")]
+    CannotRead,
+    #[error("not UTF-8")]
+    NotText,
+    #[error("line {line}, column {column}: not JSON")]
+    NotJson { line: usize, column: usize },
+    #[error("{fault}")]
+    Document { fault: DocumentFault },
+    #[error("out of memory")]
+    Memory,
+    #[error("cannot write")]
+    CannotWrite,
+}
+
+impl From<ReadError> for Fault {
+    ghost from_gives = { λ error fault. fault ≡ read_fault error };
+
+    fn from(error: ReadError) -> Fault {
+        match error {
+            ReadError::Failed => Fault::CannotRead,
+            ReadError::Memory => Fault::Memory,
+        }
+    }
+}
+
+impl Fault {
+    /// The exit status: 2 where the words are at fault, else 1.
+    pub fn status(&self) -> u8 {
+        match self {
+            Fault::Usage => 2,
+            _ => 1,
+        }
+    }
+}

@@ -1,0 +1,167 @@
+//! The text of rows.
+ghost use Rattle.std.specs.Prelude.{◌≡◌, ◌++◌, map, IfOk, OnOk, string_bytes};
+ghost use Rattle.cargo_rows.specs.Faults.{Gives};
+ghost use Rattle.cargo_rows.specs.Rows as spec;
+
+use crate::dependencies::Dependency;
+use crate::fault::DocumentFault;
+use crate::packages::{Feature, Kind, Package};
+use std::alloc::{AllocError, Global};
+
+/// Whether one of the bytes is a control character.
+fn has_control(bytes: &[u8]) -> bool
+    ensures { result ≡ spec.has_control bytes.now }
+{
+    for byte in bytes {
+        if byte.is_ascii_control() {
+            return true;
+        }
+    }
+    false
+}
+
+/// Refuses the first text that may not stand in a row.
+fn check_fields(alloc: Global, fields: &[&str]) -> Result<(), DocumentFault>
+    ensures { Gives (λ _. tt) result (spec.allowed (map (λ s. s.now) fields.now)) }
+{
+    for text in fields {
+        if has_control(text.as_bytes()) {
+            let text = String::from_str(alloc, text)?;
+            return Err(DocumentFault::Control { text });
+        }
+    }
+    Ok(())
+}
+
+/// Adds the fields, a tab before each.
+fn push_fields(rows: &mut String, fields: &[&str]) -> Result<(), AllocError>
+    ensures { OnOk result (string_bytes rows.new ≡ string_bytes rows.old ++ spec.fields_text (map (λ s. s.now) fields.now)) }
+{
+    for text in fields {
+        rows.push_str("\t")?;
+        rows.push_str(text)?;
+    }
+    Ok(())
+}
+
+/// Adds a row: its word, and its fields.
+fn push_row(
+    alloc: Global,
+    rows: &mut String,
+    word: &str,
+    fields: &[&str],
+) -> Result<(), DocumentFault>
+    ensures checked { Gives (λ _. tt) result (spec.allowed (map (λ s. s.now) fields.now)) }
+    ensures row { OnOk result (string_bytes rows.new ≡ string_bytes rows.old ++ spec.row_text word.now (map (λ s. s.now) fields.now)) }
+{
+    check_fields(alloc, fields)?;
+    rows.push_str(word)?;
+    push_fields(rows, fields)?;
+    rows.push_str("\n")?;
+    Ok(())
+}
+
+/// Adds the row of a package.
+pub(crate) fn push_package(
+    alloc: Global,
+    rows: &mut String,
+    package: &Package<'_>,
+    is_member: bool,
+) -> Result<(), DocumentFault> {
+    let place = if is_member { "workspace" } else { "external" };
+    push_row(alloc, rows, "package", &[package.id, place])
+}
+
+/// The fields of a feature's row.
+fn feature_fields<'v>(alloc: Global, feature: &Feature<'v>) -> Result<Vec<&'v str>, AllocError>
+    ensures { IfOk result (λ fields. map (λ s. s.now) fields.items ≡ spec.feature_fields feature.now) }
+{
+    let mut fields = Vec::new(alloc);
+    fields.push(feature.name)?;
+    fields.extend_from_slice(&feature.items)?;
+    Ok(fields)
+}
+
+/// Adds the rows of features.
+pub(crate) fn push_features(
+    alloc: Global,
+    rows: &mut String,
+    features: &[Feature<'_>],
+) -> Result<(), DocumentFault> {
+    for feature in features {
+        let fields = feature_fields(alloc, feature)?;
+        push_row(alloc, rows, "feature", &fields)?;
+    }
+    Ok(())
+}
+
+/// The word for a kind.
+fn kind_word(kind: Kind) -> &'static str
+    ensures { result.now ≡ spec.kind_word kind }
+{
+    match kind {
+        Kind::Normal => "normal",
+        Kind::Build => "build",
+        Kind::Dev => "dev",
+    }
+}
+
+/// The text of a platform; `*` for every one.
+fn platform_text<'v>(platform: Option<&'v str>) -> &'v str
+    ensures { result.now ≡ spec.platform_text platform.entry }
+{
+    match platform {
+        Some(platform) => platform,
+        None => "*",
+    }
+}
+
+/// The word for whether a dependency is optional.
+fn need_word(is_optional: bool) -> &'static str
+    ensures { result.now ≡ spec.need_word is_optional }
+{
+    if is_optional { "optional" } else { "required" }
+}
+
+/// The word for whether a dependency's default features are asked for.
+fn defaults_word(has_default_features: bool) -> &'static str
+    ensures { result.now ≡ spec.defaults_word has_default_features }
+{
+    if has_default_features {
+        "default"
+    } else {
+        "nodefault"
+    }
+}
+
+/// The fields of a dependency's row.
+fn dependency_fields<'v>(
+    alloc: Global,
+    dependency: &Dependency<'_, 'v>,
+) -> Result<Vec<&'v str>, AllocError>
+    ensures { IfOk result (λ fields. map (λ s. s.now) fields.items ≡ spec.dependency_fields dependency.now.declaration.now dependency.now.target.now) }
+{
+    let declaration = dependency.declaration;
+    let mut fields = Vec::new(alloc);
+    fields.push(dependency.name())?;
+    fields.push(dependency.target.id)?;
+    fields.push(kind_word(declaration.kind))?;
+    fields.push(need_word(declaration.is_optional))?;
+    fields.push(platform_text(declaration.platform))?;
+    fields.push(defaults_word(declaration.has_default_features))?;
+    fields.extend_from_slice(&declaration.features)?;
+    Ok(fields)
+}
+
+/// Adds the rows of dependencies.
+pub(crate) fn push_dependencies(
+    alloc: Global,
+    rows: &mut String,
+    dependencies: &[Dependency<'_, '_>],
+) -> Result<(), DocumentFault> {
+    for dependency in dependencies {
+        let fields = dependency_fields(alloc, dependency)?;
+        push_row(alloc, rows, "dep", &fields)?;
+    }
+    Ok(())
+}

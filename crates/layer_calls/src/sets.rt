@@ -1,0 +1,108 @@
+//! Calls on sets of numbers.
+use crate::failure::Failure;
+use crate::out::Out;
+use crate::words::{cut, halves, number};
+use guppy_support::IxBitSet;
+use std::alloc::{AllocError, Global};
+
+/// Puts the numbers of a text into a set, in that order.
+fn insert(set: &mut IxBitSet, words: &str) -> Result<(), Failure> {
+    for word in words.split_whitespace() {
+        let number = number(word)?;
+        if number >= set.size() {
+            return Err(Failure::Words);
+        }
+        set.insert(number);
+    }
+    Ok(())
+}
+
+/// The set of a text, which has the set's bound and its numbers.
+fn set_of(alloc: Global, words: &str) -> Result<IxBitSet, Failure> {
+    let (size, numbers) = cut(words);
+    let mut set = IxBitSet::empty(alloc, number(size)?)?;
+    insert(&mut set, numbers)?;
+    Ok(set)
+}
+
+/// A set's numbers, counted twice, and its bound.
+fn tell(out: &mut Out, name: &str, set: &IxBitSet) {
+    out.part(name);
+    out.number(": ", set.count());
+    out.number(", ", set.ones().len());
+    out.number(" of ", set.size());
+    out.part(":");
+    for number in set.ones() {
+        out.number(" ", number);
+    }
+    out.line("");
+}
+
+/// A set that a call made.
+fn tell_made(out: &mut Out, name: &str, set: Result<IxBitSet, AllocError>) {
+    match set {
+        Ok(set) => tell(out, name, &set),
+        Err(_) => out.failure(Failure::Memory),
+    }
+}
+
+/// What the operations give of two sets.
+fn tell_operations(out: &mut Out, alloc: Global, low: &IxBitSet, high: &IxBitSet) {
+    if low.size() == high.size() {
+        tell_made(out, "union", low.union(alloc, high));
+        tell_made(out, "intersection", low.intersection(alloc, high));
+        tell_made(out, "difference", low.difference(alloc, high));
+        let one = low.symmetric_difference(alloc, high);
+        tell_made(out, "symmetric difference", one);
+    }
+}
+
+/// Two sets, after the operations on them.
+pub fn sets(out: &mut Out, alloc: Global, words: &str) -> Result<(), Failure> {
+    let (low, high) = halves(words)?;
+    let low = set_of(alloc, low)?;
+    let high = set_of(alloc, high)?;
+    tell_operations(out, alloc, &low, &high);
+    tell(out, "one", &low);
+    tell(out, "other", &high);
+    Ok(())
+}
+
+/// How two sets compare.
+fn tell_equal(out: &mut Out, one: &IxBitSet, other: &IxBitSet) {
+    out.answer("equal ", one == other);
+    out.answer(", unequal ", one != other);
+    out.answer(", identical ", one.is_identical(other));
+    out.line("");
+}
+
+/// How a set's copy compares with it.
+fn tell_copy(out: &mut Out, alloc: Global, set: &IxBitSet) {
+    match set.try_clone(alloc) {
+        Ok(copy) => tell_equal(out, &copy, set),
+        Err(_) => out.failure(Failure::Memory),
+    }
+}
+
+/// How two sets compare, and then the first one's copy with it.
+pub fn equal(out: &mut Out, alloc: Global, words: &str) -> Result<(), Failure> {
+    let (one, other) = halves(words)?;
+    let one = set_of(alloc, one)?;
+    let other = set_of(alloc, other)?;
+    tell_equal(out, &one, &other);
+    tell_copy(out, alloc, &one);
+    Ok(())
+}
+
+/// The count of a set of all numbers below a bound, and whether it has the last.
+pub fn full(out: &mut Out, alloc: Global, words: &str) -> Result<(), Failure> {
+    let size = number(words)?;
+    let set = IxBitSet::full(alloc, size)?;
+    out.number("", set.count());
+    out.number(" of ", set.size());
+    if size > 0 && size == set.size() {
+        out.answer(", the last ", set.contains(size - 1));
+    }
+    out.line("");
+    Ok(())
+}

@@ -1,0 +1,53 @@
+//! The program `rows [FILE]`.
+//!
+//! FILE is what `cargo metadata --format-version 1` wrote; without it, or where it is `-`, that is read from standard
+//! input. The rows go to standard output; a fault is one line on standard error, and the exit status is 1, or 2 where the words
+//! were at fault.
+#![tactic(auto)]
+
+use cargo_rows::{Fault, FromReader, ToWriter, run};
+use std::fs::File;
+use std::io::ErrorKind;
+use std::process::ExitCode;
+use std::{env, io};
+
+/// Writes the rows that the program's words ask for.
+fn answer(rt: &HostRuntime) -> Result<(), Fault> {
+    let mut words = match env::args(rt) {
+        Ok(words) => words.skip(1),
+        Err(error) if error.kind() == ErrorKind::InvalidData => return Err(Fault::Usage),
+        Err(_) => return Err(Fault::Memory),
+    };
+    let file = words.next();
+    if words.next().is_some() {
+        return Err(Fault::Usage);
+    }
+    match file {
+        Some(file) if file.as_str() != "-" => answer_file(rt, file.as_str()),
+        _ => {
+            let mut writer = ToWriter::new(io::writer(rt));
+            let mut reader = FromReader::new(rt.stdin());
+            run(rt.alloc(), &mut reader, &mut writer)
+        }
+    }
+}
+
+/// Writes the rows of the file of this path.
+fn answer_file(rt: &HostRuntime, path: &str) -> Result<(), Fault> {
+    let Ok(opened) = File::open(rt, path) else {
+        return Err(Fault::CannotRead);
+    };
+    let mut writer = ToWriter::new(io::writer(rt));
+    let mut reader = FromReader::new(opened);
+    run(rt.alloc(), &mut reader, &mut writer)
+}
+
+fn main(rt: HostRuntime) -> ExitCode {
+    match answer(&rt) {
+        Ok(()) => ExitCode::SUCCESS,
+        Err(fault) => {
+            let _ = eprintln!(rt; "{fault}");
+            ExitCode::from(fault.status())
+        }
+    }
+}

@@ -1,0 +1,70 @@
+/* Loaded before the C library (LD_PRELOAD): the program's own request for memory of number REFUSE, from 1, gets none. Each
+   refusal is told on standard error. Requests that the C library makes for itself are none of the program's. */
+#define _GNU_SOURCE
+#include <dlfcn.h>
+#include <errno.h>
+#include <link.h>
+#include <stdint.h>
+#include <stdlib.h>
+#include <unistd.h>
+
+extern void *__libc_malloc(size_t size);
+extern void *__libc_calloc(size_t count, size_t size);
+extern void *__libc_realloc(void *old, size_t size);
+extern void *__libc_memalign(size_t alignment, size_t size);
+
+static uintptr_t begin, end;
+static unsigned long asked;
+
+/* The first object is the program. */
+static int see(struct dl_phdr_info *info, size_t size, void *unused) {
+  (void)size;
+  (void)unused;
+  begin = UINTPTR_MAX;
+  for (int k = 0; k < info->dlpi_phnum; k++) {
+    const ElfW(Phdr) *part = &info->dlpi_phdr[k];
+    if (part->p_type != PT_LOAD) continue;
+    uintptr_t from = info->dlpi_addr + part->p_vaddr, to = from + part->p_memsz;
+    if (from < begin) begin = from;
+    if (to > end) end = to;
+  }
+  return 1;
+}
+
+/* Whether the request from this place is the one to be refused. */
+static int refused(void *from) {
+  static const char told[] = "refused\n";
+  if (end == 0) dl_iterate_phdr(see, 0);
+  if ((uintptr_t)from < begin || (uintptr_t)from >= end) return 0;
+  const char *number = getenv("REFUSE");
+  if (number == 0 || ++asked != strtoul(number, 0, 10)) return 0;
+  if (write(2, told, sizeof told - 1) < 0) _exit(99);
+  errno = ENOMEM;
+  return 1;
+}
+
+void *malloc(size_t size) {
+  return refused(__builtin_return_address(0)) ? 0 : __libc_malloc(size);
+}
+
+void *calloc(size_t count, size_t size) {
+  return refused(__builtin_return_address(0)) ? 0 : __libc_calloc(count, size);
+}
+
+void *realloc(void *old, size_t size) {
+  return refused(__builtin_return_address(0)) ? 0 : __libc_realloc(old, size);
+}
+
+void *memalign(size_t alignment, size_t size) {
+  return refused(__builtin_return_address(0)) ? 0 : __libc_memalign(alignment, size);
+}
+
+void *aligned_alloc(size_t alignment, size_t size) {
+  return refused(__builtin_return_address(0)) ? 0 : __libc_memalign(alignment, size);
+}
+
+int posix_memalign(void **out, size_t alignment, size_t size) {
+  if (refused(__builtin_return_address(0))) return ENOMEM;
+  *out = __libc_memalign(alignment, size);
+  return *out ? 0 : ENOMEM;
+}
