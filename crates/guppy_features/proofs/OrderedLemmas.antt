@@ -1,5 +1,5 @@
 -- Lists of nodes and edges that the order shows, as names and links.
-use Rattle.std.proofs.Common.{◌≡◌, ℕ, ◌+◌, ◌<◌, List, [], ◌∷◌, ◌++◌, length, map, take, get_or, filter, Bool, true, false, cond, Option, Some, None, ap, sym, subst, ◌∙◌, arith}
+use Rattle.std.proofs.Common.{◌≡◌, ℕ, ◌+◌, ◌<◌, List, [], ◌∷◌, ◌++◌, length, map, take, get_or, filter, false, cond, Option, Some, None, ap, sym, ◌∙◌}
 use Rattle.std.specs.Prelude.{All, IsFalse, MatchOption, slice_get}
 use Rattle.std.specs.Option.{is_some}
 use Rattle.std.specs.List.{cons_option, filter_map}
@@ -13,7 +13,7 @@ use Rattle.feature_core.specs.Built.{Built, IsBuilt, digraph_of, end_of}
 use Rattle.feature_core.specs.Nodes.{nodes}
 use Rattle.feature_labels.specs.Names.{LabelName}
 use Rattle.walk_engine.specs.declared.walks.Half.TheVariants.{Full}
-use Rattle.guppy_features.specs.LinkValues.{Link, has_facts}
+use Rattle.guppy_features.specs.LinkValues.{has_facts}
 use Rattle.guppy_features.specs.Ordered.{features_named, full_links}
 use Rattle.guppy_features.specs.Values.{Graph}
 use Rattle.guppy_features.specs.Visits.{offered}

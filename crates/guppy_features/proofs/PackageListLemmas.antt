@@ -1,14 +1,13 @@
 -- The labels of one package's members, gathered node by node.
-use Rattle.std.proofs.Common.{◌≡◌, ℕ, ◌+◌, ◌<◌, ◌≤◌, ◌⊎◌, inl, inr, ⊎_elim, Bool, List, [], ◌∷◌, ◌++◌, length, Option, Some, refl, ap, sym, ◌∙◌, subst, arith}
+use Rattle.std.proofs.Common.{◌≡◌, ℕ, ◌+◌, ◌<◌, ◌≤◌, ◌⊎◌, inl, inr, ⊎_elim, Bool, List, [], ◌∷◌, ◌++◌, length, Option, Some, ap, sym, ◌∙◌, subst, arith}
 use Rattle.std.specs.Prelude.{◌↔◌, IsTrue, IfOk, Contains, slice_get}
 use Rattle.std.specs.Option.{option_map}
 use Rattle.std.specs.declared.result.Result.{Result}
 use Rattle.std.specs.declared.result.Result.TheVariants.{Ok, Err}
 use Rattle.std.proofs.lemmas.Option.{slice_get-map}
-use Rattle.std.proofs.lemmas.List.Elements.{Contains-append_left, Contains-append_right, Contains-append_cases, Contains-push}
+use Rattle.std.proofs.lemmas.List.Elements.{Contains-append_left, Contains-append_cases, Contains-push}
 use Rattle.guppy_support.specs.Bits.{has}
 use Rattle.guppy_packages.specs.Tables.{PackageTable, Tables}
-use Rattle.feature_core.specs.Links.{IsPackage}
 use Rattle.feature_core.specs.Nodes.{NodeAt, first_node, node_packages, node_places}
 use Rattle.feature_labels.specs.Lists.{Ascends, ListValue, SameLabels}
 use Rattle.feature_labels.specs.Names.{LabelName}

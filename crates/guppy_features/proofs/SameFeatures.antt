@@ -1,17 +1,17 @@
 -- Lists that have the same elements at the same places, and when two sets are equal.
-use Rattle.std.proofs.Common.{◌≡◌, ◌≢◌, ℕ, zero, suc, ◌+◌, ◌<◌, ◌≤◌, inl, inr, Bool, true, false, ◌&&◌, List, [], ◌∷◌, length, Option, Some, refl, ap, sym, ◌∙◌, subst, arith, nat_eq}
-use Rattle.std.specs.Prelude.{◌↔◌, IsTrue, slice_get}
+use Rattle.std.proofs.Common.{◌≡◌, ℕ, suc, ◌<◌, ◌≤◌, List, [], ◌∷◌, length, Option, Some, refl, ap, arith, nat_eq}
+use Rattle.std.specs.Prelude.{slice_get}
 use Rattle.std.specs.Bool.{Decides}
 use Rattle.std.specs.Cmp.Lexicographic.{pointwise, bytes_decides}
-use Rattle.std.proofs.lemmas.Bool.Decides.{Decides-and, Decides-eqb, eqb_tells, same_from_decides}
+use Rattle.std.proofs.lemmas.Bool.Decides.{Decides-and, Decides-eqb}
 use Rattle.std.proofs.lemmas.Slice.Eq.{slice_eq-Decides}
 use Rattle.guppy_support.specs.Bits.{members}
 use Rattle.guppy_packages.specs.Rows.{Text}
 use Rattle.feature_core.specs.Nodes.{nodes}
 use Rattle.feature_labels.specs.Names.{LabelName}
 use Rattle.feature_labels.specs.Orders.{label_eq, label_eq-Decides}
-use Rattle.guppy_features.specs.SetValues.{SameGraph, AreEqualSets, name_eq, graph_eq, set_eq}
-use Rattle.guppy_features.specs.Values.{Graph, Set}
+use Rattle.guppy_features.specs.SetValues.{AreEqualSets, name_eq, graph_eq, set_eq}
+use Rattle.guppy_features.specs.Values.{Set}
 
 -- lists of one length with the same elements are the same
 pub same_list : {X : Type 0} (xs ys : List X) → length xs ≡ length ys → ((k : ℕ) → k < length xs → slice_get xs k ≡ slice_get ys k) → xs ≡ ys

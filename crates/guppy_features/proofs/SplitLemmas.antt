@@ -1,6 +1,6 @@
 -- The parts by yes and by no split a set.
 use Rattle.std.proofs.Common.{◌≡◌, ◌≢◌, ℕ, ◌<◌, ◌⊎◌, inl, inr, ⊎_elim, Bool, true, false, ◌||◌, List, length, map, refl, ap, sym, ◌∙◌, subst, arith}
-use Rattle.std.specs.Prelude.{◌↔◌, IsTrue, Contains, not, slice_index, slice_index_or}
+use Rattle.std.specs.Prelude.{IsTrue, Contains, not, slice_index, slice_index_or}
 use Rattle.std.proofs.lemmas.List.{length-map, get_or-map, get_or_default}
 use Rattle.guppy_support.specs.Bits.{has}
 use Rattle.guppy_support.specs.Graph.{Graph}

@@ -1,6 +1,6 @@
 -- Two features that are tied, by their nodes, and the components that have a cycle.
-use Rattle.std.proofs.Common.{◌≡◌, ℕ, zero, suc, ◌<◌, Bool, true, false, cond, List, [], ◌∷◌, length, filter, get_or, Option, Some, None, refl, sym, ◌∙◌, subst, arith}
-use Rattle.std.specs.Prelude.{◌↔◌, All, Contains, IsTrue, IfSome, IfNone}
+use Rattle.std.proofs.Common.{◌≡◌, ℕ, zero, suc, ◌<◌, Bool, true, false, cond, List, [], ◌∷◌, length, filter, Option, Some, None, refl, sym, subst, arith}
+use Rattle.std.specs.Prelude.{◌↔◌, All, IsTrue, IfSome, IfNone}
 use Rattle.std.specs.List.{AllByRecursion}
 use Rattle.std.specs.Option.{is_some}
 use Rattle.std.proofs.lemmas.List.Elements.{All-from_recursion, All-from_get_or, recursion_from_All}
@@ -10,7 +10,6 @@ use Rattle.guppy_support.specs.Paths.{HasEdge}
 use Rattle.guppy_support.specs.Sequences.{Sequence, IsSequence}
 use Rattle.guppy_packages.specs.Rows.{Text}
 use Rattle.guppy_packages.specs.Tables.{Tables}
-use Rattle.feature_core.specs.Built.{NodeNamed}
 use Rattle.feature_labels.specs.Names.{LabelName}
 use Rattle.guppy_features.specs.Tied.{AreNodesOf, TellsTied}
 

@@ -6,7 +6,7 @@ use Rattle.feature_core.specs.Built.{IsBuilt}
 use Rattle.walk_engine.specs.declared.walks.Half.{Half}
 use Rattle.walk_engine.specs.declared.walks.Step.{Step}
 use Rattle.walk_engine.specs.Explanations.{IsExplainedWalk}
-use Rattle.walk_engine.specs.Walks.{Content, Way, Call, IsWay, has_half, GoesAlong, IsWalk, LegalRun, Agrees, AreOffers, MayAsk}
+use Rattle.walk_engine.specs.Walks.{Content, Way, Call, IsWay, has_half, GoesAlong, IsWalk, LegalRun, Agrees, MayAsk}
 use Rattle.walk_engine.specs.Laws.{AnswersBy as AnswersAs}
 use Rattle.guppy_features.specs.LinkValues.{Link, has_facts}
 use Rattle.guppy_features.specs.Values.{Query}

@@ -1,5 +1,5 @@
 -- What a filter was asked, node by node.
-use Rattle.std.proofs.Common.{◌≡◌, ◌<◌, ◌≤◌, ℕ, zero, suc, ◌+◌, ◌++◌, ◌⊎◌, inl, inr, ⊎_elim, Bool, true, false, cond, List, [], ◌∷◌, length, map, filter, take, Option, Some, None, refl, ap, sym, ◌∙◌, subst, arith, length-append, append_assoc, append-nil, replicate}
+use Rattle.std.proofs.Common.{◌≡◌, ◌<◌, ℕ, zero, suc, ◌+◌, ◌++◌, ◌⊎◌, inl, inr, ⊎_elim, Bool, true, false, cond, List, [], ◌∷◌, length, map, filter, take, Some, refl, ap, sym, ◌∙◌, subst, arith, append-nil, replicate}
 use Rattle.std.specs.Prelude.{◌↔◌, IsTrue, slice_get, Contains}
 use Rattle.std.specs.List.{enumerate_from}
 use Rattle.std.proofs.lemmas.Fn.{FoldsTo-push}
@@ -13,7 +13,7 @@ use Rattle.guppy_packages.specs.Tables.{Tables, PackageTable}
 use Rattle.feature_labels.specs.Names.{LabelName}
 use Rattle.feature_core.specs.Built.{NodeNamed}
 use Rattle.feature_core.specs.Nodes.{nodes, node_packages, node_places, spread, labels_of}
-use Rattle.guppy_features.specs.Names.{IsAmong, HoldsExactly, at_places}
+use Rattle.guppy_features.specs.Names.{IsAmong}
 use Rattle.guppy_features.specs.Filters.{Run, Ran, MayAskEach, AsksNode, SelectsByFilter, accepted, workspace_marks, workspace_names}
 use Rattle.guppy_features.specs.Values.{Graph}
 

@@ -1,6 +1,6 @@
 -- Links as values, without where they lie in memory, and what their edges tell of them.
-use Rattle.std.specs.Prelude.{ℕ, Bool, List, Option, None, Some, slice_get, map}
-use Rattle.std.specs.Option.{is_some, option_map, option_map_or}
+use Rattle.std.specs.Prelude.{ℕ, Bool, List, Option, None, slice_get, map}
+use Rattle.std.specs.Option.{is_some, option_map_or}
 use Rattle.guppy_packages.specs.Platform.{Status}
 use Rattle.guppy_packages.specs.Rows.{Text}
 use Rattle.guppy_packages.specs.Tables.{Tables}

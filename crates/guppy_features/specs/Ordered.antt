@@ -1,5 +1,5 @@
 -- What the order of a graph shows of a set: its members, the edges and links between them, its roots.
-use Rattle.std.specs.Prelude.{◌≡◌, ℕ, List, Option, None, map, filter, slice_get}
+use Rattle.std.specs.Prelude.{ℕ, List, Option, None, map, filter, slice_get}
 use Rattle.std.specs.List.{filter_map}
 use Rattle.std.specs.Borrow.{Bor}
 use Rattle.std.specs.Option.{option_map, option_map_or}

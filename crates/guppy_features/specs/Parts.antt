@@ -1,5 +1,5 @@
 -- Callbacks over the features of a set, and the parts that their answers make.
-use Rattle.std.specs.Prelude.{◌≡◌, ◌↔◌, ℕ, Bool, true, false, List, Option, Some, None, IsTrue, Contains, map, not, length}
+use Rattle.std.specs.Prelude.{◌≡◌, ◌↔◌, ℕ, Bool, false, List, Option, Some, None, IsTrue, Contains, map, not, length}
 use Rattle.std.specs.List.{FoldsTo}
 use Rattle.guppy_support.specs.Bits.{has}
 use Rattle.guppy_packages.specs.Tables.{Tables}

@@ -1,5 +1,5 @@
 -- Visitors of links as those who answer the offers of a walk.
-use Rattle.std.specs.Prelude.{◌≡◌, ℕ, Bool, Some, IsTrue, slice_get}
+use Rattle.std.specs.Prelude.{◌≡◌, ℕ, Bool, IsTrue, slice_get}
 use Rattle.guppy_support.specs.Bits.{has}
 use Rattle.walk_engine.specs.declared.walks.Half.{Half}
 use Rattle.feature_core.specs.Nodes.{nodes}

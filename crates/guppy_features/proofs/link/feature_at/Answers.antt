@@ -6,7 +6,7 @@ use Rattle.guppy_packages.specs.Tables.{PackageTable}
 use Rattle.feature_core.specs.Nodes.{nodes}
 use Rattle.feature_labels.specs.Names.{id_of, label_of}
 use Rattle.guppy_features.proofs.BuiltLemmas.{built_count}
-use Rattle.guppy_features.proofs.NodePackages.{node_package, IsOf}
+use Rattle.guppy_features.proofs.NodePackages.{node_package}
 use Rattle.guppy_features.proofs.link.feature_at.Goals as goal
 
 pub id-id-requires-clause-built : goal.id-id-requires-clause-built

@@ -1,6 +1,5 @@
 use Rattle.std.proofs.Common.{◌≡◌, ◌∙◌, refl}
 use Rattle.std.proofs.lemmas.Result.{on_err_weaker}
-use Rattle.guppy_support.specs.Bits.{has}
 use Rattle.guppy_features.specs.Visits.{query_content}
 use Rattle.guppy_features.proofs.SetLemmas.{ok_map}
 use Rattle.guppy_features.proofs.Visits.{may_ask, legal_run, is_walk, at_both_ends}

@@ -1,4 +1,4 @@
-use Rattle.std.proofs.Common.{rules, ◌≡◌, refl}
+use Rattle.std.proofs.Common.{rules, refl}
 use mathlib.Core.List.{mem-append_right}
 use Rattle.feature_labels.specs.Names.{id_of}
 use Rattle.guppy_features.specs.Boxed.{leaves-made, same_holds}

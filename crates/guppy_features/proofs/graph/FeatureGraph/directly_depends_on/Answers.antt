@@ -1,4 +1,4 @@
-use Rattle.std.proofs.Common.{◌≡◌, subst}
+use Rattle.std.proofs.Common.{subst}
 use Rattle.std.specs.Prelude.{IfNone, IfSome}
 use Rattle.guppy_support.specs.Graph.{IsEdgeAt}
 use Rattle.guppy_support.specs.Paths.{HasEdge}

@@ -2,7 +2,7 @@ use Rattle.std.proofs.Common.{◌<◌, length, arith}
 use Rattle.feature_labels.specs.Names.{id_of}
 use Rattle.feature_core.specs.Nodes.{nodes}
 use Rattle.guppy_features.proofs.BuiltLemmas.{built_count}
-use Rattle.guppy_features.proofs.SetLemmas.{tells_default, no_feature}
+use Rattle.guppy_features.proofs.SetLemmas.{tells_default}
 use Rattle.guppy_features.proofs.graph.FeatureGraph.is_default.Goals as goal
 
 pub is_default-requires : goal.is_default-requires

@@ -1,7 +1,7 @@
 use Rattle.std.proofs.Common.{◌≡◌, ◌<◌, length, Some, arith, subst}
 use Rattle.std.specs.Prelude.{slice_get}
 use Rattle.guppy_packages.specs.Metadata.{package_table_of}
-use Rattle.feature_core.specs.Nodes.{nodes, node_packages}
+use Rattle.feature_core.specs.Nodes.{nodes}
 use Rattle.guppy_features.proofs.BuiltLemmas.{built_count}
 use Rattle.guppy_features.proofs.WorkspaceLemmas.{package_below, mark_at}
 use Rattle.guppy_features.proofs.graph.FeatureGraph.is_in_workspace.Goals as goal

@@ -1,4 +1,4 @@
-use Rattle.std.proofs.Common.{◌≡◌, ◌∙◌, sym}
+use Rattle.std.proofs.Common.{◌∙◌, sym}
 use Rattle.std.proofs.lemmas.List.{length-map}
 use Rattle.feature_core.specs.Built.{ends_of}
 use Rattle.guppy_features.proofs.graph.FeatureGraph.link_count.Goals as goal

@@ -1,6 +1,5 @@
-use Rattle.std.proofs.Common.{◌≡◌, ◌+◌, ◌<◌, ◌∙◌, length, arith, ap, subst, Some, sym}
+use Rattle.std.proofs.Common.{◌≡◌, ◌+◌, ◌<◌, ◌∙◌, length, arith, ap, subst, Some}
 use Rattle.std.specs.Prelude.{slice_get}
-use Rattle.feature_core.specs.Nodes.{first_nodes}
 use Rattle.guppy_features.proofs.RangeLemmas.{length-first_nodes, first_node_at, first_node_past}
 use Rattle.guppy_features.proofs.graph.FeatureGraph.nodes_of.Goals.{then-next-count, else-next-count}
 use Rattle.guppy_features.proofs.graph.FeatureGraph.nodes_of.Goals as goal

@@ -1,7 +1,7 @@
-use Rattle.std.proofs.Common.{◌∙◌, ap, arith, refl, sym, subst, Some, true, false}
-use Rattle.guppy_features.specs.Views.{graph_of, tables_of_graph}
+use Rattle.std.proofs.Common.{◌∙◌, ap, arith, refl, sym, subst, Some}
+use Rattle.guppy_features.specs.Views.{graph_of}
 use Rattle.guppy_features.specs.Filters.{SelectsByFilter}
-use Rattle.guppy_features.proofs.WorkspaceLemmas.{AskedBelow, asked_none, asked_one, asked_all, passed_over, may_ask_node}
+use Rattle.guppy_features.proofs.WorkspaceLemmas.{asked_none, asked_one, asked_all, passed_over, may_ask_node}
 use Rattle.guppy_features.proofs.graph.FeatureGraph.query_workspace.Goals.{then-is_in_workspace, else-is_in_workspace}
 use Rattle.guppy_features.proofs.graph.FeatureGraph.query_workspace.Goals as goal
 

@@ -1,4 +1,4 @@
-use Rattle.std.proofs.Common.{rules, ◌↔◌, IsTrue, sym, ◌∙◌, subst, Bor, List, ℕ}
+use Rattle.std.proofs.Common.{◌↔◌, IsTrue, sym, subst, Bor, List, ℕ}
 use Rattle.std.specs.Str.{bytes_eq}
 use Rattle.std.specs.Cmp.Lexicographic.{bytes_decides}
 use Rattle.feature_labels.specs.Names.{label_of}

@@ -1,4 +1,4 @@
-use Rattle.std.proofs.Common.{◌≡◌, ◌<◌, ◌≤◌, ◌+◌, ◌∙◌, length, arith, sym, subst, true, false}
+use Rattle.std.proofs.Common.{◌≡◌, ◌<◌, ◌≤◌, ◌+◌, length, arith, sym, subst, true, false}
 use Rattle.guppy_support.specs.Bits.{has}
 use Rattle.feature_core.specs.Nodes.{first_node}
 use Rattle.guppy_features.specs.Packages.{has_member_of}

@@ -1,4 +1,3 @@
-use Rattle.std.proofs.Common.{◌∙◌, ap, length, subst}
 use Rattle.feature_core.specs.Nodes.{nodes}
 use Rattle.guppy_features.specs.Views.{tables_of_graph}
 use Rattle.guppy_features.proofs.MemberNames.{names_at_members, members_within}

@@ -1,8 +1,6 @@
 use Rattle.std.proofs.Common.{◌≡◌, ◌∙◌, map, ap, sym, subst, Some}
 use Rattle.std.specs.Prelude.{◌↔◌, Contains, IfOk, slice_get}
-use Rattle.guppy_packages.specs.Metadata.{package_graph_of, package_id_of, package_number_of, package_table_of}
-use Rattle.guppy_packages.specs.Tables.{Tables}
-use Rattle.feature_labels.specs.Lists.{SameLabels}
+use Rattle.guppy_packages.specs.Metadata.{package_graph_of, package_table_of}
 use Rattle.feature_labels.specs.Names.{LabelName, label_of}
 use Rattle.guppy_features.specs.PackageLists.{HasMemberAt}
 use Rattle.guppy_features.proofs.PackageListLemmas.{members_listed}

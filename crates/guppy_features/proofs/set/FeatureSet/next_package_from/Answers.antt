@@ -1,4 +1,4 @@
-use Rattle.std.proofs.Common.{◌≡◌, ◌<◌, ◌≤◌, ◌^◌, ◌∙◌, length, ap, arith, sym, true, false}
+use Rattle.std.proofs.Common.{◌≡◌, ◌<◌, ◌≤◌, ◌^◌, ◌∙◌, length, ap, arith, true, false}
 use Rattle.guppy_features.specs.Packages.{has_member_of}
 use Rattle.guppy_features.proofs.RangeLemmas.{from_found, from_passed, from_past}
 use Rattle.guppy_features.proofs.set.FeatureSet.next_package_from.Goals as goal

@@ -1,9 +1,9 @@
-use Rattle.std.proofs.Common.{◌≡◌, ◌<◌, ◌∙◌, ◌∷◌, [], length, map, arith, ap, sym, subst, Some}
-use Rattle.std.specs.Prelude.{slice_get, IsTrue}
+use Rattle.std.proofs.Common.{◌≡◌, ◌<◌, ◌∙◌, ◌∷◌, [], length, map, arith, ap, sym, subst}
+use Rattle.std.specs.Prelude.{IsTrue}
 use Rattle.std.proofs.lemmas.List.{map-append}
 use Rattle.guppy_support.specs.Bits.{has}
 use Rattle.feature_core.specs.Built.{NodeNamed}
-use Rattle.feature_core.specs.Nodes.{NodeAt, nodes, node_packages}
+use Rattle.feature_core.specs.Nodes.{NodeAt, nodes}
 use Rattle.feature_labels.specs.Names.{id_of, label_of}
 use Rattle.guppy_features.specs.inner.MemberLabels.{AddsLabel}
 use Rattle.guppy_features.proofs.NodePackages.{label_at_node}

@@ -1,4 +1,4 @@
-use Rattle.std.proofs.Common.{rules, ◌≡◌, refl}
+use Rattle.std.proofs.Common.{rules, refl}
 use mathlib.Core.List.{mem-append_right}
 use Rattle.guppy_features.specs.Boxed.{leaves-made, same_holds}
 use Rattle.guppy_features.specs.LinkViews.{link_of}

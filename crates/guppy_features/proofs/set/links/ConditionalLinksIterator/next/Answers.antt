@@ -1,8 +1,5 @@
 use Rattle.std.proofs.Common.{◌<◌, ◌∙◌, length, sym}
-use Rattle.std.specs.Prelude.{IsFalse, IsTrue}
 use Rattle.std.proofs.lemmas.List.Elements.{All-rest}
-use Rattle.guppy_features.specs.LinkValues.{has_facts}
-use Rattle.guppy_features.specs.LinkViews.{link_of}
 use Rattle.guppy_features.specs.Views.{built_of, graph_of}
 use Rattle.guppy_features.proofs.OrderedLemmas.{no_link, passed_edge}
 use Rattle.guppy_features.proofs.set.links.ConditionalLinksIterator.next.Goals as goal
