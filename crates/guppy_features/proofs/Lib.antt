@@ -15,4 +15,5 @@ pub mod PackageListLemmas
 pub mod OrderedLemmas
 pub mod PartLemmas
 pub mod SplitLemmas
+pub mod PackageSetLemmas
 pub mod TiedLemmas

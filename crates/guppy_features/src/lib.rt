@@ -35,8 +35,8 @@ pub use filter::{FeatureFilter, FeatureFilterFn, FeatureFilterObject};
 pub use graph::{FeatureGraph, FeatureGraphExt};
 pub use guppy_packages::{
     Declaration, DependencyDirection, DependencyKind, NamedFeature, NamedFeatureDep, PackageGraph,
-    PackageId, PackageLink, PackageMetadata, PlatformStatus, PlatformStatusImpl, Row, RowError,
-    RowFault, Spec, UnknownPackageId,
+    PackageId, PackageLink, PackageMetadata, PackageSet, PlatformStatus, PlatformStatusImpl, Row,
+    RowError, RowFault, Spec, UnknownPackageId,
 };
 pub use link::ConditionalLink;
 pub use listed_filters::{

@@ -11,6 +11,7 @@ mod algebra;
 mod links;
 mod lists;
 mod ordered;
+mod package_set;
 mod packages;
 mod parts;
 mod roots;

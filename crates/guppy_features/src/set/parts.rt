@@ -67,7 +67,7 @@ impl Answer for Option<bool> {
 }
 
 /// Puts the node into the set, where it is to be.
-fn put(members: &mut IxBitSet, node: usize, say: bool)
+pub(crate) fn put(members: &mut IxBitSet, node: usize, say: bool)
     requires { node < length members.old }
     ensures { IsPut say node members.old members.new }
 {
