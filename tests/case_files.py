@@ -3,7 +3,7 @@
 A file of cases has, line by line:
 
     # ..               a comment
-    program NAME       (at most once, before any case) the program is that of the crate NAME; else it is `features`
+    program NAME       the program of the cases below is that of the crate NAME; before such a line it is `features`
     rows               begins a row file: the lines that follow, as they stand, up to the line 'end'. It is the input of
                        the cases below, up to the next such block
     rows escaped       the same, but the lines are joined without line feeds, and \\n, \\r, \\t, \\0, \\\\ and \\xNN stand for
@@ -18,10 +18,12 @@ A file of cases has, line by line:
     !N LINE            what must stand on standard error, and the exit status N; else nothing and 0
     !N                 the exit status N, and whatever stands on standard error
 
-In a file of a program of calls (surface_calls, layer_calls) the word FILE stands for the path alone, and a case has also:
+For a program of calls (surface_calls, layer_calls, graph_calls) the word FILE stands for the path alone, and LAST for that of the
+row file before. Such a case has also:
 
     < CALL             a line of standard input, which the program repeats. The word FORM in it stands for each of the four
-                       forms of visitors and filters: the case runs four times, and must print the same
+                       forms of visitors and filters, and EDGES for each word of its kind below: the case runs as often, and
+                       must print the same
     or                 other lines may be printed after the last call, in place of those above: they follow
 
 Lines that begin with '- ' are what a visitor was asked. Those that stand together may come in any order; in the order in
@@ -38,7 +40,8 @@ import tempfile
 import judge
 
 TOP = os.path.dirname(os.path.dirname(os.path.abspath(__file__)))
-FORMS = ('generic', 'lent', 'boxed', 'closure')
+# What words of calls stand for.
+FORMS = {b'FORM': ('generic', 'lent', 'boxed', 'closure'), b'EDGES': ('edges', 'copies')}
 SECONDS = 60
 
 
@@ -58,8 +61,8 @@ def program_of(name):
 
 
 class Case:
-    def __init__(self, place, program, words, rows):
-        self.place, self.program, self.words, self.rows = place, program, words, rows
+    def __init__(self, place, program, words, rows, last=b''):
+        self.place, self.program, self.words, self.rows, self.last = place, program, words, rows, last
         self.given, self.calls, self.of_file = None, [], None
         # the lists of lines that may be printed
         self.printed = [[]]
@@ -92,7 +95,7 @@ def all_paths():
 
 def cases_of(path):
     """The cases of one file."""
-    cases, rows, program, name = [], b'', 'features', os.path.relpath(path, TOP)
+    cases, rows, last, program, name = [], b'', b'', 'features', os.path.relpath(path, TOP)
     with open(path, encoding='utf-8', newline='\n') as it:
         lines = it.read().split('\n')
     at = 0
@@ -101,14 +104,14 @@ def cases_of(path):
         if line in ('rows', 'rows escaped'):
             end = lines.index('end', at)
             block, at = lines[at:end], end + 1
-            rows = ''.join(it + '\n' for it in block).encode() if line == 'rows' else unescaped(''.join(block))
+            last, rows = rows, ''.join(it + '\n' for it in block).encode() if line == 'rows' else unescaped(''.join(block))
         elif line.startswith('rows of '):
-            rows = content(line[8:])
+            last, rows = rows, content(line[8:])
         elif line.startswith('program '):
             program = line[8:]
         elif line.startswith('$'):
             words = [unescaped(word) for word in shlex.split(line[1:])]
-            cases.append(Case(f'{name}:{at}', program, words, rows))
+            cases.append(Case(f'{name}:{at}', program, words, rows, last))
         elif line.startswith('with '):
             cases[-1].given = line[5:]
         elif line.startswith('< '):
@@ -127,9 +130,14 @@ def cases_of(path):
     return cases
 
 
+def forms_of(text):
+    """What the words of the text that have forms stand for, for each run; at most one of these words is there."""
+    return [{word: form} for word in FORMS if word in text.split() for form in FORMS[word]] or [{}]
+
+
 def in_form(text, form):
-    """The text with this form in place of FORM, as a word."""
-    return b'\n'.join(b' '.join(form.encode() if it == b'FORM' else it for it in line.split(b' ')) for line in text.split(b'\n'))
+    """The text with what the words of a form stand for."""
+    return b'\n'.join(b' '.join(form[it].encode() if it in form else it for it in line.split(b' ')) for line in text.split(b'\n'))
 
 
 class Run:
@@ -178,12 +186,12 @@ def sorted_runs(text):
 
 
 def runs_of(case, path):
-    """The runs of a case, whose row file is at this path."""
-    words = [path.encode() if word == b'FILE' else word for word in case.words]
+    """The runs of a case, whose row file is at this path, and the one before it beside it."""
+    paths = {b'FILE': path.encode(), b'LAST': f'{path}.last'.encode()}
+    words = [paths.get(word, word) for word in case.words]
     if case.has_calls():
         calls = ''.join(f'{call}\n' for call in case.calls).encode()
-        forms = FORMS if in_form(calls, 'x') != calls else FORMS[:1]
-        return [Run(case, words, in_form(calls, form), [in_form(out, form) for out in case.outs()]) for form in forms]
+        return [Run(case, words, in_form(calls, form), [in_form(out, form) for out in case.outs()]) for form in forms_of(calls)]
     runs = [Run(case, words, case.rows, case.outs())]
     if b'FILE' in case.words:
         runs.append(Run(case, [b'-' if word == b'FILE' else word for word in case.words], case.rows, case.outs()))
