@@ -9,6 +9,7 @@ A file of cases has, line by line:
     rows escaped       the same, but the lines are joined without line feeds, and \\n, \\r, \\t, \\0, \\\\ and \\xNN stand for
                        bytes
     rows of PATH       the row file is the file of this path, from the top of the repository
+    rows chain N       one package with features from 0 to N, each of which but the last has the next one as its item
     $ WORDS            begins a case: the words after the program's name, as in a shell, with the escapes of above. The
                        word FILE stands for the row file: the case runs twice, with the file's path, and with '-' and the
                        file as standard input
@@ -22,15 +23,22 @@ For a program of calls (surface_calls, layer_calls, graph_calls) the word FILE s
 row file before. Such a case has also:
 
     < CALL             a line of standard input, which the program repeats. The word FORM in it stands for each of the four
-                       forms of visitors and filters, and EDGES for each word of its kind below: the case runs as often, and
-                       must print the same
+                       forms of visitors and filters, and EDGES, OVER and ANY for each of the words below: the case runs as
+                       often, and must print the same
     or                 other lines may be printed after the last call, in place of those above: they follow
+    each DIRECTION     (of graph_calls, with no other call) walks in this direction from each two nodes, by each of four rules
+    answers N DIRECTION NODES
+                       (the same) a walk from these nodes for each set of accepted offers; there are N complete runs of offers
+                       with these answers in all, of which what was offered is one, and all have the result of the walk
 
 Lines that begin with '- ' are what a visitor was asked. Those that stand together may come in any order; in the order in
-which they came they must be a run of offers by the rules (judge.py).
+which they came they must be a run of offers by the rules (judge.py). What a walk read, and what is printed after a call of
+`each` and `answers`, is left to the judge alone. The program of the name `judge` is judge.py, whose standard input is the row
+file.
 """
 import codecs
 import glob
+import itertools
 import os
 import shlex
 import subprocess
@@ -41,7 +49,9 @@ import judge
 
 TOP = os.path.dirname(os.path.dirname(os.path.abspath(__file__)))
 # What words of calls stand for.
-FORMS = {b'FORM': ('generic', 'lent', 'boxed', 'closure'), b'EDGES': ('edges', 'copies')}
+FORMS = {b'FORM': ('generic', 'lent', 'boxed', 'closure'), b'EDGES': ('edges', 'copies'), b'OVER': ('graph', 'source'),
+         b'ANY': ('graph', 'source', 'explained')}
+RULES = ('all', 'none', 'alternate', 'first 2')
 SECONDS = 60
 
 
@@ -54,8 +64,15 @@ def content(path):
         return it.read()
 
 
+def chain(last):
+    """The row file of one package with a long chain of features."""
+    return ''.join(['package\tp\tworkspace\n', *(f'feature\t{it}\t{it + 1}\n' for it in range(last)), f'feature\t{last}\n']).encode()
+
+
 def program_of(name):
     """The path of a crate's program; PROGRAM in the environment names another one than that of `features`."""
+    if name == 'judge':
+        return f'{TOP}/tests/judge.py'
     built = f'{TOP}/crates/{name}/out/{name}'
     return os.path.abspath(os.environ.get('PROGRAM', built) if name == 'features' else built)
 
@@ -67,6 +84,8 @@ class Case:
         # the lists of lines that may be printed
         self.printed = [[]]
         self.line, self.status = '', 0
+        # whether the judge alone looks at what calls print, and how many complete runs there are
+        self.is_judged, self.runs = False, None
 
     def has_calls(self):
         return self.program.endswith('_calls')
@@ -81,6 +100,19 @@ class Case:
         self.calls.append(line)
         for lines in self.printed:
             lines.append(f'< {line}')
+
+    def add_each(self, direction):
+        """Walks from each two nodes."""
+        self.is_judged = True
+        nodes = range(len(judge.Graph(self.rows).nodes))
+        for rule, node, other in itertools.product(RULES, nodes, nodes):
+            self.add_call(f'walk ANY {direction} {rule}: {node} {other}')
+
+    def add_answers(self, runs, direction, nodes):
+        """A walk for each set of accepted offers."""
+        self.is_judged, self.runs = True, int(runs)
+        for accepted in judge.answers_of(self.rows, direction):
+            self.add_call(f'walk ANY {direction} these {",".join(accepted)}'.rstrip() + f': {nodes}')
 
     def add_other(self):
         """The lines up to the last call may go on otherwise."""
@@ -105,6 +137,8 @@ def cases_of(path):
             end = lines.index('end', at)
             block, at = lines[at:end], end + 1
             last, rows = rows, ''.join(it + '\n' for it in block).encode() if line == 'rows' else unescaped(''.join(block))
+        elif line.startswith('rows chain '):
+            last, rows = rows, chain(int(line[11:]))
         elif line.startswith('rows of '):
             last, rows = rows, content(line[8:])
         elif line.startswith('program '):
@@ -116,6 +150,10 @@ def cases_of(path):
             cases[-1].given = line[5:]
         elif line.startswith('< '):
             cases[-1].add_call(line[2:])
+        elif line.startswith('each '):
+            cases[-1].add_each(line[5:])
+        elif line.startswith('answers '):
+            cases[-1].add_answers(*line[8:].split(' ', 2))
         elif line == 'or':
             cases[-1].add_other()
         elif line.startswith('> of '):
@@ -162,15 +200,30 @@ class Run:
     def fault(self, printed, said, status):
         """Why this isn't the wanted outcome, or None."""
         line = said if self.case.line is None else self.case.line.encode()
-        came = (sorted_runs(printed) if self.case.has_calls() else printed, said, status)
-        wanted = [(sorted_runs(out) if self.case.has_calls() else out, line, self.case.status) for out in self.outs]
+        came = (self.seen(printed), said, status)
+        wanted = [(self.seen(out), line, self.case.status) for out in self.outs]
         if came not in wanted:
             return f'{self.words}\n  wanted {" or ".join(map(str, wanted))}\n  came   {came}'
         return self.fault_of_offers(printed.decode().split('\n')[:-1])
 
+    def seen(self, printed):
+        """What of the printed text is compared."""
+        if not self.case.has_calls():
+            return printed
+        unseen = (b'read ', b'reads ') if self.case.program == 'graph_calls' else ()
+        lines = [it for it in printed.split(b'\n') if not it.startswith(unseen) and (it[:2] == b'< ' or not self.case.is_judged)]
+        return sorted_runs(b'\n'.join(lines))
+
     def fault_of_offers(self, lines):
         """Why what a visitor was asked isn't a run by the rules, or None."""
-        return judge.fault_of(self.case.rows, lines) if self.case.program == 'surface_calls' else None
+        if self.case.program == 'surface_calls':
+            return judge.fault_of(self.case.rows, lines)
+        if self.case.program != 'graph_calls':
+            return None
+        fault = judge.fault_of_walks(self.case.rows, lines)
+        if fault is None and self.case.runs is not None:
+            fault = judge.fault_of_all_runs(self.case.rows, lines, self.case.runs)
+        return fault
 
 
 def sorted_runs(text):

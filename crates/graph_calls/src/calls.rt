@@ -5,6 +5,7 @@ use crate::edges::{Told, edges};
 use crate::failure::Failure;
 use crate::nodes::{built_from, figures, nodes};
 use crate::out::Out;
+use crate::walks::{reach, walk_from};
 use crate::words::cut;
 use feature_core::FeatureGraphData;
 use guppy_packages::PackageGraph;
@@ -28,6 +29,8 @@ fn package_call(
         "edges" => edges(out, alloc, graph, built, Told::Built)?,
         "copies" => edges(out, alloc, graph, built, Told::Copied)?,
         "nodes" => nodes(out, alloc, graph, built, words)?,
+        "walk" => walk_from(out, alloc, built, words)?,
+        "reach" => reach(out, alloc, built, words)?,
         _ => return Err(Failure::Words),
     }
     Ok(())

@@ -55,49 +55,78 @@ fn tell_half(out: &mut Out, half: &EnabledLink) {
     }
 }
 
-/// Tells equal halves of a weak edge, once both are made.
-fn tell_halves(out: &mut Out, alloc: Global, weak: &WeakSlashImpl) -> Result<(), AllocError> {
+/// The ends of an edge, and whether the digraph has others.
+#[derive(Clone, Copy)]
+pub struct Ends {
+    pub from: usize,
+    pub to: usize,
+    pub differ: bool,
+}
+
+/// Tells the ends of an edge, with `?` where the digraph has others.
+fn tell_ends(out: &mut Out, ends: Ends) {
+    out.number("", ends.from);
+    out.number("-", ends.to);
+    out.part_if(ends.differ, " ?");
+    out.part(" ");
+}
+
+/// Tells a weak edge, once equal halves are made: its ends, its index, its full link and the halves.
+fn tell_weak(
+    out: &mut Out,
+    alloc: Global,
+    ends: Ends,
+    link: &ConditionalLinkImpl,
+    weak: &WeakSlashImpl,
+) -> Result<(), AllocError> {
     let required = weak.required().try_clone(alloc)?;
     let optional = weak.optional().try_clone(alloc)?;
+    tell_ends(out, ends);
+    out.number("weak(", weak.index().index());
+    tell_link(out, ") ", link);
     tell_half(out, &required);
     tell_half(out, &optional);
     Ok(())
 }
 
-/// Tells a weak edge: its index, its full link and its halves.
-fn tell_weak(
-    out: &mut Out,
-    alloc: Global,
-    link: &ConditionalLinkImpl,
-    weak: &WeakSlashImpl,
-) -> Result<(), AllocError> {
-    out.number("weak(", weak.index().index());
-    tell_link(out, ") ", link);
-    tell_halves(out, alloc, weak)
-}
-
-/// Tells an edge with a slash.
+/// Tells a strong edge, or a weak one.
 fn tell_slash(
     out: &mut Out,
     alloc: Global,
+    ends: Ends,
     link: &ConditionalLinkImpl,
     slash: &SlashForm,
 ) -> Result<(), AllocError> {
-    match slash {
-        SlashForm::Strong => tell_link(out, "strong ", link),
-        SlashForm::Weak(weak) => tell_weak(out, alloc, link, weak)?,
+    if let SlashForm::Weak(weak) = slash {
+        return tell_weak(out, alloc, ends, link, weak);
     }
+    tell_ends(out, ends);
+    tell_link(out, "strong ", link);
     Ok(())
 }
 
-/// Tells what an edge says.
-pub fn tell_edge(out: &mut Out, alloc: Global, edge: &FeatureEdge) -> Result<(), AllocError> {
+/// Tells an edge without a slash.
+fn tell_plain(out: &mut Out, ends: Ends, edge: &FeatureEdge) {
+    tell_ends(out, ends);
     match edge {
         FeatureEdge::FeatureToBase => out.part("base"),
         FeatureEdge::NamedFeature => out.part("feature"),
         FeatureEdge::DependenciesSection(link) => tell_link(out, "section ", link),
         FeatureEdge::NamedFeatureDepColon(link) => tell_link(out, "dep-colon ", link),
-        FeatureEdge::NamedFeatureWithSlash { link, slash } => tell_slash(out, alloc, link, slash)?,
+        FeatureEdge::NamedFeatureWithSlash { link: _, slash: _ } => {}
     }
+}
+
+/// Tells the ends of an edge, and what it says.
+pub fn tell_edge(
+    out: &mut Out,
+    alloc: Global,
+    ends: Ends,
+    edge: &FeatureEdge,
+) -> Result<(), AllocError> {
+    if let FeatureEdge::NamedFeatureWithSlash { link, slash } = edge {
+        return tell_slash(out, alloc, ends, link, slash);
+    }
+    tell_plain(out, ends, edge);
     Ok(())
 }

@@ -3,7 +3,7 @@ ghost use Rattle.std.specs.Prelude.{◌<◌, length};
 ghost use Rattle.feature_core.specs.Built.{IsBuilt};
 
 use crate::copies::copied;
-use crate::edge::tell_edge;
+use crate::edge::{Ends, tell_edge};
 use crate::out::Out;
 use feature_core::laws::warning_equality;
 use feature_core::{FeatureEdge, FeatureGraphData, FeatureGraphWarning};
@@ -41,28 +41,30 @@ fn tell_nodes(out: &mut Out, graph: &PackageGraph, built: &FeatureGraphData)
     out.line("");
 }
 
-/// Tells the ends of an edge, with `?` where the digraph has others.
-fn tell_ends(out: &mut Out, built: &FeatureGraphData, number: usize)
+/// The ends of an edge.
+fn ends_of(built: &FeatureGraphData, number: usize) -> Ends
     requires { number < length built.now.edges }
 {
     let (from, to, _) = built.edge(number);
     let ends = built.digraph().edge(number);
-    out.number("", from);
-    out.number("-", to);
-    out.part_if(ends.from != from || ends.to != to, " ?");
-    out.part(" ");
+    Ends {
+        from,
+        to,
+        differ: ends.from != from || ends.to != to,
+    }
 }
 
 /// Tells an edge, or an equal one.
 fn tell_told(
     out: &mut Out,
     alloc: Global,
+    ends: Ends,
     edge: &FeatureEdge,
     told: Told,
 ) -> Result<(), AllocError> {
     match told {
-        Told::Built => tell_edge(out, alloc, edge),
-        Told::Copied => tell_edge(out, alloc, &copied(alloc, edge)?),
+        Told::Built => tell_edge(out, alloc, ends, edge),
+        Told::Copied => tell_edge(out, alloc, ends, &copied(alloc, edge)?),
     }
 }
 
@@ -76,9 +78,8 @@ fn tell_line(
 ) -> Result<(), AllocError>
     requires { number < length built.now.edges }
 {
-    tell_ends(out, built, number);
     let (_, _, edge) = built.edge(number);
-    tell_told(out, alloc, edge, told)?;
+    tell_told(out, alloc, ends_of(built, number), edge, told)?;
     out.part_if(!built.digraph().edge(number).non_dev, " dev-only");
     out.line("");
     Ok(())

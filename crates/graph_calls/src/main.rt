@@ -11,6 +11,9 @@ mod edges;
 mod failure;
 mod nodes;
 mod out;
+mod rules;
+mod walks;
+mod watched;
 mod words;
 
 use crate::calls::make_calls;
