@@ -49,8 +49,8 @@ import judge
 
 TOP = os.path.dirname(os.path.dirname(os.path.abspath(__file__)))
 # What words of calls stand for.
-FORMS = {b'FORM': ('generic', 'lent', 'boxed', 'closure'), b'EDGES': ('edges', 'copies'), b'OVER': ('graph', 'source'),
-         b'ANY': ('graph', 'source', 'explained')}
+FORMS = {b'FORM': ('generic', 'lent', 'boxed', 'closure'), b'EDGES': ('edges', 'copies'), b'OVER': ('graph', 'source', 'list'),
+         b'ANY': ('graph', 'source', 'list', 'explained')}
 RULES = ('all', 'none', 'alternate', 'first 2')
 SECONDS = 60
 

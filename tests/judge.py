@@ -338,20 +338,15 @@ def reads_of(ways, members):
     return fewest, fewest + 2 * len(members) + sum(1 for _, _, gate, _ in offers.values() if gate is not None and gate in members)
 
 
-def fault_of_steps(initials, ways, run, members, steps):
-    """Why these steps don't explain the members, or None. A step is a node and why it is a member."""
-    free, offers = ways
-    edges = {name: way[:2] for name, way in offers.items()}
+def fault_of_steps(initials, edges, run, members, steps):
+    """Why these steps don't explain the members, or None. A step is a node and why it is a member; `edges` has the start and
+    the far end of each unconditional edge, by number, and of each offer."""
     reached = set()
     for node, why in steps:
         word, _, name = why.partition(' ')
-        if word == 'initial':
-            is_why = node in initials
-        elif word == 'offer':
-            is_why = name in accepted_in(run) and edges[name][0] in reached and edges[name][1] == node
-        else:
-            is_why = any((start, node) in free for start in reached)
-        if not is_why or node in reached:
+        start, far = edges.get(name, (None, None))
+        is_why = node in initials if word == 'initial' else start in reached and far == node
+        if not is_why or (word == 'offer') != (name in accepted_in(run)) or node in reached:
             return f'no step: {node} {why}'
         reached.add(node)
     return None if sorted(reached) == members else f'not explained: {steps}'
@@ -388,7 +383,11 @@ def fault_of_walk(graph, call, lines):
         fault = fault_of_reads(ways, members, read, int(parts['reads'][0]))
     if fault is None and over == 'explained':
         steps = [(int(node), why) for node, _, why in (it.partition(' ') for it in parts['members'][1:])]
-        fault = fault_of_steps(initials, ways, run, members, steps)
+        edges = {name: way[:2] for name, way in ways[1].items()}
+        for number, (pair, asked) in enumerate(graph.edges.items()):
+            if not asked:
+                edges[f'{number}'] = pair if direction == 'forward' else pair[::-1]
+        fault = fault_of_steps(initials, edges, run, members, steps)
         if parts['refused'] != [name for name, answer in run if not answer]:
             fault = f'not the refused offers: {parts["refused"]}'
     return fault

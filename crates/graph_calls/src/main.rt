@@ -9,11 +9,13 @@ mod copies;
 mod edge;
 mod edges;
 mod failure;
+mod listed;
 mod nodes;
 mod out;
 mod rules;
 mod walks;
 mod watched;
+mod ways;
 mod words;
 
 use crate::calls::make_calls;

@@ -2,6 +2,7 @@
 ghost use Rattle.std.specs.Prelude.{◌≡◌, length};
 
 use crate::failure::Failure;
+use crate::listed::edges_listed;
 use crate::out::Out;
 use crate::rules::{Asked, Rule, letter};
 use crate::watched::Watched;
@@ -70,11 +71,11 @@ fn tell_refused(out: &mut Out, refused: &[(usize, Half)]) {
     }
 }
 
-/// Tells how many reads there were.
-fn tell_reads(out: &mut Out, watched: &Watched<Packed<'_>>) {
-    out.join(watched.out);
+/// Tells how many reads there were, after those that a source wrote down.
+fn tell_reads(out: &mut Out, of_source: Out, reads: u128) {
+    out.join(of_source);
     out.part("reads ");
-    out.line(watched.source.reads());
+    out.line(reads);
 }
 
 /// Walks over the graph.
@@ -120,11 +121,32 @@ fn over_source(
     let mut source = watched(*out, built, direction);
     let walk = walk_over(alloc, &mut source, initials, offerer)?;
     tell_members(out, &walk.members);
-    tell_reads(out, &source);
+    tell_reads(out, source.out, source.source.reads());
     Ok(())
 }
 
-/// The same, with why each member is one, and the offers that were refused.
+/// Walks over a list of the edges, as a source that writes down its reads.
+fn over_list(
+    out: &mut Out,
+    alloc: Global,
+    built: &FeatureGraphData,
+    direction: DependencyDirection,
+    initials: &IxBitSet,
+    offerer: &mut Asked<'_>,
+) -> Result<(), Failure>
+    requires { length initials.now ≡ length built.now.packages }
+{
+    let Some(source) = edges_listed(alloc, built, direction)? else {
+        return Err(Failure::Words);
+    };
+    let mut watched = Watched { source, out: *out };
+    let walk = walk_over(alloc, &mut watched, initials, offerer)?;
+    tell_members(out, &walk.members);
+    tell_reads(out, watched.out, watched.source.reads());
+    Ok(())
+}
+
+/// Walks over the graph as a source that writes down its reads, and tells why each member is one, and the offers that were refused.
 fn explained(
     out: &mut Out,
     alloc: Global,
@@ -140,7 +162,7 @@ fn explained(
     tell_members(out, &walk.members);
     tell_steps(out, &steps);
     tell_refused(out, &refused);
-    tell_reads(out, &source);
+    tell_reads(out, source.out, source.source.reads());
     Ok(())
 }
 
@@ -164,6 +186,7 @@ fn walk_as(
     };
     let walked = match over {
         "graph" => over_graph(out, alloc, built, direction, initials, &mut offerer),
+        "list" => over_list(out, alloc, built, direction, initials, &mut offerer),
         "source" => over_source(out, alloc, built, direction, initials, &mut offerer),
         "explained" => explained(out, alloc, built, direction, initials, &mut offerer),
         _ => Err(Failure::Words),

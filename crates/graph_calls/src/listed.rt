@@ -1,10 +1,12 @@
 //! A source whose edges stand in a list.
-ghost use Rattle.std.specs.Prelude.{◌≡◌, ◌&&◌, ◌==◌, ◌<◌, IsTrue, IfOk, IfSome, map};
+ghost use Rattle.std.specs.Prelude.{◌≡◌, ◌&&◌, ◌==◌, ◌<◌, IsTrue, IfOk, IfSome, length, map};
 ghost use Rattle.walk_engine.specs.Walks.{is_gated};
-ghost use Rattle.walks_vectors.specs.ListedWays.{way_of, AreWithin};
+ghost use Rattle.graph_calls.specs.ListedWays.{way_of, AreWithin};
 
-use crate::ways::Way;
+use crate::ways::{Way, ways_of};
+use feature_core::FeatureGraphData;
 use feature_core::engine::{Ask, EdgeSource, Taken};
+use guppy_packages::DependencyDirection;
 use std::alloc::{AllocError, Global};
 
 /// A start, a far end, what is asked, and a gate.
@@ -52,6 +54,26 @@ impl Listed {
         let reads = 0;
         Ok(Some(Listed { nodes, ways, reads }))
     }
+}
+
+impl Listed {
+    /// How many reads there were.
+    pub fn reads(&self) -> u128 {
+        self.reads
+    }
+}
+
+/// The edges of a feature graph in a list, unless an end of one is no node.
+pub fn edges_listed(
+    alloc: Global,
+    built: &FeatureGraphData,
+    direction: DependencyDirection,
+) -> Result<Option<Listed>, AllocError>
+    ensures nodes { IfOk result (λ found. IfSome found (λ source. source.nodes ≡ length built.now.packages)) }
+    ensures reads { IfOk result (λ found. IfSome found (λ source. source.reads ≡ 0)) }
+{
+    let ways = ways_of(alloc, built, direction)?;
+    Listed::new(alloc, built.node_count(), &ways)
 }
 
 impl EdgeSource for Listed {

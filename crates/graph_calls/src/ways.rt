@@ -1,30 +1,16 @@
 //! The edges of a graph as a direction follows them, in a list.
-use feature_core::engine::{Ask, Half};
+use feature_core::engine::Ask;
 use feature_core::{FeatureEdge, FeatureGraphData, SlashForm, WeakSlashImpl};
 use guppy_packages::DependencyDirection;
 use std::alloc::{AllocError, Global};
 
 /// An edge as a direction follows it. The gate counts where the ask is gated, and is 0 elsewhere.
-#[derive(Clone, Copy, PartialEq, Eq)]
+#[derive(Clone, Copy)]
 pub struct Way {
     pub start: usize,
     pub far: usize,
     pub ask: Ask,
     pub gate: usize,
-}
-
-/// An edge by its number, and what is offered of it.
-pub type Offer = (usize, Half);
-
-/// What can be offered of an edge, in the order in which texts have it.
-pub const HALVES: [Half; 3] = [Half::Full, Half::Required, Half::Optional];
-
-/// The edges of a graph, and the nodes that walks begin at.
-#[derive(Clone, Copy)]
-pub struct Start<'a> {
-    pub nodes: usize,
-    pub ways: &'a [Way],
-    pub initials: &'a [usize],
 }
 
 /// The halves of a weak edge.
@@ -101,38 +87,4 @@ pub fn ways_of(
         })?;
     }
     Ok(ways)
-}
-
-/// Whether the half can be offered of an edge.
-pub fn has_half(ask: Ask, half: Half) -> bool {
-    match half {
-        Half::Full => ask == Ask::Full,
-        Half::Required => matches!(
-            ask,
-            Ask::Weak {
-                required: true,
-                gated: _
-            }
-        ),
-        Half::Optional => matches!(
-            ask,
-            Ask::Weak {
-                required: _,
-                gated: _
-            }
-        ),
-    }
-}
-
-/// All offers of a graph, by edges.
-pub fn offers(alloc: Global, ways: &[Way]) -> Result<Vec<Offer>, AllocError> {
-    let mut offers = Vec::new(alloc);
-    for (edge, way) in ways.iter().enumerate() {
-        for half in HALVES {
-            if has_half(way.ask, half) {
-                offers.push((edge, half))?;
-            }
-        }
-    }
-    Ok(offers)
 }

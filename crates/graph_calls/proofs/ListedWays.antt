@@ -7,7 +7,7 @@ use Rattle.std.proofs.lemmas.Option.{slice_get-map, slice_get-get_or}
 use Rattle.std.specs.Option.{option_map}
 use Rattle.walk_engine.specs.declared.walks.Taken.{Taken}
 use Rattle.walk_engine.specs.Walks.{Way, EndsAreNodes, numbers_where, told, taken_of}
-use Rattle.walks_vectors.specs.ListedWays.{ListedWay, way_of, AreWithin}
+use Rattle.graph_calls.specs.ListedWays.{ListedWay, way_of, AreWithin}
 
 abbrev IsWithin : ℕ → ListedWay → Type 0
 IsWithin nodes w = (w.0 < nodes) × (w.1 < nodes) × (w.3 < nodes)

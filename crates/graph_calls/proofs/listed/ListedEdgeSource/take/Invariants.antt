@@ -1,8 +1,8 @@
 use Rattle.std.proofs.Common.{◌≡◌, map, drop}
 use Rattle.std.specs.Prelude.{slice_get, ◌==◌}
 use Rattle.walk_engine.specs.Walks.{numbers_where}
-use Rattle.walks_vectors.specs.ListedWays.{way_of}
-use Rattle.walks_vectors.proofs.listed.ListedEdgeSource.take.Given as goal
+use Rattle.graph_calls.specs.ListedWays.{way_of}
+use Rattle.graph_calls.proofs.listed.ListedEdgeSource.take.Given as goal
 
 abbrev pub invariant-loop-edge : goal.invariant-loop-edge
 invariant-loop-edge l =
