@@ -3,12 +3,13 @@
 A file of cases has, line by line:
 
     # ..               a comment
-    program NAME       (at most once, before any case) the program is that of the crate NAME; else it is `features`
+    program NAME       the program of the cases below is that of the crate NAME; before such a line it is `features`
     rows               begins a row file: the lines that follow, as they stand, up to the line 'end'. It is the input of
                        the cases below, up to the next such block
     rows escaped       the same, but the lines are joined without line feeds, and \\n, \\r, \\t, \\0, \\\\ and \\xNN stand for
                        bytes
     rows of PATH       the row file is the file of this path, from the top of the repository
+    rows chain N       one package with features from 0 to N, each of which but the last has the next one as its item
     $ WORDS            begins a case: the words after the program's name, as in a shell, with the escapes of above. The
                        word FILE stands for the row file: the case runs twice, with the file's path, and with '-' and the
                        file as standard input
@@ -18,17 +19,26 @@ A file of cases has, line by line:
     !N LINE            what must stand on standard error, and the exit status N; else nothing and 0
     !N                 the exit status N, and whatever stands on standard error
 
-In a file of a program of calls (surface_calls, layer_calls) the word FILE stands for the path alone, and a case has also:
+For a program of calls (surface_calls, layer_calls, graph_calls) the word FILE stands for the path alone, and LAST for that of the
+row file before. Such a case has also:
 
     < CALL             a line of standard input, which the program repeats. The word FORM in it stands for each of the four
-                       forms of visitors and filters: the case runs four times, and must print the same
+                       forms of visitors and filters, and EDGES, OVER and ANY for each of the words below: the case runs as
+                       often, and must print the same
     or                 other lines may be printed after the last call, in place of those above: they follow
+    each DIRECTION     (of graph_calls, with no other call) walks in this direction from each two nodes, by each of four rules
+    answers N DIRECTION NODES
+                       (the same) a walk from these nodes for each set of accepted offers; there are N complete runs of offers
+                       with these answers in all, of which what was offered is one, and all have the result of the walk
 
 Lines that begin with '- ' are what a visitor was asked. Those that stand together may come in any order; in the order in
-which they came they must be a run of offers by the rules (judge.py).
+which they came they must be a run of offers by the rules (judge.py). What a walk read, and what is printed after a call of
+`each` and `answers`, is left to the judge alone. The program of the name `judge` is judge.py, whose standard input is the row
+file.
 """
 import codecs
 import glob
+import itertools
 import os
 import shlex
 import subprocess
@@ -38,7 +48,10 @@ import tempfile
 import judge
 
 TOP = os.path.dirname(os.path.dirname(os.path.abspath(__file__)))
-FORMS = ('generic', 'lent', 'boxed', 'closure')
+# What words of calls stand for.
+FORMS = {b'FORM': ('generic', 'lent', 'boxed', 'closure'), b'EDGES': ('edges', 'copies'), b'OVER': ('graph', 'source', 'list'),
+         b'ANY': ('graph', 'source', 'list', 'explained')}
+RULES = ('all', 'none', 'alternate', 'first 2')
 SECONDS = 60
 
 
@@ -51,19 +64,28 @@ def content(path):
         return it.read()
 
 
+def chain(last):
+    """The row file of one package with a long chain of features."""
+    return ''.join(['package\tp\tworkspace\n', *(f'feature\t{it}\t{it + 1}\n' for it in range(last)), f'feature\t{last}\n']).encode()
+
+
 def program_of(name):
     """The path of a crate's program; PROGRAM in the environment names another one than that of `features`."""
+    if name == 'judge':
+        return f'{TOP}/tests/judge.py'
     built = f'{TOP}/crates/{name}/out/{name}'
     return os.path.abspath(os.environ.get('PROGRAM', built) if name == 'features' else built)
 
 
 class Case:
-    def __init__(self, place, program, words, rows):
-        self.place, self.program, self.words, self.rows = place, program, words, rows
+    def __init__(self, place, program, words, rows, last=b''):
+        self.place, self.program, self.words, self.rows, self.last = place, program, words, rows, last
         self.given, self.calls, self.of_file = None, [], None
         # the lists of lines that may be printed
         self.printed = [[]]
         self.line, self.status = '', 0
+        # whether the judge alone looks at what calls print, and how many complete runs there are
+        self.is_judged, self.runs = False, None
 
     def has_calls(self):
         return self.program.endswith('_calls')
@@ -79,6 +101,19 @@ class Case:
         for lines in self.printed:
             lines.append(f'< {line}')
 
+    def add_each(self, direction):
+        """Walks from each two nodes."""
+        self.is_judged = True
+        nodes = range(len(judge.Graph(self.rows).nodes))
+        for rule, node, other in itertools.product(RULES, nodes, nodes):
+            self.add_call(f'walk ANY {direction} {rule}: {node} {other}')
+
+    def add_answers(self, runs, direction, nodes):
+        """A walk for each set of accepted offers."""
+        self.is_judged, self.runs = True, int(runs)
+        for accepted in judge.answers_of(self.rows, direction):
+            self.add_call(f'walk ANY {direction} these {",".join(accepted)}'.rstrip() + f': {nodes}')
+
     def add_other(self):
         """The lines up to the last call may go on otherwise."""
         lines = self.printed[-1]
@@ -92,7 +127,7 @@ def all_paths():
 
 def cases_of(path):
     """The cases of one file."""
-    cases, rows, program, name = [], b'', 'features', os.path.relpath(path, TOP)
+    cases, rows, last, program, name = [], b'', b'', 'features', os.path.relpath(path, TOP)
     with open(path, encoding='utf-8', newline='\n') as it:
         lines = it.read().split('\n')
     at = 0
@@ -101,18 +136,24 @@ def cases_of(path):
         if line in ('rows', 'rows escaped'):
             end = lines.index('end', at)
             block, at = lines[at:end], end + 1
-            rows = ''.join(it + '\n' for it in block).encode() if line == 'rows' else unescaped(''.join(block))
+            last, rows = rows, ''.join(it + '\n' for it in block).encode() if line == 'rows' else unescaped(''.join(block))
+        elif line.startswith('rows chain '):
+            last, rows = rows, chain(int(line[11:]))
         elif line.startswith('rows of '):
-            rows = content(line[8:])
+            last, rows = rows, content(line[8:])
         elif line.startswith('program '):
             program = line[8:]
         elif line.startswith('$'):
             words = [unescaped(word) for word in shlex.split(line[1:])]
-            cases.append(Case(f'{name}:{at}', program, words, rows))
+            cases.append(Case(f'{name}:{at}', program, words, rows, last))
         elif line.startswith('with '):
             cases[-1].given = line[5:]
         elif line.startswith('< '):
             cases[-1].add_call(line[2:])
+        elif line.startswith('each '):
+            cases[-1].add_each(line[5:])
+        elif line.startswith('answers '):
+            cases[-1].add_answers(*line[8:].split(' ', 2))
         elif line == 'or':
             cases[-1].add_other()
         elif line.startswith('> of '):
@@ -127,10 +168,14 @@ def cases_of(path):
     return cases
 
 
+def forms_of(text):
+    """What the words of the text that have forms stand for, for each run; at most one of these words is there."""
+    return [{word: form} for word in FORMS if word in text.split() for form in FORMS[word]] or [{}]
+
+
 def in_form(text, form):
-    """The text with this form in place of FORM, as a word."""
-    lines = [[form.encode() if it == b'FORM' else it for it in line.split(b' ')] for line in text.split(b'\n')]
-    return b'\n'.join(b' '.join(words) for words in lines)
+    """The text with what the words of a form stand for."""
+    return b'\n'.join(b' '.join(form[it].encode() if it in form else it for it in line.split(b' ')) for line in text.split(b'\n'))
 
 
 class Run:
@@ -155,15 +200,30 @@ class Run:
     def fault(self, printed, said, status):
         """Why this isn't the wanted outcome, or None."""
         line = said if self.case.line is None else self.case.line.encode()
-        came = (sorted_runs(printed) if self.case.has_calls() else printed, said, status)
-        wanted = [(sorted_runs(out) if self.case.has_calls() else out, line, self.case.status) for out in self.outs]
+        came = (self.seen(printed), said, status)
+        wanted = [(self.seen(out), line, self.case.status) for out in self.outs]
         if came not in wanted:
             return f'{self.words}\n  wanted {" or ".join(map(str, wanted))}\n  came   {came}'
         return self.fault_of_offers(printed.decode().split('\n')[:-1])
 
+    def seen(self, printed):
+        """What of the printed text is compared."""
+        if not self.case.has_calls():
+            return printed
+        unseen = (b'read ', b'reads ') if self.case.program == 'graph_calls' else ()
+        lines = [it for it in printed.split(b'\n') if not it.startswith(unseen) and (it[:2] == b'< ' or not self.case.is_judged)]
+        return sorted_runs(b'\n'.join(lines))
+
     def fault_of_offers(self, lines):
         """Why what a visitor was asked isn't a run by the rules, or None."""
-        return judge.fault_of(self.case.rows, lines) if self.case.program == 'surface_calls' else None
+        if self.case.program == 'surface_calls':
+            return judge.fault_of(self.case.rows, lines)
+        if self.case.program != 'graph_calls':
+            return None
+        fault = judge.fault_of_walks(self.case.rows, lines)
+        if fault is None and self.case.runs is not None:
+            fault = judge.fault_of_all_runs(self.case.rows, lines, self.case.runs)
+        return fault
 
 
 def sorted_runs(text):
@@ -179,12 +239,12 @@ def sorted_runs(text):
 
 
 def runs_of(case, path):
-    """The runs of a case, whose row file is at this path."""
-    words = [path.encode() if word == b'FILE' else word for word in case.words]
+    """The runs of a case, whose row file is at this path, and the one before it beside it."""
+    paths = {b'FILE': path.encode(), b'LAST': f'{path}.last'.encode()}
+    words = [paths.get(word, word) for word in case.words]
     if case.has_calls():
         calls = ''.join(f'{call}\n' for call in case.calls).encode()
-        forms = FORMS if in_form(calls, 'x') != calls else FORMS[:1]
-        return [Run(case, words, in_form(calls, form), [in_form(out, form) for out in case.outs()]) for form in forms]
+        return [Run(case, words, in_form(calls, form), [in_form(out, form) for out in case.outs()]) for form in forms_of(calls)]
     runs = [Run(case, words, case.rows, case.outs())]
     if b'FILE' in case.words:
         runs.append(Run(case, [b'-' if word == b'FILE' else word for word in case.words], case.rows, case.outs()))

@@ -1,8 +1,20 @@
+#!/usr/bin/env python3
 """What the rules say of a run of offers, by plain functions over paths.
 
 `fault_of(rows, printed)` looks at what surface_calls printed over a row file, and judges each run of offers in it: each
-line that begins with '- ' is an offer with its answer, in the order in which the visitor was asked.
+line that begins with '- ' is an offer with its answer, in the order in which the visitor was asked. `fault_of_walks` does so
+with graph_calls, where an offer is the number of an edge and a letter: F for its full link, R and O for the halves of a weak
+edge.
+
+As a program it reads a row file from standard input, and shows what it takes for true:
+
+    judge.py ways DIRECTION                      the edges as the direction follows them: the ends, the letters of what is
+                                                 offered, and after an @ the gate that the optional half waits for
+    judge.py reads DIRECTION MEMBERS             how many reads a complete walk with these members makes, at least and at most
+    judge.py run DIRECTION NODES OFFERS          what is wrong with a run from these nodes, with commas between them, that
+                                                 accepts these offers, with commas between them
 """
+import sys
 from collections import namedtuple
 
 # One declaration of a package link: `platform` is None where it is for every one.
@@ -157,20 +169,26 @@ def tables_of(rows):
     return packages, list(links.values())
 
 
-def ways_of(graph, direction):
+def ways_of(graph, direction, is_numbered=False):
     """The edges as a direction follows them: the start and the far end of each unconditional one, and for each offer, by
-    its line, the start, the far end, the gate or None, and the line of the offer that comes before it or None."""
+    its line or by its edge's number and its letter, the start, the far end, the gate or None, and the offer that comes before
+    it or None."""
     free, offers = [], {}
-    for pair, asked in graph.edges.items():
+    for number, (pair, asked) in enumerate(graph.edges.items()):
         start, far = pair if direction == 'forward' else pair[::-1]
         if not asked:
             free.append((start, far))
         before = None
         for it in asked:
-            line = graph.line(pair, it)
-            offers[line] = (start, far, it.gate if direction == 'forward' else None, before)
-            before = line
+            name = f'{number}{letter_of(asked, it)}' if is_numbered else graph.line(pair, it)
+            offers[name] = (start, far, it.gate if direction == 'forward' else None, before)
+            before = name
     return free, offers
+
+
+def letter_of(asked, it):
+    """The letter of what is offered, one of those that are asked of an edge."""
+    return 'O' if it.gate is not None else 'R' if len(asked) > 1 else 'F'
 
 
 def reach(initials, steps):
@@ -183,34 +201,67 @@ def reach(initials, steps):
     return reached
 
 
-def fault_of_run(graph, direction, initials, run, members):
-    """Why a run isn't one by the rules, or None. The run is a list of pairs of an offer's line and its answer; its members
-    are nodes, or None where it ended before it was complete."""
-    free, offers = ways_of(graph, direction)
-    made, accepted = set(), []
+def least(initials, ways, accepted):
+    """The least set that holds the initial nodes and is closed under unconditional edges and these offers, of which one with a
+    gate leads on once the gate is in the set too."""
+    free, offers = ways
+    members, is_more = set(initials), True
+    while is_more:
+        found = {far for start, far in free if start in members}
+        for start, far, gate, _ in (offers[it] for it in accepted):
+            if start in members and (gate is None or gate in members):
+                found.add(far)
+        is_more = not found <= members
+        members |= found
+    return members
 
-    def is_due(line):
-        start, far, gate, before = offers[line]
-        reached = reach(initials, free + accepted)
-        return line not in made and start in reached and (gate is None or gate in reached) and (
-            before is None or before in made)
 
-    for line, answer in run:
-        if line not in offers:
-            return f'no such offer: {line}'
-        if not is_due(line):
-            return f'{"made twice" if line in made else "not due"}: {line}'
-        made.add(line)
-        if answer:
-            accepted.append(offers[line][:2])
-    if members is None:
-        return None
-    left = [line for line in offers if is_due(line)]
-    if left:
-        return f'left out: {left[0]}'
-    if members != sorted(reach(initials, free + accepted)):
-        return f'these are not the members: {members}'
+def accepted_in(run):
+    return [name for name, answer in run if answer]
+
+
+def reached_by(initials, ways, run):
+    """What paths over unconditional edges and the accepted offers of a run reach."""
+    free, offers = ways
+    return reach(initials, free + [offers[it][:2] for it in accepted_in(run)])
+
+
+def due_after(initials, ways, run):
+    """The offers that are due after a run."""
+    reached, made = reached_by(initials, ways, run), {name for name, _ in run}
+    return [name for name, (start, _, gate, before) in ways[1].items() if name not in made and start in reached and (
+        gate is None or gate in reached) and (before is None or before in made)]
+
+
+def fault_of_run(initials, ways, run, is_complete=True):
+    """Why a run isn't one by the rules, or None. The run is a list of pairs of an offer's name and its answer."""
+    for place, (name, _) in enumerate(run):
+        if name not in due_after(initials, ways, run[:place]):
+            return f'not due at {place}: {name}'
+    left = due_after(initials, ways, run) if is_complete else []
+    return f'left out: {left[0]}' if left else None
+
+
+def fault_of_members(initials, ways, run, members):
+    """Why these aren't what a complete run reaches, in order, or None: the ends of paths, and the least set for the accepted
+    offers and for those that it didn't refuse."""
+    refused = {name for name, answer in run if not answer}
+    for wanted in (reached_by(initials, ways, run), least(initials, ways, accepted_in(run)),
+                   least(initials, ways, [it for it in ways[1] if it not in refused])):
+        if members != sorted(wanted):
+            return f'these are not the members: {members}'
     return None
+
+
+def complete_runs(initials, ways, accepted):
+    """All complete runs in which exactly these offers are accepted."""
+    whole, begun = [], [[]]
+    while begun:
+        run = begun.pop()
+        due = due_after(initials, ways, run)
+        begun += [[*run, (name, name in accepted)] for name in due]
+        whole += [] if due else [run]
+    return whole
 
 
 def run_of(graph, direction, initials, lines):
@@ -252,7 +303,166 @@ def fault_of(rows, printed):
             members = [by_text.get(it) for it in rest[0].partition(':')[2].split()]
         else:
             return f'{call}: no end of a run: {rest}'
-        fault = fault_of_run(graph, direction, initials, run, members)
+        ways = ways_of(graph, direction)
+        fault = fault_of_run(initials, ways, run, members is not None)
+        if fault is None and members is not None:
+            fault = fault_of_members(initials, ways, run, members)
         if fault:
             return f'{call}: {fault}'
     return None
+
+
+def is_accepted(rule, before, name):
+    """Whether a rule accepts the offer after so many others."""
+    word, _, options = rule.partition(' ')
+    return {'all': True, 'none': False, 'first': before < int(options or 0) if word == 'first' else None,
+            'alternate': before % 2 == 0, 'these': name in options.split(',')}[word]
+
+
+def fault_of_reads(ways, members, read, count):
+    """Why a complete walk with these members doesn't read these nodes, one for each read, or None."""
+    if len(read) != count:
+        return f'{count} reads, of which {len(read)} were written down'
+    if not set(read) <= set(members):
+        return f'read: {sorted(set(read) - set(members))}'
+    fewest, most = reads_of(ways, members)
+    return None if fewest <= count <= most else f'{count} reads, in place of {fewest} to {most}'
+
+
+def reads_of(ways, members):
+    """How many reads a complete walk with these members makes, at least and at most: one for each edge that starts at one and,
+    beside these, one for each edge whose gate is one, and two for each member, which tell that no edge is left."""
+    free, offers = ways
+    edges = [start for start, _ in free] + [start for start, _, _, before in offers.values() if before is None]
+    fewest = sum(1 for start in edges if start in members)
+    return fewest, fewest + 2 * len(members) + sum(1 for _, _, gate, _ in offers.values() if gate is not None and gate in members)
+
+
+def fault_of_steps(initials, edges, run, members, steps):
+    """Why these steps don't explain the members, or None. A step is a node and why it is a member; `edges` has the start and
+    the far end of each unconditional edge, by number, and of each offer."""
+    reached = set()
+    for node, why in steps:
+        word, _, name = why.partition(' ')
+        start, far = edges.get(name, (None, None))
+        is_why = node in initials if word == 'initial' else start in reached and far == node
+        if not is_why or (word == 'offer') != (name in accepted_in(run)) or node in reached:
+            return f'no step: {node} {why}'
+        reached.add(node)
+    return None if sorted(reached) == members else f'not explained: {steps}'
+
+
+def parts_of(lines):
+    """The parts of what a walk printed: the nodes that were read, their count or None, and what stands between the lines
+    that have a word of their own, by these words."""
+    read = [int(line[5:]) for line in lines if line.startswith('read ')]
+    parts, word = {'offers': []}, 'offers'
+    for line in lines:
+        if line.startswith('- '):
+            parts[word].append(line[2:])
+        elif not line.startswith('read '):
+            word, _, rest = line.partition(' ')
+            parts[word] = [rest] if rest else []
+    return read, parts
+
+
+def fault_of_walk(graph, call, lines):
+    """Why these lines aren't those of a walk, or None."""
+    options, _, nodes = call.partition(': ')
+    _, over, direction, rule = options.split(' ', 3)
+    ways, initials = ways_of(graph, direction, True), {int(it) for it in nodes.split()}
+    read, parts = parts_of(lines)
+    run = [(name, word == 'yes') for name, word in (line.split(' ') for line in parts['offers'])]
+    if any(answer != is_accepted(rule, place, name) for place, (name, answer) in enumerate(run)):
+        return f'not the answers of the rule: {run}'
+    if 'members' not in parts:
+        return fault_of_run(initials, ways, run, False) if 'out' in parts else f'no end of a walk: {lines}'
+    members = [int(it) for line in parts['members'][:1] for it in line.split()]
+    fault = fault_of_run(initials, ways, run) or fault_of_members(initials, ways, run, members)
+    if fault is None and over != 'graph':
+        fault = fault_of_reads(ways, members, read, int(parts['reads'][0]))
+    if fault is None and over == 'explained':
+        steps = [(int(node), why) for node, _, why in (it.partition(' ') for it in parts['members'][1:])]
+        edges = {name: way[:2] for name, way in ways[1].items()}
+        for number, (pair, asked) in enumerate(graph.edges.items()):
+            if not asked:
+                edges[f'{number}'] = pair if direction == 'forward' else pair[::-1]
+        fault = fault_of_steps(initials, edges, run, members, steps)
+        if parts['refused'] != [name for name, answer in run if not answer]:
+            fault = f'not the refused offers: {parts["refused"]}'
+    return fault
+
+
+def walks_in(printed):
+    """The calls of walks among these lines, each with what follows it."""
+    calls = [place for place, line in enumerate(printed) if line.startswith('< ')]
+    for place, end in zip(calls, [*calls[1:], len(printed)]):
+        if printed[place].startswith('< walk '):
+            yield printed[place][2:], printed[place + 1:end]
+
+
+def fault_of_walks(rows, printed):
+    """Why a walk among these lines isn't one by the rules, or None."""
+    walks = list(walks_in(printed))
+    graph = Graph(rows) if walks else None
+    for call, lines in walks:
+        fault = fault_of_walk(graph, call, lines)
+        if fault:
+            return f'{call}: {fault}'
+    return None
+
+
+def answers_of(rows, direction):
+    """All sets of offers, each as a list."""
+    sets = [[]]
+    for name in ways_of(Graph(rows), direction, True)[1]:
+        sets += [[*one, name] for one in sets]
+    return sets
+
+
+def fault_of_all_runs(rows, printed, wanted):
+    """Why the walks of these lines, by lists of offers, aren't each one of all complete runs with its answers, with their one
+    result, or why there are not so many of these runs over all walks; or None."""
+    graph, count = Graph(rows), 0
+    for call, lines in walks_in(printed):
+        options, _, nodes = call.partition(': ')
+        _, _, direction, _, *accepted = options.split(' ')
+        ways, initials = ways_of(graph, direction, True), {int(it) for it in nodes.split()}
+        _, parts = parts_of(lines)
+        runs = complete_runs(initials, ways, accepted[0].split(',') if accepted else [])
+        if [(name, word == 'yes') for name, word in (line.split(' ') for line in parts['offers'])] not in runs:
+            return f'{call}: none of all runs: {lines}'
+        members = [int(it) for it in parts['members'][0].split()]
+        faults = [fault_of_members(initials, ways, run, members) for run in runs]
+        if any(faults):
+            return f'{call}: a run with another result: {runs[faults.index(next(filter(None, faults)))]}'
+        count += len(runs)
+    return None if count == wanted else f'{count} complete runs'
+
+
+def text_of_ways(graph, direction):
+    """The edges as a direction follows them, in one line."""
+    words = []
+    _, offers = ways_of(graph, direction, True)
+    for number, pair in enumerate(graph.edges):
+        start, far = pair if direction == 'forward' else pair[::-1]
+        letters = [it for it in 'FRO' if f'{number}{it}' in offers]
+        gates = [offers[f'{number}{it}'][2] for it in letters]
+        words.append(f'{start}-{far}{"".join(letters)}' + ''.join(f'@{it}' for it in gates if it is not None))
+    return ' '.join(words)
+
+
+def main():
+    _, what, direction, *words = sys.argv
+    graph = Graph(sys.stdin.buffer.read())
+    ways, numbers = ways_of(graph, direction, True), {int(it) for it in words[0].split(',')} if words else set()
+    if what == 'ways':
+        print(text_of_ways(graph, direction))
+    elif what == 'reads':
+        print(*reads_of(ways, numbers))
+    else:
+        print(fault_of_run(numbers, ways, [(it, True) for it in words[1].split(',')]) or 'complete')
+
+
+if __name__ == '__main__':
+    main()
