@@ -1,7 +1,9 @@
-//! Tests that cross all crates: what the program answers for small row files.
+//! Tests of the program's crate and of byte devices: runs over awkward devices, and texts of faults.
 #![tactic(auto)]
 
 #[cfg(test)]
-mod answers;
+mod devices;
 #[cfg(test)]
-mod program;
+mod runs;
+#[cfg(test)]
+mod texts;

@@ -2,7 +2,7 @@ use Rattle.std.proofs.Common.{◌≡◌, ℕ, ◌-◌, ◌<◌, ◌++◌, List, 
 use Rattle.std.proofs.Math.Seq.{take-length}
 use Rattle.std.proofs.lemmas.Grind.{common_steps}
 use Rattle.std.specs.Prelude.{slice_set, slice_index_or}
-use Rattle.tool_vectors.proofs.devices.TrickleByteInput.read.Goals as goal
+use Rattle.guppy_vectors.proofs.devices.TrickleByteInput.read.Goals as goal
 
 -- one byte moved to the front of the buffer
 one_byte : (rest buf : List ℕ) → 0 < length rest → 0 < length buf
