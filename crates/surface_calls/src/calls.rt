@@ -1,7 +1,7 @@
 //! Which call a line asks for.
 use crate::given::{cut, given_in, ids_of};
 use crate::out::Out;
-use crate::{items, look_ups, selections, sets, shown, told, visits};
+use crate::{cycles, in_set, items, look_ups, pairs, selections, sets, shown, told, visits};
 use guppy_features::{FeatureGraph, FeatureGraphData, FeatureGraphExt, FeatureId, PackageGraph};
 use std::alloc::{AllocError, Global};
 
@@ -22,6 +22,8 @@ fn plain_call(
         "verify" => look_ups::verify(out, features),
         "all" => told::tell_set(out, features.resolve_all(alloc)),
         "none" => told::tell_set(out, features.resolve_none(alloc)),
+        "in-all" => in_set::in_set(out, alloc, features.resolve_all(alloc), options)?,
+        "cycles" => cycles::cycles(out, alloc, features),
         "standard" => selections::standard(out, alloc, features, options),
         "select" => selections::select(out, alloc, features, options),
         "select-names" => selections::select_names(out, alloc, features, options)?,
@@ -67,7 +69,7 @@ fn call(
     features: FeatureGraph<'_>,
     words: &str,
     ids: &[FeatureId<'_>],
-) {
+) -> Result<(), AllocError> {
     let (name, options) = cut(words);
     match name {
         "set" => sets::set(out, alloc, features, ids),
@@ -82,8 +84,12 @@ fn call(
         "visit" | "twice" => visits::visit(out, alloc, features, words, ids),
         "select-ids" => selections::select_ids(out, alloc, features, options, ids),
         "items" => items::items(out, alloc, features, ids),
+        "pair" => pairs::pair(out, alloc, features, options, ids),
+        "tied" => pairs::tied(out, alloc, features, ids),
+        "in-set" => in_set::in_set(out, alloc, features.resolve_ids(alloc, ids), options)?,
         _ => feature_calls(out, alloc, features, name, ids),
     }
+    Ok(())
 }
 
 /// Makes the call of a line.
@@ -99,8 +105,7 @@ fn make_call(
     };
     let given = given_in(alloc, rest)?;
     let ids = ids_of(alloc, &given)?;
-    call(out, alloc, features, words, &ids);
-    Ok(())
+    call(out, alloc, features, words, &ids)
 }
 
 /// Makes the calls of a script, in order.

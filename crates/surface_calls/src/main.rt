@@ -5,11 +5,17 @@
 #![tactic(auto)]
 
 mod calls;
+mod cycles;
+mod ends;
 mod filters;
 mod given;
+mod in_set;
 mod items;
 mod look_ups;
+mod orders;
 mod out;
+mod pairs;
+mod parts;
 mod recorder;
 mod rules;
 mod selections;

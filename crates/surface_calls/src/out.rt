@@ -1,4 +1,5 @@
 //! Standard output.
+use guppy_features::FeatureId;
 use std::fmt;
 use std::io::{Stdout, Write};
 
@@ -34,5 +35,23 @@ impl Out {
     pub fn line<T: fmt::Display + Drop>(&mut self, text: T) {
         self.part(text);
         self.part("\n");
+    }
+
+    /// Writes a text and a number.
+    pub fn number(&mut self, before: &str, number: usize) {
+        self.part(before);
+        self.part(number);
+    }
+
+    /// Writes a text and an answer.
+    pub fn answer(&mut self, before: &str, answer: bool) {
+        self.part(before);
+        self.part(answer);
+    }
+
+    /// Writes a blank and an id.
+    pub fn id(&mut self, id: FeatureId<'_>) {
+        self.part(" ");
+        self.part(id);
     }
 }

@@ -50,11 +50,13 @@ fn declarations_word(declarations: LinkDeclarations) -> &'static str {
     }
 }
 
-/// Tells the ends of a link, its declarations, where it is for normal use, builds and development, and its package links.
-fn tell_link(out: &mut Out, link: ConditionalLink<'_>) {
+/// Tells the ends of a link, its declarations, where it is for normal use, builds and development, its package links, and
+/// whether it is for development alone.
+pub fn tell_link(out: &mut Out, link: ConditionalLink<'_>) {
     let (from, to) = link.endpoints();
-    out.part(format_args!("- {} ", from.feature_id()));
-    out.part(format_args!("{} ", to.feature_id()));
+    out.part(from.feature_id());
+    out.id(to.feature_id());
+    out.part(" ");
     out.part(declarations_word(link.declarations()));
     tell_status(out, link.normal());
     tell_status(out, link.build());
@@ -62,6 +64,7 @@ fn tell_link(out: &mut Out, link: ConditionalLink<'_>) {
     for package_link in link.package_links() {
         tell_package_link(out, package_link);
     }
+    out.part(if link.dev_only() { " dev-only" } else { "" });
 }
 
 /// Tells how a copy of the context answers for a link.
@@ -96,8 +99,8 @@ impl Recorder {
         let accepted = self.rule.accepts(self.calls, link);
         self.calls = self.calls.saturating_add(1);
         let out = &mut self.out;
+        out.part("- ");
         tell_link(out, link);
-        out.part(if link.dev_only() { " dev-only" } else { "" });
         let initial = cx.starts_from_initial(&link);
         out.part(if initial { " initial" } else { "" });
         tell_more(out, self.rule, cx, link);
