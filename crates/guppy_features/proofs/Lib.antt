@@ -16,4 +16,5 @@ pub mod OrderedLemmas
 pub mod PartLemmas
 pub mod SplitLemmas
 pub mod PackageSetLemmas
+pub mod PackageViewLemmas
 pub mod TiedLemmas

@@ -13,6 +13,7 @@ pub mod Filters
 pub mod ListedFilters
 pub mod Packages
 pub mod PackageLists
+pub mod PackageViews
 pub mod MemberPackages
 pub mod Ordered
 pub mod Parts

@@ -1,3 +1,4 @@
 pub mod CycleSteps
 pub mod MemberLabels
+pub mod PackageSteps
 pub mod Sorting

@@ -47,7 +47,7 @@ pub use package_links::PackageLinks;
 pub use query::FeatureQuery;
 pub use set::{
     ConditionalLinks, FeatureIds, FeatureSet, Features, IdsByNode, InitialPackages, Links,
-    RootFeatures, RootIds,
+    PackagesWithFeatures, RootFeatures, RootIds,
 };
 pub use standard_features::StandardFeatures;
 pub use visitor::{FeatureLinkObject, FeatureLinkVisitor};

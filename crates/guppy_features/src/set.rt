@@ -13,6 +13,7 @@ mod lists;
 mod ordered;
 mod package_set;
 mod packages;
+mod packages_with_features;
 mod parts;
 mod roots;
 
@@ -23,6 +24,7 @@ use guppy_support::{IxBitSet, Ones};
 pub use links::{ConditionalLinks, Links};
 pub use ordered::{FeatureIds, Features};
 pub use packages::InitialPackages;
+pub use packages_with_features::PackagesWithFeatures;
 pub use roots::{RootFeatures, RootIds};
 use std::fmt;
 use std::iter::FusedIterator;
