@@ -59,6 +59,25 @@ fn packages(out: &mut Out, alloc: Global, set: &FeatureSet<'_>, direction: Depen
     }
 }
 
+/// Tells the features that a set has of one package, or the error.
+fn tell_of_package(out: &mut Out, list: Result<FeatureList<'_>, Error<'_>>) {
+    match list {
+        Ok(list) => {
+            out.part(list.package().id().repr());
+            out.part(": ");
+            out.line(list.display_features());
+        }
+        Err(error) => tell_error(out, error),
+    }
+}
+
+/// The set's features, package by package.
+fn by_package(out: &mut Out, alloc: Global, set: &FeatureSet<'_>, direction: DependencyDirection) {
+    for list in set.packages_with_features(alloc, direction) {
+        tell_of_package(out, list);
+    }
+}
+
 /// Makes a call that takes a direction.
 fn directed_call(
     out: &mut Out,
@@ -80,6 +99,7 @@ fn directed_call(
         "filter-partition" => parts::filter_partition(out, alloc, set, direction),
         "query" => tell(out, alloc, set.to_feature_query(alloc, direction)),
         "packages" => packages(out, alloc, set, direction),
+        "by-package" => by_package(out, alloc, set, direction),
         "ends" => ends::ends(out, alloc, set, direction),
         _ => out.line("no such call"),
     }
