@@ -279,6 +279,46 @@ def run_of(graph, direction, initials, lines):
     return run
 
 
+def told_runs(lines):
+    """The runs that a call tells, each with the line that ends it, and how many calls of the visitor it tells; or None."""
+    runs, shown = [], []
+    for line in lines:
+        if line.startswith('- '):
+            shown.append(line)
+        elif line.startswith('asked ') and not shown:
+            return (runs, int(line[6:])) if line == lines[-1] else None
+        else:
+            runs.append((shown, line))
+            shown = []
+    # what was refused before the visitor was made tells no number
+    return (runs, 0) if runs == [([], 'out of memory')] and not shown else None
+
+
+def fault_of_visit(graph, by_text, call, ids, lines):
+    """Why what a call `visit` or `twice` tells isn't runs of offers by the rules, or None."""
+    name, _, direction = call.split()[:3]
+    initials = {by_text[it] for it in ids}
+    told = told_runs(lines)
+    least = 1 if name == 'visit' or lines[:1] == ['out of memory'] else 2
+    if told is None or not least <= len(told[0]) <= (1 if name == 'visit' else 2):
+        return f'{call}: no end of a run: {lines}'
+    runs, asked = told
+    if asked != sum(len(shown) for shown, _ in runs):
+        return f'{call}: asked {asked} times'
+    ways = ways_of(graph, direction)
+    for shown, end in runs:
+        run = run_of(graph, direction, initials, shown)
+        if isinstance(run, str):
+            return f'{call}: no such offer: {run}'
+        is_whole = end != 'out of memory'
+        fault = fault_of_run(initials, ways, run, is_whole)
+        if fault is None and is_whole:
+            fault = fault_of_members(initials, ways, run, [by_text.get(it) for it in end.partition(':')[2].split()])
+        if fault:
+            return f'{call}: {fault}'
+    return None
+
+
 def fault_of(rows, printed):
     """Why a run of offers among these lines isn't one by the rules, or None."""
     graph = Graph(rows)
@@ -289,26 +329,11 @@ def fault_of(rows, printed):
     for place, end in zip(calls, [*calls[1:], len(printed)]):
         call, _, words = printed[place][2:].partition(': ')
         ids = [word if '/' in word else f'{word}/[base]' for word in words.split()]
-        if not call.startswith('visit ') or any(it not in by_text for it in ids):
+        if not call.startswith(('visit ', 'twice ')) or any(it not in by_text for it in ids):
             continue
-        direction, initials = call.split()[2], {by_text[it] for it in ids}
-        shown = [line for line in printed[place + 1:end] if line.startswith('- ')]
-        rest = printed[place + 1 + len(shown):end]
-        run = run_of(graph, direction, initials, shown)
-        if isinstance(run, str):
-            return f'{call}: no such offer: {run}'
-        if rest == ['out of memory', f'asked {len(run)}'] or (rest == ['out of memory'] and not run):
-            members = None
-        elif len(rest) == 2 and ':' in rest[0] and rest[1] == f'asked {len(run)}':
-            members = [by_text.get(it) for it in rest[0].partition(':')[2].split()]
-        else:
-            return f'{call}: no end of a run: {rest}'
-        ways = ways_of(graph, direction)
-        fault = fault_of_run(initials, ways, run, members is not None)
-        if fault is None and members is not None:
-            fault = fault_of_members(initials, ways, run, members)
+        fault = fault_of_visit(graph, by_text, call, ids, printed[place + 1:end])
         if fault:
-            return f'{call}: {fault}'
+            return fault
     return None
 
 

@@ -1,7 +1,9 @@
 //! Which call a line asks for.
 use crate::given::{cut, given_in, ids_of};
 use crate::out::Out;
-use crate::{cycles, in_set, items, look_ups, pairs, selections, sets, shown, told, visits};
+use crate::{
+    cycles, in_set, items, listed, look_ups, pairs, selections, sets, shown, told, visits,
+};
 use guppy_features::{FeatureGraph, FeatureGraphData, FeatureGraphExt, FeatureId, PackageGraph};
 use std::alloc::{AllocError, Global};
 
@@ -26,7 +28,7 @@ fn plain_call(
         "cycles" => cycles::cycles(out, alloc, features),
         "standard" => selections::standard(out, alloc, features, options),
         "select" => selections::select(out, alloc, features, options),
-        "select-names" => selections::select_names(out, alloc, features, options)?,
+        "select-names" => listed::select_names(out, alloc, features, options)?,
         _ => out.line("no such call"),
     }
     Ok(())
@@ -82,7 +84,7 @@ fn call(
         "copy" => sets::clone(out, alloc, features, options, ids),
         "shown" => shown::shown(out, alloc, features, ids),
         "visit" | "twice" => visits::visit(out, alloc, features, words, ids),
-        "select-ids" => selections::select_ids(out, alloc, features, options, ids),
+        "select-ids" => listed::select_ids(out, alloc, features, options, ids),
         "items" => items::items(out, alloc, features, ids),
         "pair" => pairs::pair(out, alloc, features, options, ids),
         "tied" => pairs::tied(out, alloc, features, ids),

@@ -2,12 +2,14 @@
 ghost use Rattle.guppy_features.specs.Filters.{MayAskEach, workspace_names};
 ghost use Rattle.guppy_features.specs.Views.{graph_of};
 
-use guppy_features::{FeatureFilter, FeatureFilterObject, FeatureGraph, FeatureId};
+use guppy_features::{
+    FeatureFilter, FeatureFilterObject, FeatureGraph, FeatureId, StandardFeatures,
+};
 use std::cell::Cell;
 use std::rc::Rc;
 
 /// Counts what another filter is asked.
-#[derive(Drop)]
+#[derive(Clone, Copy)]
 pub struct Counting<B> {
     pub base: B,
     pub asked: u64,
@@ -103,6 +105,25 @@ impl FeatureFilterObject for SharedChooser {
     fn accept_any(&mut self, graph: &FeatureGraph<'_>, feature_id: FeatureId<'_>) -> bool {
         let accepted = self.chooser.answer(graph, feature_id);
         self.asked.set(self.chooser.asked);
+        accepted
+    }
+}
+
+/// A standard filter for a box, whose count another place keeps too.
+#[derive(Drop)]
+pub struct SharedStandard {
+    pub filter: Counting<StandardFeatures>,
+    pub asked: Rc<Cell<u64>>,
+}
+
+impl FeatureFilterObject for SharedStandard {
+    ghost can_accept_any = { λ _ _ _. Unit {0} };
+
+    ghost accept_any_gives = { λ _ _ _ _ _. Unit {0} };
+
+    fn accept_any(&mut self, graph: &FeatureGraph<'_>, feature_id: FeatureId<'_>) -> bool {
+        let accepted = self.filter.accept(graph, feature_id);
+        self.asked.set(self.filter.asked);
         accepted
     }
 }

@@ -11,6 +11,7 @@ mod filters;
 mod given;
 mod in_set;
 mod items;
+mod listed;
 mod look_ups;
 mod orders;
 mod out;

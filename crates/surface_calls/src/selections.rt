@@ -1,21 +1,21 @@
 //! Calls that select features of the workspace.
-use crate::filters::{Choice, Chooser, Counting, SharedChooser};
-use crate::given::{cut, words_of};
+use crate::filters::{Choice, Chooser, Counting, SharedChooser, SharedStandard};
+use crate::given::cut;
 use crate::out::Out;
 use crate::sets::tell;
 use guppy_features::{
-    Error, FeatureFilterFn, FeatureFilterObject, FeatureGraph, FeatureId, FeatureQuery,
-    StandardFeatures, feature_id_filter, named_feature_filter,
+    Error, FeatureFilter, FeatureFilterFn, FeatureFilterObject, FeatureGraph, FeatureId,
+    FeatureQuery, StandardFeatures,
 };
-use std::alloc::{AllocError, Global};
+use std::alloc::Global;
 use std::cell::Cell;
 use std::rc::Rc;
 
 /// A query, or why there is none.
-type Selected<'g> = Result<FeatureQuery<'g>, Error<'g>>;
+pub type Selected<'g> = Result<FeatureQuery<'g>, Error<'g>>;
 
 /// Tells the features that were selected and what they resolve to, and how often the filter was asked.
-fn tell_selected(out: &mut Out, alloc: Global, selected: Selected<'_>, asked: u64) {
+pub fn tell_selected(out: &mut Out, alloc: Global, selected: Selected<'_>, asked: u64) {
     tell(out, alloc, selected);
     out.line(format_args!("asked {asked}"));
 }
@@ -29,13 +29,79 @@ fn standard_of(word: &str) -> StandardFeatures {
     }
 }
 
-/// What a standard filter selects.
-pub fn standard(out: &mut Out, alloc: Global, features: FeatureGraph<'_>, word: &str) {
+/// What a standard filter selects that is lent once more.
+fn standard_lent<'g>(
+    alloc: Global,
+    features: FeatureGraph<'g>,
+    filter: &mut Counting<StandardFeatures>,
+) -> Selected<'g> {
+    let mut again = filter;
+    features.query_workspace(alloc, &mut again)
+}
+
+/// Whether the graph has the feature and the filter accepts it.
+fn accepts(
+    filter: &mut Counting<StandardFeatures>,
+    graph: &FeatureGraph<'_>,
+    id: FeatureId<'_>,
+) -> bool {
+    graph.contains(id) && filter.accept(graph, id)
+}
+
+/// What a closure selects that asks a standard filter of the features that there are.
+fn standard_by_closure<'g>(
+    alloc: Global,
+    features: FeatureGraph<'g>,
+    filter: &mut Counting<StandardFeatures>,
+) -> Selected<'g> {
+    let mut own = *filter;
+    let mut by_closure = FeatureFilterFn::new(|graph, id| accepts(&mut own, graph, id));
+    let selected = features.query_workspace(alloc, &mut by_closure);
+    drop(by_closure);
+    *filter = own;
+    selected
+}
+
+/// What a standard filter selects in a box, whose count is kept outside too.
+fn standard_counted<'g>(
+    alloc: Global,
+    features: FeatureGraph<'g>,
+    filter: Counting<StandardFeatures>,
+    count: &Rc<Cell<u64>>,
+) -> Selected<'g> {
+    let asked = count.clone()?;
+    let mut boxed: Box<dyn FeatureFilterObject> = Box::new(
+        alloc,
+        SharedStandard { filter, asked },
+    )?;
+    features.query_workspace(alloc, &mut boxed)
+}
+
+/// What a standard filter selects in a box.
+fn standard_boxed<'g>(
+    alloc: Global,
+    features: FeatureGraph<'g>,
+    filter: &mut Counting<StandardFeatures>,
+) -> Selected<'g> {
+    let count = Rc::new(alloc, Cell::new(0u64))?;
+    let selected = standard_counted(alloc, features, *filter, &count);
+    filter.asked = count.get();
+    selected
+}
+
+/// What a standard filter selects, by its form and its name.
+pub fn standard(out: &mut Out, alloc: Global, features: FeatureGraph<'_>, options: &str) {
+    let (form, word) = cut(options);
     let mut filter = Counting {
         base: standard_of(word),
         asked: 0,
     };
-    let selected = features.query_workspace(alloc, &mut filter);
+    let selected = match form {
+        "lent" => standard_lent(alloc, features, &mut filter),
+        "boxed" => standard_boxed(alloc, features, &mut filter),
+        "closure" => standard_by_closure(alloc, features, &mut filter),
+        _ => features.query_workspace(alloc, &mut filter),
+    };
     tell_selected(out, alloc, selected, filter.asked);
 }
 
@@ -106,60 +172,4 @@ pub fn select(out: &mut Out, alloc: Global, features: FeatureGraph<'_>, options:
     };
     let selected = in_form(alloc, features, form, &mut chooser);
     tell_selected(out, alloc, selected, chooser.asked);
-}
-
-/// By the named features of these names, over a base.
-fn by_names<'g>(
-    alloc: Global,
-    features: FeatureGraph<'g>,
-    names: &[&'g str],
-    base: &mut Chooser,
-) -> Selected<'g> {
-    let mut filter = named_feature_filter(alloc, base, names)?;
-    features.query_workspace(alloc, &mut filter)
-}
-
-/// What a choice and a list of names select.
-pub fn select_names(
-    out: &mut Out,
-    alloc: Global,
-    features: FeatureGraph<'_>,
-    options: &str,
-) -> Result<(), AllocError> {
-    let (choice, listed) = cut(options);
-    let names = words_of(alloc, listed)?;
-    let mut base = Chooser {
-        choice: Choice::of(choice),
-        asked: 0,
-    };
-    let selected = by_names(alloc, features, &names, &mut base);
-    tell_selected(out, alloc, selected, base.asked);
-    Ok(())
-}
-
-/// By the features of these ids, over a base.
-fn by_ids<'g>(
-    alloc: Global,
-    features: FeatureGraph<'g>,
-    ids: &[FeatureId<'g>],
-    base: &mut Chooser,
-) -> Selected<'g> {
-    let mut filter = feature_id_filter(alloc, base, ids)?;
-    features.query_workspace(alloc, &mut filter)
-}
-
-/// What a choice and a list of ids select.
-pub fn select_ids<'g>(
-    out: &mut Out,
-    alloc: Global,
-    features: FeatureGraph<'g>,
-    choice: &str,
-    ids: &[FeatureId<'g>],
-) {
-    let mut base = Chooser {
-        choice: Choice::of(choice),
-        asked: 0,
-    };
-    let selected = by_ids(alloc, features, ids, &mut base);
-    tell_selected(out, alloc, selected, base.asked);
 }
