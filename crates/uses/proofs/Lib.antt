@@ -1,0 +1,3 @@
+mod Named
+mod Selected
+mod Tests

@@ -1,0 +1,61 @@
+//! What a feature brings in, and who brings it in.
+ghost use Rattle.std.specs.Prelude.{◌≡◌, ◌↔◌, ℕ, IsTrue, IfOk};
+ghost use Rattle.guppy_support.specs.Bits.{has};
+ghost use Rattle.feature_labels.specs.Names.{id_of};
+ghost use Rattle.guppy_features.specs.Views.{graph_of, tables_of_graph};
+ghost use Rattle.uses.specs.Answers.{IsLedTo};
+
+use crate::failure::Failure;
+use crate::out::Out;
+use guppy_features::{
+    DependencyDirection, Error, FeatureGraph, FeatureId, FeatureLabel, FeatureSet, PackageId,
+};
+use std::alloc::Global;
+
+/// The features to which a feature leads over edges, whatever platforms these are for; the feature itself is among them.
+pub fn brings_in<'g, 'a>(
+    alloc: Global,
+    graph: FeatureGraph<'g>,
+    id: FeatureId<'a>,
+) -> Result<FeatureSet<'g>, Error<'a>>
+    ensures graph { IfOk result (λ set. set.graph ≡ graph_of graph.entry) }
+    ensures exact { IfOk result (λ set. (n : ℕ) → IsTrue (has set.members n) ↔ IsLedTo (tables_of_graph graph.entry) DependencyDirection.Forward (id_of id.entry) n) }
+{
+    let query = graph.query_forward(alloc, &[id])?;
+    query.resolve(alloc)
+}
+
+/// The features that lead to a feature over edges: why it is on. The feature itself is among them.
+pub fn brought_in_by<'g, 'a>(
+    alloc: Global,
+    graph: FeatureGraph<'g>,
+    id: FeatureId<'a>,
+) -> Result<FeatureSet<'g>, Error<'a>>
+    ensures graph { IfOk result (λ set. set.graph ≡ graph_of graph.entry) }
+    ensures exact { IfOk result (λ set. (n : ℕ) → IsTrue (has set.members n) ↔ IsLedTo (tables_of_graph graph.entry) DependencyDirection.Reverse (id_of id.entry) n) }
+{
+    let query = graph.query_reverse(alloc, &[id])?;
+    query.resolve(alloc)
+}
+
+/// Both, for two features.
+pub fn show(out: &mut Out, alloc: Global, graph: FeatureGraph<'_>) -> Result<(), Failure> {
+    let main = PackageId::new(alloc, "main")?;
+    let union = FeatureId::new(&main, FeatureLabel::Named("smallvec-union"));
+    out.set(
+        "main/smallvec-union brings in",
+        &brings_in(alloc, graph, union)?,
+    );
+    show_reverse(out, alloc, graph)
+}
+
+/// The features that bring in one of a dependency.
+fn show_reverse(out: &mut Out, alloc: Global, graph: FeatureGraph<'_>) -> Result<(), Failure> {
+    let sv = PackageId::new(alloc, "sv")?;
+    let base = FeatureId::new(&sv, FeatureLabel::Base);
+    out.set(
+        "sv/[base] is brought in by",
+        &brought_in_by(alloc, graph, base)?,
+    );
+    Ok(())
+}

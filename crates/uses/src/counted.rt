@@ -1,0 +1,81 @@
+//! A filter that counts what it is asked, under the filters over lists.
+use crate::failure::Failure;
+use crate::out::Out;
+use guppy_features::{
+    Error, FeatureFilter, FeatureGraph, FeatureId, FeatureLabel, FeatureQuery, PackageId,
+    StandardFeatures, feature_id_filter, named_feature_filter,
+};
+use std::alloc::Global;
+
+/// Asks another filter, and counts what it is asked itself.
+#[derive(Drop)]
+pub struct Counted<B> {
+    pub base: B,
+    pub asked: u64,
+}
+
+impl<'g, B: FeatureFilter<'g>> FeatureFilter<'g> for Counted<B> {
+    // it may be asked what its base may be asked, and answers as its base does
+    ghost can_accept = { λ s g i. B.can_accept s.base g i };
+
+    ghost accept_gives = { λ s g i r t. B.accept_gives s.base g i r t.base };
+
+    fn accept(&mut self, graph: &FeatureGraph<'g>, feature_id: FeatureId<'g>) -> bool {
+        self.asked = self.asked.saturating_add(1);
+        self.base.accept(graph, feature_id)
+    }
+}
+
+/// A counting filter that accepts the base of each package.
+type CountedBases = Counted<StandardFeatures>;
+
+/// The query of the workspace's bases and of the named features of these names.
+fn by_names<'g>(
+    alloc: Global,
+    graph: FeatureGraph<'g>,
+    names: &[&'g str],
+    base: &mut CountedBases,
+) -> Result<FeatureQuery<'g>, Error<'g>> {
+    let mut filter = named_feature_filter(alloc, base, names)?;
+    graph.query_workspace(alloc, &mut filter)
+}
+
+/// The query of the workspace's bases and of the features of these ids.
+fn by_ids<'g>(
+    alloc: Global,
+    graph: FeatureGraph<'g>,
+    ids: &[FeatureId<'g>],
+    base: &mut CountedBases,
+) -> Result<FeatureQuery<'g>, Error<'g>> {
+    let mut filter = feature_id_filter(alloc, base, ids)?;
+    graph.query_workspace(alloc, &mut filter)
+}
+
+/// What is selected by names.
+pub fn show(out: &mut Out, alloc: Global, graph: FeatureGraph<'_>) -> Result<(), Failure> {
+    let mut counted = Counted {
+        base: StandardFeatures::None,
+        asked: 0,
+    };
+    let query = by_names(alloc, graph, &["smallvec"], &mut counted)?;
+    out.set("selected by names", query.initials());
+    out.part("asked ");
+    out.line(counted.asked);
+    show_by_ids(out, alloc, graph, &mut counted)
+}
+
+/// What is selected by ids, with the count of a filter that was asked before.
+fn show_by_ids(
+    out: &mut Out,
+    alloc: Global,
+    graph: FeatureGraph<'_>,
+    counted: &mut CountedBases,
+) -> Result<(), Failure> {
+    let main = PackageId::new(alloc, "main")?;
+    let id = FeatureId::new(&main, FeatureLabel::OptionalDependency("smallvec"));
+    let query = by_ids(alloc, graph, &[id], counted)?;
+    out.set("selected by ids", query.initials());
+    out.part("asked ");
+    out.line(counted.asked);
+    Ok(())
+}

@@ -1,0 +1,41 @@
+//! The links between features, and the cycles among these.
+use crate::failure::Failure;
+use crate::out::Out;
+use guppy_features::{DependencyDirection, FeatureGraph, FeatureId};
+use std::alloc::Global;
+
+/// The features of a cycle, on a line.
+fn show_cycle(out: &mut Out, ids: &[FeatureId<'_>]) {
+    out.part("cycle:");
+    for id in ids {
+        out.id(*id);
+    }
+    out.line("");
+}
+
+/// Each conditional link of the graph, with the features at its ends, and whether it is for development alone. An edge
+/// within a package, as from a feature to its base, is no such link.
+fn show_links(out: &mut Out, alloc: Global, graph: FeatureGraph<'_>) -> Result<(), Failure> {
+    let all = graph.resolve_all(alloc)?;
+    for link in all.conditional_links(DependencyDirection::Forward) {
+        let (from, to) = link.endpoints();
+        out.part("link:");
+        out.id(from.feature_id());
+        out.id(to.feature_id());
+        out.line(if link.dev_only() {
+            " for development"
+        } else {
+            ""
+        });
+    }
+    Ok(())
+}
+
+/// The links, and then the cycles.
+pub fn show(out: &mut Out, alloc: Global, graph: FeatureGraph<'_>) -> Result<(), Failure> {
+    show_links(out, alloc, graph)?;
+    for cycle in graph.cycles().all_cycles(alloc) {
+        show_cycle(out, &cycle?);
+    }
+    Ok(())
+}

@@ -1,0 +1,96 @@
+//! The library in use: examples, one file each, over small texts of rows. The program runs them all, and prints what they answer.
+//!
+//! - `brings_in`: from rows to a graph, what a feature brings in, and who brings it in.
+//! - `workspace`: what the workspace selects by default and by names, and what that brings in.
+//! - `one_platform`: a visitor that follows the links of one platform.
+//! - `one_test`: a visitor that counts, in each form in which a visitor can be handed over.
+//! - `links_and_cycles`: the links between features, and the cycles among these.
+//! - `difference`: what default features bring in besides, package by package.
+//! - `counted`: a filter that counts what it is asked, under the filters over lists.
+#![tactic(auto)]
+
+mod brings_in;
+mod counted;
+mod difference;
+mod failure;
+mod links_and_cycles;
+mod one_platform;
+mod one_test;
+mod out;
+mod rows;
+mod workspace;
+
+use crate::failure::Failure;
+use crate::out::Out;
+use guppy_features::{FeatureGraph, FeatureGraphData, FeatureGraphExt};
+use row_files::graph_of;
+use std::alloc::Global;
+use std::process::ExitCode;
+
+/// Which example.
+#[derive(Clone, Copy)]
+enum Example {
+    BringsIn,
+    Workspace,
+    OnePlatform,
+    OneTest,
+    LinksAndCycles,
+    Difference,
+    Counted,
+}
+
+/// The examples, each with a text of rows.
+const EXAMPLES: &[(Example, &str); 8] = &[
+    (Example::BringsIn, rows::WEAK_ITEM),
+    (Example::Workspace, rows::DEFAULTS),
+    (Example::OnePlatform, rows::TWO_PLATFORMS),
+    (Example::OneTest, rows::CYCLE_BY_TESTS),
+    (Example::LinksAndCycles, rows::CYCLE_BY_TESTS),
+    (Example::LinksAndCycles, rows::TWO_CYCLES),
+    (Example::Difference, rows::DEFAULTS),
+    (Example::Counted, rows::WEAK_ITEM),
+];
+
+/// Runs an example over a graph.
+fn show_over(
+    out: &mut Out,
+    alloc: Global,
+    example: Example,
+    graph: FeatureGraph<'_>,
+) -> Result<(), Failure> {
+    match example {
+        Example::BringsIn => brings_in::show(out, alloc, graph),
+        Example::Workspace => workspace::show(out, alloc, graph),
+        Example::OnePlatform => one_platform::show(out, alloc, graph),
+        Example::OneTest => one_test::show(out, alloc, graph),
+        Example::LinksAndCycles => links_and_cycles::show(out, alloc, graph),
+        Example::Difference => difference::show(out, alloc, graph),
+        Example::Counted => counted::show(out, alloc, graph),
+    }
+}
+
+/// Makes the graph of a text of rows, and runs an example over it. A row file's bytes are read in the same way. Whoever has
+/// rows of his own hands them to `PackageGraph::from_rows` in place of `graph_of`.
+fn show(out: &mut Out, alloc: Global, example: Example, text: &str) -> Result<(), Failure> {
+    let packages = graph_of(alloc, text.as_bytes())?;
+    let built = FeatureGraphData::build(alloc, &packages, 1)?;
+    show_over(out, alloc, example, packages.feature_graph(&built))
+}
+
+/// Runs all examples, in order.
+fn show_all(out: &mut Out, alloc: Global) -> Result<(), Failure> {
+    for (example, text) in EXAMPLES {
+        show(out, alloc, *example, text)?;
+    }
+    Ok(())
+}
+
+fn main(rt: HostRuntime) -> ExitCode {
+    let mut out = Out::new(rt.stdout());
+    let shown = show_all(&mut out, rt.alloc());
+    if shown.is_err() || out.has_failed() {
+        ExitCode::FAILURE
+    } else {
+        ExitCode::SUCCESS
+    }
+}

@@ -1,0 +1,145 @@
+//! One visitor in each form in which it can be handed over: itself, lent, in a box among others, as a closure.
+ghost use Rattle.std.specs.Prelude.{◌≡◌, ◌↔◌, ℕ, IsTrue, IfOk};
+ghost use Rattle.guppy_support.specs.Bits.{has};
+ghost use Rattle.walk_engine.specs.Walks.{Least};
+ghost use Rattle.guppy_features.specs.LinkViews.{link_of};
+ghost use Rattle.guppy_features.specs.Visits.{query_content};
+ghost use Rattle.uses.specs.Answers.{is_shipped, by_links};
+
+use crate::failure::Failure;
+use crate::out::Out;
+use guppy_features::{
+    ConditionalLink, DependencyKind, Error, FeatureGraph, FeatureId, FeatureLabel,
+    FeatureLinkContext, FeatureLinkObject, FeatureLinkVisitor, FeatureQuery, FeatureSet, PackageId,
+    laws,
+};
+use std::alloc::Global;
+
+/// Follows what is shipped, which is the links that aren't for development alone, and counts the links that it is shown.
+#[derive(Clone, Copy)]
+pub struct Shipped {
+    pub calls: u64,
+}
+
+impl Shipped {
+    /// Counts a link, and answers whether it is followed.
+    fn answer(&mut self, link: ConditionalLink<'_>) -> bool
+        ensures { result ≡ is_shipped (link_of link.entry) }
+    {
+        self.calls = self.calls.saturating_add(1);
+        !link.dev_only()
+    }
+}
+
+impl<'g> FeatureLinkVisitor<'g> for Shipped {
+    ghost can_visit = { λ _ _ _. Unit {0} };
+
+    ghost visit_gives = { λ _ _ l answer _. answer ≡ is_shipped l };
+
+    fn visit_link(&mut self, _: &FeatureLinkContext<'g>, link: ConditionalLink<'g>) -> bool {
+        self.answer(link)
+    }
+}
+
+// what goes into a box implements this trait
+impl FeatureLinkObject for Shipped {
+    ghost can_visit_any = { λ _ _ _. Unit {0} };
+
+    ghost visit_any_gives = { λ _ _ l answer _. answer ≡ is_shipped l };
+
+    fn visit_any(&mut self, _: &FeatureLinkContext<'_>, link: ConditionalLink<'_>) -> bool {
+        self.answer(link)
+    }
+}
+
+/// Follows the links that are for one kind of dependency on some platform.
+#[derive(Clone, Copy)]
+pub struct OfKind(DependencyKind);
+
+impl FeatureLinkObject for OfKind {
+    ghost can_visit_any = { λ _ _ _. Unit {0} };
+
+    ghost visit_any_gives = { λ _ _ _ _ _. Unit {0} };
+
+    fn visit_any(&mut self, _: &FeatureLinkContext<'_>, link: ConditionalLink<'_>) -> bool {
+        link.status_for_kind(self.0).is_present()
+    }
+}
+
+/// What is shipped of what a query brings in. The visitor's count has no part in its answers, so the set is the same however
+/// often the visitor was asked before.
+pub fn by_reference<'g>(
+    alloc: Global,
+    query: FeatureQuery<'g>,
+    visitor: &mut Shipped,
+) -> Result<FeatureSet<'g>, Error<'g>>
+    ensures { IfOk result (λ set. (n : ℕ) → IsTrue (has set.members n)
+        ↔ Least (query_content query.entry) (has query.entry.initials) (by_links is_shipped query.entry.graph) n) }
+{
+    laws::visitor_agrees_by_answer::<Shipped>();
+    query.resolve_with(alloc, visitor)
+}
+
+/// The same by a visitor that is lent once more: whoever holds a `&mut` of a visitor has a visitor.
+pub fn by_loan<'g>(
+    alloc: Global,
+    query: FeatureQuery<'g>,
+    visitor: &mut Shipped,
+) -> Result<FeatureSet<'g>, Error<'g>>
+    ensures { IfOk result (λ set. (n : ℕ) → IsTrue (has set.members n)
+        ↔ Least (query_content query.entry) (has query.entry.initials) (by_links is_shipped query.entry.graph) n) }
+{
+    laws::visitor_agrees_by_answer::<&mut Shipped>();
+    let mut lent = visitor;
+    query.resolve_with(alloc, &mut lent)
+}
+
+/// The same by a closure, which is a visitor without a name.
+pub fn by_closure<'g>(alloc: Global, query: FeatureQuery<'g>) -> Result<FeatureSet<'g>, Error<'g>> {
+    query.resolve_with_fn(alloc, &mut |_, link| !link.dev_only())
+}
+
+/// What a query brings in by each of several visitors in boxes.
+fn show_boxed(out: &mut Out, alloc: Global, query: &FeatureQuery<'_>) -> Result<(), Failure> {
+    let shipped: Box<dyn FeatureLinkObject> = Box::new(alloc, Shipped { calls: 0 })?;
+    let for_tests: Box<dyn FeatureLinkObject> = Box::new(
+        alloc,
+        OfKind(DependencyKind::Development),
+    )?;
+    let mut visitors = [shipped, for_tests];
+    for visitor in visitors.iter_mut() {
+        let again = query.try_clone(alloc)?;
+        let set = again.resolve_with(alloc, visitor)?;
+        out.set("by a box", &set);
+    }
+    Ok(())
+}
+
+/// What a query brings in by one visitor, lent twice, with its count after each run.
+fn show_lent(out: &mut Out, alloc: Global, query: &FeatureQuery<'_>) -> Result<(), Failure> {
+    let mut visitor = Shipped { calls: 0 };
+    out.set(
+        "lent",
+        &by_loan(alloc, query.try_clone(alloc)?, &mut visitor)?,
+    );
+    out.part("asked ");
+    out.line(visitor.calls);
+    out.set(
+        "lent again",
+        &by_loan(alloc, query.try_clone(alloc)?, &mut visitor)?,
+    );
+    out.part("asked ");
+    out.line(visitor.calls);
+    Ok(())
+}
+
+/// What a feature brings in by one visitor in each form.
+pub fn show(out: &mut Out, alloc: Global, graph: FeatureGraph<'_>) -> Result<(), Failure> {
+    let main = PackageId::new(alloc, "main")?;
+    let id = FeatureId::new(&main, FeatureLabel::Named("smallvec"));
+    let query = graph.query_forward(alloc, &[id])?;
+    show_lent(out, alloc, &query)?;
+    show_boxed(out, alloc, &query)?;
+    out.set("by a closure", &by_closure(alloc, query)?);
+    Ok(())
+}
