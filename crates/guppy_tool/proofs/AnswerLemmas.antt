@@ -53,12 +53,12 @@ texts_so_far f xs k x text next all e h n =
     ∙ h
 
 -- at the end they are the texts of all
-pub texts_done : {X Y : Type 0} (g : X → Y) (f : Y → List ℕ) (xs : List X) (k : ℕ) (text : List ℕ) → length xs ≤ k → text ++ flat_map (λ x. f (g x)) (drop k xs) ≡ flat_map (λ x. f (g x)) xs → text ≡ flat_map f (map g xs)
-texts_done g f xs k text past h =
+pub texts_after : {X Y : Type 0} (g : X → Y) (f : Y → List ℕ) (xs : List X) (k : ℕ) (text first : List ℕ) → length xs ≤ k → text ++ flat_map (λ x. f (g x)) (drop k xs) ≡ first ++ flat_map (λ x. f (g x)) xs → text ≡ first ++ flat_map f (map g xs)
+texts_after g f xs k text first past h =
     sym (append-nil text)
     ∙ ap (λ z. text ++ flat_map (λ x. f (g x)) z) (sym (none_left xs k past))
     ∙ h
-    ∙ through g f xs
+    ∙ ap (λ z. first ++ z) (through g f xs)
   where
     none_left : {X : Type 0} (xs : List X) (k : ℕ) → length xs ≤ k → drop k xs ≡ []
     none_left [] zero past = refl
@@ -69,6 +69,9 @@ texts_done g f xs k text past h =
     through : {X Y : Type 0} (g : X → Y) (f : Y → List ℕ) (xs : List X) → flat_map (λ x. f (g x)) xs ≡ flat_map f (map g xs)
     through g f [] = refl
     through g f (x ∷ xs) = ap (λ z. f (g x) ++ z) (through g f xs)
+
+pub texts_done : {X Y : Type 0} (g : X → Y) (f : Y → List ℕ) (xs : List X) (k : ℕ) (text : List ℕ) → length xs ≤ k → text ++ flat_map (λ x. f (g x)) (drop k xs) ≡ flat_map (λ x. f (g x)) xs → text ≡ flat_map f (map g xs)
+texts_done g f xs k text past h = texts_after g f xs k text [] past h
 
 -- one package has the id
 pub one_table : (t : Tables) (a b : PackageTable) → AreTables t → Contains t.packages a → Contains t.packages b → a.id ≡ b.id → a ≡ b

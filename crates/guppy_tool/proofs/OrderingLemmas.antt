@@ -63,11 +63,11 @@ groups_further (first ∷ rest) = refl
 
 -- one more group is in the text
 pub groups_next : (before text next all : Text) (first : List (Text × LabelName)) (rest left : List (List (Text × LabelName)))
-    → left ≡ first ∷ rest → text ++ groups_after before left ≡ all → next ≡ (text ++ before) ++ listing first → next ++ groups_after (10 ∷ []) rest ≡ all
+    → left ≡ first ∷ rest → text ++ groups_after before left ≡ all → next ≡ text ++ (before ++ listing first) → next ++ groups_after (10 ∷ []) rest ≡ all
 groups_next before text next all first rest left is so_far more =
     ap (λ z. z ++ groups_after (10 ∷ []) rest) more
-    ∙ append_assoc (text ++ before) (listing first) (groups_after (10 ∷ []) rest)
-    ∙ append_assoc text before (listing first ++ groups_after (10 ∷ []) rest)
+    ∙ append_assoc text (before ++ listing first) (groups_after (10 ∷ []) rest)
+    ∙ ap (λ z. text ++ z) (append_assoc before (listing first) (groups_after (10 ∷ []) rest))
     ∙ ap (λ z. text ++ (before ++ (listing first ++ z))) (groups_further rest)
     ∙ ap (λ z. text ++ groups_after before z) (sym is)
     ∙ so_far

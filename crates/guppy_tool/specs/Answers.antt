@@ -1,5 +1,5 @@
 -- What each command answers over the tables of a row file.
-use Rattle.std.specs.Prelude.{◌≡◌, ◌↔◌, ◌++◌, ℕ, List, ◌∷◌, [], Bool, Result, Ok, Err, IsTrue, Contains, codes, flat_map, reverse}
+use Rattle.std.specs.Prelude.{◌≡◌, ◌↔◌, ◌++◌, ℕ, List, ◌∷◌, [], Bool, true, false, Result, Ok, Err, IsTrue, Contains, codes, flat_map, reverse}
 use Rattle.guppy_packages.specs.Rows.{Text}
 use Rattle.guppy_packages.specs.Tables.{PackageTable, Tables}
 use Rattle.guppy_packages.specs.declared.direction.DependencyDirection.{DependencyDirection}
@@ -67,6 +67,11 @@ pub record ListsInOrder (t : Tables) (direction : DependencyDirection) (text : T
 abbrev pub groups : List (List (Text × LabelName)) → Text
 groups [] = []
 groups (first ∷ rest) = listing first ++ flat_map (λ ids. 10 ∷ listing ids) rest
+
+-- nothing stands before the first group, and an empty line before each other
+abbrev pub before_group : Bool → Text
+before_group true = []
+before_group false = 10 ∷ []
 
 -- The text lists the components that have a cycle, the last in the order first, and the features of each in the order.
 pub record ListsCycles (t : Tables) (text : Text) : Type 0 where

@@ -6,7 +6,7 @@ ghost use Rattle.feature_labels.specs.Names.{id_of};
 ghost use Rattle.guppy_features.specs.Ordered.{AtOrder, ordered_names};
 ghost use Rattle.guppy_features.specs.Tied.{cycle_names};
 ghost use Rattle.guppy_features.specs.Views.{graph_of};
-ghost use Rattle.guppy_tool.specs.Answers.{IsOutput, groups, listing};
+ghost use Rattle.guppy_tool.specs.Answers.{IsOutput, before_group, groups, listing};
 ghost use Rattle.guppy_tool.specs.Run.{GivesAnswer};
 ghost use Rattle.guppy_tool.specs.Words.CommandText.{all_cycles, ordered as ordered_command};
 
@@ -71,19 +71,28 @@ fn push_lines(text: &mut String, ids: &[FeatureId<'_>]) -> Result<(), AllocError
     Ok(())
 }
 
+/// Adds a line for each feature of a cycle, after an empty line where the cycle isn't the first.
+fn push_cycle(text: &mut String, is_first: bool, ids: &[FeatureId<'_>]) -> Result<(), AllocError>
+    ensures { OnOk result (string_bytes text.new ≡ string_bytes text.old ++ (before_group is_first ++ listing (map id_of ids.now))) }
+{
+    if !is_first {
+        text.push('\n')?;
+    }
+    push_lines(text, ids)
+}
+
 /// The lines of the graph's cycles, with an empty line between two.
 fn lines_of_cycles(alloc: Global, graph: FeatureGraph<'_>) -> Result<Vec<u8>, AllocError>
     ensures { IfOk result (λ text. AtOrder (graph_of graph.entry) (λ o. text.items ≡ groups (cycle_names (graph_of graph.entry) o))) }
 {
     let mut text = String::new(alloc);
-    let mut before = "";
+    let mut is_first = true;
     for cycle in graph.cycles().all_cycles(alloc) {
         let Ok(ids) = cycle else {
             return Err(AllocError);
         };
-        text.push_str(before)?;
-        push_lines(&mut text, &ids)?;
-        before = "\n";
+        push_cycle(&mut text, is_first, &ids)?;
+        is_first = false;
     }
     Ok(text.into_bytes())
 }
