@@ -1,6 +1,6 @@
 -- One command and one content of bytes have one answer.
-use Rattle.std.proofs.Common.{◌≡◌, ◌≢◌, ℕ, ◌<◌, ◌+◌, ◌⊎◌, inl, inr, List, [], ◌∷◌, ◌++◌, Bool, true, false, Result, Ok, Err, Some, sym, ap, ◌∙◌, refl, cond, filter, map, arith, subst, rules}
-use Rattle.std.specs.Prelude.{◌↔◌, IsTrue, slice_get}
+use Rattle.std.proofs.Common.{◌≡◌, ℕ, ◌<◌, ◌⊎◌, inl, inr, List, [], ◌∷◌, ◌++◌, Bool, true, false, Result, Ok, Err, Some, sym, ap, ◌∙◌, refl, cond, filter, map, arith, rules}
+use Rattle.std.specs.Prelude.{IsTrue, slice_get}
 use Rattle.std.specs.List.{enumerate_from}
 use Rattle.guppy_support.specs.Bits.{has}
 use Rattle.guppy_support.specs.Laws.{OneOrder, OrderListsEach}
@@ -18,12 +18,12 @@ use Rattle.feature_labels.specs.Lists.{joined}
 use Rattle.walk_engine.specs.declared.walks.Half.{Half}
 use Rattle.walk_engine.specs.Walks.{Content, Least}
 use Rattle.walk_engine.specs.Laws.{every}
-use Rattle.guppy_features.specs.Names.{AreKnown, IsFirstUnknown, HoldsExactly, HasFeature, at_places, names_of_nodes}
+use Rattle.guppy_features.specs.Names.{AreKnown, IsFirstUnknown, HoldsExactly, at_places, names_of_nodes}
 use Rattle.guppy_features.specs.Tied.{cycle_names}
-use Rattle.guppy_tool.specs.Faults.{Refusal, unknown_feature, unknown_package}
+use Rattle.guppy_tool.specs.Faults.{Refusal, unknown_feature}
 use Rattle.guppy_tool.specs.RowFileRefusals.{tables_in}
 use Rattle.guppy_tool.specs.Words.{CommandText, resolve, visit, ordered, all_cycles, list_of, all_warnings}
-use Rattle.guppy_tool.specs.Answers.{Resolves, Visits, OrdersNodes, ListsInOrder, ListsCycles, ListsFeatures, NamesUnknown, groups, listing, read_by}
+use Rattle.guppy_tool.specs.Answers.{Resolves, Visits, OrdersNodes, ListsInOrder, ListsCycles, ListsFeatures, groups, listing, read_by}
 use Rattle.guppy_tool.proofs.LabelLists.{one_list}
 use Rattle.guppy_tool.proofs.SameOrders.{one_sequence}
 use Rattle.guppy_tool.specs.Run.{IsOutputOf, IsAnswer}

@@ -1,5 +1,5 @@
 -- What the words of the command line ask for.
-use Rattle.std.specs.Prelude.{ℕ, List, [], ◌∷◌, Bool, ◌&&◌, Option, None, Some, Result, Ok, Err, take, drop, map, ◌==◌, if◌then◌else◌, codes}
+use Rattle.std.specs.Prelude.{ℕ, List, [], ◌∷◌, Bool, Option, None, Some, Result, Ok, Err, take, drop, map, ◌==◌, if◌then◌else◌, codes}
 use Rattle.std.specs.List.{list_any, before_last, after_last}
 use Rattle.std.specs.Str.{bytes_eq}
 use Rattle.guppy_packages.specs.Rows.{Text}
