@@ -1,5 +1,5 @@
 -- A refusal of the feature graph's, as the program tells it.
-use Rattle.std.proofs.Common.{◌≡◌, ℕ, zero, suc, ◌+◌, ◌<◌, ◌≤◌, List, [], ◌∷◌, ◌++◌, Bool, true, length, map, drop, Some, add-one, append_assoc, append-nil, sym, ap, ◌∙◌, subst, refl, arith}
+use Rattle.std.proofs.Common.{◌≡◌, ℕ, zero, suc, ◌+◌, ◌≤◌, List, [], ◌∷◌, ◌++◌, Bool, true, length, map, drop, Some, add-one, append_assoc, append-nil, sym, ap, ◌∙◌, subst, refl, arith}
 use Rattle.guppy_packages.specs.Rows.{Text}
 use Rattle.guppy_packages.specs.Tables.{Tables, PackageTable, AreTables}
 use Rattle.walk_engine.specs.declared.walks.Half.{Half}
@@ -10,7 +10,7 @@ use Rattle.feature_core.specs.Errors as graph
 use Rattle.std.specs.Prelude.{Contains, flat_map, slice_get}
 use Rattle.feature_labels.specs.Lists.{ListValue, SameLabels, joined}
 use Rattle.feature_core.specs.Nodes.{labels_of}
-use Rattle.guppy_features.specs.Names.{RefusesNames, RefusesPackage, ListsPackage, IsFirstUnknown}
+use Rattle.guppy_features.specs.Names.{RefusesNames, RefusesPackage, ListsPackage}
 use Rattle.guppy_tool.proofs.LabelLists.{place_of_element}
 use Rattle.guppy_tool.specs.Faults.{Refusal, IfNotMemory, unknown_feature, unknown_package, out_of_memory}
 use Rattle.guppy_tool.specs.Answers.{NamesUnknown, NamesNoPackage, ListsFeatures, IsToldAs, IsPackageToldAs, MayRefuseIds, MayRefusePackage}
