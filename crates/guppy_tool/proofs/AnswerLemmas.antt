@@ -1,5 +1,5 @@
 -- A refusal of the feature graph's, as the program tells it.
-use Rattle.std.proofs.Common.{◌≡◌, ℕ, zero, suc, ◌+◌, ◌<◌, ◌≤◌, List, [], ◌∷◌, ◌++◌, Bool, true, length, map, drop, Some, add-one, append_assoc, append-nil, sym, ap, ◌∙◌, subst, refl, arith}
+use Rattle.std.proofs.Common.{◌≡◌, ℕ, zero, suc, ◌+◌, ◌≤◌, List, [], ◌∷◌, ◌++◌, Bool, true, length, map, drop, Some, add-one, append_assoc, append-nil, sym, ap, ◌∙◌, subst, refl, arith}
 use Rattle.guppy_packages.specs.Rows.{Text}
 use Rattle.guppy_packages.specs.Tables.{Tables, PackageTable, AreTables}
 use Rattle.walk_engine.specs.declared.walks.Half.{Half}
@@ -10,7 +10,7 @@ use Rattle.feature_core.specs.Errors as graph
 use Rattle.std.specs.Prelude.{Contains, flat_map, slice_get}
 use Rattle.feature_labels.specs.Lists.{ListValue, SameLabels, joined}
 use Rattle.feature_core.specs.Nodes.{labels_of}
-use Rattle.guppy_features.specs.Names.{RefusesNames, RefusesPackage, ListsPackage, IsFirstUnknown}
+use Rattle.guppy_features.specs.Names.{RefusesNames, RefusesPackage, ListsPackage}
 use Rattle.guppy_tool.proofs.LabelLists.{place_of_element}
 use Rattle.guppy_tool.specs.Faults.{Refusal, IfNotMemory, unknown_feature, unknown_package, out_of_memory}
 use Rattle.guppy_tool.specs.Answers.{NamesUnknown, NamesNoPackage, ListsFeatures, IsToldAs, IsPackageToldAs, MayRefuseIds, MayRefusePackage}
@@ -53,12 +53,12 @@ texts_so_far f xs k x text next all e h n =
     ∙ h
 
 -- at the end they are the texts of all
-pub texts_done : {X Y : Type 0} (g : X → Y) (f : Y → List ℕ) (xs : List X) (k : ℕ) (text : List ℕ) → length xs ≤ k → text ++ flat_map (λ x. f (g x)) (drop k xs) ≡ flat_map (λ x. f (g x)) xs → text ≡ flat_map f (map g xs)
-texts_done g f xs k text past h =
+pub texts_after : {X Y : Type 0} (g : X → Y) (f : Y → List ℕ) (xs : List X) (k : ℕ) (text first : List ℕ) → length xs ≤ k → text ++ flat_map (λ x. f (g x)) (drop k xs) ≡ first ++ flat_map (λ x. f (g x)) xs → text ≡ first ++ flat_map f (map g xs)
+texts_after g f xs k text first past h =
     sym (append-nil text)
     ∙ ap (λ z. text ++ flat_map (λ x. f (g x)) z) (sym (none_left xs k past))
     ∙ h
-    ∙ through g f xs
+    ∙ ap (λ z. first ++ z) (through g f xs)
   where
     none_left : {X : Type 0} (xs : List X) (k : ℕ) → length xs ≤ k → drop k xs ≡ []
     none_left [] zero past = refl
@@ -69,6 +69,9 @@ texts_done g f xs k text past h =
     through : {X Y : Type 0} (g : X → Y) (f : Y → List ℕ) (xs : List X) → flat_map (λ x. f (g x)) xs ≡ flat_map f (map g xs)
     through g f [] = refl
     through g f (x ∷ xs) = ap (λ z. f (g x) ++ z) (through g f xs)
+
+pub texts_done : {X Y : Type 0} (g : X → Y) (f : Y → List ℕ) (xs : List X) (k : ℕ) (text : List ℕ) → length xs ≤ k → text ++ flat_map (λ x. f (g x)) (drop k xs) ≡ flat_map (λ x. f (g x)) xs → text ≡ flat_map f (map g xs)
+texts_done g f xs k text past h = texts_after g f xs k text [] past h
 
 -- one package has the id
 pub one_table : (t : Tables) (a b : PackageTable) → AreTables t → Contains t.packages a → Contains t.packages b → a.id ≡ b.id → a ≡ b

@@ -1,13 +1,16 @@
 -- One command and one content of bytes have one answer.
-use Rattle.std.proofs.Common.{◌≡◌, ◌≢◌, ℕ, ◌<◌, ◌+◌, ◌⊎◌, inl, inr, List, [], ◌∷◌, ◌++◌, Bool, true, false, Result, Ok, Err, Some, sym, ap, ◌∙◌, refl, cond, filter, map, arith, subst, rules}
-use Rattle.std.specs.Prelude.{◌↔◌, IsTrue, slice_get}
+use Rattle.std.proofs.Common.{◌≡◌, ℕ, ◌<◌, ◌⊎◌, inl, inr, List, [], ◌∷◌, ◌++◌, Bool, true, false, Result, Ok, Err, Some, sym, ap, ◌∙◌, refl, cond, filter, map, arith, rules}
+use Rattle.std.specs.Prelude.{IsTrue, slice_get}
 use Rattle.std.specs.List.{enumerate_from}
 use Rattle.guppy_support.specs.Bits.{has}
+use Rattle.guppy_support.specs.Laws.{OneOrder, OrderListsEach}
+use Rattle.guppy_support.specs.Sequences.{Sequence}
 use Rattle.guppy_packages.specs.Rows.{Text}
 use Rattle.guppy_packages.specs.Tables.{Tables}
 use Rattle.guppy_packages.specs.declared.direction.DependencyDirection.{DependencyDirection}
 use Rattle.feature_labels.specs.Names.{LabelName, id_text, label_cmp}
 use Rattle.std.specs.Cmp.{IsTotalOrder}
+use Rattle.feature_core.specs.Built.{Built, IsBuilt, digraph_of}
 use Rattle.feature_core.specs.Nodes.{nodes}
 use Rattle.feature_core.specs.Pairs.{Reach}
 use Rattle.feature_core.specs.Offers.{content_of}
@@ -15,12 +18,14 @@ use Rattle.feature_labels.specs.Lists.{joined}
 use Rattle.walk_engine.specs.declared.walks.Half.{Half}
 use Rattle.walk_engine.specs.Walks.{Content, Least}
 use Rattle.walk_engine.specs.Laws.{every}
-use Rattle.guppy_features.specs.Names.{AreKnown, IsFirstUnknown, HoldsExactly, HasFeature, at_places}
-use Rattle.guppy_tool.specs.Faults.{Refusal, unknown_feature, unknown_package}
+use Rattle.guppy_features.specs.Names.{AreKnown, IsFirstUnknown, HoldsExactly, at_places, names_of_nodes}
+use Rattle.guppy_features.specs.Tied.{cycle_names}
+use Rattle.guppy_tool.specs.Faults.{Refusal, unknown_feature}
 use Rattle.guppy_tool.specs.RowFileRefusals.{tables_in}
-use Rattle.guppy_tool.specs.Words.{CommandText, resolve, visit, list_of, all_warnings}
-use Rattle.guppy_tool.specs.Answers.{Resolves, Visits, ListsFeatures, NamesUnknown, listing}
+use Rattle.guppy_tool.specs.Words.{CommandText, resolve, visit, ordered, all_cycles, list_of, all_warnings}
+use Rattle.guppy_tool.specs.Answers.{Resolves, Visits, OrdersNodes, ListsInOrder, ListsCycles, ListsFeatures, groups, listing, read_by}
 use Rattle.guppy_tool.proofs.LabelLists.{one_list}
+use Rattle.guppy_tool.proofs.SameOrders.{one_sequence}
 use Rattle.guppy_tool.specs.Run.{IsOutputOf, IsAnswer}
 
 -- tests that pass alike
@@ -66,6 +71,24 @@ one_visit t direction ids x y a b =
     let same : (n : ℕ) → has a.members n ≡ has b.members n = λ n. same_test (has a.members n) (has b.members n) (visited_too t direction ids x y a b n) (visited_too t direction ids y x b a n) in
     a.lines ∙ ap listing (at_places_alike (has a.members) (has b.members) (nodes t) same) ∙ sym b.lines
 
+-- there is one order of the nodes
+one_order_of_nodes : OneOrder → OrderListsEach → (t : Tables) (o p : Sequence) → OrdersNodes t o → OrdersNodes t p → o ≡ p
+one_order_of_nodes one lists t o p a b = one_sequence one lists (digraph_of a.built) o p (a.every a.built a.is_built) (b.every a.built a.is_built)
+
+one_ordered : OneOrder → OrderListsEach → (t : Tables) (direction : DependencyDirection) (x y : Text) → ListsInOrder t direction x → ListsInOrder t direction y → x ≡ y
+one_ordered one lists t direction x y a b =
+    a.lines
+    ∙ ap (λ (o : Sequence). listing (names_of_nodes t (read_by direction o.list))) (one_order_of_nodes one lists t a.order b.order a.is_order b.is_order)
+    ∙ sym b.lines
+
+one_cycles : OneOrder → OrderListsEach → (t : Tables) (x y : Text) → ListsCycles t x → ListsCycles t y → x ≡ y
+one_cycles one lists t x y a b =
+    let built : Built = a.is_order.built in
+    let is : IsBuilt t built = a.is_order.is_built in
+    a.lines built is
+    ∙ ap (λ o. groups (cycle_names (record { tables = t; built = built }) o)) (one_order_of_nodes one lists t a.order b.order a.is_order b.is_order)
+    ∙ sym (b.lines built is)
+
 one_line : IsTotalOrder label_cmp → (t : Tables) (id x y : Text) → ListsFeatures t id x → ListsFeatures t id y → x ≡ y
 one_line order t id x y a b =
     let table = a.known.0 in
@@ -94,25 +117,31 @@ one_first t ids x y a b =
       ]
     ]
 
-one_output : IsTotalOrder label_cmp → (command : CommandText) (tables : Result Tables Refusal) (a b : Result Text Refusal) → IsOutputOf command tables a → IsOutputOf command tables b → a ≡ b
-one_output order command (Err refusal) a b x y = x ∙ sym y
-one_output order (resolve direction ids) (Ok t) (Ok text) (Ok other) x y = ap Ok (one_text t direction ids text other x y)
-one_output order (resolve direction ids) (Ok t) (Ok text) (Err refusal) x y = absurd (not_both t ids y.id x.known y.first)
-one_output order (resolve direction ids) (Ok t) (Err refusal) (Ok text) x y = absurd (not_both t ids x.id y.known x.first)
-one_output order (resolve direction ids) (Ok t) (Err refusal) (Err other) x y =
+one_output : IsTotalOrder label_cmp → OneOrder → OrderListsEach → (command : CommandText) (tables : Result Tables Refusal) (a b : Result Text Refusal) → IsOutputOf command tables a → IsOutputOf command tables b → a ≡ b
+one_output order one lists command (Err refusal) a b x y = x ∙ sym y
+one_output order one lists (resolve direction ids) (Ok t) (Ok text) (Ok other) x y = ap Ok (one_text t direction ids text other x y)
+one_output order one lists (resolve direction ids) (Ok t) (Ok text) (Err refusal) x y = absurd (not_both t ids y.id x.known y.first)
+one_output order one lists (resolve direction ids) (Ok t) (Err refusal) (Ok text) x y = absurd (not_both t ids x.id y.known x.first)
+one_output order one lists (resolve direction ids) (Ok t) (Err refusal) (Err other) x y =
     ap Err (x.named ∙ ap (λ id. unknown_feature (id_text id)) (one_first t ids x.id y.id x.first y.first) ∙ sym y.named)
-one_output order (visit direction ids) (Ok t) (Ok text) (Ok other) x y = ap Ok (one_visit t direction ids text other x y)
-one_output order (visit direction ids) (Ok t) (Ok text) (Err refusal) x y = absurd (not_both t ids y.id x.known y.first)
-one_output order (visit direction ids) (Ok t) (Err refusal) (Ok text) x y = absurd (not_both t ids x.id y.known x.first)
-one_output order (visit direction ids) (Ok t) (Err refusal) (Err other) x y =
+one_output order one lists (visit direction ids) (Ok t) (Ok text) (Ok other) x y = ap Ok (one_visit t direction ids text other x y)
+one_output order one lists (visit direction ids) (Ok t) (Ok text) (Err refusal) x y = absurd (not_both t ids y.id x.known y.first)
+one_output order one lists (visit direction ids) (Ok t) (Err refusal) (Ok text) x y = absurd (not_both t ids x.id y.known x.first)
+one_output order one lists (visit direction ids) (Ok t) (Err refusal) (Err other) x y =
     ap Err (x.named ∙ ap (λ id. unknown_feature (id_text id)) (one_first t ids x.id y.id x.first y.first) ∙ sym y.named)
-one_output order (list_of id) (Ok t) (Ok text) (Ok other) x y = ap Ok (one_line order t id text other x y)
-one_output order (list_of id) (Ok t) (Ok text) (Err refusal) x y = absurd (y.1 x.known)
-one_output order (list_of id) (Ok t) (Err refusal) (Ok text) x y = absurd (x.1 y.known)
-one_output order (list_of id) (Ok t) (Err refusal) (Err other) x y = ap Err (x.0 ∙ sym y.0)
-one_output order all_warnings (Ok t) (Ok text) (Ok other) x y = ap Ok (x ∙ sym y)
-one_output order all_warnings (Ok t) (Ok text) (Err refusal) x y = absurd y
-one_output order all_warnings (Ok t) (Err refusal) answer x y = absurd x
+one_output order one lists (ordered direction) (Ok t) (Ok text) (Ok other) x y = ap Ok (one_ordered one lists t direction text other x y)
+one_output order one lists (ordered direction) (Ok t) (Ok text) (Err refusal) x y = absurd y
+one_output order one lists (ordered direction) (Ok t) (Err refusal) answer x y = absurd x
+one_output order one lists all_cycles (Ok t) (Ok text) (Ok other) x y = ap Ok (one_cycles one lists t text other x y)
+one_output order one lists all_cycles (Ok t) (Ok text) (Err refusal) x y = absurd y
+one_output order one lists all_cycles (Ok t) (Err refusal) answer x y = absurd x
+one_output order one lists (list_of id) (Ok t) (Ok text) (Ok other) x y = ap Ok (one_line order t id text other x y)
+one_output order one lists (list_of id) (Ok t) (Ok text) (Err refusal) x y = absurd (y.1 x.known)
+one_output order one lists (list_of id) (Ok t) (Err refusal) (Ok text) x y = absurd (x.1 y.known)
+one_output order one lists (list_of id) (Ok t) (Err refusal) (Err other) x y = ap Err (x.0 ∙ sym y.0)
+one_output order one lists all_warnings (Ok t) (Ok text) (Ok other) x y = ap Ok (x ∙ sym y)
+one_output order one lists all_warnings (Ok t) (Ok text) (Err refusal) x y = absurd y
+one_output order one lists all_warnings (Ok t) (Err refusal) answer x y = absurd x
 
-pub one_answer : IsTotalOrder label_cmp → (command : CommandText) (bytes : Text) (a b : Result Text Refusal) → IsAnswer command bytes a → IsAnswer command bytes b → a ≡ b
-one_answer order command bytes a b = one_output order command (tables_in bytes) a b
+pub one_answer : IsTotalOrder label_cmp → OneOrder → OrderListsEach → (command : CommandText) (bytes : Text) (a b : Result Text Refusal) → IsAnswer command bytes a → IsAnswer command bytes b → a ≡ b
+one_answer order one lists command bytes a b = one_output order one lists command (tables_in bytes) a b

@@ -3,3 +3,7 @@ pub mod WordLemmas
 pub mod AnswerLemmas
 pub mod LabelLists
 pub mod LawLemmas
+pub mod SameOrders
+pub mod WholeOrders
+pub mod OneDigraph
+pub mod OrderingLemmas

@@ -1,8 +1,5 @@
 -- Claims that want of memory doesn't make, and a row file's errors in the program's terms.
-use Rattle.std.proofs.Common.{◌≡◌, ℕ, Result, Ok, Err, ap}
-use Rattle.guppy_packages.specs.Rows.{Text}
-use Rattle.guppy_packages.specs.Tables.{Tables}
-use Rattle.guppy_packages.specs.declared.row_error.RowFault.{RowFault}
+use Rattle.std.proofs.Common.{◌≡◌, Result, Err, ap}
 use Rattle.guppy_packages.specs.declared.row_error.RowFault.TheVariants as row
 use Rattle.row_files.specs.declared.error.RowFileError.{RowFileError}
 use Rattle.row_files.specs.declared.error.RowFileError.TheVariants as error

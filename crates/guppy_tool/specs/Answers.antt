@@ -1,22 +1,25 @@
 -- What each command answers over the tables of a row file.
-use Rattle.std.specs.Prelude.{◌≡◌, ◌↔◌, ◌++◌, ℕ, List, ◌∷◌, [], Bool, Result, Ok, Err, IsTrue, Contains, codes, flat_map}
+use Rattle.std.specs.Prelude.{◌≡◌, ◌↔◌, ◌++◌, ℕ, List, ◌∷◌, [], Bool, true, false, Result, Ok, Err, IsTrue, Contains, codes, flat_map, reverse}
 use Rattle.guppy_packages.specs.Rows.{Text}
 use Rattle.guppy_packages.specs.Tables.{PackageTable, Tables}
 use Rattle.guppy_packages.specs.declared.direction.DependencyDirection.{DependencyDirection}
+use Rattle.guppy_packages.specs.declared.direction.DependencyDirection.TheVariants.{Forward, Reverse}
 use Rattle.feature_labels.specs.Names.{LabelName, id_text}
 use Rattle.feature_labels.specs.Lists.{Ascends, SameLabels, joined}
 use Rattle.feature_core.specs.Nodes.{nodes, labels_of}
 use Rattle.feature_core.specs.Errors as graph
 use Rattle.guppy_support.specs.Bits.{has}
-use Rattle.guppy_features.specs.Names.{AreKnown, HasPackage, IsFirstUnknown, HoldsExactly, at_places}
+use Rattle.guppy_support.specs.Sequences.{Sequence, IsOrderOf}
+use Rattle.guppy_features.specs.Names.{AreKnown, HasPackage, IsFirstUnknown, HoldsExactly, at_places, names_of_nodes}
+use Rattle.guppy_features.specs.Tied.{cycle_names}
 use Rattle.feature_core.specs.Pairs.{Reach}
-use Rattle.feature_core.specs.Built.{Built, IsBuilt}
+use Rattle.feature_core.specs.Built.{Built, IsBuilt, digraph_of}
 use Rattle.feature_core.specs.Offers.{content_of}
 use Rattle.feature_core.specs.Warnings.{Warning, missing_feature, self_loop, warnings}
 use Rattle.walk_engine.specs.Walks.{Least}
 use Rattle.walk_engine.specs.Laws.{every}
 use Rattle.guppy_tool.specs.Faults.{Refusal, unknown_feature, unknown_package, out_of_memory, IfNotMemory}
-use Rattle.guppy_tool.specs.Words.{CommandText, resolve, visit, list_of, all_warnings}
+use Rattle.guppy_tool.specs.Words.{CommandText, resolve, visit, ordered, all_cycles, list_of, all_warnings}
 
 -- ids, each ended by a line feed
 abbrev pub listing : List (Text × LabelName) → Text
@@ -42,6 +45,39 @@ pub record Visits (t : Tables) (direction : DependencyDirection) (ids : List (Te
   pub members : List Bool
   pub least : (b : Built) → IsBuilt t b → (n : ℕ) → IsTrue (has members n) ↔ Least (content_of direction b) (has initials) every n
   pub lines : text ≡ listing (at_places (has members) (nodes t))
+
+-- the order and the components of the nodes: those of the digraph of the edges, whatever was built of the tables
+pub record OrdersNodes (t : Tables) (order : Sequence) : Type 0 where
+  pub built : Built
+  pub is_built : IsBuilt t built
+  pub every : (b : Built) → IsBuilt t b → IsOrderOf (digraph_of b) order
+
+-- a list as the direction reads it: in reverse, backwards
+abbrev pub read_by : {X : Type 0} → DependencyDirection → List X → List X
+read_by Forward xs = xs
+read_by Reverse xs = reverse xs
+
+-- The text lists all features in the order of the nodes, as the direction reads it.
+pub record ListsInOrder (t : Tables) (direction : DependencyDirection) (text : Text) : Type 0 where
+  pub order : Sequence
+  pub is_order : OrdersNodes t order
+  pub lines : text ≡ listing (names_of_nodes t (read_by direction order.list))
+
+-- the ids of each group, and an empty line between two groups
+abbrev pub groups : List (List (Text × LabelName)) → Text
+groups [] = []
+groups (first ∷ rest) = listing first ++ flat_map (λ ids. 10 ∷ listing ids) rest
+
+-- nothing stands before the first group, and an empty line before each other
+abbrev pub before_group : Bool → Text
+before_group true = []
+before_group false = 10 ∷ []
+
+-- The text lists the components that have a cycle, the last in the order first, and the features of each in the order.
+pub record ListsCycles (t : Tables) (text : Text) : Type 0 where
+  pub order : Sequence
+  pub is_order : OrdersNodes t order
+  pub lines : (b : Built) → IsBuilt t b → text ≡ groups (cycle_names (record { tables = t; built = b }) order)
 
 -- The text is the labels of the package of this id, sorted and each once, in one line.
 pub record ListsFeatures (t : Tables) (id : Text) (text : Text) : Type 0 where
@@ -102,6 +138,10 @@ IsOutput (resolve direction ids) t (Ok text) = Resolves t direction ids text
 IsOutput (resolve direction ids) t (Err refusal) = NamesUnknown t ids refusal
 IsOutput (visit direction ids) t (Ok text) = Visits t direction ids text
 IsOutput (visit direction ids) t (Err refusal) = NamesUnknown t ids refusal
+IsOutput (ordered direction) t (Ok text) = ListsInOrder t direction text
+IsOutput (ordered direction) t (Err refusal) = ⊥
+IsOutput all_cycles t (Ok text) = ListsCycles t text
+IsOutput all_cycles t (Err refusal) = ⊥
 IsOutput (list_of id) t (Ok text) = ListsFeatures t id text
 IsOutput (list_of id) t (Err refusal) = NamesNoPackage t id refusal
 IsOutput all_warnings t (Ok text) = text ≡ warning_lines (warnings t)

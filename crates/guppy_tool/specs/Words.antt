@@ -1,5 +1,5 @@
 -- What the words of the command line ask for.
-use Rattle.std.specs.Prelude.{ℕ, List, [], ◌∷◌, Bool, ◌&&◌, Option, None, Some, Result, Ok, Err, take, drop, map, ◌==◌, if◌then◌else◌, codes}
+use Rattle.std.specs.Prelude.{ℕ, List, [], ◌∷◌, Bool, Option, None, Some, Result, Ok, Err, take, drop, map, ◌==◌, if◌then◌else◌, codes}
 use Rattle.std.specs.List.{list_any, before_last, after_last}
 use Rattle.std.specs.Str.{bytes_eq}
 use Rattle.guppy_packages.specs.Rows.{Text}
@@ -16,6 +16,8 @@ use Rattle.guppy_tool.specs.declared.words.Command.TheVariants as commands
 pub data CommandText : Type 0 where
   resolve : DependencyDirection → List (Text × LabelName) → CommandText
   visit : DependencyDirection → List (Text × LabelName) → CommandText
+  ordered : DependencyDirection → CommandText
+  all_cycles : CommandText
   list_of : Text → CommandText
   all_warnings : CommandText
 
@@ -25,6 +27,8 @@ given_of id = (id.package_id, label_of id.label)
 abbrev pub command_of : Command → CommandText
 command_of (commands.Resolve direction ids) = resolve direction (map given_of ids.items)
 command_of (commands.Visit direction ids) = visit direction (map given_of ids.items)
+command_of (commands.Order direction) = ordered direction
+command_of commands.Cycles = all_cycles
 command_of (commands.List package_id) = list_of package_id
 command_of commands.Warnings = all_warnings
 
@@ -81,6 +85,15 @@ abbrev pub over : (DependencyDirection → List (Text × LabelName) → CommandT
 over command (Ok asked) = Ok (command asked.0 asked.1)
 over command (Err e) = Err e
 
+abbrev pub ordered_by : Option DependencyDirection → Result CommandText Refusal
+ordered_by None = Err usage
+ordered_by (Some direction) = Ok (ordered direction)
+
+-- one direction, and nothing after it
+abbrev pub one_direction : List Text → Result CommandText Refusal
+one_direction (word ∷ []) = ordered_by (direction_in word)
+one_direction _ = Err usage
+
 -- one package, and nothing after it
 abbrev pub one_package : List Text → Result CommandText Refusal
 one_package (id ∷ []) = Ok (list_of id)
@@ -96,8 +109,10 @@ abbrev pub command_in : Text → List Text → Result CommandText Refusal
 command_in word arguments =
     if bytes_eq word (codes "resolve") then over resolve (directed_ids arguments)
     else (if bytes_eq word (codes "visit") then over visit (directed_ids arguments)
+    else (if bytes_eq word (codes "order") then one_direction arguments
+    else (if bytes_eq word (codes "cycles") then alone all_cycles arguments
     else (if bytes_eq word (codes "list") then one_package arguments
-    else (if bytes_eq word (codes "warnings") then alone all_warnings arguments else Err usage)))
+    else (if bytes_eq word (codes "warnings") then alone all_warnings arguments else Err usage)))))
 
 abbrev pub of_file : Text → Result CommandText Refusal → Result (Text × CommandText) Refusal
 of_file file (Ok command) = Ok (file, command)

@@ -6,6 +6,7 @@ ghost use Rattle.guppy_tool.specs.Answers.{IsOutput};
 ghost use Rattle.guppy_tool.specs.Run.{GivesAnswer, IsAnswer};
 
 use crate::fault::Fault;
+use crate::ordering::{cycled, ordered};
 use crate::package::{listed, warned};
 use crate::resolving::{resolved, visited};
 use crate::words::Command;
@@ -20,6 +21,8 @@ fn answer_graph(alloc: Global, command: &Command, graph: &PackageGraph) -> Resul
     match command {
         Command::Resolve { direction, ids } => resolved(alloc, graph, *direction, ids),
         Command::Visit { direction, ids } => visited(alloc, graph, *direction, ids),
+        Command::Order { direction } => ordered(alloc, graph, *direction),
+        Command::Cycles => cycled(alloc, graph),
         Command::List { package_id } => listed(alloc, graph, package_id),
         Command::Warnings => warned(alloc, graph),
     }

@@ -2,6 +2,7 @@
 ghost use Rattle.guppy_tool.specs.Laws.{OneAnswer};
 
 use feature_labels::laws::label_order_is_total;
+use guppy_support::laws::{one_order, order_lists_each};
 
 /// For one command and one content of bytes there is one text or one fault; want of memory and failures of devices are
 /// no answers.
@@ -9,4 +10,6 @@ pub fn one_answer()
     ensures { OneAnswer }
 {
     label_order_is_total();
+    one_order();
+    order_lists_each();
 }

@@ -6,6 +6,7 @@ mod engine;
 mod fault;
 pub mod laws;
 mod listing;
+mod ordering;
 mod package;
 mod resolving;
 mod words;

@@ -9,7 +9,7 @@ use guppy_features::{FeatureId, FeatureSet};
 use std::alloc::{AllocError, Global};
 
 /// Adds an id's line.
-fn push_line(text: &mut String, id: FeatureId<'_>) -> Result<(), AllocError>
+pub fn push_line(text: &mut String, id: FeatureId<'_>) -> Result<(), AllocError>
     ensures { OnOk result (string_bytes text.new ≡ string_bytes text.old ++ (id_text (id_of id.entry) ++ 10 ∷ [])) }
 {
     writeln!(text, "{id}")

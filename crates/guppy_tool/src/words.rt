@@ -4,7 +4,7 @@ ghost use Rattle.std.specs.Option.{option_map};
 ghost use Rattle.guppy_packages.specs.Rows.{Text, texts};
 ghost use Rattle.feature_labels.specs.Names.{label_of, id_of, LabelName};
 ghost use Rattle.guppy_tool.specs.Faults.{Gives};
-ghost use Rattle.guppy_tool.specs.Words.{given_of, command_of, cut_at_last_slash as slash_cut, label_in, id_in, ids_in, words_ask, id_or_refusal, direction_in, directed_ids, command_in, one_package};
+ghost use Rattle.guppy_tool.specs.Words.{given_of, command_of, cut_at_last_slash as slash_cut, label_in, id_in, ids_in, words_ask, id_or_refusal, direction_in, directed_ids, command_in, one_direction, one_package};
 
 use crate::fault::Fault;
 use feature_labels::{FeatureId, FeatureLabel};
@@ -31,6 +31,12 @@ pub enum Command<'a> {
         direction: DependencyDirection,
         ids: Vec<GivenId<'a>>,
     },
+    /// All features in the order of their graph, or backwards.
+    Order {
+        direction: DependencyDirection,
+    },
+    /// The components of the graph that have a cycle.
+    Cycles,
     /// The labels of a package.
     List {
         package_id: PackageId,
@@ -113,6 +119,19 @@ fn directed<'a>(
     Ok((direction, ids(alloc, rest)?))
 }
 
+/// The command that lists all features in the one direction of the arguments.
+fn ordering<'a>(arguments: &[&'a str]) -> Result<Command<'a>, Fault>
+    ensures { Gives command_of result (one_direction (texts arguments.now)) }
+{
+    let [word] = arguments else {
+        return Err(Fault::Usage);
+    };
+    match direction(word) {
+        Some(direction) => Ok(Command::Order { direction }),
+        None => Err(Fault::Usage),
+    }
+}
+
 /// The command that lists the one package of the arguments.
 fn listing<'a>(alloc: Global, arguments: &[&'a str]) -> Result<Command<'a>, Fault>
     ensures { Gives command_of result (one_package (texts arguments.now)) }
@@ -137,6 +156,12 @@ fn asked<'a>(alloc: Global, word: &str, arguments: &[&'a str]) -> Result<Command
         let (direction, ids) = directed(alloc, arguments)?;
         return Ok(Command::Visit { direction, ids });
     }
+    if word == "order" {
+        return ordering(arguments);
+    }
+    if word == "cycles" && arguments.is_empty() {
+        return Ok(Command::Cycles);
+    }
     if word == "list" {
         return listing(alloc, arguments);
     }
@@ -148,8 +173,9 @@ fn asked<'a>(alloc: Global, word: &str, arguments: &[&'a str]) -> Result<Command
 
 /// The file and the command that the words after the program's name ask for.
 ///
-/// `FILE resolve DIRECTION ID...`, `FILE visit DIRECTION ID...`, `FILE list PACKAGE` and `FILE warnings` are the forms, where
-/// DIRECTION is `forward` or `reverse`; all else is the usage fault. The first ID without a slash is a bad id.
+/// `FILE resolve DIRECTION ID...`, `FILE visit DIRECTION ID...`, `FILE order DIRECTION`, `FILE cycles`, `FILE list PACKAGE`
+/// and `FILE warnings` are the forms, where DIRECTION is `forward` or `reverse`; all else is the usage fault. The first ID
+/// without a slash is a bad id.
 pub fn parse_words<'a>(alloc: Global, words: &[&'a str]) -> Result<(&'a str, Command<'a>), Fault>
     ensures { Gives (λ asked. (asked.0.now, command_of asked.1)) result (words_ask (texts words.now)) }
 {

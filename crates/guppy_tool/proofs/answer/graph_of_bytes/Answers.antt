@@ -1,5 +1,4 @@
 use Rattle.row_files.specs.RowFile.{tables_in as tables_of_file}
-use Rattle.std.proofs.Common.{subst, sym}
 use Rattle.guppy_tool.proofs.RefusalLemmas.{told}
 use Rattle.guppy_tool.proofs.answer.graph_of_bytes.Goals as goal
 

@@ -11,7 +11,7 @@ use Rattle.feature_core.specs.Nodes.{nodes}
 use Rattle.feature_core.specs.Offers.{content_of}
 use Rattle.guppy_features.specs.Names.{AreKnown, HoldsExactly, at_places}
 use Rattle.guppy_features.specs.Views.{tables_of_graph}
-use Rattle.guppy_tool.specs.Answers.{Visits, listing}
+use Rattle.guppy_tool.specs.Answers.{listing}
 use Rattle.guppy_tool.specs.Words.{given_of}
 use Rattle.guppy_tool.proofs.AnswerLemmas.{agrees_all}
 use Rattle.guppy_tool.proofs.resolving.visited.Goals as goal
