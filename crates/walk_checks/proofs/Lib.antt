@@ -1,0 +1,6 @@
+pub mod Bools
+pub mod Numbers
+pub mod Steps
+pub mod Exactness
+pub mod Members
+pub mod Runs

@@ -1,0 +1,3 @@
+pub mod Tables
+pub mod Exact
+pub mod inner
