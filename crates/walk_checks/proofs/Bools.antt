@@ -1,6 +1,5 @@
-use Rattle.std.proofs.Common.{◌≡◌, ℕ, Bool, true, false, ◌&&◌, ◌||◌, ◌⊎◌, refl, sym, ◌∙◌, inl, inr}
-use Rattle.std.proofs.lemmas.Bool.{eqb-true, eq-eqb}
-use Rattle.std.specs.Prelude.{IsTrue, IsFalse, ◌==◌, not, ◌↔◌}
+use Rattle.std.proofs.Common.{◌≡◌, Bool, true, false, ◌&&◌, ◌||◌, ◌⊎◌, refl, sym, ◌∙◌, inl, inr}
+use Rattle.std.specs.Prelude.{IsTrue, IsFalse}
 use Rattle.walk_engine.specs.declared.walks.Half.{Half}
 use Rattle.walk_engine.specs.declared.walks.Half.TheVariants.{Full, Required, Optional}
 use Rattle.walk_engine.specs.Walks.{is_half}

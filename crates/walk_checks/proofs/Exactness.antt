@@ -1,23 +1,20 @@
 -- Explanations that leave nothing out, as far as a check has come.
-use Rattle.std.proofs.Common.{◌≡◌, ℕ, zero, suc, ◌+◌, ◌<◌, ◌≤◌, Bool, true, false, ◌||◌, ◌&&◌, not, ◌⊎◌, List, [], ◌∷◌, ◌++◌, Option, Some, None, length, take, refl, sym, ◌∙◌, ap, subst, inl, inr, arith, add-one}
+use Rattle.std.proofs.Common.{◌≡◌, ℕ, zero, suc, ◌+◌, ◌<◌, ◌≤◌, Bool, ◌||◌, not, List, [], ◌∷◌, ◌++◌, Some, None, length, take, refl, sym, ◌∙◌, ap, subst, inl, inr, arith, add-one}
 use Rattle.std.specs.Prelude.{IsTrue, IsFalse, slice_get, slice_index_or, ◌==◌, ◌↔◌}
 use Rattle.std.proofs.lemmas.Bool.{eqb-true, eq-eqb}
-use Rattle.std.proofs.lemmas.List.{take_all}
-use Rattle.std.proofs.lemmas.Option.{slice_get_within, slice_get-get_or, slice_get_past}
-use Rattle.guppy_support.specs.Bits.{has}
+use Rattle.std.proofs.lemmas.Option.{slice_get_within, slice_get-get_or}
 use Rattle.walk_engine.specs.declared.walks.Half.{Half}
-use Rattle.walk_engine.specs.declared.walks.Ask.TheVariants as asks
 use Rattle.walk_engine.specs.declared.walks.Step.{Step}
-use Rattle.walk_engine.specs.Walks.{Content, Way, IsWay, EndsAreNodes, has_half, has_gate, is_in, is_half, starting, IsClosed, Least}
+use Rattle.walk_engine.specs.Walks.{Content, Way, IsWay, is_in, starting, Least}
 use Rattle.walk_engine.specs.Explanations.{IsReason, IsExplanation, nodes_of}
 use Rattle.walk_engine.specs.Laws.{every}
 use Rattle.walk_checks.specs.declared.refusals.Refusals.{Refusals}
 use Rattle.walk_checks.specs.Exact.{is_refused, all_but, IsExact}
 use Rattle.walk_checks.specs.inner.Tests.{has_mark, unmarked, Keeps, KeepsReason, NamesOnly}
 use borrow.Author.Count.{below_more}
-use Rattle.walk_checks.proofs.Bools.{decide, clash, or_cases, or_left, or_right}
-use Rattle.walk_checks.proofs.Numbers.{is_in-append, is_in_at, take_snoc, snoc_cases, place_of, number_place, number_way}
-use Rattle.walk_checks.proofs.Steps.{nodes_more, node_at, explained_snoc, explained_at, explained_only, explained_grows, names_only, explained_in}
+use Rattle.walk_checks.proofs.Bools.{or_cases}
+use Rattle.walk_checks.proofs.Numbers.{is_in-append, is_in_at, take_snoc, snoc_cases, number_place, number_way}
+use Rattle.walk_checks.proofs.Steps.{nodes_more, node_at, explained_snoc, explained_only, explained_grows, names_only, explained_in}
 
 -- one more step
 pub take_step : (steps : List Step) (i : ℕ) (d : Step) → i < length steps → take (i + 1) steps ≡ take i steps ++ slice_index_or steps i d ∷ []

@@ -4,3 +4,4 @@ pub mod Steps
 pub mod Exactness
 pub mod Members
 pub mod Runs
+pub mod BackLemmas

@@ -1,12 +1,12 @@
 -- The members of a set, as a list.
-use Rattle.std.proofs.Common.{◌≡◌, ℕ, zero, suc, ◌+◌, ◌<◌, ◌≤◌, Bool, true, false, ◌&&◌, ◌⊎◌, List, [], ◌∷◌, length, refl, sym, ◌∙◌, subst, ◌≢◌, inl, inr, arith}
+use Rattle.std.proofs.Common.{◌≡◌, ℕ, zero, suc, ◌+◌, ◌<◌, ◌≤◌, Bool, true, false, ◌&&◌, List, [], ◌∷◌, length, refl, sym, ◌∙◌, subst, ◌≢◌, inl, inr, arith}
 use Rattle.std.specs.Prelude.{IsTrue, IsFalse, ◌==◌, filter}
 use Rattle.std.specs.List.{range_with_len}
-use Rattle.std.proofs.lemmas.Bool.{eqb-true, eq-eqb}
+use Rattle.std.proofs.lemmas.Bool.{eqb-true}
 use Rattle.std.proofs.lemmas.Bool.Decides.{eqb_tells}
 use Rattle.guppy_support.specs.Bits.{has, members}
 use Rattle.walk_engine.specs.Walks.{is_in}
-use Rattle.walk_checks.proofs.Bools.{decide, clash, or_cases, or_left, or_right, and_both, and_intro}
+use Rattle.walk_checks.proofs.Bools.{decide, or_left, or_right, and_both, and_intro}
 use Rattle.walk_checks.proofs.Numbers.{has_within}
 
 and_none : (a b : Bool) → IsFalse b → IsFalse (a && b)

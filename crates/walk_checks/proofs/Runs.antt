@@ -1,11 +1,11 @@
 -- Walks that are explained.
-use Rattle.std.proofs.Common.{◌≡◌, ℕ, Bool, true, false, ◌||◌, ◌&&◌, not, ◌⊎◌, List, [], ◌∷◌, ◌++◌, ◌+◌, ◌<◌, length, take, add-one, refl, sym, ◌∙◌, ap, subst, inl, inr}
+use Rattle.std.proofs.Common.{◌≡◌, ℕ, Bool, true, false, ◌||◌, ◌&&◌, not, List, [], ◌∷◌, ◌++◌, ◌+◌, ◌<◌, length, take, add-one, refl, sym, ◌∙◌, ap, subst, inl, inr}
 use Rattle.std.specs.Prelude.{IsTrue, IsFalse, ◌==◌, ◌↔◌, slice_index_or}
 use Rattle.std.proofs.lemmas.Bool.{eqb-true, eq-eqb}
 use Rattle.walk_engine.specs.declared.walks.Half.{Half}
 use Rattle.walk_engine.specs.declared.walks.Step.{Step}
 use Rattle.walk_engine.specs.Walks.{Content, Call, is_of, is_half, was_made, was_accepted, IsLegal, Agrees, IsClosed, Least, is_in}
-use Rattle.walk_engine.specs.Explanations.{IsExplanation, IsExplainedWalk, nodes_of, refused_of}
+use Rattle.walk_engine.specs.Explanations.{IsExplainedWalk, nodes_of, refused_of}
 use Rattle.walk_checks.specs.Exact.{is_refused, all_but, IsExact}
 use Rattle.walk_checks.proofs.Bools.{decide, clash, or_cases, or_left, or_right, and_both, and_intro, not_true, is_half_same, is_half_refl}
 use Rattle.walk_checks.proofs.Numbers.{take_snoc}

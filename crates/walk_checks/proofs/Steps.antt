@@ -1,22 +1,21 @@
 -- Explanations, step by step.
-use Rattle.std.proofs.Common.{◌≡◌, ℕ, zero, suc, ◌+◌, ◌<◌, ◌≤◌, Bool, true, false, ◌||◌, ◌&&◌, ◌⊎◌, List, [], ◌∷◌, ◌++◌, Option, Some, None, length, take, map, refl, sym, ◌∙◌, ap, subst, inl, inr, arith}
-use Rattle.std.specs.Prelude.{IsTrue, IsFalse, slice_get, ◌==◌, ◌↔◌}
+use Rattle.std.proofs.Common.{◌≡◌, ℕ, zero, suc, ◌<◌, Bool, ◌||◌, List, [], ◌∷◌, ◌++◌, Option, Some, None, length, take, refl, sym, ◌∙◌, ap, subst, inl, inr, arith}
+use Rattle.std.specs.Prelude.{IsTrue, IsFalse, slice_get, ◌==◌}
 use Rattle.std.specs.Option.{option_map}
 use Rattle.std.proofs.lemmas.Bool.{eqb-true, eq-eqb}
 use Rattle.std.proofs.lemmas.List.{map-append, length-map, take-map, take_at, take-append-le, take_all}
-use Rattle.std.proofs.lemmas.Option.{slice_get-map, slice_get_within, slice_get_past}
+use Rattle.std.proofs.lemmas.Option.{slice_get-map, slice_get_within}
 use Rattle.walk_engine.specs.declared.walks.Half.{Half}
-use Rattle.walk_engine.specs.declared.walks.Ask.TheVariants as asks
 use Rattle.walk_engine.specs.declared.walks.Step.{Step}
 use Rattle.walk_engine.specs.declared.walks.StepReason.{StepReason}
 use Rattle.walk_engine.specs.declared.walks.StepReason.TheVariants.{Initial, Edge, Offer}
-use Rattle.walk_engine.specs.Walks.{Content, Way, IsWay, EndsAreNodes, has_half, has_gate, is_in, is_half, IsClosed, Least}
-use Rattle.walk_engine.specs.Explanations.{IsReason, IsExplanation, HasReasons, Distinct, nodes_of}
+use Rattle.walk_engine.specs.Walks.{Content, Way, IsWay, EndsAreNodes, is_in, is_half, IsClosed}
+use Rattle.walk_engine.specs.Explanations.{IsReason, IsExplanation, Distinct, nodes_of}
 use Rattle.walk_engine.specs.Laws.{every}
 use Rattle.walk_checks.specs.Exact.{names, named_in}
 use Rattle.walk_checks.specs.inner.Tests.{KeepsReason, NamesOnly}
-use Rattle.walk_checks.proofs.Bools.{decide, clash, or_cases, or_left, or_right, and_intro, is_half_refl}
-use Rattle.walk_checks.proofs.Numbers.{is_in-append, distinct_more, is_in_at, not_before, take_snoc, snoc_cases, take_past}
+use Rattle.walk_checks.proofs.Bools.{clash, or_cases, or_left, or_right, and_intro, is_half_refl}
+use Rattle.walk_checks.proofs.Numbers.{is_in-append, distinct_more, not_before, take_snoc, snoc_cases, take_past}
 
 pub nodes_more : (steps : List Step) (step : Step) → nodes_of (steps ++ step ∷ []) ≡ nodes_of steps ++ step.node ∷ []
 nodes_more steps step = map-append (λ (s : Step). s.node) steps (step ∷ [])

@@ -6,8 +6,10 @@ mod exact;
 mod explained;
 pub mod laws;
 mod refusals;
+mod resting;
 mod table;
 
 pub use exact::check_exact_steps;
 pub use explained::check_steps;
+pub use resting::why;
 pub use table::{EdgeTable, TableEdge};

@@ -1,4 +1,4 @@
-use Rattle.std.proofs.Common.{◌≡◌, ◌<◌, ◌≤◌, ◌+◌, ◌∙◌, length, refl, sym, subst, arith}
+use Rattle.std.proofs.Common.{refl, sym, arith}
 use Rattle.guppy_support.specs.Bits.{has}
 use Rattle.walk_checks.specs.inner.Tests.{unmarked}
 use Rattle.walk_checks.proofs.Bools.{clash}

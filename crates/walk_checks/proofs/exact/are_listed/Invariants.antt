@@ -1,4 +1,4 @@
-use Rattle.std.proofs.Common.{ℕ, ◌⊎◌, All}
+use Rattle.std.proofs.Common.{ℕ, ◌⊎◌}
 use Rattle.std.specs.Prelude.{IsTrue}
 use Rattle.guppy_support.specs.Bits.{has}
 use Rattle.walk_engine.specs.Walks.{is_in}

@@ -1,5 +1,4 @@
-use Rattle.std.proofs.Common.{◌≡◌, ◌<◌, ◌∙◌, ℕ, Bool, true, false, List, length, refl, sym, ap, subst, arith}
-use Rattle.std.specs.Prelude.{IsTrue}
+use Rattle.std.proofs.Common.{◌∙◌, sym, arith}
 use Rattle.guppy_support.specs.Bits.{has}
 use Rattle.walk_checks.proofs.Bools.{clash}
 use Rattle.walk_checks.proofs.Exactness.{exact_by, exact_explained, exact_spared, exact_initial, exact_closed, MarksAre}

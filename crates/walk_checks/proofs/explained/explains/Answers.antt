@@ -1,11 +1,10 @@
-use Rattle.std.proofs.Common.{◌≡◌, ◌<◌, ◌+◌, ◌∙◌, ℕ, Bool, ◌||◌, List, length, take, sym, refl, ap, subst, arith}
-use Rattle.std.specs.Prelude.{IsTrue, ◌==◌, slice_index_or, slice_set}
+use Rattle.std.proofs.Common.{◌<◌, ◌∙◌, ℕ, Bool, ◌||◌, List, length, take, sym, refl, ap, arith}
+use Rattle.std.specs.Prelude.{◌==◌, slice_index_or}
 use Rattle.std.proofs.Math.ListN.{length-set}
 use Rattle.std.proofs.lemmas.Option.{slice_get-get_or}
 use Rattle.guppy_support.specs.Bits.{has}
 use Rattle.walk_engine.specs.declared.walks.Step.{Step}
 use Rattle.walk_engine.specs.declared.walks.StepReason.TheVariants.{Initial}
-use Rattle.walk_engine.specs.Walks.{is_in}
 use Rattle.walk_engine.specs.Explanations.{nodes_of}
 use Rattle.walk_engine.specs.Laws.{every}
 use Rattle.walk_checks.proofs.Bools.{clash}

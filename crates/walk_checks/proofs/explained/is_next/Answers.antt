@@ -1,5 +1,4 @@
-use Rattle.std.proofs.Common.{◌≡◌, ◌<◌, ◌∙◌, ℕ, Bool, true, false, not, sym, refl, ap, subst, arith, length}
-use Rattle.std.specs.Prelude.{IsTrue, IsFalse}
+use Rattle.std.proofs.Common.{◌<◌, ◌∙◌, sym, arith}
 use Rattle.std.proofs.lemmas.Bool.{not-false}
 use Rattle.guppy_support.specs.Bits.{has}
 use Rattle.walk_engine.specs.Laws.{every}

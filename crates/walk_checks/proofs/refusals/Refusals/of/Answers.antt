@@ -1,4 +1,4 @@
-use Rattle.std.proofs.Common.{◌≡◌, ◌<◌, ◌≤◌, ◌+◌, ◌||◌, ◌&&◌, ◌∙◌, ℕ, Bool, List, length, take, refl, sym, ap, subst, arith, add-one}
+use Rattle.std.proofs.Common.{◌||◌, ◌&&◌, ◌∙◌, ℕ, Bool, List, sym, ap, arith}
 use Rattle.std.specs.Prelude.{slice_index_or, ◌==◌}
 use Rattle.std.proofs.lemmas.List.{take_all}
 use Rattle.walk_engine.specs.declared.walks.Half.{Half}
