@@ -160,6 +160,11 @@ begun_more : (node : ℕ) (N N' : ℕ → Bool) (kept : List Step) (s : Step) �
 begun_more node N N' [] s t begun = begun s.node t
 begun_more node N N' (x ∷ kept) s t begun = begun
 
+-- the same under other names
+pub back_moved : (c : Content) (steps : List Step) (node p q : ℕ) (N M : List Bool) (kept more : List Step) → p ≡ q → M ≡ N → more ≡ kept → IsBack c steps node p (has N) kept → IsBack c steps node q (has M) more
+back_moved c steps node p q N M kept more same needed listed back =
+    subst (λ (i : ℕ). IsBack c steps node i (has M) more) same (subst (λ (S : List Bool). IsBack c steps node p (has S) more) (sym needed) (subst (λ (xs : List Step). IsBack c steps node p (has N) xs) (sym listed) back))
+
 -- a needed step is kept, and what it leans on is needed
 pub back_keep : (c : Content) (steps : List Step) (node k p : ℕ) (d : Step) (N N' : ℕ → Bool) (kept : List Step) → k ≡ p + 1 → p < length steps → IsTrue (N (slice_index_or steps p d).node) → ((n : ℕ) → IsTrue (N' n) ↔ (IsTrue (N n) ⊎ Leans c (slice_index_or steps p d).reason n)) → IsBack c steps node k N kept → IsBack c steps node p N' (kept ++ slice_index_or steps p d ∷ [])
 back_keep c steps node k p d N N' kept next inside here more back =

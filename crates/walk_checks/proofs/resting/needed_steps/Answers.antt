@@ -1,9 +1,10 @@
-use Rattle.std.proofs.Common.{◌≡◌, ◌<◌, ◌+◌, ◌-◌, ◌∙◌, ℕ, Bool, List, length, refl, sym, ap, subst, arith}
+use Rattle.std.proofs.Common.{◌≡◌, ◌<◌, ◌+◌, ◌-◌, ◌∙◌, ◌++◌, ◌∷◌, [], ℕ, Bool, List, length, refl, sym, ap, subst, arith}
+use Rattle.std.specs.Prelude.{slice_index_or}
 use Rattle.guppy_support.specs.Bits.{has}
 use Rattle.walk_engine.specs.declared.walks.Step.{Step}
 use Rattle.walk_engine.specs.declared.walks.StepReason.TheVariants.{Initial}
 use Rattle.walk_checks.specs.inner.Backwards.{IsBack}
-use Rattle.walk_checks.proofs.BackLemmas.{back_none, back_skip, back_keep}
+use Rattle.walk_checks.proofs.BackLemmas.{back_none, back_skip, back_keep, back_moved}
 use Rattle.walk_checks.proofs.resting.needed_steps.Goals as goal
 use Rattle.walk_checks.proofs.resting.needed_steps.Goals.{then-holds+in_ok-push, else-holds}
 
@@ -29,16 +30,14 @@ loop-passed-preserved g c =
       | then-holds+in_ok-push w ↦ record {
         size = ap length w.needed-is ∙ (w.need.ensures.size ∙ c.loop-passed.invariant.size);
         back = λ node only.
-            let kept = back_keep con steps node k p d (has c.loop-passed.needed) (has w.need.new.needed) c.loop-passed.kept.items next inside (sym c.holds.ensures ∙ w.if-holds.true) w.need.ensures.needed (c.loop-passed.invariant.back node only) in
-            let here = subst (λ (xs : List Step). IsBack con steps node p (has w.need.new.needed) xs) (sym (ap (λ v. v.items) w.kept-is ∙ w.in_ok-push.ensures.items)) kept in
-            subst (λ (i : ℕ). IsBack con steps node i (has c.if-holds.needed) c.if-holds.kept.items) same (subst (λ (N : List Bool). IsBack con steps node p (has N) c.if-holds.kept.items) (sym w.needed-is) here);
+            back_moved con steps node p (length steps - (c.loop-passed.passed + 1)) w.need.new.needed c.if-holds.needed (c.loop-passed.kept.items ++ slice_index_or steps p d ∷ []) c.if-holds.kept.items same w.needed-is (ap (λ v. v.items) w.kept-is ∙ w.in_ok-push.ensures.items)
+            (back_keep con steps node k p d (has c.loop-passed.needed) (has w.need.new.needed) c.loop-passed.kept.items next inside (sym c.holds.ensures ∙ w.if-holds.true) w.need.ensures.needed (c.loop-passed.invariant.back node only));
       }
       | else-holds w ↦ record {
         size = ap length w.needed-is ∙ c.loop-passed.invariant.size;
         back = λ node only.
-            let kept = back_skip con steps node k p d (has c.loop-passed.needed) c.loop-passed.kept.items next inside (sym c.holds.ensures ∙ w.if-holds.false) (c.loop-passed.invariant.back node only) in
-            let here = subst (λ (xs : List Step). IsBack con steps node p (has c.loop-passed.needed) xs) (sym (ap (λ v. v.items) w.kept-is)) kept in
-            subst (λ (i : ℕ). IsBack con steps node i (has c.if-holds.needed) c.if-holds.kept.items) same (subst (λ (N : List Bool). IsBack con steps node p (has N) c.if-holds.kept.items) (sym w.needed-is) here);
+            back_moved con steps node p (length steps - (c.loop-passed.passed + 1)) c.loop-passed.needed c.if-holds.needed c.loop-passed.kept.items c.if-holds.kept.items same w.needed-is (ap (λ v. v.items) w.kept-is)
+            (back_skip con steps node k p d (has c.loop-passed.needed) c.loop-passed.kept.items next inside (sym c.holds.ensures ∙ w.if-holds.false) (c.loop-passed.invariant.back node only));
       }
     ]
 
