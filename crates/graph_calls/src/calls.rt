@@ -1,6 +1,7 @@
 //! Which call a line asks for.
 ghost use Rattle.feature_core.specs.Built.{IsBuilt};
 
+use crate::checks::{check, check_exact, check_walk, tell_why};
 use crate::edges::{Told, edges};
 use crate::failure::Failure;
 use crate::nodes::{built_from, figures, nodes};
@@ -31,6 +32,10 @@ fn package_call(
         "nodes" => nodes(out, alloc, graph, built, words)?,
         "walk" => walk_from(out, alloc, built, words)?,
         "reach" => reach(out, alloc, built, words)?,
+        "check" => check(out, alloc, built, words)?,
+        "check-exact" => check_exact(out, alloc, built, words)?,
+        "check-walk" => check_walk(out, alloc, built, words)?,
+        "why" => tell_why(out, alloc, built, words)?,
         _ => return Err(Failure::Words),
     }
     Ok(())

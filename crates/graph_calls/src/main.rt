@@ -5,6 +5,7 @@
 #![tactic(auto)]
 
 mod calls;
+mod checks;
 mod copies;
 mod edge;
 mod edges;

@@ -26,7 +26,7 @@ fn insert(set: &mut IxBitSet, words: &str) -> Result<(), Failure> {
 }
 
 /// The set of the nodes of a text.
-fn set_of(alloc: Global, size: usize, words: &str) -> Result<IxBitSet, Failure> {
+pub fn set_of(alloc: Global, size: usize, words: &str) -> Result<IxBitSet, Failure> {
     let mut set = IxBitSet::empty(alloc, size)?;
     insert(&mut set, words)?;
     Ok(set)

@@ -1,0 +1,33 @@
+-- Explanations that leave nothing out.
+use Rattle.std.specs.Prelude.{ℕ, Bool, false, not, List, [], ◌∷◌, IsTrue, ◌&&◌, ◌||◌, ◌==◌}
+use Rattle.walk_engine.specs.declared.walks.Half.{Half}
+use Rattle.walk_engine.specs.declared.walks.Step.{Step}
+use Rattle.walk_engine.specs.declared.walks.StepReason.{StepReason}
+use Rattle.walk_engine.specs.declared.walks.StepReason.TheVariants.{Initial, Edge, Offer}
+use Rattle.walk_engine.specs.Walks.{Content, is_half, is_in, IsClosed}
+use Rattle.walk_engine.specs.Explanations.{IsExplanation, nodes_of}
+
+-- whether the reason names the offer
+abbrev pub names : StepReason → ℕ → Half → Bool
+names Initial e h = false
+names (Edge k) e h = false
+names (Offer k half) e h = (k == e) && is_half half h
+
+-- whether a step names the offer
+abbrev pub named_in : List Step → ℕ → Half → Bool
+named_in [] e h = false
+named_in (step ∷ steps) e h = names step.reason e h || named_in steps e h
+
+-- whether the offer is listed as refused
+abbrev pub is_refused : List (ℕ × Half) → ℕ → Half → Bool
+is_refused [] e h = false
+is_refused (offer ∷ offers) e h = ((offer.0 == e) && is_half offer.1 h) || is_refused offers e h
+
+-- all offers but the refused
+abbrev pub all_but : List (ℕ × Half) → ℕ → Half → Bool
+all_but refused e h = not (is_refused refused e h)
+
+-- an explanation by offers that aren't refused, which lists a set that is closed for all of these
+pub record IsExact (c : Content) (I : ℕ → Bool) (refused : List (ℕ × Half)) (steps : List Step) : Type 0 where
+  pub explanation : IsExplanation c I (all_but refused) steps
+  pub closed : IsClosed c I (all_but refused) (λ n. IsTrue (is_in (nodes_of steps) n))

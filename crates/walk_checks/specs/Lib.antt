@@ -1,0 +1,4 @@
+pub mod Tables
+pub mod Exact
+pub mod Whys
+pub mod inner

@@ -1,0 +1,170 @@
+//! Whether an explanation leaves nothing out.
+
+ghost use Rattle.std.specs.Prelude.{◌≡◌, ◌<◌, ◌↔◌, ℕ, Some, IsTrue, IfOk, length, slice_get, not};
+ghost use Rattle.guppy_support.specs.Bits.{has};
+ghost use Rattle.walk_engine.specs.Walks.{Content, Way, IsWay, EndsAreNodes, is_in};
+ghost use Rattle.walk_engine.specs.Explanations.{nodes_of};
+ghost use Rattle.walk_engine.specs.declared.walks.Half.{Half};
+ghost use Rattle.walk_engine.specs.declared.walks.Step.{Step};
+ghost use Rattle.walk_checks.specs.Exact.{IsExact};
+ghost use Rattle.walk_checks.specs.inner.Tests.{has_mark, unmarked, is_open_by, leads_on, Keeps, NamesOnly, KeepsReason, IsComplete};
+
+use crate::explained::explains;
+use crate::refusals::Refusals;
+use crate::table::{EdgeTable, TableEdge, holds, is_offered, is_unasked};
+use guppy_support::IxBitSet;
+use std::alloc::{AllocError, Global};
+use walk_engine::{Half, Step, StepReason};
+
+/// Whether the reason names no refused offer.
+fn is_spared(refusals: &Refusals, reason: StepReason) -> bool
+    ensures { IsTrue result ↔ KeepsReason (unmarked refusals.now) reason }
+{
+    match reason {
+        StepReason::Initial => true,
+        StepReason::Edge(_) => true,
+        StepReason::Offer(edge, half) => !refusals.has(edge, half),
+    }
+}
+
+/// Whether no step names a refused offer.
+fn are_spared(refusals: &Refusals, steps: &[Step]) -> bool
+    ensures { IsTrue result ↔ NamesOnly (unmarked refusals.now) steps.now }
+{
+    for step in steps {
+        if !is_spared(refusals, step.reason) {
+            return false;
+        }
+    }
+    true
+}
+
+/// Whether each initial node is listed.
+fn are_listed(initials: &IxBitSet, listed: &IxBitSet) -> bool
+    ensures { IsTrue result ↔ ((n : ℕ) → IsTrue (has initials.now n) → IsTrue (has listed.now n)) }
+{
+    for node in initials.ones() {
+        if !holds(listed, node) {
+            return false;
+        }
+    }
+    true
+}
+
+/// Whether the half of the edge can be offered once its start is listed, and isn't refused.
+fn is_open(
+    refusals: &Refusals,
+    listed: &IxBitSet,
+    number: usize,
+    edge: TableEdge,
+    half: Half,
+) -> bool
+    ensures { result ≡ is_open_by (unmarked refusals.now) (has listed.now) number edge half }
+{
+    is_offered(edge, half, listed) && !refusals.has(number, half)
+}
+
+/// Whether the edge has to be followed once its start is listed: nothing is asked, or a half can be offered that isn't
+/// refused.
+fn leads_on(refusals: &Refusals, listed: &IxBitSet, number: usize, edge: TableEdge) -> bool
+    ensures { result ≡ leads_on (unmarked refusals.now) (has listed.now) number edge }
+{
+    is_unasked(edge.ask)
+        || is_open(refusals, listed, number, edge, Half::Full)
+        || is_open(refusals, listed, number, edge, Half::Required)
+        || is_open(refusals, listed, number, edge, Half::Optional)
+}
+
+/// Whether the edge's far end is listed where the edge has to be followed.
+fn is_kept<T: EdgeTable>(table: &T, refusals: &Refusals, listed: &IxBitSet, number: usize) -> bool
+    ensures { (w : Way) → IsWay (T.content table.now) number w
+        → IsTrue result ↔ Keeps (unmarked refusals.now) (has listed.now) number w }
+{
+    match table.edge(number) {
+        None => true,
+        Some(edge) => holds(listed, edge.far) || !leads_on(refusals, listed, number, edge),
+    }
+}
+
+/// Whether all edges that start at the node are kept.
+fn are_kept<T: EdgeTable>(table: &T, refusals: &Refusals, listed: &IxBitSet, node: usize) -> bool
+    requires { node < (T.content table.now).nodes }
+    ensures { IsTrue result ↔ ((e : ℕ) (w : Way) → IsWay (T.content table.now) e w → w.start ≡ node
+        → Keeps (unmarked refusals.now) (has listed.now) e w) }
+{
+    for place in 0..table.edge_count() {
+        match table.edge_from(node, place) {
+            None => return true,
+            Some(number) => {
+                if !is_kept(table, refusals, listed, number) {
+                    return false;
+                }
+            }
+        }
+    }
+    true
+}
+
+/// Whether all edges that start at listed nodes are kept.
+fn is_closed<T: EdgeTable>(
+    table: &T,
+    refusals: &Refusals,
+    listed: &IxBitSet,
+    steps: &[Step],
+) -> bool
+    requires size { length listed.now ≡ (T.content table.now).nodes }
+    requires listed { (n : ℕ) → has listed.now n ≡ is_in (nodes_of steps.now) n }
+    ensures { IsTrue result ↔ ((e : ℕ) (w : Way) → IsWay (T.content table.now) e w → IsTrue (has listed.now w.start)
+        → Keeps (unmarked refusals.now) (has listed.now) e w) }
+{
+    for step in steps {
+        if !are_kept(table, refusals, listed, step.node) {
+            return false;
+        }
+    }
+    true
+}
+
+/// Whether no step names a refused offer, and the listed nodes are closed for all others.
+fn is_complete<T: EdgeTable>(
+    table: &T,
+    initials: &IxBitSet,
+    refusals: &Refusals,
+    listed: &IxBitSet,
+    steps: &[Step],
+) -> bool
+    requires size { length listed.now ≡ (T.content table.now).nodes }
+    requires listed { (n : ℕ) → has listed.now n ≡ is_in (nodes_of steps.now) n }
+    ensures { IsTrue result ↔ IsComplete (unmarked refusals.now) (T.content table.now) (has initials.now)
+        (has listed.now) steps.now }
+{
+    are_spared(refusals, steps)
+        && are_listed(initials, listed)
+        && is_closed(table, refusals, listed, steps)
+}
+
+/// Whether the steps are an explanation that names no refused offer, and lists a set that is closed for all offers but the
+/// refused: it holds the initial nodes, the far end of each unconditional edge whose start it holds, and that of each
+/// offer that isn't refused whose start, and gate where it waits for one, it holds.
+///
+/// Whoever made the steps isn't trusted. A refused entry that is no offer refuses nothing. Linear in the steps, the refused
+/// entries and the edges of the listed nodes; memory is taken for a bit a node and three bits an edge, and the error is
+/// want of it.
+pub fn check_exact_steps<T: EdgeTable>(
+    alloc: Global,
+    table: &T,
+    initials: &IxBitSet,
+    steps: &[Step],
+    refused: &[(usize, Half)],
+) -> Result<bool, AllocError>
+    requires { length initials.now ≡ (T.content table.now).nodes }
+    ensures { IfOk result (λ exact. IsTrue exact
+        ↔ IsExact (T.content table.now) (has initials.now) refused.now steps.now) }
+{
+    let mut listed = IxBitSet::empty(alloc, table.node_count())?;
+    let refusals = Refusals::of(alloc, table.edge_count(), refused)?;
+    Ok(
+        explains(table, initials, steps, &mut listed)
+            && is_complete(table, initials, &refusals, &listed, steps),
+    )
+}

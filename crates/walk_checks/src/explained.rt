@@ -1,0 +1,89 @@
+//! Whether steps explain their nodes.
+
+ghost use Rattle.std.specs.Prelude.{◌≡◌, ◌<◌, ◌↔◌, ℕ, List, IsTrue, IsFalse, IfOk, length, take};
+ghost use Rattle.guppy_support.specs.Bits.{has};
+ghost use Rattle.walk_engine.specs.Walks.{Content, EndsAreNodes, is_in};
+ghost use Rattle.walk_engine.specs.Explanations.{IsReason, IsExplanation, nodes_of};
+ghost use Rattle.walk_engine.specs.Laws.{every};
+
+use crate::table::{EdgeTable, holds, is_offered, is_unasked, leads_to};
+use guppy_support::IxBitSet;
+use std::alloc::{AllocError, Global};
+use walk_engine::{Step, StepReason};
+
+/// Whether the step's reason holds, where the listed nodes stand before it.
+fn has_reason<T: EdgeTable>(table: &T, initials: &IxBitSet, listed: &IxBitSet, step: Step) -> bool
+    ensures { (before : List ℕ) → ((n : ℕ) → has listed.now n ≡ is_in before n)
+        → IsTrue result ↔ IsReason (T.content table.now) (has initials.now) every before step.node step.reason }
+{
+    match step.reason {
+        StepReason::Initial => holds(initials, step.node),
+        StepReason::Edge(number) => match table.edge(number) {
+            None => false,
+            Some(edge) => is_unasked(edge.ask) && leads_to(edge, listed, step.node),
+        },
+        StepReason::Offer(number, half) => match table.edge(number) {
+            None => false,
+            Some(edge) => leads_to(edge, listed, step.node) && is_offered(edge, half, listed),
+        },
+    }
+}
+
+/// Whether the step may come next: its node isn't listed yet, and its reason holds.
+fn is_next<T: EdgeTable>(table: &T, initials: &IxBitSet, listed: &IxBitSet, step: Step) -> bool
+    requires ends { EndsAreNodes (T.content table.now) }
+    requires initials { length initials.now ≡ (T.content table.now).nodes }
+    requires listed { length listed.now ≡ (T.content table.now).nodes }
+    ensures node { IsTrue result → step.node < length listed.now }
+    ensures next { (before : List ℕ) → ((n : ℕ) → has listed.now n ≡ is_in before n)
+        → IsTrue result ↔ (IsFalse (is_in before step.node)
+        × IsReason (T.content table.now) (has initials.now) every before step.node step.reason) }
+{
+    step.node < listed.size()
+        && !listed.contains(step.node)
+        && has_reason(table, initials, listed, step)
+}
+
+/// Whether the steps are an explanation; if so, their nodes are listed.
+pub(crate) fn explains<T: EdgeTable>(
+    table: &T,
+    initials: &IxBitSet,
+    steps: &[Step],
+    listed: &mut IxBitSet,
+) -> bool
+    requires ends { EndsAreNodes (T.content table.now) }
+    requires initials { length initials.now ≡ (T.content table.now).nodes }
+    requires listed { length listed.old ≡ (T.content table.now).nodes }
+    requires blank { (n : ℕ) → IsFalse (has listed.old n) }
+    ensures size { length listed.new ≡ length listed.old }
+    ensures explained { IsTrue result
+        ↔ IsExplanation (T.content table.now) (has initials.now) every steps.now }
+    ensures listed { IsTrue result → (n : ℕ) → has listed.new n ≡ is_in (nodes_of steps.now) n }
+{
+    for step in steps {
+        if !is_next(table, initials, listed, *step) {
+            return false;
+        }
+        listed.insert(step.node);
+    }
+    true
+}
+
+/// Whether the steps are an explanation, by offers of any kind: no node twice, and for each a reason that holds by the
+/// steps before it.
+///
+/// Whoever made the steps isn't trusted: a number that is no node or no edge, or a half that the edge lacks, gives false.
+/// Linear in the steps; memory is taken for a bit a node, and the error is want of it.
+pub fn check_steps<T: EdgeTable>(
+    alloc: Global,
+    table: &T,
+    initials: &IxBitSet,
+    steps: &[Step],
+) -> Result<bool, AllocError>
+    requires { length initials.now ≡ (T.content table.now).nodes }
+    ensures { IfOk result (λ explained. IsTrue explained
+        ↔ IsExplanation (T.content table.now) (has initials.now) every steps.now) }
+{
+    let mut listed = IxBitSet::empty(alloc, table.node_count())?;
+    Ok(explains(table, initials, steps, &mut listed))
+}

@@ -1,0 +1,33 @@
+//! Laws of explanations. Each function's contract is the law: they do nothing, and speak of the definitions alone.
+
+ghost use Rattle.std.specs.Prelude.{◌≡◌, ◌↔◌, ℕ, Bool, List, IsTrue};
+ghost use Rattle.walk_engine.specs.Walks.{Content, Least, is_in};
+ghost use Rattle.walk_engine.specs.Explanations.{IsExplanation, IsExplainedWalk, nodes_of};
+ghost use Rattle.walk_engine.specs.Laws.{every};
+ghost use Rattle.walk_engine.specs.declared.walks.Half.{Half};
+ghost use Rattle.walk_engine.specs.declared.walks.Step.{Step};
+ghost use Rattle.walk_checks.specs.Exact.{named_in, all_but, IsExact};
+
+use walk_engine::Offerer;
+
+/// Each node of an explanation is in every set that is closed for the offers that its steps name.
+pub fn explained_in_least()
+    ensures { (c : Content) (I : ℕ → Bool) (steps : List Step) → IsExplanation c I every steps
+        → (n : ℕ) → IsTrue (is_in (nodes_of steps) n) → Least c I (named_in steps) n }
+{}
+
+/// The nodes of an exact explanation are the least set for all offers but the refused.
+pub fn exact_is_least()
+    ensures { (c : Content) (I : ℕ → Bool) (refused : List (ℕ × Half)) (steps : List Step)
+        → IsExact c I refused steps → (n : ℕ) → IsTrue (is_in (nodes_of steps) n) ↔ Least c I (all_but refused) n }
+{}
+
+/// The steps that a walk gives are an explanation, and exact for the refused offers that it gives.
+pub fn walk_is_exact<O: Offerer>()
+    ensures explained { (c : Content) (I : ℕ → Bool) (s t : O) (M : ℕ → Bool) (steps : List Step)
+        (refused : List (ℕ × Half)) → IsExplainedWalk c I O.gives s t M steps refused
+        → IsExplanation c I every steps }
+    ensures exact { (c : Content) (I : ℕ → Bool) (s t : O) (M : ℕ → Bool) (steps : List Step)
+        (refused : List (ℕ × Half)) → IsExplainedWalk c I O.gives s t M steps refused
+        → IsExact c I refused steps }
+{}

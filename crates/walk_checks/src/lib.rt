@@ -1,0 +1,15 @@
+//! Checks of explanations: whether steps explain their nodes, whether they leave nothing out, and the steps on which one
+//! node rests. They trust nobody who made the steps, and look edges up by number.
+#![tactic(auto)]
+
+mod exact;
+mod explained;
+pub mod laws;
+mod refusals;
+mod resting;
+mod table;
+
+pub use exact::check_exact_steps;
+pub use explained::check_steps;
+pub use resting::why;
+pub use table::{EdgeTable, TableEdge};

@@ -1,0 +1,85 @@
+//! Refused offers, looked up by edge and half.
+
+ghost use Rattle.std.specs.Prelude.{◌≡◌, ◌<◌, ◌||◌, ◌&&◌, ◌==◌, ℕ, IfOk, length, false};
+ghost use Rattle.guppy_support.specs.Bits.{has};
+ghost use Rattle.walk_engine.specs.declared.walks.Half.{Half};
+ghost use Rattle.walk_engine.specs.Walks.{is_half};
+ghost use Rattle.walk_checks.specs.Exact.{is_refused};
+ghost use Rattle.walk_checks.specs.inner.Tests.{has_mark, AreSized};
+
+use crate::table::holds;
+use guppy_support::IxBitSet;
+use std::alloc::{AllocError, Global};
+use walk_engine::Half;
+
+/// Puts the number into the set, where it is below its bound.
+fn put(set: &mut IxBitSet, number: usize)
+    ensures size { length set.new ≡ length set.old }
+    ensures put { (k : ℕ) → k < length set.old → has set.new k ≡ (has set.old k || (number == k)) }
+{
+    if number < set.size() {
+        set.insert(number);
+    }
+}
+
+/// The edges of which each half is refused.
+#[derive(Drop)]
+pub(crate) struct Refusals {
+    full: IxBitSet,
+    required: IxBitSet,
+    optional: IxBitSet,
+}
+
+impl Refusals {
+    /// No refusals, of so many edges.
+    fn none(alloc: Global, edge_count: usize) -> Result<Refusals, AllocError>
+        ensures sized { IfOk result (AreSized edge_count) }
+        ensures blank { IfOk result (λ r. (e : ℕ) (h : Half) → has_mark r e h ≡ false) }
+    {
+        Ok(Refusals {
+            full: IxBitSet::empty(alloc, edge_count)?,
+            required: IxBitSet::empty(alloc, edge_count)?,
+            optional: IxBitSet::empty(alloc, edge_count)?,
+        })
+    }
+
+    /// Notes that the half of the edge is refused, where there is such an edge.
+    fn note(&mut self, edge: usize, half: Half)
+        ensures { (count : ℕ) → AreSized count self.old → AreSized count self.new
+            × ((e : ℕ) (h : Half) → e < count → has_mark self.new e h
+            ≡ (has_mark self.old e h || ((edge == e) && is_half half h))) }
+    {
+        match half {
+            Half::Full => put(&mut self.full, edge),
+            Half::Required => put(&mut self.required, edge),
+            Half::Optional => put(&mut self.optional, edge),
+        }
+    }
+
+    /// The refusals of a list, of so many edges. What is said of other edges is passed over.
+    pub(crate) fn of(
+        alloc: Global,
+        edge_count: usize,
+        refused: &[(usize, Half)],
+    ) -> Result<Refusals, AllocError>
+        ensures { IfOk result (λ r. (e : ℕ) (h : Half) → e < edge_count
+            → has_mark r e h ≡ is_refused refused.now e h) }
+    {
+        let mut refusals = Refusals::none(alloc, edge_count)?;
+        for (edge, half) in refused {
+            refusals.note(*edge, *half);
+        }
+        Ok(refusals)
+    }
+
+    /// Whether the half of the edge is refused.
+    pub(crate) fn has(&self, edge: usize, half: Half) -> bool
+        ensures { result ≡ has_mark self.now edge half }
+    {
+        match half {
+            Half::Full => holds(&self.full, edge),
+            Half::Required => holds(&self.required, edge),
+            Half::Optional => holds(&self.optional, edge),
+        }
+    }
+}
