@@ -44,7 +44,7 @@ fn counted<'g>(
 
 /// By a visitor in a box.
 fn boxed<'g>(alloc: Global, query: FeatureQuery<'g>, recorder: &mut Recorder) -> Resolved<'g> {
-    let count = Rc::new(alloc, Cell::new(0u64))?;
+    let count = Rc::new(alloc, Cell::new(recorder.calls))?;
     let resolved = counted(alloc, query, *recorder, &count);
     recorder.calls = count.get();
     resolved
