@@ -1,25 +1,18 @@
 -- The package that each declaration leads to.
-use Rattle.std.specs.Prelude.{ℕ, ◌&&◌, ◌==◌, List, [], ◌∷◌, map, Bool, true, false, Option, Some, None, filter, if◌then◌else◌}
-use Rattle.std.specs.List.{list_any}
+use Rattle.std.specs.Prelude.{ℕ, ◌&&◌, ◌==◌, List, [], ◌∷◌, map, Bool, true, false, not, Option, Some, None, Result, Ok, Err, filter, if◌then◌else◌, ⊤}
+use Rattle.std.specs.List.{list_any, find}
 use Rattle.std.specs.Str.{bytes_eq}
 use Rattle.std.specs.Cmp.Lexicographic.{pointwise}
-use Rattle.std.specs.Borrow.{Bor}
 use Rattle.cargo_rows.specs.declared.packages.Kind.{Kind}
 use Rattle.cargo_rows.specs.declared.packages.Kind.TheVariants as kind
-use Rattle.cargo_rows.specs.declared.packages.Declaration.{Declaration}
-use Rattle.cargo_rows.specs.declared.packages.Package.{Package}
-use Rattle.cargo_rows.specs.declared.nodes.Use.{Use}
-use Rattle.cargo_rows.specs.declared.nodes.Dep.{Dep}
-use Rattle.cargo_rows.specs.declared.dependencies.Found.{Found}
-use Rattle.cargo_rows.specs.declared.dependencies.Found.TheVariants as found
-use Rattle.cargo_rows.specs.declared.dependencies.Asked.{Asked}
-use Rattle.cargo_rows.specs.declared.dependencies.Asked.TheVariants as asked
-use Rattle.cargo_rows.specs.Faults.{Text}
+use Rattle.cargo_rows.specs.Faults.{Text, Refusal, ambiguous, two_names, ◌>>=◌}
+use Rattle.cargo_rows.specs.Packages.{DeclarationText, PackageText}
+use Rattle.cargo_rows.specs.Nodes.{DepText}
 use Rattle.cargo_rows.specs.Requirements.{admits}
 
 -- the name by which a declaration's package calls the dependency
-abbrev pub name_of : Declaration → Text
-name_of d = elim d.rename as (λ _. Text) [ Some name ↦ name.now | None ↦ d.name.now ]
+abbrev pub name_of : DeclarationText → Text
+name_of d = elim d.rename as (λ _. Text) [ Some name ↦ name | None ↦ d.name ]
 
 -- each `-` of a name made `_`, as in code
 abbrev pub in_code : ℕ → ℕ
@@ -30,13 +23,13 @@ unfoldable pub is_in_code : Text → Text → Bool
 is_in_code name plain = pointwise (λ a b. a == in_code b) name plain
 
 -- the name that code calls a package by: the new one of the declaration, else its library's, else its own
-abbrev pub called : Option (Bor Text) → Package → Text
-called (Some rename) p = rename.now
-called None p = elim p.library as (λ _. Text) [ Some library ↦ library.now | None ↦ p.name.now ]
+abbrev pub called : Option Text → PackageText → Text
+called (Some rename) p = rename
+called None p = elim p.library as (λ _. Text) [ Some library ↦ library | None ↦ p.name ]
 
 -- whether the used package may be the declared one, by its names
-abbrev pub fits : Declaration → Dep → Bool
-fits d dep = bytes_eq dep.target.now.name.now d.name.now && is_in_code dep.extern_name.now (called d.rename dep.target.now)
+abbrev pub fits : DeclarationText → DepText → Bool
+fits d dep = bytes_eq dep.target.name d.name && is_in_code dep.extern_name (called d.rename dep.target)
 
 abbrev pub same_kind : Kind → Kind → Bool
 same_kind kind.Normal kind.Normal = true
@@ -44,58 +37,33 @@ same_kind kind.Build kind.Build = true
 same_kind kind.Dev kind.Dev = true
 same_kind _ _ = false
 
-abbrev pub same_platform : Option (Bor Text) → Option (Bor Text) → Bool
+abbrev pub same_platform : Option Text → Option Text → Bool
 same_platform None None = true
-same_platform (Some a) (Some b) = bytes_eq a.now b.now
+same_platform (Some a) (Some b) = bytes_eq a b
 same_platform _ _ = false
 
 -- whether the package is used for the kind and the platform of the declaration
-abbrev pub is_used : Declaration → Dep → Bool
-is_used d dep = list_any (λ u. same_kind u.kind d.kind && same_platform u.platform d.platform) dep.uses.items
+abbrev pub is_used : DeclarationText → DepText → Bool
+is_used d dep = list_any (λ u. same_kind u.kind d.kind && same_platform u.platform d.platform) dep.uses
 
 -- whether the declaration's requirement admits the package
-abbrev pub is_admitted : Declaration → Dep → Bool
-is_admitted d dep = admits d.requirement.now dep.target.now.version.now
-
-abbrev pub answers : Asked → Declaration → Dep → Bool
-answers asked.Use d dep = is_used d dep
-answers asked.Version d dep = is_admitted d dep
-answers asked.Both d dep = is_used d dep && is_admitted d dep
-
--- whether the used package fits the declaration, and what is asked besides holds
-unfoldable pub meets : Asked → Declaration → Dep → Bool
-meets ask d dep = fits d dep && answers ask d dep
+abbrev pub is_admitted : DeclarationText → DepText → Bool
+is_admitted d dep = admits d.requirement dep.target.version
 
 -- none, one or several packages
 pub data FoundPackage : Type 0 where
   nothing : FoundPackage
-  one : Package → FoundPackage
+  one : PackageText → FoundPackage
   several : FoundPackage
 
-abbrev pub found_view : Found → FoundPackage
-found_view found.Nothing = nothing
-found_view (found.One p) = one p.now
-found_view found.Several = several
-
-abbrev pub found_of : List Package → FoundPackage
+abbrev pub found_of : List PackageText → FoundPackage
 found_of [] = nothing
 found_of (p ∷ []) = one p
 found_of (p ∷ q ∷ ps) = several
 
--- what was found, with one more
-abbrev pub with_one : FoundPackage → Package → FoundPackage
-with_one nothing p = one p
-with_one (one q) p = several
-with_one several p = several
-
--- the same, with one more where it counts
-abbrev pub and_one : Bool → FoundPackage → Package → FoundPackage
-and_one true found p = with_one found p
-and_one false found p = found
-
--- what is found among the used packages
-unfoldable pub pick : Asked → Declaration → List Dep → FoundPackage
-pick ask d deps = found_of (map (λ dep. dep.target.now) (filter (meets ask d) deps))
+-- what is found among the used packages that fit the declaration and pass a test
+unfoldable pub pick : (DeclarationText → DepText → Bool) → DeclarationText → List DepText → FoundPackage
+pick test d deps = found_of (map (λ dep. dep.target) (filter (λ dep. fits d dep && test d dep) deps))
 
 abbrev pub if_nothing : FoundPackage → FoundPackage → FoundPackage
 if_nothing nothing other = other
@@ -110,5 +78,44 @@ choice_of optional several by_version by_both = if_nothing by_both several
 
 -- What a declaration leads to: the package that is used for it. Where several are, the requirement decides; where none is,
 -- it decides for an optional dependency alone.
-abbrev pub choice : Declaration → List Dep → FoundPackage
-choice d deps = choice_of d.is_optional (pick asked.Use d deps) (pick asked.Version d deps) (pick asked.Both d deps)
+abbrev pub choice : DeclarationText → List DepText → FoundPackage
+choice d deps = choice_of d.is_optional (pick is_used d deps) (pick is_admitted d deps) (pick (λ e dep. is_used e dep && is_admitted e dep) d deps)
+
+-- the same as a package, or nothing, or the fault that the declaration of the package with this id is ambiguous
+abbrev pub led_to : Text → Text → FoundPackage → Result (Option PackageText) Refusal
+led_to id name nothing = Ok None
+led_to id name (one p) = Ok (Some p)
+led_to id name several = Err (ambiguous id name)
+
+unfoldable pub target_of : Text → DeclarationText → List DepText → Result (Option PackageText) Refusal
+target_of id d deps = led_to id d.name (choice d deps)
+
+-- a declaration, and the package that it leads to
+pub record DependencyText : Type 0 where
+  pub declaration : DeclarationText
+  pub target : PackageText
+
+abbrev pub with_target : DeclarationText → Option PackageText → List DependencyText → List DependencyText
+with_target d None rest = rest
+with_target d (Some p) rest = record { declaration = d; target = p } ∷ rest
+
+-- the declarations that lead to a package, in their order
+abbrev pub led : Text → List DepText → List DeclarationText → Result (List DependencyText) Refusal
+led id deps [] = Ok []
+led id deps (d ∷ ds) = target_of id d deps >>= λ target. led id deps ds >>= λ rest. Ok (with_target d target rest)
+
+unfoldable pub dependencies_of : PackageText → List DepText → Result (List DependencyText) Refusal
+dependencies_of p deps = led p.id deps p.declarations
+
+-- whether the other one leads to the same package by another name
+abbrev pub is_other_name : DependencyText → DependencyText → Bool
+is_other_name a b = bytes_eq b.target.id a.target.id && not (bytes_eq (name_of b.declaration) (name_of a.declaration))
+
+abbrev pub agrees : Text → DependencyText → Option DependencyText → Result ⊤ Refusal
+agrees id a None = Ok tt
+agrees id a (Some b) = Err (two_names id a.target.id (name_of a.declaration) (name_of b.declaration))
+
+-- each of these has no other name among all, or the first fault
+abbrev pub agree : Text → List DependencyText → List DependencyText → Result ⊤ Refusal
+agree id all [] = Ok tt
+agree id all (a ∷ rest) = agrees id a (find (is_other_name a) all) >>= λ _. agree id all rest

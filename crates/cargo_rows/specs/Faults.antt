@@ -1,5 +1,5 @@
 -- Faults, with texts in place of strings, and steps that may be refused.
-use Rattle.std.specs.Prelude.{◌≡◌, ℕ, List, Option, Some, None, Result, Ok, Err}
+use Rattle.std.specs.Prelude.{◌≡◌, ℕ, List, Result, Ok, Err}
 use Rattle.std.specs.String.{string_bytes}
 use Rattle.byte_devices.specs.declared.whole.ReadError.{ReadError}
 use Rattle.byte_devices.specs.declared.whole.ReadError.TheVariants as error
@@ -36,6 +36,16 @@ refusal_of refused.Memory = out_of_memory
 abbrev pub read_fault : ReadError → Fault
 read_fault error.Failed = fault.CannotRead
 read_fault error.Memory = fault.Memory
+
+-- the exit status: 2 where the words are at fault, else 1
+abbrev pub status_of : Fault → ℕ
+status_of fault.Usage = 2
+status_of fault.CannotRead = 1
+status_of fault.NotText = 1
+status_of (fault.NotJson line column) = 1
+status_of (fault.Document refused) = 1
+status_of fault.Memory = 1
+status_of fault.CannotWrite = 1
 
 -- want of memory claims nothing
 abbrev pub IfNotMemory : Refusal → Type 0 → Type 0

@@ -1,7 +1,7 @@
 -- Fields of JSON objects, by their types.
-use Rattle.std.specs.Prelude.{ℕ, List, [], ◌∷◌, Bool, Option, Some, None, Result, Ok, Err, option_map, option_and_then}
-use Rattle.serde_json.specs.Data.{Data, null, boolean, number, string, array, object, Items, no_items, item, Members}
-use Rattle.serde_json.specs.Find.{get, as_str, as_bool, as_array, as_object}
+use Rattle.std.specs.Prelude.{List, [], ◌∷◌, Bool, Option, Some, None, Result, Ok, Err, option_map, option_and_then}
+use Rattle.json.specs.Json.{Json, null, boolean, number, string, array, object, Items, no_items, item, Members}
+use Rattle.json.specs.Find.{get, as_str, as_bool, as_array, as_object}
 use Rattle.cargo_rows.specs.declared.fault.Place.{Place}
 use Rattle.cargo_rows.specs.Faults.{Text, Refusal, bad_field}
 
@@ -11,7 +11,7 @@ wanted place name (Some x) = Ok x
 wanted place name None = Err (bad_field place name)
 
 -- a text, or nothing at null
-abbrev pub text_or_null : Data → Option (Option Text)
+abbrev pub text_or_null : Json → Option (Option Text)
 text_or_null null = Some None
 text_or_null (boolean b) = None
 text_or_null (number n) = None
@@ -24,20 +24,20 @@ abbrev pub all_texts : Items → Option (List Text)
 all_texts no_items = Some []
 all_texts (item d ds) = option_and_then (λ s. option_map (λ rest. s ∷ rest) (all_texts ds)) (as_str d)
 
-abbrev pub text_in : Place → Text → Data → Result Text Refusal
+abbrev pub text_in : Place → Text → Json → Result Text Refusal
 text_in place name d = wanted place name (option_and_then as_str (get name d))
 
-abbrev pub optional_text_in : Place → Text → Data → Result (Option Text) Refusal
+abbrev pub optional_text_in : Place → Text → Json → Result (Option Text) Refusal
 optional_text_in place name d = wanted place name (option_and_then text_or_null (get name d))
 
-abbrev pub flag_in : Place → Text → Data → Result Bool Refusal
+abbrev pub flag_in : Place → Text → Json → Result Bool Refusal
 flag_in place name d = wanted place name (option_and_then as_bool (get name d))
 
-abbrev pub list_in : Place → Text → Data → Result Items Refusal
+abbrev pub list_in : Place → Text → Json → Result Items Refusal
 list_in place name d = wanted place name (option_and_then as_array (get name d))
 
-abbrev pub object_in : Place → Text → Data → Result Members Refusal
+abbrev pub object_in : Place → Text → Json → Result Members Refusal
 object_in place name d = wanted place name (option_and_then as_object (get name d))
 
-abbrev pub texts_in : Place → Text → Data → Result (List Text) Refusal
+abbrev pub texts_in : Place → Text → Json → Result (List Text) Refusal
 texts_in place name d = wanted place name (option_and_then all_texts (option_and_then as_array (get name d)))

@@ -1,7 +1,11 @@
 pub mod Faults
+pub mod Document
 pub mod Fields
+pub mod Lists
 pub mod Packages
+pub mod Nodes
 pub mod Requirements
 pub mod Dependencies
 pub mod Rows
 pub mod Run
+pub mod inner

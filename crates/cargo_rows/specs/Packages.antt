@@ -1,24 +1,27 @@
--- The packages of a document: one declaration, one kind, one target.
-use Rattle.std.specs.Prelude.{ℕ, List, [], ◌∷◌, map, codes, Bool, true, false, Option, Some, None, Result, Ok, Err, option_map, if◌then◌else◌}
+-- The packages of a document.
+use Rattle.std.specs.Prelude.{ℕ, List, [], ◌∷◌, codes, Bool, Option, Some, None, Result, Ok, Err, option_and_then, if◌then◌else◌, ◌||◌}
 use Rattle.std.specs.List.{list_any}
 use Rattle.std.specs.Str.{bytes_eq}
-use Rattle.serde_json.specs.Data.{Data}
+use Rattle.std.specs.BTreeMap.{insert_entry}
+use Rattle.json.specs.Json.{Json, Items, Members, no_members, member}
+use Rattle.json.specs.Find.{get, as_array}
 use Rattle.cargo_rows.specs.declared.fault.Place.{Place}
+use Rattle.cargo_rows.specs.declared.fault.Place.TheVariants as place
 use Rattle.cargo_rows.specs.declared.packages.Kind.{Kind}
 use Rattle.cargo_rows.specs.declared.packages.Kind.TheVariants as kind
-use Rattle.cargo_rows.specs.declared.packages.Declaration.{Declaration}
 use Rattle.cargo_rows.specs.Faults.{Text, Refusal, bad_field, ◌>>=◌}
-use Rattle.cargo_rows.specs.Fields.{text_in, optional_text_in, flag_in, texts_in}
+use Rattle.cargo_rows.specs.Fields.{wanted, all_texts, text_in, optional_text_in, flag_in, list_in, object_in, texts_in}
+use Rattle.cargo_rows.specs.Lists.{each, first_some, ById, id_cmp, each_by_id}
 
 -- the kind that a text names; null is the normal one
 abbrev pub kind_of : Place → Option Text → Result Kind Refusal
-kind_of place None = Ok kind.Normal
-kind_of place (Some s) = if bytes_eq s (codes "build") then Ok kind.Build else (if bytes_eq s (codes "dev") then Ok kind.Dev else Err (bad_field place (codes "kind")))
+kind_of at None = Ok kind.Normal
+kind_of at (Some s) = if bytes_eq s (codes "build") then Ok kind.Build else (if bytes_eq s (codes "dev") then Ok kind.Dev else Err (bad_field at (codes "kind")))
 
-abbrev pub kind_in : Place → Data → Result Kind Refusal
-kind_in place d = optional_text_in place (codes "kind") d >>= kind_of place
+abbrev pub kind_in : Place → Json → Result Kind Refusal
+kind_in at d = optional_text_in at (codes "kind") d >>= kind_of at
 
--- one declaration, with texts in place of references
+-- a dependency that a package declares
 pub record DeclarationText : Type 0 where
   pub name : Text
   pub rename : Option Text
@@ -29,27 +32,82 @@ pub record DeclarationText : Type 0 where
   pub has_default_features : Bool
   pub features : List Text
 
-abbrev pub declaration_view : Declaration → DeclarationText
-declaration_view d = record {
-  name = d.name.now;
-  rename = option_map (λ s. s.now) d.rename;
-  requirement = d.requirement.now;
-  kind = d.kind;
-  platform = option_map (λ s. s.now) d.platform;
-  is_optional = d.is_optional;
-  has_default_features = d.has_default_features;
-  features = map (λ s. s.now) d.features.items;
-}
-
 -- the declaration that an object is, or the first field at fault
-abbrev pub declaration_in : Place → Data → Result DeclarationText Refusal
-declaration_in place d =
-    text_in place (codes "name") d >>= λ name.
-    optional_text_in place (codes "rename") d >>= λ rename.
-    text_in place (codes "req") d >>= λ requirement.
-    kind_in place d >>= λ kind.
-    optional_text_in place (codes "target") d >>= λ platform.
-    flag_in place (codes "optional") d >>= λ is_optional.
-    flag_in place (codes "uses_default_features") d >>= λ has_default_features.
-    texts_in place (codes "features") d >>= λ features.
+unfoldable pub declaration_in : Place → Json → Result DeclarationText Refusal
+declaration_in at d =
+    text_in at (codes "name") d >>= λ name.
+    optional_text_in at (codes "rename") d >>= λ rename.
+    text_in at (codes "req") d >>= λ requirement.
+    kind_in at d >>= λ kind.
+    optional_text_in at (codes "target") d >>= λ platform.
+    flag_in at (codes "optional") d >>= λ is_optional.
+    flag_in at (codes "uses_default_features") d >>= λ has_default_features.
+    texts_in at (codes "features") d >>= λ features.
     Ok (record { name = name; rename = rename; requirement = requirement; kind = kind; platform = platform; is_optional = is_optional; has_default_features = has_default_features; features = features })
+
+-- a named feature, and what it enables
+pub record FeatureText : Type 0 where
+  pub name : Text
+  pub items : List Text
+
+-- those so far, and the members, in the order of their names' bytes; of one name the last one
+abbrev pub sorted : ById Json → Members → ById Json
+sorted xs no_members = xs
+sorted xs (member name j ms) = sorted (insert_entry id_cmp xs name j) ms
+
+-- each member as a feature, or the first fault
+abbrev pub features_of : Place → ById Json → Result (List FeatureText) Refusal
+features_of at [] = Ok []
+features_of at (m ∷ ms) =
+    wanted at (codes "features") (option_and_then all_texts (as_array m.1)) >>= λ items.
+    features_of at ms >>= λ rest.
+    Ok (record { name = m.0; items = items } ∷ rest)
+
+-- whether targets of this kind are linked into the packages that depend on theirs
+abbrev pub is_library_kind : Text → Bool
+is_library_kind s = bytes_eq s (codes "lib") || bytes_eq s (codes "rlib") || bytes_eq s (codes "dylib") || bytes_eq s (codes "cdylib") || bytes_eq s (codes "staticlib") || bytes_eq s (codes "proc-macro")
+
+-- the name of a target, where one of its kinds is a library's
+unfoldable pub library_in : Place → Json → Result (Option Text) Refusal
+library_in at d =
+    text_in at (codes "name") d >>= λ name.
+    texts_in at (codes "kind") d >>= λ kinds.
+    Ok (if list_any is_library_kind kinds then Some name else None)
+
+-- the name of the first of a package's targets that is a library, or the first fault of any of them
+unfoldable pub first_library : ℕ → Items → Result (Option Text) Refusal
+first_library n objects = each (λ i. library_in (place.Target n i)) 0 objects >>= λ names. Ok (first_some names)
+
+pub record PackageText : Type 0 where
+  pub id : Text
+  pub name : Text
+  pub version : Text
+  -- the name of its first library target
+  pub library : Option Text
+  pub features : List FeatureText
+  pub declarations : List DeclarationText
+
+-- the package that the object at place n is, or its first fault
+unfoldable pub package_in : ℕ → Json → Result PackageText Refusal
+package_in n d =
+    list_in (place.Package n) (codes "dependencies") d >>= λ declared.
+    list_in (place.Package n) (codes "targets") d >>= λ targets.
+    object_in (place.Package n) (codes "features") d >>= λ members.
+    text_in (place.Package n) (codes "id") d >>= λ id.
+    text_in (place.Package n) (codes "name") d >>= λ name.
+    text_in (place.Package n) (codes "version") d >>= λ version.
+    first_library n targets >>= λ library.
+    features_of (place.Package n) (sorted [] members) >>= λ features.
+    each (λ i. declaration_in (place.Dependency n i)) 0 declared >>= λ declarations.
+    Ok (record { id = id; name = name; version = version; library = library; features = features; declarations = declarations })
+
+abbrev pub package_with_id : ℕ → Json → Result (Text × PackageText) Refusal
+package_with_id n d = package_in n d >>= λ p. Ok (p.id, p)
+
+-- the packages that a value lists, by their ids
+unfoldable pub packages_at : Option Json → Result (ById PackageText) Refusal
+packages_at found = wanted place.Document (codes "packages") (option_and_then as_array found) >>= each_by_id package_with_id place.Package 0 []
+
+-- the packages of the document
+unfoldable pub packages_in : Json → Result (ById PackageText) Refusal
+packages_in d = packages_at (get (codes "packages") d)

@@ -1,5 +1,5 @@
 -- Which versions a requirement admits, with pre-releases and build metadata left out on both sides.
-use Rattle.std.specs.Prelude.{ℕ, List, [], map, Bool, false, Option, Some, None, Result, Ok, Err}
+use Rattle.std.specs.Prelude.{List, [], Bool, false, Option, Some, None, Result, Ok, Err}
 use Rattle.std.specs.List.{list_all}
 use Rattle.semver.specs.Parse.{Held, Parts, req_of, version_parts}
 use Rattle.semver.specs.EvalViews.{matches_view}

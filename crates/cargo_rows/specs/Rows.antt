@@ -1,14 +1,17 @@
--- The text of rows.
-use Rattle.std.specs.Prelude.{ℕ, ◌||◌, ◌==◌, ◌++◌, List, [], ◌∷◌, nat_lt, flat_map, map, codes, Option, Some, None, Bool, true, false, Result, Ok, Err, if◌then◌else◌, ⊤}
+-- The rows of a document.
+use Rattle.std.specs.Prelude.{◌||◌, ◌++◌, List, [], ◌∷◌, flat_map, codes, Option, Some, None, Bool, true, false, Result, Ok, Err, if◌then◌else◌, ⊤}
+use Rattle.std.specs.List.{list_any}
+use Rattle.std.specs.Option.{unwrap_or}
+use Rattle.std.specs.Str.{bytes_eq}
 use Rattle.std.specs.Char.{is_ascii_control}
-use Rattle.std.specs.Borrow.{Bor}
+use Rattle.json.specs.Json.{Json}
 use Rattle.cargo_rows.specs.declared.packages.Kind.{Kind}
 use Rattle.cargo_rows.specs.declared.packages.Kind.TheVariants as kind
-use Rattle.cargo_rows.specs.declared.packages.Declaration.{Declaration}
-use Rattle.cargo_rows.specs.declared.packages.Feature.{Feature}
-use Rattle.cargo_rows.specs.declared.packages.Package.{Package}
-use Rattle.cargo_rows.specs.Dependencies.{name_of}
-use Rattle.cargo_rows.specs.Faults.{Text, Refusal, control}
+use Rattle.cargo_rows.specs.Faults.{Text, Refusal, control, ◌>>=◌}
+use Rattle.cargo_rows.specs.Lists.{joined, ById, at_id}
+use Rattle.cargo_rows.specs.Packages.{FeatureText, PackageText, packages_in}
+use Rattle.cargo_rows.specs.Nodes.{DepText, members_in, nodes_in}
+use Rattle.cargo_rows.specs.Dependencies.{DependencyText, name_of, dependencies_of, agree}
 
 -- whether a text has a control character, so that it can't stand in a row
 abbrev pub has_control : Text → Bool
@@ -28,6 +31,14 @@ fields_text fields = flat_map (λ s. 9 ∷ s) fields
 abbrev pub row_text : Text → List Text → Text
 row_text word fields = (word ++ fields_text fields) ++ 10 ∷ []
 
+unfoldable pub row : Text → List Text → Result Text Refusal
+row word fields = allowed fields >>= λ _. Ok (row_text word fields)
+
+-- the word for a package of the workspace, or for another one
+abbrev pub member_word : Bool → Text
+member_word true = codes "workspace"
+member_word false = codes "external"
+
 -- the word for a kind
 abbrev pub kind_word : Kind → Text
 kind_word kind.Normal = codes "normal"
@@ -43,16 +54,44 @@ defaults_word true = codes "default"
 defaults_word false = codes "nodefault"
 
 -- the platform's text; `*` for every one
-abbrev pub platform_text : Option (Bor Text) → Text
+abbrev pub platform_text : Option Text → Text
 platform_text None = codes "*"
-platform_text (Some platform) = platform.now
+platform_text (Some platform) = platform
 
 -- the fields of a feature's row
-abbrev pub feature_fields : Feature → List Text
-feature_fields f = f.name.now ∷ map (λ s. s.now) f.items.items
+abbrev pub feature_fields : FeatureText → List Text
+feature_fields f = f.name ∷ f.items
 
 -- the fields of the row of a declaration that leads to a package
-abbrev pub dependency_fields : Declaration → Package → List Text
-dependency_fields d p =
-    name_of d ∷ p.id.now ∷ kind_word d.kind ∷ need_word d.is_optional ∷ platform_text d.platform
-    ∷ defaults_word d.has_default_features ∷ map (λ s. s.now) d.features.items
+abbrev pub dependency_fields : DependencyText → List Text
+dependency_fields e =
+    name_of e.declaration ∷ e.target.id ∷ kind_word e.declaration.kind ∷ need_word e.declaration.is_optional ∷ platform_text e.declaration.platform
+    ∷ defaults_word e.declaration.has_default_features ∷ e.declaration.features
+
+abbrev pub feature_rows : List FeatureText → Result Text Refusal
+feature_rows features = joined (λ f. row (codes "feature") (feature_fields f)) features
+
+abbrev pub dependency_rows : List DependencyText → Result Text Refusal
+dependency_rows es = joined (λ e. row (codes "dep") (dependency_fields e)) es
+
+-- the rows of a package that uses these: its own, its features', and its dependencies'
+unfoldable pub package_rows : Bool → List DepText → PackageText → Result Text Refusal
+package_rows is_member deps p =
+    row (codes "package") (p.id ∷ member_word is_member ∷ []) >>= λ first.
+    feature_rows p.features >>= λ features.
+    dependencies_of p deps >>= λ es.
+    agree p.id es es >>= λ _.
+    dependency_rows es >>= λ dependencies.
+    Ok ((first ++ features) ++ dependencies)
+
+-- the rows of each package; one without a node uses nothing
+abbrev pub all_rows : List Text → ById (List DepText) → ById PackageText → Result Text Refusal
+all_rows members nodes packages = joined (λ e. package_rows (list_any (bytes_eq e.0) members) (unwrap_or (at_id e.0 nodes) []) e.1) packages
+
+-- the rows of a document, or its first fault
+unfoldable pub rows_of : Json → Result Text Refusal
+rows_of d =
+    packages_in d >>= λ packages.
+    members_in packages d >>= λ members.
+    nodes_in packages d >>= λ nodes.
+    all_rows members nodes packages

@@ -1,6 +1,11 @@
 //! The package that each declaration leads to.
-ghost use Rattle.std.specs.Prelude.{◌≡◌, IfOk};
+ghost use Rattle.std.specs.Prelude.{◌≡◌, IfOk, map, option_map, string_bytes};
+ghost use Rattle.std.specs.List.{find};
+ghost use Rattle.cargo_rows.specs.Faults.{Gives, refusal_of};
+ghost use Rattle.cargo_rows.specs.Faults as fault;
 ghost use Rattle.cargo_rows.specs.Dependencies as spec;
+ghost use Rattle.cargo_rows.specs.inner.Picks as picks;
+ghost use Rattle.cargo_rows.specs.inner.Views.{text_view, declaration_view, dep_view, package_view, dependency_view};
 
 use crate::fault::DocumentFault;
 use crate::nodes::Dep;
@@ -17,10 +22,11 @@ pub(crate) struct Dependency<'p, 'v> {
 
 impl<'p, 'v> Dependency<'p, 'v> {
     ghost use Rattle.cargo_rows.specs.Dependencies.{name_of};
+    ghost use Rattle.cargo_rows.specs.inner.Views.{declaration_view};
 
     /// The name by which the package calls it.
     pub(crate) fn name(&self) -> &'v str
-        ensures { result.now ≡ name_of self.now.declaration.now }
+        ensures { result.now ≡ name_of (declaration_view self.now.declaration.now) }
     {
         match self.declaration.rename {
             Some(name) => name,
@@ -54,7 +60,7 @@ fn is_in_code(given: &[u8], plain: &[u8]) -> bool
 
 /// The name that code calls a package by: the new one of the declaration, else its library's, else its own.
 fn called<'v>(rename: Option<&'v str>, package: &Package<'v>) -> &'v str
-    ensures { result.now ≡ spec.called rename.entry «package».now }
+    ensures { result.now ≡ spec.called (option_map text_view rename.entry) (package_view «package».now) }
 {
     match (rename, package.library) {
         (Some(rename), _) => rename,
@@ -65,7 +71,7 @@ fn called<'v>(rename: Option<&'v str>, package: &Package<'v>) -> &'v str
 
 /// Whether the used package may be the declared one, by its names.
 fn fits(declaration: &Declaration<'_>, dep: &Dep<'_, '_>) -> bool
-    ensures { result ≡ spec.fits declaration.now dep.now }
+    ensures { result ≡ spec.fits (declaration_view declaration.now) (dep_view dep.now) }
 {
     dep.target.name == declaration.name
         && is_in_code(
@@ -86,7 +92,7 @@ fn same_kind(one: Kind, other: Kind) -> bool
 
 /// Whether both are every platform, or the same one.
 fn same_platform(one: Option<&str>, other: Option<&str>) -> bool
-    ensures { result ≡ spec.same_platform one.entry other.entry }
+    ensures { result ≡ spec.same_platform (option_map text_view one.entry) (option_map text_view other.entry) }
 {
     match (one, other) {
         (None, None) => true,
@@ -97,10 +103,16 @@ fn same_platform(one: Option<&str>, other: Option<&str>) -> bool
 
 /// Whether the package is used for the kind and the platform of the declaration.
 fn is_used(declaration: &Declaration<'_>, dep: &Dep<'_, '_>) -> bool
-    ensures { result ≡ spec.is_used declaration.now dep.now }
+    ensures { result ≡ spec.is_used (declaration_view declaration.now) (dep_view dep.now) }
 {
-    dep.uses.iter().any(|it| same_kind(it.kind, declaration.kind)
-        && same_platform(it.platform, declaration.platform))
+    for it in &dep.uses {
+        if same_kind(it.kind, declaration.kind)
+            && same_platform(it.platform, declaration.platform)
+        {
+            return true;
+        }
+    }
+    false
 }
 
 /// What is asked of a package that fits a declaration by its names.
@@ -121,7 +133,7 @@ fn answers(
     declaration: &Declaration<'_>,
     dep: &Dep<'_, '_>,
 ) -> Result<bool, AllocError>
-    ensures { IfOk result (λ b. b ≡ spec.answers asked declaration.now dep.now) }
+    ensures { IfOk result (λ b. b ≡ picks.answers asked (declaration_view declaration.now) (dep_view dep.now)) }
 {
     match asked {
         Asked::Use => Ok(is_used(declaration, dep)),
@@ -137,14 +149,14 @@ fn answers(
 }
 
 /// Whether the used package fits the declaration, and what is asked besides holds.
-#[tactic(auto, unfolding(crate::specs::Dependencies::meets))]
+#[tactic(auto, unfolding(crate::specs::inner::Picks::meets))]
 fn meets(
     alloc: Global,
     asked: Asked,
     declaration: &Declaration<'_>,
     dep: &Dep<'_, '_>,
 ) -> Result<bool, AllocError>
-    ensures { IfOk result (λ b. b ≡ spec.meets asked declaration.now dep.now) }
+    ensures { IfOk result (λ b. b ≡ picks.meets asked (declaration_view declaration.now) (dep_view dep.now)) }
 {
     if fits(declaration, dep) {
         answers(alloc, asked, declaration, dep)
@@ -164,7 +176,7 @@ pub(crate) enum Found<'p, 'v> {
 impl<'p, 'v> Found<'p, 'v> {
     /// What was found, with one more package.
     fn with(self, package: &'p Package<'v>) -> Found<'p, 'v>
-        ensures { spec.found_view result ≡ spec.with_one (spec.found_view self.entry) «package».now }
+        ensures { picks.found_view result ≡ picks.with_one (picks.found_view self.entry) (package_view «package».now) }
     {
         match self {
             Found::Nothing => Found::One(package),
@@ -181,7 +193,7 @@ fn and_one<'p, 'v>(
     dep: &Dep<'p, 'v>,
     found: Found<'p, 'v>,
 ) -> Result<Found<'p, 'v>, AllocError>
-    ensures { IfOk result (λ new. spec.found_view new ≡ spec.and_one (spec.meets asked declaration.now dep.now) (spec.found_view found.entry) dep.now.target.now) }
+    ensures { IfOk result (λ new. picks.found_view new ≡ picks.and_one (picks.meets asked (declaration_view declaration.now) (dep_view dep.now)) (picks.found_view found.entry) (package_view dep.now.target.now)) }
 {
     if meets(alloc, asked, declaration, dep)? {
         Ok(found.with(dep.target))
@@ -198,7 +210,7 @@ fn pick<'p, 'v>(
     declaration: &Declaration<'_>,
     deps: &[Dep<'p, 'v>],
 ) -> Result<Found<'p, 'v>, AllocError>
-    ensures { IfOk result (λ found. spec.found_view found ≡ spec.pick asked declaration.now deps.now) }
+    ensures { IfOk result (λ found. picks.found_view found ≡ spec.pick (picks.answers asked) (declaration_view declaration.now) (map dep_view deps.now)) }
 {
     let mut found = Found::Nothing;
     for dep in deps {
@@ -214,7 +226,7 @@ fn choice<'p, 'v>(
     declaration: &Declaration<'_>,
     deps: &[Dep<'p, 'v>],
 ) -> Result<Found<'p, 'v>, AllocError>
-    ensures { IfOk result (λ found. spec.found_view found ≡ spec.choice declaration.now deps.now) }
+    ensures { IfOk result (λ found. picks.found_view found ≡ spec.choice (declaration_view declaration.now) (map dep_view deps.now)) }
 {
     match pick(alloc, Asked::Use, declaration, deps)? {
         Found::One(package) => Ok(Found::One(package)),
@@ -233,7 +245,9 @@ fn choice<'p, 'v>(
 }
 
 /// The fault that more than one package meets a declaration.
-fn ambiguous(alloc: Global, package: &str, name: &str) -> Result<DocumentFault, AllocError> {
+fn ambiguous(alloc: Global, package: &str, name: &str) -> Result<DocumentFault, AllocError>
+    ensures { IfOk result (λ e. refusal_of e ≡ fault.ambiguous «package».now name.now) }
+{
     Ok(DocumentFault::Ambiguous {
         package: String::from_str(alloc, package)?,
         name: String::from_str(alloc, name)?,
@@ -241,12 +255,15 @@ fn ambiguous(alloc: Global, package: &str, name: &str) -> Result<DocumentFault, 
 }
 
 /// The package that the declaration leads to, where there is one.
+#[tactic(auto, unfolding(crate::specs::Dependencies::target_of))]
 fn target_of<'p, 'v>(
     alloc: Global,
     id: &str,
     declaration: &Declaration<'_>,
     deps: &[Dep<'p, 'v>],
-) -> Result<Option<&'p Package<'v>>, DocumentFault> {
+) -> Result<Option<&'p Package<'v>>, DocumentFault>
+    ensures { Gives (λ o. option_map (λ p. package_view p.now) o) result (spec.target_of id.now (declaration_view declaration.now) (map dep_view deps.now)) }
+{
     match choice(alloc, declaration, deps)? {
         Found::Nothing => Ok(None),
         Found::One(target) => Ok(Some(target)),
@@ -255,11 +272,14 @@ fn target_of<'p, 'v>(
 }
 
 /// The declarations of the package that lead to one, in their order.
+#[tactic(auto, unfolding(crate::specs::Dependencies::dependencies_of))]
 pub(crate) fn dependencies_of<'p, 'v>(
     alloc: Global,
     package: &'p Package<'v>,
     deps: &[Dep<'p, 'v>],
-) -> Result<Vec<Dependency<'p, 'v>>, DocumentFault> {
+) -> Result<Vec<Dependency<'p, 'v>>, DocumentFault>
+    ensures { Gives (λ ds. map dependency_view ds.items) result (spec.dependencies_of (package_view «package».now) (map dep_view deps.now)) }
+{
     let mut dependencies = Vec::new(alloc);
     for declaration in &package.declarations {
         if let Some(target) = target_of(alloc, package.id, declaration, deps)? {
@@ -278,7 +298,9 @@ fn two_names(
     package: &str,
     one: &Dependency<'_, '_>,
     other: &Dependency<'_, '_>,
-) -> Result<DocumentFault, AllocError> {
+) -> Result<DocumentFault, AllocError>
+    ensures { IfOk result (λ e. refusal_of e ≡ fault.two_names «package».now one.now.target.now.id.now (spec.name_of (declaration_view one.now.declaration.now)) (spec.name_of (declaration_view other.now.declaration.now))) }
+{
     Ok(DocumentFault::TwoNames {
         package: String::from_str(alloc, package)?,
         target: String::from_str(alloc, one.target.id)?,
@@ -291,7 +313,9 @@ fn two_names(
 fn other_name<'a, 'p, 'v>(
     dependencies: &'a [Dependency<'p, 'v>],
     one: &Dependency<'p, 'v>,
-) -> Option<&'a Dependency<'p, 'v>> {
+) -> Option<&'a Dependency<'p, 'v>>
+    ensures { option_map (λ d. dependency_view d.now) result ≡ find (spec.is_other_name (dependency_view one.now)) (map dependency_view dependencies.now) }
+{
     for other in dependencies {
         if other.target.id == one.target.id && other.name() != one.name() {
             return Some(other);
@@ -305,7 +329,9 @@ pub(crate) fn check_names(
     alloc: Global,
     package: &Package<'_>,
     dependencies: &[Dependency<'_, '_>],
-) -> Result<(), DocumentFault> {
+) -> Result<(), DocumentFault>
+    ensures { Gives (λ _. tt) result (spec.agree «package».now.id.now (map dependency_view dependencies.now) (map dependency_view dependencies.now)) }
+{
     for one in dependencies {
         if let Some(other) = other_name(dependencies, one) {
             return Err(two_names(alloc, package.id, one, other)?);

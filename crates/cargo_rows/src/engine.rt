@@ -1,7 +1,7 @@
 //! From all bytes of a reader to the rows.
 ghost use Rattle.std.specs.Prelude.{◌≡◌, ℕ, List, false, OnOk, IfErr, IfSome};
 ghost use Rattle.std.specs.Io.KnownBytes.{Appends, IsAtEnd};
-ghost use Rattle.cargo_rows.specs.Run.{IsDocument, Ends};
+ghost use Rattle.cargo_rows.specs.Run.{AreRows, Ends};
 
 use crate::fault::Fault;
 use crate::metadata::rows_of_bytes;
@@ -20,9 +20,8 @@ pub fn run<R: ByteInput, W: ByteOutput>(
     requires writer_fresh { W.failed writer.old ≡ false }
     // Nothing is left to read.
     ensures end { OnOk result (IsAtEnd (R.left reader.new)) }
-    // Something was read that is a document, and one text was written.
-    ensures document { OnOk result (IfSome (R.left reader.old) (λ bytes. IsDocument bytes)) }
-    ensures ok { OnOk result ((text : List ℕ) × Appends (W.held writer.old) (W.held writer.new) text) }
+    // Something was read that is a document, and its rows were written.
+    ensures rows { OnOk result (IfSome (R.left reader.old) (λ bytes. (text : List ℕ) × AreRows bytes text × Appends (W.held writer.old) (W.held writer.new) text)) }
     // Neither device has failed.
     ensures fresh { OnOk result ((R.failed reader.new ≡ false) × (W.failed writer.new ≡ false)) }
     // Else the fault is one of those bytes or of a device, and nothing was written unless a write failed.

@@ -1,6 +1,6 @@
 //! Why there are no rows.
 ghost use Rattle.std.specs.Prelude.{◌≡◌};
-ghost use Rattle.cargo_rows.specs.Faults.{read_fault};
+ghost use Rattle.cargo_rows.specs.Faults.{read_fault, status_of};
 
 use byte_devices::ReadError;
 use std::alloc::{AllocError, AllocFailed};
@@ -164,7 +164,9 @@ impl From<ReadError> for Fault {
 
 impl Fault {
     /// The exit status: 2 where the words are at fault, else 1.
-    pub fn status(&self) -> u8 {
+    pub fn status(&self) -> u8
+        ensures { result ≡ status_of self.now }
+    {
         match self {
             Fault::Usage => 2,
             _ => 1,

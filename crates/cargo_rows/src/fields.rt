@@ -1,37 +1,37 @@
 //! Fields of JSON objects, by their types.
 ghost use Rattle.std.specs.Prelude.{option_map, map};
-ghost use Rattle.serde_json.specs.View.{view, items_view, members_view};
+ghost use Rattle.json.specs.Value.{value_view, items_view, members_view};
 ghost use Rattle.cargo_rows.specs.Faults.{Gives};
 ghost use Rattle.cargo_rows.specs.Fields as spec;
 
 use crate::fault::{DocumentFault, Place};
-use serde_json::{Map, Value};
+use json::Value;
 use std::alloc::Global;
 
 /// The field that is a text.
 pub(crate) fn text_in<'v>(
-    object: &'v Value,
+    object: &Value<'v>,
     place: Place,
     name: &'static str,
 ) -> Result<&'v str, DocumentFault>
-    ensures { Gives (λ s. s.now) result (spec.text_in place name.now (view object.now)) }
+    ensures { Gives (λ s. s.now) result (spec.text_in place name.now (value_view object.now)) }
 {
     match object.get(name) {
-        Some(Value::String(text)) => Ok(text.as_str()),
+        Some(Value::String(text)) => Ok(*text),
         _ => Err(DocumentFault::Field { place, name }),
     }
 }
 
 /// The field that is a text or null.
 pub(crate) fn optional_text_in<'v>(
-    object: &'v Value,
+    object: &Value<'v>,
     place: Place,
     name: &'static str,
 ) -> Result<Option<&'v str>, DocumentFault>
-    ensures { Gives (λ o. option_map (λ s. s.now) o) result (spec.optional_text_in place name.now (view object.now)) }
+    ensures { Gives (λ o. option_map (λ s. s.now) o) result (spec.optional_text_in place name.now (value_view object.now)) }
 {
     match object.get(name) {
-        Some(Value::String(text)) => Ok(Some(text.as_str())),
+        Some(Value::String(text)) => Ok(Some(*text)),
         Some(Value::Null) => Ok(None),
         _ => Err(DocumentFault::Field { place, name }),
     }
@@ -39,11 +39,11 @@ pub(crate) fn optional_text_in<'v>(
 
 /// The field that is true or false.
 pub(crate) fn flag_in(
-    object: &Value,
+    object: &Value<'_>,
     place: Place,
     name: &'static str,
 ) -> Result<bool, DocumentFault>
-    ensures { Gives (λ b. b) result (spec.flag_in place name.now (view object.now)) }
+    ensures { Gives (λ b. b) result (spec.flag_in place name.now (value_view object.now)) }
 {
     match object.get(name) {
         Some(Value::Bool(flag)) => Ok(*flag),
@@ -52,12 +52,12 @@ pub(crate) fn flag_in(
 }
 
 /// The field that is a list.
-pub(crate) fn list_in<'v>(
-    object: &'v Value,
+pub(crate) fn list_in<'d, 'v>(
+    object: &'d Value<'v>,
     place: Place,
     name: &'static str,
-) -> Result<&'v Vec<Value>, DocumentFault>
-    ensures { Gives (λ v. items_view v.now.items) result (spec.list_in place name.now (view object.now)) }
+) -> Result<&'d Vec<Value<'v>>, DocumentFault>
+    ensures { Gives (λ v. items_view v.now.items) result (spec.list_in place name.now (value_view object.now)) }
 {
     match object.get(name) {
         Some(Value::Array(items)) => Ok(items),
@@ -66,12 +66,12 @@ pub(crate) fn list_in<'v>(
 }
 
 /// The field that is an object.
-pub(crate) fn object_in<'v>(
-    object: &'v Value,
+pub(crate) fn object_in<'d, 'v>(
+    object: &'d Value<'v>,
     place: Place,
     name: &'static str,
-) -> Result<&'v Map<String, Value>, DocumentFault>
-    ensures { Gives (λ m. members_view m.now.entries) result (spec.object_in place name.now (view object.now)) }
+) -> Result<&'d Vec<(&'v str, Value<'v>)>, DocumentFault>
+    ensures { Gives (λ m. members_view m.now.items) result (spec.object_in place name.now (value_view object.now)) }
 {
     match object.get(name) {
         Some(Value::Object(members)) => Ok(members),
@@ -82,7 +82,7 @@ pub(crate) fn object_in<'v>(
 /// The texts of a list; the fault is of the field that holds it.
 pub(crate) fn texts_of<'v>(
     alloc: Global,
-    items: &'v Vec<Value>,
+    items: &Vec<Value<'v>>,
     place: Place,
     name: &'static str,
 ) -> Result<Vec<&'v str>, DocumentFault>
@@ -91,7 +91,7 @@ pub(crate) fn texts_of<'v>(
     let mut texts = Vec::with_capacity(alloc, items.len())?;
     for item in items {
         match item {
-            Value::String(text) => texts.push(text.as_str())?,
+            Value::String(text) => texts.push(*text)?,
             _ => return Err(DocumentFault::Field { place, name }),
         }
     }
@@ -101,11 +101,11 @@ pub(crate) fn texts_of<'v>(
 /// The field that is a list of texts.
 pub(crate) fn texts_in<'v>(
     alloc: Global,
-    object: &'v Value,
+    object: &Value<'v>,
     place: Place,
     name: &'static str,
 ) -> Result<Vec<&'v str>, DocumentFault>
-    ensures { Gives (λ texts. map (λ s. s.now) texts.items) result (spec.texts_in place name.now (view object.now)) }
+    ensures { Gives (λ texts. map (λ s. s.now) texts.items) result (spec.texts_in place name.now (value_view object.now)) }
 {
     texts_of(alloc, list_in(object, place, name)?, place, name)
 }

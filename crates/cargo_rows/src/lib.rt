@@ -8,8 +8,10 @@ mod fields;
 mod metadata;
 mod nodes;
 mod packages;
+mod parts;
 mod requirements;
 mod rows;
+mod tree;
 
 pub use byte_devices::{ByteInput, ByteOutput, Failed, FromReader, ToWriter};
 pub use engine::run;

@@ -1,76 +1,135 @@
 //! The rows of a document.
-ghost use Rattle.std.specs.Prelude.{OnOk, IfErr};
-ghost use Rattle.cargo_rows.specs.Run.{IsDocument, Refuses};
+ghost use Rattle.std.specs.Prelude.{◌≡◌, ℕ, List, Some, None, OnOk, IfOk, IfErr, map, string_bytes};
+ghost use Rattle.std.specs.Str.{IsUtf8};
+ghost use Rattle.json.specs.Value.{value_view};
+ghost use Rattle.cargo_rows.specs.Document.{document};
+ghost use Rattle.cargo_rows.specs.Faults.{Gives};
+ghost use Rattle.cargo_rows.specs.Rows.{package_rows, all_rows, rows_of};
+ghost use Rattle.cargo_rows.specs.Run.{AreRows, Refuses};
+ghost use Rattle.cargo_rows.specs.inner.Views.{text_view, dep_view, package_view, entries_view, after};
 
 use crate::dependencies::{check_names, dependencies_of};
 use crate::fault::{DocumentFault, Fault};
-use crate::nodes::{Dep, members_in, nodes_in};
-use crate::packages::{Package, packages_in};
+use crate::nodes::{Dep, Nodes, members_in, nodes_in, set_of};
+use crate::packages::{Package, Packages, packages_of};
+use crate::parts::parts_of;
 use crate::rows::{push_dependencies, push_features, push_package};
-use serde_json::Value;
+use crate::tree::{Unread, read};
+use json::{Reader, Scratch, Value};
 use std::alloc::Global;
 
-/// Adds the rows of one package, of whose dependencies the node tells, where it has one.
+/// How deep arrays and objects may nest.
+const MAX_DEPTH: usize = 127;
+
+/// Adds the rows of one package that uses these.
+#[tactic(auto, unfolding(crate::specs::Rows::package_rows))]
 fn push_rows<'p, 'v>(
     alloc: Global,
     rows: &mut String,
     package: &'p Package<'v>,
     is_member: bool,
-    deps: Option<&Vec<Dep<'p, 'v>>>,
-) -> Result<(), DocumentFault> {
+    deps: &[Dep<'p, 'v>],
+) -> Result<(), DocumentFault>
+    ensures { Gives (λ _. string_bytes rows.new) result (after (string_bytes rows.old) (package_rows is_member (map dep_view deps.now) (package_view «package».now))) }
+{
     push_package(alloc, rows, package, is_member)?;
     push_features(alloc, rows, &package.features)?;
-    let dependencies = match deps {
-        Some(deps) => dependencies_of(alloc, package, deps)?,
-        None => Vec::new(alloc),
-    };
+    let dependencies = dependencies_of(alloc, package, deps)?;
     check_names(alloc, package, &dependencies)?;
-    push_dependencies(alloc, rows, &dependencies)
+    push_dependencies(alloc, rows, &dependencies)?;
+    Ok(())
 }
 
-/// The rows of a document, as text.
-fn rows_of_document(alloc: Global, document: &Value) -> Result<String, DocumentFault> {
-    let packages = packages_in(alloc, document)?;
-    let members = members_in(alloc, &packages, document)?;
-    let nodes = nodes_in(alloc, &packages, document)?;
+/// The rows of each package.
+fn rows_of_packages<'p, 'v>(
+    alloc: Global,
+    packages: &'p Packages<'v>,
+    members: &[&'v str],
+    nodes: &Nodes<'p, 'v>,
+) -> Result<String, DocumentFault>
+    ensures { Gives (λ text. string_bytes text) result (all_rows (map text_view members.now) (entries_view (λ ds. map dep_view ds.items) nodes.now.entries) (entries_view package_view packages.now.entries)) }
+{
+    let members = set_of(alloc, members)?;
     let mut rows = String::new(alloc);
-    for (id, package) in &packages {
+    for (id, package) in packages {
         let is_member = members.contains(*id);
-        push_rows(alloc, &mut rows, package, is_member, nodes.get(*id))?;
+        match nodes.get(*id) {
+            Some(deps) => push_rows(alloc, &mut rows, package, is_member, deps)?,
+            None => push_rows(alloc, &mut rows, package, is_member, &[])?,
+        }
     }
     Ok(rows)
 }
 
-/// The document that the bytes are.
-fn document_of(alloc: Global, bytes: &[u8]) -> Result<Value, Fault>
-    ensures ok { OnOk result (IsDocument bytes.now) }
-    ensures fault { IfErr result (λ fault. Refuses bytes.now fault) }
+/// The rows of a document, as text. What was read of it is dropped before more is read.
+#[tactic(auto, unfolding(crate::specs::Rows::rows_of, crate::specs::Packages::packages_in))]
+fn rows_of_document(alloc: Global, document: Value<'_>) -> Result<String, DocumentFault>
+    ensures { Gives (λ text. string_bytes text) result (rows_of (value_view document.entry)) }
 {
-    let Ok(text) = str::from_utf8(bytes) else {
-        return Err(Fault::NotText);
-    };
-    match Value::from_str(alloc, text) {
-        Ok(document) => Ok(document),
-        Err(error) => {
-            if error.is_memory() {
-                return Err(Fault::Memory);
-            }
-            Err(Fault::NotJson {
-                line: error.line(),
-                column: error.column(),
-            })
+    let (listed, rest) = parts_of(alloc, document)?;
+    let packages = packages_of(alloc, listed)?;
+    let members = members_in(alloc, &packages, &rest)?;
+    let nodes = nodes_in(alloc, &packages, &rest)?;
+    drop(rest);
+    rows_of_packages(alloc, &packages, &members, &nodes)
+}
+
+/// The fault that the text is no document; the place is where its reader stopped.
+fn not_json(text: &str, offset: usize) -> Fault
+    ensures { (bytes : List ℕ) → IsUtf8 bytes → document bytes ≡ None → Refuses bytes result }
+{
+    let mut line = 1usize;
+    let mut column = 0usize;
+    for byte in text.as_bytes().iter().take(offset) {
+        if *byte == b'\n' {
+            line = line.saturating_add(1);
+            column = 0;
+        } else {
+            column = column.saturating_add(1);
         }
+    }
+    if offset < text.len() {
+        column = column.saturating_add(1);
+    }
+    Fault::NotJson { line, column }
+}
+
+/// The document that the text is.
+fn document_of<'t>(
+    alloc: Global,
+    text: &'t str,
+    scratch: &'t mut Scratch,
+) -> Result<Value<'t>, Fault>
+    ensures ok { IfOk result (λ it. document text.now ≡ Some (value_view it)) }
+    ensures fault { IfErr result (λ fault. Refuses text.now fault) }
+{
+    let Ok(mut reader) = Reader::new(text, scratch) else {
+        return Err(Fault::Memory);
+    };
+    match read(alloc, &mut reader, MAX_DEPTH) {
+        Ok(value) => {
+            let end = reader.offset();
+            match reader.next() {
+                None => Ok(value),
+                Some(_) => Err(not_json(text, end)),
+            }
+        }
+        Err(Unread::Memory) => Err(Fault::Memory),
+        Err(Unread::Invalid) => Err(not_json(text, reader.offset())),
     }
 }
 
 /// The rows of the document that the bytes are, as text.
 pub(crate) fn rows_of_bytes(alloc: Global, bytes: Vec<u8>) -> Result<String, Fault>
-    ensures ok { OnOk result (IsDocument bytes.items) }
+    ensures ok { IfOk result (λ rows. AreRows bytes.items (string_bytes rows)) }
     ensures fault { IfErr result (λ fault. Refuses bytes.items fault) }
 {
-    let document = document_of(alloc, &bytes)?;
-    drop(bytes);
-    match rows_of_document(alloc, &document) {
+    let Ok(text) = str::from_utf8(&bytes) else {
+        return Err(Fault::NotText);
+    };
+    let mut scratch = Scratch::new(alloc);
+    let it = document_of(alloc, text, &mut scratch)?;
+    match rows_of_document(alloc, it) {
         Ok(rows) => Ok(rows),
         Err(DocumentFault::Memory) => Err(Fault::Memory),
         Err(fault) => Err(Fault::Document { fault }),

@@ -1,8 +1,19 @@
 //! Which package each dependency was resolved to.
+ghost use Rattle.std.specs.Prelude.{◌≡◌, ℕ, IfOk, map};
+ghost use Rattle.std.specs.List.{list_any};
+ghost use Rattle.std.specs.Str.{bytes_eq};
+ghost use Rattle.json.specs.Value.{value_view, items_view};
+ghost use Rattle.cargo_rows.specs.Faults.{Text, Gives, refusal_of};
+ghost use Rattle.cargo_rows.specs.Faults as fault;
+ghost use Rattle.cargo_rows.specs.Lists.{each};
+ghost use Rattle.cargo_rows.specs.Nodes as spec;
+ghost use Rattle.cargo_rows.specs.inner.Views.{HasTexts, text_view, use_view, dep_view, package_view, entries_view};
+ghost use Rattle.cargo_rows.specs.declared.fault.Place.TheVariants as at;
+
 use crate::fault::{DocumentFault, Place};
 use crate::fields::{list_in, optional_text_in, text_in, texts_in};
 use crate::packages::{Kind, Package, Packages, kind_in};
-use serde_json::Value;
+use json::Value;
 use std::alloc::{AllocError, Global};
 use std::collections::{BTreeMap, BTreeSet};
 
@@ -30,43 +41,72 @@ fn no_package(
     place: Place,
     name: &'static str,
     id: &str,
-) -> Result<DocumentFault, AllocError> {
+) -> Result<DocumentFault, AllocError>
+    ensures { IfOk result (λ e. refusal_of e ≡ fault.no_package place name.now id.now) }
+{
     let id = String::from_str(alloc, id)?;
     Ok(DocumentFault::NoPackage { place, name, id })
+}
+
+/// The package of this id, which the field of this name has.
+fn package_at<'p, 'v>(
+    alloc: Global,
+    packages: &'p Packages<'v>,
+    place: Place,
+    name: &'static str,
+    id: &str,
+) -> Result<&'p Package<'v>, DocumentFault>
+    ensures { Gives (λ p. package_view p.now) result (spec.package_at (entries_view package_view packages.now.entries) place name.now id.now) }
+{
+    match packages.get(id) {
+        Some(target) => Ok(target),
+        None => Err(no_package(alloc, place, name, id)?),
+    }
+}
+
+/// A kind and a platform for which a dependency is used.
+#[tactic(auto, unfolding(crate::specs::Nodes::use_in))]
+fn use_of<'v>(object: &Value<'v>, place: Place) -> Result<Use<'v>, DocumentFault>
+    ensures { Gives use_view result (spec.use_in place (value_view object.now)) }
+{
+    Ok(Use {
+        kind: kind_in(object, place)?,
+        platform: optional_text_in(object, place, "target")?,
+    })
 }
 
 /// The kinds and platforms for which a dependency is used.
 fn uses_of<'v>(
     alloc: Global,
-    objects: &'v Vec<Value>,
+    objects: &Vec<Value<'v>>,
     node: usize,
     dep: usize,
-) -> Result<Vec<Use<'v>>, DocumentFault> {
+) -> Result<Vec<Use<'v>>, DocumentFault>
+    ensures { Gives (λ us. map use_view us.items) result (each (λ k. spec.use_in (at.DepKind node dep k)) 0 (items_view objects.now.items)) }
+{
     let mut uses = Vec::with_capacity(alloc, objects.len())?;
     for (kind, object) in objects.iter().enumerate() {
-        let place = Place::DepKind { node, dep, kind };
-        let kind = kind_in(object, place)?;
-        let platform = optional_text_in(object, place, "target")?;
-        uses.push(Use { kind, platform })?;
+        uses.push(use_of(object, Place::DepKind { node, dep, kind })?)?;
     }
     Ok(uses)
 }
 
 /// One package that the node of this place uses.
+#[tactic(auto, unfolding(crate::specs::Nodes::dep_in))]
 fn dep_of<'p, 'v>(
     alloc: Global,
     packages: &'p Packages<'v>,
-    object: &'v Value,
+    object: &Value<'v>,
     node: usize,
     dep: usize,
-) -> Result<Dep<'p, 'v>, DocumentFault> {
+) -> Result<Dep<'p, 'v>, DocumentFault>
+    ensures { Gives dep_view result (spec.dep_in (entries_view package_view packages.now.entries) node dep (value_view object.now)) }
+{
     let place = Place::Dep { node, dep };
     let extern_name = text_in(object, place, "name")?;
     let id = text_in(object, place, "pkg")?;
     let kinds = list_in(object, place, "dep_kinds")?;
-    let Some(target) = packages.get(id) else {
-        return Err(no_package(alloc, place, "pkg", id)?);
-    };
+    let target = package_at(alloc, packages, place, "pkg", id)?;
     let uses = uses_of(alloc, kinds, node, dep)?;
     Ok(Dep {
         extern_name,
@@ -79,9 +119,11 @@ fn dep_of<'p, 'v>(
 fn deps_of<'p, 'v>(
     alloc: Global,
     packages: &'p Packages<'v>,
-    objects: &'v Vec<Value>,
+    objects: &Vec<Value<'v>>,
     node: usize,
-) -> Result<Vec<Dep<'p, 'v>>, DocumentFault> {
+) -> Result<Vec<Dep<'p, 'v>>, DocumentFault>
+    ensures { Gives (λ ds. map dep_view ds.items) result (each (spec.dep_in (entries_view package_view packages.now.entries) node) 0 (items_view objects.now.items)) }
+{
     let mut deps = Vec::with_capacity(alloc, objects.len())?;
     for (dep, object) in objects.iter().enumerate() {
         deps.push(dep_of(alloc, packages, object, node, dep)?)?;
@@ -89,12 +131,32 @@ fn deps_of<'p, 'v>(
     Ok(deps)
 }
 
+/// The id of the node of this place, and the packages that it uses.
+#[tactic(auto, unfolding(crate::specs::Nodes::node_in))]
+fn node_of<'p, 'v>(
+    alloc: Global,
+    packages: &'p Packages<'v>,
+    object: &Value<'v>,
+    node: usize,
+) -> Result<(&'v str, Vec<Dep<'p, 'v>>), DocumentFault>
+    ensures { Gives (λ e. (e.0.now, map dep_view e.1.items)) result (spec.node_in (entries_view package_view packages.now.entries) node (value_view object.now)) }
+{
+    let place = Place::Node { node };
+    let id = text_in(object, place, "id")?;
+    let _known = package_at(alloc, packages, place, "id", id)?;
+    let objects = list_in(object, place, "deps")?;
+    Ok((id, deps_of(alloc, packages, objects, node)?))
+}
+
 /// What each package of the document uses.
+#[tactic(auto, unfolding(crate::specs::Nodes::nodes_in))]
 pub(crate) fn nodes_in<'p, 'v>(
     alloc: Global,
     packages: &'p Packages<'v>,
-    document: &'v Value,
-) -> Result<Nodes<'p, 'v>, DocumentFault> {
+    document: &Value<'v>,
+) -> Result<Nodes<'p, 'v>, DocumentFault>
+    ensures { Gives (λ m. entries_view (λ ds. map dep_view ds.items) m.entries) result (spec.nodes_in (entries_view package_view packages.now.entries) (value_view document.now)) }
+{
     let Some(resolve) = document.get("resolve") else {
         return Err(DocumentFault::Field {
             place: Place::Document,
@@ -104,32 +166,47 @@ pub(crate) fn nodes_in<'p, 'v>(
     let objects = list_in(resolve, Place::Resolve, "nodes")?;
     let mut nodes = BTreeMap::new(alloc);
     for (node, object) in objects.iter().enumerate() {
-        let place = Place::Node { node };
-        let id = text_in(object, place, "id")?;
-        if !packages.contains_key(id) {
-            return Err(no_package(alloc, place, "id", id)?);
-        }
-        let deps = deps_of(alloc, packages, list_in(object, place, "deps")?, node)?;
+        let (id, deps) = node_of(alloc, packages, object, node)?;
         if nodes.insert(id, deps)?.is_some() {
-            return Err(DocumentFault::Repeated { place });
+            return Err(DocumentFault::Repeated {
+                place: Place::Node { node },
+            });
         }
     }
     Ok(nodes)
 }
 
-/// The ids of the workspace's members.
+/// The ids of the workspace's members, each of them a package's.
+#[tactic(auto, unfolding(crate::specs::Nodes::members_in))]
 pub(crate) fn members_in<'v>(
     alloc: Global,
     packages: &Packages<'v>,
-    document: &'v Value,
-) -> Result<BTreeSet<&'v str>, DocumentFault> {
+    document: &Value<'v>,
+) -> Result<Vec<&'v str>, DocumentFault>
+    ensures { Gives (λ ids. map text_view ids.items) result (spec.members_in (entries_view package_view packages.now.entries) (value_view document.now)) }
+{
     let ids = texts_in(alloc, document, Place::Document, "workspace_members")?;
-    let mut members = BTreeSet::new(alloc);
+    check_members(alloc, packages, &ids)?;
+    Ok(ids)
+}
+
+/// Refuses the first id that no package has.
+fn check_members(alloc: Global, packages: &Packages<'_>, ids: &[&str]) -> Result<(), DocumentFault>
+    ensures { Gives (λ _. tt) result (spec.known (entries_view package_view packages.now.entries) (map text_view ids.now)) }
+{
     for id in ids {
-        if !packages.contains_key(id) {
-            return Err(no_package(alloc, Place::Document, "workspace_members", id)?);
-        }
-        let _is_new = members.insert(id)?;
+        let _known = package_at(alloc, packages, Place::Document, "workspace_members", id)?;
     }
-    Ok(members)
+    Ok(())
+}
+
+/// The ids as a set.
+pub(crate) fn set_of<'v>(alloc: Global, ids: &[&'v str]) -> Result<BTreeSet<&'v str>, AllocError>
+    ensures { IfOk result (λ set. HasTexts set (map text_view ids.now)) }
+{
+    let mut set = BTreeSet::new(alloc);
+    for id in ids {
+        let _is_new = set.insert(*id)?;
+    }
+    Ok(set)
 }

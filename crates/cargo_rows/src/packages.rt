@@ -1,13 +1,17 @@
 //! The packages of a document, with what they declare.
-ghost use Rattle.std.specs.Prelude.{Some};
-ghost use Rattle.serde_json.specs.View.{view};
+ghost use Rattle.std.specs.Prelude.{◌≡◌, [], Some, IfOk, map, option_map};
+ghost use Rattle.std.specs.List.{list_any};
+ghost use Rattle.json.specs.Value.{value_view, items_view, members_view};
 ghost use Rattle.cargo_rows.specs.Faults.{Gives};
+ghost use Rattle.cargo_rows.specs.Lists.{each};
 ghost use Rattle.cargo_rows.specs.Packages as spec;
+ghost use Rattle.cargo_rows.specs.inner.Views.{text_view, declaration_view, feature_view, package_view, entries_view};
+ghost use Rattle.cargo_rows.specs.declared.fault.Place.TheVariants.{Dependency};
 
 use crate::fault::{DocumentFault, Place};
 use crate::fields::{flag_in, list_in, object_in, optional_text_in, text_in, texts_in, texts_of};
-use serde_json::{Map, Value};
-use std::alloc::Global;
+use json::Value;
+use std::alloc::{AllocError, Global};
 use std::collections::BTreeMap;
 
 /// Which builds of a package take a dependency.
@@ -70,8 +74,8 @@ fn kind_named(text: &str, place: Place) -> Result<Kind, DocumentFault>
 }
 
 /// The field `kind` of a declaration or of a way in which a dependency is used.
-pub(crate) fn kind_in(object: &Value, place: Place) -> Result<Kind, DocumentFault>
-    ensures { Gives (λ k. k) result (spec.kind_in place (view object.now)) }
+pub(crate) fn kind_in(object: &Value<'_>, place: Place) -> Result<Kind, DocumentFault>
+    ensures { Gives (λ k. k) result (spec.kind_in place (value_view object.now)) }
 {
     match optional_text_in(object, place, "kind")? {
         None => Ok(Kind::Normal),
@@ -80,12 +84,13 @@ pub(crate) fn kind_in(object: &Value, place: Place) -> Result<Kind, DocumentFaul
 }
 
 /// One declaration.
+#[tactic(auto, unfolding(crate::specs::Packages::declaration_in))]
 fn declaration_of<'v>(
     alloc: Global,
-    object: &'v Value,
+    object: &Value<'v>,
     place: Place,
 ) -> Result<Declaration<'v>, DocumentFault>
-    ensures { Gives spec.declaration_view result (spec.declaration_in place (view object.now)) }
+    ensures { Gives declaration_view result (spec.declaration_in place (value_view object.now)) }
 {
     Ok(Declaration {
         name: text_in(object, place, "name")?,
@@ -102,9 +107,11 @@ fn declaration_of<'v>(
 /// The declarations of the package of this place.
 fn declarations_of<'v>(
     alloc: Global,
-    objects: &'v Vec<Value>,
+    objects: &Vec<Value<'v>>,
     package: usize,
-) -> Result<Vec<Declaration<'v>>, DocumentFault> {
+) -> Result<Vec<Declaration<'v>>, DocumentFault>
+    ensures { Gives (λ ds. map declaration_view ds.items) result (each (λ i. spec.declaration_in (Dependency «package» i)) 0 (items_view objects.now.items)) }
+{
     let mut declarations = Vec::with_capacity(alloc, objects.len())?;
     for (dependency, object) in objects.iter().enumerate() {
         let place = Place::Dependency {
@@ -116,46 +123,77 @@ fn declarations_of<'v>(
     Ok(declarations)
 }
 
+/// The members of an object, in the order of their names; of one name the last one.
+fn sorted<'d, 'v>(
+    alloc: Global,
+    members: &'d Vec<(&'v str, Value<'v>)>,
+) -> Result<BTreeMap<&'v str, &'d Value<'v>>, AllocError>
+    ensures { IfOk result (λ m. entries_view (λ v. value_view v.now) m.entries ≡ spec.sorted [] (members_view members.now.items)) }
+{
+    let mut sorted = BTreeMap::new(alloc);
+    for (name, value) in members {
+        let _earlier = sorted.insert(*name, value)?;
+    }
+    Ok(sorted)
+}
+
 /// The named features of the package of this place, in the order of their names.
 fn features_of<'v>(
     alloc: Global,
-    members: &'v Map<String, Value>,
+    members: &Vec<(&'v str, Value<'v>)>,
     place: Place,
-) -> Result<Vec<Feature<'v>>, DocumentFault> {
+) -> Result<Vec<Feature<'v>>, DocumentFault>
+    ensures { Gives (λ fs. map feature_view fs.items) result (spec.features_of place (spec.sorted [] (members_view members.now.items))) }
+{
+    let members = sorted(alloc, members)?;
     let mut features = Vec::with_capacity(alloc, members.len())?;
-    for (name, value) in members {
-        let Value::Array(items) = value else {
+    for (name, value) in &members {
+        let Value::Array(items) = *value else {
             return Err(DocumentFault::Field {
                 place,
                 name: "features",
             });
         };
         let items = texts_of(alloc, items, place, "features")?;
-        features.push(Feature {
-            name: name.as_str(),
-            items,
-        })?;
+        features.push(Feature { name: *name, items })?;
     }
     Ok(features)
 }
 
 /// Whether targets of this kind are linked into the packages that depend on theirs.
-fn is_library_kind(kind: &str) -> bool {
+fn is_library_kind(kind: &str) -> bool
+    ensures { result ≡ spec.is_library_kind kind.now }
+{
     matches!(
         kind,
         "lib" | "rlib" | "dylib" | "cdylib" | "staticlib" | "proc-macro"
     )
 }
 
+/// Whether one of the kinds is a library's.
+fn has_library_kind(kinds: &[&str]) -> bool
+    ensures { result ≡ list_any spec.is_library_kind (map text_view kinds.now) }
+{
+    for kind in kinds {
+        if is_library_kind(kind) {
+            return true;
+        }
+    }
+    false
+}
+
 /// The name of the target, where it is a library.
+#[tactic(auto, unfolding(crate::specs::Packages::library_in))]
 fn library_of<'v>(
     alloc: Global,
-    object: &'v Value,
+    object: &Value<'v>,
     place: Place,
-) -> Result<Option<&'v str>, DocumentFault> {
+) -> Result<Option<&'v str>, DocumentFault>
+    ensures { Gives (λ o. option_map text_view o) result (spec.library_in place (value_view object.now)) }
+{
     let name = text_in(object, place, "name")?;
     let kinds = texts_in(alloc, object, place, "kind")?;
-    if kinds.iter().any(|kind| is_library_kind(kind)) {
+    if has_library_kind(&kinds) {
         Ok(Some(name))
     } else {
         Ok(None)
@@ -163,11 +201,14 @@ fn library_of<'v>(
 }
 
 /// The name of the first target that is a library, of the package of this place.
+#[tactic(auto, unfolding(crate::specs::Packages::first_library))]
 fn first_library<'v>(
     alloc: Global,
-    objects: &'v Vec<Value>,
+    objects: &Vec<Value<'v>>,
     package: usize,
-) -> Result<Option<&'v str>, DocumentFault> {
+) -> Result<Option<&'v str>, DocumentFault>
+    ensures { Gives (λ o. option_map text_view o) result (spec.first_library «package» (items_view objects.now.items)) }
+{
     let mut first = None;
     for (target, object) in objects.iter().enumerate() {
         let found = library_of(alloc, object, Place::Target { package, target })?;
@@ -179,11 +220,14 @@ fn first_library<'v>(
 }
 
 /// One package, by its place.
+#[tactic(auto, unfolding(crate::specs::Packages::package_in))]
 fn package_of<'v>(
     alloc: Global,
-    object: &'v Value,
+    object: &Value<'v>,
     package: usize,
-) -> Result<Package<'v>, DocumentFault> {
+) -> Result<Package<'v>, DocumentFault>
+    ensures { Gives package_view result (spec.package_in «package» (value_view object.now)) }
+{
     let place = Place::Package { package };
     let declared = list_in(object, place, "dependencies")?;
     let targets = list_in(object, place, "targets")?;
@@ -198,15 +242,38 @@ fn package_of<'v>(
     })
 }
 
-/// The packages of the document, by their ids.
-pub(crate) fn packages_in<'v>(
+/// One package, of an object that is dropped then.
+fn package_from<'v>(
     alloc: Global,
-    document: &'v Value,
-) -> Result<Packages<'v>, DocumentFault> {
-    let objects = list_in(document, Place::Document, "packages")?;
+    object: Value<'v>,
+    package: usize,
+) -> Result<Package<'v>, DocumentFault>
+    ensures { Gives package_view result (spec.package_in «package» (value_view object.entry)) }
+{
+    let read = package_of(alloc, &object, package)?;
+    Ok(read)
+}
+
+/// The packages that a document lists, by their ids. Each is dropped from the document once it is read.
+#[tactic(auto, unfolding(crate::specs::Packages::packages_at))]
+pub(crate) fn packages_of<'v>(
+    alloc: Global,
+    listed: Option<Value<'v>>,
+) -> Result<Packages<'v>, DocumentFault>
+    ensures { Gives (λ m. entries_view package_view m.entries) result (spec.packages_at (option_map value_view listed.entry)) }
+{
+    let Some(Value::Array(mut objects)) = listed else {
+        return Err(DocumentFault::Field {
+            place: Place::Document,
+            name: "packages",
+        });
+    };
+    let count = objects.len();
+    objects.reverse();
     let mut packages = BTreeMap::new(alloc);
-    for (place, object) in objects.iter().enumerate() {
-        let package = package_of(alloc, object, place)?;
+    'objects: while let Some(object) = objects.pop() {
+        let place = count - objects.len() - 1;
+        let package = package_from(alloc, object, place)?;
         if packages.insert(package.id, package)?.is_some() {
             return Err(DocumentFault::Repeated {
                 place: Place::Package { package: place },

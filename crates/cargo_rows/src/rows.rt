@@ -1,7 +1,8 @@
 //! The text of rows.
-ghost use Rattle.std.specs.Prelude.{◌≡◌, ◌++◌, map, IfOk, OnOk, string_bytes};
+ghost use Rattle.std.specs.Prelude.{◌≡◌, ◌++◌, [], ◌∷◌, codes, map, option_map, IfOk, OnOk, string_bytes};
 ghost use Rattle.cargo_rows.specs.Faults.{Gives};
 ghost use Rattle.cargo_rows.specs.Rows as spec;
+ghost use Rattle.cargo_rows.specs.inner.Views.{text_view, feature_view, dependency_view, after};
 
 use crate::dependencies::Dependency;
 use crate::fault::DocumentFault;
@@ -45,14 +46,14 @@ fn push_fields(rows: &mut String, fields: &[&str]) -> Result<(), AllocError>
 }
 
 /// Adds a row: its word, and its fields.
+#[tactic(auto, unfolding(crate::specs::Rows::row))]
 fn push_row(
     alloc: Global,
     rows: &mut String,
     word: &str,
     fields: &[&str],
 ) -> Result<(), DocumentFault>
-    ensures checked { Gives (λ _. tt) result (spec.allowed (map (λ s. s.now) fields.now)) }
-    ensures row { OnOk result (string_bytes rows.new ≡ string_bytes rows.old ++ spec.row_text word.now (map (λ s. s.now) fields.now)) }
+    ensures { Gives (λ _. string_bytes rows.new) result (after (string_bytes rows.old) (spec.row word.now (map text_view fields.now))) }
 {
     check_fields(alloc, fields)?;
     rows.push_str(word)?;
@@ -67,14 +68,16 @@ pub(crate) fn push_package(
     rows: &mut String,
     package: &Package<'_>,
     is_member: bool,
-) -> Result<(), DocumentFault> {
+) -> Result<(), DocumentFault>
+    ensures { Gives (λ _. string_bytes rows.new) result (after (string_bytes rows.old) (spec.row (codes "package") («package».now.id.now ∷ spec.member_word is_member ∷ []))) }
+{
     let place = if is_member { "workspace" } else { "external" };
     push_row(alloc, rows, "package", &[package.id, place])
 }
 
 /// The fields of a feature's row.
 fn feature_fields<'v>(alloc: Global, feature: &Feature<'v>) -> Result<Vec<&'v str>, AllocError>
-    ensures { IfOk result (λ fields. map (λ s. s.now) fields.items ≡ spec.feature_fields feature.now) }
+    ensures { IfOk result (λ fields. map (λ s. s.now) fields.items ≡ spec.feature_fields (feature_view feature.now)) }
 {
     let mut fields = Vec::new(alloc);
     fields.push(feature.name)?;
@@ -87,7 +90,9 @@ pub(crate) fn push_features(
     alloc: Global,
     rows: &mut String,
     features: &[Feature<'_>],
-) -> Result<(), DocumentFault> {
+) -> Result<(), DocumentFault>
+    ensures { Gives (λ _. string_bytes rows.new) result (after (string_bytes rows.old) (spec.feature_rows (map feature_view features.now))) }
+{
     for feature in features {
         let fields = feature_fields(alloc, feature)?;
         push_row(alloc, rows, "feature", &fields)?;
@@ -108,7 +113,7 @@ fn kind_word(kind: Kind) -> &'static str
 
 /// The text of a platform; `*` for every one.
 fn platform_text<'v>(platform: Option<&'v str>) -> &'v str
-    ensures { result.now ≡ spec.platform_text platform.entry }
+    ensures { result.now ≡ spec.platform_text (option_map text_view platform.entry) }
 {
     match platform {
         Some(platform) => platform,
@@ -139,7 +144,7 @@ fn dependency_fields<'v>(
     alloc: Global,
     dependency: &Dependency<'_, 'v>,
 ) -> Result<Vec<&'v str>, AllocError>
-    ensures { IfOk result (λ fields. map (λ s. s.now) fields.items ≡ spec.dependency_fields dependency.now.declaration.now dependency.now.target.now) }
+    ensures { IfOk result (λ fields. map (λ s. s.now) fields.items ≡ spec.dependency_fields (dependency_view dependency.now)) }
 {
     let declaration = dependency.declaration;
     let mut fields = Vec::new(alloc);
@@ -158,7 +163,9 @@ pub(crate) fn push_dependencies(
     alloc: Global,
     rows: &mut String,
     dependencies: &[Dependency<'_, '_>],
-) -> Result<(), DocumentFault> {
+) -> Result<(), DocumentFault>
+    ensures { Gives (λ _. string_bytes rows.new) result (after (string_bytes rows.old) (spec.dependency_rows (map dependency_view dependencies.now))) }
+{
     for dependency in dependencies {
         let fields = dependency_fields(alloc, dependency)?;
         push_row(alloc, rows, "dep", &fields)?;

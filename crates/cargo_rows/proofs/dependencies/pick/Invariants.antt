@@ -1,6 +1,8 @@
-use Rattle.std.proofs.Common.{◌≡◌, take}
-use Rattle.cargo_rows.specs.Dependencies.{found_view, pick}
+use Rattle.std.proofs.Common.{◌≡◌, map, take}
+use Rattle.cargo_rows.specs.Dependencies.{pick}
+use Rattle.cargo_rows.specs.inner.Picks.{found_view, answers}
+use Rattle.cargo_rows.specs.inner.Views.{declaration_view, dep_view}
 use Rattle.cargo_rows.proofs.dependencies.pick.Given as goal
 
 abbrev pub invariant-loop-dep : goal.invariant-loop-dep
-invariant-loop-dep l = found_view l.found ≡ pick l.asked l.declaration (take l.dep-index l.deps)
+invariant-loop-dep l = found_view l.found ≡ pick (answers l.asked) (declaration_view l.declaration) (map dep_view (take l.dep-index l.deps))

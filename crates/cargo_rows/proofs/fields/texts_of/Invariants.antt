@@ -1,5 +1,5 @@
 use Rattle.std.proofs.Common.{option_map, map, ◌≡◌, ◌++◌, drop}
-use Rattle.serde_json.specs.View.{items_view}
+use Rattle.json.specs.Value.{items_view}
 use Rattle.cargo_rows.specs.Fields.{all_texts}
 use Rattle.cargo_rows.proofs.fields.texts_of.Given as goal
 

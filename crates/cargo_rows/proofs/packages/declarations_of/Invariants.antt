@@ -1,0 +1,13 @@
+use Rattle.std.proofs.Common.{◌≡◌, ℕ, map, drop}
+use Rattle.json.specs.Value.{items_view}
+use Rattle.cargo_rows.specs.declared.fault.Place.TheVariants as place
+use Rattle.cargo_rows.specs.Lists.{each}
+use Rattle.cargo_rows.specs.Packages.{declaration_in}
+use Rattle.cargo_rows.specs.inner.Views.{declaration_view}
+use Rattle.cargo_rows.proofs.Lists.{prepend}
+use Rattle.cargo_rows.proofs.packages.declarations_of.Given as goal
+
+abbrev pub invariant-loop-dependency : goal.invariant-loop-dependency
+invariant-loop-dependency l =
+    let read = λ (i : ℕ). declaration_in (place.Dependency l.package i) in
+    each read 0 (items_view l.objects.items) ≡ prepend (map declaration_view l.declarations.items) (each read l.dependency (items_view (drop l.dependency l.objects.items)))

@@ -1,0 +1,74 @@
+-- The members of the workspace, and what each package uses.
+use Rattle.std.specs.Prelude.{ℕ, List, [], ◌∷◌, codes, Option, Some, None, Result, Ok, Err, ⊤}
+use Rattle.json.specs.Json.{Json}
+use Rattle.json.specs.Find.{get}
+use Rattle.cargo_rows.specs.declared.fault.Place.{Place}
+use Rattle.cargo_rows.specs.declared.fault.Place.TheVariants as place
+use Rattle.cargo_rows.specs.declared.packages.Kind.{Kind}
+use Rattle.cargo_rows.specs.Faults.{Text, Refusal, no_package, ◌>>=◌}
+use Rattle.cargo_rows.specs.Fields.{wanted, text_in, optional_text_in, list_in, texts_in}
+use Rattle.cargo_rows.specs.Lists.{each, ById, at_id, each_by_id}
+use Rattle.cargo_rows.specs.Packages.{kind_in, PackageText}
+
+-- the package of this id, or the fault that there is none, of the field that has the id
+abbrev pub found_or : {X : Type 0} → Place → Text → Text → Option X → Result X Refusal
+found_or at name id (Some p) = Ok p
+found_or at name id None = Err (no_package at name id)
+
+unfoldable pub package_at : ById PackageText → Place → Text → Text → Result PackageText Refusal
+package_at packages at name id = found_or at name id (at_id id packages)
+
+-- a kind and a platform for which a package is used
+pub record UseText : Type 0 where
+  pub kind : Kind
+  pub platform : Option Text
+
+unfoldable pub use_in : Place → Json → Result UseText Refusal
+use_in at d =
+    kind_in at d >>= λ kind.
+    optional_text_in at (codes "target") d >>= λ platform.
+    Ok (record { kind = kind; platform = platform })
+
+-- a used package, the name by which code calls it, and its uses
+pub record DepText : Type 0 where
+  pub extern_name : Text
+  pub target : PackageText
+  pub uses : List UseText
+
+-- the used package that the object at place i of node n is
+unfoldable pub dep_in : ById PackageText → ℕ → ℕ → Json → Result DepText Refusal
+dep_in packages n i d =
+    text_in (place.Dep n i) (codes "name") d >>= λ extern_name.
+    text_in (place.Dep n i) (codes "pkg") d >>= λ id.
+    list_in (place.Dep n i) (codes "dep_kinds") d >>= λ kinds.
+    package_at packages (place.Dep n i) (codes "pkg") id >>= λ target.
+    each (λ k. use_in (place.DepKind n i k)) 0 kinds >>= λ uses.
+    Ok (record { extern_name = extern_name; target = target; uses = uses })
+
+-- the id of the node at place n, and the packages that it uses
+unfoldable pub node_in : ById PackageText → ℕ → Json → Result (Text × List DepText) Refusal
+node_in packages n d =
+    text_in (place.Node n) (codes "id") d >>= λ id.
+    package_at packages (place.Node n) (codes "id") id >>= λ _.
+    list_in (place.Node n) (codes "deps") d >>= λ objects.
+    each (dep_in packages n) 0 objects >>= λ deps.
+    Ok (id, deps)
+
+-- what each package of the document uses, by its id
+unfoldable pub nodes_in : ById PackageText → Json → Result (ById (List DepText)) Refusal
+nodes_in packages d =
+    wanted place.Document (codes "resolve") (get (codes "resolve") d) >>= λ resolve.
+    list_in place.Resolve (codes "nodes") resolve >>=
+    each_by_id (node_in packages) place.Node 0 []
+
+-- each id is a package's, or the first fault
+abbrev pub known : ById PackageText → List Text → Result ⊤ Refusal
+known packages [] = Ok tt
+known packages (id ∷ ids) = package_at packages place.Document (codes "workspace_members") id >>= λ _. known packages ids
+
+-- the ids of the workspace's members
+unfoldable pub members_in : ById PackageText → Json → Result (List Text) Refusal
+members_in packages d =
+    texts_in place.Document (codes "workspace_members") d >>= λ ids.
+    known packages ids >>= λ _.
+    Ok ids

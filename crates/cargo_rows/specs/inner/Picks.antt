@@ -1,0 +1,36 @@
+-- What is found among used packages, one after the other.
+use Rattle.std.specs.Prelude.{◌&&◌, Bool, true, false}
+use Rattle.cargo_rows.specs.declared.dependencies.Found.{Found}
+use Rattle.cargo_rows.specs.declared.dependencies.Found.TheVariants as found
+use Rattle.cargo_rows.specs.declared.dependencies.Asked.{Asked}
+use Rattle.cargo_rows.specs.declared.dependencies.Asked.TheVariants as asked
+use Rattle.cargo_rows.specs.Packages.{DeclarationText, PackageText}
+use Rattle.cargo_rows.specs.Nodes.{DepText}
+use Rattle.cargo_rows.specs.Dependencies.{FoundPackage, nothing, one, several, fits, is_used, is_admitted}
+use Rattle.cargo_rows.specs.inner.Views.{package_view}
+
+-- the test that is asked
+abbrev pub answers : Asked → DeclarationText → DepText → Bool
+answers asked.Use d dep = is_used d dep
+answers asked.Version d dep = is_admitted d dep
+answers asked.Both d dep = is_used d dep && is_admitted d dep
+
+-- whether the used package fits the declaration, and what is asked besides holds
+unfoldable pub meets : Asked → DeclarationText → DepText → Bool
+meets ask d dep = fits d dep && answers ask d dep
+
+abbrev pub found_view : Found → FoundPackage
+found_view found.Nothing = nothing
+found_view (found.One p) = one (package_view p.now)
+found_view found.Several = several
+
+-- what was found, with one more
+abbrev pub with_one : FoundPackage → PackageText → FoundPackage
+with_one nothing p = one p
+with_one (one q) p = several
+with_one several p = several
+
+-- the same, with one more where it counts
+abbrev pub and_one : Bool → FoundPackage → PackageText → FoundPackage
+and_one true found p = with_one found p
+and_one false found p = found
