@@ -1,5 +1,5 @@
 -- What a source of edges holds, and what it tells.
-use Rattle.std.proofs.Common.{◌≡◌, ℕ, suc, ◌<◌, Bool, List, [], ◌∷◌, Option, Some, None, length, map, refl, sym, ◌∙◌, ap, subst, arith}
+use Rattle.std.proofs.Common.{◌≡◌, ℕ, suc, ◌<◌, Bool, List, [], ◌∷◌, Option, Some, length, map, refl, sym, ◌∙◌, ap, subst, arith}
 use Rattle.std.specs.Prelude.{IsTrue, ◌==◌, slice_get}
 use Rattle.std.specs.Option.{option_map}
 use Rattle.std.proofs.lemmas.List.{length-map}
@@ -10,6 +10,8 @@ use Rattle.guppy_packages.specs.declared.direction.DependencyDirection.{Dependen
 use Rattle.guppy_packages.specs.declared.direction.DependencyDirection.TheVariants.{Forward, Reverse}
 use Rattle.walk_engine.specs.declared.walks.Taken.{Taken}
 use Rattle.walk_engine.specs.Walks.{Way, EndsAreNodes, numbers_where, starting, releasing, told, taken_of, is_gated}
+use Rattle.walk_checks.specs.Tables.{Tells}
+use Rattle.walk_checks.specs.declared.table.TableEdge.{TableEdge}
 use Rattle.feature_core.specs.declared.packed.Asking.{Asking}
 use Rattle.feature_core.specs.declared.packed.Asking.TheVariants.{Offers, Chosen}
 use Rattle.feature_core.specs.Edges.{EdgeFacts}
@@ -59,13 +61,20 @@ module _ (asking : Asking) where
       let within : found.0 < length (map (way_in asking direction) edges) = slice_get_within (map (way_in asking direction) edges) found.0 found.2.0 found.2.1 in
       omega (arith, found.1, length-map edges (way_in asking direction), length-built_edges g.edges fs (tied_each asking g fs tied))
 
-  way_at : (direction : DependencyDirection) (es : List Edge) (fs : List EdgeFacts) (k : ℕ) (e : Edge) (f : EdgeFacts) → slice_get es k ≡ Some e → slice_get fs k ≡ Some f → slice_get (map (way_in asking direction) (built_edges es fs)) k ≡ Some (way_in asking direction (e.from, e.to, f))
+  pub way_at : (direction : DependencyDirection) (es : List Edge) (fs : List EdgeFacts) (k : ℕ) (e : Edge) (f : EdgeFacts) → slice_get es k ≡ Some e → slice_get fs k ≡ Some f → slice_get (map (way_in asking direction) (built_edges es fs)) k ≡ Some (way_in asking direction (e.from, e.to, f))
   way_at direction es fs k e f p q = slice_get-map (way_in asking direction) (built_edges es fs) k ∙ ap (option_map (way_in asking direction)) (built_edge_at k es fs e f p q)
 
   -- what is told of an edge
   pub told_held : (direction : DependencyDirection) (nodes : ℕ) (es : List Edge) (fs : List EdgeFacts) (k : ℕ) (e : Edge) (f : EdgeFacts) → slice_get es k ≡ Some e → slice_get fs k ≡ Some f → ◌≡◌ {A = Option Taken} (Some (record { edge = k; far = (open_way direction e).far; ask = ask_in asking direction f })) (told (held asking direction nodes (built_edges es fs)) (Some k))
   told_held Forward nodes es fs k e f p q = sym (ap (taken_of k) (way_at Forward es fs k e f p q))
   told_held Reverse nodes es fs k e f p q = sym (ap (taken_of k) (way_at Reverse es fs k e f p q))
+
+  -- what a table tells of an edge
+  pub tells_held : (direction : DependencyDirection) (nodes : ℕ) (es : List Edge) (fs : List EdgeFacts) (k : ℕ) (e : Edge) (f : EdgeFacts) (edge : TableEdge) → slice_get es k ≡ Some e → slice_get fs k ≡ Some f
+      → edge.start ≡ (open_way direction e).start → edge.far ≡ (open_way direction e).far → edge.ask ≡ ask_in asking direction f → edge.gate ≡ gate_in asking f
+      → Tells (slice_get (held asking direction nodes (built_edges es fs)).ways k) (Some edge)
+  tells_held Forward nodes es fs k e f edge p q start far ask gate = subst (λ o. Tells o (Some edge)) (sym (way_at Forward es fs k e f p q)) (record { start = start; far = far; ask = ask; gate = λ _. gate })
+  tells_held Reverse nodes es fs k e f edge p q start far ask gate = subst (λ o. Tells o (Some edge)) (sym (way_at Reverse es fs k e f p q)) (record { start = start; far = far; ask = ask; gate = λ _. gate })
 
   ways_within : (direction : DependencyDirection) (nodes : ℕ) (x : ℕ × ℕ × EdgeFacts) → x.0 < nodes → x.1 < nodes → gate_in asking x.2 < nodes → ((way_in asking direction x).start < nodes) × ((way_in asking direction x).far < nodes) × (IsTrue (is_gated (way_in asking direction x).ask) → (way_in asking direction x).gate < nodes)
   ways_within Forward nodes x a b h = (a, b, λ _. h)

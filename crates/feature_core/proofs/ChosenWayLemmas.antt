@@ -1,32 +1,24 @@
 -- Chosen edges as ways that are open to all, and what is reached where each offer is refused.
-use Rattle.std.proofs.Common.{◌≡◌, ℕ, suc, ◌<◌, ◌≤◌, Bool, true, false, ◌&&◌, ◌||◌, inl, inr, List, [], ◌∷◌, Option, Some, None, length, get_or, map, refl, sym, ◌∙◌, ap, subst, arith}
-use Rattle.std.specs.Prelude.{IsTrue, IsFalse, ◌==◌, ◌↔◌, slice_get, filter, Contains}
-use Rattle.std.proofs.lemmas.List.{length-map}
-use Rattle.std.proofs.lemmas.Option.{slice_get-map, slice_get-get_or, slice_get_within, slice_get_past, get_or_from_slice_get}
+use Rattle.std.proofs.Common.{◌≡◌, ℕ, suc, Bool, true, false, ◌&&◌, ◌||◌, inl, inr, List, [], ◌∷◌, Some, map, refl, sym, ◌∙◌, ap, subst}
+use Rattle.std.specs.Prelude.{IsFalse, ◌==◌, ◌↔◌, slice_get, filter, Contains}
+use Rattle.std.proofs.lemmas.Option.{slice_get-map, slice_get-get_or, slice_get_within, get_or_from_slice_get}
 use Rattle.std.specs.Option.{option_map}
-use Rattle.guppy_support.specs.declared.digraph.Edge.{Edge}
-use Rattle.guppy_support.specs.Graph.{Graph, IsDigraph}
 use Rattle.guppy_packages.specs.declared.direction.DependencyDirection.{DependencyDirection}
 use Rattle.guppy_packages.specs.declared.direction.DependencyDirection.TheVariants.{Forward, Reverse}
 use Rattle.feature_core.specs.declared.edge.EdgeChoice.{EdgeChoice}
 use Rattle.walk_engine.specs.declared.walks.Half.{Half}
 use Rattle.walk_engine.specs.declared.walks.Ask.TheVariants as asks
-use Rattle.walk_engine.specs.declared.walks.Taken.{Taken}
 use Rattle.feature_core.specs.Edges.{EdgeFacts}
-use Rattle.walk_engine.specs.Walks.{Call, Way, Content, IsWay, EndsAreNodes, GoesAlong, Reach, numbers_where, starting, releasing, told, taken_of, is_gated, is_of, was_accepted}
+use Rattle.walk_engine.specs.Walks.{Call, Way, Content, IsWay, GoesAlong, Reach, numbers_where, is_gated, is_of, was_accepted}
 use Rattle.feature_core.specs.Pairs.{PairLeads, Along, ReachAlong}
 use Rattle.feature_core.specs.Pairs.Along.{nowhere, onward}
-use Rattle.feature_core.specs.Built.{built_edges}
 use Rattle.feature_core.specs.Choices.{is_chosen, chosen_pairs}
 use Rattle.feature_core.specs.Ways.{start_of, far_of}
 use Rattle.feature_core.specs.inner.ChosenWays.{ask_where, chosen_way, chosen_content}
-use Rattle.feature_core.specs.inner.OpenWays.{open_way, open_ways}
 use Rattle.feature_core.proofs.Answered.{clash}
 use Rattle.feature_core.proofs.Places.{got_map}
 use Rattle.feature_core.proofs.Reaches.{reach_in, reach_more, open_nobody, open_cases}
 use Rattle.feature_core.proofs.PushLemmas.{from_filter, into_filter, from_map, into_map}
-use Rattle.feature_core.proofs.OpenWayLemmas.{ends_are_nodes, edge_way}
-use Rattle.feature_core.proofs.PackedLemmas.{built_edge_at, edge_of_facts, length-built_edges}
 
 ungated : (b : Bool) → IsFalse (is_gated (ask_where b))
 ungated true = refl

@@ -1,7 +1,7 @@
 -- What walks of a feature graph follow, and what is reached over it.
-use Rattle.std.proofs.Common.{◌≡◌, ℕ, ◌+◌, ◌<◌, List, [], ◌∷◌, length, map, Bool, true, false, Option, Some, None, refl, ap, sym, ◌∙◌, subst, arith, length-append}
-use Rattle.std.specs.Prelude.{slice_get, flat_map, Contains, IsTrue, IsFalse, ◌↔◌}
-use Rattle.std.specs.Option.{option_map, option_map_or}
+use Rattle.std.proofs.Common.{◌≡◌, ℕ, ◌+◌, ◌<◌, List, [], ◌∷◌, length, map, Bool, true, false, Option, Some, refl, ap, sym, ◌∙◌, subst, arith, length-append}
+use Rattle.std.specs.Prelude.{slice_get, flat_map, IsTrue, IsFalse, ◌↔◌}
+use Rattle.std.specs.Option.{option_map_or}
 use Rattle.std.proofs.Math.Logic.{∥∥₁_elim}
 use Rattle.std.proofs.Props.{props}
 use Rattle.std.proofs.lemmas.List.{length-map}
@@ -14,8 +14,8 @@ use Rattle.feature_labels.specs.Names.LabelName.{base, named, optional}
 use Rattle.walk_engine.specs.declared.walks.Ask.{Ask}
 use Rattle.walk_engine.specs.declared.walks.Ask.TheVariants as asks
 use Rattle.walk_engine.specs.Laws.{every, AreReverse, IsUngated}
-use Rattle.walk_engine.specs.Walks.{Way, Content, IsWay, Path, EndsAreNodes, is_gated, is_open, Reach as ReachOver}
-use Rattle.feature_core.specs.Built.{Built, IsBuilt, ends_of}
+use Rattle.walk_engine.specs.Walks.{Way, Path, EndsAreNodes, is_gated, is_open, Reach as ReachOver}
+use Rattle.feature_core.specs.Built.{Built, IsBuilt}
 use Rattle.feature_core.specs.Candidates.{Edge, Candidate, to_base, to_feature, to_dependency, over_strong, over_weak, with_dependency, with_feature, of_required, of_optional}
 use Rattle.feature_core.specs.Edges.{EdgeFacts, base_edge, feature_edge, colon_edge, strong_edge, weak_edge, section_edge}
 use Rattle.feature_core.specs.Nodes.{NodeAt, labels_of, spread, nodes, node_places, node_packages}

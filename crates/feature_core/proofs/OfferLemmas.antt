@@ -1,17 +1,14 @@
 -- The offers of a feature graph, their links and their names.
-use Rattle.std.proofs.Common.{◌≡◌, ℕ, zero, suc, ◌<◌, ◌⊎◌, inl, inr, ⊎_elim, List, [], ◌∷◌, length, map, Bool, true, false, not, cond, Option, Some, None, refl, ap, sym, ◌∙◌, subst, arith, get_or}
+use Rattle.std.proofs.Common.{◌≡◌, ℕ, ◌<◌, ◌⊎◌, ⊎_elim, List, [], ◌∷◌, length, map, Bool, true, false, not, cond, Option, Some, None, refl, ap, sym, ◌∙◌, subst, arith, get_or}
 use Rattle.std.specs.Prelude.{slice_get, position, filter, filter_map, Contains, AllPairs, IsTrue, ◌==◌, is_some}
 use Rattle.std.specs.Option.{option_map, option_map_or}
-use Rattle.std.specs.List.{list_any, cons_option}
+use Rattle.std.specs.List.{cons_option}
 use Rattle.std.proofs.Math.Logic.{∥∥₁_elim, ∥∥₁_map}
 use Rattle.std.proofs.Props.{props}
 use Rattle.std.proofs.lemmas.Bool.Decides.{nat_tests}
 use Rattle.std.proofs.lemmas.Option.{slice_get-map, get_or_from_slice_get, slice_get_within}
 use Rattle.guppy_packages.specs.Tables.{LinkTable, Tables, AreTables}
 use Rattle.guppy_packages.specs.declared.direction.DependencyDirection.{DependencyDirection}
-use Rattle.guppy_packages.specs.declared.direction.DependencyDirection.TheVariants.{Forward, Reverse}
-use Rattle.feature_labels.specs.Names.LabelName.{optional}
-use Rattle.feature_labels.specs.declared.link_declarations.LinkDeclarations.{LinkDeclarations}
 use Rattle.feature_labels.specs.declared.link_declarations.LinkDeclarations.TheVariants as covered
 use Rattle.walk_engine.specs.declared.walks.Half.{Half}
 use Rattle.walk_engine.specs.declared.walks.Half.TheVariants.{Full, Required, Optional}
@@ -21,15 +18,14 @@ use Rattle.feature_core.specs.BuiltOnce.{facts-set}
 use Rattle.feature_core.specs.Candidates.{Edge, Candidate, IsEdge, feature_to_base, named_feature, dep_colon, slash_full, slash_optional, slash_weak, section, to_base, to_feature, to_dependency, over_strong, over_weak, with_dependency, with_feature, of_required, of_optional, unsplit_of}
 use Rattle.feature_core.specs.Edges.{WeakFacts, EdgeFacts, base_edge, feature_edge, colon_edge, strong_edge, weak_edge, section_edge, EdgeBefore, EdgeSays, facts_of, weak_facts, weak_link, weak_links, first_ones, half_of, half_over}
 use Rattle.feature_core.specs.Links.{LinkFacts, IsLink, has_declaration, over, includes}
-use Rattle.feature_core.specs.Nodes.{NodeAt}
-use Rattle.feature_core.specs.Offers.{content_of, link_at, IsOffer, IsLinkOf, HaveOneName, IsWeakEdge}
+use Rattle.feature_core.specs.Offers.{content_of, link_at, IsOffer, IsLinkOf, IsWeakEdge}
 use Rattle.feature_core.specs.Ways.{way, asked}
 use Rattle.feature_core.proofs.AddsLemmas.{Contains-first, Contains-later, Contains-cases, Contains-none, element_at_place, place_of_element}
 use Rattle.feature_core.proofs.BuildLemmas.{alone}
 use Rattle.feature_core.proofs.LabelLemmas.{position_there, position_missing}
 use Rattle.feature_core.proofs.NodeLabels.{element_within}
 use Rattle.feature_core.proofs.Places.{got_map, got_same}
-use Rattle.feature_core.proofs.PushLemmas.{into_filter, into_map}
+use Rattle.feature_core.proofs.PushLemmas.{into_filter}
 use Rattle.feature_core.proofs.Ranks.{one_edge}
 
 -- the edge of a way

@@ -1,29 +1,24 @@
 -- The edges of a feature graph as ways.
-use Rattle.std.proofs.Common.{◌≡◌, ℕ, zero, suc, ◌+◌, ◌<◌, ◌≤◌, cond, ◌&&◌, inl, inr, List, [], ◌∷◌, ◌++◌, Option, Some, None, length, map, get_or, refl, sym, ◌∙◌, ap, subst, arith, add-one}
-use Rattle.std.specs.Prelude.{IsTrue, IsFalse, ◌==◌, slice_get}
-use Rattle.std.specs.Option.{option_map, option_map_or}
+use Rattle.std.proofs.Common.{◌≡◌, ℕ, zero, suc, ◌+◌, ◌<◌, cond, ◌&&◌, inl, inr, List, [], ◌∷◌, ◌++◌, Option, Some, None, length, get_or, refl, sym, ◌∙◌, ap, subst, arith, add-one}
+use Rattle.std.specs.Prelude.{IsFalse, ◌==◌, slice_get}
+use Rattle.std.specs.Option.{option_map_or}
 use Rattle.std.proofs.lemmas.List.{length-map}
-use Rattle.std.proofs.lemmas.Option.{slice_get-map, slice_get_within, slice_get-get_or, slice_get_past}
+use Rattle.std.proofs.lemmas.Option.{slice_get_within, slice_get-get_or}
 use Rattle.guppy_support.specs.declared.digraph.Edge.{Edge}
-use Rattle.guppy_support.specs.Graph.{Graph, IsDigraph}
-use Rattle.guppy_packages.specs.declared.direction.DependencyDirection.{DependencyDirection}
+use Rattle.guppy_support.specs.Graph.{Graph}
 use Rattle.guppy_packages.specs.declared.direction.DependencyDirection.TheVariants.{Forward, Reverse}
-use Rattle.walk_engine.specs.declared.walks.Taken.{Taken}
 use Rattle.guppy_packages.specs.Tables.{Tables}
 use Rattle.feature_labels.specs.Names.{LabelName}
 use Rattle.feature_labels.specs.Names.LabelName.{optional}
 use Rattle.feature_core.specs.Nodes.{node_packages, node_places}
 use Rattle.feature_core.specs.Edges.{EdgeFacts, AreBuilt}
 use Rattle.feature_core.specs.Edges.EdgeFacts.{base_edge, feature_edge, colon_edge, strong_edge, weak_edge, section_edge}
-use Rattle.walk_engine.specs.Walks.{Way, EndsAreNodes, numbers_where, starting, releasing, told, taken_of, is_gated, is_in}
-use Rattle.feature_core.specs.inner.OpenWays.{open_way, open_ways}
+use Rattle.walk_engine.specs.Walks.{numbers_where, releasing, is_gated}
 use Rattle.feature_core.specs.Built.{built_edges}
-use Rattle.feature_core.specs.Ways.{way, ways, content, asked, gate_of, gate_at, GatesAreNodes}
+use Rattle.feature_core.specs.Ways.{ways, content, asked, gate_of, gate_at, GatesAreNodes}
 use Rattle.feature_core.specs.inner.Releases.{AreTied, released_by, releases_from}
 use Rattle.feature_core.proofs.Answered.{decide}
-use Rattle.feature_core.proofs.WayNumbers.{is_in_at}
-use Rattle.feature_core.proofs.Places.{got_map, got_same}
-use Rattle.feature_core.proofs.OpenWayLemmas.{ends_are_nodes, edge_way}
+use Rattle.feature_core.proofs.Places.{got_same}
 use Rattle.feature_core.proofs.Released.{Rises, same_rising, in_released, released_in, released_rises}
 use Rattle.feature_core.proofs.NodeLabels.{element_within}
 use Rattle.feature_core.proofs.ReleaseTables.{exact_releases}

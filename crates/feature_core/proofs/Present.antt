@@ -31,7 +31,7 @@ use Rattle.feature_core.proofs.BuildLemmas.{built_long}
 use Rattle.feature_core.proofs.LabelLemmas.{position_there, optional_missing}
 use Rattle.feature_core.proofs.PartLemmas.{list_any_there, list_any_back}
 use Rattle.feature_core.proofs.Places.{IsSpread, node_back}
-use Rattle.feature_core.proofs.PushLemmas.{from_map, into_map, into_filter}
+use Rattle.feature_core.proofs.PushLemmas.{into_map, into_filter}
 
 -- platforms with a spec
 specs_there : (platforms : List (Option Text)) (text : Text) → Contains platforms (Some text) → is_never (status_by (firsts bytes_eq (filter_map (λ p. p) platforms))) ≡ false

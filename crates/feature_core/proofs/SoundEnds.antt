@@ -1,12 +1,12 @@
 -- The ends of the edges that are built make a digraph.
-use Rattle.std.proofs.Common.{◌≡◌, ℕ, ◌+◌, ◌<◌, ◌≤◌, ⊎_elim, List, length, map, Some, refl, ap, sym, ◌∙◌, subst, arith, get_or}
+use Rattle.std.proofs.Common.{◌≡◌, ℕ, ⊎_elim, List, length, Some, refl, ap, ◌∙◌, subst, arith, get_or}
 use Rattle.std.specs.Prelude.{slice_get, slice_index}
 use Rattle.std.specs.Option.{option_map}
 use Rattle.std.proofs.Math.Logic.{∥∥₁_elim}
 use Rattle.std.proofs.Props.{props}
 use Rattle.std.proofs.lemmas.List.{length-map}
 use Rattle.std.proofs.lemmas.Option.{slice_get-map, get_or_from_slice_get}
-use Rattle.guppy_support.specs.Graph.{IsDigraph, IsRefused, IsSound, IsBefore, sources, targets, for_its_ends, for_its_place, for_memory}
+use Rattle.guppy_support.specs.Graph.{IsDigraph, IsRefused, IsBefore, sources, targets, for_its_ends, for_its_place, for_memory}
 use Rattle.guppy_support.specs.declared.digraph.DigraphError.{DigraphError}
 use Rattle.guppy_support.specs.declared.digraph.DigraphError.TheVariants.{Memory}
 use Rattle.guppy_support.specs.declared.digraph.Edge.{Edge as End}
@@ -14,7 +14,7 @@ use Rattle.guppy_packages.specs.Tables.{Tables}
 use Rattle.feature_core.specs.Built.{pairs_of}
 use Rattle.feature_core.specs.Nodes.{node_packages}
 use Rattle.feature_core.specs.Pairs.{IsPairList, IsBefore as PairBefore}
-use Rattle.feature_core.proofs.AddsLemmas.{element_at_place, place_below}
+use Rattle.feature_core.proofs.AddsLemmas.{element_at_place}
 use Rattle.feature_core.proofs.GraphContent.{AreWithin, candidate_within}
 use Rattle.feature_core.proofs.NodeLabels.{element_within, index_there}
 use Rattle.feature_core.proofs.PushLemmas.{into_map}

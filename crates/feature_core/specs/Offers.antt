@@ -1,5 +1,5 @@
 -- The offers of a feature graph, and their links.
-use Rattle.std.specs.Prelude.{◌≡◌, ℕ, ◌∷◌, [], List, Option, None, Some, IsTrue, length, slice_get}
+use Rattle.std.specs.Prelude.{◌≡◌, ℕ, ◌∷◌, [], Option, None, Some, IsTrue, length, slice_get}
 use Rattle.std.specs.Option.{option_map_or}
 use Rattle.guppy_packages.specs.Tables.{LinkTable, Tables}
 use Rattle.guppy_packages.specs.declared.direction.DependencyDirection.{DependencyDirection}

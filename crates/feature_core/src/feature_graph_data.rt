@@ -7,6 +7,7 @@ ghost use Rattle.feature_core.specs.Nodes.{NodeAt, nodes, first_node, first_node
 ghost use Rattle.guppy_support.specs.Bits.{has};
 ghost use Rattle.feature_core.specs.Pairs.{PairLeads, ReachAlong};
 ghost use Rattle.guppy_support.specs.Sequences.{IsOrderOf};
+ghost use Rattle.order_views.specs.Cycles.{cyclic_components};
 ghost use Rattle.feature_core.specs.Built.{AreAlike, IsBuilt, NodeNamed, digraph_of, end_of};
 ghost use Rattle.feature_core.specs.Choices.{chosen_pairs};
 ghost use Rattle.feature_core.specs.Defaults.{IsDefault};
@@ -16,6 +17,7 @@ ghost use Rattle.feature_core.specs.Warnings.{warning_of};
 ghost use Rattle.feature_core.specs.Ways.{content};
 
 use crate::chosen_reach::reach_chosen;
+use crate::cyclic::cyclic_components;
 use crate::defaults::default_marks;
 use crate::edge::{EdgeChoice, FeatureEdge, first_absent};
 use crate::edge_table::{EdgeTable, edge_table};
@@ -42,6 +44,7 @@ pub struct FeatureGraphData {
     table: NodeTable,
     digraph: Digraph,
     order: Order,
+    cyclic: Vec<usize>,
     edges: Vec<FeatureEdge>,
     weak: IndexMap<usize, usize>,
     released: Vec<(usize, usize)>,
@@ -52,6 +55,7 @@ pub struct FeatureGraphData {
 impl Model for FeatureGraphData {
     ghost use Rattle.std.specs.Prelude.{◌≡◌, length, map};
     ghost use Rattle.guppy_support.specs.Sequences.{IsOrderOf};
+    ghost use Rattle.order_views.specs.Cycles.{cyclic_components};
     ghost use Rattle.feature_core.specs.Built.{Built, built_edges, end_of};
     ghost use Rattle.feature_core.specs.Values.{edge_facts};
     ghost use Rattle.feature_core.specs.inner.Releases.{AreTied};
@@ -67,7 +71,8 @@ impl Model for FeatureGraphData {
         × (d.digraph.edges ≡ map end_of (built_edges d.digraph.edges (map edge_facts d.edges.items)))
         × AreTied d.digraph (map edge_facts d.edges.items) d.weak.entries d.released.items
         × (length d.defaults ≡ length d.table.packages.items)
-        × IsOrderOf d.digraph d.order };
+        × IsOrderOf d.digraph d.order
+        × (d.cyclic.items ≡ cyclic_components d.digraph.edges d.order) };
 }
 
 /// The numbers of the nodes in this table.
@@ -117,6 +122,7 @@ impl FeatureGraphData {
         let released = release_table(alloc, &edge_table.edges, &edge_table.weak)?;
         let warnings = warnings(alloc, graph, &groups)?;
         let order = Order::new(alloc, &edge_table.digraph)?;
+        let cyclic = cyclic_components(alloc, &order, &edge_table.digraph)?;
         let EdgeTable {
             digraph,
             edges,
@@ -127,6 +133,7 @@ impl FeatureGraphData {
             table,
             digraph,
             order,
+            cyclic,
             edges,
             weak,
             released,
@@ -177,6 +184,15 @@ impl FeatureGraphData {
         ensures { IsOrderOf (digraph_of self.now) result.now }
     {
         &self.order
+    }
+
+    /// The order, and the numbers of its components that have a cycle, the last one first: those of two nodes or more, and the
+    /// nodes with an edge to themselves. They were found with the graph.
+    pub fn cyclic_components(&self) -> (&Order, &[usize])
+        ensures order { IsOrderOf (digraph_of self.now) result.0.now }
+        ensures cyclic { result.1.now ≡ cyclic_components (digraph_of self.now).edges result.0.now }
+    {
+        (&self.order, self.cyclic.as_slice())
     }
 
     /// The two nodes of an edge, and what it says.

@@ -10,7 +10,7 @@ use indexmap::IndexMap;
 use std::alloc::{AllocError, Global};
 
 /// The gate of an edge's optional half.
-fn gate_of(weak: &IndexMap<usize, usize>, edge: &FeatureEdge) -> Option<usize>
+pub(crate) fn gate_of(weak: &IndexMap<usize, usize>, edge: &FeatureEdge) -> Option<usize>
     ensures { result ≡ gate_of weak.now.entries (edge_facts edge.now) }
 {
     match edge {

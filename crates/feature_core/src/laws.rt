@@ -11,6 +11,7 @@ ghost use Rattle.feature_core.specs.Warnings.{warning_of};
 use crate::warning::FeatureGraphWarning;
 use guppy_packages::PackageGraph;
 use guppy_support::laws::{components_follow_edges, cycles_are_mutual, firm_edges_follow};
+pub use walk_checks::laws::{exact_is_least, explained_in_least, run_is_exact, walk_is_exact};
 pub use walk_engine::laws::{
     agrees_by_answer, least_monotone, one_result, reach_additive, reach_both_ways,
     required_half_is_due, reverse_accept_all,

@@ -2,7 +2,9 @@
 #![tactic(auto)]
 
 mod candidates;
+mod checks;
 mod chosen_reach;
+mod cyclic;
 mod declarations;
 mod defaults;
 mod edge;
@@ -26,6 +28,7 @@ mod walks;
 mod warning;
 mod weak_links;
 
+pub use checks::{check_exact_steps, check_steps, why};
 pub use edge::{EdgeChoice, FeatureEdge, SlashForm, WeakIndex, WeakSlashImpl};
 pub use error::Error;
 pub use feature_graph_data::FeatureGraphData;

@@ -3,20 +3,22 @@ ghost use Rattle.std.specs.Prelude.{◌≡◌, ◌+◌, ◌^◌, ◌<◌, ℕ, S
 ghost use Rattle.walk_engine.specs.Walks.{Content, EndsAreNodes, starting, releasing, told};
 ghost use Rattle.feature_core.specs.Built.{built_edges};
 ghost use Rattle.feature_core.specs.Ways.{asked, content, waits, GatesAreNodes, Reading};
-ghost use Rattle.feature_core.specs.inner.Asking.{ask_in, held, IsTied, IsOrdered, released_place};
+ghost use Rattle.feature_core.specs.inner.Asking.{ask_in, gate_in, held, IsTied, IsOrdered, released_place};
 ghost use Rattle.feature_core.specs.inner.ChosenWays.{ask_where, chosen_content};
 ghost use Rattle.feature_core.specs.inner.OpenWays.{open_way, open_ways};
 ghost use Rattle.feature_core.specs.inner.Releases.{AreTied};
 ghost use Rattle.feature_core.specs.Values.{edge_facts};
+ghost use Rattle.walk_checks.specs.Tables.{Tells};
 
 use crate::edge::{EdgeChoice, FeatureEdge, SlashForm};
 use crate::engine::{Ask, EdgeSource, Taken};
 use crate::feature_graph_data::FeatureGraphData;
-use crate::gates::released_at;
+use crate::gates::{gate_of, released_at};
 use guppy_packages::DependencyDirection;
 use guppy_support::{Digraph, Edge};
 use indexmap::IndexMap;
 use std::marker::Model;
+use walk_checks::{EdgeTable, TableEdge};
 
 /// What is asked of edges.
 #[derive(Drop)]
@@ -255,5 +257,78 @@ impl EdgeSource for Packed<'_> {
         self.reads += 1;
         let edge = released_number(&self.asking, self.direction, gate, place)?;
         Some(taken(self.digraph, self.edges, &self.asking, self.direction, edge))
+    }
+}
+
+/// The gate of an edge, where its optional half waits; else 0.
+fn gate_in(asking: &Asking<'_>, edge: &FeatureEdge) -> usize
+    ensures { result ≡ gate_in asking.now (edge_facts edge.now) }
+{
+    match asking {
+        Asking::Offers { weak, released: _ } => gate_of(weak, edge).unwrap_or(0),
+        Asking::Chosen(_) => 0,
+    }
+}
+
+/// The end of an edge that the direction comes from.
+fn near_end(direction: DependencyDirection, edge: Edge) -> usize
+    ensures { result ≡ (open_way direction edge).start }
+{
+    match direction {
+        DependencyDirection::Forward => edge.from,
+        DependencyDirection::Reverse => edge.to,
+    }
+}
+
+/// An edge as the direction follows it.
+fn table_edge(
+    digraph: &Digraph,
+    edges: &[FeatureEdge],
+    asking: &Asking<'_>,
+    direction: DependencyDirection,
+    number: usize,
+) -> TableEdge
+    requires edge { number < length digraph.now.edges }
+    requires same { length edges.now ≡ length digraph.now.edges }
+    ensures { Tells (slice_get (held asking.now direction digraph.now.nodes (built_edges digraph.now.edges (map edge_facts edges.now))).ways number) (Some result) }
+{
+    let ends = digraph.edge(number);
+    let edge = &edges[number];
+    TableEdge {
+        start: near_end(direction, ends),
+        far: far_end(direction, ends),
+        ask: ask_of(asking, direction, edge),
+        gate: gate_in(asking, edge),
+    }
+}
+
+impl EdgeTable for Packed<'_> {
+    ghost content = { λ s. s.holds };
+
+    fn node_count(&self) -> usize {
+        self.digraph.facts();
+        self.digraph.node_count()
+    }
+
+    fn edge_count(&self) -> usize {
+        self.digraph.edge_count()
+    }
+
+    fn edge(&self, number: usize) -> Option<TableEdge> {
+        if number < self.digraph.edge_count() {
+            Some(table_edge(
+                self.digraph,
+                self.edges,
+                &self.asking,
+                self.direction,
+                number,
+            ))
+        } else {
+            None
+        }
+    }
+
+    fn edge_from(&self, start: usize, place: usize) -> Option<usize> {
+        edge_number(self.digraph, self.direction, start, place)
     }
 }

@@ -1,3 +1,4 @@
+mod OptionLemmas
 mod ListLemmas
 mod BuiltLemmas
 mod NodePackages
@@ -18,3 +19,8 @@ pub mod SplitLemmas
 pub mod PackageSetLemmas
 pub mod PackageViewLemmas
 pub mod TiedLemmas
+mod ToldLemmas
+mod NumberedLemmas
+mod Explanations
+mod PlatformLemmas
+mod CheckLemmas

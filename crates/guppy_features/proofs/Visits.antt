@@ -73,6 +73,13 @@ module _ {V : Type 0} (may : V → Query → Link → Type 0) (gives : V → Que
       let at : IsWalk c (has s.cx.now.initials) (shown gives s.cx.now) s.visitor.now t.visitor.now M = subst (λ z. IsWalk c (has z) (shown gives s.cx.now) s.visitor.now t.visitor.now M) initials moved.1 in
       (moved.0.1, subst (λ z. IsWalk z (has s.cx.now.initials) (shown gives s.cx.now) s.visitor.now t.visitor.now M) same at)
 
+  pub shown_explained : (s t : Shown V) (c : Content) (marks : List Bool) (M : ℕ → Bool) (steps : List Step) (refused : List (ℕ × Half)) → c ≡ query_content s.cx.now → marks ≡ s.cx.now.initials → IsExplainedWalk c (has marks) AdapterGives s t M steps refused
+      → (t.visitor.ghost_name ≡ s.visitor.ghost_name) × IsExplainedWalk (query_content s.cx.now) (has s.cx.now.initials) (shown gives s.cx.now) s.visitor.now t.visitor.now M steps refused
+  shown_explained s t c marks M steps refused same initials walk =
+      let moved = is_explained_walk (Stays s) (λ p. p.visitor.now) AdapterGives (shown gives s.cx.now) (answers_by s) c (has marks) s t M steps refused (refl, refl) walk in
+      let at : IsExplainedWalk c (has s.cx.now.initials) (shown gives s.cx.now) s.visitor.now t.visitor.now M steps refused = subst (λ z. IsExplainedWalk c (has z) (shown gives s.cx.now) s.visitor.now t.visitor.now M steps refused) initials moved.1 in
+      (moved.0.1, subst (λ z. IsExplainedWalk z (has s.cx.now.initials) (shown gives s.cx.now) s.visitor.now t.visitor.now M steps refused) same at)
+
   pub shown_run : (s t : Shown V) (c : Content) (marks : List Bool) → c ≡ query_content s.cx.now → marks ≡ s.cx.now.initials → LegalRun c (has marks) AdapterGives s t
       → (t.visitor.ghost_name ≡ s.visitor.ghost_name) × LegalRun (query_content s.cx.now) (has s.cx.now.initials) (shown gives s.cx.now) s.visitor.now t.visitor.now
   shown_run s t c marks same initials run =
@@ -104,3 +111,11 @@ pub agrees_along : {V : Type 0} (gives : V → ℕ → Half → Bool → V → T
 agrees_along gives A s answers [] t along = tt
 agrees_along gives A s answers (call ∷ before) t (m, along, step) =
     (sym (answers before m t call.edge call.half call.answer along step), agrees_along gives A s answers before m along)
+
+-- what is said of one of two equal queries is said of the other
+pub run_moved : {V : Type 0} (gives : V → Query → Link → Bool → V → Type 0) (p q : Query) (s t : V) → p ≡ q → LegalRun (query_content p) (has p.initials) (shown gives p) s t → LegalRun (query_content q) (has q.initials) (shown gives q) s t
+run_moved gives p q s t is run = subst (λ z. LegalRun (query_content z) (has z.initials) (shown gives z) s t) is run
+
+pub walk_moved : {V : Type 0} (gives : V → Query → Link → Bool → V → Type 0) (p q : Query) (s t : V) (M : ℕ → Bool) (steps : List Step) (refused : List (ℕ × Half)) → p ≡ q
+    → IsExplainedWalk (query_content p) (has p.initials) (shown gives p) s t M steps refused → IsExplainedWalk (query_content q) (has q.initials) (shown gives q) s t M steps refused
+walk_moved gives p q s t M steps refused is walk = subst (λ z. IsExplainedWalk (query_content z) (has z.initials) (shown gives z) s t M steps refused) is walk

@@ -20,4 +20,8 @@ pub mod Parts
 pub mod PartLaws
 pub mod Results
 pub mod Tied
+pub mod Told
+pub mod Explained
+pub mod Platforms
+pub mod PlatformViews
 pub mod inner

@@ -15,8 +15,8 @@ use crate::graph::FeatureGraph;
 use feature_core::Error;
 use feature_labels::FeatureId;
 use guppy_support::Order;
+use order_views::is_cyclic;
 use order_views::laws::views_stay_within;
-use order_views::{CyclicComponents, is_cyclic};
 use std::alloc::{AllocError, Global};
 use std::fmt;
 use std::iter::FusedIterator;
@@ -55,14 +55,14 @@ impl<'g> Cycles<'g> {
         ensures { AtOrder (cycles_of self.now) (λ o. result ≡ cycle_names (cycles_of self.now) o) }
     {
         views_stay_within();
-        let built = self.graph.built;
-        let order = built.order();
+        let (order, components) = self.graph.built.cyclic_components();
         order.facts();
         AllCycles {
             alloc,
             graph: self.graph,
             order,
-            components: Some(CyclicComponents::new(order, built.digraph())),
+            components,
+            passed: 0,
         }
     }
 }
@@ -98,12 +98,13 @@ pub struct AllCycles<'g> {
     alloc: Global,
     graph: FeatureGraph<'g>,
     order: &'g Order,
-    // none after an error
-    components: Option<CyclicComponents<'g>>,
+    components: &'g [usize],
+    // so many components are passed
+    passed: usize,
 }
 
 impl<'g> Model for AllCycles<'g> {
-    ghost use Rattle.std.specs.Prelude.{List};
+    ghost use Rattle.std.specs.Prelude.{List, drop};
     ghost use Rattle.guppy_packages.specs.Rows.{Text};
     ghost use Rattle.feature_labels.specs.Names.{LabelName};
 
@@ -112,9 +113,9 @@ impl<'g> Model for AllCycles<'g> {
     ghost use Rattle.guppy_features.specs.inner.CycleSteps.{AreCycles, cycles_left};
     ghost use Rattle.guppy_features.specs.Views.{tables_of_graph};
 
-    ghost view = { λ it. cycles_left (tables_of_graph it.graph) it.order.now it.components };
+    ghost view = { λ it. cycles_left (tables_of_graph it.graph) it.order.now (drop it.passed it.components.now) };
 
-    ghost invariant = { λ it. AreCycles (tables_of_graph it.graph) it.order.now it.components };
+    ghost invariant = { λ it. AreCycles (tables_of_graph it.graph) it.order.now it.passed it.components.now };
 }
 
 impl<'g> Iterator for AllCycles<'g> {
@@ -125,19 +126,17 @@ impl<'g> Iterator for AllCycles<'g> {
     ghost remaining = { item_count (λ rest. rest) };
 
     fn next(&mut self) -> Option<Result<Vec<FeatureId<'g>>, Error<'static>>> {
-        let components = match &mut self.components {
-            Some(components) => components,
-            None => return None,
-        };
-        let component = components.next()?;
-        match ids_of(
-            self.alloc,
-            self.graph,
-            self.order.component_nodes(component),
-        ) {
-            Ok(ids) => Some(Ok(ids)),
+        if self.passed >= self.components.len() {
+            return None;
+        }
+        let nodes = self.order.component_nodes(self.components[self.passed]);
+        match ids_of(self.alloc, self.graph, nodes) {
+            Ok(ids) => {
+                self.passed += 1;
+                Some(Ok(ids))
+            }
             Err(_) => {
-                self.components = None;
+                self.passed = self.components.len();
                 Some(Err(Error::Memory))
             }
         }

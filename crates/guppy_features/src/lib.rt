@@ -1,9 +1,11 @@
 //! The feature graph: queries and sets of features.
 #![tactic(auto)]
 
+mod checking;
 mod context;
 mod cycles;
 mod dependencies;
+mod explained;
 mod filter;
 mod graph;
 mod ids;
@@ -12,17 +14,22 @@ mod link;
 mod listed_filters;
 mod listing;
 mod metadata;
+mod numbering;
 mod package_links;
+mod platform_visitor;
 mod query;
+mod resolve_explained;
 mod resolve_with;
 mod same_graph;
 mod set;
 mod standard_features;
+mod telling;
 mod visitor;
 mod workspace;
 
 pub use context::FeatureLinkContext;
 pub use cycles::{AllCycles, Cycles};
+pub use explained::{Explained, Reason};
 pub use feature_core::{
     ConditionalLinkImpl, EdgeChoice, EnabledLink, Error, FeatureEdge, FeatureGraphData,
     FeatureGraphWarning, SlashForm, WeakIndex, WeakSlashImpl,
@@ -44,6 +51,7 @@ pub use listed_filters::{
 };
 pub use metadata::FeatureMetadata;
 pub use package_links::PackageLinks;
+pub use platform_visitor::PlatformVisitor;
 pub use query::FeatureQuery;
 pub use set::{
     ConditionalLinks, FeatureIds, FeatureSet, Features, IdsByNode, InitialPackages, Links,

@@ -20,9 +20,9 @@ use walk_engine::{Half, Offerer, walk_over};
 
 /// Shows each offer of a walk to a visitor, as a link.
 #[derive(Drop)]
-struct Shown<'c, 'g, 'v, V> {
-    cx: &'c FeatureLinkContext<'g>,
-    visitor: &'v mut V,
+pub(crate) struct Shown<'c, 'g, 'v, V> {
+    pub(crate) cx: &'c FeatureLinkContext<'g>,
+    pub(crate) visitor: &'v mut V,
 }
 
 impl<'c, 'g, 'v, V: FeatureLinkVisitor<'g>> Offerer for Shown<'c, 'g, 'v, V> {

@@ -5,7 +5,7 @@ use Rattle.walk_engine.specs.declared.walks.Step.{Step}
 use Rattle.walk_engine.specs.declared.walks.StepReason.{StepReason}
 use Rattle.walk_engine.specs.declared.walks.StepReason.TheVariants.{Initial, Edge, Offer}
 use Rattle.walk_engine.specs.Walks.{Content, is_half, is_in, IsClosed}
-use Rattle.walk_engine.specs.Explanations.{IsExplanation, nodes_of}
+use Rattle.walk_engine.specs.Explanations.{IsExplanation, IsExplainedWalk, nodes_of}
 
 -- whether the reason names the offer
 abbrev pub names : StepReason → ℕ → Half → Bool
@@ -31,3 +31,7 @@ all_but refused e h = not (is_refused refused e h)
 pub record IsExact (c : Content) (I : ℕ → Bool) (refused : List (ℕ × Half)) (steps : List Step) : Type 0 where
   pub explanation : IsExplanation c I (all_but refused) steps
   pub closed : IsClosed c I (all_but refused) (λ n. IsTrue (is_in (nodes_of steps) n))
+
+-- a walk that is explained, whoever answered its offers
+abbrev pub IsExplainedRun : Content → (ℕ → Bool) → (ℕ → Bool) → List Step → List (ℕ × Half) → Type 0
+IsExplainedRun c I M steps refused = IsExplainedWalk {O = Unit {0}} c I (λ s e h answer t. Unit {0}) tt tt M steps refused

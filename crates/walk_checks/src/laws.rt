@@ -6,7 +6,7 @@ ghost use Rattle.walk_engine.specs.Explanations.{IsExplanation, IsExplainedWalk,
 ghost use Rattle.walk_engine.specs.Laws.{every};
 ghost use Rattle.walk_engine.specs.declared.walks.Half.{Half};
 ghost use Rattle.walk_engine.specs.declared.walks.Step.{Step};
-ghost use Rattle.walk_checks.specs.Exact.{named_in, all_but, IsExact};
+ghost use Rattle.walk_checks.specs.Exact.{named_in, all_but, IsExact, IsExplainedRun};
 
 use walk_engine::Offerer;
 
@@ -30,4 +30,12 @@ pub fn walk_is_exact<O: Offerer>()
     ensures exact { (c : Content) (I : ℕ → Bool) (s t : O) (M : ℕ → Bool) (steps : List Step)
         (refused : List (ℕ × Half)) → IsExplainedWalk c I O.gives s t M steps refused
         → IsExact c I refused steps }
+{}
+
+/// So are the steps of any walk that is explained, whoever answered its offers.
+pub fn run_is_exact()
+    ensures explained { (c : Content) (I : ℕ → Bool) (M : ℕ → Bool) (steps : List Step) (refused : List (ℕ × Half))
+        → IsExplainedRun c I M steps refused → IsExplanation c I every steps }
+    ensures exact { (c : Content) (I : ℕ → Bool) (M : ℕ → Bool) (steps : List Step) (refused : List (ℕ × Half))
+        → IsExplainedRun c I M steps refused → IsExact c I refused steps }
 {}

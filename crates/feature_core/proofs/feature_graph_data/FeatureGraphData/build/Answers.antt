@@ -52,6 +52,7 @@ invariant_of-result c =
       },
       c.in_ok-defaults.ensures.long ∙ ap (λ z. length (node_packages z)) c.numbers_in-numbers.ensures ∙ sym (ap length c.in_ok-table.ensures.packages),
       c.in_ok-order.ensures,
+      c.in_ok-cyclic.ensures,
     )
 
 pub default_marks-requires : goal.default_marks-requires
@@ -66,3 +67,6 @@ returns-in_err-defaults-clause-refused c = let p = err_from_is_err_and c.from_re
 
 pub returns-in_err-order-clause-refused : goal.returns-in_err-order-clause-refused
 returns-in_err-order-clause-refused c = let p = err_from_is_err_and c.from_residual-in_err-order.result c.from_residual-in_err-order.ensures.1 in rw (p.1, p.2) refl
+
+pub returns-in_err-cyclic-clause-refused : goal.returns-in_err-cyclic-clause-refused
+returns-in_err-cyclic-clause-refused c = let p = err_from_is_err_and c.from_residual-in_err-cyclic.result c.from_residual-in_err-cyclic.ensures.1 in rw (p.1, p.2) refl
