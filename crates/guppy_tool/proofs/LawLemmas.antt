@@ -1,6 +1,6 @@
 -- One command and one content of bytes have one answer.
 use Rattle.std.proofs.Common.{◌≡◌, ℕ, ◌<◌, ◌⊎◌, inl, inr, List, [], ◌∷◌, ◌++◌, Bool, true, false, Result, Ok, Err, Some, sym, ap, ◌∙◌, refl, cond, filter, map, arith, rules}
-use Rattle.std.specs.Prelude.{IsTrue, slice_get}
+use Rattle.std.specs.Prelude.{IsFalse, IsTrue, slice_get}
 use Rattle.std.specs.List.{enumerate_from}
 use Rattle.guppy_support.specs.Bits.{has}
 use Rattle.guppy_support.specs.Laws.{OneOrder, OrderListsEach}
@@ -22,10 +22,11 @@ use Rattle.guppy_features.specs.Names.{AreKnown, IsFirstUnknown, HoldsExactly, a
 use Rattle.guppy_features.specs.Tied.{cycle_names}
 use Rattle.guppy_tool.specs.Faults.{Refusal, unknown_feature}
 use Rattle.guppy_tool.specs.RowFileRefusals.{tables_in}
-use Rattle.guppy_tool.specs.Words.{CommandText, resolve, visit, ordered, all_cycles, list_of, all_warnings}
+use Rattle.guppy_tool.specs.Words.{CommandText, resolve, visit, ordered, all_cycles, list_of, all_warnings, build}
 use Rattle.guppy_tool.specs.Answers.{Resolves, Visits, OrdersNodes, ListsInOrder, ListsCycles, ListsFeatures, groups, listing, read_by}
 use Rattle.guppy_tool.proofs.LabelLists.{one_list}
 use Rattle.guppy_tool.proofs.SameOrders.{one_sequence}
+use Rattle.guppy_tool.specs.Laws.{has_choice}
 use Rattle.guppy_tool.specs.Run.{IsOutputOf, IsAnswer}
 
 -- tests that pass alike
@@ -117,31 +118,48 @@ one_first t ids x y a b =
       ]
     ]
 
-one_output : IsTotalOrder label_cmp → OneOrder → OrderListsEach → (command : CommandText) (tables : Result Tables Refusal) (a b : Result Text Refusal) → IsOutputOf command tables a → IsOutputOf command tables b → a ≡ b
-one_output order one lists command (Err refusal) a b x y = x ∙ sym y
-one_output order one lists (resolve direction ids) (Ok t) (Ok text) (Ok other) x y = ap Ok (one_text t direction ids text other x y)
-one_output order one lists (resolve direction ids) (Ok t) (Ok text) (Err refusal) x y = absurd (not_both t ids y.id x.known y.first)
-one_output order one lists (resolve direction ids) (Ok t) (Err refusal) (Ok text) x y = absurd (not_both t ids x.id y.known x.first)
-one_output order one lists (resolve direction ids) (Ok t) (Err refusal) (Err other) x y =
+one_output : IsTotalOrder label_cmp → OneOrder → OrderListsEach → (command : CommandText) (tables : Result Tables Refusal) (a b : Result Text Refusal) → IsFalse (has_choice command) → IsOutputOf command tables a → IsOutputOf command tables b → a ≡ b
+one_output order one lists command (Err refusal) a b fixed x y = x ∙ sym y
+one_output order one lists (resolve direction ids) (Ok t) (Ok text) (Ok other) fixed x y = ap Ok (one_text t direction ids text other x y)
+one_output order one lists (resolve direction ids) (Ok t) (Ok text) (Err refusal) fixed x y = absurd (not_both t ids y.id x.known y.first)
+one_output order one lists (resolve direction ids) (Ok t) (Err refusal) (Ok text) fixed x y = absurd (not_both t ids x.id y.known x.first)
+one_output order one lists (resolve direction ids) (Ok t) (Err refusal) (Err other) fixed x y =
     ap Err (x.named ∙ ap (λ id. unknown_feature (id_text id)) (one_first t ids x.id y.id x.first y.first) ∙ sym y.named)
-one_output order one lists (visit direction ids) (Ok t) (Ok text) (Ok other) x y = ap Ok (one_visit t direction ids text other x y)
-one_output order one lists (visit direction ids) (Ok t) (Ok text) (Err refusal) x y = absurd (not_both t ids y.id x.known y.first)
-one_output order one lists (visit direction ids) (Ok t) (Err refusal) (Ok text) x y = absurd (not_both t ids x.id y.known x.first)
-one_output order one lists (visit direction ids) (Ok t) (Err refusal) (Err other) x y =
+one_output order one lists (visit direction ids) (Ok t) (Ok text) (Ok other) fixed x y = ap Ok (one_visit t direction ids text other x y)
+one_output order one lists (visit direction ids) (Ok t) (Ok text) (Err refusal) fixed x y = absurd (not_both t ids y.id x.known y.first)
+one_output order one lists (visit direction ids) (Ok t) (Err refusal) (Ok text) fixed x y = absurd (not_both t ids x.id y.known x.first)
+one_output order one lists (visit direction ids) (Ok t) (Err refusal) (Err other) fixed x y =
     ap Err (x.named ∙ ap (λ id. unknown_feature (id_text id)) (one_first t ids x.id y.id x.first y.first) ∙ sym y.named)
-one_output order one lists (ordered direction) (Ok t) (Ok text) (Ok other) x y = ap Ok (one_ordered one lists t direction text other x y)
-one_output order one lists (ordered direction) (Ok t) (Ok text) (Err refusal) x y = absurd y
-one_output order one lists (ordered direction) (Ok t) (Err refusal) answer x y = absurd x
-one_output order one lists all_cycles (Ok t) (Ok text) (Ok other) x y = ap Ok (one_cycles one lists t text other x y)
-one_output order one lists all_cycles (Ok t) (Ok text) (Err refusal) x y = absurd y
-one_output order one lists all_cycles (Ok t) (Err refusal) answer x y = absurd x
-one_output order one lists (list_of id) (Ok t) (Ok text) (Ok other) x y = ap Ok (one_line order t id text other x y)
-one_output order one lists (list_of id) (Ok t) (Ok text) (Err refusal) x y = absurd (y.1 x.known)
-one_output order one lists (list_of id) (Ok t) (Err refusal) (Ok text) x y = absurd (x.1 y.known)
-one_output order one lists (list_of id) (Ok t) (Err refusal) (Err other) x y = ap Err (x.0 ∙ sym y.0)
-one_output order one lists all_warnings (Ok t) (Ok text) (Ok other) x y = ap Ok (x ∙ sym y)
-one_output order one lists all_warnings (Ok t) (Ok text) (Err refusal) x y = absurd y
-one_output order one lists all_warnings (Ok t) (Err refusal) answer x y = absurd x
+one_output order one lists (ordered direction) (Ok t) (Ok text) (Ok other) fixed x y = ap Ok (one_ordered one lists t direction text other x y)
+one_output order one lists (ordered direction) (Ok t) (Ok text) (Err refusal) fixed x y = absurd y
+one_output order one lists (ordered direction) (Ok t) (Err refusal) answer fixed x y = absurd x
+one_output order one lists all_cycles (Ok t) (Ok text) (Ok other) fixed x y = ap Ok (one_cycles one lists t text other x y)
+one_output order one lists all_cycles (Ok t) (Ok text) (Err refusal) fixed x y = absurd y
+one_output order one lists all_cycles (Ok t) (Err refusal) answer fixed x y = absurd x
+one_output order one lists (list_of id) (Ok t) (Ok text) (Ok other) fixed x y = ap Ok (one_line order t id text other x y)
+one_output order one lists (list_of id) (Ok t) (Ok text) (Err refusal) fixed x y = absurd (y.1 x.known)
+one_output order one lists (list_of id) (Ok t) (Err refusal) (Ok text) fixed x y = absurd (x.1 y.known)
+one_output order one lists (list_of id) (Ok t) (Err refusal) (Err other) fixed x y = ap Err (x.0 ∙ sym y.0)
+one_output order one lists all_warnings (Ok t) (Ok text) (Ok other) fixed x y = ap Ok (x ∙ sym y)
+one_output order one lists all_warnings (Ok t) (Ok text) (Err refusal) fixed x y = absurd y
+one_output order one lists all_warnings (Ok t) (Err refusal) answer fixed x y = absurd x
+one_output order one lists (build kinds ids specs) (Ok t) a b fixed x y = absurd (cc)
 
-pub one_answer : IsTotalOrder label_cmp → OneOrder → OrderListsEach → (command : CommandText) (bytes : Text) (a b : Result Text Refusal) → IsAnswer command bytes a → IsAnswer command bytes b → a ≡ b
+pub one_answer : IsTotalOrder label_cmp → OneOrder → OrderListsEach → (command : CommandText) (bytes : Text) (a b : Result Text Refusal) → IsFalse (has_choice command) → IsAnswer command bytes a → IsAnswer command bytes b → a ≡ b
 one_answer order one lists command bytes a b = one_output order one lists command (tables_in bytes) a b
+
+-- where one answer is a refusal
+refused_output : IsTotalOrder label_cmp → OneOrder → OrderListsEach → (command : CommandText) (tables : Result Tables Refusal) (refusal : Refusal) (b : Result Text Refusal) → IsOutputOf command tables (Err refusal) → IsOutputOf command tables b → b ≡ Err refusal
+refused_output order one lists command (Err other) refusal b x y = y ∙ sym x
+refused_output order one lists (resolve direction ids) (Ok t) refusal b x y = sym (one_output order one lists (resolve direction ids) (Ok t) (Err refusal) b refl x y)
+refused_output order one lists (visit direction ids) (Ok t) refusal b x y = sym (one_output order one lists (visit direction ids) (Ok t) (Err refusal) b refl x y)
+refused_output order one lists (ordered direction) (Ok t) refusal b x y = absurd x
+refused_output order one lists all_cycles (Ok t) refusal b x y = absurd x
+refused_output order one lists (list_of id) (Ok t) refusal b x y = sym (one_output order one lists (list_of id) (Ok t) (Err refusal) b refl x y)
+refused_output order one lists all_warnings (Ok t) refusal b x y = absurd x
+refused_output order one lists (build kinds ids specs) (Ok t) refusal (Ok text) x y = absurd (not_both t ids x.id y.known x.first)
+refused_output order one lists (build kinds ids specs) (Ok t) refusal (Err other) x y =
+    ap Err (y.named ∙ ap (λ id. unknown_feature (id_text id)) (one_first t ids y.id x.id y.first x.first) ∙ sym x.named)
+
+pub one_refusal : IsTotalOrder label_cmp → OneOrder → OrderListsEach → (command : CommandText) (bytes : Text) (refusal : Refusal) (b : Result Text Refusal) → IsAnswer command bytes (Err refusal) → IsAnswer command bytes b → b ≡ Err refusal
+one_refusal order one lists command bytes refusal b = refused_output order one lists command (tables_in bytes) refusal b

@@ -7,3 +7,4 @@ pub mod SameOrders
 pub mod WholeOrders
 pub mod OneDigraph
 pub mod OrderingLemmas
+pub mod OneBuild

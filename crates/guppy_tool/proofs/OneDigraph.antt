@@ -41,7 +41,7 @@ end_alike x y from to dev =
     ∙ ap (λ z. between y.0 y.1 (not z)) dev
 
 -- what h makes of two lists, where f and g make the same of them
-map_alike : {X Y Z : Type 0} (f g : X → Y) (h : X → Z) (xs ys : List X) → map f xs ≡ map g ys → ((k : ℕ) (x y : X) → slice_get xs k ≡ Some x → slice_get ys k ≡ Some y → f x ≡ g y → h x ≡ h y) → map h xs ≡ map h ys
+pub map_alike : {X Y Z : Type 0} (f g : X → Y) (h : X → Z) (xs ys : List X) → map f xs ≡ map g ys → ((k : ℕ) (x y : X) → slice_get xs k ≡ Some x → slice_get ys k ≡ Some y → f x ≡ g y → h x ≡ h y) → map h xs ≡ map h ys
 map_alike f g h [] [] e same = refl
 map_alike f g h [] (y ∷ ys) e same = cc
 map_alike f g h (x ∷ xs) [] e same = cc

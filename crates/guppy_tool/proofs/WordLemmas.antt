@@ -1,11 +1,14 @@
 -- Where a word is cut.
-use Rattle.std.proofs.Common.{◌≡◌, ◌≢◌, ℕ, ◌+◌, ◌-◌, ◌<◌, List, ◌∷◌, Bool, true, false, not, Option, None, Some, Ok, Err, length, get_or, take, drop, sym, ap, ◌∙◌, subst, arith, cond, refl, nat_eq, lit<}
-use Rattle.std.proofs.lemmas.List.{get_or-drop, get_or_default}
+use Rattle.std.proofs.Common.{◌≡◌, ◌≢◌, ℕ, ◌+◌, ◌-◌, ◌<◌, List, [], ◌∷◌, Bool, true, false, not, Option, None, Some, Ok, Err, length, get_or, take, drop, map, sym, ap, ◌∙◌, subst, arith, cond, refl, nat_eq, nat_lt, lit<}
+use Rattle.std.proofs.lemmas.Iterator.{YieldsList}
+use Rattle.std.proofs.Math.ListN.{drop_of_length-le}
+use Rattle.std.proofs.Math.Seq.{take-length}
+use Rattle.std.proofs.lemmas.List.{drop-map, get_or-drop, get_or_default, length-drop, length-map, take-map}
 use Rattle.std.proofs.lemmas.List.Folds.{list_any_none, list_any-from_Any}
-use Rattle.std.proofs.lemmas.List.Sums.{suffix_len_is}
-use Rattle.std.proofs.lemmas.Bool.{eq-eqb, ne_eqb}
+use Rattle.std.proofs.lemmas.List.Sums.{prefix_len-le-length, suffix_len_is}
+use Rattle.std.proofs.lemmas.Bool.{eq-eqb, ltb-false, ne_eqb}
 use Rattle.std.proofs.lemmas.Str.Pattern.{NoCharPasses-char}
-use Rattle.std.specs.List.{list_any, suffix_len, before_last, after_last}
+use Rattle.std.specs.List.{list_any, position, position_or_len, suffix_len, before_first, after_first, before_last, after_last}
 use Rattle.std.specs.Option.{option_map, MatchOption}
 use Rattle.std.specs.Borrow.{Bor}
 use Rattle.std.specs.Str.{NoCharPasses}
@@ -84,3 +87,59 @@ pub word_refused : (r : Refusal) (front : List (Text × LabelName)) (word : Text
 word_refused r front word items rest all given at =
     if_not_memory r (id_or_refusal word (id_in word) ≡ Err r) (ids_in all ≡ Err r)
     (λ h. let no = no_id word (id_in word) r h in one_refused id_in bad_id front word items rest all given at no.0 ∙ ap Err no.1)
+
+-- an item that an iterator gives is the first of those to come
+pub next_yielded : {S A B : Type 0} (steps : S → Option A → S → Type 0) (v : A → B) (s j : S) (x : A) (ys : List B) → YieldsList steps v s ys → steps s (Some x) j → (rest : List B) × (ys ≡ v x ∷ rest) × YieldsList steps v j rest
+next_yielded steps v s j x [] yields step = absurd (yields.runs x j step)
+next_yielded steps v s j x (y ∷ ys) yields step =
+    let first = yields.runs.1 x j step in
+    (ys, ap (λ z. z ∷ ys) (sym first.0), record { runs = first.1 })
+
+-- an iterator that ends has none to come
+pub none_yielded : {S A B : Type 0} (steps : S → Option A → S → Type 0) (v : A → B) (s j : S) (ys : List B) → YieldsList steps v s ys → steps s None j → ys ≡ []
+none_yielded steps v s j [] yields step = refl
+none_yielded steps v s j (y ∷ ys) yields step = absurd (yields.runs.0 j step)
+
+position_mapped : {X Y : Type 0} (f : X → Y) (p : Y → Bool) (xs : List X) → position_or_len p (map f xs) ≡ position_or_len (λ x. p (f x)) xs
+position_mapped f p [] = refl
+position_mapped f p (x ∷ xs) = ap (λ n. cond (not (p (f x))) (1 + n) 0) (position_mapped f p xs)
+
+-- the first place that passes
+place_found : {X : Type 0} (p : X → Bool) (xs : List X) (i : ℕ) → position p xs ≡ Some i → position_or_len p xs ≡ i
+place_found p xs i e = of_test (nat_lt (position_or_len p xs) (length xs)) e
+  where
+    of_test : (b : Bool) → cond b (Some (position_or_len p xs)) None ≡ Some i → position_or_len p xs ≡ i
+    of_test true e = cc
+    of_test false e = cc
+
+no_place : {X : Type 0} (p : X → Bool) (xs : List X) → position p xs ≡ None → position_or_len p xs ≡ length xs
+no_place p xs e = of_test (nat_lt (position_or_len p xs) (length xs)) refl e
+  where
+    of_test : (b : Bool) → nat_lt (position_or_len p xs) (length xs) ≡ b → cond b (Some (position_or_len p xs)) None ≡ None → position_or_len p xs ≡ length xs
+    of_test true is e = cc
+    of_test false is e =
+        let least = ltb-false (position_or_len p xs) (length xs) is in
+        let most = prefix_len-le-length (λ x. not (p x)) xs in
+        omega (arith, least, most)
+
+-- a list of words is cut at the first that passes
+pub before_place : {X Y : Type 0} (f : X → Y) (p : Y → Bool) (xs : List X) (i : ℕ) → position (λ x. p (f x)) xs ≡ Some i → map f (take i xs) ≡ before_first p (map f xs)
+before_place f p xs i e = sym (take-map f i xs) ∙ ap (λ n. take n (map f xs)) (sym (position_mapped f p xs ∙ place_found (λ x. p (f x)) xs i e))
+
+pub after_place : {X Y : Type 0} (f : X → Y) (p : Y → Bool) (xs : List X) (i : ℕ) → position (λ x. p (f x)) xs ≡ Some i → map f (take (length xs - (i + 1)) (drop (i + 1) xs)) ≡ after_first p (map f xs)
+after_place f p xs i e =
+    ap (λ n. map f (take n (drop (i + 1) xs))) (sym (length-drop (i + 1) xs))
+    ∙ ap (map f) (take-length (drop (i + 1) xs))
+    ∙ sym (drop-map f (i + 1) xs)
+    ∙ ap (λ n. drop (n + 1) (map f xs)) (sym (position_mapped f p xs ∙ place_found (λ x. p (f x)) xs i e))
+
+-- or has all of them before the cut
+pub all_before : {X Y : Type 0} (f : X → Y) (p : Y → Bool) (xs : List X) → position (λ x. p (f x)) xs ≡ None → map f xs ≡ before_first p (map f xs)
+all_before f p xs e =
+    sym (take-length (map f xs))
+    ∙ ap (λ n. take n (map f xs)) (length-map xs f ∙ sym (position_mapped f p xs ∙ no_place (λ x. p (f x)) xs e))
+
+pub none_after : {X Y : Type 0} (f : X → Y) (p : Y → Bool) (xs : List X) → position (λ x. p (f x)) xs ≡ None → map f (take (length xs - length xs) (drop (length xs) xs)) ≡ after_first p (map f xs)
+none_after f p xs e =
+    ap (λ n. map f (take n (drop (length xs) xs))) (let none : length xs - length xs ≡ 0 = omega arith in none)
+    ∙ sym (drop_of_length-le (map f xs) (let long = length-map xs f in let place = position_mapped f p xs ∙ no_place (λ x. p (f x)) xs e in omega (arith, long, place)))

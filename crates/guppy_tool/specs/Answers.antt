@@ -4,22 +4,31 @@ use Rattle.guppy_packages.specs.Rows.{Text}
 use Rattle.guppy_packages.specs.Tables.{PackageTable, Tables}
 use Rattle.guppy_packages.specs.declared.direction.DependencyDirection.{DependencyDirection}
 use Rattle.guppy_packages.specs.declared.direction.DependencyDirection.TheVariants.{Forward, Reverse}
+use Rattle.guppy_packages.specs.declared.row.DependencyKind.{DependencyKind}
 use Rattle.feature_labels.specs.Names.{LabelName, id_text}
+use Rattle.feature_labels.specs.declared.link_declarations.LinkDeclarations.{LinkDeclarations}
+use Rattle.feature_labels.specs.declared.link_declarations.LinkDeclarations.TheVariants.{Unsplit, Required, Optional}
 use Rattle.feature_labels.specs.Lists.{Ascends, SameLabels, joined}
 use Rattle.feature_core.specs.Nodes.{nodes, labels_of}
 use Rattle.feature_core.specs.Errors as graph
 use Rattle.guppy_support.specs.Bits.{has}
 use Rattle.guppy_support.specs.Sequences.{Sequence, IsOrderOf}
 use Rattle.guppy_features.specs.Names.{AreKnown, HasPackage, IsFirstUnknown, HoldsExactly, at_places, names_of_nodes}
+use Rattle.guppy_features.specs.Explained.{AreTold}
+use Rattle.guppy_features.specs.Platforms.{platform_offers}
 use Rattle.guppy_features.specs.Tied.{cycle_names}
+use Rattle.guppy_features.specs.Told.{ReasonName, initial, edge, link}
+use Rattle.guppy_features.specs.Values.{Graph}
 use Rattle.feature_core.specs.Pairs.{Reach}
 use Rattle.feature_core.specs.Built.{Built, IsBuilt, digraph_of}
 use Rattle.feature_core.specs.Offers.{content_of}
 use Rattle.feature_core.specs.Warnings.{Warning, missing_feature, self_loop, warnings}
-use Rattle.walk_engine.specs.Walks.{Least}
+use Rattle.walk_engine.specs.declared.walks.Step.{Step}
+use Rattle.walk_engine.specs.Explanations.{IsExplanation, nodes_of}
+use Rattle.walk_engine.specs.Walks.{Least, is_in}
 use Rattle.walk_engine.specs.Laws.{every}
 use Rattle.guppy_tool.specs.Faults.{Refusal, unknown_feature, unknown_package, out_of_memory, IfNotMemory}
-use Rattle.guppy_tool.specs.Words.{CommandText, resolve, visit, ordered, all_cycles, list_of, all_warnings}
+use Rattle.guppy_tool.specs.Words.{CommandText, resolve, visit, ordered, all_cycles, list_of, all_warnings, build}
 
 -- ids, each ended by a line feed
 abbrev pub listing : List (Text × LabelName) → Text
@@ -95,6 +104,42 @@ warning_line (self_loop id name) = codes "self-loop" ++ 9 ∷ id ++ 9 ∷ name +
 abbrev pub warning_lines : List Warning → Text
 warning_lines found = flat_map warning_line found
 
+abbrev pub declarations_word : LinkDeclarations → Text
+declarations_word Unsplit = codes "unsplit"
+declarations_word Required = codes "required"
+declarations_word Optional = codes "optional"
+
+-- why a feature is on: it is given, or an edge or a link of these declarations leads to it from another feature
+abbrev pub reason_text : ReasonName → Text
+reason_text initial = codes "initial"
+reason_text (edge from to) = codes "edge" ++ 9 ∷ id_text from
+reason_text (link from to declarations) = codes "link" ++ 9 ∷ id_text from ++ 9 ∷ declarations_word declarations
+
+-- a step's line: the feature and why it is on, with tabs between
+abbrev pub step_line : (Text × LabelName) × ReasonName → Text
+step_line (id, reason) = id_text id ++ 9 ∷ reason_text reason ++ 10 ∷ []
+
+abbrev pub step_lines : List ((Text × LabelName) × ReasonName) → Text
+step_lines told = flat_map step_line told
+
+-- The steps told so explain, by offers of the platform alone, each feature of the least set for those offers once, and no other.
+pub record TellsPlatform (g : Graph) (kinds : List DependencyKind) (specs : List Text) (initials : List Bool) (told : List ((Text × LabelName) × ReasonName)) : Type 0 where
+  pub steps : List Step
+  pub are_steps : AreTold g steps told
+  pub explanation : IsExplanation (content_of Forward g.built) (has initials) (platform_offers kinds specs g) steps
+  pub least : (n : ℕ) → IsTrue (is_in (nodes_of steps) n) ↔ Least (content_of Forward g.built) (has initials) (platform_offers kinds specs g) n
+
+-- Every id names a feature, and the text tells such steps from those features, whatever was built of the tables.
+pub record Builds (t : Tables) (kinds : List DependencyKind) (ids : List (Text × LabelName)) (specs : List Text) (text : Text) : Type 0 where
+  pub known : AreKnown t ids
+  pub initials : List Bool
+  pub given : HoldsExactly t initials ids
+  pub told : List ((Text × LabelName) × ReasonName)
+  pub lines : text ≡ step_lines told
+  pub built : Built
+  pub is_built : IsBuilt t built
+  pub every : (b : Built) → IsBuilt t b → TellsPlatform (record { tables = t; built = b }) kinds specs initials told
+
 -- The first of the ids that names no feature is named.
 pub record NamesUnknown (t : Tables) (ids : List (Text × LabelName)) (refusal : Refusal) : Type 0 where
   pub id : Text × LabelName
@@ -146,3 +191,5 @@ IsOutput (list_of id) t (Ok text) = ListsFeatures t id text
 IsOutput (list_of id) t (Err refusal) = NamesNoPackage t id refusal
 IsOutput all_warnings t (Ok text) = text ≡ warning_lines (warnings t)
 IsOutput all_warnings t (Err refusal) = ⊥
+IsOutput (build kinds ids specs) t (Ok text) = Builds t kinds ids specs text
+IsOutput (build kinds ids specs) t (Err refusal) = NamesUnknown t ids refusal

@@ -1,10 +1,12 @@
 -- What the words of the command line ask for.
 use Rattle.std.specs.Prelude.{ℕ, List, [], ◌∷◌, Bool, Option, None, Some, Result, Ok, Err, take, drop, map, ◌==◌, if◌then◌else◌, codes}
-use Rattle.std.specs.List.{list_any, before_last, after_last}
+use Rattle.std.specs.List.{list_any, before_first, after_first, before_last, after_last, slice_split}
 use Rattle.std.specs.Str.{bytes_eq}
-use Rattle.guppy_packages.specs.Rows.{Text}
+use Rattle.guppy_packages.specs.Rows.{Text, texts}
 use Rattle.guppy_packages.specs.declared.direction.DependencyDirection.{DependencyDirection}
 use Rattle.guppy_packages.specs.declared.direction.DependencyDirection.TheVariants.{Forward, Reverse}
+use Rattle.guppy_packages.specs.declared.row.DependencyKind.{DependencyKind}
+use Rattle.guppy_packages.specs.declared.row.DependencyKind.TheVariants.{Normal, Build, Development}
 use Rattle.feature_labels.specs.Names.{LabelName, base, named, optional, label_of}
 use Rattle.guppy_tool.specs.Faults.{Refusal, usage, bad_id}
 use Rattle.row_files.specs.FirstFault.{each_or}
@@ -20,6 +22,7 @@ pub data CommandText : Type 0 where
   all_cycles : CommandText
   list_of : Text → CommandText
   all_warnings : CommandText
+  build : List DependencyKind → List (Text × LabelName) → List Text → CommandText
 
 abbrev pub given_of : GivenId → Text × LabelName
 given_of id = (id.package_id, label_of id.label)
@@ -31,6 +34,7 @@ command_of (commands.Order direction) = ordered direction
 command_of commands.Cycles = all_cycles
 command_of (commands.List package_id) = list_of package_id
 command_of commands.Warnings = all_warnings
+command_of (commands.Build kinds ids specs) = build kinds.items (map given_of ids.items) (texts specs.items)
 
 abbrev pub is_slash : ℕ → Bool
 is_slash b = b == 47
@@ -99,6 +103,33 @@ abbrev pub one_package : List Text → Result CommandText Refusal
 one_package (id ∷ []) = Ok (list_of id)
 one_package _ = Err usage
 
+abbrev pub kind_in : Text → Option DependencyKind
+kind_in word =
+    if bytes_eq word (codes "normal") then Some Normal
+    else (if bytes_eq word (codes "build") then Some Build
+    else (if bytes_eq word (codes "dev") then Some Development else None))
+
+-- kinds with commas between; a part that is no kind is at fault
+abbrev pub kinds_in : Text → Result (List DependencyKind) Refusal
+kinds_in word = each_or kind_in (λ part. usage) (slice_split (λ b. b == 44) word)
+
+abbrev pub is_dashes : Text → Bool
+is_dashes word = bytes_eq word (codes "--")
+
+abbrev pub build_of : List DependencyKind → List Text → Result (List (Text × LabelName)) Refusal → Result CommandText Refusal
+build_of kinds specs (Ok ids) = Ok (build kinds ids specs)
+build_of kinds specs (Err e) = Err e
+
+-- the words after the first `--` are specs, and those before it ids
+abbrev pub build_over : Result (List DependencyKind) Refusal → List Text → Result CommandText Refusal
+build_over (Ok kinds) words = build_of kinds (after_first is_dashes words) (ids_in (before_first is_dashes words))
+build_over (Err e) words = Err e
+
+-- kinds, and the words after them
+abbrev pub build_in : List Text → Result CommandText Refusal
+build_in [] = Err usage
+build_in (word ∷ words) = build_over (kinds_in word) words
+
 -- a command that has no arguments
 abbrev pub alone : CommandText → List Text → Result CommandText Refusal
 alone command [] = Ok command
@@ -112,7 +143,8 @@ command_in word arguments =
     else (if bytes_eq word (codes "order") then one_direction arguments
     else (if bytes_eq word (codes "cycles") then alone all_cycles arguments
     else (if bytes_eq word (codes "list") then one_package arguments
-    else (if bytes_eq word (codes "warnings") then alone all_warnings arguments else Err usage)))))
+    else (if bytes_eq word (codes "warnings") then alone all_warnings arguments
+    else (if bytes_eq word (codes "build") then build_in arguments else Err usage))))))
 
 abbrev pub of_file : Text → Result CommandText Refusal → Result (Text × CommandText) Refusal
 of_file file (Ok command) = Ok (file, command)

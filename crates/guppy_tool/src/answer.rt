@@ -5,6 +5,7 @@ ghost use Rattle.guppy_tool.specs.Words.{command_of};
 ghost use Rattle.guppy_tool.specs.Answers.{IsOutput};
 ghost use Rattle.guppy_tool.specs.Run.{GivesAnswer, IsAnswer};
 
+use crate::building::explained;
 use crate::fault::Fault;
 use crate::ordering::{cycled, ordered};
 use crate::package::{listed, warned};
@@ -25,6 +26,7 @@ fn answer_graph(alloc: Global, command: &Command, graph: &PackageGraph) -> Resul
         Command::Cycles => cycled(alloc, graph),
         Command::List { package_id } => listed(alloc, graph, package_id),
         Command::Warnings => warned(alloc, graph),
+        Command::Build { kinds, ids, specs } => explained(alloc, graph, kinds, ids, specs),
     }
 }
 

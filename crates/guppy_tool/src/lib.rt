@@ -2,6 +2,7 @@
 #![tactic(auto)]
 
 mod answer;
+mod building;
 mod engine;
 mod fault;
 pub mod laws;

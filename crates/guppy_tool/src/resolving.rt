@@ -48,7 +48,7 @@ fn fault_of(alloc: Global, error: Error<'_>) -> Fault
 }
 
 /// The query from the given features, or the fault of the first unknown one.
-fn queried<'g>(
+pub fn queried<'g>(
     alloc: Global,
     graph: FeatureGraph<'g>,
     direction: DependencyDirection,

@@ -1,14 +1,15 @@
 //! What the words of the command line ask for.
 ghost use Rattle.std.specs.Prelude.{◌≡◌, ℕ, List, map};
+ghost use Rattle.std.specs.List.{before_first, after_first, position};
 ghost use Rattle.std.specs.Option.{option_map};
 ghost use Rattle.guppy_packages.specs.Rows.{Text, texts};
 ghost use Rattle.feature_labels.specs.Names.{label_of, id_of, LabelName};
 ghost use Rattle.guppy_tool.specs.Faults.{Gives};
-ghost use Rattle.guppy_tool.specs.Words.{given_of, command_of, cut_at_last_slash as slash_cut, label_in, id_in, ids_in, words_ask, id_or_refusal, direction_in, directed_ids, command_in, one_direction, one_package};
+ghost use Rattle.guppy_tool.specs.Words.{given_of, command_of, cut_at_last_slash as slash_cut, label_in, id_in, ids_in, words_ask, id_or_refusal, direction_in, directed_ids, command_in, one_direction, one_package, kind_in, kinds_in, is_dashes, build_in};
 
 use crate::fault::Fault;
 use feature_labels::{FeatureId, FeatureLabel};
-use guppy_packages::{DependencyDirection, PackageId};
+use guppy_packages::{DependencyDirection, DependencyKind, PackageId};
 use std::alloc::{AllocError, AllocFailed, Global};
 
 /// A feature as a word names it; nothing says that there is such a feature.
@@ -43,6 +44,12 @@ pub enum Command<'a> {
     },
     /// What building noted of items and listed names that ask for what is not there.
     Warnings,
+    /// Why each feature is on that the given ones turn on for these kinds of dependency, where these specs hold.
+    Build {
+        kinds: Vec<DependencyKind>,
+        ids: Vec<GivenId<'a>>,
+        specs: Vec<&'a str>,
+    },
 }
 
 /// The two parts of a word round its last slash.
@@ -144,6 +151,70 @@ fn listing<'a>(alloc: Global, arguments: &[&'a str]) -> Result<Command<'a>, Faul
     })
 }
 
+/// The kind of dependency that a word names.
+fn kind(word: &str) -> Option<DependencyKind>
+    ensures { result ≡ kind_in word.now }
+{
+    if word == "normal" {
+        return Some(DependencyKind::Normal);
+    }
+    if word == "build" {
+        return Some(DependencyKind::Build);
+    }
+    if word == "dev" {
+        return Some(DependencyKind::Development);
+    }
+    None
+}
+
+/// The kinds of dependency that a word names, with commas between.
+fn kinds(alloc: Global, word: &str) -> Result<Vec<DependencyKind>, Fault>
+    ensures { Gives (λ kinds. kinds.items) result (kinds_in word.now) }
+{
+    let mut kinds = Vec::new(alloc);
+    for part in word.split(',') {
+        let Some(kind) = kind(part) else {
+            return Err(Fault::Usage);
+        };
+        kinds.push(kind)?;
+    }
+    Ok(kinds)
+}
+
+/// The place of the first `--`.
+fn place_of_dashes(words: &[&str]) -> Option<usize>
+    ensures { result ≡ position (λ word. is_dashes word.now) words.now }
+{
+    words.iter().position(|word| *word == "--")
+}
+
+/// The words before the first `--`, and those after it.
+fn cut_at_dashes<'w, 'a>(words: &'w [&'a str]) -> (&'w [&'a str], &'w [&'a str])
+    ensures before { texts result.0.now ≡ before_first is_dashes (texts words.now) }
+    ensures after { texts result.1.now ≡ after_first is_dashes (texts words.now) }
+{
+    match place_of_dashes(words) {
+        Some(place) => (&words[..place], &words[place + 1..]),
+        None => (words, &words[words.len()..]),
+    }
+}
+
+/// The command that explains what the features of the arguments turn on.
+fn building<'a>(alloc: Global, arguments: &[&'a str]) -> Result<Command<'a>, Fault>
+    ensures { Gives command_of result (build_in (texts arguments.now)) }
+{
+    let [word, rest @ ..] = arguments else {
+        return Err(Fault::Usage);
+    };
+    let kinds = kinds(alloc, word)?;
+    let (given, specs) = cut_at_dashes(rest);
+    Ok(Command::Build {
+        kinds,
+        ids: ids(alloc, given)?,
+        specs: specs.to_vec(alloc)?,
+    })
+}
+
 /// The command of a word, over its arguments.
 fn asked<'a>(alloc: Global, word: &str, arguments: &[&'a str]) -> Result<Command<'a>, Fault>
     ensures { Gives command_of result (command_in word.now (texts arguments.now)) }
@@ -168,13 +239,17 @@ fn asked<'a>(alloc: Global, word: &str, arguments: &[&'a str]) -> Result<Command
     if word == "warnings" && arguments.is_empty() {
         return Ok(Command::Warnings);
     }
+    if word == "build" {
+        return building(alloc, arguments);
+    }
     Err(Fault::Usage)
 }
 
 /// The file and the command that the words after the program's name ask for.
 ///
-/// `FILE resolve DIRECTION ID...`, `FILE visit DIRECTION ID...`, `FILE order DIRECTION`, `FILE cycles`, `FILE list PACKAGE`
-/// and `FILE warnings` are the forms, where DIRECTION is `forward` or `reverse`; all else is the usage fault. The first ID
+/// `FILE resolve DIRECTION ID...`, `FILE visit DIRECTION ID...`, `FILE order DIRECTION`, `FILE cycles`, `FILE list PACKAGE`,
+/// `FILE warnings` and `FILE build KINDS ID... [-- SPEC...]` are the forms, where DIRECTION is `forward` or `reverse`, and
+/// KINDS is `normal`, `build` and `dev`, one or more of them, with commas between; all else is the usage fault. The first ID
 /// without a slash is a bad id.
 pub fn parse_words<'a>(alloc: Global, words: &[&'a str]) -> Result<(&'a str, Command<'a>), Fault>
     ensures { Gives (λ asked. (asked.0.now, command_of asked.1)) result (words_ask (texts words.now)) }

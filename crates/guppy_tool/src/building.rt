@@ -1,0 +1,84 @@
+//! The answer that tells why each feature is on.
+ghost use Rattle.std.specs.Prelude.{◌≡◌, ◌++◌, IfOk, OnOk, map};
+ghost use Rattle.std.specs.String.{string_bytes};
+ghost use Rattle.guppy_packages.specs.Rows.{texts};
+ghost use Rattle.guppy_features.specs.Told.{step_name};
+ghost use Rattle.guppy_tool.specs.Words.{given_of};
+ghost use Rattle.guppy_tool.specs.Words.CommandText.{build};
+ghost use Rattle.guppy_tool.specs.Answers.{IsOutput, declarations_word, step_line, step_lines};
+ghost use Rattle.guppy_tool.specs.Run.{GivesAnswer};
+
+use crate::fault::Fault;
+use crate::resolving::queried;
+use crate::words::GivenId;
+use feature_core::graph_laws::{edges_say, one_content};
+use guppy_features::{
+    FeatureGraphData, FeatureGraphExt, FeatureId, LinkDeclarations, PlatformVisitor, Reason,
+};
+use guppy_packages::{DependencyDirection, DependencyKind, PackageGraph};
+use std::alloc::{AllocError, Global};
+
+/// The word for which declarations a link covers.
+fn word_of(declarations: LinkDeclarations) -> &'static str
+    ensures { result.now ≡ declarations_word declarations }
+{
+    match declarations {
+        LinkDeclarations::Unsplit => "unsplit",
+        LinkDeclarations::Required => "required",
+        LinkDeclarations::Optional => "optional",
+    }
+}
+
+/// Adds a step's line.
+fn push_step(text: &mut String, id: FeatureId<'_>, reason: Reason<'_>) -> Result<(), AllocError>
+    ensures { OnOk result (string_bytes text.new ≡ string_bytes text.old ++ step_line (step_name (id.entry, reason.entry))) }
+{
+    match reason {
+        Reason::Initial => writeln!(text, "{id}\tinitial"),
+        Reason::Edge { from, .. } => writeln!(text, "{id}\tedge\t{from}"),
+        Reason::Link {
+            from,
+            declarations,
+            ..
+        } => writeln!(text, "{id}\tlink\t{from}\t{}", word_of(declarations)),
+    }
+}
+
+/// The lines of steps, in their order.
+fn lines_of(alloc: Global, steps: &[(FeatureId<'_>, Reason<'_>)]) -> Result<Vec<u8>, AllocError>
+    ensures { IfOk result (λ text. text.items ≡ step_lines (map step_name steps.now)) }
+{
+    let mut text = String::new(alloc);
+    for step in steps {
+        push_step(&mut text, step.0, step.1)?;
+    }
+    Ok(text.into_bytes())
+}
+
+/// The lines of the steps to the features that the given ones turn on for these kinds of dependency, where these specs hold,
+/// or the fault of the first unknown one.
+pub fn explained(
+    alloc: Global,
+    graph: &PackageGraph,
+    kinds: &[DependencyKind],
+    given: &[GivenId],
+    specs: &[&str],
+) -> Result<Vec<u8>, Fault>
+    ensures { GivesAnswer (λ text. text.items) result (IsOutput (build kinds.now (map given_of given.now) (texts specs.now)) graph.now) }
+{
+    let Ok(built) = FeatureGraphData::build(alloc, graph, 0) else {
+        return Err(Fault::Memory);
+    };
+    let query = queried(
+        alloc,
+        graph.feature_graph(&built),
+        DependencyDirection::Forward,
+        given,
+    )?;
+    one_content(graph);
+    edges_say(graph);
+    let Ok(found) = PlatformVisitor::new(kinds, specs).resolve(alloc, query) else {
+        return Err(Fault::Memory);
+    };
+    Ok(lines_of(alloc, found.steps())?)
+}
