@@ -18,27 +18,37 @@ A file of cases has, line by line:
     > of PATH          (as the only one) what must be printed is the file of this path
     !N LINE            what must stand on standard error, and the exit status N; else nothing and 0
     !N                 the exit status N, and whatever stands on standard error
+    steps NODES        (of `build`) what is printed explains these nodes, with spaces between, in steps that judge_build.py finds
+                       right, whichever they are
 
-For a program of calls (surface_calls, layer_calls, graph_calls) the word FILE stands for the path alone, and LAST for that of the
+For a program of calls (surface_calls, layer_calls, graph_calls, explained_calls) the word FILE stands for the path alone, and LAST for that of the
 row file before. Such a case has also:
 
     < CALL             a line of standard input, which the program repeats. The word FORM in it stands for each of the four
-                       forms of visitors and filters, and EDGES, OVER and ANY for each of the words below: the case runs as
+                       forms of visitors and filters, and BY, EDGES, OVER and ANY for each of the words below: the case runs as
                        often, and must print the same
     or                 other lines may be printed after the last call, in place of those above: they follow
-    each DIRECTION     (of graph_calls, with no other call) walks in this direction from each two nodes, by each of four rules
+    each DIRECTION     (of graph_calls and explained_calls, with no other call) walks in this direction from each two nodes, by
+                       each of four rules
     answers N DIRECTION NODES
                        (the same) a walk from these nodes for each set of accepted offers; there are N complete runs of offers
                        with these answers in all, of which what was offered is one, and all have the result of the walk
+    edits DIRECTION IDS
+                       (of explained_calls, with no other call) checks of explanations from these features, and of each small
+                       change of them: a step left out, repeated, in another place, or by another reason; another refused link
+    platforms DIRECTION SPECS
+                       (the same) what each platform has of these specs, from each two features
 
 Lines that begin with '- ' are what a visitor was asked. Those that stand together may come in any order; in the order in
 which they came they must be a run of offers by the rules (judge.py). What a walk read, and what is printed after a call of
-`each` and `answers`, is left to the judge alone. The program of the name `judge` is judge.py, whose standard input is the row
-file.
+`each`, `answers`, `edits` and `platforms`, is left to the judge alone; so are, where a case of explained_calls has none of
+them, the lines that begin with `step ` or `refused ` (judge_explained.py). The programs of the names `judge` and
+`judge_build` are judge.py and judge_build.py, whose standard input is the row file.
 """
 import codecs
 import glob
 import itertools
+import operator
 import os
 import shlex
 import subprocess
@@ -46,12 +56,18 @@ import sys
 import tempfile
 
 import judge
+import judge_build
+import judge_explained
 
 TOP = os.path.dirname(os.path.dirname(os.path.abspath(__file__)))
 # What words of calls stand for.
-FORMS = {b'FORM': ('generic', 'lent', 'boxed', 'closure'), b'EDGES': ('edges', 'copies'), b'OVER': ('graph', 'source', 'list'),
+FORMS = {b'FORM': ('generic', 'lent', 'boxed', 'closure'), b'BY': ('generic', 'lent', 'boxed'), b'EDGES': ('edges', 'copies'), b'OVER': ('graph', 'source', 'list'),
          b'ANY': ('graph', 'source', 'list', 'explained')}
 RULES = ('all', 'none', 'alternate', 'first 2')
+# The same rules, by places of calls.
+PLACES = ('all', 'none', f'only {0x5555555555555555}', 'only 3')
+# What begins lines of explained_calls that may be left to the judge.
+STEPS = (b'step ', b'refused ')
 SECONDS = 60
 
 
@@ -71,8 +87,8 @@ def chain(last):
 
 def program_of(name):
     """The path of a crate's program; PROGRAM in the environment names another one than that of `features`."""
-    if name == 'judge':
-        return f'{TOP}/tests/judge.py'
+    if name in ('judge', 'judge_build'):
+        return f'{TOP}/tests/{name}.py'
     built = f'{TOP}/crates/{name}/out/{name}'
     return os.path.abspath(os.environ.get('PROGRAM', built) if name == 'features' else built)
 
@@ -86,6 +102,8 @@ class Case:
         self.line, self.status = '', 0
         # whether the judge alone looks at what calls print, and how many complete runs there are
         self.is_judged, self.runs = False, None
+        # the nodes that the steps of `build` list
+        self.nodes = None
 
     def has_calls(self):
         return self.program.endswith('_calls')
@@ -104,7 +122,13 @@ class Case:
     def add_each(self, direction):
         """Walks from each two nodes."""
         self.is_judged = True
-        nodes = range(len(judge.Graph(self.rows).nodes))
+        graph = judge.Graph(self.rows)
+        nodes = range(len(graph.nodes))
+        if self.program == 'explained_calls':
+            for rule, node, other in itertools.product(PLACES, map(graph.text, nodes), map(graph.text, nodes)):
+                self.add_call(f'checked {direction} BY {rule}: {node} {other}')
+                self.add_call(f'same {direction} BY {rule}: {node} {other}')
+            return
         for rule, node, other in itertools.product(RULES, nodes, nodes):
             self.add_call(f'walk ANY {direction} {rule}: {node} {other}')
 
@@ -114,11 +138,50 @@ class Case:
         for accepted in judge.answers_of(self.rows, direction):
             self.add_call(f'walk ANY {direction} these {",".join(accepted)}'.rstrip() + f': {nodes}')
 
+    def add_judged(self, calls):
+        """Calls that the judge alone looks at."""
+        self.is_judged = True
+        for call in calls:
+            self.add_call(call)
+
     def add_other(self):
         """The lines up to the last call may go on otherwise."""
         lines = self.printed[-1]
         last = max(place for place, line in enumerate(lines) if line.startswith('< '))
         self.printed.append(lines[:last + 1])
+
+    def takes(self, line):
+        """Adds a line that belongs to the case; false where it means nothing."""
+        word, _, rest = line.partition(' ')
+        if word == 'with':
+            self.given = rest
+        elif word == '<':
+            self.add_call(rest)
+        elif word in ('each', 'answers', 'edits', 'platforms'):
+            self.add_directive(word, rest)
+        elif word == 'steps':
+            self.nodes = [int(it) for it in rest.split()]
+        elif word == 'or':
+            self.add_other()
+        elif line.startswith('> of '):
+            self.of_file = line[5:]
+        elif word == '>':
+            self.printed[-1].append(rest)
+        elif word.startswith('!'):
+            self.status, self.line = int(word[1:]), rest + '\n' if ' ' in line else None
+        else:
+            return False
+        return True
+
+    def add_directive(self, word, rest):
+        if word == 'each':
+            self.add_each(rest)
+        elif word == 'answers':
+            self.add_answers(*rest.split(' ', 2))
+        elif word == 'edits':
+            self.add_judged(judge_explained.edited_calls(self.rows, *rest.split(' ', 1)))
+        else:
+            self.add_judged(judge_explained.platform_calls(self.rows, *f'{rest} '.split(' ', 1)))
 
 
 def all_paths():
@@ -146,24 +209,7 @@ def cases_of(path):
         elif line.startswith('$'):
             words = [unescaped(word) for word in shlex.split(line[1:])]
             cases.append(Case(f'{name}:{at}', program, words, rows, last))
-        elif line.startswith('with '):
-            cases[-1].given = line[5:]
-        elif line.startswith('< '):
-            cases[-1].add_call(line[2:])
-        elif line.startswith('each '):
-            cases[-1].add_each(line[5:])
-        elif line.startswith('answers '):
-            cases[-1].add_answers(*line[8:].split(' ', 2))
-        elif line == 'or':
-            cases[-1].add_other()
-        elif line.startswith('> of '):
-            cases[-1].of_file = line[5:]
-        elif line.startswith('>'):
-            cases[-1].printed[-1].append(line[2:])
-        elif line.startswith('!'):
-            status, _, text = line[1:].partition(' ')
-            cases[-1].status, cases[-1].line = int(status), text + '\n' if text or ' ' in line else None
-        elif line and not line.startswith('#'):
+        elif line and not line.startswith('#') and not (cases and cases[-1].takes(line)):
             sys.exit(f'{name}:{at}: this line means nothing: {line}')
     return cases
 
@@ -200,17 +246,28 @@ class Run:
     def fault(self, printed, said, status):
         """Why this isn't the wanted outcome, or None."""
         line = said if self.case.line is None else self.case.line.encode()
-        came = (self.seen(printed), said, status)
-        wanted = [(self.seen(out), line, self.case.status) for out in self.outs]
-        if came not in wanted:
-            return f'{self.words}\n  wanted {" or ".join(map(str, wanted))}\n  came   {came}'
+        if self.case.nodes is not None and (said, status) == (line, self.case.status):
+            return self.fault_of_steps(printed.decode())
+        came = [(self.seen(printed, out), said, status) for out in self.outs]
+        wanted = [(self.seen(out, out), line, self.case.status) for out in self.outs]
+        if not any(map(operator.eq, came, wanted)):
+            return f'{self.words}\n  wanted {" or ".join(map(str, wanted))}\n  came   {came[0]}'
         return self.fault_of_offers(printed.decode().split('\n')[:-1])
 
-    def seen(self, printed):
-        """What of the printed text is compared."""
+    def fault_of_steps(self, printed):
+        """Why these aren't the lines of steps to the wanted nodes, or None."""
+        *lines, rest = printed.split('\n')
+        words = [word.decode() for word in self.words[2:]]
+        fault = judge_build.fault_of(self.case.rows, words, lines, self.case.nodes)
+        return f'{words}: {rest or fault}: {lines}' if rest or fault else None
+
+    def seen(self, printed, wanted):
+        """What of a printed text is compared with a wanted one."""
         if not self.case.has_calls():
             return printed
         unseen = (b'read ', b'reads ') if self.case.program == 'graph_calls' else ()
+        if self.case.program == 'explained_calls' and not any(it.startswith(STEPS) for it in wanted.split(b'\n')):
+            unseen = STEPS
         lines = [it for it in printed.split(b'\n') if not it.startswith(unseen) and (it[:2] == b'< ' or not self.case.is_judged)]
         return sorted_runs(b'\n'.join(lines))
 
@@ -218,6 +275,8 @@ class Run:
         """Why what a visitor was asked isn't a run by the rules, or None."""
         if self.case.program == 'surface_calls':
             return judge.fault_of(self.case.rows, lines)
+        if self.case.program == 'explained_calls':
+            return judge_explained.fault_of(self.case.rows, lines)
         if self.case.program != 'graph_calls':
             return None
         fault = judge.fault_of_walks(self.case.rows, lines)

@@ -363,18 +363,26 @@ def reads_of(ways, members):
     return fewest, fewest + 2 * len(members) + sum(1 for _, _, gate, _ in offers.values() if gate is not None and gate in members)
 
 
-def fault_of_steps(initials, edges, run, members, steps):
-    """Why these steps don't explain the members, or None. A step is a node and why it is a member; `edges` has the start and
-    the far end of each unconditional edge, by number, and of each offer."""
-    reached = set()
+def fault_of_explanation(initials, reasons, steps):
+    """Why these steps are no explanation, or None. A step is a node and why it is listed, `initial` or one of `reasons`, which
+    has the start, the far end, and the gate or None, of each edge and each offer."""
+    listed = set()
     for node, why in steps:
-        word, _, name = why.partition(' ')
-        start, far = edges.get(name, (None, None))
-        is_why = node in initials if word == 'initial' else start in reached and far == node
-        if not is_why or (word == 'offer') != (name in accepted_in(run)) or node in reached:
+        start, far, gate = reasons.get(why, (None, None, None))
+        is_led_to = why in reasons and far == node and start in listed and (gate is None or gate in listed)
+        if node in listed or not (is_led_to or (why == 'initial' and node in initials)):
             return f'no step: {node} {why}'
-        reached.add(node)
-    return None if sorted(reached) == members else f'not explained: {steps}'
+        listed.add(node)
+    return None
+
+
+def fault_of_steps(initials, reasons, run, members, steps):
+    """Why these steps don't explain the members by edges and accepted offers of a run, or None."""
+    fault = fault_of_explanation(initials, reasons, steps)
+    offered = [why.partition(' ')[2] for _, why in steps if why.startswith(('offer ', 'link '))]
+    if fault is None and not set(offered) <= set(accepted_in(run)):
+        fault = f'not accepted: {set(offered) - set(accepted_in(run))}'
+    return fault or (None if sorted(node for node, _ in steps) == members else f'not explained: {steps}')
 
 
 def parts_of(lines):
@@ -408,11 +416,11 @@ def fault_of_walk(graph, call, lines):
         fault = fault_of_reads(ways, members, read, int(parts['reads'][0]))
     if fault is None and over == 'explained':
         steps = [(int(node), why) for node, _, why in (it.partition(' ') for it in parts['members'][1:])]
-        edges = {name: way[:2] for name, way in ways[1].items()}
+        reasons = {f'offer {name}': way[:3] for name, way in ways[1].items()}
         for number, (pair, asked) in enumerate(graph.edges.items()):
             if not asked:
-                edges[f'{number}'] = pair if direction == 'forward' else pair[::-1]
-        fault = fault_of_steps(initials, edges, run, members, steps)
+                reasons[f'edge {number}'] = (*(pair if direction == 'forward' else pair[::-1]), None)
+        fault = fault_of_steps(initials, reasons, run, members, steps)
         if parts['refused'] != [name for name, answer in run if not answer]:
             fault = f'not the refused offers: {parts["refused"]}'
     return fault

@@ -29,9 +29,3 @@ found_at p nodes ways i place d h t q =
     let first : slice_get (numbers_where p i (map way_of (drop i ways))) 0 ≡ Some i = ap (λ (ws : List Way). slice_get (numbers_where p i ws) 0) rest ∙ rw t refl in
     let is : slice_get (map way_of ways) i ≡ Some (way_of (get_or ways i d)) = slice_get-map way_of ways i ∙ ap (option_map way_of) (slice_get-get_or ways i d h) in
     sym (ap (told (record { nodes = nodes; ways = map way_of ways })) (sym q ∙ first) ∙ ap (taken_of i) is)
-
--- the number of that way
-pub number_at : (p : Way → Bool) (ways : List ListedWay) (i place : ℕ) (d : ListedWay) → i < length ways → IsTrue (p (way_of (get_or ways i d))) → slice_get (numbers_where p i (map way_of (drop i ways))) 0 ≡ slice_get (numbers_where p 0 (map way_of ways)) place → Some i ≡ slice_get (numbers_where p 0 (map way_of ways)) place
-number_at p ways i place d h t q =
-    let rest : map way_of (drop i ways) ≡ way_of (get_or ways i d) ∷ map way_of (drop (suc i) ways) = ap (map way_of) (drop-cons ways i d h) in
-    sym (ap (λ (ws : List Way). slice_get (numbers_where p i ws) 0) rest ∙ rw t refl) ∙ q

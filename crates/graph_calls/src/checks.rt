@@ -1,17 +1,16 @@
-//! Calls that check explanations, over the edges of a feature graph in a list.
-ghost use Rattle.std.specs.Prelude.{◌≡◌, IfOk, length};
+//! Calls that check explanations.
+ghost use Rattle.std.specs.Prelude.{◌≡◌, length};
 
 use crate::failure::Failure;
-use crate::listed::{Listed, edges_listed};
 use crate::out::Out;
 use crate::rules::{Asked, Rule, letter};
-use crate::walks::set_of;
+use crate::walks::initials_of;
 use crate::words::{cut, direction_of, number};
-use feature_core::FeatureGraphData;
 use feature_core::engine::{Half, Step, StepReason, walk_explained};
+use feature_core::{FeatureGraphData, Packed, check_exact_steps, check_steps, why};
+use guppy_packages::DependencyDirection;
 use guppy_support::IxBitSet;
 use std::alloc::Global;
-use walk_checks::{check_exact_steps, check_steps, why};
 
 /// The two parts of a text, with a semicolon between them.
 fn parts(text: &str) -> Result<(&str, &str), Failure> {
@@ -80,28 +79,26 @@ fn offers_of(alloc: Global, words: &str) -> Result<Vec<(usize, Half)>, Failure> 
     Ok(offers)
 }
 
-/// The edges of the graph in a list, as the direction follows them.
-fn table_of(alloc: Global, built: &FeatureGraphData, direction: &str) -> Result<Listed, Failure>
-    ensures { IfOk result (λ table. table.reads ≡ 0) }
-{
-    match edges_listed(alloc, built, direction_of(direction))? {
-        Some(table) => Ok(table),
-        None => Err(Failure::Words),
-    }
+/// A graph, the direction in which its edges are followed, and the nodes from which they are.
+#[derive(Clone, Copy)]
+struct Start<'s> {
+    alloc: Global,
+    built: &'s FeatureGraphData,
+    direction: DependencyDirection,
+    initials: &'s IxBitSet,
 }
 
 /// Tells whether the steps are an explanation.
-fn tell_check(
-    out: &mut Out,
-    alloc: Global,
-    table: &Listed,
-    initials: &IxBitSet,
-    steps: &[Step],
-) -> Result<(), Failure> {
-    if initials.size() != table.nodes() {
-        return Err(Failure::Words);
-    }
-    let explained = check_steps(alloc, table, initials, steps)?;
+fn tell_check(out: &mut Out, start: Start<'_>, steps: &[Step]) -> Result<(), Failure>
+    requires { length start.initials.now ≡ length start.built.now.packages }
+{
+    let explained = check_steps(
+        start.alloc,
+        start.built,
+        start.direction,
+        start.initials,
+        steps,
+    )?;
     out.line(if explained { "true" } else { "false" });
     Ok(())
 }
@@ -109,16 +106,20 @@ fn tell_check(
 /// Tells whether the steps are an exact explanation.
 fn tell_exact(
     out: &mut Out,
-    alloc: Global,
-    table: &Listed,
-    initials: &IxBitSet,
+    start: Start<'_>,
     steps: &[Step],
     refused: &[(usize, Half)],
-) -> Result<(), Failure> {
-    if initials.size() != table.nodes() {
-        return Err(Failure::Words);
-    }
-    let exact = check_exact_steps(alloc, table, initials, steps, refused)?;
+) -> Result<(), Failure>
+    requires { length start.initials.now ≡ length start.built.now.packages }
+{
+    let exact = check_exact_steps(
+        start.alloc,
+        start.built,
+        start.direction,
+        start.initials,
+        steps,
+        refused,
+    )?;
     out.line(if exact { "true" } else { "false" });
     Ok(())
 }
@@ -132,25 +133,25 @@ pub fn check(
 ) -> Result<(), Failure> {
     let (options, steps) = parts(words)?;
     let (direction, nodes) = cut(options);
-    let table = table_of(alloc, built, direction)?;
-    let initials = set_of(alloc, table.nodes(), nodes)?;
+    let initials = initials_of(alloc, built, nodes)?;
     let steps = steps_of(alloc, steps)?;
-    tell_check(out, alloc, &table, &initials, &steps)
+    let start = Start {
+        alloc,
+        built,
+        direction: direction_of(direction),
+        initials: &initials,
+    };
+    tell_check(out, start, &steps)
 }
 
-/// Checks steps and refused offers over a table.
-fn check_exact_over(
-    out: &mut Out,
-    alloc: Global,
-    table: &Listed,
-    nodes: &str,
-    words: &str,
-) -> Result<(), Failure> {
+/// Checks steps and refused offers.
+fn check_exact_from(out: &mut Out, start: Start<'_>, words: &str) -> Result<(), Failure>
+    requires { length start.initials.now ≡ length start.built.now.packages }
+{
     let (steps, refused) = parts(words)?;
-    let initials = set_of(alloc, table.nodes(), nodes)?;
-    let steps = steps_of(alloc, steps)?;
-    let refused = offers_of(alloc, refused)?;
-    tell_exact(out, alloc, table, &initials, &steps, &refused)
+    let steps = steps_of(start.alloc, steps)?;
+    let refused = offers_of(start.alloc, refused)?;
+    tell_exact(out, start, &steps, &refused)
 }
 
 /// Checks steps for exactness: the direction and the initial nodes, the steps, and the refused offers.
@@ -162,8 +163,14 @@ pub fn check_exact(
 ) -> Result<(), Failure> {
     let (options, rest) = parts(words)?;
     let (direction, nodes) = cut(options);
-    let table = table_of(alloc, built, direction)?;
-    check_exact_over(out, alloc, &table, nodes, rest)
+    let initials = initials_of(alloc, built, nodes)?;
+    let start = Start {
+        alloc,
+        built,
+        direction: direction_of(direction),
+        initials: &initials,
+    };
+    check_exact_from(out, start, rest)
 }
 
 /// Tells a step, as a script has it.
@@ -188,21 +195,6 @@ fn tell_steps(out: &mut Out, steps: &[Step]) {
     out.line("");
 }
 
-/// Tells the steps on which a node rests.
-fn tell_kept(
-    out: &mut Out,
-    alloc: Global,
-    table: &Listed,
-    steps: &[Step],
-    node: usize,
-) -> Result<(), Failure> {
-    match why(alloc, table, steps, node)? {
-        Some(kept) => tell_steps(out, &kept),
-        None => out.line("none"),
-    }
-    Ok(())
-}
-
 /// Tells the steps on which a node rests: the direction and the node, and the steps.
 pub fn tell_why(
     out: &mut Out,
@@ -212,67 +204,56 @@ pub fn tell_why(
 ) -> Result<(), Failure> {
     let (options, steps) = parts(words)?;
     let (direction, node) = cut(options);
-    let table = table_of(alloc, built, direction)?;
     let steps = steps_of(alloc, steps)?;
-    tell_kept(out, alloc, &table, &steps, number(node)?)
+    match why(alloc, built, direction_of(direction), &steps, number(node)?)? {
+        Some(kept) => tell_steps(out, &kept),
+        None => out.line("none"),
+    }
+    Ok(())
 }
 
 /// Whether the steps on which a node rests are an explanation, of which the node's own step is the last.
-fn is_why(
-    alloc: Global,
-    table: &Listed,
-    initials: &IxBitSet,
-    steps: &[Step],
-    node: usize,
-) -> Result<bool, Failure>
-    requires { length initials.now ≡ table.now.nodes }
+fn is_why(start: Start<'_>, steps: &[Step], node: usize) -> Result<bool, Failure>
+    requires { length start.initials.now ≡ length start.built.now.packages }
 {
-    match why(alloc, table, steps, node)? {
-        Some(kept) => {
-            let ends = kept.last().is_some_and(|step| step.node == node);
-            Ok(check_steps(alloc, table, initials, &kept)? && ends)
-        }
-        None => Ok(false),
-    }
+    let Some(kept) = why(start.alloc, start.built, start.direction, steps, node)? else {
+        return Ok(false);
+    };
+    let ends = kept.last().is_some_and(|step| step.node == node);
+    let explained = check_steps(
+        start.alloc,
+        start.built,
+        start.direction,
+        start.initials,
+        &kept,
+    )?;
+    Ok(explained && ends)
 }
 
 /// Tells of each node of the steps whether those on which it rests explain it.
-fn check_each(
-    out: &mut Out,
-    alloc: Global,
-    table: &Listed,
-    initials: &IxBitSet,
-    steps: &[Step],
-) -> Result<(), Failure>
-    requires { length initials.now ≡ table.now.nodes }
+fn check_each(out: &mut Out, start: Start<'_>, steps: &[Step]) -> Result<(), Failure>
+    requires { length start.initials.now ≡ length start.built.now.packages }
 {
     for step in steps {
-        let explained = is_why(alloc, table, initials, steps, step.node)?;
+        let explained = is_why(start, steps, step.node)?;
         out.number("- why ", step.node);
         out.line(if explained { " true" } else { " false" });
     }
     Ok(())
 }
 
-/// Walks over the edges, and checks what explains the walk.
-fn check_walk_over(
-    out: &mut Out,
-    alloc: Global,
-    table: &mut Listed,
-    initials: &IxBitSet,
-    offerer: &mut Asked<'_>,
-) -> Result<(), Failure>
-    requires size { length initials.now ≡ table.old.nodes }
-    requires reads { table.old.reads ≡ 0 }
+/// Walks, and checks what explains the walk.
+fn check_walk_from(out: &mut Out, start: Start<'_>, offerer: &mut Asked<'_>) -> Result<(), Failure>
+    requires { length start.initials.now ≡ length start.built.now.packages }
 {
-    let (_, steps, refused) = walk_explained(alloc, table, initials, offerer)?;
-    tell_check(out, alloc, table, initials, &steps)?;
-    tell_exact(out, alloc, table, initials, &steps, &refused)?;
-    check_each(out, alloc, table, initials, &steps)
+    let mut source = Packed::new(start.built, start.direction);
+    let (_, steps, refused) = walk_explained(start.alloc, &mut source, start.initials, offerer)?;
+    tell_check(out, start, &steps)?;
+    tell_exact(out, start, &steps, &refused)?;
+    check_each(out, start, &steps)
 }
 
-/// Walks from nodes over the edges in a list, and checks what explains the walk: the direction and the rule of its answers, and
-/// the nodes.
+/// Walks from nodes, and checks what explains the walk: the direction and the rule of its answers, and the nodes.
 pub fn check_walk(
     out: &mut Out,
     alloc: Global,
@@ -281,17 +262,19 @@ pub fn check_walk(
 ) -> Result<(), Failure> {
     let (options, nodes) = parts(words)?;
     let (direction, rule) = cut(options);
-    let mut table = table_of(alloc, built, direction)?;
-    let initials = set_of(alloc, table.nodes(), nodes)?;
-    if initials.size() != table.nodes() {
-        return Err(Failure::Words);
-    }
+    let initials = initials_of(alloc, built, nodes)?;
+    let start = Start {
+        alloc,
+        built,
+        direction: direction_of(direction),
+        initials: &initials,
+    };
     let mut offerer = Asked {
         rule: Rule::of(rule),
         count: 0,
         out: *out,
     };
-    let walked = check_walk_over(out, alloc, &mut table, &initials, &mut offerer);
+    let walked = check_walk_from(out, start, &mut offerer);
     out.join(offerer.out);
     walked
 }

@@ -8,7 +8,6 @@ use feature_core::FeatureGraphData;
 use feature_core::engine::{Ask, EdgeSource, Taken};
 use guppy_packages::DependencyDirection;
 use std::alloc::{AllocError, Global};
-use walk_checks::{EdgeTable, TableEdge};
 
 /// A start, a far end, what is asked, and a gate.
 type ListedWay = (usize, usize, Ask, usize);
@@ -58,13 +57,6 @@ impl Listed {
 }
 
 impl Listed {
-    /// How many nodes there are.
-    pub fn nodes(&self) -> usize
-        ensures { result ≡ self.now.nodes }
-    {
-        self.nodes
-    }
-
     /// How many reads there were.
     pub fn reads(&self) -> u128 {
         self.reads
@@ -122,41 +114,6 @@ impl EdgeSource for Listed {
                         far: way.1,
                         ask: way.2,
                     });
-                }
-                left -= 1;
-            }
-        }
-        None
-    }
-}
-
-impl EdgeTable for Listed {
-    ghost content = { λ s. record { nodes = s.nodes; ways = map way_of s.ways.items } };
-
-    fn node_count(&self) -> usize {
-        self.nodes
-    }
-
-    fn edge_count(&self) -> usize {
-        self.ways.len()
-    }
-
-    fn edge(&self, number: usize) -> Option<TableEdge> {
-        let (start, far, ask, gate) = *self.ways.get(number)?;
-        Some(TableEdge {
-            start,
-            far,
-            ask,
-            gate,
-        })
-    }
-
-    fn edge_from(&self, start: usize, place: usize) -> Option<usize> {
-        let mut left = place;
-        for (edge, way) in self.ways.iter().enumerate() {
-            if way.0 == start {
-                if left == 0 {
-                    return Some(edge);
                 }
                 left -= 1;
             }

@@ -1,5 +1,5 @@
 //! Calls that walk over a feature graph.
-ghost use Rattle.std.specs.Prelude.{◌≡◌, length};
+ghost use Rattle.std.specs.Prelude.{◌≡◌, IfOk, length};
 
 use crate::failure::Failure;
 use crate::listed::edges_listed;
@@ -26,10 +26,20 @@ fn insert(set: &mut IxBitSet, words: &str) -> Result<(), Failure> {
 }
 
 /// The set of the nodes of a text.
-pub fn set_of(alloc: Global, size: usize, words: &str) -> Result<IxBitSet, Failure> {
-    let mut set = IxBitSet::empty(alloc, size)?;
+pub fn initials_of(
+    alloc: Global,
+    built: &FeatureGraphData,
+    words: &str,
+) -> Result<IxBitSet, Failure>
+    ensures { IfOk result (λ set. length set ≡ length built.now.packages) }
+{
+    let mut set = IxBitSet::empty(alloc, built.node_count())?;
     insert(&mut set, words)?;
-    Ok(set)
+    if set.size() == built.node_count() {
+        Ok(set)
+    } else {
+        Err(Failure::Words)
+    }
 }
 
 /// Tells the numbers of a set.
@@ -203,12 +213,8 @@ pub fn walk_from(
     words: &str,
 ) -> Result<(), Failure> {
     let (options, nodes) = halves(words)?;
-    let initials = set_of(alloc, built.node_count(), nodes)?;
-    if initials.size() == built.node_count() {
-        walk_as(out, alloc, built, options, &initials)
-    } else {
-        Err(Failure::Words)
-    }
+    let initials = initials_of(alloc, built, nodes)?;
+    walk_as(out, alloc, built, options, &initials)
 }
 
 /// The edges that a word names.
@@ -255,10 +261,6 @@ pub fn reach(
     words: &str,
 ) -> Result<(), Failure> {
     let (options, nodes) = halves(words)?;
-    let initials = set_of(alloc, built.node_count(), nodes)?;
-    if initials.size() == built.node_count() {
-        reach_as(out, alloc, built, options, &initials)
-    } else {
-        Err(Failure::Words)
-    }
+    let initials = initials_of(alloc, built, nodes)?;
+    reach_as(out, alloc, built, options, &initials)
 }
