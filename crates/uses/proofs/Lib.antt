@@ -1,3 +1,4 @@
 mod Named
 mod Selected
 mod Tests
+mod Linted

@@ -7,13 +7,17 @@
 //! - `links_and_cycles`: the links between features, and the cycles among these.
 //! - `difference`: what default features bring in besides, package by package.
 //! - `counted`: a filter that counts what it is asked, under the filters over lists.
+//! - `explained`: why features are on, and checks of a right explanation and of a wrong one.
+//! - `linter`: which forbidden features a build for a platform turns on, and why.
 #![tactic(auto)]
 
 mod brings_in;
 mod counted;
 mod difference;
+mod explained;
 mod failure;
 mod links_and_cycles;
+mod linter;
 mod one_platform;
 mod one_test;
 mod out;
@@ -37,10 +41,12 @@ enum Example {
     LinksAndCycles,
     Difference,
     Counted,
+    Explained,
+    Linter,
 }
 
 /// The examples, each with a text of rows.
-const EXAMPLES: &[(Example, &str); 8] = &[
+const EXAMPLES: &[(Example, &str); 10] = &[
     (Example::BringsIn, rows::WEAK_ITEM),
     (Example::Workspace, rows::DEFAULTS),
     (Example::OnePlatform, rows::TWO_PLATFORMS),
@@ -49,6 +55,8 @@ const EXAMPLES: &[(Example, &str); 8] = &[
     (Example::LinksAndCycles, rows::TWO_CYCLES),
     (Example::Difference, rows::DEFAULTS),
     (Example::Counted, rows::WEAK_ITEM),
+    (Example::Explained, rows::WEAK_ITEM),
+    (Example::Linter, rows::DEFAULTS),
 ];
 
 /// Runs an example over a graph.
@@ -66,6 +74,8 @@ fn show_over(
         Example::LinksAndCycles => links_and_cycles::show(out, alloc, graph),
         Example::Difference => difference::show(out, alloc, graph),
         Example::Counted => counted::show(out, alloc, graph),
+        Example::Explained => explained::show(out, alloc, graph),
+        Example::Linter => linter::show(out, alloc, graph),
     }
 }
 

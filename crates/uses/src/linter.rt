@@ -1,0 +1,123 @@
+//! A policy linter: which forbidden features a build for a platform turns on, and why.
+ghost use Rattle.std.specs.Prelude.{◌≡◌, ℕ, Bool, List, IsFalse, IfOk, MatchOption, All, length, map};
+ghost use Rattle.guppy_support.specs.Bits.{has};
+ghost use Rattle.feature_core.specs.Built.{NodeNamed};
+ghost use Rattle.feature_core.specs.Nodes.{nodes};
+ghost use Rattle.feature_core.specs.Offers.{content_of};
+ghost use Rattle.feature_labels.specs.Names.{id_of};
+ghost use Rattle.walk_engine.specs.Explanations.{IsExplanation, nodes_of};
+ghost use Rattle.walk_engine.specs.Walks.{is_in};
+ghost use Rattle.walk_engine.specs.declared.walks.Half.{Half};
+ghost use Rattle.guppy_features.specs.Platforms.{platform_offers};
+ghost use Rattle.guppy_features.specs.PlatformViews.{kinds_of, specs_of};
+ghost use Rattle.guppy_features.specs.Views.{graph_of};
+ghost use Rattle.uses.specs.Linted.{IsCleared, finding_name};
+
+use crate::failure::Failure;
+use crate::out::Out;
+use guppy_features::{
+    DependencyKind, Error, Explained, FeatureGraph, FeatureId, FeatureQuery, PackageId,
+    PlatformVisitor, Reason,
+};
+use std::alloc::Global;
+
+/// A forbidden feature that is on, and the steps on which it rests: from an initial feature to it, gates included.
+#[derive(Drop)]
+pub struct Finding<'g> {
+    pub id: FeatureId<'g>,
+    pub why: Vec<(FeatureId<'g>, Reason<'g>)>,
+}
+
+/// Whether a forbidden feature is on, and why. One that the graph lacks can't be on.
+fn examined<'g>(
+    alloc: Global,
+    graph: FeatureGraph<'g>,
+    explained: &Explained<'g>,
+    id: FeatureId<'g>,
+) -> Result<Option<Finding<'g>>, Error<'g>>
+    requires { graph_of graph ≡ explained.now.graph }
+    ensures { IfOk result (λ found. MatchOption found
+        ((n : ℕ) (initials : List Bool) (A : ℕ → Half → Bool) → NodeNamed explained.now.graph.tables n (id_of id.entry)
+        → length initials ≡ length (nodes explained.now.graph.tables)
+        → IsExplanation (content_of explained.now.direction explained.now.graph.built) (has initials) A explained.now.steps
+        → IsFalse (is_in (nodes_of explained.now.steps) n))
+        (λ f. finding_name f ≡ id_of id.entry)) }
+{
+    if !graph.contains(id) {
+        return Ok(None);
+    }
+    match explained.why(alloc, id)? {
+        None => Ok(None),
+        Some(why) => Ok(Some(Finding { id, why })),
+    }
+}
+
+/// The forbidden features that the query's build for the platform turns on, each with its reasons.
+///
+/// A forbidden feature that isn't named here is not in the least set for the platform: it is off, whatever the order in which
+/// links came up.
+pub fn findings<'g>(
+    alloc: Global,
+    query: FeatureQuery<'g>,
+    platform: PlatformVisitor<'_>,
+    forbidden: &[FeatureId<'g>],
+) -> Result<Vec<Finding<'g>>, Error<'g>>
+    ensures { IfOk result (λ found. All (λ id. IsCleared query.entry
+        (platform_offers (kinds_of platform.entry) (specs_of platform.entry) query.entry.graph)
+        (map finding_name found.items) (id_of id)) forbidden.now) }
+{
+    let graph = *query.initials().graph();
+    let explained = platform.resolve(alloc, query)?;
+    let mut found = Vec::new(alloc);
+    for id in forbidden {
+        if let Some(one) = examined(alloc, graph, &explained, *id)? {
+            found.push(one)?;
+        }
+    }
+    Ok(found)
+}
+
+/// A policy against two features, of which a build turns one on.
+pub fn show(out: &mut Out, alloc: Global, graph: FeatureGraph<'_>) -> Result<(), Failure> {
+    let app = PackageId::new(alloc, "app")?;
+    let serde = PackageId::new(alloc, "serde")?;
+    lint(out, alloc, graph, &app, &serde)
+}
+
+/// A build of the default features of the one package, by that policy.
+fn lint<'g>(
+    out: &mut Out,
+    alloc: Global,
+    graph: FeatureGraph<'g>,
+    app: &'g PackageId,
+    serde: &'g PackageId,
+) -> Result<(), Failure> {
+    let forbidden = [
+        FeatureId::named(serde, "std"),
+        FeatureId::named(app, "color"),
+    ];
+    let query = graph.query_forward(alloc, &[FeatureId::named(app, "default")])?;
+    let platform = PlatformVisitor::new(&[DependencyKind::Normal], &[]);
+    show_findings(out, alloc, query, platform, &forbidden)
+}
+
+/// Writes a line for each forbidden feature that is on: the feature, and what it rests on.
+fn show_findings<'g>(
+    out: &mut Out,
+    alloc: Global,
+    query: FeatureQuery<'g>,
+    platform: PlatformVisitor<'_>,
+    forbidden: &[FeatureId<'g>],
+) -> Result<(), Failure> {
+    let found = findings(alloc, query, platform, forbidden)?;
+    for one in found.iter() {
+        out.part("forbidden:");
+        out.id(one.id);
+        out.part(" since");
+        for (id, _) in one.why.iter() {
+            out.id(*id);
+        }
+        out.line("");
+    }
+    Ok(())
+}
