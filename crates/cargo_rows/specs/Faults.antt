@@ -1,9 +1,11 @@
 -- Faults, with texts in place of strings, and steps that may be refused.
-use Rattle.std.specs.Prelude.{◌≡◌, ℕ, List, Result, Ok, Err}
+use Rattle.std.specs.Prelude.{◌≡◌, ℕ, List, [], ◌++◌, Result, Ok, Err, codes}
+use Rattle.std.specs.Fmt.{decimal}
 use Rattle.std.specs.String.{string_bytes}
 use Rattle.byte_devices.specs.declared.whole.ReadError.{ReadError}
 use Rattle.byte_devices.specs.declared.whole.ReadError.TheVariants as error
 use Rattle.cargo_rows.specs.declared.fault.Place.{Place}
+use Rattle.cargo_rows.specs.declared.fault.Place.TheVariants as at
 use Rattle.cargo_rows.specs.declared.fault.DocumentFault.{DocumentFault}
 use Rattle.cargo_rows.specs.declared.fault.DocumentFault.TheVariants as refused
 use Rattle.cargo_rows.specs.declared.fault.Fault.{Fault}
@@ -12,6 +14,17 @@ use Rattle.cargo_rows.specs.declared.fault.Fault.TheVariants as fault
 -- a text, by its bytes
 abbrev pub Text : Type 0
 Text = List ℕ
+
+-- the path of an object, and the dot before its field's name
+abbrev pub place_text : Place → Text
+place_text at.Document = []
+place_text at.Resolve = codes "resolve."
+place_text (at.Package package) = codes "packages[" ++ decimal package ++ codes "]."
+place_text (at.Dependency package dependency) = codes "packages[" ++ decimal package ++ codes "].dependencies[" ++ decimal dependency ++ codes "]."
+place_text (at.Target package target) = codes "packages[" ++ decimal package ++ codes "].targets[" ++ decimal target ++ codes "]."
+place_text (at.Node node) = codes "resolve.nodes[" ++ decimal node ++ codes "]."
+place_text (at.Dep node dep) = codes "resolve.nodes[" ++ decimal node ++ codes "].deps[" ++ decimal dep ++ codes "]."
+place_text (at.DepKind node dep kind) = codes "resolve.nodes[" ++ decimal node ++ codes "].deps[" ++ decimal dep ++ codes "].dep_kinds[" ++ decimal kind ++ codes "]."
 
 -- why a document has no rows
 pub data Refusal : Type 0 where

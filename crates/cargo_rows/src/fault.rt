@@ -1,6 +1,6 @@
 //! Why there are no rows.
-ghost use Rattle.std.specs.Prelude.{◌≡◌};
-ghost use Rattle.cargo_rows.specs.Faults.{read_fault, status_of};
+ghost use Rattle.std.specs.Prelude.{◌≡◌, Some};
+ghost use Rattle.cargo_rows.specs.Faults.{place_text, read_fault, status_of};
 
 use byte_devices::ReadError;
 use std::alloc::{AllocError, AllocFailed};
@@ -46,6 +46,8 @@ pub enum Place {
 }
 
 impl fmt::Display for Place {
+    ghost output = { λ place. Some (place_text place) };
+
     /// The path of the object, and the dot before its field's name.
     fn fmt<W: fmt::Write>(&self, f: &mut fmt::Formatter<W>) -> fmt::Result {
         match *self {
