@@ -19,12 +19,12 @@ Text = List ℕ
 abbrev pub place_text : Place → Text
 place_text at.Document = []
 place_text at.Resolve = codes "resolve."
-place_text (at.Package package) = codes "packages[" ++ decimal package ++ codes "]."
-place_text (at.Dependency package dependency) = codes "packages[" ++ decimal package ++ codes "].dependencies[" ++ decimal dependency ++ codes "]."
-place_text (at.Target package target) = codes "packages[" ++ decimal package ++ codes "].targets[" ++ decimal target ++ codes "]."
-place_text (at.Node node) = codes "resolve.nodes[" ++ decimal node ++ codes "]."
-place_text (at.Dep node dep) = codes "resolve.nodes[" ++ decimal node ++ codes "].deps[" ++ decimal dep ++ codes "]."
-place_text (at.DepKind node dep kind) = codes "resolve.nodes[" ++ decimal node ++ codes "].deps[" ++ decimal dep ++ codes "].dep_kinds[" ++ decimal kind ++ codes "]."
+place_text (at.Package owner) = codes "packages[" ++ (decimal owner ++ codes "].")
+place_text (at.Dependency owner dependency) = codes "packages[" ++ (decimal owner ++ (codes "].dependencies[" ++ (decimal dependency ++ codes "].")))
+place_text (at.Target owner target) = codes "packages[" ++ (decimal owner ++ (codes "].targets[" ++ (decimal target ++ codes "].")))
+place_text (at.Node node) = codes "resolve.nodes[" ++ (decimal node ++ codes "].")
+place_text (at.Dep node dep) = codes "resolve.nodes[" ++ (decimal node ++ (codes "].deps[" ++ (decimal dep ++ codes "].")))
+place_text (at.DepKind node dep kind) = codes "resolve.nodes[" ++ (decimal node ++ (codes "].deps[" ++ (decimal dep ++ (codes "].dep_kinds[" ++ (decimal kind ++ codes "].")))))
 
 -- why a document has no rows
 pub data Refusal : Type 0 where
