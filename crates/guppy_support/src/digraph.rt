@@ -8,7 +8,7 @@ ghost use Rattle.guppy_support.specs.inner.PackedRows.{IsPacked};
 
 mod begins;
 
-use crate::rows::{Rows, pack_rows};
+use crate::rows::{Keys, Rows, pack_rows};
 use begins::source_begins;
 use std::alloc::{AllocError, Global};
 use std::marker::Model;
@@ -64,7 +64,26 @@ impl Digraph {
         ensures sound { IfOk result (λ g. IsDigraph g) }
         ensures refused { IfErr result (λ e. IsRefused nodes edges.now e) }
     {
-        if let Some(fault) = first_fault(nodes, edges) {
+        match Vec::from_slice(alloc, edges) {
+            Ok(copied) => Digraph::from_edges(alloc, nodes, copied),
+            Err(_) => match first_fault(nodes, edges) {
+                Some(fault) => Err(fault),
+                None => Err(DigraphError::Memory),
+            },
+        }
+    }
+
+    /// The digraph of these edges, as `new` makes it. It keeps the list, and no copy is made.
+    pub fn from_edges(
+        alloc: Global,
+        nodes: usize,
+        edges: Vec<Edge>,
+    ) -> Result<Digraph, DigraphError>
+        ensures made { IfOk result (λ g. g ≡ record { nodes = nodes; edges = edges.items }) }
+        ensures sound { IfOk result (λ g. IsDigraph g) }
+        ensures refused { IfErr result (λ e. IsRefused nodes edges.items e) }
+    {
+        if let Some(fault) = first_fault(nodes, &edges) {
             return Err(fault);
         }
         match Digraph::built(alloc, nodes, edges) {
@@ -73,15 +92,15 @@ impl Digraph {
         }
     }
 
-    fn built(alloc: Global, nodes: usize, edges: &[Edge]) -> Result<Digraph, AllocError>
-        requires { IsDigraph (record { nodes = nodes; edges = edges.now }) }
-        ensures { IfOk result (λ g. g ≡ record { nodes = nodes; edges = edges.now }) }
+    fn built(alloc: Global, nodes: usize, edges: Vec<Edge>) -> Result<Digraph, AllocError>
+        requires { IsDigraph (record { nodes = nodes; edges = edges.items }) }
+        ensures { IfOk result (λ g. g ≡ record { nodes = nodes; edges = edges.items }) }
     {
-        let inward = inward_rows(alloc, nodes, edges)?;
-        let begins = source_begins(alloc, nodes, edges)?;
+        let inward = inward_rows(alloc, nodes, &edges)?;
+        let begins = source_begins(alloc, nodes, &edges)?;
         Ok(Digraph {
             nodes,
-            edges: Vec::from_slice(alloc, edges)?,
+            edges,
             begins,
             inward,
         })
@@ -183,12 +202,22 @@ fn is_before(first: (usize, usize), other: (usize, usize)) -> bool
     first.0 < other.0 || (first.0 == other.0 && first.1 < other.1)
 }
 
-fn targets_of(alloc: Global, edges: &[Edge]) -> Result<Vec<usize>, AllocError>
-    ensures { IfOk result (λ to. to.items ≡ targets edges.now) }
-{
-    let mut to = Vec::with_capacity(alloc, edges.len())?;
-    to.extend(edges.iter().map(|edge| edge.to))?;
-    Ok(to)
+// The targets of edges, in their order.
+#[derive(Drop)]
+struct Targets<'a> {
+    edges: &'a [Edge],
+}
+
+impl<'a> Keys for Targets<'a> {
+    ghost list = { λ t. targets t.edges.now };
+
+    fn len(&self) -> usize {
+        self.edges.len()
+    }
+
+    fn at(&self, place: usize) -> usize {
+        self.edges[place].to
+    }
 }
 
 // The numbers of the edges by target.
@@ -196,6 +225,5 @@ fn inward_rows(alloc: Global, nodes: usize, edges: &[Edge]) -> Result<Rows, Allo
     requires { IsDigraph (record { nodes = nodes; edges = edges.now }) }
     ensures { IfOk result (λ rows. IsPacked nodes (targets edges.now) rows.begins.items rows.numbers.items) }
 {
-    let to = targets_of(alloc, edges)?;
-    pack_rows(alloc, nodes, &to)
+    pack_rows(alloc, nodes, &Targets { edges })
 }

@@ -138,7 +138,7 @@ fn listed(
     requires room { room.items ≡ [] }
     ensures { IfOk result (λ list. IsOrder graph.now.edges graph.now.nodes list.items) }
 {
-    let groups = pack_rows(alloc, graph.node_count(), ranks)?;
+    let groups = pack_rows(alloc, graph.node_count(), &ranks)?;
     let plan = first_plan(alloc, graph, ranks, &groups, room, components)?;
     order_from(graph, ranks, &groups, plan)
 }
