@@ -57,7 +57,7 @@ impl Order {
         let ranked = component_ranks(alloc, graph)?;
         let ranks = ranked.ranks;
         let list = listed(alloc, graph, &ranks, ranked.room, ranked.count)?;
-        let (numbers, begins) = numbered(alloc, &list, &ranks, ranked.other_room, ranked.count)?;
+        let (numbers, begins) = numbered(alloc, &list, &ranks, ranked.count)?;
         let components = scattered(ranks, &list, &numbers);
         let places = placed(numbers, &list);
         let count = begins.len() - 1;

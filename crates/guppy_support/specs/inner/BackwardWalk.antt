@@ -38,10 +38,10 @@ pub record AreSpread (g : Graph) (order : List ℕ) (t c root next : ℕ) (seen 
   pub later : (i : ℕ) → t < i → i < length order → IsSeen seen (slice_index order i) × (slice_index ranks (slice_index order i) < c)
 
 abbrev pub AreSpreadIn : Graph → List ℕ → ℕ → ℕ → Marks → Type 0
-AreSpreadIn g order t c m = AreSpread g order t c (slice_index order t) m.next m.seen.items m.ranks.items m.members.items
+AreSpreadIn g order t c m = AreSpread g order t c (slice_index order t) m.next m.seen m.ranks.items m.members.items
 
 abbrev pub AreMarkedIn : Graph → List ℕ → ℕ → ℕ → Marks → Type 0
-AreMarkedIn g order t c m = AreMarked g order t c m.seen.items m.ranks.items m.members.items
+AreMarkedIn g order t c m = AreMarked g order t c m.seen m.ranks.items m.members.items
 
 -- how many nodes weren't seen
 abbrev pub unseen : List Bool → ℕ
@@ -49,4 +49,4 @@ unseen seen = sum_by (λ b. cond b 0 1) seen
 
 -- how many steps may still come
 abbrev pub marks_left : Marks → ℕ
-marks_left m = 2 * unseen m.seen.items + (length m.members.items - m.next)
+marks_left m = 2 * unseen m.seen + (length m.members.items - m.next)

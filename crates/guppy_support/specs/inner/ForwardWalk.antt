@@ -33,7 +33,7 @@ pub record IsSearch (g : Graph) (seen : List Bool) (left opened closed : List �
   pub fresh : (v : ℕ) → Contains opened v → ¬ Contains closed v
 
 abbrev pub IsWalk : Graph → Search → Type 0
-IsWalk g s = IsSearch g s.seen.items s.left.items s.opened.items s.closed.items
+IsWalk g s = IsSearch g s.seen s.left.items s.opened.items s.closed.items
 
 -- how many steps may still come before no node is open
 abbrev pub work : Search → ℕ

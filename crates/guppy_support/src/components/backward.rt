@@ -10,12 +10,13 @@ ghost use Rattle.guppy_support.specs.Rows.{places};
 ghost use Rattle.guppy_support.specs.Graph.{targets};
 ghost use Rattle.guppy_support.specs.inner.NodeEdges.{source_at};
 
+use crate::bit_set::IxBitSet;
 use crate::digraph::Digraph;
 use std::alloc::{AllocError, Global};
 
 #[derive(Drop)]
 struct Marks {
-    seen: Vec<bool>,
+    seen: IxBitSet,
     ranks: Vec<usize>,
     members: Vec<usize>,
     next: usize,
@@ -35,18 +36,18 @@ impl Marks {
         requires node { node < graph.now.nodes }
         requires tied { IsTied graph.now order.now t (slice_index order.now t) node }
         ensures spread { OnOk result (AreSpreadIn graph.now order.now t rank self.new) }
-        ensures seen { OnOk result (IsSeen self.new.seen.items node) }
+        ensures seen { OnOk result (IsSeen self.new.seen node) }
         ensures next { OnOk result (self.new.next ≡ self.old.next) }
         ensures left { OnOk result (marks_left self.new ≤ marks_left self.old) }
-        ensures kept { OnOk result ((v : ℕ) → IsSeen self.old.seen.items v → IsSeen self.new.seen.items v) }
+        ensures kept { OnOk result ((v : ℕ) → IsSeen self.old.seen v → IsSeen self.new.seen v) }
         ensures longer { OnOk result (length self.old.members.items ≤ length self.new.members.items) }
         ensures front { OnOk result ((i : ℕ) → i < length self.old.members.items → slice_index self.new.members.items i ≡ slice_index self.old.members.items i) }
     {
-        if self.seen[node] {
+        if self.seen.contains(node) {
             return Ok(());
         }
         self.members.push(node)?;
-        self.seen[node] = true;
+        self.seen.insert(node);
         self.ranks[node] = rank;
         Ok(())
     }
@@ -65,7 +66,7 @@ impl Marks {
         requires next { self.old.next < length self.old.members.items }
         ensures spread { OnOk result (AreSpreadIn graph.now order.now t rank self.new) }
         ensures left { OnOk result (marks_left self.new < marks_left self.old) }
-        ensures kept { OnOk result ((v : ℕ) → IsSeen self.old.seen.items v → IsSeen self.new.seen.items v) }
+        ensures kept { OnOk result ((v : ℕ) → IsSeen self.old.seen v → IsSeen self.new.seen v) }
     {
         let node = self.members[self.next];
         for place in 0..graph.in_edges(node).len() {
@@ -93,7 +94,7 @@ impl Marks {
         ensures next { IfOk result (λ next. next ≤ rank + 1) }
     {
         let root = order[t];
-        if self.seen[root] {
+        if self.seen.contains(root) {
             return Ok(rank);
         }
         self.next = self.members.len();
@@ -135,7 +136,7 @@ pub(crate) fn ranks_from(
 {
     graph.facts();
     let mut marks = Marks {
-        seen: vec![in alloc; false; graph.node_count()]?,
+        seen: IxBitSet::empty(alloc, graph.node_count())?,
         ranks,
         members,
         next: 0,

@@ -7,13 +7,14 @@ ghost use Rattle.guppy_support.specs.Graph.{IsDigraph, sources};
 ghost use Rattle.guppy_support.specs.Rows.{places};
 ghost use Rattle.guppy_support.specs.inner.Ranks.{IsRanking};
 
+use crate::bit_set::IxBitSet;
 use crate::digraph::Digraph;
 use std::alloc::{AllocError, Global};
 
 #[derive(Drop)]
 pub(crate) struct Search {
     /// The nodes that were opened.
-    pub(crate) seen: Vec<bool>,
+    pub(crate) seen: IxBitSet,
     /// How many edges of each node are left.
     pub(crate) left: Vec<usize>,
     /// The open nodes, each of which leads to the next.
@@ -28,15 +29,15 @@ impl Search {
         requires walk { IsWalk graph.now self.old }
         requires node { node < graph.now.nodes }
         requires led { LeadTo graph.now self.old.opened.items node }
-        requires new { ¬ IsSeen self.old.seen.items node }
+        requires new { ¬ IsSeen self.old.seen node }
         ensures walk { OnOk result (IsWalk graph.now self.new) }
         ensures work { OnOk result (work self.new ≡ work self.old + 1) }
         ensures left { OnOk result (self.new.left ≡ self.old.left) }
-        ensures seen { OnOk result (IsSeen self.new.seen.items node) }
-        ensures kept { OnOk result ((v : ℕ) → IsSeen self.old.seen.items v → IsSeen self.new.seen.items v) }
+        ensures seen { OnOk result (IsSeen self.new.seen node) }
+        ensures kept { OnOk result ((v : ℕ) → IsSeen self.old.seen v → IsSeen self.new.seen v) }
     {
         self.opened.push(node)?;
-        self.seen[node] = true;
+        self.seen.insert(node);
         Ok(())
     }
 
@@ -72,7 +73,7 @@ impl Search {
         requires walk { IsWalk graph.now self.old }
         requires node { node < graph.now.nodes }
         requires some { 0 < slice_index self.old.left.items node }
-        requires seen { IsSeen self.old.seen.items (next_target graph.now self.old.left.items node) }
+        requires seen { IsSeen self.old.seen (next_target graph.now self.old.left.items node) }
         ensures walk { IsWalk graph.now self.new }
         ensures work { work self.new + 2 ≡ work self.old }
         ensures seen { self.new.seen ≡ self.old.seen }
@@ -101,14 +102,14 @@ impl Search {
         requires opened { 0 < length self.old.opened.items }
         ensures walk { OnOk result (IsWalk graph.now self.new) }
         ensures work { OnOk result (work self.new < work self.old) }
-        ensures kept { OnOk result ((v : ℕ) → IsSeen self.old.seen.items v → IsSeen self.new.seen.items v) }
+        ensures kept { OnOk result ((v : ℕ) → IsSeen self.old.seen v → IsSeen self.new.seen v) }
     {
         let top = self.last(graph);
         if self.left[top] == 0 {
             return self.close(graph, top);
         }
         let node = self.next(graph, top);
-        if !self.seen[node] {
+        if !self.seen.contains(node) {
             self.enter(graph, node)?;
         }
         self.pass(graph, top);
@@ -139,13 +140,13 @@ pub(crate) fn walked(alloc: Global, graph: &Digraph) -> Result<Search, AllocErro
 {
     let nodes = graph.node_count();
     let mut search = Search {
-        seen: vec![in alloc; false; nodes]?,
+        seen: IxBitSet::empty(alloc, nodes)?,
         left: out_counts(alloc, graph)?,
         opened: Vec::with_capacity(alloc, nodes)?,
         closed: Vec::with_capacity(alloc, nodes)?,
     };
     for root in 0..nodes {
-        if !search.seen[root] {
+        if !search.seen.contains(root) {
             search.enter(graph, root)?;
             while search.opened.len() > 0 {
                 search.step(graph)?;

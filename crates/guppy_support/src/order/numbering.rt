@@ -31,17 +31,15 @@ pub(crate) fn numbered(
     alloc: Global,
     list: &[usize],
     ranks: &[usize],
-    room: Vec<usize>,
     components: usize,
 ) -> Result<(Vec<usize>, Vec<usize>), AllocError>
     requires nodes { (i : ℕ) → i < length list.now → slice_index list.now i < length ranks.now }
-    requires room { room.items ≡ [] }
     ensures long { IfOk result (λ r. length r.0.items ≡ length list.now) }
     ensures some { IfOk result (λ r. 0 < length r.1.items) }
     ensures numbers { IfOk result (λ r. AreNumbered list.now ranks.now r.0.items (length r.1.items - 1)) }
     ensures begun { IfOk result (λ r. AreBegun r.0.items r.1.items) }
 {
-    let mut numbers = room;
+    let mut numbers = Vec::with_capacity(alloc, list.len())?;
     let mut begins = Vec::with_capacity(alloc, components.saturating_add(1))?;
     for place in 0..list.len() {
         begin_at(&mut begins, list, ranks, place)?;

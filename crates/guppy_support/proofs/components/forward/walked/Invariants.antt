@@ -7,14 +7,14 @@ invariant-loop-root l =
     record {
       walk : IsWalk l.graph l.search;
       none : length l.search.opened.items ≡ 0;
-      seen : (v : ℕ) → v < l.root → IsSeen l.search.seen.items v;
+      seen : (v : ℕ) → v < l.root → IsSeen l.search.seen v;
     }
 
 abbrev pub invariant-loop-search : goal.invariant-loop-search
 invariant-loop-search l =
     record {
       walk : IsWalk l.graph l.search;
-      seen : (v : ℕ) → v < l.root + 1 → IsSeen l.search.seen.items v;
+      seen : (v : ℕ) → v < l.root + 1 → IsSeen l.search.seen v;
     }
 
 abbrev pub decreases-loop-search : goal.decreases-loop-search

@@ -3,7 +3,7 @@ use Rattle.guppy_support.proofs.SequenceLemmas.{numbering_none, numbering_more, 
 use Rattle.guppy_support.proofs.order.numbering.numbered.Goals as goal
 
 pub loop-place-init : goal.loop-place-init
-loop-place-init c = record { numbering = rw (c.requires.room, c.in_ok-begins.ensures.items) (numbering_none c.args.list.now c.args.ranks.now) }
+loop-place-init c = record { numbering = rw (c.in_ok-numbers.ensures.items, c.in_ok-begins.ensures.items) (numbering_none c.args.list.now c.args.ranks.now) }
 
 pub overflow_sub-len : goal.overflow_sub-len
 overflow_sub-len c =

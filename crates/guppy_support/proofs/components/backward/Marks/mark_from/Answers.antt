@@ -6,7 +6,7 @@ pub enter-requires-clause-spread : goal.enter-requires-clause-spread
 enter-requires-clause-spread c =
     let m = c.args.self.now in
     let n : c.len-self.result ≡ length m.members.items = search rules in
-    rw n (spread_start c.args.graph.now c.args.order.now c.args.t c.args.rank (get_or c.args.order.now c.args.t 0) m.seen.items m.ranks.items m.members.items c.requires.marked)
+    rw n (spread_start c.args.graph.now c.args.order.now c.args.t c.args.rank (get_or c.args.order.now c.args.t 0) m.seen m.ranks.items m.members.items c.requires.marked)
 
 pub enter-requires-clause-tied : goal.enter-requires-clause-tied
 enter-requires-clause-tied c = tie_root c.args.graph.now c.args.order.now c.args.t c.requires.apart c.requires.t
@@ -17,5 +17,5 @@ returns-clause-marked c =
     let i = c.loop-self.invariant in
     let within = i.spread.next_within in
     let n : m.next ≡ length m.members.items = search rules in
-    spread_done c.args.graph.now c.args.order.now c.args.t c.args.rank (get_or c.args.order.now c.args.t 0) m.next m.seen.items m.ranks.items m.members.items
+    spread_done c.args.graph.now c.args.order.now c.args.t c.args.rank (get_or c.args.order.now c.args.t 0) m.next m.seen m.ranks.items m.members.items
     i.spread c.requires.order c.requires.t refl i.root n

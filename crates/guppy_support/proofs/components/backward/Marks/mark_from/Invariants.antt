@@ -7,7 +7,7 @@ abbrev pub invariant-loop-self : goal.invariant-loop-self
 invariant-loop-self l =
     record {
       spread : AreSpreadIn l.graph l.order l.t l.rank l.self;
-      root : IsSeen l.self.seen.items (slice_index l.order l.t);
+      root : IsSeen l.self.seen (slice_index l.order l.t);
     }
 
 abbrev pub decreases-loop-self : goal.decreases-loop-self

@@ -12,14 +12,14 @@ enter-requires-clause-tied c =
     let i = c.loop-place.invariant in
     let node = get_or m.members.items m.next 0 in
     let edge : HasEdge c.args.graph.now.edges c.source-from.result node = rw i.node c.source-from.ensures.edge in
-    tie_more c.args.graph.now c.args.order.now c.args.t c.args.rank (get_or c.args.order.now c.args.t 0) m.next m.seen.items m.ranks.items m.members.items
+    tie_more c.args.graph.now c.args.order.now c.args.t c.args.rank (get_or c.args.order.now c.args.t 0) m.next m.seen m.ranks.items m.members.items
     i.spread c.requires.order c.requires.t c.source-from.result node (i.spread.member m.next i.inside) (i.spread.marked m.next i.inside) (i.spread.fresh m.next (omega arith) i.inside) edge
 
 pub returns-clause-spread : goal.returns-clause-spread
 returns-clause-spread c =
     let m = c.loop-place.self in
     let i = c.loop-place.invariant in
-    pass_mark c.args.graph.now c.args.order.now c.args.t c.args.rank (get_or c.args.order.now c.args.t 0) m.next m.seen.items m.ranks.items m.members.items
+    pass_mark c.args.graph.now c.args.order.now c.args.t c.args.rank (get_or c.args.order.now c.args.t 0) m.next m.seen m.ranks.items m.members.items
     i.spread i.inside
     (λ a e.
     let f = edge_into_found c.args.graph.now.edges a c.index-node.result.now (rw i.node at e) in

@@ -11,7 +11,7 @@ invariant-loop-place l =
       next : l.self.next ≡ l.initial.self.next;
       inside : l.self.next < length l.self.members.items;
       node : slice_index l.self.members.items l.self.next ≡ l.node;
-      entered : (k : ℕ) → k < l.place → IsSeen l.self.seen.items (source_at l.graph.edges l.node k);
-      kept : (v : ℕ) → IsSeen l.initial.self.seen.items v → IsSeen l.self.seen.items v;
+      entered : (k : ℕ) → k < l.place → IsSeen l.self.seen (source_at l.graph.edges l.node k);
+      kept : (v : ℕ) → IsSeen l.initial.self.seen v → IsSeen l.self.seen v;
       left : marks_left l.self ≤ marks_left l.initial.self;
     }
