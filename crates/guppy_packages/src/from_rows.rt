@@ -44,13 +44,10 @@ fn push_package(
 ) -> Result<(), RowFault>
     ensures { Takes (package_tables packages.new) result (add_package id.now in_workspace (package_tables packages.old)) }
 {
-    if packages.contains_key(id) {
-        return Err(RowFault::DuplicatePackage);
-    }
     let id = PackageId::new(alloc, id)?;
     let features = IndexSet::with_hasher(alloc, BuildHasherDefault::new());
     let optional_names = IndexSet::with_hasher(alloc, BuildHasherDefault::new());
-    packages.insert(
+    let before = packages.insert(
         id,
         PackageData {
             in_workspace,
@@ -58,6 +55,9 @@ fn push_package(
             optional_names,
         },
     )?;
+    if before.is_some() {
+        return Err(RowFault::DuplicatePackage);
+    }
     Ok(())
 }
 
@@ -70,12 +70,12 @@ fn push_feature(
 ) -> Result<(), RowFault>
     ensures { Takes (map feature_table features.new.keys) result (with_feature name.now (texts items.now) (map feature_table features.old.keys)) }
 {
-    if features.contains(name) {
-        return Err(RowFault::DuplicateFeature);
-    }
     let name = String::from_str(alloc, name)?;
     let items = owned(alloc, items)?;
-    features.insert(NamedFeature { name, items })?;
+    let added = features.insert(NamedFeature { name, items })?;
+    if !added {
+        return Err(RowFault::DuplicateFeature);
+    }
     Ok(())
 }
 
@@ -98,9 +98,6 @@ fn push_feature_row(
 fn push_name(alloc: Global, names: &mut TextSet<String>, name: &str) -> Result<(), RowFault>
     ensures { Takes (map string_bytes names.new.keys) result (Ok (with_name name.now (map string_bytes names.old.keys))) }
 {
-    if names.contains(name) {
-        return Ok(());
-    }
     names.insert(String::from_str(alloc, name)?)?;
     Ok(())
 }
@@ -213,7 +210,7 @@ fn push_link(
         return Ok(());
     }
     let name = String::from_str(alloc, name)?;
-    let mut declarations = Vec::new(alloc);
+    let mut declarations = Vec::with_capacity(alloc, 1)?;
     declarations.push(declaration)?;
     links.insert((from, to), LinkData { name, declarations })?;
     Ok(())

@@ -1,5 +1,5 @@
 -- How much is given where no item is at fault.
-use Rattle.std.proofs.Common.{◌≡◌, ◌++◌, List, [], ◌∷◌, Result, Ok, Err, Option, None, Some, length, sym, ap, ◌∙◌, refl, suc}
+use Rattle.std.proofs.Common.{◌≡◌, List, [], ◌∷◌, Result, Ok, Err, Option, None, Some, length, sym, ap, ◌∙◌, refl, suc}
 use Rattle.row_files.specs.FirstFault.{each_or}
 use Rattle.row_files.specs.FirstFaultLaws.{with_first, each_or-cons}
 

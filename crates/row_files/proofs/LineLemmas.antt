@@ -1,12 +1,16 @@
 -- One more line, in the list of lines and in the lists that lie behind it.
-use Rattle.std.proofs.Common.{◌≡◌, ℕ, ◌+◌, ◌-◌, ◌<◌, ◌≤◌, ◌++◌, List, [], ◌∷◌, Bool, true, false, map, filter, not, length, get_or, take, drop, sym, ap, ◌∙◌, refl, arith, add-one, drop-cons, append_assoc, cond, suc, zero}
-use Rattle.std.proofs.lemmas.List.{drop-map, map-append, take-append-le, drop-append-le}
+use Rattle.std.proofs.Common.{◌≡◌, ℕ, ◌+◌, ◌-◌, ◌<◌, ◌≤◌, ◌++◌, List, [], ◌∷◌, Bool, true, false, map, filter, not, length, get_or, take, drop, sym, ap, ◌∙◌, refl, arith, append_assoc, cond, suc, zero}
+use Rattle.std.proofs.lemmas.List.{at_drop_more, map-append, take-append-le, drop-append-le}
 use Rattle.std.proofs.lemmas.Grind.{common_steps}
 use Rattle.std.proofs.Math.Seq.{drop-append_seam, take-length}
 use Rattle.std.specs.List.{enumerate_from, slice_range, All}
 use Rattle.guppy_packages.specs.Rows.{Text}
 use Rattle.row_files.specs.Lines.{kept_lines, is_skipped, fields_in, line_text, line_texts}
 use Rattle.row_files.specs.declared.lines.Line.{Line}
+
+-- the item at i, where i is a count of items
+pub next_of : {X : Type 0} (xs : List X) (i n : ℕ) (x : X) → i ≡ n → n < length xs → x ≡ get_or xs n x → drop i xs ≡ x ∷ drop (i + 1) xs
+next_of xs i n x same within e = rw same (at_drop_more (λ l. l) xs n x within ∙ ap (λ y. y ∷ drop (n + 1) xs) (sym e))
 
 pub skipped_line : (front : List (ℕ × List Text)) (n : ℕ) (line : Text) (lines rest : List Text) (all : List (ℕ × List Text))
     → front ++ kept_lines n lines ≡ all → lines ≡ line ∷ rest → is_skipped line ≡ true → front ++ kept_lines (n + 1) rest ≡ all

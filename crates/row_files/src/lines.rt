@@ -1,7 +1,7 @@
 //! The lines of a text and their fields.
 ghost use Rattle.std.specs.Prelude.{◌≡◌, ◌+◌, ◌<◌, ◌≤◌, ◌++◌, [], ◌∷◌, length, map, IfOk, OnOk, All};
 
-use crate::cuts::{parts_at_line_feeds, push_fields, skips};
+use crate::cuts::{count_parts, push_fields, skips};
 use std::alloc::{AllocError, Global};
 
 /// A line that is not skipped: its number, and where its fields stand among all fields.
@@ -41,14 +41,17 @@ impl<'t> Lines<'t> {
     pub fn of(alloc: Global, text: &'t str) -> Result<Self, AllocError>
         ensures { IfOk result (λ l. lines_of l ≡ kept_lines 1 (lines_in text.now)) }
     {
-        let parts = parts_at_line_feeds(alloc, text)?;
+        let count = count_parts(text, '\n');
+        let room = count.saturating_add(count_parts(text, '\t'));
         let mut lines = Lines {
-            fields: Vec::new(alloc),
-            lines: Vec::new(alloc),
+            fields: Vec::with_capacity(alloc, room)?,
+            lines: Vec::with_capacity(alloc, count)?,
         };
-        for (index, part) in parts.iter().enumerate() {
-            if !skips(part) {
-                lines.push(index + 1, part)?;
+        let mut number = 0;
+        for line in text.split('\n') {
+            number += 1;
+            if !skips(line) {
+                lines.push(number, line)?;
             }
         }
         Ok(lines)

@@ -1,18 +1,20 @@
-use Rattle.std.proofs.Common.{◌≡◌, sym, ◌∙◌, true, false, map}
+use Rattle.std.proofs.Common.{◌≡◌, List, [], ◌∷◌, ◌++◌, Bool, true, false, ap, sym, ◌∙◌, map, refl, Ok, if◌then◌else◌}
 use Rattle.std.specs.List.{list_any}
 use Rattle.std.specs.String.{string_bytes}
 use Rattle.std.specs.Str.{bytes_eq}
 use Rattle.std.proofs.lemmas.List.{map-append}
+use Rattle.guppy_packages.specs.Rows.{Text}
 use Rattle.guppy_packages.proofs.Lists.{list_any-map}
 use Rattle.guppy_packages.proofs.from_rows.push_name.Goals as goal
 
-pub returns-then-contains : goal.returns-then-contains
-returns-then-contains c =
-    let known : list_any (bytes_eq c.args.name.now) (map string_bytes c.args.names.now.keys) ≡ true = list_any-map string_bytes (bytes_eq c.args.name.now) c.args.names.now.keys ∙ sym c.if-contains.ensures in
-    rw known
+-- the texts of the names, where one more was added or not
+texts_if : {X : Type 0} (f : X → Text) (b : Bool) (names : List X) (name : X) (text : Text) → f name ≡ text → (if b then map f names else map f names ++ text ∷ []) ≡ map f (if b then names else names ++ name ∷ [])
+texts_if f true names name text h = refl
+texts_if f false names name text h = ap (λ t. map f names ++ t ∷ []) (sym h) ∙ sym (map-append f names (name ∷ []))
 
 pub returns : goal.returns
 returns c =
-    let fresh : list_any (bytes_eq c.args.name.now) (map string_bytes c.args.names.now.keys) ≡ false = list_any-map string_bytes (bytes_eq c.args.name.now) c.args.names.now.keys ∙ sym c.if-contains.ensures in
-    let absent : list_any (λ k. bytes_eq (string_bytes c.in_ok-from_str.field-0) (string_bytes k)) c.args.names.now.keys ≡ false = rw c.in_ok-from_str.ensures.ok (sym c.if-contains.ensures) in
-    rw (fresh, c.in_ok-insert.ensures.keys, absent, map-append string_bytes c.args.names.now.keys _, c.in_ok-from_str.ensures.ok)
+    let names = c.args.names.now.keys in
+    let there = list_any (λ k. bytes_eq (string_bytes c.in_ok-from_str.field-0) (string_bytes k)) names in
+    let same : list_any (bytes_eq c.args.name.now) (map string_bytes names) ≡ there = list_any-map string_bytes (bytes_eq c.args.name.now) names ∙ ap (λ n. list_any (λ k. bytes_eq n (string_bytes k)) names) (sym c.in_ok-from_str.ensures.ok) in
+    rw (same, c.in_ok-insert.ensures.keys) (ap Ok (texts_if string_bytes there names c.in_ok-from_str.field-0 c.args.name.now c.in_ok-from_str.ensures.ok))

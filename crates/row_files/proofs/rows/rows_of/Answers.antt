@@ -1,7 +1,6 @@
-use Rattle.std.proofs.Common.{◌≡◌, ℕ, List, ◌++◌, [], ◌∷◌, map, arith, None, Some, get_or, drop}
+use Rattle.std.proofs.Common.{◌≡◌, ◌++◌, [], ◌∷◌, map, arith, None, Some, get_or, drop}
 use Rattle.std.proofs.lemmas.Grind.{common_steps}
-use Rattle.guppy_packages.specs.Rows.{Text, texts, row_text}
-use Rattle.row_files.specs.declared.error.RowFileError.{RowFileError}
+use Rattle.guppy_packages.specs.Rows.{texts, row_text}
 use Rattle.row_files.specs.declared.error.RowFileError.TheVariants as error
 use Rattle.row_files.specs.Lines.{line_texts}
 use Rattle.row_files.specs.RowOfLine.{row_of}
