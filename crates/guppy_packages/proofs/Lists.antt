@@ -1,6 +1,7 @@
 -- Searches over mapped lists.
 use Rattle.std.proofs.Common.{◌≡◌, ℕ, zero, suc, ◌+◌, ◌<◌, List, [], ◌∷◌, Bool, Some, map, refl, ap, length, drop, get_or, add-one, drop-cons, arith}
-use Rattle.std.proofs.lemmas.List.{drop-map, length-map}
+use Rattle.std.proofs.lemmas.List.{length-map}
+use Rattle.std.proofs.lemmas.Option.{get_or_from_slice_get, slice_get_within}
 use Rattle.std.specs.Prelude.{position, slice_get}
 use Rattle.std.specs.List.{position_or_len, list_any, list_all}
 
@@ -26,9 +27,9 @@ slice_get-map f (y ∷ ys) zero x h =
     ap (λ z. Some (f z)) same
 slice_get-map f (y ∷ ys) (suc i) x h = slice_get-map f ys i x h
 
--- the items of `map f xs` from i on
-pub drop_map_get : {X Y : Type 0} (f : X → Y) (xs : List X) (i : ℕ) (d : X) → i < length xs → drop i (map f xs) ≡ f (get_or xs i d) ∷ drop (i + 1) (map f xs)
-drop_map_get f xs i d h = rw (drop-map f i xs, drop-map f (i + 1) xs, add-one, drop-cons xs i d h)
+-- the items from i on
+pub drop_at : {X : Type 0} (xs : List X) (i : ℕ) (x : X) → slice_get xs i ≡ Some x → drop i xs ≡ x ∷ drop (i + 1) xs
+drop_at xs i x h = rw (add-one, drop-cons xs i x (slice_get_within xs i x h), get_or_from_slice_get xs i x x h)
 
 -- an item of `map f xs` comes from the one at its place
 pub map_at : {X Y : Type 0} (f : X → Y) (xs : List X) (k : ℕ) (y : Y) → slice_get (map f xs) k ≡ Some y → (x : X) × (k < length xs) × (get_or xs k x ≡ x) × (y ≡ f x)

@@ -19,6 +19,7 @@ use crate::package_order::package_order;
 use crate::platform::{PlatformStatusImpl, Spec};
 use crate::row::{DependencyKind, Row};
 use crate::row_error::{RowError, RowFault};
+use crate::row_source::{RowSlice, RowSource};
 use crate::text_map::{TextMap, TextSet};
 use indexmap::{IndexMap, IndexSet};
 use std::alloc::{AllocError, Global};
@@ -136,13 +137,16 @@ fn take_row(
 }
 
 /// The first pass.
-fn take_packages(alloc: Global, rows: &[Row]) -> Result<TextMap<PackageId, PackageData>, RowError>
-    ensures tables { Reads package_tables result (first_or (faults_by row_fault (map row_text rows.now)) (packages_of (map row_text rows.now))) }
-    ensures row { IfErr result (NamesRow rows.now) }
+fn take_packages<S: RowSource>(
+    alloc: Global,
+    source: &S,
+) -> Result<TextMap<PackageId, PackageData>, RowError>
+    ensures tables { Reads package_tables result (first_or (faults_by row_fault (S.rows source.now)) (packages_of (S.rows source.now))) }
+    ensures row { IfErr result (NamesRow (S.rows source.now)) }
 {
     let mut packages = IndexMap::with_hasher(alloc, BuildHasherDefault::new());
-    for (row, given) in rows.iter().enumerate() {
-        if let Err(fault) = take_row(alloc, &mut packages, *given) {
+    for row in 0..source.row_count() {
+        if let Err(fault) = take_row(alloc, &mut packages, source.row(row)) {
             return Err(RowError::new(row, fault));
         }
     }
@@ -265,21 +269,22 @@ fn count(begun: usize, row: Row) -> usize
 }
 
 /// The second pass.
-fn take_links(
+fn take_links<S: RowSource>(
     alloc: Global,
     packages: &TextMap<PackageId, PackageData>,
-    rows: &[Row],
+    source: &S,
 ) -> Result<IndexMap<(usize, usize), LinkData>, RowError>
-    ensures tables { Reads link_tables result (first_or (faults_by (link_fault (package_tables packages.now)) (map row_text rows.now)) (links_of (dependencies_of (package_tables packages.now) (map row_text rows.now)))) }
-    ensures row { IfErr result (NamesRow rows.now) }
+    ensures tables { Reads link_tables result (first_or (faults_by (link_fault (package_tables packages.now)) (S.rows source.now)) (links_of (dependencies_of (package_tables packages.now) (S.rows source.now)))) }
+    ensures row { IfErr result (NamesRow (S.rows source.now)) }
 {
     let mut links = IndexMap::new(alloc);
     let mut begun = 0;
-    for (row, given) in rows.iter().enumerate() {
-        if let Err(fault) = link_row(alloc, packages, &mut links, begun, *given) {
+    for row in 0..source.row_count() {
+        let given = source.row(row);
+        if let Err(fault) = link_row(alloc, packages, &mut links, begun, given) {
             return Err(RowError::new(row, fault));
         }
-        begun = count(begun, *given);
+        begun = count(begun, given);
     }
     Ok(links)
 }
@@ -290,8 +295,16 @@ impl PackageGraph {
         ensures tables { Reads (λ graph. graph) result (tables_of (map row_text rows.now)) }
         ensures row { IfErr result (NamesRow rows.now) }
     {
-        let packages = take_packages(alloc, rows)?;
-        let links = take_links(alloc, &packages, rows)?;
+        PackageGraph::from_source(alloc, &RowSlice { rows })
+    }
+
+    /// The graph of a source's rows, or the first fault, as `from_rows` gives it. Each row is asked for twice.
+    pub fn from_source<S: RowSource>(alloc: Global, source: &S) -> Result<PackageGraph, RowError>
+        ensures tables { Reads (λ graph. graph) result (tables_of (S.rows source.now)) }
+        ensures row { IfErr result (NamesRow (S.rows source.now)) }
+    {
+        let packages = take_packages(alloc, source)?;
+        let links = take_links(alloc, &packages, source)?;
         let order = package_order(alloc, &packages, &links)?;
         Ok(PackageGraph {
             packages,

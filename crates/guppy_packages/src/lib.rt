@@ -17,6 +17,7 @@ mod package_set;
 mod platform;
 mod row;
 mod row_error;
+mod row_source;
 mod text_map;
 
 pub use declaration::Declaration;
@@ -31,3 +32,4 @@ pub use package_set::{PackageSet, Packages};
 pub use platform::{PlatformStatus, PlatformStatusImpl, Spec};
 pub use row::{DependencyKind, Row};
 pub use row_error::{RowError, RowFault};
+pub use row_source::RowSource;

@@ -1,29 +1,26 @@
-use Rattle.std.proofs.Common.{◌∙◌, ◌<◌, ◌≤◌, ◌+◌, [], false, length, map, rules, arith}
-use Rattle.std.proofs.lemmas.List.{length-map}
+use Rattle.std.proofs.Common.{◌∙◌, ◌<◌, ◌≤◌, ◌+◌, length, rules, arith}
 use Rattle.guppy_packages.specs.Graph.{dependencies_of, links_of}
-use Rattle.guppy_packages.specs.Rows.{row_text}
 use Rattle.guppy_packages.specs.Stored.{link_tables, package_tables}
-use Rattle.guppy_packages.specs.declared.row.Row.TheVariants.{Package}
-use Rattle.guppy_packages.proofs.Lists.{drop_map_get}
+use Rattle.guppy_packages.proofs.Lists.{drop_at}
 use Rattle.guppy_packages.proofs.Passes.{second_answers, second_goes_on}
 use Rattle.guppy_packages.proofs.from_rows.take_links.Goals as goal
 
 pub returns-in-Err-clause-tables : goal.returns-in-Err-clause-tables
-returns-in-Err-clause-tables c =
-    let all = map row_text c.args.rows.now in
+returns-in-Err-clause-tables g c =
+    let all = g.S.RowSource.rows c.args.source.now in
     let packages = package_tables c.args.packages.now in
     let i = c.loop-row.row in
-    let at = drop_map_get row_text c.args.rows.now i (Package (record { ref_ptr = (0, 0); now = [] }) false) (search rules) in
-    let within : i < length all = rw (length-map c.args.rows.now row_text) (search rules) in
+    let at = drop_at all i _ c.row-given.ensures in
+    let within : i < length all = search rules in
     second_answers all i _ within at packages c.loop-row.invariant.none c.loop-row.begun c.loop-row.invariant.counted (link_tables c.loop-row.links) c.loop-row.invariant.tables (Unit {0}) c.in-Err.fault c.new.result (link_tables c.link_row.new.links) (links_of (dependencies_of packages all)) c.new.ensures.fault c.new.ensures.row c.in-Err.ensures
 
 pub loop-row-preserved : goal.loop-row-preserved
-loop-row-preserved c =
-    let all = map row_text c.args.rows.now in
+loop-row-preserved g c =
+    let all = g.S.RowSource.rows c.args.source.now in
     let packages = package_tables c.args.packages.now in
     let i = c.loop-row.row in
-    let at = drop_map_get row_text c.args.rows.now i (Package (record { ref_ptr = (0, 0); now = [] }) false) (search rules) in
-    let within : i < length all = rw (length-map c.args.rows.now row_text) (search rules) in
+    let at = drop_at all i _ c.row-given.ensures in
+    let within : i < length all = search rules in
     let next = second_goes_on all i _ within at packages c.loop-row.invariant.none c.loop-row.begun c.loop-row.invariant.counted (link_tables c.loop-row.links) c.loop-row.invariant.tables (link_tables c.link_row.new.links) c.in_default.ensures in
     let few : c.count-begun.result ≤ i + 1 = omega (arith, c.count-begun.ensures.few) in
     record { few = few; none = next.0; counted = c.count-begun.ensures.value ∙ next.1; tables = next.2 }

@@ -1,14 +1,15 @@
-use Rattle.std.proofs.Common.{◌≡◌, ◌≤◌, [], length, map, take}
+use Rattle.std.proofs.Common.{◌≡◌, ◌≤◌, [], length, take}
 use Rattle.guppy_packages.specs.Graph.{dependencies_of, faults_by, link_fault, links_of, packages_of}
-use Rattle.guppy_packages.specs.Rows.{row_text}
 use Rattle.guppy_packages.specs.Stored.{link_tables, package_tables}
 use Rattle.guppy_packages.proofs.from_rows.take_links.Given as goal
 
 -- the links so far are those of the rows so far, none of which has a fault
 abbrev pub invariant-loop-row : goal.invariant-loop-row
-invariant-loop-row l = record {
-  few : l.begun ≤ l.row;
-  none : faults_by (link_fault (package_tables l.packages)) (take l.row (map row_text l.rows)) ≡ [];
-  counted : l.begun ≡ length (packages_of (take l.row (map row_text l.rows)));
-  tables : link_tables l.links ≡ links_of (dependencies_of (package_tables l.packages) (take l.row (map row_text l.rows)));
-}
+invariant-loop-row g l =
+    let rows = g.S.RowSource.rows l.source in
+    record {
+      few : l.begun ≤ l.row;
+      none : faults_by (link_fault (package_tables l.packages)) (take l.row rows) ≡ [];
+      counted : l.begun ≡ length (packages_of (take l.row rows));
+      tables : link_tables l.links ≡ links_of (dependencies_of (package_tables l.packages) (take l.row rows));
+    }

@@ -1,12 +1,13 @@
-use Rattle.std.proofs.Common.{◌≡◌, [], map, take}
+use Rattle.std.proofs.Common.{◌≡◌, [], take}
 use Rattle.guppy_packages.specs.Graph.{faults_by, packages_of, row_fault}
-use Rattle.guppy_packages.specs.Rows.{row_text}
 use Rattle.guppy_packages.specs.Stored.{package_tables}
 use Rattle.guppy_packages.proofs.from_rows.take_packages.Given as goal
 
 -- the packages so far are those of the rows so far, none of which has a fault
 abbrev pub invariant-loop-row : goal.invariant-loop-row
-invariant-loop-row l = record {
-  none : faults_by row_fault (take l.row (map row_text l.rows)) ≡ [];
-  tables : package_tables l.packages ≡ packages_of (take l.row (map row_text l.rows));
-}
+invariant-loop-row g l =
+    let rows = g.S.RowSource.rows l.source in
+    record {
+      none : faults_by row_fault (take l.row rows) ≡ [];
+      tables : package_tables l.packages ≡ packages_of (take l.row rows);
+    }
