@@ -1,5 +1,5 @@
 -- A component has a cycle exactly if its nodes lie on one.
-use Rattle.std.proofs.Common.{◌≡◌, ◌≢◌, ◌↔◌, ℕ, ◌<◌, inl, inr, Bool, true, false, List, length, get_or, refl, ap, sym, ◌∙◌, subst, arith, Option, Some, None, ◌&&◌}
+use Rattle.std.proofs.Common.{◌≡◌, ◌≢◌, ◌↔◌, ℕ, ◌<◌, inl, inr, true, false, List, length, get_or, refl, ap, sym, ◌∙◌, subst, arith, Option, Some, None}
 use Rattle.std.specs.Prelude.{Contains, nat_eq, nat_lt, ◌==◌, IfSome, IfNone, IsTrue, is_some}
 use Rattle.std.specs.List.{IsDistinct, list_any}
 use Rattle.std.proofs.lemmas.Bool.{ltb-true, lt-ltb, eq-eqb, eqb-true, eqb-false, false_from_ne_true, and_from, and_parts, or_cases, or_left, or_right, cases_eq, cases_order}
@@ -13,16 +13,13 @@ use Rattle.guppy_support.specs.Laws.{CyclesAreComponents}
 use Rattle.guppy_support.specs.Orders.{ListsEach}
 use Rattle.guppy_support.specs.Paths.{HasEdge, Path, nowhere, onward, SameComponent, OnCycle}
 use Rattle.guppy_support.specs.Sequences.{Sequence, IsOrderOf, component_of}
-use Rattle.order_views.specs.Cycles.{nodes_of, has_loop, has_cycle}
+use Rattle.order_views.specs.Cycles.{nodes_of, is_loop, has_loop, has_cycle}
 use Rattle.order_views.proofs.Distinct.{distinct_filter, distinct_from_apart, to_filter, from_filter}
 
 -- ---- edges of a node to itself
 
 some_edge : Edge
 some_edge = record { from = 0; to = 0; non_dev = false }
-
-abbrev is_loop : ℕ → Edge → Bool
-is_loop v e = (e.from == v) && (e.to == v)
 
 loop_at : (es : List Edge) (v k : ℕ) → IsEdgeAt es v v k → has_loop es v ≡ true
 loop_at es v k at =
@@ -65,7 +62,7 @@ edge_within g ok {b = b} e =
 
 -- ---- nodes of a component
 
-in_nodes : (o : Sequence) (c v : ℕ) → Contains o.list v → component_of o v ≡ c → Contains (nodes_of o c) v
+pub in_nodes : (o : Sequence) (c v : ℕ) → Contains o.list v → component_of o v ≡ c → Contains (nodes_of o c) v
 in_nodes o c v h e = to_filter (λ x. component_of o x == c) o.list v h (eq-eqb (component_of o v) c e)
 
 two_places : (n i j : ℕ) → i < n → j < n → i ≢ j → 1 < n

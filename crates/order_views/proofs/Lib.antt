@@ -3,6 +3,7 @@ pub mod CycleLemmas
 pub mod Distinct
 pub mod Followed
 pub mod LinkSteps
+pub mod LoopLemmas
 pub mod OnceLemmas
 pub mod Places
 pub mod Readings

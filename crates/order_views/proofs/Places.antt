@@ -24,7 +24,7 @@ get_range_past a zero i h = refl
 get_range_past a (suc n) zero h = absurd (omega arith)
 get_range_past a (suc n) (suc i) h = get_range_past (a + 1) n i (omega arith)
 
-pub rest_some : (xs : List ℕ) (i x : ℕ) → slice_get xs i ≡ Some x → drop i xs ≡ x ∷ drop (i + 1) xs
+pub rest_some : {X : Type 0} (xs : List X) (i : ℕ) (x : X) → slice_get xs i ≡ Some x → drop i xs ≡ x ∷ drop (i + 1) xs
 rest_some [] i x e = absurd (cc)
 rest_some (y ∷ ys) zero x e = let same : y ≡ x = cc in ap (λ z. z ∷ ys) same
 rest_some (y ∷ ys) (suc i) x e = rest_some ys i x e ∙ (let n : suc (i + 1) ≡ suc i + 1 = omega arith in ap (λ k. x ∷ drop k (y ∷ ys)) n)

@@ -22,11 +22,11 @@ links_within r es list set = of_nodes (in_order r list set)
 
 -- ---- one edge is noted
 
-or_false : (b : Bool) → b ≡ (b || false)
+pub or_false : (b : Bool) → b ≡ (b || false)
 or_false true = refl
 or_false false = refl
 
-or_true : (b : Bool) → true ≡ (b || true)
+pub or_true : (b : Bool) → true ≡ (b || true)
 or_true true = refl
 or_true false = refl
 

@@ -8,9 +8,13 @@ use Rattle.guppy_support.specs.Sequences.{Sequence, component_of}
 abbrev pub nodes_of : Sequence → ℕ → List ℕ
 nodes_of o c = filter (λ v. component_of o v == c) o.list
 
+-- whether the edge leads from v to itself
+abbrev pub is_loop : ℕ → Edge → Bool
+is_loop v e = (e.from == v) && (e.to == v)
+
 -- whether an edge leads from v to itself
 abbrev pub has_loop : List Edge → ℕ → Bool
-has_loop es v = list_any (λ e. (e.from == v) && (e.to == v)) es
+has_loop es v = list_any (is_loop v) es
 
 -- whether component c has a cycle: it has two nodes or more, or a node with an edge to itself
 abbrev pub has_cycle : List Edge → Sequence → ℕ → Bool

@@ -1,12 +1,15 @@
 //! Components that have a cycle.
-ghost use Rattle.std.specs.Prelude.{◌≡◌, ◌↔◌, ◌<◌, ◌≤◌, ℕ, length, IfSome, IsTrue};
+ghost use Rattle.std.specs.Prelude.{◌≡◌, ◌↔◌, ◌<◌, ◌≤◌, ◌||◌, ℕ, length, nat_lt, IfOk, IfSome, IsTrue};
+ghost use Rattle.std.specs.List.{list_any};
 ghost use Rattle.std.specs.Iterator.{YieldsFirst, UpTo, item_count};
 ghost use Rattle.std.specs.Iterator.SizeHint.{IsWithinCount};
+ghost use Rattle.guppy_support.specs.Bits.{has};
 ghost use Rattle.guppy_support.specs.Paths.{OnCycle};
 ghost use Rattle.guppy_support.specs.Sequences.{IsOrderOf};
-ghost use Rattle.order_views.specs.Cycles.{has_cycle, has_loop, cyclic_components};
+ghost use Rattle.order_views.specs.Cycles.{has_cycle, is_loop, has_loop, nodes_of, cyclic_components};
 
-use guppy_support::{Digraph, Order, laws};
+use guppy_support::{Digraph, Edge, IxBitSet, Order, laws};
+use std::alloc::{AllocError, Global};
 use std::iter::FusedIterator;
 use std::marker::Model;
 
@@ -45,6 +48,66 @@ pub fn is_cyclic(order: &Order, digraph: &Digraph, a: usize, b: usize) -> bool
     } else {
         is_cyclic_component(order, digraph, order.component(a))
     }
+}
+
+// Notes the component of an edge from a node to itself.
+fn note_loop(order: &Order, edge: Edge, looped: &mut IxBitSet)
+    requires size { length looped.old ≡ order.now.count }
+    ensures size { length looped.new ≡ order.now.count }
+    ensures looped { (c : ℕ) → c < order.now.count → has looped.new c
+        ≡ (has looped.old c || list_any (λ v. is_loop v edge) (nodes_of order.now c)) }
+{
+    order.facts();
+    if edge.from == edge.to && edge.from < order.list().len() {
+        looped.insert(order.component(edge.from));
+    }
+}
+
+// The components of nodes with an edge to themselves.
+fn looped_components(
+    alloc: Global,
+    order: &Order,
+    digraph: &Digraph,
+) -> Result<IxBitSet, AllocError>
+    ensures size { IfOk result (λ looped. length looped ≡ order.now.count) }
+    ensures looped { IfOk result (λ looped. (c : ℕ) → c < order.now.count → has looped c
+        ≡ list_any (has_loop digraph.now.edges) (nodes_of order.now c)) }
+{
+    let mut looped = IxBitSet::empty(alloc, order.component_count())?;
+    for number in 0..digraph.edge_count() {
+        note_loop(order, digraph.edge(number), &mut looped);
+    }
+    Ok(looped)
+}
+
+// Whether the component has two nodes or more, or is noted.
+fn is_large_or_noted(order: &Order, noted: &IxBitSet, component: usize) -> bool
+    requires component { component < order.now.count }
+    requires size { length noted.now ≡ order.now.count }
+    ensures { result ≡ (nat_lt 1 (length (nodes_of order.now component)) || has noted.now component) }
+{
+    order.component_nodes(component).len() > 1 || noted.contains(component)
+}
+
+/// The numbers of the components that have a cycle, the last in the order first: those of two nodes or more, and those of a
+/// node with an edge to itself. It takes one pass over the edges and one over the components.
+pub fn cyclic_components(
+    alloc: Global,
+    order: &Order,
+    digraph: &Digraph,
+) -> Result<Vec<usize>, AllocError>
+    ensures { IfOk result (λ cyclic. cyclic.items ≡ cyclic_components digraph.now.edges order.now) }
+{
+    let looped = looped_components(alloc, order, digraph)?;
+    let mut cyclic = Vec::new(alloc);
+    let mut component = order.component_count();
+    while component > 0 {
+        component -= 1;
+        if is_large_or_noted(order, &looped, component) {
+            cyclic.push(component)?;
+        }
+    }
+    Ok(cyclic)
 }
 
 /// The numbers of the components that have a cycle, the last in the order first. Their nodes are

@@ -5,6 +5,7 @@ ghost use Rattle.guppy_support.specs.Rows.{places};
 ghost use Rattle.guppy_support.specs.inner.PackedRows.{IsPacked};
 ghost use Rattle.guppy_support.specs.inner.Plans.{IsSetup, IsPauseIn, IsEdge, AreEntering, AreHolding, AreFirsts};
 
+use crate::bit_set::IxBitSet;
 use crate::digraph::{Digraph, Edge};
 use crate::order::listing::{Plan, first_of, row};
 use crate::order::queue::Queue;
@@ -131,12 +132,6 @@ fn first_starts(
     Ok(starts)
 }
 
-fn unmarked(alloc: Global, count: usize) -> Result<Vec<bool>, AllocError>
-    ensures { IfOk result (λ marks. marks.items ≡ replicate count false) }
-{
-    vec![in alloc; false; count]
-}
-
 /// The plan in which no node is listed. So many components there are; no queue outgrows its room.
 pub(crate) fn first_plan(
     alloc: Global,
@@ -154,7 +149,7 @@ pub(crate) fn first_plan(
     let nodes = graph.node_count();
     let (outside, held) = count_edges(alloc, graph, ranks)?;
     let starts = first_starts(alloc, nodes, ranks, groups, &outside, &held, components)?;
-    let done = unmarked(alloc, nodes)?;
+    let done = IxBitSet::empty(alloc, nodes)?;
     let largest = nodes.saturating_sub(components).saturating_add(1);
     let ready = Queue::with_capacity(alloc, largest)?;
     Ok(Plan {

@@ -8,6 +8,7 @@ ghost use Rattle.guppy_support.specs.inner.Heads.{IsDone};
 ghost use Rattle.guppy_support.specs.inner.Plans.{TakesFresh, IsFirst, IsFreshPlace, StartsGrow, AreReady, Waits, IsSetup, IsOutEdge, IsAtIn, IsWithinIn, IsChosenIn, IsPauseIn, RowWaits};
 ghost use Rattle.guppy_support.specs.inner.Queues.{Joins};
 
+use crate::bit_set::IxBitSet;
 use crate::digraph::{Digraph, Edge};
 use crate::order::queue::Queue;
 use crate::rows::Rows;
@@ -19,7 +20,7 @@ pub(crate) struct Plan {
     /// The nodes listed so far.
     pub(crate) listed: Vec<usize>,
     /// Which nodes are listed.
-    pub(crate) done: Vec<bool>,
+    pub(crate) done: IxBitSet,
     /// How many edges from nodes that aren't listed enter each component.
     pub(crate) outside: Vec<usize>,
     /// How many edges hold each node.
@@ -33,14 +34,14 @@ pub(crate) struct Plan {
 }
 
 /// Takes the least number that isn't done.
-fn pop_fresh(queue: &mut Queue, done: &[bool]) -> Option<usize>
+fn pop_fresh(queue: &mut Queue, done: &IxBitSet) -> Option<usize>
     requires { (y : ℕ) → Contains queue.old y → y < length done.now }
     ensures none { IfNone result ((y : ℕ) → Contains queue.old y → IsDone done.now y) }
     ensures empty { IfNone result (queue.new ≡ []) }
     ensures some { IfSome result (λ x. TakesFresh done.now queue.old x queue.new) }
 {
     while let Some(number) = queue.pop() {
-        if !done[number] {
+        if !done.contains(number) {
             return Some(number);
         }
     }
@@ -48,13 +49,13 @@ fn pop_fresh(queue: &mut Queue, done: &[bool]) -> Option<usize>
 }
 
 /// The first place of the row, from that one on, at which a node stands that isn't done.
-fn fresh_from(row: &[usize], from: usize, done: &[bool]) -> Option<usize>
+fn fresh_from(row: &[usize], from: usize, done: &IxBitSet) -> Option<usize>
     requires nodes { (j : ℕ) → j < length row.now → slice_index row.now j < length done.now }
     ensures some { IfSome result (IsFreshPlace row.now done.now from) }
     ensures none { IfNone result ((j : ℕ) → from ≤ j → j < length row.now → IsDone done.now (slice_index row.now j)) }
 {
     for place in from..row.len() {
-        if !done[row[place]] {
+        if !done.contains(row[place]) {
             return Some(place);
         }
     }
@@ -75,24 +76,40 @@ pub(crate) fn first_of(row: &[usize], held: &[usize]) -> usize
     row[0]
 }
 
+/// The first node of the component of that rank with no hold, or else its first.
+fn head_of(groups: &Rows, ranks: &[usize], held: &[usize], rank: usize, nodes: usize) -> usize
+    requires rank { rank < nodes }
+    requires packed { IsPacked nodes ranks.now groups.now.begins.items groups.now.numbers.items }
+    requires some { 0 < length (places rank ranks.now) }
+    requires nodes { (j : ℕ) → j < length (places rank ranks.now) → slice_index (places rank ranks.now) j < length held.now }
+    ensures { IsFirst (places rank ranks.now) held.now result }
+{
+    let members = row(groups, ranks, rank, nodes);
+    first_of(members, held)
+}
+
 /// One edge less enters the component; when it was the last, its head joins the starts.
 fn leave_outside(
     outside: &mut Vec<usize>,
     starts: &mut Queue,
     held: &[usize],
-    row: &[usize],
+    groups: &Rows,
+    ranks: &[usize],
     rank: usize,
+    nodes: usize,
 ) -> Result<(), AllocError>
     requires rank { rank < length outside.old.items }
+    requires small { rank < nodes }
+    requires packed { IsPacked nodes ranks.now groups.now.begins.items groups.now.numbers.items }
     requires positive { 0 < slice_index outside.old.items rank }
-    requires some { 0 < length row.now }
-    requires nodes { (j : ℕ) → j < length row.now → slice_index row.now j < length held.now }
+    requires some { 0 < length (places rank ranks.now) }
+    requires nodes { (j : ℕ) → j < length (places rank ranks.now) → slice_index (places rank ranks.now) j < length held.now }
     ensures outside { OnOk result (outside.new.items ≡ set outside.old.items rank (slice_index outside.old.items rank - 1)) }
-    ensures starts { OnOk result (StartsGrow row.now held.now (slice_index outside.old.items rank - 1) starts.old starts.new) }
+    ensures starts { OnOk result (StartsGrow (places rank ranks.now) held.now (slice_index outside.old.items rank - 1) starts.old starts.new) }
 {
     outside[rank] -= 1;
     if outside[rank] == 0 {
-        starts.push(first_of(row, held))?;
+        starts.push(head_of(groups, ranks, held, rank, nodes))?;
     }
     Ok(())
 }
@@ -155,7 +172,7 @@ impl Plan {
         requires within { IsWithinIn graph.now ranks.now rank self.old }
         ensures none { IfNone result (IsPauseIn graph.now ranks.now self.new) }
         ensures some { IfSome result (λ v. IsChosenIn graph.now ranks.now v self.new) }
-        ensures done { self.new.done.items ≡ self.old.done.items }
+        ensures done { self.new.done ≡ self.old.done }
         ensures listed { self.new.listed.items ≡ self.old.listed.items }
     {
         if let Some(node) = pop_fresh(&mut self.ready, &self.done) {
@@ -185,17 +202,17 @@ impl Plan {
         requires apart { slice_index ranks.now edge.to ≢ slice_index ranks.now node }
         requires at { IsAtIn graph.now ranks.now node place self.old }
         ensures at { OnOk result (IsAtIn graph.now ranks.now node (place + 1) self.new) }
-        ensures done { OnOk result (self.new.done.items ≡ self.old.done.items) }
+        ensures done { OnOk result (self.new.done ≡ self.old.done) }
         ensures listed { OnOk result (self.new.listed.items ≡ self.old.listed.items) }
     {
-        let rank = ranks[edge.to];
-        let members = row(groups, ranks, rank, graph.node_count());
         leave_outside(
             &mut self.outside,
             &mut self.starts,
             &self.held,
-            members,
-            rank,
+            groups,
+            ranks,
+            ranks[edge.to],
+            graph.node_count(),
         )?;
         Ok(())
     }
@@ -216,7 +233,7 @@ impl Plan {
         requires firm { edge.non_dev ≡ true }
         requires at { IsAtIn graph.now ranks.now node place self.old }
         ensures at { OnOk result (IsAtIn graph.now ranks.now node (place + 1) self.new) }
-        ensures done { OnOk result (self.new.done.items ≡ self.old.done.items) }
+        ensures done { OnOk result (self.new.done ≡ self.old.done) }
         ensures listed { OnOk result (self.new.listed.items ≡ self.old.listed.items) }
     {
         let _nodes = graph.node_count();
@@ -240,7 +257,7 @@ impl Plan {
         requires place { place < length (places node (sources graph.now.edges)) }
         requires at { IsAtIn graph.now ranks.now node place self.old }
         ensures at { OnOk result (IsAtIn graph.now ranks.now node (place + 1) self.new) }
-        ensures done { OnOk result (self.new.done.items ≡ self.old.done.items) }
+        ensures done { OnOk result (self.new.done ≡ self.old.done) }
         ensures listed { OnOk result (self.new.listed.items ≡ self.old.listed.items) }
     {
         let edge = out_edge(graph, node, place);
@@ -263,7 +280,7 @@ impl Plan {
         let _nodes = graph.node_count();
         let _ranks = ranks.len();
         self.listed.push(node)?;
-        self.done[node] = true;
+        self.done.insert(node);
         Ok(())
     }
 

@@ -1,11 +1,11 @@
 use Rattle.std.proofs.Common.{rules}
 use Rattle.guppy_support.proofs.order.listing.pop_fresh.Goals as goal
 
-pub bounds-done-number : goal.bounds-done-number
-bounds-done-number c = c.requires c.in-Some.number (c.loop-number.invariant.only c.in-Some.number c.in-Some.ensures.some.was)
+pub contains-requires : goal.contains-requires
+contains-requires c = c.requires c.in-Some.number (c.loop-number.invariant.only c.in-Some.number c.in-Some.ensures.some.was)
 
-pub returns-then-not-done-number-clause-some : goal.returns-then-not-done-number-clause-some
-returns-then-not-done-number-clause-some c =
+pub returns-then-not-contains-clause-some : goal.returns-then-not-contains-clause-some
+returns-then-not-contains-clause-some c =
     let i = c.loop-number.invariant in
     let s = c.in-Some.ensures.some in
     record {

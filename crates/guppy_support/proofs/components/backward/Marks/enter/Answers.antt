@@ -1,5 +1,4 @@
-use Rattle.std.proofs.Common.{◌≡◌, ◌<◌, true, false, get_or, arith, length}
-use Rattle.std.proofs.lemmas.List.{get_or_read}
+use Rattle.std.proofs.Common.{◌≡◌, true, false, get_or}
 use Rattle.guppy_support.proofs.BackwardLemmas.{enter_mark}
 use Rattle.guppy_support.proofs.components.backward.Marks.enter.Goals as goal
 

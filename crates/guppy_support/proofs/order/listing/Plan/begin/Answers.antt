@@ -8,11 +8,10 @@ pub pop_fresh-requires : goal.pop_fresh-requires
 pop_fresh-requires c =
     λ y h.
     let o = c.requires.pause.0.plan.starts_nodes y h in
-    let l = ap length c.deref.ensures.value in
-    omega (arith, o, l, c.requires.pause.0.plan.done_long)
+    omega (arith, o, c.requires.pause.0.plan.done_long)
 
 pub returns-in_default-clause-none : goal.returns-in_default-clause-none
-returns-in_default-clause-none c = order_end c.args.graph.now c.args.ranks.now c.requires.setup c.args.self.now.listed.items c.args.self.now.done.items c.args.self.now.outside.items c.args.self.now.held.items c.args.self.now.starts c.requires.pause.0 (rw c.deref.ensures.value at c.in_default.ensures.none)
+returns-in_default-clause-none c = order_end c.args.graph.now c.args.ranks.now c.requires.setup c.args.self.now.listed.items c.args.self.now.done c.args.self.now.outside.items c.args.self.now.held.items c.args.self.now.starts c.requires.pause.0 c.in_default.ensures.none
 
 pub row_of-members-requires-clause-node : goal.row_of-members-requires-clause-node
 row_of-members-requires-clause-node c = omega (arith, c.requires.pause.0.plan.starts_nodes _ c.in-Some.ensures.some.was, c.requires.setup.ranking.long)
@@ -23,13 +22,13 @@ make_ready-requires-clause-nodes c =
     let r = get_or c.args.ranks.now c.in-Some.start 0 in
     let h' : j < length (places r c.args.ranks.now) = rw c.row_of-members.ensures at h in
     let w = places_within r c.args.ranks.now j h' in
-    let l = ap length c.deref-2.ensures.value in
+    let l = ap length c.deref.ensures.value in
     rw c.row_of-members.ensures (omega (arith, w.0, l, c.requires.pause.0.plan.held_long, c.requires.setup.ranking.long))
 
 pub returns-clause-some : goal.returns-clause-some
 returns-clause-some c =
     let p = c.args.self.now in
-    choose_start c.args.graph.now c.args.ranks.now c.requires.setup p.listed.items p.done.items p.outside.items p.held.items p.starts c.requires.pause.0 c.in-Some.start c.pop_fresh.new.queue c.make_ready.new.ready
-    (rw c.deref.ensures.value at c.in-Some.ensures.some)
+    choose_start c.args.graph.now c.args.ranks.now c.requires.setup p.listed.items p.done p.outside.items p.held.items p.starts c.requires.pause.0 c.in-Some.start c.pop_fresh.new.queue c.make_ready.new.ready
+    c.in-Some.ensures.some
     (filled c.args.graph.now.nodes c.args.ranks.now p.held.items (get_or c.args.ranks.now c.in-Some.start 0) c.in-Some.start c.make_ready.new.ready c.requires.setup.ranking.long
-    (rw (c.row_of-members.ensures, c.deref-2.ensures.value) at c.in_ok-make_ready.ensures))
+    (rw (c.row_of-members.ensures, c.deref.ensures.value) at c.in_ok-make_ready.ensures))

@@ -7,22 +7,21 @@ use Rattle.guppy_support.proofs.AtLemmas.{apart_positive, apart_next}
 use Rattle.guppy_support.proofs.order.listing.Plan.pass_apart.Goals as goal
 
 pub leave_outside-requires-clause-positive : goal.leave_outside-requires-clause-positive
-leave_outside-requires-clause-positive c = apart_positive c.args.graph.now c.args.ranks.now c.requires.setup c.args.node c.args.place c.args.self.now.listed.items c.args.self.now.done.items c.args.self.now.outside.items c.args.self.now.held.items c.args.self.now.starts c.args.self.now.ready (rest_of c.args.ranks.now (get_or c.args.ranks.now c.args.node 0) c.args.self.now) c.requires.at c.args.edge.to c.args.edge.non_dev c.requires.edge c.requires.apart
+leave_outside-requires-clause-positive c = apart_positive c.args.graph.now c.args.ranks.now c.requires.setup c.args.node c.args.place c.args.self.now.listed.items c.args.self.now.done c.args.self.now.outside.items c.args.self.now.held.items c.args.self.now.starts c.args.self.now.ready (rest_of c.args.ranks.now (get_or c.args.ranks.now c.args.node 0) c.args.self.now) c.requires.at c.args.edge.to c.args.edge.non_dev c.requires.edge c.requires.apart
 
 pub leave_outside-requires-clause-some : goal.leave_outside-requires-clause-some
 leave_outside-requires-clause-some c =
     let r = row_complete c.args.ranks.now (get_or c.args.ranks.now c.args.edge.to 0) c.args.edge.to (omega (arith, c.requires.setup.ranking.long, c.requires.edge.node_to)) refl in
-    rw c.row-members.ensures (omega (arith, r.1))
+    omega (arith, r.1)
 
 pub leave_outside-requires-clause-nodes : goal.leave_outside-requires-clause-nodes
 leave_outside-requires-clause-nodes c =
     λ j h.
-    let h' : j < length (places (get_or c.args.ranks.now c.args.edge.to 0) c.args.ranks.now) = rw c.row-members.ensures at h in
-    let w = places_within (get_or c.args.ranks.now c.args.edge.to 0) c.args.ranks.now j h' in
+    let w = places_within (get_or c.args.ranks.now c.args.edge.to 0) c.args.ranks.now j h in
     let l = ap length c.deref.ensures.value in
-    rw c.row-members.ensures (omega (arith, w.0, l, c.requires.at.plan.held_long, c.requires.setup.ranking.long))
+    omega (arith, w.0, l, c.requires.at.plan.held_long, c.requires.setup.ranking.long)
 
 pub returns-clause-at : goal.returns-clause-at
 returns-clause-at c =
     rw c.in_ok-leave_outside.ensures.outside
-    (apart_next c.args.graph.now c.args.ranks.now c.requires.setup c.args.node c.args.place c.args.self.now.listed.items c.args.self.now.done.items c.args.self.now.outside.items c.args.self.now.held.items c.args.self.now.starts c.args.self.now.ready (rest_of c.args.ranks.now (get_or c.args.ranks.now c.args.node 0) c.args.self.now) c.requires.at c.args.edge.to c.args.edge.non_dev c.requires.edge c.requires.apart c.leave_outside.new.starts (rw (c.row-members.ensures, c.deref.ensures.value) at c.in_ok-leave_outside.ensures.starts))
+    (apart_next c.args.graph.now c.args.ranks.now c.requires.setup c.args.node c.args.place c.args.self.now.listed.items c.args.self.now.done c.args.self.now.outside.items c.args.self.now.held.items c.args.self.now.starts c.args.self.now.ready (rest_of c.args.ranks.now (get_or c.args.ranks.now c.args.node 0) c.args.self.now) c.requires.at c.args.edge.to c.args.edge.non_dev c.requires.edge c.requires.apart c.leave_outside.new.starts (rw c.deref.ensures.value at c.in_ok-leave_outside.ensures.starts))
