@@ -17,7 +17,6 @@ ghost use Rattle.feature_core.specs.Warnings.{warning_of};
 ghost use Rattle.feature_core.specs.Ways.{content};
 
 use crate::chosen_reach::reach_chosen;
-use crate::cyclic::cyclic_components;
 use crate::defaults::default_marks;
 use crate::edge::{EdgeChoice, FeatureEdge, first_absent};
 use crate::edge_table::{EdgeTable, edge_table};
@@ -33,6 +32,7 @@ use feature_labels::{FeatureId, FeatureLabel};
 use guppy_packages::{DependencyDirection, PackageGraph, PackageMetadata};
 use guppy_support::{Digraph, IxBitSet, Order};
 use indexmap::IndexMap;
+use order_views::cyclic_components;
 use std::alloc::{AllocError, Global};
 use std::marker::Model;
 

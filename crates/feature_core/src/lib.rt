@@ -4,7 +4,6 @@
 mod candidates;
 mod checks;
 mod chosen_reach;
-mod cyclic;
 mod declarations;
 mod defaults;
 mod edge;
