@@ -1,30 +1,62 @@
--- The rows of lines whose fields stand in one list.
-use Rattle.std.proofs.Common.{◌≡◌, ◌≤◌, ℕ, ◌+◌, ◌-◌, ◌<◌, List, ◌∷◌, Option, length, get_or, take, drop, sym, ap, ◌∙◌, subst, arith}
-use Rattle.std.proofs.lemmas.List.{take-map, drop-map, get_or_default, length-map}
+-- The numbers, the fields and the rows of lines whose fields stand in one list.
+use Rattle.std.proofs.Common.{◌≡◌, ℕ, zero, suc, ◌-◌, ◌<◌, List, [], ◌∷◌, Ok, Option, None, Some, Bool, true, false, not, get_or, is_none, is_some, length, take, drop, sym, ap, ◌∙◌, refl, arith}
+use Rattle.std.proofs.lemmas.List.{take-map, drop-map}
+use Rattle.std.proofs.lemmas.Option.{slice_get-map}
+use Rattle.std.specs.Prelude.{slice_get}
 use Rattle.std.specs.List.{slice_range}
+use Rattle.std.specs.Option.{option_map}
 use Rattle.std.specs.Borrow.{Bor}
 use Rattle.guppy_packages.specs.Rows.{RowText, Text, texts}
-use Rattle.row_files.specs.RowOfLine.{row_of}
 use Rattle.row_files.specs.Lines.{line_text, line_texts}
+use Rattle.row_files.specs.RowFile.{line_of, rows_of}
+use Rattle.row_files.specs.RowOfLine.{row_of}
+use Rattle.row_files.specs.declared.error.RowFileError.TheVariants as error
+use Rattle.row_files.proofs.EachLemmas.{each_or-at, each_or-length}
 use Rattle.row_files.specs.declared.lines.Line.{Line}
-use Rattle.row_files.specs.FirstFaultLaws.{drop_map_at}
 
 -- the texts of a part of all fields
 range_texts : (fields : List (Bor Text)) (start end : ℕ) → texts (take (end - start) (drop start fields)) ≡ slice_range (texts fields) start end
 range_texts fields start end = sym (take-map (λ t. t.now) (end - start) (drop start fields)) ∙ ap (take (end - start)) (sym (drop-map (λ t. t.now) start fields))
 
--- the row of a line, read from a slice of all fields
-pub row_at : (slice fields : List (Bor Text)) (line : Line) (row : Option RowText) → slice ≡ fields → row ≡ row_of (texts (take (line.end - line.start) (drop line.start slice))) → row_of (line_text (texts fields) line).1 ≡ row
-row_at slice fields line row same is = ap row_of (sym (range_texts fields line.start line.end)) ∙ ap (λ f. row_of (texts (take (line.end - line.start) (drop line.start f)))) (sym same) ∙ sym is
+-- the fields of the line at a place, which are a part of all fields
+pub fields_at : (fields : List (Bor Text)) (lines : List Line) (i : ℕ) (line : Line) → slice_get lines i ≡ Some line
+    → option_map (λ l. l.1) (slice_get (line_texts (texts fields) lines) i) ≡ Some (texts (take (line.end - line.start) (drop line.start fields)))
+fields_at fields lines i line at =
+    ap (option_map (λ l. l.1)) (slice_get-map (line_text (texts fields)) lines i ∙ ap (option_map (line_text (texts fields))) at) ∙ ap Some (sym (range_texts fields line.start line.end))
 
--- the line at a place, in the lists of lines that lie behind it
-pub line_at : (fields : List Text) (slice lines : List Line) (i : ℕ) (d : Line) → slice ≡ lines → i < length slice
-    → drop i (line_texts fields lines) ≡ line_text fields (get_or slice i d) ∷ drop (i + 1) (line_texts fields lines)
-line_at fields slice lines i d same h =
-    subst (λ ls. drop i (line_texts fields ls) ≡ line_text fields (get_or slice i d) ∷ drop (i + 1) (line_texts fields ls)) same (drop_map_at (line_text fields) slice i (get_or slice i d) h (get_or_default slice i _ _ h))
+-- the number of the line at a place
+pub number_at : (fields : List Text) (lines : List Line) (n : ℕ) (d : Line) → n < length lines → line_of (line_texts fields lines) n ≡ (get_or lines n d).number
+number_at fields [] n d h = absurd (omega arith)
+number_at fields (line ∷ lines) zero d h = refl
+number_at fields (line ∷ lines) (suc n) d h = number_at fields lines n d (omega arith)
 
--- no line is left
-pub line_past : (fields : List Text) (slice lines : List Line) (i : ℕ) → slice ≡ lines → length slice ≤ i → length (line_texts fields lines) ≤ i
-line_past fields slice lines i same h =
-    let long : length (line_texts fields lines) ≡ length lines = length-map _ _ in
-    omega (arith, ap length same)
+-- the number of a line that stands at a place
+pub number_there : (lines : List (ℕ × List Text)) (i : ℕ) (line : ℕ × List Text) → slice_get lines i ≡ Some line → line_of lines i ≡ line.0
+number_there [] i line e = absurd (cc)
+number_there (l ∷ lines) zero line e =
+    let same : l ≡ line = cc in
+    ap (λ x. x.0) same
+number_there (l ∷ lines) (suc i) line e = number_there lines i line e
+
+-- what g gives of what f gives
+pub option_map-then : {X Y Z : Type 0} (f : X → Y) (g : Y → Z) (o : Option X) (y : Y) → option_map f o ≡ Some y → option_map (λ x. g (f x)) o ≡ Some (g y)
+option_map-then f g None y e = absurd (cc)
+option_map-then f g (Some x) y e =
+    let same : f x ≡ y = cc in
+    ap (λ z. Some (g z)) same
+
+-- whether nothing is given, by the answer of a test
+pub same_none : {X Y : Type 0} (f : X → Y) (o : Option X) (b : Bool) → is_some o ≡ not b → is_none (option_map f o) ≡ b
+same_none f None true h = refl
+same_none f None false h = sym h
+same_none f (Some x) true h = sym h
+same_none f (Some x) false h = refl
+
+-- the rows of lines that are all well-formed
+module _ (lines : List (ℕ × List Text)) (rows : List RowText) where
+  pub as_many : rows_of lines ≡ Ok rows → length rows ≡ length lines
+  as_many read = each_or-length (λ l. row_of l.1) (λ l. error.Malformed l.0) lines rows read
+
+  -- the row of the line at a place
+  pub row_there : (i : ℕ) (row : Option RowText) → rows_of lines ≡ Ok rows → option_map (λ l. row_of l.1) (slice_get lines i) ≡ Some row → slice_get rows i ≡ row
+  row_there i row read given = each_or-at (λ l. row_of l.1) (λ l. error.Malformed l.0) lines rows i row read given

@@ -10,4 +10,3 @@ mod rows;
 pub use error::RowFileError;
 pub use lines::Lines;
 pub use row_file::{graph_of, graph_of_lines};
-pub use rows::rows_of;

@@ -22,7 +22,10 @@ pub struct Lines<'t> {
 
 impl<'t> Lines<'t> {
     ghost use Rattle.row_files.specs.Lines.{lines_in, fields_in, kept_lines};
-    ghost use Rattle.row_files.specs.RowFile.{lines_of};
+    ghost use Rattle.std.specs.Prelude.{Some, slice_get};
+    ghost use Rattle.std.specs.Option.{option_map};
+    ghost use Rattle.guppy_packages.specs.Rows.{texts};
+    ghost use Rattle.row_files.specs.RowFile.{line_of, lines_of};
 
     /// Adds a line.
     fn push(&mut self, number: usize, line: &'t str) -> Result<(), AllocError>
@@ -55,5 +58,29 @@ impl<'t> Lines<'t> {
             }
         }
         Ok(lines)
+    }
+
+    /// How many lines there are.
+    pub(crate) fn line_count(&self) -> usize
+        ensures { result ≡ length (lines_of self.now) }
+    {
+        self.lines.len()
+    }
+
+    /// The number of the line at this place.
+    pub(crate) fn line_number(&self, at: usize) -> usize
+        requires { at < length (lines_of self.now) }
+        ensures { result ≡ line_of (lines_of self.now) at }
+    {
+        self.lines[at].number
+    }
+
+    /// The fields of the line at this place.
+    pub(crate) fn line_fields(&self, at: usize) -> &[&'t str]
+        requires { at < length (lines_of self.now) }
+        ensures { option_map (λ line. line.1) (slice_get (lines_of self.now) at) ≡ Some (texts result.now) }
+    {
+        let line = self.lines[at];
+        &self.fields[line.start..line.end]
     }
 }

@@ -5,7 +5,7 @@ ghost use Rattle.row_files.specs.RowFile.{lines_of, tables_of_lines, tables_in};
 
 use crate::error::RowFileError;
 use crate::lines::Lines;
-use crate::rows::rows_of;
+use crate::rows::LineRows;
 use guppy_packages::{PackageGraph, RowFault};
 use std::alloc::{AllocError, Global};
 
@@ -13,13 +13,13 @@ use std::alloc::{AllocError, Global};
 pub fn graph_of_lines(alloc: Global, lines: &Lines) -> Result<PackageGraph, RowFileError>
     ensures { Gives (λ graph. graph) result (tables_of_lines (lines_of lines.now)) }
 {
-    let rows = rows_of(alloc, lines)?;
-    match PackageGraph::from_rows(alloc, &rows) {
+    let rows = LineRows::of(lines)?;
+    match PackageGraph::from_source(alloc, &rows) {
         Ok(graph) => Ok(graph),
         Err(error) => match error.fault {
             RowFault::Memory => Err(RowFileError::Memory),
             fault => Err(RowFileError::Row {
-                line: lines.lines[error.row].number,
+                line: lines.line_number(error.row),
                 fault,
             }),
         },

@@ -1,15 +1,14 @@
 //! The rows of lines, from their fields.
-ghost use Rattle.std.specs.Prelude.{◌≡◌, ◌∷◌, ◌==◌, ℕ, map, codes};
+ghost use Rattle.std.specs.Prelude.{◌≡◌, ◌<◌, Some, codes, length, slice_get};
 ghost use Rattle.std.specs.Option.{option_map};
 ghost use Rattle.guppy_packages.specs.Rows.{texts, row_text};
-ghost use Rattle.row_files.specs.FirstFault.{Gives};
 ghost use Rattle.row_files.specs.RowOfLine.{choice, kind_of, platform_of, package_row, feature_row, dep_row, row_of};
-ghost use Rattle.row_files.specs.RowFile.{lines_of, rows_of as rows_of_lines};
+ghost use Rattle.row_files.specs.RowFile.{lines_of, rows_of};
+ghost use Rattle.row_files.specs.inner.WellFormed.{AreWellFormed, rows_in};
 
 use crate::error::RowFileError;
 use crate::lines::Lines;
-use guppy_packages::{DependencyKind, Row};
-use std::alloc::{AllocError, AllocFailed, Global};
+use guppy_packages::{DependencyKind, Row, RowSource};
 
 fn place(word: &str) -> Option<bool>
     ensures { result ≡ choice (codes "workspace") (codes "external") word.now }
@@ -121,16 +120,50 @@ fn row<'a>(fields: &'a [&'a str]) -> Option<Row<'a>>
     }
 }
 
-/// The rows of the lines, or the first malformed line.
-pub fn rows_of<'a>(alloc: Global, lines: &'a Lines<'_>) -> Result<Vec<Row<'a>>, RowFileError>
-    ensures { Gives (λ rows. map row_text rows.items) result (rows_of_lines (lines_of lines.now)) }
+/// The row of the line at this place, unless it is malformed.
+fn row_at<'l>(lines: &'l Lines<'_>, at: usize) -> Option<Row<'l>>
+    requires { at < length (lines_of lines.now) }
+    ensures { option_map (λ line. row_of line.1) (slice_get (lines_of lines.now) at) ≡ Some (option_map row_text result) }
 {
-    let mut rows = Vec::with_capacity(alloc, lines.lines.len())?;
-    for line in &lines.lines {
-        let Some(row) = row(&lines.fields[line.start..line.end]) else {
-            return Err(RowFileError::Malformed { line: line.number });
-        };
-        rows.push(row)?;
+    row(lines.line_fields(at))
+}
+
+/// The rows of lines that are all well-formed. Each row is made when it is asked for.
+#[derive(Drop)]
+pub(crate) struct LineRows<'l, 't> {
+    lines: &'l Lines<'t>,
+    ghost well_formed: { AreWellFormed (lines_of lines.now) },
+}
+
+impl<'l, 't> LineRows<'l, 't> {
+    ghost use Rattle.std.specs.Prelude.{Err, IfErr, IfOk};
+
+    /// The rows of the lines, or the first malformed line.
+    pub(crate) fn of(lines: &'l Lines<'t>) -> Result<Self, RowFileError>
+        ensures ok { IfOk result (λ rows. rows.lines.now ≡ lines.now) }
+        ensures err { IfErr result (λ error. rows_of (lines_of lines.now) ≡ Err error) }
+    {
+        for at in 0..lines.line_count() {
+            if row_at(lines, at).is_none() {
+                let line = lines.line_number(at);
+                return Err(RowFileError::Malformed { line });
+            }
+        }
+        Ok(LineRows { lines })
     }
-    Ok(rows)
+}
+
+impl RowSource for LineRows<'_, '_> {
+    ghost rows = { λ source. rows_in (lines_of source.lines.now) };
+
+    fn row_count(&self) -> usize {
+        self.lines.line_count()
+    }
+
+    fn row(&self, ix: usize) -> Row<'_> {
+        match row_at(self.lines, ix) {
+            Some(row) => row,
+            None => unreachable!(),
+        }
+    }
 }

@@ -1,0 +1,20 @@
+use Rattle.std.proofs.Common.{Err, true, false, ap, sym, ◌∙◌, arith}
+use Rattle.guppy_packages.specs.Rows.{row_text}
+use Rattle.row_files.specs.RowFile.{lines_of}
+use Rattle.row_files.specs.RowOfLine.{row_of}
+use Rattle.row_files.specs.declared.error.RowFileError.TheVariants as error
+use Rattle.row_files.specs.inner.WellFormed.{rows_in}
+use Rattle.std.specs.Option.{option_map}
+use Rattle.row_files.proofs.EachLemmas.{none_refused, passed_here, refused_here}
+use Rattle.row_files.proofs.RowLemmas.{number_there, same_none}
+use Rattle.row_files.proofs.rows.LineRows.of.Goals as goal
+
+pub returns-then-is_none-clause-err : goal.returns-then-is_none-clause-err
+returns-then-is_none-clause-err c =
+    let lines = lines_of c.args.lines.now in
+    let first = refused_here (λ l. row_of l.1) (λ l. error.Malformed l.0) lines c.loop-at.at c.loop-at.invariant (option_map row_text c.row_at.result) c.row_at.ensures (same_none row_text c.row_at.result true c.if-is_none.ensures) in
+    first.2 ∙ ap (λ n. Err (error.Malformed n)) (sym (number_there lines c.loop-at.at first.0 first.1) ∙ sym c.line_number-line.ensures)
+
+pub loop-at-preserved : goal.loop-at-preserved
+loop-at-preserved c =
+    passed_here (λ l. row_of l.1) (λ l. error.Malformed l.0) (lines_of c.args.lines.now) c.loop-at.at c.loop-at.invariant (option_map row_text c.row_at.result) c.row_at.ensures (same_none row_text c.row_at.result false c.if-is_none.ensures)

@@ -1,0 +1,2 @@
+-- What private functions alone speak of: the rows of lines that are all well-formed.
+pub mod WellFormed
