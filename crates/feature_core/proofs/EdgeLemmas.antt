@@ -20,7 +20,7 @@ not_before : (a b : Key) → a.from ≡ b.from → a.to ≡ b.to → IsBefore a 
 not_before a b from to h = ⊎_elim (λ l. omega (arith, l, from)) (λ l. omega (arith, l.1, to)) h
 
 -- a pair has one kept key
-one_kept : (kept : List Key) → AllPairs IsBefore kept → (a b : Key) → Contains kept a → Contains kept b → a.from ≡ b.from → a.to ≡ b.to → a ≡ b
+pub one_kept : (kept : List Key) → AllPairs IsBefore kept → (a b : Key) → Contains kept a → Contains kept b → a.from ≡ b.from → a.to ≡ b.to → a ≡ b
 one_kept [] h a b i j from to = absurd (Contains-none a i)
 one_kept (k ∷ kept) h a b i j from to = ⊎_elim
     (λ e. ⊎_elim

@@ -111,6 +111,12 @@ module _ (t : Tables) (differ : NamesDiffer t) (weak : List ℕ) (x : Key) (h : 
   rank_within (slash_weak k l) = (omega arith, omega arith)
   rank_within (section l) = (omega arith, omega arith)
 
+  pub rank_at_most : x.rank ≤ 7
+  rank_at_most =
+      let s = stands_for t differ x h in
+      let w = rank_within s.edge in
+      omega (arith, w.1, s.rank)
+
   pub last_rank : (x.rank ≡ 1 → ⊥) → (x.rank ≡ 2 → ⊥) → (x.rank ≡ 3 → ⊥) → (x.rank ≡ 4 → ⊥) → (x.rank ≡ 5 → ⊥) → (x.rank ≡ 6 → ⊥) → x.rank ≡ 7
   last_rank a b c d e f =
       let s = stands_for t differ x h in

@@ -1,13 +1,11 @@
 -- The keys of one pair stand together among sorted keys.
-use Rattle.std.proofs.Common.{◌≡◌, ℕ, ◌+◌, ◌-◌, zero, suc, ◌<◌, ◌≤◌, ◌⊎◌, inl, inr, ⊎_elim, List, [], ◌∷◌, length, get_or, cond, Bool, true, false, refl, ap, sym, ◌∙◌, subst, arith, take, drop}
-use Rattle.std.specs.Prelude.{Contains, AllPairs, ◌↔◌, ◌==◌, filter}
+use Rattle.std.proofs.Common.{◌≡◌, ℕ, ◌+◌, ◌-◌, zero, suc, ◌<◌, ◌≤◌, ◌⊎◌, inl, inr, ⊎_elim, List, [], ◌∷◌, length, get_or, Bool, true, false, refl, ap, sym, ◌∙◌, subst, arith, take, drop}
+use Rattle.std.specs.Prelude.{Contains, AllPairs, ◌↔◌}
 use Rattle.std.specs.List.Sorted.{IsPartitionPoint, IsPartitionedBy}
 use Rattle.std.proofs.lemmas.List.{get_or-take, get_or-drop, length-take-le, length-drop}
 use Rattle.std.proofs.lemmas.Bool.Decides.{nat_tests}
-use Rattle.std.proofs.lemmas.List.Kept.{AllPairs-filter}
 use Rattle.feature_core.specs.declared.key.Key.{Key}
-use Rattle.feature_core.specs.inner.Keys.{IsNoLater, IsRun, AreOfRank, is_pair_below, is_pair_up_to}
-use Rattle.feature_core.proofs.AddsLemmas.{Contains-cases, Contains-none}
+use Rattle.feature_core.specs.inner.Keys.{IsNoLater, IsRun, is_pair_below, is_pair_up_to}
 
 clash : (b : Bool) → b ≡ true → b ≡ false → ⊥
 clash b h i = cc
@@ -128,51 +126,3 @@ run_between from to keys end first sorted bound within high low =
             ((partition_front (is_pair_up_to from to) keys end bound high y).1 (h.0, pair_up_to from to y h.1 h.2), pair_not_below from to y h.1 h.2)),
       );
     })
-
-passes : (rank : ℕ) (y : Key) → (y.rank == rank) ≡ true → y.rank ≡ rank
-passes rank y h = grind (arith, nat_tests)
-
-passing : (rank : ℕ) (y : Key) → y.rank ≡ rank → (y.rank == rank) ≡ true
-passing rank y h = grind (arith, nat_tests)
-
-cond_has : (b : Bool) (P : List Key → Type 0) (x y : List Key) → (b ≡ true → P x) → (b ≡ false → P y) → P (cond b x y)
-cond_has true P x y f g = f refl
-cond_has false P x y f g = g refl
-
-Contains-first : {X : Type 0} (x : X) (xs : List X) → Contains (x ∷ xs) x
-Contains-first x xs = (0, omega arith, refl)
-
-Contains-later : {X : Type 0} (x : X) (xs : List X) (y : X) → Contains xs y → Contains (x ∷ xs) y
-Contains-later x xs y h = (suc h.0, omega arith, h.2)
-
--- what passes a filter
-pub from_filter : (p : Key → Bool) (xs : List Key) (y : Key) → Contains (filter p xs) y → Contains xs y × (p y ≡ true)
-from_filter p [] y h = absurd (Contains-none y h)
-from_filter p (x ∷ xs) y h = cond_has (p x) (λ l. Contains l y → Contains (x ∷ xs) y × (p y ≡ true)) (x ∷ filter p xs) (filter p xs)
-    (λ e i. ⊎_elim
-    (λ s. (subst (λ z. Contains (x ∷ xs) z) s (Contains-first x xs), subst (λ z. p z ≡ true) s e))
-    (λ s. let r = from_filter p xs y s in (Contains-later x xs y r.0, r.1))
-    (Contains-cases x (filter p xs) y i))
-    (λ e i. let r = from_filter p xs y i in (Contains-later x xs y r.0, r.1))
-    h
-
-pub into_filter : (p : Key → Bool) (xs : List Key) (y : Key) → Contains xs y → p y ≡ true → Contains (filter p xs) y
-into_filter p [] y h e = absurd (Contains-none y h)
-into_filter p (x ∷ xs) y h e = cond_has (p x) (λ l. Contains l y) (x ∷ filter p xs) (filter p xs)
-    (λ i. ⊎_elim
-    (λ s. subst (λ z. Contains (x ∷ filter p xs) z) s (Contains-first x (filter p xs)))
-    (λ s. Contains-later x (filter p xs) y (into_filter p xs y s e))
-    (Contains-cases x xs y h))
-    (λ i. ⊎_elim
-    (λ s. absurd (clash (p y) e (subst (λ z. p z ≡ false) s i)))
-    (λ s. into_filter p xs y s e)
-    (Contains-cases x xs y h))
-
-pub rank_filtered : (rank : ℕ) (keys : List Key) → AllPairs IsNoLater keys → AreOfRank rank keys (filter (λ y. y.rank == rank) keys)
-rank_filtered rank keys h = record {
-  ordered = AllPairs-filter IsNoLater (λ y. y.rank == rank) keys h;
-  exact = λ y. (
-    (λ i. let r = from_filter (λ y. y.rank == rank) keys y i in (r.0, passes rank y r.1)),
-    (λ i. into_filter (λ y. y.rank == rank) keys y i.0 (passing rank y i.1)),
-  );
-}

@@ -6,8 +6,6 @@ use Rattle.std.proofs.lemmas.Bool.Decides.{nat_tests}
 use Rattle.std.proofs.lemmas.List.Elements.{All-cons, All-head, All-tail, All-weaker, All-contains}
 use Rattle.std.proofs.lemmas.List.Filters.{All-dedup}
 use Rattle.std.proofs.lemmas.List.Kept.{AllPairs-cons, Contains-from_dedup}
-use Rattle.std.specs.Prelude.{IsPermutation}
-use Rattle.std.proofs.lemmas.List.Sorted.{Contains-permutation, IsPermutation-sym}
 use Rattle.feature_core.specs.declared.key.Key.{Key}
 use Rattle.feature_core.specs.inner.Keys.{IsBefore, IsPair, IsUpTo, IsNoLater, IsServed, AreLeast}
 
@@ -94,13 +92,6 @@ least_kept (k ∷ xs) o = record {
   ascends = ascends k xs o;
   from_keys = Contains-from_dedup same_pair (k ∷ xs);
   each = λ b h. All-contains (IsServed (dedup_from same_pair k xs)) (k ∷ xs) b (serves k xs o) h;
-}
-
-pub least_moved : (keys sorted kept : List Key) → IsPermutation keys sorted → AreLeast sorted kept → AreLeast keys kept
-least_moved keys sorted kept moved h = record {
-  ascends = h.ascends;
-  from_keys = λ a i. Contains-permutation sorted keys a (IsPermutation-sym keys sorted moved) (h.from_keys a i);
-  each = λ b i. h.each b (Contains-permutation keys sorted b moved i);
 }
 
 -- order by pair, rank, source and place is order by pair and rank

@@ -24,6 +24,7 @@ pub mod ChoiceLemmas
 pub mod RequestLemmas
 pub mod Ranks
 pub mod EdgeLemmas
+pub mod SourceLemmas
 pub mod SectionLemmas
 pub mod SectionPlaces
 pub mod KeyEdges

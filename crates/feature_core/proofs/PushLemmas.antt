@@ -6,7 +6,7 @@ use Rattle.std.specs.List.{list_any}
 use Rattle.std.specs.Cmp.Lexicographic.{bytes_decides}
 use Rattle.std.proofs.lemmas.Bool.Decides.{nat_tests}
 use Rattle.guppy_packages.specs.Rows.{Text}
-use Rattle.guppy_packages.specs.Tables.{LinkTable, Tables, FeatureTable, PackageTable}
+use Rattle.guppy_packages.specs.Tables.{LinkTable, Tables, FeatureTable, PackageTable, AreLinksFrom}
 use Rattle.guppy_packages.specs.Items.{Item, feature_item, slash_item, item_of}
 use Rattle.feature_labels.specs.Names.{LabelName}
 use Rattle.feature_labels.specs.Names.LabelName.{named, optional}
@@ -15,7 +15,8 @@ use Rattle.feature_core.specs.Links.{IsPackage, IsLink, numbered}
 use Rattle.feature_core.specs.inner.NamedLinks.{link_numbers}
 use Rattle.feature_core.specs.Nodes.{NodeAt, first_node, labels_of}
 use Rattle.feature_core.specs.declared.key.Key.{Key}
-use Rattle.feature_core.specs.inner.Parts.{key, over_rank, IsToFirst, IsTo, IsOver, IsOverLink, IsBeside, IsOfItem, IsOfItemAt, IsOfFeatureAt, IsOfPackageAt, IsOfLinkAt, IsOfTables}
+use Rattle.feature_core.specs.inner.Parts.{key, over_rank, IsToFirst, IsTo, IsOver, IsOverLink, IsBeside, IsOfItem, IsOfItemAt, IsOfFeatureAt, IsOfPackageAt, IsOfLinkAt, IsLinkFrom, IsOfSource}
+use Rattle.feature_core.proofs.NodeLabels.{element_within}
 use Rattle.feature_core.proofs.AddsLemmas.{Adds-nothing, Adds-then, Adds-as, place_of_element, element_at_place, place_below, Contains-first, Contains-later, Contains-cases, Contains-none}
 
 -- a key to the node of a label, where its number is told
@@ -310,13 +311,35 @@ package_at t p first count table a b c is e n h i =
 pub packages_within : (t : Tables) (p : ℕ) (x : Key) → IsOfPackageAt t p x → p < length t.packages
 packages_within t p x h = place_below t.packages p h.0 h.1
 
-pub links_within : (t : Tables) (k : ℕ) (x : Key) → IsOfLinkAt t k x → k < length t.links
-links_within t k x h = place_below t.links k h.0 h.1
+-- by link k, which leaves package p
+abbrev pub IsOfLinkFrom : Tables → ℕ → ℕ → Key → Type 0
+IsOfLinkFrom t p k x = IsLinkFrom t p k × IsOfLinkAt t k x
 
--- the keys of the packages, then those of the links, from none on
-pub all_of_tables : (t : Tables) (a b c : List Key) → a ≡ [] → Adds (λ x. (p : ℕ) × IsOfPackageAt t p x) a b → Adds (λ x. (k : ℕ) × IsOfLinkAt t k x) b c → (x : Key) → Contains c x ↔ IsOfTables t x
-all_of_tables t a b c e f g x =
-    let all : Adds (λ x. ((p : ℕ) × IsOfPackageAt t p x) ⊎ ((k : ℕ) × IsOfLinkAt t k x)) a c = Adds-then (λ x. (p : ℕ) × IsOfPackageAt t p x) (λ x. (k : ℕ) × IsOfLinkAt t k x) a b c f g in (
+module _ (t : Tables) (p first end : ℕ) (are : AreLinksFrom t.links p first end) where
+  leaves_within : (k : ℕ) → IsLinkFrom t p k → (first ≤ k) × (k < end)
+  leaves_within k h = (are.exactly k h.0 h.1).0 h.2
+
+  pub leaving_start : (a : List Key) → Adds (Below first (IsOfLinkFrom t p)) a a
+  leaving_start a = Adds-nothing (Below first (IsOfLinkFrom t p)) a (λ x h. let l = leaves_within h.0 h.2.0 in omega (arith, h.1, l.0))
+
+  pub leaving_next : (k : ℕ) (a b : List Key) → first ≤ k → k < end → Adds (IsOfLinkAt t k) a b → Adds (IsOfLinkFrom t p k) a b
+  leaving_next k a b low high h =
+      let link = element_within t.links k (omega (arith, high, are.within)) in
+      Adds-as (IsOfLinkAt t k) (IsOfLinkFrom t p k) a b
+      (λ x i. ((link.0, link.1, (are.exactly k link.0 link.1).1 (low, high)), i))
+      (λ x i. i.1)
+      h
+
+  pub leaving_end : (n : ℕ) (a b : List Key) → end ≤ n → Adds (Below n (IsOfLinkFrom t p)) a b → Adds (λ x. (k : ℕ) × IsLinkFrom t p k × IsOfLinkAt t k x) a b
+  leaving_end n a b l h = Adds-as (λ x. (k : ℕ) × IsOfLinkFrom t p k x) (λ x. (k : ℕ) × IsLinkFrom t p k × IsOfLinkAt t k x) a b
+      (λ x i. (i.0, i.1.0, i.1.1))
+      (λ x i. (i.0, (i.1, i.2)))
+      (Adds-all (IsOfLinkFrom t p) n a b (λ k x i. let w = leaves_within k i.0 in omega (arith, w.1, l)) h)
+
+-- by a package, then by the links that leave it, from none on
+pub all_of_source : (t : Tables) (p : ℕ) (a b c : List Key) → a ≡ [] → Adds (IsOfPackageAt t p) a b → Adds (λ x. (k : ℕ) × IsLinkFrom t p k × IsOfLinkAt t k x) b c → (x : Key) → Contains c x ↔ IsOfSource t p x
+all_of_source t p a b c e f g x =
+    let all : Adds (λ x. IsOfPackageAt t p x ⊎ ((k : ℕ) × IsLinkFrom t p k × IsOfLinkAt t k x)) a c = Adds-then (IsOfPackageAt t p) (λ x. (k : ℕ) × IsLinkFrom t p k × IsOfLinkAt t k x) a b c f g in (
       (λ h. ⊎_elim (λ i. absurd (Contains-none x (subst (λ z. Contains z x) e i))) (λ i. i) (all.nothing_else x h)),
       (λ h. all.added x h),
     )

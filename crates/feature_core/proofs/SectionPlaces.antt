@@ -23,11 +23,13 @@ use Rattle.feature_core.proofs.SectionLemmas.{ArePassing}
 use Rattle.feature_core.specs.Links.{LinkFacts, IsLink, includes, has_declaration}
 use Rattle.feature_core.specs.Candidates.{requests, requesting}
 use Rattle.feature_core.specs.declared.key.Key.{Key}
-use Rattle.feature_core.specs.inner.Keys.{IsNoLater, IsRun}
+use Rattle.feature_core.specs.inner.Keys.{IsLeast, IsNoLater, IsRun}
 use Rattle.feature_core.specs.inner.Parts.{key, IsOfItem, IsOfPackageAt, IsOfTables, start_of}
 use Rattle.std.proofs.lemmas.List.Elements.{Contains-get_or}
 use Rattle.feature_core.proofs.PushLemmas.{from_map, into_map}
+use Rattle.feature_core.proofs.KeyEdges.{rank_at_most}
 use Rattle.feature_core.proofs.KeySays.{SaysSection}
+use Rattle.feature_core.proofs.PairLemmas.{names_differ}
 use Rattle.feature_core.proofs.Ranks.{same_home, same_label, same_link}
 
 -- a key that a declaration of a link requests
@@ -129,6 +131,26 @@ later_place x a b (f, g, h, i) (p, q, r, o) (inr (e, inl k)) = absurd (omega (ar
 later_place x a b (f, g, h, i) (p, q, r, o) (inr (e, inr (k, inl n))) = absurd (omega (arith, n, i, o))
 later_place x a b (f, g, h, i) (p, q, r, o) (inr (e, inr (k, inr n))) = n.1
 
+-- exactly the keys of the tables for the pair of a key, in order, all of declarations
+pub record AreRequests (t : Tables) (x : Key) (run : List Key) : Type 0 where
+  pub ordered : AllPairs IsNoLater run
+  pub exact : (y : Key) → Contains run y ↔ (IsOfTables t y × (y.rank ≡ 7) × (y.from ≡ x.from) × (y.to ≡ x.to))
+
+-- where the least key of a pair is of a declaration, all keys of the pair are
+pub run_requests : (t : Tables) → AreTables t → (keys run : List Key) (x : Key) → ((y : Key) → Contains keys y → IsOfTables t y) → ((x y : Key) → Contains keys x → IsOfTables t y → y.from ≡ x.from → Contains keys y)
+    → IsLeast keys x → x.rank ≡ 7 → IsRun keys x.from x.to run → AreRequests t x run
+run_requests t tables keys run x of whole least last is = record {
+  ordered = is.ordered;
+  exact = λ y. (
+    (λ h.
+        let i = (is.exact y).0 h in
+        let high : y.rank ≤ 7 = rank_at_most t (names_differ t tables) [] y (of y i.0) in
+        let low : x.rank ≤ y.rank = least.least y i.0 (sym i.1, sym i.2) in
+        (of y i.0, omega (arith, high, low, last), i.1, i.2)),
+    (λ h. (is.exact y).1 (whole x y least.is_key h.0 h.2, h.2, h.3)),
+  );
+}
+
 module _ (t : Tables) (tables : AreTables t) (x : Key) (l : LinkFacts) (s : SaysSection t x l) where
   from_home : (z : LabelName) (p : ℕ) → NodeAt t x.from p z → p ≡ s.link.from
   from_home z p n = ⊎_elim
@@ -182,12 +204,11 @@ module _ (t : Tables) (tables : AreTables t) (x : Key) (l : LinkFacts) (s : Says
   abbrev pub RequestsAt : ℕ → Type 0
   RequestsAt j = (d : Declared) × (slice_get s.link.declarations j ≡ Some d) × IsTrue (requesting s.asked s.which d)
 
-  module _ (sections run : List Key) (requested : (y : Key) → Contains sections y ↔ (IsOfTables t y × (y.rank ≡ 7))) (is_run : IsRun sections x.from x.to run) where
+  module _ (run : List Key) (all : AreRequests t x run) where
     run_key : (y : Key) → Contains run y → IsOfLink y
     run_key y h =
-        let i = (is_run.exact y).0 h in
-        let k = (requested y).0 i.0 in
-        of_link y k.0 k.1 i.1 i.2
+        let i = (all.exact y).0 h in
+        of_link y i.0 i.1 i.2 i.3
 
     -- the places of the run
     abbrev pub places : List ℕ
@@ -202,13 +223,13 @@ module _ (t : Tables) (tables : AreTables t) (x : Key) (l : LinkFacts) (s : Says
     pub place_back : (j : ℕ) → RequestsAt j → Contains places j
     place_back j h =
         let y = key x.from x.to 7 x.source j in
-        let at : Contains run y = (is_run.exact y).1 ((requested y).1 (by_declaration j h.0 h.1 h.2, refl), refl, refl) in
+        let at : Contains run y = (all.exact y).1 (by_declaration j h.0 h.1 h.2, refl, refl, refl) in
         into_map (λ y. y.place) run y at
 
     of_pair : (y : Key) → Contains run y → IsOfPair x y
     of_pair y h =
-        let i = (is_run.exact y).0 h in
-        (i.1, i.2, ((requested y).0 i.0).1, (run_key y h).source)
+        let i = (all.exact y).0 h in
+        (i.2, i.3, i.1, (run_key y h).source)
 
     pub ascends : AllPairs (λ a b. a ≤ b) places
     ascends i j d l m =
@@ -221,7 +242,7 @@ module _ (t : Tables) (tables : AreTables t) (x : Key) (l : LinkFacts) (s : Says
         let b_is : get_or places j d ≡ b.place = get_or-map (λ y. y.place) run j x d j_in in
         let a_in : Contains run a = Contains-get_or run i x i_in in
         let b_in : Contains run b = Contains-get_or run j x j_in in
-        let up : a.place ≤ b.place = later_place x a b (of_pair a a_in) (of_pair b b_in) (is_run.ordered i j x l j_in) in
+        let up : a.place ≤ b.place = later_place x a b (of_pair a a_in) (of_pair b b_in) (all.ordered i j x l j_in) in
         omega (arith, a_is, b_is, up)
 
 nat_apart : (x k : ℕ) → eqb x k ≡ false → k ≤ x → k < x
@@ -248,14 +269,13 @@ rises [] o = λ i j d l m. absurd (omega arith)
 rises (x ∷ xs) o = rises_from x xs o
 
 -- the places of the keys of a pair are those of the declarations that request it
-pub places_passing : (t : Tables) (tables : AreTables t) (x : Key) (l : LinkFacts) (s : SaysSection t x l) (sections run : List Key)
-    → ((y : Key) → Contains sections y ↔ (IsOfTables t y × (y.rank ≡ 7))) → IsRun sections x.from x.to run
+pub places_passing : (t : Tables) (tables : AreTables t) (x : Key) (l : LinkFacts) (s : SaysSection t x l) (run : List Key) → AreRequests t x run
     → ArePassing (requesting s.asked s.which) s.link.declarations (dedup eqb (map (λ y. y.place) run))
-places_passing t tables x l s sections run requested is_run = record {
-  ascend = rises (map (λ y. y.place) run) (ascends t tables x l s sections run requested is_run);
+places_passing t tables x l s run all = record {
+  ascend = rises (map (λ y. y.place) run) (ascends t tables x l s run all);
   exact = λ j. (
-    (λ h. place_there t tables x l s sections run requested is_run j (Contains-from_dedup eqb (map (λ y. y.place) run) j h)),
-    (λ h. Contains-dedup_nat (map (λ y. y.place) run) j (place_back t tables x l s sections run requested is_run j h)),
+    (λ h. place_there t tables x l s run all j (Contains-from_dedup eqb (map (λ y. y.place) run) j h)),
+    (λ h. Contains-dedup_nat (map (λ y. y.place) run) j (place_back t tables x l s run all j h)),
   );
 }
 

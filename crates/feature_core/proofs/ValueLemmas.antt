@@ -1,64 +1,79 @@
 -- The edges of keys, one after the other.
-use Rattle.std.proofs.Common.{◌≡◌, ℕ, zero, suc, ◌+◌, ◌<◌, ◌≤◌, ⊎_elim, List, [], ◌∷◌, ◌++◌, length, take, Some, Option, refl, ap, sym, ◌∙◌, subst, arith, length-append}
+use Rattle.std.proofs.Common.{◌≡◌, ℕ, zero, suc, ⊎_elim, List, [], ◌∷◌, ◌++◌, length, map, Some, refl, ap, sym, ◌∙◌, subst, arith, length-append}
 use Rattle.std.specs.Prelude.{slice_get}
-use Rattle.std.proofs.lemmas.List.{length-take-le}
+use Rattle.std.specs.List.{zip}
+use Rattle.std.proofs.lemmas.List.{map-append, length-map, append_assoc}
 use Rattle.std.proofs.lemmas.Option.{slice_get_within}
+use Rattle.guppy_support.specs.declared.digraph.Edge.{Edge as End}
 use Rattle.guppy_packages.specs.Tables.{Tables}
-use Rattle.feature_core.specs.Edges.{EdgeFacts}
-use Rattle.feature_core.specs.inner.Made.{IsValueOf, AreValues}
+use Rattle.feature_core.specs.declared.edge.FeatureEdge.{FeatureEdge}
+use Rattle.feature_core.specs.declared.edge_table.MadeEdges.{MadeEdges}
 use Rattle.feature_core.specs.declared.key.Key.{Key}
+use Rattle.feature_core.specs.Edges.{EdgeFacts, first_ones}
+use Rattle.feature_core.specs.Values.{edge_facts}
+use Rattle.feature_core.specs.inner.Made.{IsValueOf, AreValues, AreMade, edge_end}
+use Rattle.feature_core.specs.inner.Weak.{AreGates, weak_sources}
 use Rattle.feature_core.proofs.Places.{get_cases}
-
-get_take : {X : Type 0} (n j : ℕ) (xs : List X) (x : X) → slice_get (take n xs) j ≡ Some x → slice_get xs j ≡ Some x
-get_take zero j [] x h = h
-get_take zero j (y ∷ ys) x h = cc
-get_take (suc n) j [] x h = h
-get_take (suc n) zero (y ∷ ys) x h = h
-get_take (suc n) (suc j) (y ∷ ys) x h = get_take n j ys x h
-
-into_take : {X : Type 0} (n j : ℕ) (xs : List X) (x : X) → j < n → slice_get xs j ≡ Some x → slice_get (take n xs) j ≡ Some x
-into_take zero j xs x l h = absurd (omega (arith, l))
-into_take (suc n) j [] x l h = h
-into_take (suc n) zero (y ∷ ys) x l h = h
-into_take (suc n) (suc j) (y ∷ ys) x l h = into_take n j ys x (omega (arith, l)) h
 
 one_there : {X : Type 0} (m : ℕ) (x y : X) → slice_get (x ∷ []) m ≡ Some y → (m ≡ 0) × (x ≡ y)
 one_there zero x y h = (refl, cc)
 one_there (suc m) x y h = cc
 
-same_some : {X : Type 0} (x y : X) → ◌≡◌ {A = Option X} (Some x) (Some y) → x ≡ y
-same_some x y h = cc
-
 module _ (t : Tables) (weak : List ℕ) where
-  pub values_none : (keys : List Key) → AreValues t weak (take 0 keys) []
-  values_none [] = record { long = refl; each = λ i x f h k. cc }
-  values_none (x ∷ keys) = record { long = refl; each = λ i x f h k. cc }
+  values_none : AreValues t weak [] []
+  values_none = record { long = refl; each = λ i x f h k. cc }
 
-  pub values_more : (keys : List Key) (i : ℕ) (x : Key) (facts : List EdgeFacts) (f : EdgeFacts) → slice_get keys i ≡ Some x → AreValues t weak (take i keys) facts → IsValueOf t weak x f → AreValues t weak (take (i + 1) keys) (facts ++ f ∷ [])
-  values_more keys i x facts f at h v =
-      let within : i < length keys = slice_get_within keys i x at in
-      let before : length (take i keys) ≡ i = length-take-le i keys (omega (arith, within)) in
-      let after : length (take (i + 1) keys) ≡ i + 1 = length-take-le (i + 1) keys (omega (arith, within)) in
-      let long : length facts ≡ i = h.long ∙ before in
-      record {
-        long = omega (arith, length-append facts (f ∷ []), long, after);
-        each = λ j y g k m.
-            let whole : slice_get keys j ≡ Some y = get_take (i + 1) j keys y k in
-            ⊎_elim
-            (λ e. h.each j y g (into_take i j keys y (omega (arith, slice_get_within facts j g e, long)) whole) e)
-            (λ e.
-            let o = one_there e.0 f g e.2 in
-            let place : j ≡ i = omega (arith, e.1, o.0, long) in
-            let same : x ≡ y = same_some x y (sym at ∙ ap (slice_get keys) (sym place) ∙ whole) in
-            subst (λ z. IsValueOf t weak y z) o.1 (subst (λ z. IsValueOf t weak z f) same v))
-            (get_cases facts (f ∷ []) j g m);
-      }
+  values_more : (keys : List Key) (x : Key) (facts : List EdgeFacts) (f : EdgeFacts) → AreValues t weak keys facts → IsValueOf t weak x f → AreValues t weak (keys ++ x ∷ []) (facts ++ f ∷ [])
+  values_more keys x facts f h v = record {
+    long = omega (arith, length-append facts (f ∷ []), length-append keys (x ∷ []), h.long);
+    each = λ j y g k m. ⊎_elim
+        (λ a. ⊎_elim
+        (λ b. h.each j y g a b)
+        (λ b. absurd (omega (arith, slice_get_within keys j y a, b.1, h.long)))
+        (get_cases facts (f ∷ []) j g m))
+        (λ a. ⊎_elim
+        (λ b. absurd (omega (arith, slice_get_within facts j g b, a.1, h.long)))
+        (λ b. subst (λ z. IsValueOf t weak y z) (one_there b.0 f g b.2).1 (subst (λ z. IsValueOf t weak z f) (one_there a.0 x y a.2).1 v))
+        (get_cases facts (f ∷ []) j g m))
+        (get_cases keys (x ∷ []) j y k);
+  }
 
-  pub values_all : (keys : List Key) (i : ℕ) (facts : List EdgeFacts) → length keys ≤ i → AreValues t weak (take i keys) facts → AreValues t weak keys facts
-  values_all keys i facts l h = subst (λ z. AreValues t weak z facts) (whole i keys l) h
-    where
-      whole : {X : Type 0} (n : ℕ) (xs : List X) → length xs ≤ n → take n xs ≡ xs
-      whole zero [] h = refl
-      whole zero (x ∷ xs) h = absurd (omega (arith, h))
-      whole (suc n) [] h = refl
-      whole (suc n) (x ∷ xs) h = ap (λ z. x ∷ z) (whole n xs (omega (arith, h)))
+-- the ends of the edges of keys, with one more
+ends_more : (keys : List Key) (edges : List FeatureEdge) (x : Key) (e : FeatureEdge) → length edges ≡ length keys
+    → map {B = End} (λ p. edge_end p.0 (edge_facts p.1)) (zip keys edges) ++ edge_end x (edge_facts e) ∷ [] ≡ map (λ p. edge_end p.0 (edge_facts p.1)) (zip (keys ++ x ∷ []) (edges ++ e ∷ []))
+ends_more [] [] x e h = refl
+ends_more [] (f ∷ edges) x e h = absurd (omega (arith, h))
+ends_more (k ∷ keys) [] x e h = absurd (omega (arith, h))
+ends_more (k ∷ keys) (f ∷ edges) x e h = ap (λ z. edge_end k (edge_facts f) ∷ z) (ends_more keys edges x e (omega (arith, h)))
+
+pub made_none : (t : Tables) (m : MadeEdges) → m.weak.entries ≡ [] → m.edges.items ≡ [] → m.ends.items ≡ [] → AreMade t [] m
+made_none t m weak edges ends = record {
+  links = ap (map (λ e. e.0)) weak;
+  gates = subst (λ z. AreGates t z) (sym weak) (λ i k gate h. cc);
+  values = λ rest. subst (λ z. AreValues t (map (λ e. e.0) m.weak.entries ++ rest) [] (map edge_facts z)) (sym edges) (values_none t (map (λ e. e.0) m.weak.entries ++ rest));
+  ends = ends;
+}
+
+-- one more edge, where its weak link is noted
+pub made_next : (t : Tables) (done : List Key) (x : Key) (old new : MadeEdges) (edge : FeatureEdge) (more : List ℕ)
+    → map (λ e. e.0) new.weak.entries ≡ first_ones (weak_sources (done ++ x ∷ []))
+    → AreGates t new.weak.entries
+    → map (λ e. e.0) new.weak.entries ≡ map (λ e. e.0) old.weak.entries ++ more
+    → new.edges.items ≡ old.edges.items ++ edge ∷ []
+    → new.ends.items ≡ old.ends.items ++ edge_end x (edge_facts edge) ∷ []
+    → ((rest : List ℕ) → IsValueOf t (map (λ e. e.0) new.weak.entries ++ rest) x (edge_facts edge))
+    → AreMade t done old → AreMade t (done ++ x ∷ []) new
+made_next t done x old new edge more links gates grown edges ends value h =
+    let numbers : List ℕ = map (λ e. e.0) new.weak.entries in
+    let facts : map edge_facts new.edges.items ≡ map edge_facts old.edges.items ++ edge_facts edge ∷ [] = ap (map edge_facts) edges ∙ map-append edge_facts old.edges.items (edge ∷ []) in
+    let long : length old.edges.items ≡ length done = sym (length-map old.edges.items edge_facts) ∙ (h.values []).long in
+    record {
+      links = links;
+      gates = gates;
+      values = λ rest.
+          let same : map (λ e. e.0) old.weak.entries ++ (more ++ rest) ≡ numbers ++ rest = sym (append_assoc (map (λ e. e.0) old.weak.entries) more rest) ∙ ap (λ z. z ++ rest) (sym grown) in
+          let before : AreValues t (numbers ++ rest) done (map edge_facts old.edges.items) = subst (λ z. AreValues t z done (map edge_facts old.edges.items)) same (h.values (more ++ rest)) in
+          subst (λ z. AreValues t (numbers ++ rest) (done ++ x ∷ []) z) (sym facts) (values_more t (numbers ++ rest) done x (map edge_facts old.edges.items) (edge_facts edge) before (value rest));
+      ends = ends ∙ ap (λ z. z ++ edge_end x (edge_facts edge) ∷ []) h.ends ∙ ends_more done old.edges.items x edge long
+          ∙ ap (λ z. map (λ p. edge_end p.0 (edge_facts p.1)) (zip (done ++ x ∷ []) z)) (sym edges);
+    }

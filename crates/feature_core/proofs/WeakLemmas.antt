@@ -1,12 +1,13 @@
 -- The weak links of keys, one key after the other.
-use Rattle.std.proofs.Common.{◌≡◌, ℕ, zero, suc, ◌+◌, ◌<◌, ⊎_elim, List, [], ◌∷◌, ◌++◌, length, map, take, Bool, true, false, not, cond, Option, Some, None, refl, sym, ap, ◌∙◌, subst, arith}
-use Rattle.std.specs.Prelude.{slice_get, slice_index_or, ◌==◌, ◌&&◌, IsTrue, filter, filter_map}
-use Rattle.std.specs.List.{list_any}
+use Rattle.std.proofs.Common.{◌≡◌, ℕ, zero, suc, ◌+◌, ⊎_elim, List, [], ◌∷◌, ◌++◌, length, map, Bool, true, false, not, cond, Option, Some, None, refl, sym, ap, ◌∙◌, subst, arith}
+use Rattle.std.specs.Prelude.{slice_get, ◌==◌, ◌&&◌, IsTrue, Contains, filter, filter_map, position}
+use Rattle.std.specs.List.{list_any, position_from}
 use Rattle.std.specs.Str.{bytes_eq}
 use Rattle.std.specs.Cmp.Lexicographic.{bytes_decides}
 use Rattle.std.proofs.lemmas.Bool.Decides.{nat_tests}
-use Rattle.std.proofs.lemmas.List.{take_more, append-nil}
+use Rattle.std.proofs.lemmas.List.{append-nil}
 use Rattle.std.proofs.lemmas.List.Elements.{filter_map-append}
+use Rattle.std.proofs.lemmas.Iterator.Adapters.{position_from-zero}
 use Rattle.indexmap.specs.IndexMap.{insert_entry}
 use Rattle.guppy_packages.specs.Rows.{Text}
 use Rattle.guppy_packages.specs.Tables.{LinkTable, Tables, AreTables, has_name}
@@ -19,6 +20,7 @@ use Rattle.feature_core.specs.Edges.{IsGate, first_ones}
 use Rattle.feature_core.specs.inner.Parts.{key, over_rank, IsOfItem, IsOfPackageAt, IsOfLinkAt, IsOfTables}
 use Rattle.feature_core.specs.inner.Weak.{IsOptionalLink, AreGates, weak_source, weak_sources}
 use Rattle.feature_core.specs.declared.key.Key.{Key}
+use Rattle.feature_core.proofs.AddsLemmas.{Contains-first, Contains-later, Contains-cases, Contains-none}
 use Rattle.feature_core.proofs.LabelLemmas.{optional_label}
 use Rattle.feature_core.proofs.NodeLabels.{element_within}
 use Rattle.feature_core.proofs.PartLemmas.{list_any_there, list_any_back}
@@ -85,6 +87,44 @@ keys_inserted k v (e ∷ es) = go (k == e.0) (keys_inserted k v es)
     go true more = refl
     go false more = ap (λ z. e.0 ∷ z) more
 
+pub keys_grown : (k v : ℕ) (entries : List (ℕ × ℕ)) → (more : List ℕ) × (map (λ e. e.0) (insert_entry (λ a b. a == b) entries k v) ≡ map (λ e. e.0) entries ++ more)
+keys_grown k v entries = let r = front (map (λ e. e.0) entries) in (r.0, keys_inserted k v entries ∙ r.1)
+  where
+    front : (xs : List ℕ) → (more : List ℕ) × (with_one k xs ≡ xs ++ more)
+    front [] = (k ∷ [], refl)
+    front (x ∷ xs) = go (k == x) (front xs)
+      where
+        go : (b : Bool) → (more : List ℕ) × (with_one k xs ≡ xs ++ more) → (more : List ℕ) × (cond b (x ∷ xs) (x ∷ with_one k xs) ≡ (x ∷ xs) ++ more)
+        go true h = ([], ap (λ z. x ∷ z) (sym (append-nil xs)))
+        go false h = (h.0, ap (λ z. x ∷ z) h.1)
+
+pub key_there : (k v : ℕ) (entries : List (ℕ × ℕ)) → Contains (map (λ e. e.0) (insert_entry (λ a b. a == b) entries k v)) k
+key_there k v entries = subst (λ z. Contains z k) (sym (keys_inserted k v entries)) (there (map (λ e. e.0) entries))
+  where
+    there : (xs : List ℕ) → Contains (with_one k xs) k
+    there [] = Contains-first k []
+    there (x ∷ xs) = go (k == x) refl (there xs)
+      where
+        go : (b : Bool) → k == x ≡ b → Contains (with_one k xs) k → Contains (cond b (x ∷ xs) (x ∷ with_one k xs)) k
+        go true e h = subst (λ z. Contains (x ∷ xs) z) (sym (same_number k x e)) (Contains-first x xs)
+        go false e h = Contains-later x (with_one k xs) k h
+
+not_itself : (k x : ℕ) → k == x ≡ false → x ≡ k → ⊥
+not_itself k x e i = grind (arith, nat_tests)
+
+place_from : (k n : ℕ) (xs ys : List ℕ) → Contains xs k → position_from (λ j. k == j) n (xs ++ ys) ≡ position_from (λ j. k == j) n xs
+place_from k n [] ys h = absurd (Contains-none k h)
+place_from k n (x ∷ xs) ys h = go (k == x) refl (λ c. place_from k (n + 1) xs ys c)
+  where
+    go : (b : Bool) → k == x ≡ b → (Contains xs k → position_from (λ j. k == j) (n + 1) (xs ++ ys) ≡ position_from (λ j. k == j) (n + 1) xs)
+        → cond b (Some n) (position_from (λ j. k == j) (n + 1) (xs ++ ys)) ≡ cond b (Some n) (position_from (λ j. k == j) (n + 1) xs)
+    go true e more = refl
+    go false e more = more (⊎_elim (λ i. absurd (not_itself k x e i)) (λ i. i) (Contains-cases x xs k h))
+
+-- the place of a number that is there doesn't move where others follow
+pub place_stays : (k : ℕ) (xs ys : List ℕ) → Contains xs k → position (λ j. k == j) (xs ++ ys) ≡ position (λ j. k == j) xs
+place_stays k xs ys h = position_from-zero (λ j. k == j) (xs ++ ys) ∙ place_from k 0 xs ys h ∙ sym (position_from-zero (λ j. k == j) xs)
+
 same_entry : (P : ℕ → ℕ → Type 0) (k v j w : ℕ) → ◌≡◌ {A = Option (ℕ × ℕ)} (Some (k, v)) (Some (j, w)) → P k v → P j w
 same_entry P k v j w e h = let is : ◌≡◌ {A = ℕ × ℕ} (k, v) (j, w) = cc in subst (λ z. P z.0 z.1) is h
 
@@ -125,15 +165,6 @@ links_next done v x entries weak h =
 pub links_same : (done : List Key) (x : Key) (links : List ℕ) → (x.rank ≡ 6 → ⊥) → links ≡ first_ones (weak_sources done) → links ≡ first_ones (weak_sources (done ++ x ∷ []))
 links_same done x links strong h =
     h ∙ ap first_ones (sym (append-nil (weak_sources done)) ∙ ap (λ z. weak_sources done ++ z) (sym (strong_next x strong)) ∙ sym (filter_map-append weak_source done (x ∷ [])))
-
-pub read_there : {X : Type 0} (xs : List X) (i : ℕ) (d : X) → i < length xs → slice_get xs i ≡ Some (slice_index_or xs i d)
-read_there [] i d l = absurd (omega (arith, l))
-read_there (x ∷ xs) zero d l = refl
-read_there (x ∷ xs) (suc i) d l = read_there xs i d (omega (arith, l))
-
--- the keys as far as one more place
-pub taken_next : {X : Type 0} (xs : List X) (i : ℕ) (d : X) → i < length xs → take (i + 1) xs ≡ take i xs ++ slice_index_or xs i d ∷ []
-taken_next xs i d l = take_more xs i d l
 
 joined : (a b : Bool) → a ≡ true → b ≡ true → a && b ≡ true
 joined true b h i = i

@@ -1,5 +1,5 @@
-//! The candidates for edges, as keys, part by part of the tables.
-ghost use Rattle.std.specs.Prelude.{◌≡◌, ◌+◌, ◌<◌, ◌^◌, ◌↔◌, ◌&&◌, if◌then◌else◌, ℕ, Contains, OnOk, IfOk, IsFalse, Some, length, slice_get};
+//! The candidates for the edges of a package's nodes, as keys, part by part of the tables.
+ghost use Rattle.std.specs.Prelude.{◌≡◌, ◌+◌, ◌<◌, ◌^◌, ◌↔◌, ◌&&◌, if◌then◌else◌, ℕ, AllPairs, Contains, OnOk, IsFalse, Some, length, slice_get};
 ghost use Rattle.std.specs.List.{list_any};
 ghost use Rattle.guppy_packages.specs.Tables.{LinkTable};
 ghost use Rattle.feature_labels.specs.declared.link_declarations.LinkDeclarations.TheVariants.{Optional};
@@ -11,16 +11,17 @@ ghost use Rattle.guppy_packages.specs.Stored.{declared};
 ghost use Rattle.feature_labels.specs.Names.LabelName.{base, named, optional};
 ghost use Rattle.feature_core.specs.declared.key.Key.{Key as KeyValue};
 ghost use Rattle.feature_core.specs.inner.Adds.{Adds, Below};
+ghost use Rattle.feature_core.specs.inner.Keys.{IsNoLater};
 ghost use Rattle.feature_core.specs.Nodes.{NodeAt, first_node, labels_of};
 ghost use Rattle.feature_core.specs.inner.NamedLinks.{AreNamedLinks};
-ghost use Rattle.feature_core.specs.inner.Parts.{key, over_rank, IsToFirst, IsOverLink, start_of, IsOver, IsBeside, IsOfItem, IsOfItemAt, IsOfFeatureAt, IsOfPackageAt, IsRequest, IsOfDeclarationAt, IsOfLinkAt, IsOfTables};
+ghost use Rattle.feature_core.specs.inner.Parts.{key, over_rank, IsToFirst, IsOverLink, start_of, IsOver, IsBeside, IsOfItem, IsOfItemAt, IsOfFeatureAt, IsOfPackageAt, IsRequest, IsOfDeclarationAt, IsOfLinkAt, IsOfSource};
 
 use crate::declarations::push_links;
-use crate::key::Key;
+use crate::key::{Key, sort_keys};
 use crate::named_links::{LinkGroups, numbers_of};
 use crate::numbers::Numbers;
 use guppy_packages::{Declaration, NamedFeature, NamedFeatureDep, PackageLink, PackageMetadata};
-use std::alloc::{AllocError, Global};
+use std::alloc::AllocError;
 
 /// Adds a key to the node, where there is one.
 pub(crate) fn push_to(
@@ -241,32 +242,22 @@ fn push_package(
     Ok(())
 }
 
-/// Adds the keys of all packages.
-fn push_packages(
+/// The keys of a package: by its nodes, by the items of its features, and by the declarations of its links, in order.
+pub(crate) fn package_keys(
     keys: &mut Vec<Key>,
     numbers: Numbers<'_>,
     groups: &LinkGroups<'_>,
+    ix: usize,
 ) -> Result<(), AllocError>
-    requires { AreNamedLinks numbers.graph.now groups.now }
-    ensures { OnOk result (Adds (λ x. (p : ℕ) × IsOfPackageAt numbers.entry.graph.now p x) keys.old.items keys.new.items) }
+    requires links { AreNamedLinks numbers.graph.now groups.now }
+    requires package { ix < length numbers.graph.now.packages }
+    ensures ordered { OnOk result (AllPairs IsNoLater keys.new.items) }
+    ensures keys { OnOk result ((x : KeyValue) → Contains keys.new.items x ↔ IsOfSource numbers.entry.graph.now ix x) }
 {
-    for ix in 0..numbers.graph.package_count() {
-        push_package(keys, numbers, groups, numbers.graph.package(ix))?;
-    }
+    let metadata = numbers.graph.package(ix);
+    keys.clear();
+    push_package(keys, numbers, groups, metadata)?;
+    push_links(keys, numbers, metadata)?;
+    sort_keys(keys);
     Ok(())
-}
-
-/// The keys of all candidates.
-pub(crate) fn candidates(
-    alloc: Global,
-    numbers: Numbers<'_>,
-    groups: &LinkGroups<'_>,
-) -> Result<Vec<Key>, AllocError>
-    requires { AreNamedLinks numbers.graph.now groups.now }
-    ensures { IfOk result (λ keys. (x : KeyValue) → Contains keys.items x ↔ IsOfTables numbers.entry.graph.now x) }
-{
-    let mut keys = Vec::new(alloc);
-    push_packages(&mut keys, numbers, groups)?;
-    push_links(&mut keys, numbers)?;
-    Ok(keys)
 }

@@ -6,7 +6,7 @@ ghost use Rattle.guppy_packages.specs.Stored.{declared};
 ghost use Rattle.feature_core.specs.inner.Adds.{Adds};
 ghost use Rattle.feature_core.specs.Links.{IsLink};
 ghost use Rattle.feature_core.specs.Nodes.{NodeAt};
-ghost use Rattle.feature_core.specs.inner.Parts.{start_of, IsRequest, IsOfDeclarationAt, IsOfLinkAt};
+ghost use Rattle.feature_core.specs.inner.Parts.{start_of, IsRequest, IsOfDeclarationAt, IsOfLinkAt, IsLinkFrom};
 
 use crate::candidates::push_to;
 use crate::key::Key;
@@ -101,11 +101,17 @@ fn push_link(keys: &mut Vec<Key>, numbers: Numbers<'_>, ix: usize) -> Result<(),
     Ok(())
 }
 
-/// Adds the keys of all links.
-pub(crate) fn push_links(keys: &mut Vec<Key>, numbers: Numbers<'_>) -> Result<(), AllocError>
-    ensures { OnOk result (Adds (λ x. (k : ℕ) × IsOfLinkAt numbers.entry.graph.now k x) keys.old.items keys.new.items) }
+/// Adds the keys of the links that leave a package.
+pub(crate) fn push_links(
+    keys: &mut Vec<Key>,
+    numbers: Numbers<'_>,
+    metadata: PackageMetadata<'_>,
+) -> Result<(), AllocError>
+    requires { package_graph_of metadata ≡ numbers.graph.now }
+    ensures { OnOk result (Adds (λ x. (k : ℕ) × IsLinkFrom numbers.entry.graph.now metadata.entry.package_ix k × IsOfLinkAt numbers.entry.graph.now k x) keys.old.items keys.new.items) }
 {
-    for ix in 0..numbers.graph.link_count() {
+    let links = metadata.direct_links();
+    for ix in links.start..links.end {
         push_link(keys, numbers, ix)?;
     }
     Ok(())

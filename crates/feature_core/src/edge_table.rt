@@ -1,28 +1,26 @@
-//! The edges of a package graph, from keys to what each edge says.
-ghost use Rattle.std.specs.Prelude.{◌≡◌, ◌↔◌, ℕ, AllPairs, Contains, IfOk, List, length, map};
-ghost use Rattle.std.specs.List.{zip};
+//! The edges of a package graph, package by package, from keys to what each edge says.
+ghost use Rattle.std.specs.Prelude.{◌≡◌, ◌++◌, ◌∷◌, [], ◌+◌, ◌<◌, IfOk, List, OnOk, length, map};
 ghost use Rattle.guppy_support.specs.Graph.{IsDigraph};
 ghost use Rattle.feature_core.specs.declared.key.Key.{Key as KeyValue};
 ghost use Rattle.feature_core.specs.Built.{pairs_of, built_edges, end_of};
 ghost use Rattle.feature_core.specs.Edges.{AreBuilt};
-ghost use Rattle.feature_core.specs.inner.Keys.{IsNoLater};
-ghost use Rattle.feature_core.specs.inner.Made.{IsKept, edge_end};
+ghost use Rattle.feature_core.specs.inner.Keys.{AreLeast, IsLeast};
+ghost use Rattle.feature_core.specs.inner.Made.{IsMaterial, AreMade, AreMadeBelow, edge_end};
 ghost use Rattle.feature_core.specs.inner.NamedLinks.{AreNamedLinks};
 ghost use Rattle.feature_core.specs.Nodes.{first_nodes, node_packages};
 ghost use Rattle.feature_core.specs.Pairs.{IsPairList};
 ghost use Rattle.feature_core.specs.inner.Parts.{IsOfTables};
 ghost use Rattle.feature_core.specs.Values.{edge_facts};
 
-use crate::candidates::candidates;
+use crate::candidates::package_keys;
 use crate::edge::FeatureEdge;
-use crate::edges::{Material, edges_of};
-use crate::key::{Key, keep_least, keys_of_rank, sort_keys};
+use crate::edges::{Material, edge_of};
+use crate::key::{Key, keep_least_of};
 use crate::named_links::LinkGroups;
 use crate::nodes::NodeTable;
 use crate::numbers::Numbers;
-use crate::weak_links::weak_table;
-use guppy_packages::PackageGraph;
-use guppy_support::{Digraph, DigraphError, Edge, collect_exactly};
+use crate::weak_links::note_gate;
+use guppy_support::{Digraph, DigraphError, Edge};
 use indexmap::IndexMap;
 use std::alloc::{AllocError, Global};
 
@@ -32,31 +30,6 @@ pub(crate) struct EdgeTable {
     pub(crate) digraph: Digraph,
     pub(crate) edges: Vec<FeatureEdge>,
     pub(crate) weak: IndexMap<usize, usize>,
-}
-
-/// Keys of the tables.
-#[derive(Drop)]
-struct Keys {
-    kept: Vec<Key>,
-    sections: Vec<Key>,
-}
-
-/// The least keys of all pairs, and all keys that declarations request.
-fn least_keys(
-    alloc: Global,
-    numbers: Numbers<'_>,
-    groups: &LinkGroups<'_>,
-) -> Result<Keys, AllocError>
-    requires { AreNamedLinks numbers.graph.now groups.now }
-    ensures kept { IfOk result (λ keys. IsKept numbers.entry.graph.now keys.kept.items) }
-    ensures ordered { IfOk result (λ keys. AllPairs IsNoLater keys.sections.items) }
-    ensures sections { IfOk result (λ keys. (y : KeyValue) → Contains keys.sections.items y ↔ (IsOfTables numbers.entry.graph.now y × (y.rank ≡ 7))) }
-{
-    let mut kept = candidates(alloc, numbers, groups)?;
-    sort_keys(&mut kept);
-    let sections = keys_of_rank(alloc, &kept, 7)?;
-    keep_least(&mut kept);
-    Ok(Keys { kept, sections })
 }
 
 /// The ends of a key's edge.
@@ -70,16 +43,106 @@ fn edge_end(key: Key, edge: &FeatureEdge) -> Edge
     }
 }
 
-/// The ends of the edges of keys.
-fn edge_ends(alloc: Global, kept: &[Key], edges: &[FeatureEdge]) -> Result<Vec<Edge>, AllocError>
-    ensures { IfOk result (λ ends. ends.items ≡ map (λ p. edge_end p.0 (edge_facts p.1)) (zip kept.now edges.now)) }
+/// The edges of keys, one after the other: what each says, its ends, and the gate of each weak link.
+#[derive(Drop)]
+pub(crate) struct MadeEdges {
+    edges: Vec<FeatureEdge>,
+    ends: Vec<Edge>,
+    weak: IndexMap<usize, usize>,
+}
+
+/// Room for the keys of a package, and for the least of each pair.
+#[derive(Drop)]
+struct Room {
+    keys: Vec<Key>,
+    kept: Vec<Key>,
+}
+
+impl MadeEdges {
+    /// Adds the edge of a key.
+    fn add(&mut self, alloc: Global, material: Material<'_, '_>, key: Key) -> Result<(), AllocError>
+        requires material { IsMaterial material }
+        requires of_tables { IsOfTables material.numbers.graph.now key }
+        requires least { IsLeast material.keys.now key }
+        ensures { OnOk result ((done : List KeyValue) → AreMade material.entry.numbers.graph.now done self.old → AreMade material.entry.numbers.graph.now (done ++ key ∷ []) self.new) }
+    {
+        note_gate(&mut self.weak, material.numbers, key)?;
+        let edge = edge_of(alloc, material, &self.weak, key)?;
+        self.ends.push(edge_end(key, &edge))?;
+        self.edges.push(edge)?;
+        Ok(())
+    }
+
+    /// Adds the edges of the least keys of a package.
+    fn add_all(
+        &mut self,
+        alloc: Global,
+        material: Material<'_, '_>,
+        kept: &[Key],
+    ) -> Result<(), AllocError>
+        requires material { IsMaterial material }
+        requires kept { AreLeast material.keys.now kept.now }
+        ensures { OnOk result ((done : List KeyValue) → AreMade material.entry.numbers.graph.now done self.old → AreMade material.entry.numbers.graph.now (done ++ kept.now) self.new) }
+    {
+        for ix in 0..kept.len() {
+            self.add(alloc, material, kept[ix])?;
+        }
+        Ok(())
+    }
+
+    /// Adds the edges of a package's nodes.
+    fn add_package(
+        &mut self,
+        alloc: Global,
+        numbers: Numbers<'_>,
+        packages: &[usize],
+        groups: &LinkGroups<'_>,
+        room: &mut Room,
+        ix: usize,
+    ) -> Result<(), AllocError>
+        requires packages { packages.now ≡ node_packages numbers.graph.now }
+        requires links { AreNamedLinks numbers.graph.now groups.now }
+        requires package { ix < length numbers.graph.now.packages }
+        requires made { AreMadeBelow numbers.graph.now ix self.old }
+        ensures { OnOk result (AreMadeBelow numbers.entry.graph.now (ix + 1) self.new) }
+    {
+        package_keys(&mut room.keys, numbers, groups, ix)?;
+        keep_least_of(&mut room.kept, &room.keys)?;
+        let material = Material {
+            numbers,
+            packages,
+            groups,
+            keys: room.keys.as_slice(),
+        };
+        self.add_all(alloc, material, &room.kept)?;
+        Ok(())
+    }
+}
+
+/// The edges of the nodes of all packages.
+fn made_edges(
+    alloc: Global,
+    numbers: Numbers<'_>,
+    packages: &[usize],
+    groups: &LinkGroups<'_>,
+) -> Result<MadeEdges, AllocError>
+    requires packages { packages.now ≡ node_packages numbers.graph.now }
+    requires links { AreNamedLinks numbers.graph.now groups.now }
+    ensures { IfOk result (λ made. AreMadeBelow numbers.entry.graph.now (length numbers.entry.graph.now.packages) made) }
 {
-    collect_exactly(
-        kept.iter()
-            .zip(edges.iter())
-            .map(|(key, edge)| edge_end(*key, edge)),
-        alloc,
-    )
+    let mut made = MadeEdges {
+        edges: Vec::new(alloc),
+        ends: Vec::new(alloc),
+        weak: IndexMap::new(alloc),
+    };
+    let mut room = Room {
+        keys: Vec::new(alloc),
+        kept: Vec::new(alloc),
+    };
+    for ix in 0..numbers.graph.package_count() {
+        made.add_package(alloc, numbers, packages, groups, &mut room, ix)?;
+    }
+    Ok(made)
 }
 
 /// The digraph of edges that are in order and join nodes. It fails only where memory is refused.
@@ -112,18 +175,12 @@ pub(crate) fn edge_table(
     ensures edges { IfOk result (λ e. AreBuilt numbers.entry.graph.now (built_edges e.digraph.edges (map edge_facts e.edges.items)) e.weak.entries) }
 {
     numbers.graph.facts();
-    let Keys { kept, sections } = least_keys(alloc, numbers, groups)?;
-    let weak = weak_table(alloc, numbers, &kept)?;
-    let material = Material {
-        graph: numbers.graph,
-        firsts: table.firsts.as_slice(),
-        packages: table.packages.as_slice(),
+    let MadeEdges { edges, ends, weak } = made_edges(
+        alloc,
+        numbers,
+        table.packages.as_slice(),
         groups,
-        sections: sections.as_slice(),
-        weak: &weak,
-    };
-    let edges = edges_of(alloc, material, &kept)?;
-    let ends = edge_ends(alloc, &kept, &edges)?;
+    )?;
     let digraph = digraph_of(alloc, table.packages.len(), &ends)?;
     Ok(EdgeTable {
         digraph,

@@ -1,5 +1,5 @@
-//! The edges of a graph, made of the least keys.
-ghost use Rattle.std.specs.Prelude.{◌≡◌, ◌==◌, ◌<◌, ◌⊎◌, ℕ, AllPairs, IfOk, List, Some, length, map, position, slice_get};
+//! The edge of a key.
+ghost use Rattle.std.specs.Prelude.{◌≡◌, ◌==◌, ◌++◌, ◌<◌, ◌⊎◌, ℕ, AllPairs, Contains, IfOk, List, length, map, position};
 ghost use Rattle.std.specs.Option.{option_map_or};
 ghost use Rattle.indexmap.specs.IndexMap.{keys};
 ghost use Rattle.std.specs.List.{dedup};
@@ -8,8 +8,8 @@ ghost use Rattle.guppy_packages.specs.Rows.{Text};
 ghost use Rattle.feature_labels.specs.Names.LabelName.{base, named, optional};
 ghost use Rattle.feature_core.specs.declared.key.Key.{Key as KeyValue};
 ghost use Rattle.feature_core.specs.Candidates.{by_name};
-ghost use Rattle.feature_core.specs.inner.Keys.{IsNoLater, IsRun};
-ghost use Rattle.feature_core.specs.inner.Made.{IsMaterial, IsValueOf, AreValues};
+ghost use Rattle.feature_core.specs.inner.Keys.{IsLeast, IsNoLater, IsRun};
+ghost use Rattle.feature_core.specs.inner.Made.{IsMaterial, IsValueOf};
 ghost use Rattle.feature_core.specs.Nodes.{NodeAt};
 ghost use Rattle.feature_core.specs.inner.Parts.{IsOfTables};
 ghost use Rattle.feature_core.specs.Values.{link_facts, edge_facts};
@@ -19,32 +19,29 @@ use crate::key::{Key, run_of};
 use crate::link::ConditionalLinkImpl;
 use crate::link::from_declarations::{half_of, link_of, named_link, section_link};
 use crate::named_links::LinkGroups;
-use crate::numbers::label_at;
+use crate::numbers::Numbers;
 use feature_labels::{FeatureLabel, LinkDeclarations};
-use guppy_packages::PackageGraph;
 use guppy_support::collect_exactly;
 use indexmap::IndexMap;
 use std::alloc::{AllocError, Global};
 
-/// What edges are made of: the tables, the first node of each package and the package of each node, the links of each
-/// package by name, the keys that declarations request, and the gate of each weak link.
+/// What the edges of a package's nodes are made of: the numbers of nodes, the package of each node, the links of each
+/// package by name, and the keys of the package, in order.
 #[derive(Clone, Copy)]
 pub(crate) struct Material<'a, 'g> {
-    pub(crate) graph: &'g PackageGraph,
-    pub(crate) firsts: &'a [usize],
+    pub(crate) numbers: Numbers<'g>,
     pub(crate) packages: &'a [usize],
     pub(crate) groups: &'a LinkGroups<'g>,
-    pub(crate) sections: &'a [Key],
-    pub(crate) weak: &'a IndexMap<usize, usize>,
+    pub(crate) keys: &'a [Key],
 }
 
 /// The name of a node that is no base.
 fn name_at<'g>(material: Material<'_, 'g>, ix: usize) -> &'g str
     requires material { IsMaterial material }
-    requires named { (p : ℕ) × (d : Text) × (NodeAt material.graph.now ix p (optional d) ⊎ NodeAt material.graph.now ix p (named d)) }
-    ensures { (p : ℕ) (d : Text) → NodeAt material.entry.graph.now ix p (optional d) ⊎ NodeAt material.entry.graph.now ix p (named d) → result.now ≡ d }
+    requires named { (p : ℕ) × (d : Text) × (NodeAt material.numbers.graph.now ix p (optional d) ⊎ NodeAt material.numbers.graph.now ix p (named d)) }
+    ensures { (p : ℕ) (d : Text) → NodeAt material.entry.numbers.graph.now ix p (optional d) ⊎ NodeAt material.entry.numbers.graph.now ix p (named d) → result.now ≡ d }
 {
-    match label_at(material.graph, material.firsts, material.packages, ix) {
+    match material.numbers.label_at(material.packages, ix) {
         FeatureLabel::Base => unreachable!(),
         FeatureLabel::Named(name) | FeatureLabel::OptionalDependency(name) => name,
     }
@@ -58,14 +55,14 @@ fn link_to(
     which: LinkDeclarations,
 ) -> Result<ConditionalLinkImpl, AllocError>
     requires material { IsMaterial material }
-    requires named { (p : ℕ) × (d : Text) × (NodeAt material.graph.now ix p (optional d) ⊎ NodeAt material.graph.now ix p (named d)) }
-    ensures { IfOk result (λ l. (p : ℕ) (d : Text) → NodeAt material.entry.graph.now ix p (optional d) ⊎ NodeAt material.entry.graph.now ix p (named d) → link_facts l ≡ by_name material.entry.graph.now p which d) }
+    requires named { (p : ℕ) × (d : Text) × (NodeAt material.numbers.graph.now ix p (optional d) ⊎ NodeAt material.numbers.graph.now ix p (named d)) }
+    ensures { IfOk result (λ l. (p : ℕ) (d : Text) → NodeAt material.entry.numbers.graph.now ix p (optional d) ⊎ NodeAt material.entry.numbers.graph.now ix p (named d) → link_facts l ≡ by_name material.entry.numbers.graph.now p which d) }
 {
     let name = name_at(material, ix);
     let package_ix = material.packages[ix];
     let link = named_link(
         alloc,
-        material.graph,
+        material.numbers.graph,
         material.groups,
         package_ix,
         name,
@@ -84,14 +81,14 @@ fn places_of(alloc: Global, keys: &[Key]) -> Result<Vec<usize>, AllocError>
 /// The places of the declarations that request a pair of nodes, ascending.
 fn places_at(
     alloc: Global,
-    sections: &[Key],
+    sorted: &[Key],
     from: usize,
     to: usize,
 ) -> Result<Vec<usize>, AllocError>
-    requires { AllPairs IsNoLater sections.now }
-    ensures { IfOk result (λ places. (run : List KeyValue) × IsRun sections.now from to run × (places.items ≡ dedup eqb (map (λ y. y.place) run))) }
+    requires { AllPairs IsNoLater sorted.now }
+    ensures { IfOk result (λ places. (run : List KeyValue) × IsRun sorted.now from to run × (places.items ≡ dedup eqb (map (λ y. y.place) run))) }
 {
-    let mut places = places_of(alloc, run_of(sections, from, to))?;
+    let mut places = places_of(alloc, run_of(sorted, from, to))?;
     places.dedup();
     Ok(places)
 }
@@ -101,10 +98,10 @@ fn places_at(
 fn half_from(material: Material<'_, '_>, ix: usize) -> LinkDeclarations
     requires material { IsMaterial material }
     requires node { ix < length material.packages.now }
-    ensures required { (p : ℕ) → NodeAt material.entry.graph.now ix p base → result ≡ LinkDeclarations.Required }
-    ensures optional { (p : ℕ) (d : Text) → NodeAt material.entry.graph.now ix p (optional d) → result ≡ LinkDeclarations.Optional }
+    ensures required { (p : ℕ) → NodeAt material.entry.numbers.graph.now ix p base → result ≡ LinkDeclarations.Required }
+    ensures optional { (p : ℕ) (d : Text) → NodeAt material.entry.numbers.graph.now ix p (optional d) → result ≡ LinkDeclarations.Optional }
 {
-    match label_at(material.graph, material.firsts, material.packages, ix) {
+    match material.numbers.label_at(material.packages, ix) {
         FeatureLabel::Base => LinkDeclarations::Required,
         FeatureLabel::Named(_) | FeatureLabel::OptionalDependency(_) => LinkDeclarations::Optional,
     }
@@ -127,11 +124,11 @@ fn colon_edge(
     key: Key,
 ) -> Result<FeatureEdge, AllocError>
     requires material { IsMaterial material }
-    requires of_tables { IsOfTables material.graph.now key }
+    requires of_tables { IsOfTables material.numbers.graph.now key }
     requires rank { key.rank ≡ 3 }
-    ensures { IfOk result (λ edge. (weak : List ℕ) → IsValueOf material.entry.graph.now weak key (edge_facts edge)) }
+    ensures { IfOk result (λ edge. (weak : List ℕ) → IsValueOf material.entry.numbers.graph.now weak key (edge_facts edge)) }
 {
-    material.graph.facts();
+    material.numbers.graph.facts();
     let link = link_to(alloc, material, key.to, LinkDeclarations::Unsplit)?;
     Ok(FeatureEdge::NamedFeatureDepColon(link))
 }
@@ -143,11 +140,11 @@ fn beside_edge(
     key: Key,
 ) -> Result<FeatureEdge, AllocError>
     requires material { IsMaterial material }
-    requires of_tables { IsOfTables material.graph.now key }
+    requires of_tables { IsOfTables material.numbers.graph.now key }
     requires rank { key.rank ≡ 5 }
-    ensures { IfOk result (λ edge. (weak : List ℕ) → IsValueOf material.entry.graph.now weak key (edge_facts edge)) }
+    ensures { IfOk result (λ edge. (weak : List ℕ) → IsValueOf material.entry.numbers.graph.now weak key (edge_facts edge)) }
 {
-    material.graph.facts();
+    material.numbers.graph.facts();
     let link = link_to(alloc, material, key.to, LinkDeclarations::Optional)?;
     Ok(FeatureEdge::NamedFeatureWithSlash {
         link,
@@ -158,12 +155,17 @@ fn beside_edge(
 /// The edge of a strong item over a package link.
 fn full_edge(alloc: Global, material: Material<'_, '_>, key: Key) -> Result<FeatureEdge, AllocError>
     requires material { IsMaterial material }
-    requires of_tables { IsOfTables material.graph.now key }
+    requires of_tables { IsOfTables material.numbers.graph.now key }
     requires rank { key.rank ≡ 4 }
-    ensures { IfOk result (λ edge. (weak : List ℕ) → IsValueOf material.entry.graph.now weak key (edge_facts edge)) }
+    ensures { IfOk result (λ edge. (weak : List ℕ) → IsValueOf material.entry.numbers.graph.now weak key (edge_facts edge)) }
 {
-    material.graph.facts();
-    let link = link_of(alloc, material.graph, key.source, LinkDeclarations::Unsplit)?;
+    material.numbers.graph.facts();
+    let link = link_of(
+        alloc,
+        material.numbers.graph,
+        key.source,
+        LinkDeclarations::Unsplit,
+    )?;
     Ok(FeatureEdge::NamedFeatureWithSlash {
         link,
         slash: SlashForm::Strong,
@@ -171,27 +173,38 @@ fn full_edge(alloc: Global, material: Material<'_, '_>, key: Key) -> Result<Feat
 }
 
 /// The edge of a weak item over a package link.
-fn weak_edge(alloc: Global, material: Material<'_, '_>, key: Key) -> Result<FeatureEdge, AllocError>
+fn weak_edge(
+    alloc: Global,
+    material: Material<'_, '_>,
+    table: &IndexMap<usize, usize>,
+    key: Key,
+) -> Result<FeatureEdge, AllocError>
+    requires noted { Contains (keys table.now) key.source }
     requires material { IsMaterial material }
-    requires of_tables { IsOfTables material.graph.now key }
+    requires of_tables { IsOfTables material.numbers.graph.now key }
     requires rank { key.rank ≡ 6 }
-    ensures { IfOk result (λ edge. IsValueOf material.entry.graph.now (keys material.entry.weak.now) key (edge_facts edge)) }
+    ensures { IfOk result (λ edge. (rest : List ℕ) → IsValueOf material.entry.numbers.graph.now (keys table.now ++ rest) key (edge_facts edge)) }
 {
-    material.graph.facts();
-    let link = link_of(alloc, material.graph, key.source, LinkDeclarations::Unsplit)?;
+    material.numbers.graph.facts();
+    let link = link_of(
+        alloc,
+        material.numbers.graph,
+        key.source,
+        LinkDeclarations::Unsplit,
+    )?;
     let required = half_of(
         alloc,
-        material.graph,
+        material.numbers.graph,
         key.source,
         LinkDeclarations::Required,
     )?;
     let optional = half_of(
         alloc,
-        material.graph,
+        material.numbers.graph,
         key.source,
         LinkDeclarations::Optional,
     )?;
-    let index = index_in(material.weak, key.source);
+    let index = index_in(table, key.source);
     let weak = Box::new(alloc, WeakSlashImpl::new(required, optional, index))?;
     Ok(FeatureEdge::NamedFeatureWithSlash {
         link,
@@ -206,24 +219,32 @@ fn section_edge(
     key: Key,
 ) -> Result<FeatureEdge, AllocError>
     requires material { IsMaterial material }
-    requires of_tables { IsOfTables material.graph.now key }
+    requires of_tables { IsOfTables material.numbers.graph.now key }
     requires rank { key.rank ≡ 7 }
-    ensures { IfOk result (λ edge. (weak : List ℕ) → IsValueOf material.entry.graph.now weak key (edge_facts edge)) }
+    requires least { IsLeast material.keys.now key }
+    ensures { IfOk result (λ edge. (weak : List ℕ) → IsValueOf material.entry.numbers.graph.now weak key (edge_facts edge)) }
 {
-    material.graph.facts();
+    material.numbers.graph.facts();
     let which = half_from(material, key.from);
-    let places = places_at(alloc, material.sections, key.from, key.to)?;
-    let link = section_link(alloc, material.graph, key.source, which, &places)?;
+    let places = places_at(alloc, material.keys, key.from, key.to)?;
+    let link = section_link(alloc, material.numbers.graph, key.source, which, &places)?;
     Ok(FeatureEdge::DependenciesSection(link))
 }
 
-/// The edge of a key.
-fn edge_of(alloc: Global, material: Material<'_, '_>, key: Key) -> Result<FeatureEdge, AllocError>
+/// The edge of a key that is the least of its pair, where its weak link is noted.
+pub(crate) fn edge_of(
+    alloc: Global,
+    material: Material<'_, '_>,
+    table: &IndexMap<usize, usize>,
+    key: Key,
+) -> Result<FeatureEdge, AllocError>
+    requires noted { key.rank ≡ 6 → Contains (keys table.now) key.source }
+    requires least { IsLeast material.keys.now key }
     requires material { IsMaterial material }
-    requires of_tables { IsOfTables material.graph.now key }
-    ensures { IfOk result (λ edge. IsValueOf material.entry.graph.now (keys material.entry.weak.now) key (edge_facts edge)) }
+    requires of_tables { IsOfTables material.numbers.graph.now key }
+    ensures { IfOk result (λ edge. (rest : List ℕ) → IsValueOf material.entry.numbers.graph.now (keys table.now ++ rest) key (edge_facts edge)) }
 {
-    material.graph.facts();
+    material.numbers.graph.facts();
     if key.rank == 1 {
         Ok(FeatureEdge::FeatureToBase)
     } else if key.rank == 2 {
@@ -235,26 +256,8 @@ fn edge_of(alloc: Global, material: Material<'_, '_>, key: Key) -> Result<Featur
     } else if key.rank == 5 {
         beside_edge(alloc, material, key)
     } else if key.rank == 6 {
-        weak_edge(alloc, material, key)
+        weak_edge(alloc, material, table, key)
     } else {
         section_edge(alloc, material, key)
     }
-}
-
-/// The edges of keys.
-pub(crate) fn edges_of(
-    alloc: Global,
-    material: Material<'_, '_>,
-    kept: &[Key],
-) -> Result<Vec<FeatureEdge>, AllocError>
-    requires material { IsMaterial material }
-    requires of_tables { (i : ℕ) (x : KeyValue) → slice_get kept.now i ≡ Some x → IsOfTables material.graph.now x }
-    ensures { IfOk result (λ edges. AreValues material.entry.graph.now (keys material.entry.weak.now) kept.now (map edge_facts edges.items)) }
-{
-    let mut edges = Vec::with_capacity(alloc, kept.len())?;
-    for ix in 0..kept.len() {
-        let edge = edge_of(alloc, material, kept[ix])?;
-        edges.push(edge)?;
-    }
-    Ok(edges)
 }

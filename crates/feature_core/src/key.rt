@@ -1,8 +1,8 @@
 //! Candidates for edges as small keys, and the least of each pair of nodes.
-ghost use Rattle.std.specs.Prelude.{◌≡◌, ◌==◌, IsPermutation, AllPairs, IfOk, filter};
-ghost use Rattle.feature_core.specs.inner.Keys.{IsNoLater, AreLeast, IsRun, AreOfRank, is_pair_below, is_pair_up_to};
+ghost use Rattle.std.specs.Prelude.{◌≡◌, IsPermutation, AllPairs, OnOk};
+ghost use Rattle.feature_core.specs.inner.Keys.{IsNoLater, AreLeast, IsRun, is_pair_below, is_pair_up_to};
 
-use std::alloc::{AllocError, Global};
+use std::alloc::AllocError;
 
 /// A candidate for the edge of a pair of nodes.
 ///
@@ -26,21 +26,22 @@ pub(crate) fn sort_keys(keys: &mut Vec<Key>)
 }
 
 /// Of sorted keys, keeps the least of each pair.
-pub(crate) fn keep_least(keys: &mut Vec<Key>)
+fn keep_least(keys: &mut Vec<Key>)
     requires { AllPairs IsNoLater keys.old.items }
     ensures { AreLeast keys.old.items keys.new.items }
 {
     keys.dedup_by_key(|key| (key.from, key.to));
 }
 
-/// Of sorted keys, those of a rank.
-pub(crate) fn keys_of_rank(alloc: Global, keys: &[Key], rank: u8) -> Result<Vec<Key>, AllocError>
+/// Puts the least of each pair of sorted keys in place of what was kept.
+pub(crate) fn keep_least_of(kept: &mut Vec<Key>, keys: &[Key]) -> Result<(), AllocError>
     requires { AllPairs IsNoLater keys.now }
-    ensures { IfOk result (λ some. AreOfRank rank keys.now some.items) }
+    ensures { OnOk result (AreLeast keys.now kept.new.items) }
 {
-    let mut some = keys.to_vec(alloc)?;
-    some.retain(|key| key.rank == rank);
-    Ok(some)
+    kept.clear();
+    kept.extend_from_slice(keys)?;
+    keep_least(kept);
+    Ok(())
 }
 
 /// Of sorted keys, those of a pair.

@@ -1,5 +1,5 @@
 //! The weak links that keys name, with their gates.
-ghost use Rattle.std.specs.Prelude.{◌≡◌, ◌++◌, ◌∷◌, [], List, Contains, IfOk, OnOk, map};
+ghost use Rattle.std.specs.Prelude.{◌≡◌, ◌++◌, ◌∷◌, [], ℕ, List, Contains, OnOk, map};
 ghost use Rattle.feature_core.specs.declared.key.Key.{Key as KeyValue};
 ghost use Rattle.feature_core.specs.Edges.{IsGate, first_ones};
 ghost use Rattle.feature_core.specs.inner.Parts.{IsOfTables};
@@ -8,7 +8,7 @@ ghost use Rattle.feature_core.specs.inner.Weak.{IsOptionalLink, AreGates, weak_s
 use crate::key::Key;
 use crate::numbers::Numbers;
 use indexmap::IndexMap;
-use std::alloc::{AllocError, Global};
+use std::alloc::AllocError;
 
 /// The gate of a weak link: the node of its name among the optional dependencies of its source.
 fn gate_of(numbers: Numbers<'_>, ix: usize) -> usize
@@ -24,13 +24,15 @@ fn gate_of(numbers: Numbers<'_>, ix: usize) -> usize
 }
 
 /// Notes the weak link of a key, where it is the key of a weak edge.
-fn note_gate(
+pub(crate) fn note_gate(
     table: &mut IndexMap<usize, usize>,
     numbers: Numbers<'_>,
     key: Key,
 ) -> Result<(), AllocError>
     requires { IsOfTables numbers.graph.now key }
     ensures links { OnOk result ((done : List KeyValue) → map (λ e. e.0) table.old.entries ≡ first_ones (weak_sources done) → map (λ e. e.0) table.new.entries ≡ first_ones (weak_sources (done ++ key ∷ []))) }
+    ensures grown { OnOk result ((more : List ℕ) × (map (λ e. e.0) table.new.entries ≡ map (λ e. e.0) table.old.entries ++ more)) }
+    ensures noted { OnOk result (key.rank ≡ 6 → Contains (map (λ e. e.0) table.new.entries) key.source) }
     ensures gates { OnOk result (AreGates numbers.entry.graph.now table.old.entries → AreGates numbers.entry.graph.now table.new.entries) }
 {
     if key.rank != 6 {
@@ -39,21 +41,4 @@ fn note_gate(
     let gate = gate_of(numbers, key.source);
     table.insert(key.source, gate)?;
     Ok(())
-}
-
-/// The weak links that keys name, by first appearance, each with its gate.
-pub(crate) fn weak_table(
-    alloc: Global,
-    numbers: Numbers<'_>,
-    keys: &[Key],
-) -> Result<IndexMap<usize, usize>, AllocError>
-    requires { (x : KeyValue) → Contains keys.now x → IsOfTables numbers.graph.now x }
-    ensures links { IfOk result (λ table. map (λ e. e.0) table.entries ≡ first_ones (weak_sources keys.now)) }
-    ensures gates { IfOk result (λ table. AreGates numbers.entry.graph.now table.entries) }
-{
-    let mut table = IndexMap::new(alloc);
-    for ix in 0..keys.len() {
-        note_gate(&mut table, numbers, keys[ix])?;
-    }
-    Ok(table)
 }

@@ -30,10 +30,10 @@ pub record IsRun (keys : List Key) (from to : ℕ) (run : List Key) : Type 0 whe
   pub ordered : AllPairs IsNoLater run
   pub exact : (y : Key) → Contains run y ↔ (Contains keys y × (y.from ≡ from) × (y.to ≡ to))
 
--- exactly the keys of this rank, in order
-pub record AreOfRank (rank : ℕ) (keys some : List Key) : Type 0 where
-  pub ordered : AllPairs IsNoLater some
-  pub exact : (y : Key) → Contains some y ↔ (Contains keys y × (y.rank ≡ rank))
+-- one of the keys, and none of its pair has a lower rank
+pub record IsLeast (keys : List Key) (x : Key) : Type 0 where
+  pub is_key : Contains keys x
+  pub least : (y : Key) → Contains keys y → IsPair x y → x.rank ≤ y.rank
 
 -- a kept key of the pair, of no higher rank
 pub record IsServed (kept : List Key) (b : Key) : Type 0 where

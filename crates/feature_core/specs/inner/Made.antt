@@ -1,23 +1,27 @@
 -- The edges of keys, as they are made.
-use Rattle.std.specs.Prelude.{◌≡◌, ℕ, ◌↔◌, List, Contains, AllPairs, Some, slice_get, length, not}
+use Rattle.std.specs.Prelude.{◌≡◌, ℕ, ◌<◌, ◌↔◌, List, ◌++◌, Contains, AllPairs, Some, slice_get, length, map, not}
+use Rattle.std.specs.List.{zip}
 use Rattle.guppy_support.specs.declared.digraph.Edge.{Edge as End}
 use Rattle.guppy_packages.specs.Tables.{Tables}
-use Rattle.feature_core.specs.Nodes.{first_nodes, node_packages}
+use Rattle.feature_core.specs.Nodes.{node_packages}
 use Rattle.feature_core.specs.Candidates.{Edge, Candidate, rank_of}
-use Rattle.feature_core.specs.Edges.{EdgeFacts, facts_of, is_dev_only}
+use Rattle.feature_core.specs.Edges.{EdgeFacts, facts_of, first_ones, is_dev_only}
 use Rattle.feature_core.specs.inner.Keys.{IsNoLater, AreLeast}
 use Rattle.feature_core.specs.inner.NamedLinks.{AreNamedLinks}
-use Rattle.feature_core.specs.inner.Parts.{IsOfTables}
+use Rattle.feature_core.specs.inner.Parts.{IsOfSource, IsOfTables}
 use Rattle.feature_core.specs.declared.key.Key.{Key}
+use Rattle.feature_core.specs.inner.Weak.{AreGates, weak_sources}
+use Rattle.feature_core.specs.Values.{edge_facts}
 use Rattle.feature_core.specs.declared.edges.Material.{Material}
+use Rattle.feature_core.specs.declared.edge_table.MadeEdges.{MadeEdges}
 
--- what an edge is made of: the tables, the numbers of their nodes, the links by name, and the keys that declarations request
+-- what an edge is made of: the numbers of nodes, the links by name, and all keys of the tables that start where one of these does
 pub record IsMaterial (m : Material) : Type 0 where
-  pub firsts : m.firsts.now ≡ first_nodes m.graph.now
-  pub packages : m.packages.now ≡ node_packages m.graph.now
-  pub groups : AreNamedLinks m.graph.now m.groups.now
-  pub ordered : AllPairs IsNoLater m.sections.now
-  pub requested : (y : Key) → Contains m.sections.now y ↔ (IsOfTables m.graph.now y × (y.rank ≡ 7))
+  pub packages : m.packages.now ≡ node_packages m.numbers.graph.now
+  pub groups : AreNamedLinks m.numbers.graph.now m.groups.now
+  pub ordered : AllPairs IsNoLater m.keys.now
+  pub of_tables : (y : Key) → Contains m.keys.now y → IsOfTables m.numbers.graph.now y
+  pub whole : (x y : Key) → Contains m.keys.now x → IsOfTables m.numbers.graph.now y → y.from ≡ x.from → Contains m.keys.now y
 
 -- what is built of the candidate for which the key stands, where these are the weak links
 pub record IsValueOf (t : Tables) (weak : List ℕ) (x : Key) (f : EdgeFacts) : Type 0 where
@@ -40,3 +44,22 @@ pub record IsKept (t : Tables) (kept : List Key) : Type 0 where
 -- the ends of a key's edge, and whether it is more than dev-only
 abbrev pub edge_end : Key → EdgeFacts → End
 edge_end k f = record { from = k.from; to = k.to; non_dev = not (is_dev_only f) }
+
+-- the least keys of the packages before p
+pub record IsKeptBelow (t : Tables) (p : ℕ) (kept : List Key) : Type 0 where
+  pub keys : List Key
+  pub of_sources : (x : Key) → Contains keys x ↔ ((q : ℕ) × (q < p) × IsOfSource t q x)
+  pub least : AreLeast keys kept
+
+-- made of these keys, whatever weak links come later
+pub record AreMade (t : Tables) (kept : List Key) (m : MadeEdges) : Type 0 where
+  pub links : map (λ e. e.0) m.weak.entries ≡ first_ones (weak_sources kept)
+  pub gates : AreGates t m.weak.entries
+  pub values : (rest : List ℕ) → AreValues t (map (λ e. e.0) m.weak.entries ++ rest) kept (map edge_facts m.edges.items)
+  pub ends : m.ends.items ≡ map (λ p. edge_end p.0 (edge_facts p.1)) (zip kept m.edges.items)
+
+-- made of the least keys of the packages before p
+pub record AreMadeBelow (t : Tables) (p : ℕ) (m : MadeEdges) : Type 0 where
+  pub kept : List Key
+  pub is_kept : IsKeptBelow t p kept
+  pub made : AreMade t kept m

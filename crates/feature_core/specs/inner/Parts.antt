@@ -68,6 +68,14 @@ IsOfDeclarationAt t k link j x = (d : Declared) × (slice_get link.declarations 
 abbrev pub IsOfLinkAt : Tables → ℕ → Key → Type 0
 IsOfLinkAt t k x = (link : LinkTable) × IsLink t k link × ((j : ℕ) × IsOfDeclarationAt t k link j x)
 
+-- link k leaves package p
+abbrev pub IsLinkFrom : Tables → ℕ → ℕ → Type 0
+IsLinkFrom t p k = (link : LinkTable) × IsLink t k link × (link.from ≡ p)
+
+-- by package p, or by a link that leaves it
+abbrev pub IsOfSource : Tables → ℕ → Key → Type 0
+IsOfSource t p x = IsOfPackageAt t p x ⊎ ((k : ℕ) × IsLinkFrom t p k × IsOfLinkAt t k x)
+
 -- by some part of the tables
 abbrev pub IsOfTables : Tables → Key → Type 0
 IsOfTables t x = ((p : ℕ) × IsOfPackageAt t p x) ⊎ ((k : ℕ) × IsOfLinkAt t k x)

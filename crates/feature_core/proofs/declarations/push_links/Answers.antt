@@ -1,16 +1,30 @@
-use Rattle.std.proofs.Common.{arith}
-use Rattle.feature_core.specs.inner.Parts.{IsOfLinkAt}
-use Rattle.feature_core.proofs.AddsLemmas.{Adds-turn, Adds-start}
-use Rattle.feature_core.proofs.PushLemmas.{links_within, Adds-all}
+use Rattle.std.proofs.Common.{subst, arith}
+use Rattle.guppy_packages.specs.Tables.{AreLinksFrom}
+use Rattle.feature_core.proofs.AddsLemmas.{Adds-turn}
+use Rattle.feature_core.proofs.PushLemmas.{IsOfLinkFrom, leaving_start, leaving_next, leaving_end}
 use Rattle.feature_core.proofs.declarations.push_links.Goals as goal
 
 pub loop-ix-init : goal.loop-ix-init
-loop-ix-init c = Adds-start (IsOfLinkAt c.args.numbers.graph.now) c.args.keys.now.items
+loop-ix-init c =
+    let t = c.args.numbers.graph.now in
+    let p = c.args.metadata.package_ix in
+    let links = c.direct_links-links.result in
+    let are : AreLinksFrom t.links p links.start links.end = subst (λ z. AreLinksFrom z.links p links.start links.end) c.requires c.direct_links-links.ensures in
+    leaving_start t p links.start links.end are c.args.keys.now.items
 
 pub loop-ix-preserved : goal.loop-ix-preserved
-loop-ix-preserved c = Adds-turn (IsOfLinkAt c.args.numbers.graph.now) c.loop-ix.ix c.args.keys.now.items c.loop-ix.keys.items c.push_link.new.keys.items c.loop-ix.invariant c.in_ok-push_link.ensures
+loop-ix-preserved c =
+    let t = c.args.numbers.graph.now in
+    let p = c.args.metadata.package_ix in
+    let links = c.direct_links-links.result in
+    let are : AreLinksFrom t.links p links.start links.end = subst (λ z. AreLinksFrom z.links p links.start links.end) c.requires c.direct_links-links.ensures in
+    Adds-turn (IsOfLinkFrom t p) c.loop-ix.ix c.args.keys.now.items c.loop-ix.keys.items c.push_link.new.keys.items c.loop-ix.invariant
+    (leaving_next t p links.start links.end are c.loop-ix.ix c.loop-ix.keys.items c.push_link.new.keys.items (omega arith) (omega arith) c.in_ok-push_link.ensures)
 
 pub returns : goal.returns
 returns c =
     let t = c.args.numbers.graph.now in
-    Adds-all (IsOfLinkAt t) c.loop-ix.ix c.args.keys.now.items c.loop-ix.keys.items (λ k x h. let l = links_within t k x h in omega (arith, l)) c.loop-ix.invariant
+    let p = c.args.metadata.package_ix in
+    let links = c.direct_links-links.result in
+    let are : AreLinksFrom t.links p links.start links.end = subst (λ z. AreLinksFrom z.links p links.start links.end) c.requires c.direct_links-links.ensures in
+    leaving_end t p links.start links.end are c.loop-ix.ix c.args.keys.now.items c.loop-ix.keys.items (omega arith) c.loop-ix.invariant

@@ -7,30 +7,30 @@ use Rattle.feature_core.proofs.KeySays.{SaysSection}
 use Rattle.feature_core.proofs.KeyEdges.{told_section, value_over}
 use Rattle.feature_core.proofs.MaterialLemmas.{link_within}
 use Rattle.feature_core.proofs.SectionLemmas.{passing_over}
-use Rattle.feature_core.proofs.SectionPlaces.{places_passing, half_is, start_within}
+use Rattle.feature_core.proofs.SectionPlaces.{run_requests, places_passing, half_is, start_within}
 use Rattle.feature_core.specs.Values.{link_facts}
 use Rattle.feature_core.proofs.edges.section_edge.Goals as goal
 
 pub half_from-which-requires-clause-node : goal.half_from-which-requires-clause-node
 half_from-which-requires-clause-node c =
-    let t = c.args.material.graph.now in
+    let t = c.args.material.numbers.graph.now in
     let o = told_section t (names_differ t c.facts.ensures) [] c.args.key c.requires.of_tables c.requires.rank in
     start_within t c.args.material.packages.now c.args.key o.link o.tells c.requires.material.packages
 
 pub section_link-requires : goal.section_link-requires
 section_link-requires c =
-    let t = c.args.material.graph.now in
+    let t = c.args.material.numbers.graph.now in
     let s = (told_section t (names_differ t c.facts.ensures) [] c.args.key c.requires.of_tables c.requires.rank).tells in
     link_within t c.args.key.source s.link s.is_link
 
 pub returns : goal.returns
 returns c weak =
-    let t = c.args.material.graph.now in
+    let t = c.args.material.numbers.graph.now in
     let x = c.args.key in
     let o = told_section t (names_differ t c.facts.ensures) weak x c.requires.of_tables c.requires.rank in
     let s = o.tells in
     let p = c.in_ok-places.ensures in
-    let passing = places_passing t c.facts.ensures x o.link s c.args.material.sections.now p.0 c.requires.material.requested p.1 in
+    let passing = places_passing t c.facts.ensures x o.link s p.0 (run_requests t c.facts.ensures c.args.material.keys.now p.0 x c.requires.material.of_tables c.requires.material.whole c.requires.least c.requires.rank p.1) in
     let places : c.deref.result.now ≡ c.in_ok-places.places.items = c.deref.ensures.value in
     let which = half_is t x o.link s c.half_from-which.result c.half_from-which.ensures.required c.half_from-which.ensures.optional in
     let made = c.in_ok-link.ensures s.link s.is_link ∙ ap (λ z. over_places z x.source s.link c.deref.result.now) which ∙ ap (λ z. over_places s.which x.source s.link z) (places ∙ p.2) in

@@ -1,6 +1,8 @@
-use Rattle.std.proofs.Common.{◌∙◌, map, ap, sym, subst}
+use Rattle.std.proofs.Common.{◌∙◌, [], map, ap, sym, subst}
+use Rattle.std.specs.Prelude.{Contains}
+use Rattle.std.proofs.lemmas.List.{append-nil}
 use Rattle.feature_core.specs.inner.Weak.{AreGates}
-use Rattle.feature_core.proofs.WeakLemmas.{links_next, links_same, gates_inserted, weak_is_optional}
+use Rattle.feature_core.proofs.WeakLemmas.{links_next, links_same, gates_inserted, keys_grown, key_there, weak_is_optional}
 use Rattle.feature_core.proofs.weak_links.note_gate.Goals as goal
 
 pub returns-then-key-ne6-clause-links : goal.returns-then-key-ne6-clause-links
@@ -13,6 +15,20 @@ pub returns-clause-links : goal.returns-clause-links
 returns-clause-links c done h =
     ap (map (λ e. e.0)) c.in_ok-insert.ensures.entries
     ∙ links_next done c.gate_of-gate.result c.args.key c.args.table.now.entries c.if-key-ne6.false h
+
+pub returns-then-key-ne6-clause-grown : goal.returns-then-key-ne6-clause-grown
+returns-then-key-ne6-clause-grown c = ([], sym (append-nil (map (λ e. e.0) c.args.table.now.entries)))
+
+pub returns-then-key-ne6-clause-noted : goal.returns-then-key-ne6-clause-noted
+returns-then-key-ne6-clause-noted c six = absurd (c.if-key-ne6.true six)
+
+pub returns-clause-grown : goal.returns-clause-grown
+returns-clause-grown c =
+    let r = keys_grown c.args.key.source c.gate_of-gate.result c.args.table.now.entries in
+    (r.0, ap (map (λ e. e.0)) c.in_ok-insert.ensures.entries ∙ r.1)
+
+pub returns-clause-noted : goal.returns-clause-noted
+returns-clause-noted c six = subst (λ z. Contains (map (λ e. e.0) z) c.args.key.source) (sym c.in_ok-insert.ensures.entries) (key_there c.args.key.source c.gate_of-gate.result c.args.table.now.entries)
 
 pub returns-clause-gates : goal.returns-clause-gates
 returns-clause-gates c old =

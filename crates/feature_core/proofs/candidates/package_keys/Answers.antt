@@ -1,0 +1,20 @@
+use Rattle.std.proofs.Common.{ℕ, subst}
+use Rattle.std.proofs.lemmas.List.Sorted.{Contains-permutation, IsPermutation-sym}
+use Rattle.feature_core.specs.inner.Adds.{Adds}
+use Rattle.feature_core.specs.inner.Parts.{IsOfPackageAt, IsLinkFrom, IsOfLinkAt}
+use Rattle.feature_core.proofs.PushLemmas.{all_of_source}
+use Rattle.feature_core.proofs.candidates.package_keys.Goals as goal
+
+pub returns-clause-keys : goal.returns-clause-keys
+returns-clause-keys c x =
+    let t = c.args.numbers.graph.now in
+    let p = c.args.ix in
+    let before = c.push_links.new.keys.items in
+    let sorted = c.sort_keys.new.keys.items in
+    let moved = c.sort_keys.ensures.permutation in
+    let of = all_of_source t p c.clear.new.self.items c.push_package.new.keys.items before c.clear.ensures.items
+    (subst (λ z. Adds (IsOfPackageAt t z) c.clear.new.self.items c.push_package.new.keys.items) c.package-metadata.ensures.number c.in_ok-push_package.ensures)
+    (subst (λ z. Adds (λ x. (k : ℕ) × IsLinkFrom t z k × IsOfLinkAt t k x) c.push_package.new.keys.items before) c.package-metadata.ensures.number c.in_ok-push_links.ensures) x in (
+      (λ h. of.0 (Contains-permutation sorted before x (IsPermutation-sym before sorted moved) h)),
+      (λ h. Contains-permutation before sorted x moved (of.1 h)),
+    )

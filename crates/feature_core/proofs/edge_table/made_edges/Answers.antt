@@ -1,0 +1,17 @@
+use Rattle.std.proofs.Common.{[], ◌≡◌, length, subst, arith}
+use Rattle.feature_core.specs.inner.Made.{AreMadeBelow}
+use Rattle.feature_core.proofs.SourceLemmas.{kept_none}
+use Rattle.feature_core.proofs.ValueLemmas.{made_none}
+use Rattle.feature_core.proofs.edge_table.made_edges.Goals as goal
+
+pub loop-ix-init : goal.loop-ix-init
+loop-ix-init c = record {
+  kept = [];
+  is_kept = kept_none c.args.numbers.graph.now;
+  made = made_none c.args.numbers.graph.now _ c.new-3.ensures.empty c.new.ensures.items c.new-2.ensures.items;
+}
+
+pub returns : goal.returns
+returns c =
+    let end : c.loop-ix.ix ≡ length c.args.numbers.graph.now.packages = omega arith in
+    subst (λ z. AreMadeBelow c.args.numbers.graph.now z c.loop-ix.made) end c.loop-ix.invariant
