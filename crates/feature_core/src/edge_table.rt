@@ -15,6 +15,7 @@ ghost use Rattle.feature_core.specs.Values.{edge_facts};
 
 use crate::candidates::candidates;
 use crate::edge::FeatureEdge;
+use crate::edge_list::EdgeList;
 use crate::edges::{Material, edges_of};
 use crate::key::{Key, keep_least, keys_of_rank, sort_keys};
 use crate::named_links::LinkGroups;
@@ -22,7 +23,7 @@ use crate::nodes::NodeTable;
 use crate::numbers::Numbers;
 use crate::weak_links::weak_table;
 use guppy_packages::PackageGraph;
-use guppy_support::{Digraph, DigraphError, Edge, collect_exactly};
+use guppy_support::{Digraph, DigraphError, Edge};
 use indexmap::IndexMap;
 use std::alloc::{AllocError, Global};
 
@@ -30,7 +31,7 @@ use std::alloc::{AllocError, Global};
 #[derive(Drop)]
 pub(crate) struct EdgeTable {
     pub(crate) digraph: Digraph,
-    pub(crate) edges: Vec<FeatureEdge>,
+    pub(crate) edges: EdgeList,
     pub(crate) weak: IndexMap<usize, usize>,
 }
 
@@ -71,15 +72,16 @@ fn edge_end(key: Key, edge: &FeatureEdge) -> Edge
 }
 
 /// The ends of the edges of keys.
-fn edge_ends(alloc: Global, kept: &[Key], edges: &[FeatureEdge]) -> Result<Vec<Edge>, AllocError>
-    ensures { IfOk result (λ ends. ends.items ≡ map (λ p. edge_end p.0 (edge_facts p.1)) (zip kept.now edges.now)) }
+fn edge_ends(alloc: Global, kept: &[Key], edges: &EdgeList) -> Result<Vec<Edge>, AllocError>
+    requires { length edges.now ≡ length kept.now }
+    ensures { IfOk result (λ ends. ends.items ≡ map (λ p. edge_end p.0 p.1) (zip kept.now edges.now)) }
 {
-    collect_exactly(
-        kept.iter()
-            .zip(edges.iter())
-            .map(|(key, edge)| edge_end(*key, edge)),
-        alloc,
-    )
+    let mut ends = Vec::with_capacity(alloc, kept.len())?;
+    for ix in 0..kept.len() {
+        let end = edge_end(kept[ix], edges.get(ix));
+        ends.push(end)?;
+    }
+    Ok(ends)
 }
 
 /// The digraph of edges that are in order and join nodes. It fails only where memory is refused.
@@ -107,9 +109,9 @@ pub(crate) fn edge_table(
     requires links { AreNamedLinks numbers.graph.now groups.now }
     ensures nodes { IfOk result (λ e. e.digraph.nodes ≡ length table.now.packages.items) }
     ensures pairs { IfOk result (λ e. IsPairList numbers.entry.graph.now (pairs_of e.digraph.edges)) }
-    ensures long { IfOk result (λ e. length e.edges.items ≡ length e.digraph.edges) }
-    ensures ends { IfOk result (λ e. e.digraph.edges ≡ map end_of (built_edges e.digraph.edges (map edge_facts e.edges.items))) }
-    ensures edges { IfOk result (λ e. AreBuilt numbers.entry.graph.now (built_edges e.digraph.edges (map edge_facts e.edges.items)) e.weak.entries) }
+    ensures long { IfOk result (λ e. length e.edges ≡ length e.digraph.edges) }
+    ensures ends { IfOk result (λ e. e.digraph.edges ≡ map end_of (built_edges e.digraph.edges e.edges)) }
+    ensures edges { IfOk result (λ e. AreBuilt numbers.entry.graph.now (built_edges e.digraph.edges e.edges) e.weak.entries) }
 {
     numbers.graph.facts();
     let Keys { kept, sections } = least_keys(alloc, numbers, groups)?;

@@ -15,6 +15,7 @@ ghost use Rattle.feature_core.specs.inner.Parts.{IsOfTables};
 ghost use Rattle.feature_core.specs.Values.{link_facts, edge_facts};
 
 use crate::edge::{FeatureEdge, SlashForm, WeakIndex, WeakSlashImpl};
+use crate::edge_list::EdgeList;
 use crate::key::{Key, run_of};
 use crate::link::ConditionalLinkImpl;
 use crate::link::from_declarations::{half_of, link_of, named_link, section_link};
@@ -246,12 +247,12 @@ pub(crate) fn edges_of(
     alloc: Global,
     material: Material<'_, '_>,
     kept: &[Key],
-) -> Result<Vec<FeatureEdge>, AllocError>
+) -> Result<EdgeList, AllocError>
     requires material { IsMaterial material }
     requires of_tables { (i : ℕ) (x : KeyValue) → slice_get kept.now i ≡ Some x → IsOfTables material.graph.now x }
-    ensures { IfOk result (λ edges. AreValues material.entry.graph.now (keys material.entry.weak.now) kept.now (map edge_facts edges.items)) }
+    ensures { IfOk result (λ edges. AreValues material.entry.graph.now (keys material.entry.weak.now) kept.now edges) }
 {
-    let mut edges = Vec::with_capacity(alloc, kept.len())?;
+    let mut edges = EdgeList::with_capacity(alloc, kept.len())?;
     for ix in 0..kept.len() {
         let edge = edge_of(alloc, material, kept[ix])?;
         edges.push(edge)?;

@@ -8,6 +8,7 @@ mod cyclic;
 mod declarations;
 mod defaults;
 mod edge;
+mod edge_list;
 mod edge_table;
 mod edges;
 pub mod engine;

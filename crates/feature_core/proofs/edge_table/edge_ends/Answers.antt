@@ -1,16 +1,20 @@
-use Rattle.std.proofs.Common.{rules, Result, Ok, Err, IfOk}
-use Rattle.std.specs.Prelude.{MatchResult}
-use Rattle.std.specs.Bool.{⊤}
-use Rattle.std.proofs.lemmas.Iterator.{YieldsList-from_slice, YieldsList-from_map, YieldsList-from_zip, items_from_collect}
+use Rattle.std.proofs.Common.{◌∙◌, ◌++◌, ◌∷◌, [], ap, get_or, arith}
+use Rattle.std.proofs.lemmas.Option.{slice_get-get_or}
 use Rattle.feature_core.specs.declared.key.Key.{Key}
-use Rattle.feature_core.specs.declared.edge.FeatureEdge.{FeatureEdge}
 use Rattle.feature_core.specs.inner.Made.{edge_end}
 use Rattle.feature_core.specs.Values.{edge_facts}
+use Rattle.feature_core.proofs.ListSteps.{paired_more, paired_all}
 use Rattle.feature_core.proofs.edge_table.edge_ends.Goals as goal
 
-as_collected : {T E : Type 0} (P : T → Type 0) (r : Result T E) → IfOk r P → MatchResult r P (λ _. ⊤)
-as_collected P (Ok v) h = h
-as_collected P (Err e) h = tt
+abbrev no_key : Key
+no_key = record { from = 0; to = 0; rank = 0; source = 0; place = 0 }
+
+pub loop-ix-preserved : goal.loop-ix-preserved
+loop-ix-preserved c =
+    let kept = c.args.kept.now in
+    let ix = c.loop-ix.ix in
+    paired_more (λ p. edge_end p.0 p.1) kept c.args.edges.now ix (get_or kept ix no_key) (edge_facts c.get.result.now) c.loop-ix.ends.items c.push.new.self.items
+    (slice_get-get_or kept ix no_key c.loop-ix-test.true) c.get.ensures (c.in_ok-push.ensures.items ∙ ap (λ z. c.loop-ix.ends.items ++ z ∷ []) c.edge_end-end.ensures) c.loop-ix.invariant
 
 pub returns : goal.returns
-returns c = items_from_collect c.collect_exactly.result (as_collected _ c.collect_exactly.result c.collect_exactly.ensures.ran) (YieldsList-from_map _ (λ (p : Key × FeatureEdge). edge_end p.0 (edge_facts p.1)) (YieldsList-from_zip (YieldsList-from_slice c.args.kept.now cc) (YieldsList-from_slice c.args.edges.now cc)) (cc) (λ x r q k. search rules))
+returns c = paired_all (λ p. edge_end p.0 p.1) c.args.kept.now c.args.edges.now c.loop-ix.ix c.loop-ix.ends.items (omega arith) c.loop-ix.invariant

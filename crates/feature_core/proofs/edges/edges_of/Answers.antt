@@ -1,6 +1,5 @@
-use Rattle.std.proofs.Common.{◌≡◌, ◌∙◌, ◌++◌, ◌∷◌, [], ap, sym, subst, arith, ℕ, map, take, ◌+◌, get_or, Some}
+use Rattle.std.proofs.Common.{◌≡◌, sym, subst, arith, ℕ, take, ◌+◌, get_or, Some}
 use Rattle.std.specs.Prelude.{slice_get}
-use Rattle.std.proofs.lemmas.List.{map-append}
 use Rattle.std.proofs.lemmas.Option.{slice_get-get_or}
 use Rattle.indexmap.specs.IndexMap.{keys}
 use Rattle.feature_core.specs.inner.Made.{AreValues}
@@ -13,7 +12,7 @@ abbrev no_key : Key
 no_key = record { from = 0; to = 0; rank = 0; source = 0; place = 0 }
 
 pub loop-ix-init : goal.loop-ix-init
-loop-ix-init c = subst (λ z. AreValues c.args.material.graph.now (keys c.args.material.weak.now) (take 0 c.args.kept.now) (map edge_facts z)) (sym c.in_ok-edges.ensures.items) (values_none c.args.material.graph.now (keys c.args.material.weak.now) c.args.kept.now)
+loop-ix-init c = subst (λ z. AreValues c.args.material.graph.now (keys c.args.material.weak.now) (take 0 c.args.kept.now) z) (sym c.in_ok-edges.ensures) (values_none c.args.material.graph.now (keys c.args.material.weak.now) c.args.kept.now)
 
 pub edge_of-requires-clause-of_tables : goal.edge_of-requires-clause-of_tables
 edge_of-requires-clause-of_tables c = c.requires.of_tables c.loop-ix.ix (get_or c.args.kept.now c.loop-ix.ix no_key) (slice_get-get_or c.args.kept.now c.loop-ix.ix no_key c.loop-ix-test.true)
@@ -26,9 +25,8 @@ loop-ix-preserved c =
     let i : ℕ = c.loop-ix.ix in
     let x = get_or kept i no_key in
     let at : slice_get kept i ≡ Some x = slice_get-get_or kept i no_key c.loop-ix-test.true in
-    let more = values_more t weak kept i x (map edge_facts c.loop-ix.edges.items) (edge_facts c.in_ok-edge.edge) at c.loop-ix.invariant c.in_ok-edge.ensures in
-    let items : map edge_facts c.push.new.self.items ≡ map edge_facts c.loop-ix.edges.items ++ edge_facts c.in_ok-edge.edge ∷ [] = ap (map edge_facts) c.in_ok-push.ensures.items ∙ map-append edge_facts c.loop-ix.edges.items (c.in_ok-edge.edge ∷ []) in
-    subst (λ z. AreValues t weak (take (i + 1) kept) z) (sym items) more
+    let more = values_more t weak kept i x c.loop-ix.edges (edge_facts c.in_ok-edge.edge) at c.loop-ix.invariant c.in_ok-edge.ensures in
+    subst (λ z. AreValues t weak (take (i + 1) kept) z) (sym c.in_ok-push.ensures) more
 
 pub returns : goal.returns
-returns c = values_all c.args.material.graph.now (keys c.args.material.weak.now) c.args.kept.now c.loop-ix.ix (map edge_facts c.loop-ix.edges.items) (omega arith) c.loop-ix.invariant
+returns c = values_all c.args.material.graph.now (keys c.args.material.weak.now) c.args.kept.now c.loop-ix.ix c.loop-ix.edges (omega arith) c.loop-ix.invariant
