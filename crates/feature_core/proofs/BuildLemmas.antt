@@ -26,11 +26,9 @@ use Rattle.feature_core.proofs.KeySays.{Says}
 use Rattle.feature_core.specs.BuiltOnce.{edge_there-prop}
 use Rattle.feature_core.proofs.PartLemmas.{stands_for, contributed}
 use Rattle.feature_core.proofs.PairLemmas.{names_differ, pairs_kept}
-use Rattle.std.proofs.lemmas.List.{length-map, append-nil}
+use Rattle.std.proofs.lemmas.List.{append-nil}
 use Rattle.feature_core.specs.declared.edge_table.MadeEdges.{MadeEdges}
 use Rattle.feature_core.proofs.SourceLemmas.{kept_all}
-use Rattle.feature_core.specs.declared.edge.FeatureEdge.{FeatureEdge}
-use Rattle.feature_core.specs.Values.{edge_facts}
 use Rattle.feature_core.proofs.Ranks.{same_rank, one_edge}
 
 no_source : (x : Key) → (x.rank ≡ 6 → ⊥) → ◌≡◌ {A = Option ℕ} None (weak_source x)
@@ -231,58 +229,47 @@ built_at (x ∷ edges) (y ∷ facts) zero e f h i =
     same_some x y h = cc
 built_at (x ∷ edges) (y ∷ facts) (suc k) e f h i = built_at edges facts k e f h i
 
-ends_by_facts : (kept : List Key) (edges : List FeatureEdge) → map (λ p. edge_end p.0 (edge_facts p.1)) (zip kept edges) ≡ key_ends kept (map edge_facts edges)
-ends_by_facts [] edges = refl
-ends_by_facts (k ∷ kept) [] = refl
-ends_by_facts (k ∷ kept) (e ∷ edges) = ap (λ z. edge_end k (edge_facts e) ∷ z) (ends_by_facts kept edges)
-
 -- what was made of the least keys: the digraph's edges are their ends
-record IsMade (kept : List Key) (edges : List FeatureEdge) (digraph : List End) : Type 0 where
-  long : length edges ≡ length kept
-  ends : digraph ≡ map (λ p. edge_end p.0 (edge_facts p.1)) (zip kept edges)
+pub record IsMade (kept : List Key) (facts : List EdgeFacts) (digraph : List End) : Type 0 where
+  pub long : length facts ≡ length kept
+  pub ends : digraph ≡ map (λ p. edge_end p.0 p.1) (zip kept facts)
 
-module _ (kept : List Key) (edges : List FeatureEdge) (digraph : List End) (made : IsMade kept edges digraph) where
-  facts_long : length (map edge_facts edges) ≡ length kept
-  facts_long = length-map edges edge_facts ∙ made.long
+module _ (kept : List Key) (facts : List EdgeFacts) (digraph : List End) (made : IsMade kept facts digraph) where
+  pub made_long : length facts ≡ length digraph
+  made_long = ends_long kept facts made.long ∙ ap length (sym made.ends)
 
-  made_ends : digraph ≡ key_ends kept (map edge_facts edges)
-  made_ends = made.ends ∙ ends_by_facts kept edges
-
-  made_long : length edges ≡ length digraph
-  made_long = sym (length-map edges edge_facts) ∙ ends_long kept (map edge_facts edges) facts_long ∙ ap length (sym made_ends)
-
-  made_are : digraph ≡ map end_of (built_edges digraph (map edge_facts edges))
-  made_are = subst (λ z. z ≡ map end_of (built_edges z (map edge_facts edges))) (sym made_ends) (ends_are kept (map edge_facts edges) facts_long)
+  pub made_are : digraph ≡ map end_of (built_edges digraph facts)
+  made_are = subst (λ z. z ≡ map end_of (built_edges z facts)) (sym made.ends) (ends_are kept facts made.long)
 
   made_pairs : (t : Tables) → AreTables t → IsKept t kept → IsPairList t (pairs_of digraph)
   made_pairs t tables k =
       let pairs = pairs_kept t k.keys kept (map end_of_key kept) tables k.of_tables k.least refl in
-      subst (λ z. IsPairList t z) (ends_paired kept (map edge_facts edges) facts_long ∙ ap pairs_of (sym made_ends)) pairs
+      subst (λ z. IsPairList t z) (ends_paired kept facts made.long ∙ ap pairs_of (sym made.ends)) pairs
 
-  made_built : (t : Tables) → AreTables t → IsKept t kept → (weak : List (ℕ × ℕ)) → map (λ e. e.0) weak ≡ first_ones (weak_sources kept) → AreGates t weak
-      → AreValues t (map (λ e. e.0) weak) kept (map edge_facts edges) → AreBuilt t (built_edges digraph (map edge_facts edges)) weak
+  pub made_built : (t : Tables) → AreTables t → IsKept t kept → (weak : List (ℕ × ℕ)) → map (λ e. e.0) weak ≡ first_ones (weak_sources kept) → AreGates t weak
+      → AreValues t (map (λ e. e.0) weak) kept facts → AreBuilt t (built_edges digraph facts) weak
   made_built t tables k weak links gates values =
-      let built = are_built t tables k.keys kept k.of_tables k.least weak (map edge_facts edges) links gates values in
-      let same : built_edges digraph (map edge_facts edges) ≡ map (λ p. (p.0.from, p.0.to, p.1)) (zip kept (map edge_facts edges)) = ap (λ z. built_edges z (map edge_facts edges)) made_ends ∙ ends_told kept (map edge_facts edges) facts_long in
+      let built = are_built t tables k.keys kept k.of_tables k.least weak facts links gates values in
+      let same : built_edges digraph facts ≡ map (λ p. (p.0.from, p.0.to, p.1)) (zip kept facts) = ap (λ z. built_edges z facts) made.ends ∙ ends_told kept facts made.long in
       subst (λ z. AreBuilt t z weak) (sym same) built
 
 -- what was made of the least keys of all packages
 module _ (t : Tables) (tables : AreTables t) (m : MadeEdges) (below : AreMadeBelow t (length t.packages) m) (digraph : List End) (is : digraph ≡ m.ends.items) where
-  all_made : IsMade below.kept m.edges.items digraph
-  all_made = record { long = sym (length-map m.edges.items edge_facts) ∙ (below.made.values []).long; ends = is ∙ below.made.ends }
+  all_made : IsMade below.kept m.edges digraph
+  all_made = record { long = (below.made.values []).long; ends = is ∙ below.made.ends }
 
   all_kept : IsKept t below.kept
   all_kept = kept_all t tables below.kept below.is_kept
 
-  pub all_long : length m.edges.items ≡ length digraph
-  all_long = made_long below.kept m.edges.items digraph all_made
+  pub all_long : length m.edges ≡ length digraph
+  all_long = made_long below.kept m.edges digraph all_made
 
-  pub all_ends : digraph ≡ map end_of (built_edges digraph (map edge_facts m.edges.items))
-  all_ends = made_are below.kept m.edges.items digraph all_made
+  pub all_ends : digraph ≡ map end_of (built_edges digraph m.edges)
+  all_ends = made_are below.kept m.edges digraph all_made
 
   pub all_pairs : IsPairList t (pairs_of digraph)
-  all_pairs = made_pairs below.kept m.edges.items digraph all_made t tables all_kept
+  all_pairs = made_pairs below.kept m.edges digraph all_made t tables all_kept
 
-  pub all_built : AreBuilt t (built_edges digraph (map edge_facts m.edges.items)) m.weak.entries
-  all_built = made_built below.kept m.edges.items digraph all_made t tables all_kept m.weak.entries below.made.links below.made.gates
-      (subst (λ z. AreValues t z below.kept (map edge_facts m.edges.items)) (append-nil (map (λ e. e.0) m.weak.entries)) (below.made.values []))
+  pub all_built : AreBuilt t (built_edges digraph m.edges) m.weak.entries
+  all_built = made_built below.kept m.edges digraph all_made t tables all_kept m.weak.entries below.made.links below.made.gates
+      (subst (λ z. AreValues t z below.kept m.edges) (append-nil (map (λ e. e.0) m.weak.entries)) (below.made.values []))

@@ -38,6 +38,8 @@ pub mod BuildLemmas
 pub mod WeakLemmas
 pub mod Determined
 pub mod SameLists
+pub mod PoolLemmas
+pub mod ListSteps
 pub mod SameData
 pub mod DefaultLemmas
 pub mod OfferLemmas

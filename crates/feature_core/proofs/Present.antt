@@ -8,7 +8,6 @@ use Rattle.std.proofs.Math.Bool.{Bool-set}
 use Rattle.std.proofs.Math.Logic.{∥∥₁_elim}
 use Rattle.std.proofs.lemmas.List.Elements.{Contains-append_left, Contains-append_right}
 use Rattle.std.proofs.lemmas.Bool.Decides.{nat_tests}
-use Rattle.std.proofs.lemmas.List.{length-map}
 use Rattle.guppy_support.specs.declared.digraph.Edge.{Edge as End}
 use Rattle.guppy_packages.specs.Graph.{firsts}
 use Rattle.guppy_packages.specs.Platform.{always_status, status_by}
@@ -234,20 +233,17 @@ links_present t tables b h k e l at is =
     (λ s. candidate_sound t tables e.0 e.1 s.0 s.1.candidate (map (λ x. x.0) b.weak) l (ap full_link (sym s.2) ∙ is))
 
 -- the first place at which an edge passes is that at which what it says passes
-module _ {X : Type 0} (facts : X → EdgeFacts) (p : EdgeFacts → Bool) where
-  or_len_built : (ends : List End) (xs : List X) → length xs ≡ length ends → position_or_len (λ e. p e.2) (built_edges ends (map facts xs)) ≡ position_or_len (λ x. p (facts x)) xs
+module _ (p : EdgeFacts → Bool) where
+  or_len_built : (ends : List End) (facts : List EdgeFacts) → length facts ≡ length ends → position_or_len (λ e. p e.2) (built_edges ends facts) ≡ position_or_len p facts
   or_len_built [] [] h = refl
-  or_len_built [] (x ∷ xs) h = absurd (omega (arith, h))
+  or_len_built [] (f ∷ facts) h = absurd (omega (arith, h))
   or_len_built (e ∷ ends) [] h = absurd (omega (arith, h))
-  or_len_built (e ∷ ends) (x ∷ xs) h = ap (λ n. cond (not (p (facts x))) (1 + n) 0) (or_len_built ends xs (omega (arith, h)))
+  or_len_built (e ∷ ends) (f ∷ facts) h = ap (λ n. cond (not (p f)) (1 + n) 0) (or_len_built ends facts (omega (arith, h)))
 
-  pub position_built : (edges : List (ℕ × ℕ × EdgeFacts)) (ends : List End) (xs ys : List X) → edges ≡ built_edges ends (map facts xs) → length xs ≡ length ends → ys ≡ xs
-      → position (λ x. p (facts x)) ys ≡ position (λ e. p e.2) edges
-  position_built edges ends xs ys shown h same =
-      ap (position (λ x. p (facts x))) same
-      ∙ ap (λ n. cond (nat_lt n (length xs)) (Some n) None) (sym (or_len_built ends xs h))
-      ∙ ap (λ m. cond (nat_lt (position_or_len (λ e. p e.2) (built_edges ends (map facts xs))) m) (Some (position_or_len (λ e. p e.2) (built_edges ends (map facts xs)))) None) long
+  pub position_built : (edges : List (ℕ × ℕ × EdgeFacts)) (ends : List End) (facts : List EdgeFacts) → edges ≡ built_edges ends facts → length facts ≡ length ends
+      → position p facts ≡ position (λ e. p e.2) edges
+  position_built edges ends facts shown h =
+      let long : length facts ≡ length (built_edges ends facts) = h ∙ built_long ends facts h in
+      ap (λ n. cond (nat_lt n (length facts)) (Some n) None) (sym (or_len_built ends facts h))
+      ∙ ap (λ m. cond (nat_lt (position_or_len (λ e. p e.2) (built_edges ends facts)) m) (Some (position_or_len (λ e. p e.2) (built_edges ends facts))) None) long
       ∙ ap (position (λ e. p e.2)) (sym shown)
-    where
-      long : length xs ≡ length (built_edges ends (map facts xs))
-      long = let e : length (map facts xs) ≡ length ends = length-map xs facts ∙ h in h ∙ built_long ends (map facts xs) e

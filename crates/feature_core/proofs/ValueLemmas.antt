@@ -2,15 +2,13 @@
 use Rattle.std.proofs.Common.{◌≡◌, ℕ, zero, suc, ⊎_elim, List, [], ◌∷◌, ◌++◌, length, map, Some, refl, ap, sym, ◌∙◌, subst, arith, length-append}
 use Rattle.std.specs.Prelude.{slice_get}
 use Rattle.std.specs.List.{zip}
-use Rattle.std.proofs.lemmas.List.{map-append, length-map, append_assoc}
+use Rattle.std.proofs.lemmas.List.{append_assoc}
 use Rattle.std.proofs.lemmas.Option.{slice_get_within}
 use Rattle.guppy_support.specs.declared.digraph.Edge.{Edge as End}
 use Rattle.guppy_packages.specs.Tables.{Tables}
-use Rattle.feature_core.specs.declared.edge.FeatureEdge.{FeatureEdge}
 use Rattle.feature_core.specs.declared.edge_table.MadeEdges.{MadeEdges}
 use Rattle.feature_core.specs.declared.key.Key.{Key}
 use Rattle.feature_core.specs.Edges.{EdgeFacts, first_ones}
-use Rattle.feature_core.specs.Values.{edge_facts}
 use Rattle.feature_core.specs.inner.Made.{IsValueOf, AreValues, AreMade, edge_end}
 use Rattle.feature_core.specs.inner.Weak.{AreGates, weak_sources}
 use Rattle.feature_core.proofs.Places.{get_cases}
@@ -39,41 +37,39 @@ module _ (t : Tables) (weak : List ℕ) where
   }
 
 -- the ends of the edges of keys, with one more
-ends_more : (keys : List Key) (edges : List FeatureEdge) (x : Key) (e : FeatureEdge) → length edges ≡ length keys
-    → map {B = End} (λ p. edge_end p.0 (edge_facts p.1)) (zip keys edges) ++ edge_end x (edge_facts e) ∷ [] ≡ map (λ p. edge_end p.0 (edge_facts p.1)) (zip (keys ++ x ∷ []) (edges ++ e ∷ []))
-ends_more [] [] x e h = refl
-ends_more [] (f ∷ edges) x e h = absurd (omega (arith, h))
-ends_more (k ∷ keys) [] x e h = absurd (omega (arith, h))
-ends_more (k ∷ keys) (f ∷ edges) x e h = ap (λ z. edge_end k (edge_facts f) ∷ z) (ends_more keys edges x e (omega (arith, h)))
+ends_more : (keys : List Key) (facts : List EdgeFacts) (x : Key) (f : EdgeFacts) → length facts ≡ length keys
+    → map {B = End} (λ p. edge_end p.0 p.1) (zip keys facts) ++ edge_end x f ∷ [] ≡ map (λ p. edge_end p.0 p.1) (zip (keys ++ x ∷ []) (facts ++ f ∷ []))
+ends_more [] [] x f h = refl
+ends_more [] (g ∷ facts) x f h = absurd (omega (arith, h))
+ends_more (k ∷ keys) [] x f h = absurd (omega (arith, h))
+ends_more (k ∷ keys) (g ∷ facts) x f h = ap (λ z. edge_end k g ∷ z) (ends_more keys facts x f (omega (arith, h)))
 
-pub made_none : (t : Tables) (m : MadeEdges) → m.weak.entries ≡ [] → m.edges.items ≡ [] → m.ends.items ≡ [] → AreMade t [] m
+pub made_none : (t : Tables) (m : MadeEdges) → m.weak.entries ≡ [] → m.edges ≡ [] → m.ends.items ≡ [] → AreMade t [] m
 made_none t m weak edges ends = record {
   links = ap (map (λ e. e.0)) weak;
   gates = subst (λ z. AreGates t z) (sym weak) (λ i k gate h. cc);
-  values = λ rest. subst (λ z. AreValues t (map (λ e. e.0) m.weak.entries ++ rest) [] (map edge_facts z)) (sym edges) (values_none t (map (λ e. e.0) m.weak.entries ++ rest));
+  values = λ rest. subst (λ z. AreValues t (map (λ e. e.0) m.weak.entries ++ rest) [] z) (sym edges) (values_none t (map (λ e. e.0) m.weak.entries ++ rest));
   ends = ends;
 }
 
 -- one more edge, where its weak link is noted
-pub made_next : (t : Tables) (done : List Key) (x : Key) (old new : MadeEdges) (edge : FeatureEdge) (more : List ℕ)
+pub made_next : (t : Tables) (done : List Key) (x : Key) (old new : MadeEdges) (f : EdgeFacts) (more : List ℕ)
     → map (λ e. e.0) new.weak.entries ≡ first_ones (weak_sources (done ++ x ∷ []))
     → AreGates t new.weak.entries
     → map (λ e. e.0) new.weak.entries ≡ map (λ e. e.0) old.weak.entries ++ more
-    → new.edges.items ≡ old.edges.items ++ edge ∷ []
-    → new.ends.items ≡ old.ends.items ++ edge_end x (edge_facts edge) ∷ []
-    → ((rest : List ℕ) → IsValueOf t (map (λ e. e.0) new.weak.entries ++ rest) x (edge_facts edge))
+    → new.edges ≡ old.edges ++ f ∷ []
+    → new.ends.items ≡ old.ends.items ++ edge_end x f ∷ []
+    → ((rest : List ℕ) → IsValueOf t (map (λ e. e.0) new.weak.entries ++ rest) x f)
     → AreMade t done old → AreMade t (done ++ x ∷ []) new
-made_next t done x old new edge more links gates grown edges ends value h =
+made_next t done x old new f more links gates grown edges ends value h =
     let numbers : List ℕ = map (λ e. e.0) new.weak.entries in
-    let facts : map edge_facts new.edges.items ≡ map edge_facts old.edges.items ++ edge_facts edge ∷ [] = ap (map edge_facts) edges ∙ map-append edge_facts old.edges.items (edge ∷ []) in
-    let long : length old.edges.items ≡ length done = sym (length-map old.edges.items edge_facts) ∙ (h.values []).long in
     record {
       links = links;
       gates = gates;
       values = λ rest.
           let same : map (λ e. e.0) old.weak.entries ++ (more ++ rest) ≡ numbers ++ rest = sym (append_assoc (map (λ e. e.0) old.weak.entries) more rest) ∙ ap (λ z. z ++ rest) (sym grown) in
-          let before : AreValues t (numbers ++ rest) done (map edge_facts old.edges.items) = subst (λ z. AreValues t z done (map edge_facts old.edges.items)) same (h.values (more ++ rest)) in
-          subst (λ z. AreValues t (numbers ++ rest) (done ++ x ∷ []) z) (sym facts) (values_more t (numbers ++ rest) done x (map edge_facts old.edges.items) (edge_facts edge) before (value rest));
-      ends = ends ∙ ap (λ z. z ++ edge_end x (edge_facts edge) ∷ []) h.ends ∙ ends_more done old.edges.items x edge long
-          ∙ ap (λ z. map (λ p. edge_end p.0 (edge_facts p.1)) (zip (done ++ x ∷ []) z)) (sym edges);
+          let before : AreValues t (numbers ++ rest) done old.edges = subst (λ z. AreValues t z done old.edges) same (h.values (more ++ rest)) in
+          subst (λ z. AreValues t (numbers ++ rest) (done ++ x ∷ []) z) (sym edges) (values_more t (numbers ++ rest) done x old.edges f before (value rest));
+      ends = ends ∙ ap (λ z. z ++ edge_end x f ∷ []) h.ends ∙ ends_more done old.edges x f (h.values []).long
+          ∙ ap (λ z. map (λ p. edge_end p.0 p.1) (zip (done ++ x ∷ []) z)) (sym edges);
     }

@@ -9,3 +9,4 @@ pub mod NamedLinks
 pub mod Collected
 pub mod Made
 pub mod Weak
+pub mod Pools

@@ -1,12 +1,12 @@
 //! What is reached over chosen edges of a digraph.
-ghost use Rattle.std.specs.Prelude.{◌≡◌, ◌↔◌, ℕ, false, IfOk, IsTrue, length, map};
+ghost use Rattle.std.specs.Prelude.{◌≡◌, ◌↔◌, ℕ, false, IfOk, IsTrue, length};
 ghost use Rattle.guppy_support.specs.Bits.{has};
 ghost use Rattle.feature_core.specs.Pairs.{PairLeads, ReachAlong};
 ghost use Rattle.feature_core.specs.Built.{built_edges};
 ghost use Rattle.feature_core.specs.Choices.{chosen_pairs};
-ghost use Rattle.feature_core.specs.Values.{edge_facts};
 
-use crate::edge::{EdgeChoice, FeatureEdge};
+use crate::edge::EdgeChoice;
+use crate::edge_list::EdgeList;
 use crate::packed::Packed;
 use guppy_packages::DependencyDirection;
 use guppy_support::{Digraph, IxBitSet};
@@ -31,7 +31,7 @@ impl Offerer for NoOffers {
 pub(crate) fn reach_chosen(
     alloc: Global,
     digraph: &Digraph,
-    edges: &[FeatureEdge],
+    edges: &EdgeList,
     which: EdgeChoice,
     direction: DependencyDirection,
     initials: &IxBitSet,
@@ -39,7 +39,7 @@ pub(crate) fn reach_chosen(
     requires same { length edges.now ≡ length digraph.now.edges }
     requires initials { length initials.now ≡ digraph.now.nodes }
     ensures size { IfOk result (λ set. length set ≡ digraph.now.nodes) }
-    ensures members { IfOk result (λ set. (n : ℕ) → IsTrue (has set n) ↔ ReachAlong (PairLeads (chosen_pairs which (built_edges digraph.now.edges (map edge_facts edges.now))) direction) (has initials.now) n) }
+    ensures members { IfOk result (λ set. (n : ℕ) → IsTrue (has set n) ↔ ReachAlong (PairLeads (chosen_pairs which (built_edges digraph.now.edges edges.now)) direction) (has initials.now) n) }
 {
     let mut source = Packed::chosen(digraph, edges, which, direction);
     let walk = walk_over(alloc, &mut source, initials, &mut NoOffers)?;

@@ -1,12 +1,11 @@
 //! Which features are on by default.
-ghost use Rattle.std.specs.Prelude.{◌≡◌, ◌<◌, ◌↔◌, ℕ, IfOk, IsTrue, length, map};
+ghost use Rattle.std.specs.Prelude.{◌≡◌, ◌<◌, ◌↔◌, ℕ, IfOk, IsTrue, length};
 ghost use Rattle.guppy_support.specs.Bits.{has};
 ghost use Rattle.guppy_packages.specs.Metadata.{package_graph_of};
 ghost use Rattle.feature_core.specs.Built.{built_edges};
 ghost use Rattle.feature_core.specs.Defaults.{IsDefaultFeature, AreDefaults};
 ghost use Rattle.feature_core.specs.Edges.{AreBuilt};
 ghost use Rattle.feature_core.specs.Nodes.{node_packages};
-ghost use Rattle.feature_core.specs.Values.{edge_facts};
 
 use crate::chosen_reach::reach_chosen;
 use crate::edge::EdgeChoice;
@@ -52,8 +51,8 @@ pub(crate) fn default_marks(
     table: &EdgeTable,
 ) -> Result<IxBitSet, AllocError>
     requires nodes { table.now.digraph.nodes ≡ length (node_packages numbers.graph.now) }
-    requires long { length table.now.edges.items ≡ length table.now.digraph.edges }
-    requires edges { AreBuilt numbers.graph.now (built_edges table.now.digraph.edges (map edge_facts table.now.edges.items)) table.now.weak.entries }
+    requires long { length table.now.edges ≡ length table.now.digraph.edges }
+    requires edges { AreBuilt numbers.graph.now (built_edges table.now.digraph.edges table.now.edges) table.now.weak.entries }
     ensures { IfOk result (λ marks. AreDefaults numbers.entry.graph.now marks) }
 {
     let initials = default_features(alloc, numbers, table.digraph.node_count())?;

@@ -1,5 +1,5 @@
 //! What an edge between two features says.
-ghost use Rattle.std.specs.Prelude.{◌≡◌, IfOk, not, option_copied, position};
+ghost use Rattle.std.specs.Prelude.{◌≡◌, IfOk, option_copied};
 ghost use Rattle.std.specs.Option.{option_map};
 ghost use Rattle.feature_core.specs.Edges.{full_link, is_dev_only};
 ghost use Rattle.feature_core.specs.Choices.{is_chosen};
@@ -237,11 +237,4 @@ impl FeatureEdge {
             }
         }
     }
-}
-
-/// The first of these edges that is conditional and whose link is present for no kind.
-pub(crate) fn first_absent(edges: &[FeatureEdge]) -> Option<usize>
-    ensures { result ≡ position (λ e. not (has_present_link (edge_facts e))) edges.now }
-{
-    edges.iter().position(|edge| !edge.has_present_link())
 }

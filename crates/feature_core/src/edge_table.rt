@@ -14,6 +14,7 @@ ghost use Rattle.feature_core.specs.Values.{edge_facts};
 
 use crate::candidates::package_keys;
 use crate::edge::FeatureEdge;
+use crate::edge_list::EdgeList;
 use crate::edges::{Material, edge_of};
 use crate::key::{Key, keep_least_of};
 use crate::named_links::LinkGroups;
@@ -28,7 +29,7 @@ use std::alloc::{AllocError, Global};
 #[derive(Drop)]
 pub(crate) struct EdgeTable {
     pub(crate) digraph: Digraph,
-    pub(crate) edges: Vec<FeatureEdge>,
+    pub(crate) edges: EdgeList,
     pub(crate) weak: IndexMap<usize, usize>,
 }
 
@@ -46,7 +47,7 @@ fn edge_end(key: Key, edge: &FeatureEdge) -> Edge
 /// The edges of keys, one after the other: what each says, its ends, and the gate of each weak link.
 #[derive(Drop)]
 pub(crate) struct MadeEdges {
-    edges: Vec<FeatureEdge>,
+    edges: EdgeList,
     ends: Vec<Edge>,
     weak: IndexMap<usize, usize>,
 }
@@ -130,8 +131,9 @@ fn made_edges(
     requires links { AreNamedLinks numbers.graph.now groups.now }
     ensures { IfOk result (λ made. AreMadeBelow numbers.entry.graph.now (length numbers.entry.graph.now.packages) made) }
 {
+    let edges = EdgeList::new(alloc)?;
     let mut made = MadeEdges {
-        edges: Vec::new(alloc),
+        edges,
         ends: Vec::new(alloc),
         weak: IndexMap::new(alloc),
     };
@@ -146,12 +148,12 @@ fn made_edges(
 }
 
 /// The digraph of edges that are in order and join nodes. It fails only where memory is refused.
-fn digraph_of(alloc: Global, nodes: usize, ends: &[Edge]) -> Result<Digraph, AllocError>
-    requires { IsDigraph (record { nodes = nodes; edges = ends.now }) }
+fn digraph_of(alloc: Global, nodes: usize, ends: Vec<Edge>) -> Result<Digraph, AllocError>
+    requires { IsDigraph (record { nodes = nodes; edges = ends.items }) }
     ensures nodes { IfOk result (λ d. d.nodes ≡ nodes) }
-    ensures edges { IfOk result (λ d. d.edges ≡ ends.now) }
+    ensures edges { IfOk result (λ d. d.edges ≡ ends.items) }
 {
-    match Digraph::new(alloc, nodes, ends) {
+    match Digraph::from_edges(alloc, nodes, ends) {
         Ok(digraph) => Ok(digraph),
         Err(DigraphError::Memory) => Err(AllocError),
         Err(DigraphError::BadNode | DigraphError::Unsorted) => unreachable!(),
@@ -170,9 +172,9 @@ pub(crate) fn edge_table(
     requires links { AreNamedLinks numbers.graph.now groups.now }
     ensures nodes { IfOk result (λ e. e.digraph.nodes ≡ length table.now.packages.items) }
     ensures pairs { IfOk result (λ e. IsPairList numbers.entry.graph.now (pairs_of e.digraph.edges)) }
-    ensures long { IfOk result (λ e. length e.edges.items ≡ length e.digraph.edges) }
-    ensures ends { IfOk result (λ e. e.digraph.edges ≡ map end_of (built_edges e.digraph.edges (map edge_facts e.edges.items))) }
-    ensures edges { IfOk result (λ e. AreBuilt numbers.entry.graph.now (built_edges e.digraph.edges (map edge_facts e.edges.items)) e.weak.entries) }
+    ensures long { IfOk result (λ e. length e.edges ≡ length e.digraph.edges) }
+    ensures ends { IfOk result (λ e. e.digraph.edges ≡ map end_of (built_edges e.digraph.edges e.edges)) }
+    ensures edges { IfOk result (λ e. AreBuilt numbers.entry.graph.now (built_edges e.digraph.edges e.edges) e.weak.entries) }
 {
     numbers.graph.facts();
     let MadeEdges { edges, ends, weak } = made_edges(
@@ -181,7 +183,7 @@ pub(crate) fn edge_table(
         table.packages.as_slice(),
         groups,
     )?;
-    let digraph = digraph_of(alloc, table.packages.len(), &ends)?;
+    let digraph = digraph_of(alloc, table.packages.len(), ends)?;
     Ok(EdgeTable {
         digraph,
         edges,

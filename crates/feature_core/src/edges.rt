@@ -15,6 +15,7 @@ ghost use Rattle.feature_core.specs.inner.Parts.{IsOfTables};
 ghost use Rattle.feature_core.specs.Values.{link_facts, edge_facts};
 
 use crate::edge::{FeatureEdge, SlashForm, WeakIndex, WeakSlashImpl};
+use crate::edge_list::EdgeList;
 use crate::key::{Key, run_of};
 use crate::link::ConditionalLinkImpl;
 use crate::link::from_declarations::{half_of, link_of, named_link, section_link};

@@ -7,6 +7,7 @@ ghost use Rattle.feature_core.specs.Warnings.{warning_of};
 ghost use Rattle.guppy_packages.specs.Platform.{spec_text, status_of};
 
 use crate::edge::{FeatureEdge, SlashForm, WeakSlashImpl};
+use crate::edge_list::EdgeList;
 use crate::error::Error;
 use crate::feature_graph_data::FeatureGraphData;
 use crate::laws::warning_equality;
@@ -96,7 +97,7 @@ fn same_slash(a: &SlashForm, b: &SlashForm) -> bool
 }
 
 /// Whether edges say the same.
-fn same_edge(a: &FeatureEdge, b: &FeatureEdge) -> bool
+pub(crate) fn same_edge(a: &FeatureEdge, b: &FeatureEdge) -> bool
     ensures { IsTrue result ↔ (edge_facts a.now ≡ edge_facts b.now) }
 {
     match (a, b) {
@@ -117,14 +118,16 @@ fn same_edge(a: &FeatureEdge, b: &FeatureEdge) -> bool
 }
 
 /// Whether edges say the same, in the same order.
-pub(crate) fn same_edges(a: &[FeatureEdge], b: &[FeatureEdge]) -> bool
-    ensures { IsTrue result ↔ (map edge_facts a.now ≡ map edge_facts b.now) }
+pub(crate) fn same_edges(a: &EdgeList, b: &EdgeList) -> bool
+    ensures { IsTrue result ↔ (a.now ≡ b.now) }
 {
     if a.len() != b.len() {
         return false;
     }
     for ix in 0..a.len() {
-        if !same_edge(&a[ix], &b[ix]) {
+        let one = a.get(ix);
+        let other = b.get(ix);
+        if !same_edge(one, other) {
             return false;
         }
     }

@@ -18,7 +18,8 @@ ghost use Rattle.feature_core.specs.Ways.{content};
 
 use crate::chosen_reach::reach_chosen;
 use crate::defaults::default_marks;
-use crate::edge::{EdgeChoice, FeatureEdge, first_absent};
+use crate::edge::{EdgeChoice, FeatureEdge};
+use crate::edge_list::{EdgeList, first_absent};
 use crate::edge_table::{EdgeTable, edge_table};
 use crate::equality::{same_edges, same_gates, same_numbers, same_pairs, same_sets, same_warnings};
 use crate::error::Error;
@@ -45,7 +46,7 @@ pub struct FeatureGraphData {
     digraph: Digraph,
     order: Order,
     cyclic: Vec<usize>,
-    edges: Vec<FeatureEdge>,
+    edges: EdgeList,
     weak: IndexMap<usize, usize>,
     released: Vec<(usize, usize)>,
     warnings: Vec<FeatureGraphWarning>,
@@ -57,19 +58,18 @@ impl Model for FeatureGraphData {
     ghost use Rattle.guppy_support.specs.Sequences.{IsOrderOf};
     ghost use Rattle.order_views.specs.Cycles.{cyclic_components};
     ghost use Rattle.feature_core.specs.Built.{Built, built_edges, end_of};
-    ghost use Rattle.feature_core.specs.Values.{edge_facts};
     ghost use Rattle.feature_core.specs.inner.Releases.{AreTied};
     ghost use Rattle.feature_core.specs.Warnings.{warnings_in};
 
     ghost Value = { Built };
 
-    ghost view = { λ d. record { stamp = d.stamp; firsts = d.table.firsts.items; packages = d.table.packages.items; edges = built_edges d.digraph.edges (map edge_facts d.edges.items); weak = d.weak.entries; warnings = warnings_in d.warnings; defaults = d.defaults } };
+    ghost view = { λ d. record { stamp = d.stamp; firsts = d.table.firsts.items; packages = d.table.packages.items; edges = built_edges d.digraph.edges d.edges; weak = d.weak.entries; warnings = warnings_in d.warnings; defaults = d.defaults } };
 
     ghost invariant = { λ d.
         (d.digraph.nodes ≡ length d.table.packages.items)
-        × (length d.edges.items ≡ length d.digraph.edges)
-        × (d.digraph.edges ≡ map end_of (built_edges d.digraph.edges (map edge_facts d.edges.items)))
-        × AreTied d.digraph (map edge_facts d.edges.items) d.weak.entries d.released.items
+        × (length d.edges ≡ length d.digraph.edges)
+        × (d.digraph.edges ≡ map end_of (built_edges d.digraph.edges d.edges))
+        × AreTied d.digraph d.edges d.weak.entries d.released.items
         × (length d.defaults ≡ length d.table.packages.items)
         × IsOrderOf d.digraph d.order
         × (d.cyclic.items ≡ cyclic_components d.digraph.edges d.order) };
@@ -201,14 +201,14 @@ impl FeatureGraphData {
         ensures { slice_get self.now.edges number ≡ Some (result.0, result.1, edge_facts result.2.now) }
     {
         let ends = self.digraph.edge(number);
-        (ends.from, ends.to, &self.edges[number])
+        (ends.from, ends.to, self.edges.get(number))
     }
 
     /// The first edge whose link is present for no kind, where there is one.
     pub fn first_absent_link(&self) -> Option<usize>
         ensures { result ≡ position (λ e. not (has_present_link e.2)) self.now.edges }
     {
-        first_absent(self.edges.as_slice())
+        first_absent(&self.edges)
     }
 
     /// The weak links, by index: the package link that weak edges name, and the node on whose being reached their
@@ -284,8 +284,14 @@ impl FeatureGraphData {
         ensures size { IfOk result (λ set. length set ≡ length self.now.packages) }
         ensures members { IfOk result (λ set. (n : ℕ) → IsTrue (has set n) ↔ ReachAlong (PairLeads (chosen_pairs which self.now.edges) direction) (has initials.now) n) }
     {
-        let says = self.edges.as_slice();
-        let set = reach_chosen(alloc, &self.digraph, says, which, direction, initials)?;
+        let set = reach_chosen(
+            alloc,
+            &self.digraph,
+            &self.edges,
+            which,
+            direction,
+            initials,
+        )?;
         Ok(set)
     }
 
@@ -326,9 +332,7 @@ impl FeatureGraphData {
     fn has_same_edges(&self, other: &FeatureGraphData) -> bool
         ensures { IsTrue result ↔ (self.now.edges ≡ other.now.edges) }
     {
-        let own = self.edges.as_slice();
-        let others = other.edges.as_slice();
-        same_pairs(&self.digraph, &other.digraph) && same_edges(own, others)
+        same_pairs(&self.digraph, &other.digraph) && same_edges(&self.edges, &other.edges)
     }
 
     /// Whether the weak links are the same, with their gates.

@@ -1,11 +1,13 @@
 //! The edges that wait for a gate, by their gates.
-ghost use Rattle.std.specs.Prelude.{◌≡◌, ◌≤◌, IfOk, AllPairs, IsPermutation, drop, length, map, slice_get};
+ghost use Rattle.std.specs.Prelude.{◌≡◌, ◌≤◌, ◌++◌, ◌∷◌, [], IfOk, OnOk, AllPairs, IsPermutation, drop, length, slice_get};
+ghost use Rattle.std.specs.Option.{option_map_or};
 ghost use Rattle.feature_core.specs.Pairs.{IsBefore};
 ghost use Rattle.feature_core.specs.Ways.{gate_at, gate_of};
 ghost use Rattle.feature_core.specs.inner.Releases.{AreReleases, releases_from, released_by, Begins, IsUpTo};
 ghost use Rattle.feature_core.specs.Values.{edge_facts};
 
 use crate::edge::{FeatureEdge, SlashForm};
+use crate::edge_list::EdgeList;
 use indexmap::IndexMap;
 use std::alloc::{AllocError, Global};
 
@@ -32,19 +34,32 @@ fn gate_at(weak: &IndexMap<usize, usize>, index: usize) -> usize
     }
 }
 
+/// Adds the number beside the gate, where there is one.
+fn push_release(
+    released: &mut Vec<(usize, usize)>,
+    gate: Option<usize>,
+    number: usize,
+) -> Result<(), AllocError>
+    ensures { OnOk result (released.new.items ≡ released.old.items ++ option_map_or (λ g. (g, number) ∷ []) gate []) }
+{
+    if let Some(gate) = gate {
+        released.push((gate, number))?;
+    }
+    Ok(())
+}
+
 /// The gate of each weak edge beside the edge's number, by number.
 fn releases(
     alloc: Global,
-    edges: &[FeatureEdge],
+    edges: &EdgeList,
     weak: &IndexMap<usize, usize>,
 ) -> Result<Vec<(usize, usize)>, AllocError>
-    ensures { IfOk result (λ released. released.items ≡ releases_from weak.now.entries 0 (map edge_facts edges.now)) }
+    ensures { IfOk result (λ released. released.items ≡ releases_from weak.now.entries 0 edges.now) }
 {
     let mut released = Vec::new(alloc);
-    for (number, edge) in edges.iter().enumerate() {
-        if let Some(gate) = gate_of(weak, edge) {
-            released.push((gate, number))?;
-        }
+    for number in 0..edges.len() {
+        let gate = gate_of(weak, edges.get(number));
+        push_release(&mut released, gate, number)?;
     }
     Ok(released)
 }
@@ -52,10 +67,10 @@ fn releases(
 /// The gate of each weak edge beside the edge's number, ascending.
 pub(crate) fn release_table(
     alloc: Global,
-    edges: &[FeatureEdge],
+    edges: &EdgeList,
     weak: &IndexMap<usize, usize>,
 ) -> Result<Vec<(usize, usize)>, AllocError>
-    ensures { IfOk result (λ released. AreReleases (map edge_facts edges.now) weak.now.entries released.items) }
+    ensures { IfOk result (λ released. AreReleases edges.now weak.now.entries released.items) }
 {
     let mut released = releases(alloc, edges, weak)?;
     sort_releases(&mut released);

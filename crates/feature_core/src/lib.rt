@@ -7,6 +7,7 @@ mod chosen_reach;
 mod declarations;
 mod defaults;
 mod edge;
+mod edge_list;
 mod edge_table;
 mod edges;
 pub mod engine;

@@ -1,5 +1,5 @@
 //! The edges of a feature graph as a source for walks.
-ghost use Rattle.std.specs.Prelude.{◌≡◌, ◌+◌, ◌^◌, ◌<◌, ℕ, Some, length, map, slice_get};
+ghost use Rattle.std.specs.Prelude.{◌≡◌, ◌+◌, ◌^◌, ◌<◌, ℕ, Some, length, slice_get};
 ghost use Rattle.walk_engine.specs.Walks.{Content, EndsAreNodes, starting, releasing, told};
 ghost use Rattle.feature_core.specs.Built.{built_edges};
 ghost use Rattle.feature_core.specs.Ways.{asked, content, waits, GatesAreNodes, Reading};
@@ -11,6 +11,7 @@ ghost use Rattle.feature_core.specs.Values.{edge_facts};
 ghost use Rattle.walk_checks.specs.Tables.{Tells};
 
 use crate::edge::{EdgeChoice, FeatureEdge, SlashForm};
+use crate::edge_list::EdgeList;
 use crate::engine::{Ask, EdgeSource, Taken};
 use crate::feature_graph_data::FeatureGraphData;
 use crate::gates::{gate_of, released_at};
@@ -84,24 +85,22 @@ fn waits(direction: DependencyDirection) -> bool
 #[derive(Drop)]
 pub struct Packed<'a> {
     digraph: &'a Digraph,
-    edges: &'a [FeatureEdge],
+    edges: &'a EdgeList,
     asking: Asking<'a>,
     direction: DependencyDirection,
     reads: u128,
 }
 
 impl<'a> Model for Packed<'a> {
-    ghost use Rattle.std.specs.Prelude.{map};
     ghost use Rattle.feature_core.specs.inner.Asking.{held, IsTied};
     ghost use Rattle.feature_core.specs.Built.{built_edges};
     ghost use Rattle.feature_core.specs.Ways.{Reading};
-    ghost use Rattle.feature_core.specs.Values.{edge_facts};
 
     ghost Value = { Reading };
 
-    ghost view = { λ p. record { holds = held p.asking p.direction p.digraph.now.nodes (built_edges p.digraph.now.edges (map edge_facts p.edges.now)); reads = p.reads } };
+    ghost view = { λ p. record { holds = held p.asking p.direction p.digraph.now.nodes (built_edges p.digraph.now.edges p.edges.now); reads = p.reads } };
 
-    ghost invariant = { λ p. IsTied p.asking p.digraph.now (map edge_facts p.edges.now) };
+    ghost invariant = { λ p. IsTied p.asking p.digraph.now p.edges.now };
 }
 
 impl<'a> Packed<'a> {
@@ -115,13 +114,13 @@ impl<'a> Packed<'a> {
     /// The source over these parts.
     pub(crate) fn over(
         digraph: &'a Digraph,
-        edges: &'a [FeatureEdge],
+        edges: &'a EdgeList,
         weak: &'a IndexMap<usize, usize>,
         released: &'a [(usize, usize)],
         direction: DependencyDirection,
     ) -> Self
-        requires { AreTied digraph.now (map edge_facts edges.now) weak.now.entries released.now }
-        ensures { result ≡ record { holds = content direction digraph.now.nodes (built_edges digraph.now.edges (map edge_facts edges.now)) weak.now.entries; reads = 0 } }
+        requires { AreTied digraph.now edges.now weak.now.entries released.now }
+        ensures { result ≡ record { holds = content direction digraph.now.nodes (built_edges digraph.now.edges edges.now) weak.now.entries; reads = 0 } }
     {
         Packed {
             digraph,
@@ -135,12 +134,12 @@ impl<'a> Packed<'a> {
     /// The source over these parts of which nobody is asked of a chosen edge, and the others are offered.
     pub(crate) fn chosen(
         digraph: &'a Digraph,
-        edges: &'a [FeatureEdge],
+        edges: &'a EdgeList,
         which: EdgeChoice,
         direction: DependencyDirection,
     ) -> Self
         requires { length edges.now ≡ length digraph.now.edges }
-        ensures { result ≡ record { holds = chosen_content which direction digraph.now.nodes (built_edges digraph.now.edges (map edge_facts edges.now)); reads = 0 } }
+        ensures { result ≡ record { holds = chosen_content which direction digraph.now.nodes (built_edges digraph.now.edges edges.now); reads = 0 } }
     {
         Packed {
             digraph,
@@ -221,19 +220,19 @@ fn far_end(direction: DependencyDirection, edge: Edge) -> usize
 /// What is told of an edge.
 fn taken(
     digraph: &Digraph,
-    edges: &[FeatureEdge],
+    edges: &EdgeList,
     asking: &Asking<'_>,
     direction: DependencyDirection,
     edge: usize,
 ) -> Taken
     requires edge { edge < length digraph.now.edges }
     requires same { length edges.now ≡ length digraph.now.edges }
-    ensures { Some result ≡ told (held asking.now direction digraph.now.nodes (built_edges digraph.now.edges (map edge_facts edges.now))) (Some edge) }
+    ensures { Some result ≡ told (held asking.now direction digraph.now.nodes (built_edges digraph.now.edges edges.now)) (Some edge) }
 {
     Taken {
         edge,
         far: far_end(direction, digraph.edge(edge)),
-        ask: ask_of(asking, direction, &edges[edge]),
+        ask: ask_of(asking, direction, edges.get(edge)),
     }
 }
 
@@ -283,17 +282,17 @@ fn near_end(direction: DependencyDirection, edge: Edge) -> usize
 /// An edge as the direction follows it.
 fn table_edge(
     digraph: &Digraph,
-    edges: &[FeatureEdge],
+    edges: &EdgeList,
     asking: &Asking<'_>,
     direction: DependencyDirection,
     number: usize,
 ) -> TableEdge
     requires edge { number < length digraph.now.edges }
     requires same { length edges.now ≡ length digraph.now.edges }
-    ensures { Tells (slice_get (held asking.now direction digraph.now.nodes (built_edges digraph.now.edges (map edge_facts edges.now))).ways number) (Some result) }
+    ensures { Tells (slice_get (held asking.now direction digraph.now.nodes (built_edges digraph.now.edges edges.now)).ways number) (Some result) }
 {
     let ends = digraph.edge(number);
-    let edge = &edges[number];
+    let edge = edges.get(number);
     TableEdge {
         start: near_end(direction, ends),
         far: far_end(direction, ends),

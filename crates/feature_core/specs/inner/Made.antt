@@ -11,7 +11,6 @@ use Rattle.feature_core.specs.inner.NamedLinks.{AreNamedLinks}
 use Rattle.feature_core.specs.inner.Parts.{IsOfSource, IsOfTables}
 use Rattle.feature_core.specs.declared.key.Key.{Key}
 use Rattle.feature_core.specs.inner.Weak.{AreGates, weak_sources}
-use Rattle.feature_core.specs.Values.{edge_facts}
 use Rattle.feature_core.specs.declared.edges.Material.{Material}
 use Rattle.feature_core.specs.declared.edge_table.MadeEdges.{MadeEdges}
 
@@ -55,8 +54,8 @@ pub record IsKeptBelow (t : Tables) (p : ℕ) (kept : List Key) : Type 0 where
 pub record AreMade (t : Tables) (kept : List Key) (m : MadeEdges) : Type 0 where
   pub links : map (λ e. e.0) m.weak.entries ≡ first_ones (weak_sources kept)
   pub gates : AreGates t m.weak.entries
-  pub values : (rest : List ℕ) → AreValues t (map (λ e. e.0) m.weak.entries ++ rest) kept (map edge_facts m.edges.items)
-  pub ends : m.ends.items ≡ map (λ p. edge_end p.0 (edge_facts p.1)) (zip kept m.edges.items)
+  pub values : (rest : List ℕ) → AreValues t (map (λ e. e.0) m.weak.entries ++ rest) kept m.edges
+  pub ends : m.ends.items ≡ map (λ p. edge_end p.0 p.1) (zip kept m.edges)
 
 -- made of the least keys of the packages before p
 pub record AreMadeBelow (t : Tables) (p : ℕ) (m : MadeEdges) : Type 0 where

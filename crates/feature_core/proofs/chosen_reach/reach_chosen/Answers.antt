@@ -1,11 +1,10 @@
-use Rattle.std.proofs.Common.{◌≡◌, ℕ, List, map, ap, sym, subst}
+use Rattle.std.proofs.Common.{◌≡◌, ℕ, List, ap, sym, subst}
 use Rattle.guppy_support.specs.Bits.{has}
 use Rattle.feature_core.specs.Edges.{EdgeFacts}
 use Rattle.walk_engine.specs.Walks.{Content, Reach, was_accepted}
 use Rattle.feature_core.specs.Built.{built_edges}
 use Rattle.feature_core.specs.Ways.{Reading}
 use Rattle.feature_core.specs.inner.ChosenWays.{chosen_content}
-use Rattle.feature_core.specs.Values.{edge_facts}
 use Rattle.feature_core.proofs.ChosenWayLemmas.{none_accepted, reach_chosen_pairs}
 use Rattle.feature_core.proofs.chosen_reach.reach_chosen.Goals as goal
 
@@ -13,7 +12,7 @@ pub returns-clause-members : goal.returns-clause-members
 returns-clause-members c = λ n.
     let walk = c.in_ok-walk.ensures.walk in
     let nodes = c.args.digraph.now.nodes in
-    let edges : List (ℕ × ℕ × EdgeFacts) = built_edges c.args.digraph.now.edges (map edge_facts c.args.edges.now) in
+    let edges : List (ℕ × ℕ × EdgeFacts) = built_edges c.args.digraph.now.edges c.args.edges.now in
     let initials = has c.args.initials.now in
     let accepted = was_accepted walk.run in
     let pairs = reach_chosen_pairs c.args.which nodes edges initials accepted (none_accepted _ walk.run _ walk.calls) c.args.direction n in

@@ -1,6 +1,5 @@
-use Rattle.feature_core.specs.Values.{edge_facts}
 use Rattle.feature_core.proofs.SameLists.{AreSame}
 use Rattle.feature_core.proofs.equality.same_edges.Given as goal
 
 abbrev pub invariant-loop-ix : goal.invariant-loop-ix
-invariant-loop-ix l = AreSame edge_facts l.a l.b l.ix
+invariant-loop-ix l = AreSame (λ z. z) l.a l.b l.ix

@@ -1,14 +1,11 @@
-use Rattle.std.proofs.Common.{◌≡◌, ◌∙◌, refl, ap, sym, subst, length, map}
+use Rattle.std.proofs.Common.{◌≡◌, ◌∙◌, refl, ap, sym, subst, length}
 use Rattle.std.proofs.lemmas.Result.{err_from_is_err_and}
 use Rattle.feature_core.specs.Nodes.{node_packages}
-use Rattle.feature_core.specs.inner.Releases.{AreReleases}
 use Rattle.feature_core.proofs.PackedLemmas.{built_gates}
-use Rattle.std.proofs.lemmas.List.{length-map}
 use Rattle.feature_core.specs.Built.{pairs_of, ends_of, built_edges}
 use Rattle.feature_core.specs.Edges.{AreBuilt}
 use Rattle.feature_core.specs.Defaults.{AreDefaults}
 use Rattle.feature_core.specs.Pairs.{IsPairList}
-use Rattle.feature_core.specs.Values.{edge_facts}
 use Rattle.feature_core.proofs.BuildLemmas.{built_ends}
 use Rattle.feature_core.proofs.feature_graph_data.FeatureGraphData.build.Goals as goal
 
@@ -17,8 +14,8 @@ returns-clause-built c =
     let t = c.args.graph.now in
     let made = c.in_ok-edge_table.ensures in
     let table = c.in_ok-edge_table.edge_table in
-    let facts = map edge_facts table.edges.items in
-    let ends : ends_of (built_edges table.digraph.edges facts) ≡ pairs_of table.digraph.edges = built_ends table.digraph.edges facts (length-map table.edges.items edge_facts ∙ made.long) in
+    let facts = table.edges in
+    let ends : ends_of (built_edges table.digraph.edges facts) ≡ pairs_of table.digraph.edges = built_ends table.digraph.edges facts made.long in
     record {
       firsts = c.in_ok-table.ensures.firsts;
       packages = c.in_ok-table.ensures.packages;
@@ -39,16 +36,16 @@ invariant_of-result c =
     let t = c.args.graph.now in
     let made = c.in_ok-edge_table.ensures in
     let table = c.in_ok-edge_table.edge_table in
-    let facts = map edge_facts table.edges.items in
+    let facts = table.edges in
     let built : AreBuilt t (built_edges table.digraph.edges facts) table.weak.entries = subst (λ z. AreBuilt z (built_edges table.digraph.edges facts) table.weak.entries) c.numbers_in-numbers.ensures made.edges in
     let nodes : table.digraph.nodes ≡ length (node_packages t) = made.nodes ∙ ap length c.in_ok-table.ensures.packages in (
       made.nodes,
       made.long,
       made.ends,
       record {
-        each = length-map table.edges.items edge_facts ∙ made.long;
+        each = made.long;
         gates = built_gates t (built_edges table.digraph.edges facts) table.weak.entries table.digraph.nodes built nodes;
-        releases = subst (λ z. AreReleases (map edge_facts z) table.weak.entries c.in_ok-released.released.items) c.deref.ensures.value c.in_ok-released.ensures;
+        releases = c.in_ok-released.ensures;
       },
       c.in_ok-defaults.ensures.long ∙ ap (λ z. length (node_packages z)) c.numbers_in-numbers.ensures ∙ sym (ap length c.in_ok-table.ensures.packages),
       c.in_ok-order.ensures,

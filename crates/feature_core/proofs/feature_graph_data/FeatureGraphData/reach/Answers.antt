@@ -1,15 +1,13 @@
-use Rattle.std.proofs.Common.{◌≡◌, ◌∙◌, ap, subst, map}
+use Rattle.std.proofs.Common.{◌≡◌, ap, subst}
 use Rattle.std.specs.Prelude.{◌↔◌, IsTrue}
 use Rattle.guppy_support.specs.Bits.{has}
 use Rattle.feature_core.specs.Built.{built_edges}
 use Rattle.feature_core.specs.Choices.{chosen_pairs}
 use Rattle.feature_core.specs.Pairs.{PairLeads, ReachAlong}
-use Rattle.feature_core.specs.Values.{edge_facts}
 use Rattle.feature_core.proofs.feature_graph_data.FeatureGraphData.reach.Goals as goal
 
 pub returns-clause-members : goal.returns-clause-members
 returns-clause-members c n =
-    let digraph = c.self.inside.digraph.edges in
-    let same : chosen_pairs c.args.which (built_edges digraph (map edge_facts c.as_slice-says.result.now)) ≡ chosen_pairs c.args.which c.args.self.now.edges =
-    ap (λ z. chosen_pairs c.args.which (built_edges digraph (map edge_facts z))) c.as_slice-says.ensures.value ∙ ap (λ b. chosen_pairs c.args.which b.edges) c.self.view_is in
+    let d = c.self.inside in
+    let same : chosen_pairs c.args.which (built_edges d.digraph.edges d.edges) ≡ chosen_pairs c.args.which c.args.self.now.edges = ap (λ b. chosen_pairs c.args.which b.edges) c.self.view_is in
     subst (λ z. IsTrue (has c.in_ok-set.set n) ↔ ReachAlong (PairLeads z c.args.direction) (has c.args.initials.now) n) same (c.in_ok-set.ensures.members n)

@@ -1,5 +1,4 @@
-use Rattle.std.proofs.Common.{◌∙◌, map, ap, subst, length}
-use Rattle.feature_core.specs.Values.{edge_facts}
+use Rattle.std.proofs.Common.{◌∙◌, ap, subst, length}
 use Rattle.walk_engine.specs.Walks.{EndsAreNodes}
 use Rattle.feature_core.specs.Ways.{Reading}
 use Rattle.feature_core.proofs.AskingLemmas.{held_ends, held_length}
@@ -8,9 +7,9 @@ use Rattle.feature_core.proofs.packed.PackedEdgeSource.edge_count.Goals as goal
 pub returns-clause-count : goal.returns-clause-count
 returns-clause-count c =
     let p = c.self.inside in
-    c.edge_count.ensures ∙ held_length p.asking p.direction p.digraph.now (map edge_facts p.edges.now) c.self.invariant ∙ ap (λ (r : Reading). length r.holds.ways) c.self.view_is
+    c.edge_count.ensures ∙ held_length p.asking p.direction p.digraph.now p.edges.now c.self.invariant ∙ ap (λ (r : Reading). length r.holds.ways) c.self.view_is
 
 pub returns-clause-nodes : goal.returns-clause-nodes
 returns-clause-nodes c =
     let p = c.self.inside in
-    subst (λ (r : Reading). EndsAreNodes r.holds) c.self.view_is (held_ends p.asking p.direction p.digraph.now (map edge_facts p.edges.now) c.facts.ensures c.self.invariant)
+    subst (λ (r : Reading). EndsAreNodes r.holds) c.self.view_is (held_ends p.asking p.direction p.digraph.now p.edges.now c.facts.ensures c.self.invariant)

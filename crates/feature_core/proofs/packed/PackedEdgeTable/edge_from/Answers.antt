@@ -1,6 +1,5 @@
-use Rattle.std.proofs.Common.{◌≡◌, map, sym, subst}
+use Rattle.std.proofs.Common.{◌≡◌, sym, subst}
 use Rattle.std.specs.Prelude.{slice_get}
-use Rattle.feature_core.specs.Values.{edge_facts}
 use Rattle.walk_engine.specs.Walks.{starting}
 use Rattle.feature_core.specs.Ways.{Reading}
 use Rattle.feature_core.proofs.AskingLemmas.{take_held}
@@ -10,4 +9,4 @@ pub returns : goal.returns
 returns c =
     let p = c.self.inside in
     subst (λ (r : Reading). c.edge_number.result ≡ slice_get (starting r.holds c.args.start) c.args.place) c.self.view_is
-    (sym (take_held p.asking p.direction p.digraph.now (map edge_facts p.edges.now) c.args.start c.args.place c.edge_number.result c.self.invariant c.edge_number.ensures))
+    (sym (take_held p.asking p.direction p.digraph.now p.edges.now c.args.start c.args.place c.edge_number.result c.self.invariant c.edge_number.ensures))

@@ -1,5 +1,4 @@
-use Rattle.std.proofs.Common.{◌∙◌, map, ap, subst}
-use Rattle.feature_core.specs.Values.{edge_facts}
+use Rattle.std.proofs.Common.{◌∙◌, ap, subst}
 use Rattle.walk_engine.specs.Walks.{EndsAreNodes}
 use Rattle.feature_core.specs.Ways.{Reading}
 use Rattle.feature_core.proofs.AskingLemmas.{held_ends}
@@ -11,4 +10,4 @@ returns-clause-count c = c.node_count.ensures ∙ ap (λ (r : Reading). r.holds.
 pub returns-clause-ends : goal.returns-clause-ends
 returns-clause-ends c =
     let p = c.self.inside in
-    subst (λ (r : Reading). EndsAreNodes r.holds) c.self.view_is (held_ends p.asking p.direction p.digraph.now (map edge_facts p.edges.now) c.facts.ensures c.self.invariant)
+    subst (λ (r : Reading). EndsAreNodes r.holds) c.self.view_is (held_ends p.asking p.direction p.digraph.now p.edges.now c.facts.ensures c.self.invariant)

@@ -1,0 +1,176 @@
+//! Edges by number, of which those that say the same share one place.
+ghost use Rattle.std.specs.Prelude.{◌≡◌, ◌++◌, ◌∷◌, ◌<◌, ◌↔◌, [], Some, IfOk, OnOk, IsTrue, length, map, not, position, replicate, slice_get};
+ghost use Rattle.feature_core.specs.inner.Pools.{Keeps};
+ghost use Rattle.feature_core.specs.Present.{has_present_link};
+ghost use Rattle.feature_core.specs.Values.{edge_facts};
+
+use crate::edge::{FeatureEdge, SlashForm};
+use crate::equality::same_edge;
+use crate::link::ConditionalLinkImpl;
+use feature_labels::LinkDeclarations;
+use std::alloc::{AllocError, Global};
+use std::marker::Model;
+
+/// Edges by number: for each its place in a pool. An edge that says the same as a recent one has the place of that one. A contract
+/// sees what each edge says.
+#[derive(Drop)]
+pub(crate) struct EdgeList {
+    pool: Vec<FeatureEdge>,
+    places: Vec<usize>,
+    recent: Vec<usize>,
+}
+
+impl Model for EdgeList {
+    ghost use Rattle.std.specs.Prelude.{◌≡◌, List, length};
+    ghost use Rattle.feature_core.specs.Edges.{EdgeFacts};
+    ghost use Rattle.feature_core.specs.inner.Pools.{AreWithin, facts_at};
+
+    ghost Value = { List EdgeFacts };
+
+    ghost view = { λ l. facts_at l.pool.items l.places.items };
+
+    ghost invariant = { λ l. AreWithin l.pool.items l.places.items × (length l.recent.items ≡ 4096) };
+}
+
+/// So many zeroes.
+fn zeroes(alloc: Global, count: usize) -> Result<Vec<usize>, AllocError>
+    ensures { IfOk result (λ v. v.items ≡ replicate count 0) }
+{
+    vec![in alloc; 0usize; count]
+}
+
+/// Whether the link is over optional declarations, as a number.
+fn half_slot(link: &ConditionalLinkImpl) -> usize
+    ensures { result < 2 }
+{
+    match link.declarations() {
+        LinkDeclarations::Unsplit | LinkDeclarations::Required => 0,
+        LinkDeclarations::Optional => 1,
+    }
+}
+
+/// The first package link of a link, as a number that differs for links near one another.
+fn near_slot(link: &ConditionalLinkImpl) -> usize
+    ensures { result < 256 }
+{
+    match link.package_link_ixs().first() {
+        Some(link_ix) => *link_ix % 256,
+        None => 0,
+    }
+}
+
+/// The slot of an edge of a kind over a link.
+fn link_slot(link: &ConditionalLinkImpl, kind: usize) -> usize
+    requires { kind < 8 }
+    ensures { result < 4096 }
+{
+    near_slot(link) * 16 + kind * 2 + half_slot(link)
+}
+
+/// The slot of the table of recent places where an edge is looked up.
+fn edge_slot(edge: &FeatureEdge) -> usize
+    ensures { result < 4096 }
+{
+    match edge {
+        FeatureEdge::FeatureToBase => 0,
+        FeatureEdge::NamedFeature => 1,
+        FeatureEdge::DependenciesSection(link) => link_slot(link, 1),
+        FeatureEdge::NamedFeatureDepColon(link) => link_slot(link, 2),
+        FeatureEdge::NamedFeatureWithSlash { link, slash } => match slash {
+            SlashForm::Strong => link_slot(link, 3),
+            SlashForm::Weak(_) => link_slot(link, 4),
+        },
+    }
+}
+
+/// Whether an edge at this place says the same.
+fn is_at(pool: &[FeatureEdge], place: usize, edge: &FeatureEdge) -> bool
+    ensures { IsTrue result ↔ (slice_get (map edge_facts pool.now) place ≡ Some (edge_facts edge.now)) }
+{
+    if place < pool.len() {
+        return same_edge(&pool[place], edge);
+    }
+    false
+}
+
+/// Adds an edge, and gives its place.
+fn place_after(pool: &mut Vec<FeatureEdge>, edge: FeatureEdge) -> Result<usize, AllocError>
+    ensures kept { Keeps pool.old.items pool.new.items }
+    ensures place { IfOk result (λ place. slice_get (map edge_facts pool.new.items) place ≡ Some (edge_facts edge)) }
+{
+    let place = pool.len();
+    pool.push(edge)?;
+    Ok(place)
+}
+
+/// The place of an edge that says the same, where it's the one in the edge's slot; else the edge is added.
+fn place_of(
+    pool: &mut Vec<FeatureEdge>,
+    recent: &mut Vec<usize>,
+    edge: FeatureEdge,
+) -> Result<usize, AllocError>
+    requires { length recent.old.items ≡ 4096 }
+    ensures kept { Keeps pool.old.items pool.new.items }
+    ensures place { IfOk result (λ place. slice_get (map edge_facts pool.new.items) place ≡ Some (edge_facts edge)) }
+    ensures long { length recent.new.items ≡ 4096 }
+{
+    let slot = edge_slot(&edge);
+    let near = recent[slot];
+    if is_at(pool.as_slice(), near, &edge) {
+        return Ok(near);
+    }
+    let place = place_after(pool, edge)?;
+    recent[slot] = place;
+    Ok(place)
+}
+
+impl EdgeList {
+    /// No edge.
+    pub(crate) fn new(alloc: Global) -> Result<EdgeList, AllocError>
+        ensures { IfOk result (λ edges. edges ≡ []) }
+    {
+        let recent = zeroes(alloc, 4096)?;
+        Ok(EdgeList {
+            pool: Vec::new(alloc),
+            places: Vec::new(alloc),
+            recent,
+        })
+    }
+
+    /// Appends an edge.
+    pub(crate) fn push(&mut self, edge: FeatureEdge) -> Result<(), AllocError>
+        ensures { OnOk result (self.new ≡ self.old ++ edge_facts edge ∷ []) }
+    {
+        let place = place_of(&mut self.pool, &mut self.recent, edge)?;
+        self.places.push(place)?;
+        Ok(())
+    }
+
+    /// How many edges there are.
+    pub(crate) fn len(&self) -> usize
+        ensures { result ≡ length self.now }
+    {
+        self.places.len()
+    }
+
+    /// The edge of this number.
+    pub(crate) fn get(&self, number: usize) -> &FeatureEdge
+        requires { number < length self.now }
+        ensures { slice_get self.now number ≡ Some (edge_facts result.now) }
+    {
+        let place = self.places[number];
+        &self.pool[place]
+    }
+}
+
+/// The first of these edges that is conditional and whose link is present for no kind.
+pub(crate) fn first_absent(edges: &EdgeList) -> Option<usize>
+    ensures { result ≡ position (λ f. not (has_present_link f)) edges.now }
+{
+    for number in 0..edges.len() {
+        if !edges.get(number).has_present_link() {
+            return Some(number);
+        }
+    }
+    None
+}
