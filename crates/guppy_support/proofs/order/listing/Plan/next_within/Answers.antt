@@ -1,4 +1,4 @@
-use Rattle.std.proofs.Common.{◌≡◌, ◌<◌, length, arith, ap, get_or}
+use Rattle.std.proofs.Common.{◌≡◌, ◌<◌, length, arith, get_or}
 use Rattle.guppy_support.specs.Rows.{places}
 use Rattle.guppy_support.specs.inner.Plans.{rest_of, IsFreshPlace}
 use Rattle.guppy_support.proofs.PlaceLemmas.{places_within}

@@ -1,5 +1,4 @@
-use Rattle.std.proofs.Common.{◌<◌, length, arith, ap, refl, get_or}
-use Rattle.guppy_support.specs.Rows.{places}
+use Rattle.std.proofs.Common.{length, arith, ap, refl, get_or}
 use Rattle.guppy_support.proofs.PlaceLemmas.{places_within}
 use Rattle.guppy_support.proofs.GroupLemmas.{row_complete}
 use Rattle.guppy_support.specs.inner.Plans.{rest_of}
