@@ -1,6 +1,6 @@
 -- One more line, in the list of lines and in the lists that lie behind it.
-use Rattle.std.proofs.Common.{◌≡◌, ℕ, ◌+◌, ◌-◌, ◌<◌, ◌≤◌, ◌++◌, List, [], ◌∷◌, Bool, true, false, map, filter, not, length, get_or, take, drop, sym, ap, ◌∙◌, refl, arith, add-one, drop-cons, append_assoc, cond, suc, zero}
-use Rattle.std.proofs.lemmas.List.{drop-map, map-append, take-append-le, drop-append-le}
+use Rattle.std.proofs.Common.{◌≡◌, ℕ, ◌+◌, ◌-◌, ◌≤◌, ◌++◌, List, [], ◌∷◌, Bool, true, false, map, filter, not, length, take, drop, sym, ap, ◌∙◌, refl, arith, append_assoc, cond, suc, zero}
+use Rattle.std.proofs.lemmas.List.{map-append, take-append-le, drop-append-le}
 use Rattle.std.proofs.lemmas.Grind.{common_steps}
 use Rattle.std.proofs.Math.Seq.{drop-append_seam, take-length}
 use Rattle.std.specs.List.{enumerate_from, slice_range, All}
