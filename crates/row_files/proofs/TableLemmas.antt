@@ -1,5 +1,5 @@
 -- A faulty row and its line.
-use Rattle.std.proofs.Common.{◌≡◌, ℕ, ◌<◌, zero, suc, List, [], ◌∷◌, Result, Ok, Err, map, length, get_or, sym, ap, ◌∙◌, refl, arith}
+use Rattle.std.proofs.Common.{◌≡◌, ℕ, ◌<◌, List, Result, Ok, Err, length, ap, ◌∙◌, refl}
 use Rattle.guppy_packages.specs.Rows.{RowText, Text}
 use Rattle.guppy_packages.specs.Graph.{tables_of, NamesRow, Reads}
 use Rattle.guppy_packages.specs.declared.row_error.RowError.{RowError}

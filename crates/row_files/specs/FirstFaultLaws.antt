@@ -1,6 +1,5 @@
 -- How the first fault of several items is found: item by item, from the front.
-use Rattle.std.proofs.Common.{◌≡◌, ℕ, ◌+◌, ◌<◌, ◌≤◌, ◌++◌, List, [], ◌∷◌, Result, Ok, Err, Option, None, Some, find, is_none, length, drop, map, get_or, add-one, drop-cons, cond, sym, ap, ◌∙◌, refl, append_assoc, append-nil, suc}
-use Rattle.std.proofs.Math.ListN.{drop_of_length-le}
+use Rattle.std.proofs.Common.{◌≡◌, ℕ, ◌+◌, ◌<◌, ◌++◌, List, [], ◌∷◌, Result, Ok, Err, Option, None, Some, find, is_none, length, drop, map, get_or, add-one, drop-cons, cond, sym, ap, ◌∙◌, refl, append_assoc, suc}
 use Rattle.std.proofs.lemmas.List.{drop-map}
 use Rattle.std.specs.List.{filter_map, cons_option}
 use Rattle.std.specs.Option.{option_map_or}
@@ -46,12 +45,6 @@ one_given f fault front x items rest all y given at some =
 pub none_yet : {A B E : Type 0} (f : A → Option B) (fault : A → E) (all : List A) (r : Result (List B) E) → with_front [] r ≡ r
 none_yet f fault all (Ok xs) = refl
 none_yet f fault all (Err e) = refl
-
--- no item is left
-pub none_left : {A B E : Type 0} (f : A → Option B) (fault : A → E) (front : List B) (i : ℕ) (all : List A) → length all ≤ i
-    → with_front front (each_or f fault (drop i all)) ≡ each_or f fault all → each_or f fault all ≡ Ok front
-none_left f fault front i all past given =
-    sym given ∙ ap (λ ys. with_front front (each_or f fault ys)) (drop_of_length-le all past) ∙ ap Ok (append-nil front)
 
 -- the items of `map f xs` from i on, at the item x
 pub drop_map_at : {X Y : Type 0} (f : X → Y) (xs : List X) (i : ℕ) (x : X) → i < length xs → x ≡ get_or xs i x → drop i (map f xs) ≡ f x ∷ drop (i + 1) (map f xs)

@@ -1,11 +1,10 @@
-use Rattle.std.proofs.Common.{Err, true, false, ap, sym, ◌∙◌, arith}
+use Rattle.std.proofs.Common.{Err, true, false, ap, sym, ◌∙◌}
 use Rattle.guppy_packages.specs.Rows.{row_text}
 use Rattle.row_files.specs.RowFile.{lines_of}
 use Rattle.row_files.specs.RowOfLine.{row_of}
 use Rattle.row_files.specs.declared.error.RowFileError.TheVariants as error
-use Rattle.row_files.specs.inner.WellFormed.{rows_in}
 use Rattle.std.specs.Option.{option_map}
-use Rattle.row_files.proofs.EachLemmas.{none_refused, passed_here, refused_here}
+use Rattle.row_files.proofs.EachLemmas.{passed_here, refused_here}
 use Rattle.row_files.proofs.RowLemmas.{number_there, same_none}
 use Rattle.row_files.proofs.rows.LineRows.of.Goals as goal
 
