@@ -1,6 +1,5 @@
--- The first item of which f gives nothing, and what is given where there is none.
-use Rattle.std.proofs.Common.{◌≡◌, ℕ, zero, suc, ◌+◌, ◌<◌, ◌≤◌, Bool, true, false, cond, List, [], ◌∷◌, Result, Ok, Err, Option, None, Some, find, is_none, length, drop, add-one, drop-cons, sym, ap, ◌∙◌, refl, arith}
-use Rattle.std.proofs.Math.ListN.{drop_of_length-le}
+-- The first item of which f gives nothing, and what f gives of each where there is none.
+use Rattle.std.proofs.Common.{◌≡◌, ℕ, zero, suc, ◌+◌, ◌<◌, Bool, true, false, cond, List, [], ◌∷◌, Result, Ok, Err, Option, None, Some, find, is_none, length, drop, add-one, drop-cons, sym, ap, ◌∙◌, refl, arith}
 use Rattle.std.proofs.lemmas.Option.{get_or_from_slice_get, slice_get_within}
 use Rattle.std.specs.Prelude.{slice_get}
 use Rattle.std.specs.List.{filter_map}
@@ -32,10 +31,6 @@ module _ {A B E : Type 0} (f : A → Option B) (fault : A → E) (all : List A) 
 
     pub passed_here : is_none r ≡ false → find (λ x. is_none (f x)) (drop (i + 1) all) ≡ find (λ x. is_none (f x)) all
     passed_here is = sym (found false is).2
-
-  pub none_refused : length all ≤ i → each_or f fault all ≡ Ok (filter_map f all)
-  none_refused past =
-      ap (λ o. option_map_or (λ x. Err (fault x)) o (Ok (filter_map f all))) (sym before ∙ ap (find (λ x. is_none (f x))) (drop_of_length-le all past))
 
 first_parts : {B E : Type 0} (fault : E) (given : Option B) (rest : Result (List B) E) (ys : List B) → with_first fault given rest ≡ Ok ys → (y : B) × (zs : List B) × (given ≡ Some y) × (rest ≡ Ok zs) × (ys ≡ y ∷ zs)
 first_parts fault None rest ys e = absurd (cc)
