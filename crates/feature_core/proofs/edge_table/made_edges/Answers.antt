@@ -8,7 +8,7 @@ pub loop-ix-init : goal.loop-ix-init
 loop-ix-init c = record {
   kept = [];
   is_kept = kept_none c.args.numbers.graph.now;
-  made = made_none c.args.numbers.graph.now _ c.new-2.ensures.empty c.in_ok-edges.ensures c.new.ensures.items;
+  made = made_none c.args.numbers.graph.now _ c.new-3.ensures.empty c.in_ok-edges.ensures c.new-2.ensures.items;
 }
 
 pub returns : goal.returns
