@@ -22,7 +22,7 @@ use crate::failure::Failure;
 use crate::out::Out;
 use byte_devices::{FromReader, read_all};
 use guppy_packages::PackageGraph;
-use row_files::{Lines, rows_of};
+use row_files::{Lines, graph_of_lines};
 use std::alloc::Global;
 use std::env;
 use std::fs::File;
@@ -51,8 +51,7 @@ fn row_file(rt: &HostRuntime) -> Result<Vec<u8>, Failure> {
 /// The package graph of a row file's text, or its first fault.
 fn graph_of(alloc: Global, text: &str) -> Result<PackageGraph, Failure> {
     let lines = Lines::of(alloc, text)?;
-    let rows = rows_of(alloc, &lines)?;
-    Ok(PackageGraph::from_rows(alloc, &rows)?)
+    Ok(graph_of_lines(alloc, &lines)?)
 }
 
 /// The package graph of a row file's bytes, or its first fault.
