@@ -22,7 +22,7 @@ use crate::failure::Failure;
 use crate::out::Out;
 use byte_devices::{FromReader, read_all};
 use guppy_packages::PackageGraph;
-use row_files::{Lines, graph_of_lines};
+use row_files::{LineRows, Lines};
 use std::alloc::Global;
 use std::env;
 use std::fs::File;
@@ -51,7 +51,8 @@ fn row_file(rt: &HostRuntime) -> Result<Vec<u8>, Failure> {
 /// The package graph of a row file's text, or its first fault.
 fn graph_of(alloc: Global, text: &str) -> Result<PackageGraph, Failure> {
     let lines = Lines::of(alloc, text)?;
-    Ok(graph_of_lines(alloc, &lines)?)
+    let rows = LineRows::of(&lines)?;
+    Ok(PackageGraph::from_source(alloc, &rows)?)
 }
 
 /// The package graph of a row file's bytes, or its first fault.

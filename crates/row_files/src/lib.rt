@@ -10,3 +10,4 @@ mod rows;
 pub use error::RowFileError;
 pub use lines::Lines;
 pub use row_file::{graph_of, graph_of_lines};
+pub use rows::LineRows;

@@ -130,7 +130,7 @@ fn row_at<'l>(lines: &'l Lines<'_>, at: usize) -> Option<Row<'l>>
 
 /// The rows of lines that are all well-formed. Each row is made when it is asked for.
 #[derive(Drop)]
-pub(crate) struct LineRows<'l, 't> {
+pub struct LineRows<'l, 't> {
     lines: &'l Lines<'t>,
     ghost well_formed: { AreWellFormed (lines_of lines.now) },
 }
@@ -139,7 +139,7 @@ impl<'l, 't> LineRows<'l, 't> {
     ghost use Rattle.std.specs.Prelude.{Err, IfErr, IfOk};
 
     /// The rows of the lines, or the first malformed line.
-    pub(crate) fn of(lines: &'l Lines<'t>) -> Result<Self, RowFileError>
+    pub fn of(lines: &'l Lines<'t>) -> Result<Self, RowFileError>
         ensures ok { IfOk result (λ rows. rows.lines.now ≡ lines.now) }
         ensures err { IfErr result (λ error. rows_of (lines_of lines.now) ≡ Err error) }
     {
