@@ -64,12 +64,12 @@ impl Digraph {
         ensures sound { IfOk result (λ g. IsDigraph g) }
         ensures refused { IfErr result (λ e. IsRefused nodes edges.now e) }
     {
-        match Vec::from_slice(alloc, edges) {
-            Ok(copied) => Digraph::from_edges(alloc, nodes, copied),
-            Err(_) => match first_fault(nodes, edges) {
-                Some(fault) => Err(fault),
-                None => Err(DigraphError::Memory),
-            },
+        if let Some(fault) = first_fault(nodes, edges) {
+            return Err(fault);
+        }
+        match Digraph::copied(alloc, nodes, edges) {
+            Ok(graph) => Ok(graph),
+            Err(_) => Err(DigraphError::Memory),
         }
     }
 
@@ -90,6 +90,15 @@ impl Digraph {
             Ok(graph) => Ok(graph),
             Err(_) => Err(DigraphError::Memory),
         }
+    }
+
+    fn copied(alloc: Global, nodes: usize, edges: &[Edge]) -> Result<Digraph, AllocError>
+        requires { IsDigraph (record { nodes = nodes; edges = edges.now }) }
+        ensures { IfOk result (λ g. g ≡ record { nodes = nodes; edges = edges.now }) }
+    {
+        let copied = Vec::from_slice(alloc, edges)?;
+        let graph = Digraph::built(alloc, nodes, copied)?;
+        Ok(graph)
     }
 
     fn built(alloc: Global, nodes: usize, edges: Vec<Edge>) -> Result<Digraph, AllocError>
