@@ -30,6 +30,7 @@ pub mod SectionPlaces
 pub mod KeyEdges
 pub mod MaterialLemmas
 pub mod ValueLemmas
+pub mod AlikeLemmas
 pub mod StatusLemmas
 pub mod NodeLabels
 pub mod LinkLemmas

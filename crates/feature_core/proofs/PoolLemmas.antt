@@ -88,3 +88,9 @@ module _ (pool : List FeatureEdge) (places : List ℕ) (k p : ℕ) (there : slic
       slice_get-map (λ q. get_or (map edge_facts pool) q base_edge) places k
       ∙ ap (option_map (λ q. get_or (map edge_facts pool) q base_edge)) there
       ∙ ap Some (get_or_from_slice_get (map edge_facts pool) p (edge_facts e) base_edge (said_here pool p e h))
+
+  pub said_there : AreWithin pool places → (f : EdgeFacts) → slice_get (facts_at pool places) k ≡ Some f → slice_get (map edge_facts pool) p ≡ Some f
+  said_there h f e =
+      said_at pool p (place_within h)
+      ∙ sym (slice_get-map (λ q. get_or (map edge_facts pool) q base_edge) places k ∙ ap (option_map (λ q. get_or (map edge_facts pool) q base_edge)) there)
+      ∙ e

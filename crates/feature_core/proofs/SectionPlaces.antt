@@ -171,13 +171,13 @@ module _ (t : Tables) (tables : AreTables t) (x : Key) (l : LinkFacts) (s : Says
       s.start
 
   -- another key of the pair comes from the same link
-  record IsOfLink (y : Key) : Type 0 where
-    source : y.source ≡ x.source
-    declared : Declared
-    at : slice_get s.link.declarations y.place ≡ Some declared
-    passes : IsTrue (requesting s.asked s.which declared)
+  pub record IsOfLink (y : Key) : Type 0 where
+    pub source : y.source ≡ x.source
+    pub declared : Declared
+    pub at : slice_get s.link.declarations y.place ≡ Some declared
+    pub passes : IsTrue (requesting s.asked s.which declared)
 
-  of_link : (y : Key) → IsOfTables t y → y.rank ≡ 7 → y.from ≡ x.from → y.to ≡ x.to → IsOfLink y
+  pub of_link : (y : Key) → IsOfTables t y → y.rank ≡ 7 → y.from ≡ x.from → y.to ≡ x.to → IsOfLink y
   of_link y h r from to =
       let k = section_key t y h r in
       let start : NodeAt t x.from k.link.from (start_of k.link k.declared) = subst (λ z. NodeAt t z k.link.from (start_of k.link k.declared)) from k.from_node in

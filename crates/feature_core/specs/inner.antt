@@ -10,3 +10,4 @@ pub mod Collected
 pub mod Made
 pub mod Weak
 pub mod Pools
+pub mod Alike

@@ -1,6 +1,7 @@
 //! Edges by number, of which those that say the same share one place.
 ghost use Rattle.std.specs.Prelude.{◌≡◌, ◌++◌, ◌∷◌, ◌<◌, ◌↔◌, [], Some, IfOk, OnOk, IsTrue, length, map, not, position, replicate, slice_get};
 ghost use Rattle.feature_core.specs.inner.Pools.{Keeps};
+ghost use Rattle.feature_core.specs.Edges.{EdgeFacts};
 ghost use Rattle.feature_core.specs.Present.{has_present_link};
 ghost use Rattle.feature_core.specs.Values.{edge_facts};
 
@@ -29,11 +30,11 @@ impl Model for EdgeList {
 
     ghost view = { λ l. facts_at l.pool.items l.places.items };
 
-    ghost invariant = { λ l. AreWithin l.pool.items l.places.items × (length l.recent.items ≡ 4096) };
+    ghost invariant = { λ l. AreWithin l.pool.items l.places.items × (length l.recent.items ≡ 65536) };
 }
 
 /// So many zeroes.
-fn zeroes(alloc: Global, count: usize) -> Result<Vec<usize>, AllocError>
+pub(crate) fn zeroes(alloc: Global, count: usize) -> Result<Vec<usize>, AllocError>
     ensures { IfOk result (λ v. v.items ≡ replicate count 0) }
 {
     vec![in alloc; 0usize; count]
@@ -51,10 +52,10 @@ fn half_slot(link: &ConditionalLinkImpl) -> usize
 
 /// The first package link of a link, as a number that differs for links near one another.
 fn near_slot(link: &ConditionalLinkImpl) -> usize
-    ensures { result < 256 }
+    ensures { result < 4096 }
 {
     match link.package_link_ixs().first() {
-        Some(link_ix) => *link_ix % 256,
+        Some(link_ix) => *link_ix % 4096,
         None => 0,
     }
 }
@@ -62,14 +63,14 @@ fn near_slot(link: &ConditionalLinkImpl) -> usize
 /// The slot of an edge of a kind over a link.
 fn link_slot(link: &ConditionalLinkImpl, kind: usize) -> usize
     requires { kind < 8 }
-    ensures { result < 4096 }
+    ensures { result < 65536 }
 {
     near_slot(link) * 16 + kind * 2 + half_slot(link)
 }
 
 /// The slot of the table of recent places where an edge is looked up.
 fn edge_slot(edge: &FeatureEdge) -> usize
-    ensures { result < 4096 }
+    ensures { result < 65536 }
 {
     match edge {
         FeatureEdge::FeatureToBase => 0,
@@ -109,10 +110,10 @@ fn place_of(
     recent: &mut Vec<usize>,
     edge: FeatureEdge,
 ) -> Result<usize, AllocError>
-    requires { length recent.old.items ≡ 4096 }
+    requires { length recent.old.items ≡ 65536 }
     ensures kept { Keeps pool.old.items pool.new.items }
     ensures place { IfOk result (λ place. slice_get (map edge_facts pool.new.items) place ≡ Some (edge_facts edge)) }
-    ensures long { length recent.new.items ≡ 4096 }
+    ensures long { length recent.new.items ≡ 65536 }
 {
     let slot = edge_slot(&edge);
     let near = recent[slot];
@@ -129,7 +130,7 @@ impl EdgeList {
     pub(crate) fn new(alloc: Global) -> Result<EdgeList, AllocError>
         ensures { IfOk result (λ edges. edges ≡ []) }
     {
-        let recent = zeroes(alloc, 4096)?;
+        let recent = zeroes(alloc, 65_536)?;
         Ok(EdgeList {
             pool: Vec::new(alloc),
             places: Vec::new(alloc),
@@ -142,6 +143,16 @@ impl EdgeList {
         ensures { OnOk result (self.new ≡ self.old ++ edge_facts edge ∷ []) }
     {
         let place = place_of(&mut self.pool, &mut self.recent, edge)?;
+        self.places.push(place)?;
+        Ok(())
+    }
+
+    /// Appends what the edge of a number says.
+    pub(crate) fn repeat(&mut self, number: usize) -> Result<(), AllocError>
+        requires { number < length self.now }
+        ensures { OnOk result ((f : EdgeFacts) → slice_get self.old number ≡ Some f → self.new ≡ self.old ++ f ∷ []) }
+    {
+        let place = self.places[number];
         self.places.push(place)?;
         Ok(())
     }

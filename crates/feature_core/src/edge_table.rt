@@ -1,11 +1,13 @@
 //! The edges of a package graph, package by package, from keys to what each edge says.
-ghost use Rattle.std.specs.Prelude.{◌≡◌, ◌++◌, ◌∷◌, [], ◌+◌, ◌<◌, IfOk, List, OnOk, length, map};
+ghost use Rattle.std.specs.Prelude.{◌≡◌, ◌++◌, ℕ, ◌+◌, ◌-◌, ◌<◌, ◌≤◌, Contains, IfOk, List, OnOk, Some, length, map, slice_get, take};
+ghost use Rattle.indexmap.specs.IndexMap.{keys};
 ghost use Rattle.guppy_support.specs.Graph.{IsDigraph};
 ghost use Rattle.feature_core.specs.declared.key.Key.{Key as KeyValue};
 ghost use Rattle.feature_core.specs.Built.{pairs_of, built_edges, end_of};
-ghost use Rattle.feature_core.specs.Edges.{AreBuilt};
+ghost use Rattle.feature_core.specs.Edges.{AreBuilt, EdgeFacts};
+ghost use Rattle.feature_core.specs.inner.Alike.{IsAppended, IsNext};
 ghost use Rattle.feature_core.specs.inner.Keys.{AreLeast, IsLeast};
-ghost use Rattle.feature_core.specs.inner.Made.{IsMaterial, AreMade, AreMadeBelow, edge_end};
+ghost use Rattle.feature_core.specs.inner.Made.{IsMaterial, IsValueOf, AreMade, AreMadeBelow, edge_end};
 ghost use Rattle.feature_core.specs.inner.NamedLinks.{AreNamedLinks};
 ghost use Rattle.feature_core.specs.Nodes.{first_nodes, node_packages};
 ghost use Rattle.feature_core.specs.Pairs.{IsPairList};
@@ -18,6 +20,7 @@ use crate::edge_list::EdgeList;
 use crate::edges::{Material, edge_of};
 use crate::key::{Key, keep_least_of};
 use crate::named_links::LinkGroups;
+use crate::near_keys::NearKeys;
 use crate::nodes::NodeTable;
 use crate::numbers::Numbers;
 use crate::weak_links::note_gate;
@@ -52,25 +55,89 @@ pub(crate) struct MadeEdges {
     weak: IndexMap<usize, usize>,
 }
 
-/// Room for the keys of a package, and for the least of each pair.
+/// Room for the keys of a package, for the least of each pair, and for the places of keys that may be alike.
 #[derive(Drop)]
 struct Room {
     keys: Vec<Key>,
     kept: Vec<Key>,
+    near: NearKeys,
 }
 
 impl MadeEdges {
-    /// Adds the edge of a key.
-    fn add(&mut self, alloc: Global, material: Material<'_, '_>, key: Key) -> Result<(), AllocError>
+    /// Makes the edge of a key whose weak link is noted.
+    fn make(
+        &mut self,
+        alloc: Global,
+        material: Material<'_, '_>,
+        key: Key,
+    ) -> Result<(), AllocError>
         requires material { IsMaterial material }
         requires of_tables { IsOfTables material.numbers.graph.now key }
         requires least { IsLeast material.keys.now key }
-        ensures { OnOk result ((done : List KeyValue) → AreMade material.entry.numbers.graph.now done self.old → AreMade material.entry.numbers.graph.now (done ++ key ∷ []) self.new) }
+        requires noted { key.rank ≡ 6 → Contains (keys self.now.weak) key.source }
+        ensures { OnOk result ((f : EdgeFacts) × IsAppended key f self.old self.new × ((rest : List ℕ) → IsValueOf material.entry.numbers.graph.now (keys self.old.weak ++ rest) key f)) }
     {
-        note_gate(&mut self.weak, material.numbers, key)?;
         let edge = edge_of(alloc, material, &self.weak, key)?;
         self.ends.push(edge_end(key, &edge))?;
         self.edges.push(edge)?;
+        Ok(())
+    }
+
+    /// Gives a key the edge that is so many places back.
+    fn repeat(&mut self, key: Key, back: usize) -> Result<(), AllocError>
+        requires some { 0 < back }
+        requires within { back ≤ length self.now.edges }
+        ensures { OnOk result ((f : EdgeFacts) × IsAppended key f self.old self.new × (slice_get self.old.edges (length self.old.edges - back) ≡ Some f)) }
+    {
+        let number = self.edges.len() - back;
+        let end = edge_end(key, self.edges.get(number));
+        self.ends.push(end)?;
+        self.edges.repeat(number)?;
+        Ok(())
+    }
+
+    /// Adds the edge of a key whose weak link is noted: that of an alike key before it, where one is near.
+    fn add_noted(
+        &mut self,
+        alloc: Global,
+        material: Material<'_, '_>,
+        near: &mut NearKeys,
+        kept: &[Key],
+        ix: usize,
+    ) -> Result<(), AllocError>
+        requires material { IsMaterial material }
+        requires kept { AreLeast material.keys.now kept.now }
+        requires within { ix < length kept.now }
+        requires long { ix ≤ length self.now.edges }
+        requires noted { (x : KeyValue) → slice_get kept.now ix ≡ Some x → x.rank ≡ 6 → Contains (keys self.now.weak) x.source }
+        ensures { OnOk result ((x : KeyValue) → slice_get kept.now ix ≡ Some x → IsNext material.entry.numbers.graph.now kept.now ix x self.old self.new) }
+    {
+        material.numbers.graph.facts();
+        let key = kept[ix];
+        match near.alike_before(material.numbers, kept, ix, key) {
+            Some(earlier) => self.repeat(key, ix - earlier),
+            None => self.make(alloc, material, key),
+        }
+    }
+
+    /// Adds the edge of a key.
+    fn add(
+        &mut self,
+        alloc: Global,
+        material: Material<'_, '_>,
+        near: &mut NearKeys,
+        kept: &[Key],
+        ix: usize,
+    ) -> Result<(), AllocError>
+        requires material { IsMaterial material }
+        requires kept { AreLeast material.keys.now kept.now }
+        requires within { ix < length kept.now }
+        requires long { ix ≤ length self.now.edges }
+        ensures made { OnOk result ((done : List KeyValue) → AreMade material.entry.numbers.graph.now (done ++ take ix kept.now) self.old → AreMade material.entry.numbers.graph.now (done ++ take (ix + 1) kept.now) self.new) }
+        ensures long { OnOk result (ix + 1 ≤ length self.new.edges) }
+    {
+        note_gate(&mut self.weak, material.numbers, kept[ix])?;
+        self.add_noted(alloc, material, near, kept, ix)?;
         Ok(())
     }
 
@@ -79,6 +146,7 @@ impl MadeEdges {
         &mut self,
         alloc: Global,
         material: Material<'_, '_>,
+        near: &mut NearKeys,
         kept: &[Key],
     ) -> Result<(), AllocError>
         requires material { IsMaterial material }
@@ -86,7 +154,7 @@ impl MadeEdges {
         ensures { OnOk result ((done : List KeyValue) → AreMade material.entry.numbers.graph.now done self.old → AreMade material.entry.numbers.graph.now (done ++ kept.now) self.new) }
     {
         for ix in 0..kept.len() {
-            self.add(alloc, material, kept[ix])?;
+            self.add(alloc, material, near, kept, ix)?;
         }
         Ok(())
     }
@@ -115,7 +183,7 @@ impl MadeEdges {
             groups,
             keys: room.keys.as_slice(),
         };
-        self.add_all(alloc, material, &room.kept)?;
+        self.add_all(alloc, material, &mut room.near, &room.kept)?;
         Ok(())
     }
 }
@@ -137,9 +205,11 @@ fn made_edges(
         ends: Vec::new(alloc),
         weak: IndexMap::new(alloc),
     };
+    let near = NearKeys::new(alloc)?;
     let mut room = Room {
         keys: Vec::new(alloc),
         kept: Vec::new(alloc),
+        near,
     };
     for ix in 0..numbers.graph.package_count() {
         made.add_package(alloc, numbers, packages, groups, &mut room, ix)?;

@@ -1,0 +1,14 @@
+use Rattle.std.proofs.Common.{◌∙◌, ◌++◌, ◌∷◌, [], ap, refl}
+use Rattle.feature_core.specs.Values.{edge_facts}
+use Rattle.feature_core.proofs.edge_table.MadeEdges.make.Goals as goal
+
+pub returns : goal.returns
+returns c = (
+  edge_facts c.in_ok-edge.edge,
+  record {
+    weak = refl;
+    edges = c.in_ok-push-2.ensures;
+    ends = c.in_ok-push.ensures.items ∙ ap (λ z. c.args.self.now.ends.items ++ z ∷ []) c.edge_end.ensures;
+  },
+  c.in_ok-edge.ensures,
+)

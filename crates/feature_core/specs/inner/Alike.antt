@@ -1,0 +1,41 @@
+-- Keys whose edges say the same, as the keys tell.
+use Rattle.std.specs.Prelude.{◌≡◌, ℕ, ◌<◌, ◌⊎◌, List, [], ◌∷◌, ◌++◌, Some, length, map, slice_get, take}
+use Rattle.guppy_packages.specs.Tables.{LinkTable, Tables}
+use Rattle.feature_core.specs.Links.{IsLink}
+use Rattle.feature_core.specs.Edges.{EdgeFacts}
+use Rattle.feature_core.specs.declared.key.Key.{Key}
+use Rattle.feature_core.specs.declared.edge_table.MadeEdges.{MadeEdges}
+use Rattle.feature_core.specs.inner.Made.{AreValues, IsValueOf, edge_end}
+
+-- package link k has one declaration
+abbrev pub IsSingle : Tables → ℕ → Type 0
+IsSingle t k = (link : LinkTable) → IsLink t k link → length link.declarations ≡ 1
+
+-- what the edges of two keys of one rank speak of is the same
+pub data SharesSubject (t : Tables) (x y : Key) : Type 0 where
+  one_end : (y.rank ≡ 3) ⊎ (y.rank ≡ 5) → x.to ≡ y.to → SharesSubject t x y
+  one_link : (y.rank ≡ 4) ⊎ (y.rank ≡ 6) → x.source ≡ y.source → SharesSubject t x y
+  one_declaration : y.rank ≡ 7 → x.source ≡ y.source → x.from ≡ y.from → IsSingle t y.source → SharesSubject t x y
+
+pub record AreAlike (t : Tables) (x y : Key) : Type 0 where
+  pub rank : x.rank ≡ y.rank
+  pub subject : SharesSubject t x y
+
+-- of these keys, the one at this place is alike, and comes earlier
+pub record IsAlikeBefore (t : Tables) (kept : List Key) (ix : ℕ) (y : Key) (near : ℕ) : Type 0 where
+  pub before : near < ix
+  pub x : Key
+  pub at : slice_get kept near ≡ Some x
+  pub alike : AreAlike t x y
+
+-- one edge more, of a key, that says this
+pub record IsAppended (x : Key) (f : EdgeFacts) (old new : MadeEdges) : Type 0 where
+  pub weak : new.weak.entries ≡ old.weak.entries
+  pub edges : new.edges ≡ old.edges ++ f ∷ []
+  pub ends : new.ends.items ≡ old.ends.items ++ edge_end x f ∷ []
+
+-- one edge more, of the key x at this place, that says what x tells once what each earlier key of these tells was made
+pub record IsNext (t : Tables) (kept : List Key) (ix : ℕ) (x : Key) (old new : MadeEdges) : Type 0 where
+  pub says : EdgeFacts
+  pub appended : IsAppended x says old new
+  pub value : (done : List Key) (weak : List ℕ) → AreValues t (map (λ e. e.0) old.weak.entries ++ weak) (done ++ take ix kept) old.edges → IsValueOf t (map (λ e. e.0) old.weak.entries ++ weak) x says

@@ -1,0 +1,119 @@
+//! Earlier keys of a package whose edges say the same.
+ghost use Rattle.std.specs.Prelude.{◌≡◌, ◌<◌, IfSome, IsTrue, Some, length, slice_get};
+ghost use Rattle.feature_core.specs.declared.key.Key.{Key as KeyValue};
+ghost use Rattle.feature_core.specs.inner.Alike.{AreAlike, IsAlikeBefore, IsSingle, SharesSubject};
+ghost use Rattle.feature_core.specs.inner.Parts.{IsOfTables};
+
+use crate::edge_list::zeroes;
+use crate::key::Key;
+use crate::numbers::Numbers;
+use std::alloc::{AllocError, Global};
+use std::marker::Model;
+
+/// Places of keys of a package, each in the slot of what the key's edge speaks of.
+#[derive(Drop)]
+pub(crate) struct NearKeys {
+    slots: Vec<usize>,
+}
+
+impl Model for NearKeys {
+    ghost use Rattle.std.specs.Prelude.{◌≡◌, ℕ, List, length};
+
+    ghost Value = { List ℕ };
+
+    ghost view = { λ n. n.slots.items };
+
+    ghost invariant = { λ n. length n.slots.items ≡ 16384 };
+}
+
+/// What the edge of a key speaks of, as a number: a node or a package link.
+fn subject(key: Key) -> usize {
+    if key.rank == 3 || key.rank == 5 {
+        key.to
+    } else {
+        key.source
+    }
+}
+
+/// The slot of a key.
+fn key_slot(key: Key) -> usize
+    ensures { result < 16384 }
+{
+    (subject(key) % 2048) * 8 + usize::from(key.rank % 8)
+}
+
+/// Whether a package link has one declaration.
+fn is_single(numbers: Numbers<'_>, link_ix: usize) -> bool
+    requires { link_ix < length numbers.graph.now.links }
+    ensures { IsTrue result → IsSingle numbers.entry.graph.now link_ix }
+{
+    numbers.graph.link(link_ix).declarations().len() == 1
+}
+
+/// Whether the sections of two keys are of the one declaration of one link, and start at one node.
+fn shares_declaration(numbers: Numbers<'_>, earlier: Key, key: Key) -> bool
+    requires of_tables { IsOfTables numbers.graph.now key }
+    requires rank { key.rank ≡ 7 }
+    ensures { IsTrue result → SharesSubject numbers.entry.graph.now earlier key }
+{
+    numbers.graph.facts();
+    if earlier.source == key.source && earlier.from == key.from {
+        return is_single(numbers, key.source);
+    }
+    false
+}
+
+/// Whether the edges of two keys of one rank speak of the same.
+fn shares_subject(numbers: Numbers<'_>, earlier: Key, key: Key) -> bool
+    requires { IsOfTables numbers.graph.now key }
+    ensures { IsTrue result → SharesSubject numbers.entry.graph.now earlier key }
+{
+    if key.rank == 3 || key.rank == 5 {
+        earlier.to == key.to
+    } else if key.rank == 4 || key.rank == 6 {
+        earlier.source == key.source
+    } else if key.rank == 7 {
+        shares_declaration(numbers, earlier, key)
+    } else {
+        false
+    }
+}
+
+/// Whether the key at a place is alike.
+fn is_alike_at(numbers: Numbers<'_>, kept: &[Key], near: usize, key: Key) -> bool
+    requires { IsOfTables numbers.graph.now key }
+    ensures { IsTrue result → ((x : KeyValue) × (slice_get kept.now near ≡ Some x) × AreAlike numbers.entry.graph.now x key) }
+{
+    if near < kept.len() && kept[near].rank == key.rank {
+        return shares_subject(numbers, kept[near], key);
+    }
+    false
+}
+
+impl NearKeys {
+    /// No place yet.
+    pub(crate) fn new(alloc: Global) -> Result<NearKeys, AllocError> {
+        let slots = zeroes(alloc, 16_384)?;
+        Ok(NearKeys { slots })
+    }
+
+    /// The place of an earlier key that is alike, where it's the last one that took the slot. The key at hand takes it.
+    pub(crate) fn alike_before(
+        &mut self,
+        numbers: Numbers<'_>,
+        kept: &[Key],
+        ix: usize,
+        key: Key,
+    ) -> Option<usize>
+        requires { IsOfTables numbers.graph.now key }
+        ensures { IfSome result (λ near. IsAlikeBefore numbers.entry.graph.now kept.now ix key near) }
+    {
+        let slot = key_slot(key);
+        let near = self.slots[slot];
+        self.slots[slot] = ix;
+        if near < ix && is_alike_at(numbers, kept, near, key) {
+            return Some(near);
+        }
+        None
+    }
+}
