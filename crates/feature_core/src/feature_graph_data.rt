@@ -5,15 +5,17 @@ ghost use Rattle.guppy_packages.specs.Tables.{Tables};
 ghost use Rattle.feature_labels.specs.Names.{id_of, label_of};
 ghost use Rattle.feature_core.specs.Nodes.{NodeAt, nodes, first_node, first_nodes, node_packages, labels_of};
 ghost use Rattle.guppy_support.specs.Bits.{has};
-ghost use Rattle.feature_core.specs.Pairs.{PairLeads, ReachAlong};
+ghost use Rattle.feature_core.specs.Pairs.{IsPairList, PairLeads, ReachAlong};
 ghost use Rattle.guppy_support.specs.Sequences.{IsOrderOf};
 ghost use Rattle.order_views.specs.Cycles.{cyclic_components};
-ghost use Rattle.feature_core.specs.Built.{AreAlike, IsBuilt, NodeNamed, digraph_of, end_of};
+ghost use Rattle.feature_core.specs.Built.{AreAlike, IsBuilt, NodeNamed, built_edges, digraph_of, end_of, pairs_of};
 ghost use Rattle.feature_core.specs.Choices.{chosen_pairs};
-ghost use Rattle.feature_core.specs.Defaults.{IsDefault};
+ghost use Rattle.feature_core.specs.Defaults.{AreDefaults, IsDefault};
+ghost use Rattle.feature_core.specs.Edges.{AreBuilt};
 ghost use Rattle.feature_core.specs.Present.{has_present_link};
 ghost use Rattle.feature_core.specs.Values.{edge_facts};
-ghost use Rattle.feature_core.specs.Warnings.{warning_of};
+ghost use Rattle.feature_core.specs.Warnings.{warning_of, warnings, warnings_in};
+ghost use Rattle.feature_core.specs.inner.Releases.{AreReleases};
 ghost use Rattle.feature_core.specs.Ways.{content};
 
 use crate::chosen_reach::reach_chosen;
@@ -103,6 +105,91 @@ fn number_of(
     }
 }
 
+/// What is found with the edges: the features that are on by default, the edges that wait for a gate, and the order with the
+/// components that have a cycle.
+#[derive(Drop)]
+struct Found {
+    defaults: IxBitSet,
+    released: Vec<(usize, usize)>,
+    order: Order,
+    cyclic: Vec<usize>,
+}
+
+/// The order of a digraph, and its components that have a cycle.
+fn ordered(alloc: Global, digraph: &Digraph) -> Result<(Order, Vec<usize>), AllocError>
+    ensures order { IfOk result (λ o. IsOrderOf digraph.now o.0) }
+    ensures cyclic { IfOk result (λ o. o.1.items ≡ cyclic_components digraph.now.edges o.0) }
+{
+    let order = Order::new(alloc, digraph)?;
+    let cyclic = cyclic_components(alloc, &order, digraph)?;
+    Ok((order, cyclic))
+}
+
+/// What is found with these edges.
+fn found_with(alloc: Global, numbers: Numbers<'_>, table: &EdgeTable) -> Result<Found, AllocError>
+    requires nodes { table.now.digraph.nodes ≡ length (node_packages numbers.graph.now) }
+    requires long { length table.now.edges ≡ length table.now.digraph.edges }
+    requires edges { AreBuilt numbers.graph.now (built_edges table.now.digraph.edges table.now.edges) table.now.weak.entries }
+    ensures defaults { IfOk result (λ f. AreDefaults numbers.entry.graph.now f.defaults) }
+    ensures released { IfOk result (λ f. AreReleases table.now.edges table.now.weak.entries f.released.items) }
+    ensures order { IfOk result (λ f. IsOrderOf table.now.digraph f.order) }
+    ensures cyclic { IfOk result (λ f. f.cyclic.items ≡ cyclic_components table.now.digraph.edges f.order) }
+{
+    let defaults = default_marks(alloc, numbers, table)?;
+    let released = release_table(alloc, &table.edges, &table.weak)?;
+    let (order, cyclic) = ordered(alloc, &table.digraph)?;
+    Ok(Found {
+        defaults,
+        released,
+        order,
+        cyclic,
+    })
+}
+
+/// The edges of the nodes in the table, and the warnings.
+fn made(
+    alloc: Global,
+    numbers: Numbers<'_>,
+    table: &NodeTable,
+) -> Result<(EdgeTable, Vec<FeatureGraphWarning>), AllocError>
+    requires firsts { table.now.firsts.items ≡ first_nodes numbers.graph.now }
+    requires packages { table.now.packages.items ≡ node_packages numbers.graph.now }
+    ensures nodes { IfOk result (λ m. m.0.digraph.nodes ≡ length table.now.packages.items) }
+    ensures pairs { IfOk result (λ m. IsPairList numbers.entry.graph.now (pairs_of m.0.digraph.edges)) }
+    ensures long { IfOk result (λ m. length m.0.edges ≡ length m.0.digraph.edges) }
+    ensures ends { IfOk result (λ m. m.0.digraph.edges ≡ map end_of (built_edges m.0.digraph.edges m.0.edges)) }
+    ensures edges { IfOk result (λ m. AreBuilt numbers.entry.graph.now (built_edges m.0.digraph.edges m.0.edges) m.0.weak.entries) }
+    ensures warnings { IfOk result (λ m. warnings_in m.1 ≡ warnings numbers.entry.graph.now) }
+{
+    let groups = named_links(alloc, numbers.graph)?;
+    let edges = edge_table(alloc, numbers, table, &groups)?;
+    let warnings = warnings(alloc, numbers.graph, &groups)?;
+    Ok((edges, warnings))
+}
+
+/// The feature graph of a package graph, under a stamp of the caller's.
+fn built(alloc: Global, graph: &PackageGraph, stamp: u64) -> Result<FeatureGraphData, AllocError>
+    ensures built { IfOk result (λ b. IsBuilt graph.now b) }
+    ensures stamp { IfOk result (λ b. b.stamp ≡ stamp) }
+{
+    let table = node_table(alloc, graph)?;
+    let numbers = numbers_in(graph, &table);
+    let (edge_table, warnings) = made(alloc, numbers, &table)?;
+    let found = found_with(alloc, numbers, &edge_table)?;
+    Ok(FeatureGraphData {
+        stamp,
+        table,
+        digraph: edge_table.digraph,
+        order: found.order,
+        cyclic: found.cyclic,
+        edges: edge_table.edges,
+        weak: edge_table.weak,
+        released: found.released,
+        warnings,
+        defaults: found.defaults,
+    })
+}
+
 impl FeatureGraphData {
     /// The feature graph of a package graph, under a stamp of the caller's.
     pub fn build(
@@ -114,32 +201,10 @@ impl FeatureGraphData {
         ensures stamp { IfOk result (λ b. b.stamp ≡ stamp) }
         ensures refused { IfErr result (λ e. e ≡ Error.Memory) }
     {
-        let table = node_table(alloc, graph)?;
-        let groups = named_links(alloc, graph)?;
-        let numbers = numbers_in(graph, &table);
-        let edge_table = edge_table(alloc, numbers, &table, &groups)?;
-        let defaults = default_marks(alloc, numbers, &edge_table)?;
-        let released = release_table(alloc, &edge_table.edges, &edge_table.weak)?;
-        let warnings = warnings(alloc, graph, &groups)?;
-        let order = Order::new(alloc, &edge_table.digraph)?;
-        let cyclic = cyclic_components(alloc, &order, &edge_table.digraph)?;
-        let EdgeTable {
-            digraph,
-            edges,
-            weak,
-        } = edge_table;
-        Ok(FeatureGraphData {
-            stamp,
-            table,
-            digraph,
-            order,
-            cyclic,
-            edges,
-            weak,
-            released,
-            warnings,
-            defaults,
-        })
+        match built(alloc, graph, stamp) {
+            Ok(data) => Ok(data),
+            Err(_) => Err(Error::Memory),
+        }
     }
 
     /// The stamp that the caller gave.

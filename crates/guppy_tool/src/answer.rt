@@ -1,4 +1,5 @@
 //! What is answered for the bytes of a row file.
+ghost use Rattle.feature_core.specs.Built.{IsBuilt};
 ghost use Rattle.guppy_tool.specs.Faults.{Gives};
 ghost use Rattle.guppy_tool.specs.RowFileRefusals.{tables_in};
 ghost use Rattle.guppy_tool.specs.Words.{command_of};
@@ -11,22 +12,39 @@ use crate::ordering::{cycled, ordered};
 use crate::package::{listed, warned};
 use crate::resolving::{resolved, visited};
 use crate::words::Command;
+use guppy_features::FeatureGraphData;
 use guppy_packages::PackageGraph;
 use row_files::graph_of;
 use std::alloc::Global;
+
+/// The text that answers the command over what was built of a package graph, or the first refusal.
+fn answer_built(
+    alloc: Global,
+    command: &Command,
+    graph: &PackageGraph,
+    built: &FeatureGraphData,
+) -> Result<Vec<u8>, Fault>
+    requires { IsBuilt graph.now built.now }
+    ensures { GivesAnswer (λ text. text.items) result (IsOutput (command_of command.now) graph.now) }
+{
+    match command {
+        Command::Resolve { direction, ids } => resolved(alloc, graph, built, *direction, ids),
+        Command::Visit { direction, ids } => visited(alloc, graph, built, *direction, ids),
+        Command::Order { direction } => ordered(alloc, graph, built, *direction),
+        Command::Cycles => cycled(alloc, graph, built),
+        Command::List { package_id } => listed(alloc, graph, built, package_id),
+        Command::Warnings => warned(alloc, graph, built),
+        Command::Build { kinds, ids, specs } => explained(alloc, graph, built, kinds, ids, specs),
+    }
+}
 
 /// The text that answers the command over a package graph, or the first refusal.
 fn answer_graph(alloc: Global, command: &Command, graph: &PackageGraph) -> Result<Vec<u8>, Fault>
     ensures { GivesAnswer (λ text. text.items) result (IsOutput (command_of command.now) graph.now) }
 {
-    match command {
-        Command::Resolve { direction, ids } => resolved(alloc, graph, *direction, ids),
-        Command::Visit { direction, ids } => visited(alloc, graph, *direction, ids),
-        Command::Order { direction } => ordered(alloc, graph, *direction),
-        Command::Cycles => cycled(alloc, graph),
-        Command::List { package_id } => listed(alloc, graph, package_id),
-        Command::Warnings => warned(alloc, graph),
-        Command::Build { kinds, ids, specs } => explained(alloc, graph, kinds, ids, specs),
+    match FeatureGraphData::build(alloc, graph, 0) {
+        Ok(built) => answer_built(alloc, command, graph, &built),
+        Err(_) => Err(Fault::Memory),
     }
 }
 

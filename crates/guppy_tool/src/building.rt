@@ -3,6 +3,7 @@ ghost use Rattle.std.specs.Prelude.{◌≡◌, ◌++◌, IfOk, OnOk, map};
 ghost use Rattle.std.specs.String.{string_bytes};
 ghost use Rattle.guppy_packages.specs.Rows.{texts};
 ghost use Rattle.guppy_features.specs.Told.{step_name};
+ghost use Rattle.feature_core.specs.Built.{IsBuilt};
 ghost use Rattle.guppy_tool.specs.Words.{given_of};
 ghost use Rattle.guppy_tool.specs.Words.CommandText.{build};
 ghost use Rattle.guppy_tool.specs.Answers.{IsOutput, declarations_word, step_line, step_lines};
@@ -60,18 +61,17 @@ fn lines_of(alloc: Global, steps: &[(FeatureId<'_>, Reason<'_>)]) -> Result<Vec<
 pub fn explained(
     alloc: Global,
     graph: &PackageGraph,
+    built: &FeatureGraphData,
     kinds: &[DependencyKind],
     given: &[GivenId],
     specs: &[&str],
 ) -> Result<Vec<u8>, Fault>
+    requires { IsBuilt graph.now built.now }
     ensures { GivesAnswer (λ text. text.items) result (IsOutput (build kinds.now (map given_of given.now) (texts specs.now)) graph.now) }
 {
-    let Ok(built) = FeatureGraphData::build(alloc, graph, 0) else {
-        return Err(Fault::Memory);
-    };
     let query = queried(
         alloc,
-        graph.feature_graph(&built),
+        graph.feature_graph(built),
         DependencyDirection::Forward,
         given,
     )?;

@@ -45,17 +45,16 @@ fn lines_in_order(
 pub fn ordered(
     alloc: Global,
     graph: &PackageGraph,
+    built: &FeatureGraphData,
     direction: DependencyDirection,
 ) -> Result<Vec<u8>, Fault>
+    requires { IsBuilt graph.now built.now }
     ensures { GivesAnswer (λ text. text.items) result (IsOutput (ordered_command direction) graph.now) }
 {
-    let Ok(built) = FeatureGraphData::build(alloc, graph, 0) else {
-        return Err(Fault::Memory);
-    };
     one_digraph(graph);
     content_of_graph(graph);
     order_lists_each();
-    let Ok(set) = graph.feature_graph(&built).resolve_all(alloc) else {
+    let Ok(set) = graph.feature_graph(built).resolve_all(alloc) else {
         return Err(Fault::Memory);
     };
     Ok(lines_in_order(alloc, &set, direction)?)
@@ -98,12 +97,14 @@ fn lines_of_cycles(alloc: Global, graph: FeatureGraph<'_>) -> Result<Vec<u8>, Al
 }
 
 /// The lines of the components that have a cycle, the last in the order first.
-pub fn cycled(alloc: Global, graph: &PackageGraph) -> Result<Vec<u8>, Fault>
+pub fn cycled(
+    alloc: Global,
+    graph: &PackageGraph,
+    built: &FeatureGraphData,
+) -> Result<Vec<u8>, Fault>
+    requires { IsBuilt graph.now built.now }
     ensures { GivesAnswer (λ text. text.items) result (IsOutput all_cycles graph.now) }
 {
-    let Ok(built) = FeatureGraphData::build(alloc, graph, 0) else {
-        return Err(Fault::Memory);
-    };
     one_digraph(graph);
-    Ok(lines_of_cycles(alloc, graph.feature_graph(&built))?)
+    Ok(lines_of_cycles(alloc, graph.feature_graph(built))?)
 }

@@ -5,6 +5,7 @@ ghost use Rattle.feature_core.specs.Errors.{refusal_of as graph_refusal_of};
 ghost use Rattle.feature_core.specs.Warnings.{warning_of, warnings};
 ghost use Rattle.feature_labels.specs.Lists.{joined};
 ghost use Rattle.guppy_features.specs.Names.{ListsPackage, RefusesPackage};
+ghost use Rattle.feature_core.specs.Built.{IsBuilt};
 ghost use Rattle.guppy_tool.specs.Answers.{IsOutput, IsPackageToldAs, warning_line, warning_lines, MayRefusePackage};
 ghost use Rattle.guppy_tool.specs.Faults.{refusal_of};
 ghost use Rattle.guppy_tool.specs.Run.{GivesAnswer};
@@ -41,15 +42,18 @@ fn line_of(alloc: Global, labels: &FeatureList<'_>) -> Result<Vec<u8>, AllocErro
 }
 
 /// The line of a package's labels, or the fault of an unknown package.
-pub fn listed(alloc: Global, graph: &PackageGraph, package_id: &PackageId) -> Result<Vec<u8>, Fault>
+pub fn listed(
+    alloc: Global,
+    graph: &PackageGraph,
+    built: &FeatureGraphData,
+    package_id: &PackageId,
+) -> Result<Vec<u8>, Fault>
+    requires { IsBuilt graph.now built.now }
     ensures { GivesAnswer (λ text. text.items) result (IsOutput (list_of package_id.now) graph.now) }
 {
     graph.facts();
-    let Ok(built) = FeatureGraphData::build(alloc, graph, 0) else {
-        return Err(Fault::Memory);
-    };
     match graph
-        .feature_graph(&built)
+        .feature_graph(built)
         .all_features_for(alloc, package_id)
     {
         Ok(labels) => Ok(line_of(alloc, &labels)?),
@@ -85,11 +89,13 @@ fn lines_of(alloc: Global, found: &[FeatureGraphWarning]) -> Result<Vec<u8>, All
 }
 
 /// The lines of what building notes of the package graph.
-pub fn warned(alloc: Global, graph: &PackageGraph) -> Result<Vec<u8>, Fault>
+pub fn warned(
+    alloc: Global,
+    graph: &PackageGraph,
+    built: &FeatureGraphData,
+) -> Result<Vec<u8>, Fault>
+    requires { IsBuilt graph.now built.now }
     ensures { GivesAnswer (λ text. text.items) result (IsOutput all_warnings graph.now) }
 {
-    let Ok(built) = FeatureGraphData::build(alloc, graph, 0) else {
-        return Err(Fault::Memory);
-    };
-    Ok(lines_of(alloc, graph.feature_graph(&built).build_warnings())?)
+    Ok(lines_of(alloc, graph.feature_graph(built).build_warnings())?)
 }

@@ -1,6 +1,7 @@
 //! The answers over the features to which given ones lead.
 ghost use Rattle.std.specs.Prelude.{◌≡◌, Bool, IfOk, IfErr, true, map};
 ghost use Rattle.feature_labels.specs.Names.{id_of};
+ghost use Rattle.feature_core.specs.Built.{IsBuilt};
 ghost use Rattle.feature_core.specs.Errors.{refusal_of as graph_refusal_of};
 ghost use Rattle.guppy_features.specs.Names.{AreKnown, HoldsExactly};
 ghost use Rattle.guppy_features.specs.Views.{graph_of, tables_of_graph};
@@ -71,15 +72,14 @@ pub fn queried<'g>(
 pub fn resolved(
     alloc: Global,
     graph: &PackageGraph,
+    built: &FeatureGraphData,
     direction: DependencyDirection,
     given: &[GivenId],
 ) -> Result<Vec<u8>, Fault>
+    requires { IsBuilt graph.now built.now }
     ensures { GivesAnswer (λ text. text.items) result (IsOutput (resolve direction (map given_of given.now)) graph.now) }
 {
-    let Ok(built) = FeatureGraphData::build(alloc, graph, 0) else {
-        return Err(Fault::Memory);
-    };
-    let query = queried(alloc, graph.feature_graph(&built), direction, given)?;
+    let query = queried(alloc, graph.feature_graph(built), direction, given)?;
     let Ok(set) = query.resolve(alloc) else {
         return Err(Fault::Memory);
     };
@@ -105,15 +105,14 @@ impl<'g> FeatureLinkVisitor<'g> for AllLinks {
 pub fn visited(
     alloc: Global,
     graph: &PackageGraph,
+    built: &FeatureGraphData,
     direction: DependencyDirection,
     given: &[GivenId],
 ) -> Result<Vec<u8>, Fault>
+    requires { IsBuilt graph.now built.now }
     ensures { GivesAnswer (λ text. text.items) result (IsOutput (visit direction (map given_of given.now)) graph.now) }
 {
-    let Ok(built) = FeatureGraphData::build(alloc, graph, 0) else {
-        return Err(Fault::Memory);
-    };
-    let query = queried(alloc, graph.feature_graph(&built), direction, given)?;
+    let query = queried(alloc, graph.feature_graph(built), direction, given)?;
     one_content(graph);
     let Ok(set) = query.resolve_with(alloc, &mut AllLinks) else {
         return Err(Fault::Memory);

@@ -3,4 +3,4 @@ pub mod RowOfLine
 pub mod FirstFault
 pub mod FirstFaultLaws
 pub mod RowFile
-pub mod inner
+pub mod WellFormed

@@ -11,7 +11,14 @@ pub fn count_parts(text: &str, at: char) -> usize
     requires { at < 128 }
     ensures { result ≡ length (slice_split (λ b. b == at) text.now) }
 {
-    text.split(at).count()
+    let sought = at as u8;
+    let mut count = 0;
+    for byte in text.as_bytes() {
+        if *byte == sought {
+            count += 1;
+        }
+    }
+    count + 1
 }
 
 /// Whether a line is empty or a comment.

@@ -4,7 +4,7 @@ ghost use Rattle.std.specs.Option.{option_map};
 ghost use Rattle.guppy_packages.specs.Rows.{texts, row_text};
 ghost use Rattle.row_files.specs.RowOfLine.{choice, kind_of, platform_of, package_row, feature_row, dep_row, row_of};
 ghost use Rattle.row_files.specs.RowFile.{lines_of, rows_of};
-ghost use Rattle.row_files.specs.inner.WellFormed.{AreWellFormed, rows_in};
+ghost use Rattle.row_files.specs.WellFormed.{AreWellFormed, rows_in};
 
 use crate::error::RowFileError;
 use crate::lines::Lines;
@@ -136,11 +136,12 @@ pub struct LineRows<'l, 't> {
 }
 
 impl<'l, 't> LineRows<'l, 't> {
-    ghost use Rattle.std.specs.Prelude.{Err, IfErr, IfOk};
+    ghost use Rattle.std.specs.Prelude.{Ok, Err, IfErr, IfOk};
 
     /// The rows of the lines, or the first malformed line.
     pub fn of(lines: &'l Lines<'t>) -> Result<Self, RowFileError>
         ensures ok { IfOk result (λ rows. rows.lines.now ≡ lines.now) }
+        ensures rows { IfOk result (λ rows. rows_of (lines_of lines.now) ≡ Ok (rows_in (lines_of rows.lines.now))) }
         ensures err { IfErr result (λ error. rows_of (lines_of lines.now) ≡ Err error) }
     {
         for at in 0..lines.line_count() {

@@ -161,16 +161,13 @@ impl<'g> LinkParts<'g> {
     ) -> Result<ConditionalLinkImpl, AllocError>
         ensures { IfOk result (λ l. (parts : List (ℕ × List Declared)) → HasParts self.entry parts → link_facts l ≡ over_parts which parts) }
     {
-        let LinkParts { statuses, links } = self;
-        let normal = statuses.normal.status(alloc)?;
-        let build = statuses.build.status(alloc)?;
-        let dev = statuses.dev.status(alloc)?;
+        let statuses = self.statuses.statuses(alloc)?;
         Ok(ConditionalLinkImpl {
             declarations: which,
-            normal,
-            build,
-            dev,
-            package_link_ixs: links,
+            normal: statuses.normal,
+            build: statuses.build,
+            dev: statuses.dev,
+            package_link_ixs: self.links,
         })
     }
 }

@@ -7,7 +7,7 @@ ghost use Rattle.guppy_packages.specs.Platform.{platform_specs, impl_status, spe
 ghost use Rattle.guppy_packages.specs.Rows.{Text, Declared};
 ghost use Rattle.guppy_packages.specs.Stored.{declared};
 ghost use Rattle.feature_core.specs.Links.{joined};
-ghost use Rattle.feature_core.specs.inner.Collected.{HasPlatforms, HasKinds, texts_in};
+ghost use Rattle.feature_core.specs.inner.Collected.{HasPlatforms, HasKinds, AreStatuses, texts_in};
 
 use crate::text_map::TextSet;
 use guppy_packages::{Declaration, DependencyKind, PlatformStatusImpl, Spec};
@@ -91,6 +91,14 @@ pub(crate) struct KindCollectors<'g> {
     pub(crate) dev: StatusCollector<'g>,
 }
 
+/// The status of each kind.
+#[derive(Drop)]
+pub(crate) struct KindStatuses {
+    pub(crate) normal: PlatformStatusImpl,
+    pub(crate) build: PlatformStatusImpl,
+    pub(crate) dev: PlatformStatusImpl,
+}
+
 impl<'g> KindCollectors<'g> {
     /// No declaration yet.
     pub(crate) fn new(alloc: Global) -> Self
@@ -122,5 +130,15 @@ impl<'g> KindCollectors<'g> {
                 Ok(())
             }
         }
+    }
+
+    /// The statuses that join the platforms of each kind.
+    pub(crate) fn statuses(&self, alloc: Global) -> Result<KindStatuses, AllocError>
+        ensures { IfOk result (λ s. (declarations : List Declared) → HasKinds self.now declarations → AreStatuses declarations s) }
+    {
+        let normal = self.normal.status(alloc)?;
+        let build = self.build.status(alloc)?;
+        let dev = self.dev.status(alloc)?;
+        Ok(KindStatuses { normal, build, dev })
     }
 }

@@ -16,11 +16,11 @@ pub returns : goal.returns
 returns c =
     let t : Tables = c.args.graph.now in
     let ids : List (Text × LabelName) = map given_of c.args.given.now in
-    let built : Built = c.in-Ok.built in
+    let built : Built = c.args.built.now in
     let query = c.in_ok-query.query in
     let asked = c.in_ok-query.ensures in
-    let found = c.in-Ok-resolve.found in
-    let resolved = c.in-Ok-resolve.ensures in
+    let found = c.in-Ok.found in
+    let resolved = c.in-Ok.ensures in
     let told = map step_name c.steps.result.now in
     let tables : tables_of_graph c.feature_graph.result ≡ t = ap (λ g. g.tables) c.feature_graph.ensures in
     let tells = tells_query (record { tables = t; built = built }) query found.graph c.args.kinds.now (kinds_of c.new.result) (texts c.args.specs.now) (specs_of c.new.result) found.members found.steps told
@@ -32,10 +32,10 @@ returns c =
       told = told;
       lines = c.in_ok-lines_of.ensures;
       built = built;
-      is_built = c.in-Ok.ensures.built;
+      is_built = c.requires;
       every = λ b is. tells_too t built b
-          (λ k x at. c.edges_say.ensures.says built k x c.in-Ok.ensures.built at)
+          (λ k x at. c.edges_say.ensures.says built k x c.requires at)
           (λ k x e at edge. c.edges_say.ensures.same b k x e is at edge)
-          (c.one_content.ensures built b Forward c.in-Ok.ensures.built is)
+          (c.one_content.ensures built b Forward c.requires is)
           c.args.kinds.now (texts c.args.specs.now) query.initials told tells;
     }

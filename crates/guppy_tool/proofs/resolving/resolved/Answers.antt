@@ -18,11 +18,11 @@ returns c =
     let ids : List (Text × LabelName) = map given_of c.args.given.now in
     let query = c.in_ok-query.query in
     let asked = c.in_ok-query.ensures in
-    let set = c.in-Ok-resolve.set in
+    let set = c.in-Ok.set in
     let tables : tables_of_graph c.feature_graph.result ≡ t = ap (λ g. g.tables) c.feature_graph.ensures in
     let own : query.graph.tables ≡ t = ap (λ g. g.tables) asked.graph ∙ tables in
-    let own_set : set.graph.tables ≡ t = ap (λ g. g.tables) c.in-Ok-resolve.ensures.graph ∙ own in
-    let reached : (n : ℕ) → IsTrue (has set.members n) ↔ Reach t c.args.direction (has query.initials) n = λ n. subst (λ z. IsTrue (has set.members n) ↔ Reach t z (has query.initials) n) asked.direction (subst (λ z. IsTrue (has set.members n) ↔ Reach z query.direction (has query.initials) n) own (c.in-Ok-resolve.ensures.reach n)) in
+    let own_set : set.graph.tables ≡ t = ap (λ g. g.tables) c.in-Ok.ensures.graph ∙ own in
+    let reached : (n : ℕ) → IsTrue (has set.members n) ↔ Reach t c.args.direction (has query.initials) n = λ n. subst (λ z. IsTrue (has set.members n) ↔ Reach t z (has query.initials) n) asked.direction (subst (λ z. IsTrue (has set.members n) ↔ Reach z query.direction (has query.initials) n) own (c.in-Ok.ensures.reach n)) in
     record {
       known = subst (λ z. AreKnown z ids) tables asked.known;
       initials = query.initials;

@@ -20,26 +20,26 @@ pub returns : goal.returns
 returns c =
     let t : Tables = c.args.graph.now in
     let ids : List (Text × LabelName) = map given_of c.args.given.now in
-    let built : Built = c.in-Ok.built in
+    let built : Built = c.args.built.now in
     let query = c.in_ok-query.query in
     let asked = c.in_ok-query.ensures in
-    let set = c.in-Ok-resolve_with.set in
-    let walk = c.in-Ok-resolve_with.ensures.walk in
+    let set = c.in-Ok.set in
+    let walk = c.in-Ok.ensures.walk in
     let tables : tables_of_graph c.feature_graph.result ≡ t = ap (λ g. g.tables) c.feature_graph.ensures in
     let own : query.graph.tables ≡ t = ap (λ g. g.tables) asked.graph ∙ tables in
     let own_built : query.graph.built ≡ built = ap (λ g. g.built) asked.graph ∙ ap (λ g. g.built) c.feature_graph.ensures in
-    let own_set : set.graph.tables ≡ t = ap (λ g. g.tables) c.in-Ok-resolve_with.ensures.graph ∙ own in
+    let own_set : set.graph.tables ≡ t = ap (λ g. g.tables) c.in-Ok.ensures.graph ∙ own in
     let agrees : Agrees every walk.run = agrees_all _ (λ s e h b u gives. gives) _ _ walk.run walk.calls in
     let least : (b : Built) → IsBuilt t b → (n : ℕ) → IsTrue (has set.members n) ↔ Least (content_of c.args.direction b) (has query.initials) every n = λ b x n.
     subst (λ z. IsTrue (has set.members n) ↔ Least z (has query.initials) every n)
-    (ap (λ d. content_of d query.graph.built) asked.direction ∙ ap (λ g. content_of c.args.direction g) own_built ∙ c.one_content.ensures built b c.args.direction c.in-Ok.ensures.built x)
+    (ap (λ d. content_of d query.graph.built) asked.direction ∙ ap (λ g. content_of c.args.direction g) own_built ∙ c.one_content.ensures built b c.args.direction c.requires x)
     (walk.least every agrees n) in
     record {
       known = subst (λ z. AreKnown z ids) tables asked.known;
       initials = query.initials;
       given = subst (λ z. HoldsExactly z query.initials ids) tables asked.initials;
       built = built;
-      is_built = c.in-Ok.ensures.built;
+      is_built = c.requires;
       members = set.members;
       least = least;
       lines = subst (λ z. c.in_ok-list.field-0.items ≡ listing (at_places (has set.members) (nodes z))) own_set c.in_ok-list.ensures;

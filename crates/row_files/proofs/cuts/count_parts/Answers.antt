@@ -1,6 +1,17 @@
-use Rattle.std.proofs.lemmas.Iterator.Consumers.{count_from_yields_List}
-use Rattle.std.proofs.lemmas.Iterator.Splits.{YieldsList-from_str_split}
+use Rattle.std.proofs.Common.{arith}
+use Rattle.std.proofs.lemmas.Grind.{common_steps}
+use Rattle.std.proofs.lemmas.List.Sums.{count_by_more_yes, count_by_more_no, count_by-le-length}
+use Rattle.std.proofs.lemmas.List.Splits.{length-slice_split}
 use Rattle.row_files.proofs.cuts.count_parts.Goals as goal
 
+pub overflow_add-count : goal.overflow_add-count
+overflow_add-count c = grind (arith, common_steps, count_by-le-length, c.loop-byte.invariant)
+
+pub loop-byte-preserved : goal.loop-byte-preserved
+loop-byte-preserved c = grind (arith, common_steps, count_by_more_yes, count_by_more_no, c.loop-byte.invariant)
+
+pub overflow_add-result : goal.overflow_add-result
+overflow_add-result c = grind (arith, common_steps, count_by-le-length, c.loop-byte.invariant)
+
 pub returns : goal.returns
-returns c = count_from_yields_List c.split.result _ c.count.ensures.ran (YieldsList-from_str_split c.args.at c.args.text.now c.requires c.split.ensures.text c.split.ensures.has_more c.split.ensures.pattern)
+returns c = grind (arith, common_steps, length-slice_split, c.loop-byte.invariant)

@@ -1,6 +1,6 @@
 use Rattle.std.proofs.Common.{arith}
 use Rattle.row_files.specs.RowFile.{lines_of}
-use Rattle.row_files.specs.inner.WellFormed.{rows_in}
+use Rattle.row_files.specs.WellFormed.{rows_in}
 use Rattle.row_files.proofs.RowLemmas.{as_many}
 use Rattle.row_files.proofs.TableLemmas.{named_row, not_memory, refused_there}
 use Rattle.row_files.proofs.row_file.graph_of_lines.Goals as goal

@@ -2,7 +2,7 @@ use Rattle.std.proofs.Common.{None, Some, ap, ◌∙◌, arith}
 use Rattle.std.specs.Option.{option_map}
 use Rattle.guppy_packages.specs.Rows.{row_text}
 use Rattle.row_files.specs.RowFile.{lines_of}
-use Rattle.row_files.specs.inner.WellFormed.{rows_in}
+use Rattle.row_files.specs.WellFormed.{rows_in}
 use Rattle.row_files.proofs.EachLemmas.{there}
 use Rattle.row_files.proofs.RowLemmas.{as_many, row_there}
 use Rattle.row_files.proofs.rows.LineRowsRowSource.row.Goals as goal

@@ -1,6 +1,6 @@
 use Rattle.std.proofs.Common.{sym, ◌∙◌}
 use Rattle.row_files.specs.RowFile.{lines_of}
-use Rattle.row_files.specs.inner.WellFormed.{rows_in}
+use Rattle.row_files.specs.WellFormed.{rows_in}
 use Rattle.row_files.proofs.RowLemmas.{as_many}
 use Rattle.row_files.proofs.rows.LineRowsRowSource.row_count.Goals as goal
 

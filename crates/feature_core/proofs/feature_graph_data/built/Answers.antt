@@ -1,13 +1,13 @@
-use Rattle.std.proofs.Common.{◌≡◌, ◌∙◌, refl, ap, sym, subst, length}
-use Rattle.std.proofs.lemmas.Result.{err_from_is_err_and}
+use Rattle.std.proofs.Common.{◌≡◌, ◌∙◌, ap, sym, subst, length}
 use Rattle.feature_core.specs.Nodes.{node_packages}
 use Rattle.feature_core.proofs.PackedLemmas.{built_gates}
 use Rattle.feature_core.specs.Built.{pairs_of, ends_of, built_edges}
 use Rattle.feature_core.specs.Edges.{AreBuilt}
 use Rattle.feature_core.specs.Defaults.{AreDefaults}
 use Rattle.feature_core.specs.Pairs.{IsPairList}
+use Rattle.feature_core.specs.Warnings.{warnings}
 use Rattle.feature_core.proofs.BuildLemmas.{built_ends}
-use Rattle.feature_core.proofs.feature_graph_data.FeatureGraphData.build.Goals as goal
+use Rattle.feature_core.proofs.feature_graph_data.built.Goals as goal
 
 pub returns-clause-built : goal.returns-clause-built
 returns-clause-built c =
@@ -21,20 +21,15 @@ returns-clause-built c =
       packages = c.in_ok-table.ensures.packages;
       pairs = subst (λ z. IsPairList t z) (sym ends) (subst (λ z. IsPairList z (pairs_of table.digraph.edges)) c.numbers_in-numbers.ensures made.pairs);
       edges = subst (λ z. AreBuilt z (built_edges table.digraph.edges facts) table.weak.entries) c.numbers_in-numbers.ensures made.edges;
-      warnings = c.in_ok-warnings.ensures;
-      defaults = subst (λ z. AreDefaults z c.in_ok-defaults.defaults) c.numbers_in-numbers.ensures c.in_ok-defaults.ensures;
+      warnings = made.warnings ∙ ap warnings c.numbers_in-numbers.ensures;
+      defaults = subst (λ z. AreDefaults z c.in_ok-found.found.defaults) c.numbers_in-numbers.ensures c.in_ok-found.ensures.defaults;
     }
-
-pub returns-in_err-released-clause-refused : goal.returns-in_err-released-clause-refused
-returns-in_err-released-clause-refused c = let p = err_from_is_err_and c.from_residual-in_err-released.result c.from_residual-in_err-released.ensures.1 in rw (p.1, p.2) refl
-
-pub returns-in_err-warnings-clause-refused : goal.returns-in_err-warnings-clause-refused
-returns-in_err-warnings-clause-refused c = let p = err_from_is_err_and c.from_residual-in_err-warnings.result c.from_residual-in_err-warnings.ensures.1 in rw (p.1, p.2) refl
 
 pub invariant_of-result : goal.invariant_of-result
 invariant_of-result c =
     let t = c.args.graph.now in
     let made = c.in_ok-edge_table.ensures in
+    let found = c.in_ok-found.ensures in
     let table = c.in_ok-edge_table.edge_table in
     let facts = table.edges in
     let built : AreBuilt t (built_edges table.digraph.edges facts) table.weak.entries = subst (λ z. AreBuilt z (built_edges table.digraph.edges facts) table.weak.entries) c.numbers_in-numbers.ensures made.edges in
@@ -45,25 +40,16 @@ invariant_of-result c =
       record {
         each = made.long;
         gates = built_gates t (built_edges table.digraph.edges facts) table.weak.entries table.digraph.nodes built nodes;
-        releases = c.in_ok-released.ensures;
+        releases = found.released;
       },
-      c.in_ok-defaults.ensures.long ∙ ap (λ z. length (node_packages z)) c.numbers_in-numbers.ensures ∙ sym (ap length c.in_ok-table.ensures.packages),
-      c.in_ok-order.ensures,
-      c.in_ok-cyclic.ensures,
+      found.defaults.long ∙ ap (λ z. length (node_packages z)) c.numbers_in-numbers.ensures ∙ sym (ap length c.in_ok-table.ensures.packages),
+      found.order,
+      found.cyclic,
     )
 
-pub default_marks-requires : goal.default_marks-requires
-default_marks-requires c = record {
+pub found_with-requires : goal.found_with-requires
+found_with-requires c = record {
   nodes = c.in_ok-edge_table.ensures.nodes ∙ ap length c.in_ok-table.ensures.packages ∙ ap (λ z. length (node_packages z)) (sym c.numbers_in-numbers.ensures);
   long = c.in_ok-edge_table.ensures.long;
   edges = c.in_ok-edge_table.ensures.edges;
 }
-
-pub returns-in_err-defaults-clause-refused : goal.returns-in_err-defaults-clause-refused
-returns-in_err-defaults-clause-refused c = let p = err_from_is_err_and c.from_residual-in_err-defaults.result c.from_residual-in_err-defaults.ensures.1 in rw (p.1, p.2) refl
-
-pub returns-in_err-order-clause-refused : goal.returns-in_err-order-clause-refused
-returns-in_err-order-clause-refused c = let p = err_from_is_err_and c.from_residual-in_err-order.result c.from_residual-in_err-order.ensures.1 in rw (p.1, p.2) refl
-
-pub returns-in_err-cyclic-clause-refused : goal.returns-in_err-cyclic-clause-refused
-returns-in_err-cyclic-clause-refused c = let p = err_from_is_err_and c.from_residual-in_err-cyclic.result c.from_residual-in_err-cyclic.ensures.1 in rw (p.1, p.2) refl

@@ -1,2 +1,0 @@
--- What private functions alone speak of: the rows of lines that are all well-formed.
-pub mod WellFormed
