@@ -1,5 +1,5 @@
 -- What is gathered of the declarations of links.
-use Rattle.std.proofs.Common.{◌≡◌, ℕ, zero, suc, ◌+◌, ◌<◌, ◌≤◌, List, [], ◌∷◌, ◌++◌, length, get_or, Bool, true, false, cond, Option, None, Some, map, take, refl, ap, sym, ◌∙◌, subst, arith, append_assoc, if◌then◌else◌, is_some}
+use Rattle.std.proofs.Common.{◌≡◌, ℕ, zero, suc, ◌+◌, ◌<◌, ◌≤◌, List, [], ◌∷◌, ◌++◌, length, get_or, Bool, true, false, cond, Option, None, Some, map, take, refl, ap, sym, ◌∙◌, subst, arith, append_assoc, if◌then◌else◌, is_some, Result, Ok, Err, IfOk}
 use Rattle.std.specs.Prelude.{filter, flat_map, slice_get, ◌&&◌, ◌||◌}
 use Rattle.std.specs.List.{list_any, cons_option}
 use Rattle.std.specs.Option.{option_map, option_map_or}
@@ -166,3 +166,8 @@ one_link t k a b h i = same (sym h ∙ i)
 -- all declarations of one link
 pub unsplit_is : (k : ℕ) (link : LinkTable) → over Unsplit (λ d. includes Unsplit d) ((k, link) ∷ []) ≡ unsplit_of k link
 unsplit_is k link = refl
+
+-- what holds of a value, if there is one, and gives something else
+pub ok_map : {A E : Type 0} (P Q : A → Type 0) (r : Result A E) → IfOk r P → ((a : A) → P a → Q a) → IfOk r Q
+ok_map P Q (Ok a) p f = f a p
+ok_map P Q (Err e) p f = p

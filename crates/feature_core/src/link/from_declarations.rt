@@ -154,20 +154,21 @@ impl<'g> LinkParts<'g> {
     }
 
     /// The link, as one that covers these.
-    fn into_link(
-        self,
+    fn to_link(
+        &self,
         alloc: Global,
         which: LinkDeclarations,
     ) -> Result<ConditionalLinkImpl, AllocError>
-        ensures { IfOk result (λ l. (parts : List (ℕ × List Declared)) → HasParts self.entry parts → link_facts l ≡ over_parts which parts) }
+        ensures { IfOk result (λ l. (parts : List (ℕ × List Declared)) → HasParts self.now parts → link_facts l ≡ over_parts which parts) }
     {
         let statuses = self.statuses.statuses(alloc)?;
+        let package_link_ixs = SmallVec::from_slice(alloc, self.links.as_slice())?;
         Ok(ConditionalLinkImpl {
             declarations: which,
             normal: statuses.normal,
             build: statuses.build,
             dev: statuses.dev,
-            package_link_ixs: self.links,
+            package_link_ixs,
         })
     }
 }
@@ -186,8 +187,7 @@ pub(crate) fn links_over(
     for link_ix in links {
         parts.add_link(graph.link(*link_ix), which)?;
     }
-    let link = parts.into_link(alloc, which)?;
-    Ok(link)
+    parts.to_link(alloc, which)
 }
 
 /// The link over the covered declarations of one package link.
@@ -252,6 +252,5 @@ pub(crate) fn section_link(
 {
     let mut parts = LinkParts::new(alloc);
     parts.add_places(graph.link(link_ix), places)?;
-    let link = parts.into_link(alloc, which)?;
-    Ok(link)
+    parts.to_link(alloc, which)
 }

@@ -4,7 +4,7 @@ use Rattle.std.proofs.lemmas.List.{take_all}
 use Rattle.guppy_packages.specs.Metadata.{link_table_of}
 use Rattle.feature_core.specs.inner.Collected.{HasParts}
 use Rattle.feature_core.specs.Links.{includes, links_at, over}
-use Rattle.feature_core.proofs.LinkLemmas.{parts_of, parts_next, over_of_parts}
+use Rattle.feature_core.proofs.LinkLemmas.{ok_map, parts_of, parts_next, over_of_parts}
 use Rattle.feature_core.proofs.link.from_declarations.links_over.Goals as goal
 
 pub loop-link_ix-preserved : goal.loop-link_ix-preserved
@@ -24,6 +24,7 @@ returns c =
     let links = c.args.links.now in
     let which = c.args.which in
     let end : length links ≤ i = omega arith in
-    c.in_ok-link.ensures (parts_of (λ d. includes which d) (links_at t (take i links))) c.loop-link_ix.invariant
+    ok_map _ _ c.to_link.result c.to_link.ensures (λ l holds.
+    holds (parts_of (λ d. includes which d) (links_at t (take i links))) c.loop-link_ix.invariant
     ∙ over_of_parts which (λ d. includes which d) (links_at t (take i links))
-    ∙ ap (λ z. over which (λ d. includes which d) (links_at t z)) (take_all i links end)
+    ∙ ap (λ z. over which (λ d. includes which d) (links_at t z)) (take_all i links end))
