@@ -4,12 +4,11 @@ use Rattle.std.specs.Prelude.{filter, slice_get, IsTrue, Contains, Result, Ok, E
 use Rattle.std.proofs.lemmas.List.{append_assoc, length-take-le}
 use Rattle.guppy_packages.specs.Rows.{Text, Declared}
 use Rattle.guppy_packages.specs.Tables.{LinkTable, Tables, AreTables}
-use Rattle.feature_labels.specs.Names.{LabelName}
 use Rattle.feature_labels.specs.Names.LabelName.{base, named, optional}
 use Rattle.feature_labels.specs.declared.link_declarations.LinkDeclarations.{LinkDeclarations}
 use Rattle.feature_labels.specs.declared.link_declarations.LinkDeclarations.TheVariants.{Unsplit, Required, Optional}
 use Rattle.feature_core.specs.Nodes.{NodeAt}
-use Rattle.feature_core.specs.Links.{LinkFacts, IsLink, over, over_parts}
+use Rattle.feature_core.specs.Links.{LinkFacts, IsLink, over_parts}
 use Rattle.feature_core.specs.Candidates.{Edge, dep_colon, slash_full, slash_optional, slash_weak, section, requesting, unsplit_of, by_name}
 use Rattle.feature_core.specs.Edges.{EdgeFacts, facts_of, first_ones}
 use Rattle.feature_core.specs.inner.Alike.{IsSingle, SharesSubject, one_end, one_link, one_declaration, AreAlike, IsAppended, IsNext}

@@ -1,4 +1,4 @@
-use Rattle.std.proofs.Common.{◌≡◌, ◌∙◌, ◌++◌, ◌∷◌, [], Some, ap, sym}
+use Rattle.std.proofs.Common.{◌∙◌, ◌++◌, ◌∷◌, [], ap}
 use Rattle.std.specs.Prelude.{slice_get}
 use Rattle.feature_core.proofs.PoolLemmas.{number_within, said_there, more_facts}
 use Rattle.feature_core.proofs.SameLists.{read}

@@ -1,12 +1,10 @@
-use Rattle.std.proofs.Common.{◌≡◌, ◌++◌, ◌-◌, ap, sym, subst, arith, get_or, Some, refl}
-use Rattle.std.specs.Prelude.{Contains, slice_get}
+use Rattle.std.proofs.Common.{◌≡◌, arith, get_or, Some}
+use Rattle.std.specs.Prelude.{slice_get}
 use Rattle.std.proofs.lemmas.Option.{slice_get-get_or}
 use Rattle.std.proofs.lemmas.List.Elements.{Contains-get_or}
-use Rattle.feature_core.specs.inner.Alike.{IsNext}
 use Rattle.feature_core.specs.inner.Parts.{key}
 use Rattle.feature_core.proofs.AlikeLemmas.{on_ok, next_repeated, next_there}
 use Rattle.feature_core.proofs.AddsLemmas.{element_at_place}
-use Rattle.feature_core.proofs.SameLists.{read}
 use Rattle.feature_core.proofs.SourceLemmas.{is_least}
 use Rattle.feature_core.proofs.edge_table.MadeEdges.add_noted.Goals as goal
 
