@@ -2,6 +2,7 @@
 use crate::declaration::Declaration;
 use crate::named_feature::NamedFeature;
 use crate::text_map::TextSet;
+use smallvec::SmallVec;
 
 /// A package without its id.
 #[derive(Drop)]
@@ -11,9 +12,9 @@ pub struct PackageData {
     pub(crate) optional_names: TextSet<String>,
 }
 
-/// The declarations of a pair of packages.
+/// The declarations of a pair of packages: most pairs have one, which then lies here.
 #[derive(Debug, Drop)]
 pub struct LinkData {
     pub(crate) name: String,
-    pub(crate) declarations: Vec<Declaration>,
+    pub(crate) declarations: SmallVec<Declaration, 1>,
 }

@@ -8,6 +8,8 @@ ghost use Rattle.guppy_packages.specs.Tables.{is_development};
 
 use crate::platform::PlatformStatusImpl;
 use crate::row::DependencyKind;
+use std::alloc::Global;
+use std::default::MadeWith;
 
 /// What one Dep row declares of the package that it names.
 #[derive(Debug, Drop)]
@@ -56,6 +58,19 @@ impl Declaration {
         ensures { map string_bytes result.now ≡ (declared self.now).features }
     {
         self.features.as_slice()
+    }
+}
+
+// A blank, which fills the place of a declaration that is still to come. It allocates nothing.
+impl MadeWith<Global> for Declaration {
+    fn made_with(alloc: Global) -> Declaration {
+        Declaration {
+            kind: DependencyKind::Normal,
+            optional: false,
+            platform: PlatformStatusImpl::Always,
+            default_features: false,
+            features: Vec::new(alloc),
+        }
     }
 }
 

@@ -22,6 +22,7 @@ use crate::row_error::{RowError, RowFault};
 use crate::row_source::{RowSlice, RowSource};
 use crate::text_map::{TextMap, TextSet};
 use indexmap::{IndexMap, IndexSet};
+use smallvec::SmallVec;
 use std::alloc::{AllocError, Global};
 use std::hash::BuildHasherDefault;
 
@@ -214,7 +215,7 @@ fn push_link(
         return Ok(());
     }
     let name = String::from_str(alloc, name)?;
-    let mut declarations = Vec::with_capacity(alloc, 1)?;
+    let mut declarations = SmallVec::new(alloc);
     declarations.push(declaration)?;
     links.insert((from, to), LinkData { name, declarations })?;
     Ok(())
