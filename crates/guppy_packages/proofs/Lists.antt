@@ -1,8 +1,8 @@
 -- Searches over mapped lists.
-use Rattle.std.proofs.Common.{◌≡◌, ℕ, zero, suc, ◌+◌, ◌<◌, List, [], ◌∷◌, Bool, Some, map, refl, ap, length, drop, get_or, add-one, drop-cons, arith}
+use Rattle.std.proofs.Common.{◌≡◌, ℕ, zero, suc, ◌+◌, ◌<◌, List, [], ◌∷◌, Bool, true, false, cond, not, ◌||◌, Some, None, is_some, ◌∙◌, map, refl, ap, length, drop, get_or, add-one, drop-cons, arith}
 use Rattle.std.proofs.lemmas.List.{length-map}
 use Rattle.std.proofs.lemmas.Option.{get_or_from_slice_get, slice_get_within}
-use Rattle.std.specs.Prelude.{position, slice_get}
+use Rattle.std.specs.Prelude.{position, slice_get, nat_lt}
 use Rattle.std.specs.List.{position_or_len, list_any, list_all}
 
 pub list_any-map : {X Y : Type 0} (f : X → Y) (p : Y → Bool) (xs : List X) → list_any p (map f xs) ≡ list_any (λ x. p (f x)) xs
@@ -43,3 +43,25 @@ map_at f (x ∷ xs) (suc k) y h =
   where
     step : (a b : ℕ) → a < b → suc a < suc b
     step a b h = omega arith
+
+-- whether one passes, by the place of the first that does
+is_some-cond : {X : Type 0} (b : Bool) (x : X) → is_some (cond b (Some x) None) ≡ b
+is_some-cond true x = refl
+is_some-cond false x = refl
+
+before_end : {X : Type 0} (p : X → Bool) (xs : List X) → nat_lt (position_or_len p xs) (length xs) ≡ list_any p xs
+before_end p [] = refl
+before_end p (x ∷ xs) = go (p x) (before_end p xs)
+  where
+    first : (n : ℕ) → nat_lt 0 (suc n) ≡ true
+    first n = grind arith
+
+    next : (a b : ℕ) → nat_lt (1 + a) (suc b) ≡ nat_lt a b
+    next a b = grind arith
+
+    go : (b : Bool) → nat_lt (position_or_len p xs) (length xs) ≡ list_any p xs → nat_lt (cond (not b) (1 + position_or_len p xs) 0) (length (x ∷ xs)) ≡ b || list_any p xs
+    go true h = first (length xs)
+    go false h = next (position_or_len p xs) (length xs) ∙ h
+
+pub is_some-position : {X : Type 0} (p : X → Bool) (xs : List X) → is_some (position p xs) ≡ list_any p xs
+is_some-position p xs = is_some-cond (nat_lt (position_or_len p xs) (length xs)) _ ∙ before_end p xs

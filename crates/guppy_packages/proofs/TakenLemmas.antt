@@ -38,6 +38,14 @@ set_value_at-map f (e ∷ es) zero k v w h =
     ap (λ x. f (x.0, w) ∷ map f es) same
 set_value_at-map f (e ∷ es) (suc i) k v w h = ap (λ l. f e ∷ l) (set_value_at-map f es i k v w h)
 
+-- a write of a value of the same table changes no table
+pub set_value_at-same : {K V T : Type 0} (f : K × V → T) (es : List (K × V)) (i : ℕ) (v w : V) → slice_get (values_of es) i ≡ Some v → ((k : K) → f (k, w) ≡ f (k, v)) → map f (set_value_at es i w) ≡ map f es
+set_value_at-same f [] i v w h alike = cc
+set_value_at-same f (e ∷ es) zero v w h alike =
+    let same : v ≡ e.1 = cc in
+    ap (λ x. x ∷ map f es) (alike e.0 ∙ ap (λ u. f (e.0, u)) same)
+set_value_at-same f (e ∷ es) (suc i) v w h alike = ap (λ l. f e ∷ l) (set_value_at-same f es i v w h alike)
+
 -- a value of a map stands at a key
 pub entry_of : {K V : Type 0} (es : List (K × V)) (i : ℕ) (v : V) → slice_get (values_of es) i ≡ Some v → (k : K) × (slice_get es i ≡ Some (k, v))
 entry_of [] i v h = cc
@@ -70,7 +78,7 @@ last_changed es v w change result at taken =
 pub name_noted : {C : Type 0} (es : List (Text × PackageData)) (v w : PackageData) (name : Text) (names : List Text) (optional : Bool) (result : Outcome C)
     → slice_get (values_of es) (length es - 1) ≡ Some v → optional ≡ true
     → ((id : Text) → package_table (id, w) ≡ record (package_table (id, v)) { optional_names = names })
-    → Takes names result (Ok (with_name name (map string_bytes v.optional_names.keys)))
+    → Takes names result (Ok (with_name name (map string_bytes v.optional_names)))
     → Takes (map package_table (set_value_at es (length es - 1) w)) result (change_last (λ p. Ok (add_name name optional p)) (map package_table es))
 name_noted es v w name names false result at o same taken = cc
 name_noted es v w name names true result at o same taken =

@@ -14,7 +14,7 @@ abbrev pub declared : Declaration → Declared
 declared d = record { kind = d.kind; optional = d.optional; platform = platform_text d.platform; default_features = d.default_features; features = map string_bytes d.features.items }
 
 abbrev pub package_table : Text × PackageData → PackageTable
-package_table e = record { id = e.0; in_workspace = e.1.in_workspace; features = map feature_table e.1.features.keys; optional_names = map string_bytes e.1.optional_names.keys }
+package_table e = record { id = e.0; in_workspace = e.1.in_workspace; features = map feature_table e.1.features; optional_names = map string_bytes e.1.optional_names }
 
 abbrev pub package_tables : {S : Type 0} → IndexMap Text PackageData S → List PackageTable
 package_tables m = map package_table m.entries

@@ -1,15 +1,15 @@
 //! What the maps of a package graph hold for a package and for a link.
 use crate::declaration::Declaration;
+use crate::name_set::NameSet;
 use crate::named_feature::NamedFeature;
-use crate::text_map::TextSet;
 use smallvec::SmallVec;
 
 /// A package without its id.
 #[derive(Drop)]
 pub struct PackageData {
     pub(crate) in_workspace: bool,
-    pub(crate) features: TextSet<NamedFeature>,
-    pub(crate) optional_names: TextSet<String>,
+    pub(crate) features: NameSet<NamedFeature>,
+    pub(crate) optional_names: NameSet<String>,
 }
 
 /// The declarations of a pair of packages: most pairs have one, which then lies here.

@@ -12,6 +12,7 @@ ghost use Rattle.guppy_packages.specs.Tables.{package_place};
 
 use crate::contents::{LinkData, PackageData};
 use crate::declaration::Declaration;
+use crate::name_set::NameSet;
 use crate::named_feature::NamedFeature;
 use crate::package_graph::PackageGraph;
 use crate::package_id::PackageId;
@@ -20,8 +21,8 @@ use crate::platform::{PlatformStatusImpl, Spec};
 use crate::row::{DependencyKind, Row};
 use crate::row_error::{RowError, RowFault};
 use crate::row_source::{RowSlice, RowSource};
-use crate::text_map::{TextMap, TextSet};
-use indexmap::{IndexMap, IndexSet};
+use crate::text_map::TextMap;
+use indexmap::IndexMap;
 use smallvec::SmallVec;
 use std::alloc::{AllocError, Global};
 use std::hash::BuildHasherDefault;
@@ -47,8 +48,8 @@ fn push_package(
     ensures { Takes (package_tables packages.new) result (add_package id.now in_workspace (package_tables packages.old)) }
 {
     let id = PackageId::new(alloc, id)?;
-    let features = IndexSet::with_hasher(alloc, BuildHasherDefault::new());
-    let optional_names = IndexSet::with_hasher(alloc, BuildHasherDefault::new());
+    let features = NameSet::new(alloc);
+    let optional_names = NameSet::new(alloc);
     let before = packages.insert(
         id,
         PackageData {
@@ -66,15 +67,15 @@ fn push_package(
 /// A Feature row of a package with these features.
 fn push_feature(
     alloc: Global,
-    features: &mut TextSet<NamedFeature>,
+    features: &mut NameSet<NamedFeature>,
     name: &str,
     items: &[&str],
 ) -> Result<(), RowFault>
-    ensures { Takes (map feature_table features.new.keys) result (with_feature name.now (texts items.now) (map feature_table features.old.keys)) }
+    ensures { Takes (map feature_table features.new) result (with_feature name.now (texts items.now) (map feature_table features.old)) }
 {
     let name = String::from_str(alloc, name)?;
     let items = owned(alloc, items)?;
-    let added = features.insert(NamedFeature { name, items })?;
+    let added = features.insert(alloc, NamedFeature { name, items })?;
     if !added {
         return Err(RowFault::DuplicateFeature);
     }
@@ -97,10 +98,10 @@ fn push_feature_row(
 }
 
 /// The name of an optional dependency of a package with these.
-fn push_name(alloc: Global, names: &mut TextSet<String>, name: &str) -> Result<(), RowFault>
-    ensures { Takes (map string_bytes names.new.keys) result (Ok (with_name name.now (map string_bytes names.old.keys))) }
+fn push_name(alloc: Global, names: &mut NameSet<String>, name: &str) -> Result<(), RowFault>
+    ensures { Takes (map string_bytes names.new) result (Ok (with_name name.now (map string_bytes names.old))) }
 {
-    names.insert(String::from_str(alloc, name)?)?;
+    names.insert(alloc, String::from_str(alloc, name)?)?;
     Ok(())
 }
 
@@ -122,6 +123,16 @@ fn push_dep_row(
     Ok(())
 }
 
+/// The last package has all its rows, so its features and names need no more room.
+fn end_package(packages: &mut TextMap<PackageId, PackageData>)
+    ensures { package_tables packages.new ≡ package_tables packages.old }
+{
+    if let Some(last) = packages.last_mut() {
+        last.features.shrink_to_fit();
+        last.optional_names.shrink_to_fit();
+    }
+}
+
 /// A row of the first pass.
 fn take_row(
     alloc: Global,
@@ -131,7 +142,10 @@ fn take_row(
     ensures { Takes (package_tables packages.new) result (first_step (package_tables packages.old) (row_text row.entry)) }
 {
     match row {
-        Row::Package { id, in_workspace } => push_package(alloc, packages, id, in_workspace),
+        Row::Package { id, in_workspace } => {
+            end_package(packages);
+            push_package(alloc, packages, id, in_workspace)
+        }
         Row::Feature { name, items } => push_feature_row(alloc, packages, name, items),
         Row::Dep { name, optional, .. } => push_dep_row(alloc, packages, name, optional),
     }
@@ -151,6 +165,7 @@ fn take_packages<S: RowSource>(
             return Err(RowError::new(row, fault));
         }
     }
+    end_package(&mut packages);
     Ok(packages)
 }
 

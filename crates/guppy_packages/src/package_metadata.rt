@@ -92,14 +92,14 @@ impl<'g> PackageMetadata<'g> {
     pub fn feature_place(self, name: &str) -> Option<usize>
         ensures { result ≡ feature_place name.now (package_table_of self.entry).features }
     {
-        self.contents.features.get_index_of(name)
+        self.contents.features.place_of(name)
     }
 
     /// Whether a named feature is called `default`.
     pub fn has_default_feature(self) -> bool
         ensures { result ≡ has_feature (codes "default") (package_table_of self.entry).features }
     {
-        self.contents.features.contains("default")
+        self.feature_place("default").is_some()
     }
 
     /// The names that an optional dependency has, in the order of the first row of each.
@@ -113,7 +113,7 @@ impl<'g> PackageMetadata<'g> {
     pub fn optional_place(self, name: &str) -> Option<usize>
         ensures { result ≡ optional_place name.now (package_table_of self.entry).optional_names }
     {
-        self.contents.optional_names.get_index_of(name)
+        self.contents.optional_names.place_of(name)
     }
 
     /// The numbers of the links that leave it, ascending.

@@ -1,5 +1,4 @@
-use Rattle.std.proofs.Common.{arith, Bool, ◌≡◌, refl, ◌∙◌, false, true, not, ap, map, ◌++◌, [], ◌∷◌}
-use Rattle.std.proofs.lemmas.Grind.{common_steps}
+use Rattle.std.proofs.Common.{Bool, ◌≡◌, refl, ◌∙◌, false, true, not, ap, map, ◌++◌, [], ◌∷◌}
 use Rattle.std.proofs.lemmas.List.{map-append}
 use Rattle.std.specs.Str.{bytes_eq}
 use Rattle.std.specs.String.{string_bytes}

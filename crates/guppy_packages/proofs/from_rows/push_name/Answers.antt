@@ -14,7 +14,7 @@ texts_if f false names name text h = ap (λ t. map f names ++ t ∷ []) (sym h) 
 
 pub returns : goal.returns
 returns c =
-    let names = c.args.names.now.keys in
+    let names = c.args.names.now in
     let there = list_any (λ k. bytes_eq (string_bytes c.in_ok-from_str.field-0) (string_bytes k)) names in
     let same : list_any (bytes_eq c.args.name.now) (map string_bytes names) ≡ there = list_any-map string_bytes (bytes_eq c.args.name.now) names ∙ ap (λ n. list_any (λ k. bytes_eq n (string_bytes k)) names) (sym c.in_ok-from_str.ensures.ok) in
-    rw (same, c.in_ok-insert.ensures.keys) (ap Ok (texts_if string_bytes there names c.in_ok-from_str.field-0 c.args.name.now c.in_ok-from_str.ensures.ok))
+    rw (same, c.in_ok-insert.ensures.items) (ap Ok (texts_if string_bytes there names c.in_ok-from_str.field-0 c.args.name.now c.in_ok-from_str.ensures.ok))

@@ -5,4 +5,4 @@ use Rattle.guppy_packages.proofs.Lists.{position-map}
 use Rattle.guppy_packages.proofs.package_metadata.PackageMetadata.feature_place.Goals as goal
 
 pub returns : goal.returns
-returns c = c.get_index_of.ensures.index ∙ sym (position-map feature_table (λ f. bytes_eq c.args.name.now f.name) c.args.self.contents.now.features.keys)
+returns c = c.place_of.ensures ∙ sym (position-map feature_table (λ f. bytes_eq c.args.name.now f.name) c.args.self.contents.now.features)

@@ -5,4 +5,4 @@ use Rattle.guppy_packages.proofs.Lists.{position-map}
 use Rattle.guppy_packages.proofs.package_metadata.PackageMetadata.optional_place.Goals as goal
 
 pub returns : goal.returns
-returns c = c.get_index_of.ensures.index ∙ sym (position-map string_bytes (bytes_eq c.args.name.now) c.args.self.contents.now.optional_names.keys)
+returns c = c.place_of.ensures ∙ sym (position-map string_bytes (bytes_eq c.args.name.now) c.args.self.contents.now.optional_names)

@@ -1,0 +1,123 @@
+//! Sets of named things, in the order of insertion.
+//!
+//! Most packages have few names: a scan finds one of them sooner than a hash does, and needs no table. A package may also have
+//! thousands, and then they are hashed.
+ghost use Rattle.std.specs.Prelude.{◌≡◌, [], IfOk, not, position};
+ghost use Rattle.std.specs.List.{list_any};
+ghost use Rattle.indexmap.specs.IndexSet.{insert_all, insert_key};
+
+use crate::text_map::TextSet;
+use indexmap::{Equivalent, IndexSet};
+use std::alloc::{AllocError, Global};
+use std::hash::{BuildHasherDefault, Hash};
+use std::marker::Model;
+use std::mem;
+
+/// How many items are scanned: a set of more hashes them.
+const FEW: usize = 16;
+
+/// The items, in the order of insertion.
+#[derive(Drop)]
+pub(crate) enum Held<T: Eq + Hash> {
+    Few(Vec<T>),
+    Many(Box<TextSet<T>>),
+}
+
+/// A set in the order of insertion. A contract sees it as the list of its items, no two of which are equal.
+#[derive(Drop)]
+pub(crate) struct NameSet<T: Eq + Hash> {
+    held: Held<T>,
+}
+
+impl<T: Eq + Hash> Model for NameSet<T> {
+    ghost use Rattle.std.specs.Prelude.{List};
+
+    ghost Value = { List T };
+
+    ghost use Rattle.guppy_packages.specs.inner.NameSets.{held_items, IsSet};
+
+    ghost view = { λ s. held_items s.held };
+
+    ghost invariant = { λ s. IsSet T.eq (held_items s.held) };
+}
+
+/// Whether one of the items is equal to this one.
+fn has<T: Eq + Hash>(items: &[T], item: &T) -> bool
+    ensures { result ≡ list_any (T.eq item.now) items.now }
+{
+    items.iter().any(|held| item == held)
+}
+
+/// The items, hashed.
+fn hashed<T: Eq + Hash + Drop>(alloc: Global, items: Vec<T>) -> Result<Box<TextSet<T>>, AllocError>
+    ensures { IfOk result (λ set. set.value.keys ≡ insert_all T.eq [] items.items) }
+{
+    let mut set = IndexSet::with_capacity_and_hasher(alloc, 2 * FEW, BuildHasherDefault::new())?;
+    set.extend(items)?;
+    Ok(Box::new(alloc, set)?)
+}
+
+impl<T: Eq + Hash + Drop> NameSet<T> {
+    /// The empty set, which allocates nothing.
+    pub(crate) fn new(alloc: Global) -> NameSet<T>
+        ensures { result ≡ [] }
+    {
+        NameSet {
+            held: Held::Few(Vec::new(alloc)),
+        }
+    }
+
+    /// The items, in the order of insertion.
+    pub(crate) fn as_slice(&self) -> &[T]
+        ensures { result.now ≡ self.now }
+    {
+        match &self.held {
+            Held::Few(items) => items.as_slice(),
+            Held::Many(items) => items.as_slice(),
+        }
+    }
+
+    /// The place of the item that a name stands for.
+    pub(crate) fn place_of<Q: Equivalent<T>>(&self, name: Q) -> Option<usize>
+        ensures { result ≡ position (Q.equivalent name) self.now }
+    {
+        match &self.held {
+            Held::Few(items) => items.iter().position(|item| name.equivalent(item)),
+            Held::Many(items) => items.get_index_of(name),
+        }
+    }
+
+    /// Adds an item at the end, unless an equal one is there, and tells whether it did. Where memory is refused, items may be lost.
+    pub(crate) fn insert(&mut self, alloc: Global, item: T) -> Result<bool, AllocError>
+        ensures added { IfOk result (λ added. added ≡ not (list_any (T.eq item) self.old)) }
+        ensures items { IfOk result (λ _. self.new ≡ insert_key T.eq self.old item) }
+    {
+        match &mut self.held {
+            Held::Many(items) => Ok(items.insert(item)?),
+            Held::Few(items) => {
+                if has(items, &item) {
+                    return Ok(false);
+                }
+                if items.len() < FEW {
+                    items.reserve_exact(FEW - items.len())?;
+                    items.push(item)?;
+                    return Ok(true);
+                }
+                let mut many = hashed(alloc, mem::replace(items, Vec::new(alloc)))?;
+                many.insert(item)?;
+                self.held = Held::Many(many);
+                Ok(true)
+            }
+        }
+    }
+
+    /// Gives back memory that no item needs.
+    pub(crate) fn shrink_to_fit(&mut self)
+        ensures { self.new ≡ self.old }
+    {
+        match &mut self.held {
+            Held::Few(items) => items.shrink_to_fit(),
+            Held::Many(items) => items.shrink_to_fit(),
+        }
+    }
+}
