@@ -16,8 +16,8 @@ use std::default::MadeWith;
 pub struct Declaration {
     pub(crate) kind: DependencyKind,
     pub(crate) optional: bool,
-    pub(crate) platform: PlatformStatusImpl,
     pub(crate) default_features: bool,
+    pub(crate) platform: PlatformStatusImpl,
     pub(crate) features: Vec<String>,
     ghost of_a_row: { platform_specs platform ≡ option_map (λ spec. spec ∷ []) (platform_text platform) },
 }
@@ -67,8 +67,8 @@ impl MadeWith<Global> for Declaration {
         Declaration {
             kind: DependencyKind::Normal,
             optional: false,
-            platform: PlatformStatusImpl::Always,
             default_features: false,
+            platform: PlatformStatusImpl::Always,
             features: Vec::new(alloc),
         }
     }

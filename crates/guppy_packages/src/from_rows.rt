@@ -151,7 +151,7 @@ fn take_row(
     }
 }
 
-/// The first pass.
+/// The first pass. No package comes after it, so the map keeps no more room than it needs.
 fn take_packages<S: RowSource>(
     alloc: Global,
     source: &S,
@@ -166,6 +166,7 @@ fn take_packages<S: RowSource>(
         }
     }
     end_package(&mut packages);
+    packages.shrink_to_fit();
     Ok(packages)
 }
 
@@ -204,8 +205,8 @@ fn declare(
     Ok(Declaration {
         kind,
         optional,
-        platform,
         default_features,
+        platform,
         features,
     })
 }
@@ -284,7 +285,7 @@ fn count(begun: usize, row: Row) -> usize
     }
 }
 
-/// The second pass.
+/// The second pass. No link comes after it, so the map keeps no more room than it needs.
 fn take_links<S: RowSource>(
     alloc: Global,
     packages: &TextMap<PackageId, PackageData>,
@@ -302,6 +303,7 @@ fn take_links<S: RowSource>(
         }
         begun = count(begun, given);
     }
+    links.shrink_to_fit();
     Ok(links)
 }
 
