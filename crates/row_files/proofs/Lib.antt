@@ -1,3 +1,5 @@
+pub mod CutLemmas
+pub mod PlaceLemmas
 pub mod LineLemmas
 pub mod EachLemmas
 pub mod RowLemmas

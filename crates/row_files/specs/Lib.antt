@@ -4,3 +4,4 @@ pub mod FirstFault
 pub mod FirstFaultLaws
 pub mod RowFile
 pub mod WellFormed
+pub mod inner

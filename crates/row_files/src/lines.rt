@@ -1,7 +1,8 @@
 //! The lines of a text and their fields.
 ghost use Rattle.std.specs.Prelude.{◌≡◌, ◌+◌, ◌<◌, ◌≤◌, ◌++◌, [], ◌∷◌, length, map, IfOk, OnOk, All};
 
-use crate::cuts::{count_parts, push_fields, skips};
+use crate::cuts::skips;
+use memchr::memchr2_iter;
 use std::alloc::{AllocError, Global};
 
 /// A line that is not skipped: its number, and where its fields stand among all fields.
@@ -21,18 +22,19 @@ pub struct Lines<'t> {
 }
 
 impl<'t> Lines<'t> {
-    ghost use Rattle.row_files.specs.Lines.{lines_in, fields_in, kept_lines};
+    ghost use Rattle.row_files.specs.Lines.{lines_in, kept_lines};
     ghost use Rattle.std.specs.Prelude.{Some, slice_get};
     ghost use Rattle.std.specs.Option.{option_map};
     ghost use Rattle.guppy_packages.specs.Rows.{texts};
     ghost use Rattle.row_files.specs.RowFile.{line_of, lines_of};
+    ghost use Rattle.row_files.specs.inner.CutLines.{kept_line};
 
     /// Adds a line.
-    fn push(&mut self, number: usize, line: &'t str) -> Result<(), AllocError>
-        ensures { OnOk result (lines_of self.new ≡ lines_of self.old ++ (number, fields_in line.now) ∷ []) }
+    fn push(&mut self, number: usize, fields: &[&'t str]) -> Result<(), AllocError>
+        ensures { OnOk result (lines_of self.new ≡ lines_of self.old ++ (number, texts fields.now) ∷ []) }
     {
         let start = self.fields.len();
-        push_fields(&mut self.fields, line)?;
+        self.fields.extend_from_slice(fields)?;
         let end = self.fields.len();
         match self.lines.push(Line { number, start, end }) {
             Ok(()) => Ok(()),
@@ -40,23 +42,40 @@ impl<'t> Lines<'t> {
         }
     }
 
+    /// Adds a line that has ended, unless it is skipped.
+    fn end_line(&mut self, number: usize, fields: &[&'t str]) -> Result<(), AllocError>
+        ensures { OnOk result (lines_of self.new ≡ lines_of self.old ++ kept_line number (texts fields.now)) }
+    {
+        if skips(fields) {
+            Ok(())
+        } else {
+            self.push(number, fields)
+        }
+    }
+
     /// The lines that count, with their numbers and fields.
     pub fn of(alloc: Global, text: &'t str) -> Result<Self, AllocError>
         ensures { IfOk result (λ l. lines_of l ≡ kept_lines 1 (lines_in text.now)) }
     {
-        let count = count_parts(text, '\n');
-        let room = count.saturating_add(count_parts(text, '\t'));
+        let bytes = text.as_bytes();
         let mut lines = Lines {
-            fields: Vec::with_capacity(alloc, room)?,
-            lines: Vec::with_capacity(alloc, count)?,
+            fields: Vec::new(alloc),
+            lines: Vec::new(alloc),
         };
-        let mut number = 0;
-        for line in text.split('\n') {
-            number += 1;
-            if !skips(line) {
-                lines.push(number, line)?;
+        let mut fields = Vec::new(alloc);
+        let mut number = 1;
+        let mut start = 0;
+        for end in memchr2_iter(b'\t', b'\n', bytes) {
+            fields.push(&text[start..end])?;
+            if bytes[end] == b'\n' {
+                lines.end_line(number, &fields)?;
+                fields.clear();
+                number += 1;
             }
+            start = end + 1;
         }
+        fields.push(&text[start..])?;
+        lines.end_line(number, &fields)?;
         Ok(lines)
     }
 
