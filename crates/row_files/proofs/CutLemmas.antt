@@ -1,9 +1,8 @@
 -- A text that is cut at its next tab or line feed.
-use Rattle.std.proofs.Common.{◌≡◌, ℕ, zero, suc, ◌+◌, ◌-◌, ◌<◌, ◌≤◌, ◌++◌, ◌==◌, List, [], ◌∷◌, Bool, true, false, not, cond, map, filter, length, get_or, take, drop, drop-cons, add-one, sym, ap, ◌∙◌, refl, subst, arith, append-nil, append_assoc}
-use Rattle.std.proofs.lemmas.Bool.{cases_Bool, cond-true, cond-false, eqb-true}
-use Rattle.std.proofs.lemmas.List.Elements.{All-nil, All-cons, All-head, All-tail}
-use Rattle.std.proofs.lemmas.List.Splits.{slice_split-cons_no, slice_split-cons_yes, slice_split_at, slice_split_none, length-slice_split}
-use Rattle.std.proofs.lemmas.Grind.{common_steps}
+use Rattle.std.proofs.Common.{◌≡◌, ℕ, ◌+◌, ◌<◌, ◌++◌, ◌==◌, List, [], ◌∷◌, Bool, true, false, not, cond, map, filter, length, sym, ap, ◌∙◌, refl, arith, append-nil, append_assoc}
+use Rattle.std.proofs.lemmas.Bool.{eqb-true}
+use Rattle.std.proofs.lemmas.List.Elements.{All-head, All-tail}
+use Rattle.std.proofs.lemmas.List.Splits.{slice_split-cons_no, slice_split_at, slice_split_none, length-slice_split}
 use Rattle.std.specs.List.{All, slice_split, onto_first, enumerate_from}
 use Rattle.guppy_packages.specs.Rows.{Text}
 use Rattle.row_files.specs.Lines.{lines_in, fields_in, is_skipped, kept_lines}

@@ -1,4 +1,5 @@
 pub mod Lines
+pub mod Forms
 pub mod RowOfLine
 pub mod FirstFault
 pub mod FirstFaultLaws

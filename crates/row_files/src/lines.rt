@@ -1,31 +1,25 @@
 //! The lines of a text and their fields.
-ghost use Rattle.std.specs.Prelude.{◌≡◌, ◌+◌, ◌<◌, ◌≤◌, ◌++◌, [], ◌∷◌, length, map, IfOk, OnOk, All};
+ghost use Rattle.std.specs.Prelude.{◌≡◌, ◌+◌, ◌<◌, ◌≤◌, ◌++◌, [], ◌∷◌, length, IfOk, OnOk, All};
+ghost use Rattle.guppy_packages.specs.Rows.{texts};
+ghost use Rattle.row_files.specs.inner.KeptFields.{IsKept};
 
 use crate::cuts::skips;
+use crate::form::form_of;
+use crate::keeping::keep;
+use crate::line::Line;
 use memchr::memchr2_iter;
 use std::alloc::{AllocError, Global};
 
-/// A line that is not skipped: its number, and where its fields stand among all fields.
-#[derive(Clone, Copy)]
-pub struct Line {
-    pub(crate) number: usize,
-    pub(crate) start: usize,
-    pub(crate) end: usize,
-}
-
-/// The fields of the lines that are not skipped, all in one list, and the lines.
+/// The lines that are not skipped, and what is kept of their fields, all in one list.
 #[derive(Drop)]
 pub struct Lines<'t> {
-    pub(crate) fields: Vec<&'t str>,
+    pub(crate) kept: Vec<&'t str>,
     pub(crate) lines: Vec<Line>,
-    ghost within: { All (λ line. (line.start ≤ line.end) × (line.end ≤ length fields.items)) lines.items },
+    ghost each_kept: { All (IsKept (texts kept.items)) lines.items },
 }
 
 impl<'t> Lines<'t> {
     ghost use Rattle.row_files.specs.Lines.{lines_in, kept_lines};
-    ghost use Rattle.std.specs.Prelude.{Some, slice_get};
-    ghost use Rattle.std.specs.Option.{option_map};
-    ghost use Rattle.guppy_packages.specs.Rows.{texts};
     ghost use Rattle.row_files.specs.RowFile.{line_of, lines_of};
     ghost use Rattle.row_files.specs.inner.CutLines.{kept_line};
 
@@ -33,10 +27,16 @@ impl<'t> Lines<'t> {
     fn push(&mut self, number: usize, fields: &[&'t str]) -> Result<(), AllocError>
         ensures { OnOk result (lines_of self.new ≡ lines_of self.old ++ (number, texts fields.now) ∷ []) }
     {
-        let start = self.fields.len();
-        self.fields.extend_from_slice(fields)?;
-        let end = self.fields.len();
-        match self.lines.push(Line { number, start, end }) {
+        let form = form_of(fields);
+        let start = self.kept.len();
+        keep(&mut self.kept, form, fields)?;
+        let end = self.kept.len();
+        match self.lines.push(Line {
+            number,
+            start,
+            end,
+            form,
+        }) {
             Ok(()) => Ok(()),
             Err(_) => Err(AllocError),
         }
@@ -59,7 +59,7 @@ impl<'t> Lines<'t> {
     {
         let bytes = text.as_bytes();
         let mut lines = Lines {
-            fields: Vec::new(alloc),
+            kept: Vec::new(alloc),
             lines: Vec::new(alloc),
         };
         let mut fields = Vec::new(alloc);
@@ -92,14 +92,5 @@ impl<'t> Lines<'t> {
         ensures { result ≡ line_of (lines_of self.now) at }
     {
         self.lines[at].number
-    }
-
-    /// The fields of the line at this place.
-    pub(crate) fn line_fields(&self, at: usize) -> &[&'t str]
-        requires { at < length (lines_of self.now) }
-        ensures { option_map (λ line. line.1) (slice_get (lines_of self.now) at) ≡ Some (texts result.now) }
-    {
-        let line = self.lines[at];
-        &self.fields[line.start..line.end]
     }
 }
