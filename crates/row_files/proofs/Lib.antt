@@ -1,3 +1,6 @@
+pub mod CutLemmas
+pub mod PlaceLemmas
+pub mod FormLemmas
 pub mod LineLemmas
 pub mod EachLemmas
 pub mod RowLemmas

@@ -1,28 +1,16 @@
--- One more line, in the list of lines and in the lists that lie behind it.
-use Rattle.std.proofs.Common.{◌≡◌, ℕ, ◌+◌, ◌-◌, ◌<◌, ◌≤◌, ◌++◌, List, [], ◌∷◌, Bool, true, false, map, filter, not, length, get_or, take, drop, sym, ap, ◌∙◌, refl, arith, append_assoc, cond, suc, zero}
-use Rattle.std.proofs.lemmas.List.{at_drop_more, map-append, take-append-le, drop-append-le}
+-- One more line, and the lines before it.
+use Rattle.std.proofs.Common.{◌≡◌, ℕ, ◌-◌, ◌≤◌, ◌++◌, List, [], ◌∷◌, Bool, true, false, length, get_or, take, drop, sym, ap, ◌∙◌, refl, arith, cond, suc, zero}
+use Rattle.std.proofs.lemmas.List.{length-append, map-append, take-append-drop, take-append-le, drop-append-le}
 use Rattle.std.proofs.lemmas.Grind.{common_steps}
 use Rattle.std.proofs.Math.Seq.{drop-append_seam, take-length}
-use Rattle.std.specs.List.{enumerate_from, slice_range, All}
-use Rattle.guppy_packages.specs.Rows.{Text}
-use Rattle.row_files.specs.Lines.{kept_lines, is_skipped, fields_in, line_text, line_texts}
-use Rattle.row_files.specs.declared.lines.Line.{Line}
-
--- the item at i, where i is a count of items
-pub next_of : {X : Type 0} (xs : List X) (i n : ℕ) (x : X) → i ≡ n → n < length xs → x ≡ get_or xs n x → drop i xs ≡ x ∷ drop (i + 1) xs
-next_of xs i n x same within e = rw same (at_drop_more (λ l. l) xs n x within ∙ ap (λ y. y ∷ drop (n + 1) xs) (sym e))
-
-pub skipped_line : (front : List (ℕ × List Text)) (n : ℕ) (line : Text) (lines rest : List Text) (all : List (ℕ × List Text))
-    → front ++ kept_lines n lines ≡ all → lines ≡ line ∷ rest → is_skipped line ≡ true → front ++ kept_lines (n + 1) rest ≡ all
-skipped_line front n line lines rest all given at skips =
-    let after = filter (λ l. not (is_skipped l.1)) (enumerate_from (n + 1) rest) in
-    ap (λ b. front ++ map (λ l. (l.0, fields_in l.1)) (cond (not b) ((n, line) ∷ after) after)) (sym skips) ∙ ap (λ ls. front ++ kept_lines n ls) (sym at) ∙ given
-
-pub kept_line : (front : List (ℕ × List Text)) (n : ℕ) (line : Text) (lines rest : List Text) (all : List (ℕ × List Text))
-    → front ++ kept_lines n lines ≡ all → lines ≡ line ∷ rest → is_skipped line ≡ false → (front ++ (n, fields_in line) ∷ []) ++ kept_lines (n + 1) rest ≡ all
-kept_line front n line lines rest all given at skips =
-    let after = filter (λ l. not (is_skipped l.1)) (enumerate_from (n + 1) rest) in
-    append_assoc front _ _ ∙ ap (λ b. front ++ map (λ l. (l.0, fields_in l.1)) (cond (not b) ((n, line) ∷ after) after)) (sym skips) ∙ ap (λ ls. front ++ kept_lines n ls) (sym at) ∙ given
+use Rattle.std.specs.List.{slice_range, All}
+use Rattle.std.specs.Borrow.{Bor}
+use Rattle.guppy_packages.specs.Rows.{Text, texts}
+use Rattle.row_files.specs.Forms.{fields_of, line_text, line_texts}
+use Rattle.row_files.specs.RowOfLine.{row_of}
+use Rattle.row_files.specs.inner.KeptFields.{IsKept, form_row}
+use Rattle.row_files.specs.declared.line.Line.{Line}
+use Rattle.row_files.specs.declared.line.Form.{Form}
 
 -- what stands before the end of a list is there in a longer one
 range-append : (fields more : List Text) (start end : ℕ) → start ≤ end → end ≤ length fields → slice_range (fields ++ more) start end ≡ slice_range fields start end
@@ -38,30 +26,54 @@ range-added fields more =
     rw (drop-append_seam fields more, long) (take-length more)
 
 -- lines keep their fields as fields are added
-lines_kept : (fields more : List Text) (lines : List Line) → All (λ line. (line.start ≤ line.end) × (line.end ≤ length fields)) lines → line_texts (fields ++ more) lines ≡ line_texts fields lines
-lines_kept fields more [] within = refl
-lines_kept fields more (line ∷ lines) within =
-    let first : (line.start ≤ line.end) × (line.end ≤ length fields) = within 0 line (omega arith) in
-    let rest : All (λ l. (l.start ≤ l.end) × (l.end ≤ length fields)) lines = λ k d h. within (suc k) d (omega arith) in
-    ap (λ r. (line.number, r) ∷ line_texts (fields ++ more) lines) (range-append fields more line.start line.end first.0 first.1)
-    ∙ ap (λ r. line_text fields line ∷ r) (lines_kept fields more lines rest)
+lines_kept : (kept more : List Text) (lines : List Line) → All (IsKept kept) lines → line_texts (kept ++ more) lines ≡ line_texts kept lines
+lines_kept kept more [] each = refl
+lines_kept kept more (line ∷ lines) each =
+    let first : IsKept kept line = each 0 line (omega arith) in
+    let rest : All (IsKept kept) lines = λ k d h. each (suc k) d (omega arith) in
+    ap (λ r. (line.number, fields_of line.form r) ∷ line_texts (kept ++ more) lines) (range-append kept more line.start line.end first.ordered first.within)
+    ∙ ap (λ r. line_text kept line ∷ r) (lines_kept kept more lines rest)
 
-pub line_pushed : (fields more : List Text) (lines : List Line) (n start end : ℕ) → start ≡ length fields → end ≡ length (fields ++ more) → All (λ line. (line.start ≤ line.end) × (line.end ≤ length fields)) lines
-    → line_texts (fields ++ more) (lines ++ record { number = n; start = start; end = end } ∷ []) ≡ line_texts fields lines ++ (n, more) ∷ []
-line_pushed fields more lines n start end p q within =
-    let one : slice_range (fields ++ more) start end ≡ more = rw (p, q) (range-added fields more) in
-    map-append (line_text (fields ++ more)) lines _ ∙ ap (λ r. line_texts (fields ++ more) lines ++ (n, r) ∷ []) one ∙ ap (λ l. l ++ (n, more) ∷ []) (lines_kept fields more lines within)
+pub longer : (kept more : List Text) (lines : List Line) → All (IsKept kept) lines → All (IsKept (kept ++ more)) lines
+longer kept more lines each k d h =
+    let one = each k d h in
+    let line = get_or lines k d in
+    let same = range-append kept more line.start line.end one.ordered one.within in
+    record {
+      ordered = one.ordered;
+      within = omega (arith, one.within, length-append kept more);
+      row = rw same one.row;
+    }
 
-pub longer : (lines : List Line) (m n : ℕ) → m ≤ n → All (λ line. (line.start ≤ line.end) × (line.end ≤ m)) lines → All (λ line. (line.start ≤ line.end) × (line.end ≤ n)) lines
-longer lines m n le within k d h = ((within k d h).0, omega (arith, (within k d h).1))
+one_more : (P : Line → Type 0) (lines : List Line) (line : Line) → P line → All P lines → All P (lines ++ line ∷ [])
+one_more P [] line last each zero d h = last
+one_more P [] line last each (suc k) d h = absurd (omega arith)
+one_more P (x ∷ xs) line last each zero d h = each 0 d (omega arith)
+one_more P (x ∷ xs) line last each (suc k) d h = one_more P xs line last (λ j e g. each (suc j) e (omega arith)) k d (omega arith)
 
-pub one_more : (lines : List Line) (line : Line) (n : ℕ) → (line.start ≤ line.end) × (line.end ≤ n) → All (λ l. (l.start ≤ l.end) × (l.end ≤ n)) lines → All (λ l. (l.start ≤ l.end) × (l.end ≤ n)) (lines ++ line ∷ [])
-one_more [] line n last within zero d h = last
-one_more [] line n last within (suc k) d h = absurd (omega arith)
-one_more (x ∷ xs) line n last within zero d h = within 0 d (omega arith)
-one_more (x ∷ xs) line n last within (suc k) d h = one_more xs line n last (λ j e g. within (suc j) e (omega arith)) k d (omega arith)
+-- a line of this form, of which more is kept
+module _ (kept more : List Text) (lines : List Line) (each : All (IsKept kept) lines) (n start end : ℕ) (form : Form) (starts : start ≡ length kept) (ends : end ≡ length (kept ++ more)) where
+  added : slice_range (kept ++ more) start end ≡ more
+  added = rw (starts, ends) (range-added kept more)
 
--- a push that may have failed
-pub one_more_if : (b : Bool) (lines : List Line) (line : Line) (n : ℕ) → (line.start ≤ line.end) × (line.end ≤ n) → All (λ l. (l.start ≤ l.end) × (l.end ≤ n)) lines → All (λ l. (l.start ≤ l.end) × (l.end ≤ n)) (cond b (lines ++ line ∷ []) lines)
-one_more_if true lines line n last within = one_more lines line n last within
-one_more_if false lines line n last within = within
+  pub line_pushed : line_texts (kept ++ more) (lines ++ record { number = n; start = start; end = end; form = form } ∷ []) ≡ line_texts kept lines ++ (n, fields_of form more) ∷ []
+  line_pushed =
+      map-append (line_text (kept ++ more)) lines _ ∙ ap (λ r. line_texts (kept ++ more) lines ++ (n, fields_of form r) ∷ []) added
+      ∙ ap (λ l. l ++ (n, fields_of form more) ∷ []) (lines_kept kept more lines each)
+
+  -- a push that may have failed
+  pub one_more_if : (b : Bool) → form_row form more ≡ row_of (fields_of form more)
+      → All (IsKept (kept ++ more)) (cond b (lines ++ record { number = n; start = start; end = end; form = form } ∷ []) lines)
+  one_more_if true row =
+      let last : IsKept (kept ++ more) (record { number = n; start = start; end = end; form = form }) = record {
+        ordered = omega (arith, starts, ends, length-append kept more);
+        within = omega (arith, ends);
+        row = rw added row;
+      } in
+      one_more (IsKept (kept ++ more)) lines _ last (longer kept more lines each)
+  one_more_if false row = longer kept more lines each
+
+-- a list that begins with another one's fields
+pub begins_with : (old new : List (Bor Text)) → take (length old) new ≡ old → texts new ≡ texts old ++ texts (drop (length old) new)
+begins_with old new e =
+    ap texts (sym (take-append-drop (length old) new)) ∙ map-append (λ t. t.now) (take (length old) new) (drop (length old) new) ∙ ap (λ l. texts l ++ texts (drop (length old) new)) e

@@ -1,4 +1,4 @@
--- The numbers, the fields and the rows of lines whose fields stand in one list.
+-- The numbers and the rows of lines whose kept fields stand in one list.
 use Rattle.std.proofs.Common.{◌≡◌, ℕ, zero, suc, ◌-◌, ◌<◌, List, [], ◌∷◌, Ok, Option, None, Some, Bool, true, false, not, get_or, is_none, is_some, length, take, drop, sym, ap, ◌∙◌, refl, arith}
 use Rattle.std.proofs.lemmas.List.{take-map, drop-map}
 use Rattle.std.proofs.lemmas.Option.{slice_get-map}
@@ -7,22 +7,24 @@ use Rattle.std.specs.List.{slice_range}
 use Rattle.std.specs.Option.{option_map}
 use Rattle.std.specs.Borrow.{Bor}
 use Rattle.guppy_packages.specs.Rows.{RowText, Text, texts}
-use Rattle.row_files.specs.Lines.{line_text, line_texts}
+use Rattle.row_files.specs.Forms.{line_text, line_texts}
 use Rattle.row_files.specs.RowFile.{line_of, rows_of}
 use Rattle.row_files.specs.RowOfLine.{row_of}
 use Rattle.row_files.specs.declared.error.RowFileError.TheVariants as error
+use Rattle.row_files.specs.inner.KeptFields.{IsKept, form_row}
 use Rattle.row_files.proofs.EachLemmas.{each_or-at, each_or-length}
-use Rattle.row_files.specs.declared.lines.Line.{Line}
+use Rattle.row_files.specs.declared.line.Line.{Line}
 
 -- the texts of a part of all fields
 range_texts : (fields : List (Bor Text)) (start end : ℕ) → texts (take (end - start) (drop start fields)) ≡ slice_range (texts fields) start end
 range_texts fields start end = sym (take-map (λ t. t.now) (end - start) (drop start fields)) ∙ ap (take (end - start)) (sym (drop-map (λ t. t.now) start fields))
 
--- the fields of the line at a place, which are a part of all fields
-pub fields_at : (fields : List (Bor Text)) (lines : List Line) (i : ℕ) (line : Line) → slice_get lines i ≡ Some line
-    → option_map (λ l. l.1) (slice_get (line_texts (texts fields) lines) i) ≡ Some (texts (take (line.end - line.start) (drop line.start fields)))
-fields_at fields lines i line at =
-    ap (option_map (λ l. l.1)) (slice_get-map (line_text (texts fields)) lines i ∙ ap (option_map (line_text (texts fields))) at) ∙ ap Some (sym (range_texts fields line.start line.end))
+-- the row of the line at a place, from its kept fields
+pub row_at_line : (kept : List (Bor Text)) (lines : List Line) (i : ℕ) (line : Line) → slice_get lines i ≡ Some line → IsKept (texts kept) line
+    → option_map (λ l. row_of l.1) (slice_get (line_texts (texts kept) lines) i) ≡ Some (form_row line.form (texts (take (line.end - line.start) (drop line.start kept))))
+row_at_line kept lines i line at is_kept =
+    ap (option_map (λ l. row_of l.1)) (slice_get-map (line_text (texts kept)) lines i ∙ ap (option_map (line_text (texts kept))) at)
+    ∙ ap Some (sym is_kept.row ∙ ap (form_row line.form) (sym (range_texts kept line.start line.end)))
 
 -- the number of the line at a place
 pub number_at : (fields : List Text) (lines : List Line) (n : ℕ) (d : Line) → n < length lines → line_of (line_texts fields lines) n ≡ (get_or lines n d).number
@@ -37,13 +39,6 @@ number_there (l ∷ lines) zero line e =
     let same : l ≡ line = cc in
     ap (λ x. x.0) same
 number_there (l ∷ lines) (suc i) line e = number_there lines i line e
-
--- what g gives of what f gives
-pub option_map-then : {X Y Z : Type 0} (f : X → Y) (g : Y → Z) (o : Option X) (y : Y) → option_map f o ≡ Some y → option_map (λ x. g (f x)) o ≡ Some (g y)
-option_map-then f g None y e = absurd (cc)
-option_map-then f g (Some x) y e =
-    let same : f x ≡ y = cc in
-    ap (λ z. Some (g z)) same
 
 -- whether nothing is given, by the answer of a test
 pub same_none : {X Y : Type 0} (f : X → Y) (o : Option X) (b : Bool) → is_some o ≡ not b → is_none (option_map f o) ≡ b

@@ -1,8 +1,7 @@
 -- The lines of a row file that count.
 use Rattle.std.specs.Prelude.{ℕ, List, [], ◌∷◌, Bool, true, not, map, filter, ◌==◌}
-use Rattle.std.specs.List.{slice_split, enumerate_from, slice_range}
+use Rattle.std.specs.List.{slice_split, enumerate_from}
 use Rattle.guppy_packages.specs.Rows.{Text}
-use Rattle.row_files.specs.declared.lines.Line.{Line}
 
 -- a line feed ends a line
 abbrev pub lines_in : Text → List Text
@@ -20,10 +19,3 @@ is_skipped (b ∷ line) = b == 35
 -- the other lines by their numbers, of which the first is n, and their fields
 abbrev pub kept_lines : ℕ → List Text → List (ℕ × List Text)
 kept_lines n lines = map (λ l. (l.0, fields_in l.1)) (filter (λ l. not (is_skipped l.1)) (enumerate_from n lines))
-
--- a line whose fields stand at its places among all fields
-abbrev pub line_text : List Text → Line → ℕ × List Text
-line_text fields line = (line.number, slice_range fields line.start line.end)
-
-abbrev pub line_texts : List Text → List Line → List (ℕ × List Text)
-line_texts fields = map (line_text fields)

@@ -10,13 +10,14 @@ use Rattle.guppy_packages.specs.declared.row_error.RowFault.TheVariants as row
 use Rattle.row_files.specs.declared.error.RowFileError.{RowFileError}
 use Rattle.row_files.specs.declared.error.RowFileError.TheVariants as error
 use Rattle.row_files.specs.declared.lines.Lines.{Lines}
-use Rattle.row_files.specs.Lines.{lines_in, kept_lines, line_texts}
+use Rattle.row_files.specs.Lines.{lines_in, kept_lines}
+use Rattle.row_files.specs.Forms.{line_texts}
 use Rattle.row_files.specs.RowOfLine.{row_of}
 use Rattle.row_files.specs.FirstFault.{each_or}
 
 -- the lines that were kept: the number of each, and its fields
 abbrev pub lines_of : Lines → List (ℕ × List Text)
-lines_of lines = line_texts (texts lines.fields.items) lines.lines.items
+lines_of lines = line_texts (texts lines.kept.items) lines.lines.items
 
 -- the rows of the lines, or the first malformed line
 abbrev pub rows_of : List (ℕ × List Text) → Result (List RowText) RowFileError

@@ -3,6 +3,9 @@
 
 mod cuts;
 mod error;
+mod form;
+mod keeping;
+mod line;
 mod lines;
 mod row_file;
 mod rows;

@@ -1,42 +1,55 @@
 //! The lines of a text and their fields.
-ghost use Rattle.std.specs.Prelude.{◌≡◌, ◌+◌, ◌<◌, ◌≤◌, ◌++◌, [], ◌∷◌, length, map, IfOk, OnOk, All};
+ghost use Rattle.std.specs.Prelude.{◌≡◌, ◌+◌, ◌<◌, ◌≤◌, ◌++◌, [], ◌∷◌, length, IfOk, OnOk, All};
+ghost use Rattle.guppy_packages.specs.Rows.{texts};
+ghost use Rattle.row_files.specs.inner.KeptFields.{IsKept};
 
-use crate::cuts::{count_parts, push_fields, skips};
+use crate::cuts::skips;
+use crate::form::form_of;
+use crate::keeping::keep;
+use crate::line::Line;
+use memchr::memchr2_iter;
 use std::alloc::{AllocError, Global};
 
-/// A line that is not skipped: its number, and where its fields stand among all fields.
-#[derive(Clone, Copy)]
-pub struct Line {
-    pub(crate) number: usize,
-    pub(crate) start: usize,
-    pub(crate) end: usize,
-}
-
-/// The fields of the lines that are not skipped, all in one list, and the lines.
+/// The lines that are not skipped, and what is kept of their fields, all in one list.
 #[derive(Drop)]
 pub struct Lines<'t> {
-    pub(crate) fields: Vec<&'t str>,
+    pub(crate) kept: Vec<&'t str>,
     pub(crate) lines: Vec<Line>,
-    ghost within: { All (λ line. (line.start ≤ line.end) × (line.end ≤ length fields.items)) lines.items },
+    ghost each_kept: { All (IsKept (texts kept.items)) lines.items },
 }
 
 impl<'t> Lines<'t> {
-    ghost use Rattle.row_files.specs.Lines.{lines_in, fields_in, kept_lines};
-    ghost use Rattle.std.specs.Prelude.{Some, slice_get};
-    ghost use Rattle.std.specs.Option.{option_map};
-    ghost use Rattle.guppy_packages.specs.Rows.{texts};
+    ghost use Rattle.row_files.specs.Lines.{lines_in, kept_lines};
     ghost use Rattle.row_files.specs.RowFile.{line_of, lines_of};
+    ghost use Rattle.row_files.specs.inner.CutLines.{kept_line};
 
     /// Adds a line.
-    fn push(&mut self, number: usize, line: &'t str) -> Result<(), AllocError>
-        ensures { OnOk result (lines_of self.new ≡ lines_of self.old ++ (number, fields_in line.now) ∷ []) }
+    fn push(&mut self, number: usize, fields: &[&'t str]) -> Result<(), AllocError>
+        ensures { OnOk result (lines_of self.new ≡ lines_of self.old ++ (number, texts fields.now) ∷ []) }
     {
-        let start = self.fields.len();
-        push_fields(&mut self.fields, line)?;
-        let end = self.fields.len();
-        match self.lines.push(Line { number, start, end }) {
+        let form = form_of(fields);
+        let start = self.kept.len();
+        keep(&mut self.kept, form, fields)?;
+        let end = self.kept.len();
+        match self.lines.push(Line {
+            number,
+            start,
+            end,
+            form,
+        }) {
             Ok(()) => Ok(()),
             Err(_) => Err(AllocError),
+        }
+    }
+
+    /// Adds a line that has ended, unless it is skipped.
+    fn end_line(&mut self, number: usize, fields: &[&'t str]) -> Result<(), AllocError>
+        ensures { OnOk result (lines_of self.new ≡ lines_of self.old ++ kept_line number (texts fields.now)) }
+    {
+        if skips(fields) {
+            Ok(())
+        } else {
+            self.push(number, fields)
         }
     }
 
@@ -44,19 +57,25 @@ impl<'t> Lines<'t> {
     pub fn of(alloc: Global, text: &'t str) -> Result<Self, AllocError>
         ensures { IfOk result (λ l. lines_of l ≡ kept_lines 1 (lines_in text.now)) }
     {
-        let count = count_parts(text, '\n');
-        let room = count.saturating_add(count_parts(text, '\t'));
+        let bytes = text.as_bytes();
         let mut lines = Lines {
-            fields: Vec::with_capacity(alloc, room)?,
-            lines: Vec::with_capacity(alloc, count)?,
+            kept: Vec::new(alloc),
+            lines: Vec::new(alloc),
         };
-        let mut number = 0;
-        for line in text.split('\n') {
-            number += 1;
-            if !skips(line) {
-                lines.push(number, line)?;
+        let mut fields = Vec::new(alloc);
+        let mut number = 1;
+        let mut start = 0;
+        for end in memchr2_iter(b'\t', b'\n', bytes) {
+            fields.push(&text[start..end])?;
+            if bytes[end] == b'\n' {
+                lines.end_line(number, &fields)?;
+                fields.clear();
+                number += 1;
             }
+            start = end + 1;
         }
+        fields.push(&text[start..])?;
+        lines.end_line(number, &fields)?;
         Ok(lines)
     }
 
@@ -73,14 +92,5 @@ impl<'t> Lines<'t> {
         ensures { result ≡ line_of (lines_of self.now) at }
     {
         self.lines[at].number
-    }
-
-    /// The fields of the line at this place.
-    pub(crate) fn line_fields(&self, at: usize) -> &[&'t str]
-        requires { at < length (lines_of self.now) }
-        ensures { option_map (λ line. line.1) (slice_get (lines_of self.now) at) ≡ Some (texts result.now) }
-    {
-        let line = self.lines[at];
-        &self.fields[line.start..line.end]
     }
 }

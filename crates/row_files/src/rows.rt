@@ -1,55 +1,16 @@
-//! The rows of lines, from their fields.
-ghost use Rattle.std.specs.Prelude.{◌≡◌, ◌<◌, Some, codes, length, slice_get};
+//! The rows of lines, from what is kept of their fields.
+ghost use Rattle.std.specs.Prelude.{◌≡◌, ◌<◌, Some, length, slice_get};
 ghost use Rattle.std.specs.Option.{option_map};
 ghost use Rattle.guppy_packages.specs.Rows.{texts, row_text};
-ghost use Rattle.row_files.specs.RowOfLine.{choice, kind_of, platform_of, package_row, feature_row, dep_row, row_of};
+ghost use Rattle.row_files.specs.RowOfLine.{platform_of, row_of};
+ghost use Rattle.row_files.specs.inner.KeptFields.{form_row, dep_row_of};
 ghost use Rattle.row_files.specs.RowFile.{lines_of, rows_of};
 ghost use Rattle.row_files.specs.WellFormed.{AreWellFormed, rows_in};
 
 use crate::error::RowFileError;
+use crate::line::Form;
 use crate::lines::Lines;
 use guppy_packages::{DependencyKind, Row, RowSource};
-
-fn place(word: &str) -> Option<bool>
-    ensures { result ≡ choice (codes "workspace") (codes "external") word.now }
-{
-    match word {
-        "workspace" => Some(true),
-        "external" => Some(false),
-        _ => None,
-    }
-}
-
-fn need(word: &str) -> Option<bool>
-    ensures { result ≡ choice (codes "optional") (codes "required") word.now }
-{
-    match word {
-        "optional" => Some(true),
-        "required" => Some(false),
-        _ => None,
-    }
-}
-
-fn defaults(word: &str) -> Option<bool>
-    ensures { result ≡ choice (codes "default") (codes "nodefault") word.now }
-{
-    match word {
-        "default" => Some(true),
-        "nodefault" => Some(false),
-        _ => None,
-    }
-}
-
-fn kind(word: &str) -> Option<DependencyKind>
-    ensures { result ≡ kind_of word.now }
-{
-    match word {
-        "normal" => Some(DependencyKind::Normal),
-        "build" => Some(DependencyKind::Build),
-        "dev" => Some(DependencyKind::Development),
-        _ => None,
-    }
-}
 
 fn platform(text: &str) -> Option<&str>
     ensures { option_map (λ t. t.now) result ≡ platform_of text.now }
@@ -57,43 +18,18 @@ fn platform(text: &str) -> Option<&str>
     if text == "*" { None } else { Some(text) }
 }
 
-fn package<'a>(fields: &'a [&'a str]) -> Option<Row<'a>>
-    ensures { option_map row_text result ≡ package_row (texts fields.now) }
+/// The row of a dependency's kept fields.
+fn dep<'a>(
+    kind: DependencyKind,
+    optional: bool,
+    default_features: bool,
+    kept: &'a [&'a str],
+) -> Option<Row<'a>>
+    ensures { option_map row_text result ≡ dep_row_of kind optional default_features (texts kept.now) }
 {
-    let [id, at] = fields else {
+    let [name, target, at, features @ ..] = kept else {
         return None;
     };
-    let in_workspace = place(at)?;
-    Some(Row::Package { id, in_workspace })
-}
-
-fn feature<'a>(fields: &'a [&'a str]) -> Option<Row<'a>>
-    ensures { option_map row_text result ≡ feature_row (texts fields.now) }
-{
-    let [name, items @ ..] = fields else {
-        return None;
-    };
-    Some(Row::Feature { name, items })
-}
-
-fn dep<'a>(fields: &'a [&'a str]) -> Option<Row<'a>>
-    ensures { option_map row_text result ≡ dep_row (texts fields.now) }
-{
-    let [
-        name,
-        target,
-        of_kind,
-        needed,
-        at,
-        with_defaults,
-        features @ ..,
-    ] = fields
-    else {
-        return None;
-    };
-    let kind = kind(of_kind)?;
-    let optional = need(needed)?;
-    let default_features = defaults(with_defaults)?;
     Some(Row::Dep {
         name,
         target,
@@ -105,18 +41,25 @@ fn dep<'a>(fields: &'a [&'a str]) -> Option<Row<'a>>
     })
 }
 
-/// The row of a line's fields, unless they are malformed.
-fn row<'a>(fields: &'a [&'a str]) -> Option<Row<'a>>
-    ensures { option_map row_text result ≡ row_of (texts fields.now) }
+/// The row of what is kept of a line's fields, unless it is malformed.
+fn row<'a>(form: Form, kept: &'a [&'a str]) -> Option<Row<'a>>
+    ensures { option_map row_text result ≡ form_row form (texts kept.now) }
 {
-    let [word, rest @ ..] = fields else {
-        return None;
-    };
-    match *word {
-        "package" => package(rest),
-        "feature" => feature(rest),
-        "dep" => dep(rest),
-        _ => None,
+    match form {
+        Form::Malformed => None,
+        Form::Package { in_workspace } => match kept {
+            [id] => Some(Row::Package { id, in_workspace }),
+            _ => None,
+        },
+        Form::Feature => match kept {
+            [name, items @ ..] => Some(Row::Feature { name, items }),
+            [] => None,
+        },
+        Form::Dep {
+            kind,
+            optional,
+            default_features,
+        } => dep(kind, optional, default_features, kept),
     }
 }
 
@@ -125,7 +68,8 @@ fn row_at<'l>(lines: &'l Lines<'_>, at: usize) -> Option<Row<'l>>
     requires { at < length (lines_of lines.now) }
     ensures { option_map (λ line. row_of line.1) (slice_get (lines_of lines.now) at) ≡ Some (option_map row_text result) }
 {
-    row(lines.line_fields(at))
+    let line = lines.lines[at];
+    row(line.form, &lines.kept[line.start..line.end])
 }
 
 /// The rows of lines that are all well-formed. Each row is made when it is asked for.

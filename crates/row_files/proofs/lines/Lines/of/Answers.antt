@@ -1,32 +1,70 @@
-use Rattle.std.proofs.Common.{◌+◌, ◌≤◌, ◌++◌, length, append-nil, sym, ap, ◌∙◌, lit<, rules, arith}
-use Rattle.std.proofs.Math.ListN.{drop_of_length-le}
-use Rattle.std.proofs.lemmas.List.{length_push}
-use Rattle.std.proofs.lemmas.Iterator.Consumers.{YieldsList-at, YieldsList-turn, YieldsList-end}
-use Rattle.std.proofs.lemmas.Iterator.Splits.{YieldsList-from_str_split}
+use Rattle.std.proofs.Common.{◌≡◌, ◌+◌, ◌-◌, ◌++◌, [], ◌∷◌, length, take, drop, slice_index, sym, ap, ◌∙◌, arith, refl}
+use Rattle.std.proofs.lemmas.List.{map-append}
+use Rattle.std.proofs.lemmas.Str.{IsCharBoundary-start, IsCharBoundary-before_ascii, IsCharBoundary-after_ascii}
+use Rattle.guppy_packages.specs.Rows.{texts}
 use Rattle.row_files.specs.Lines.{kept_lines, lines_in}
 use Rattle.row_files.specs.RowFile.{lines_of}
-use Rattle.row_files.proofs.LineLemmas.{next_of, skipped_line, kept_line}
+use Rattle.row_files.specs.inner.CutLines.{kept_line}
+use Rattle.memchr.specs.Find.{is_byte2, places_between}
+use Rattle.row_files.proofs.CutLemmas.{begun, past_tab, past_feed, past_end}
+use Rattle.row_files.proofs.PlaceLemmas.{next_end, no_end, parted, ended_by_ascii, is_tab}
+use Rattle.row_files.proofs.lines.Lines.of.Goals.{then-bytes-end-eq10+in_ok-end_line, else-bytes-end-eq10}
 use Rattle.row_files.proofs.lines.Lines.of.Goals as goal
 
-pub loop-line-preserved-in_ok-push : goal.loop-line-preserved-in_ok-push
-loop-line-preserved-in_ok-push c =
-    let yields = YieldsList-at c.into_iter-line-iterator.ensures.into_iter_gives (YieldsList-from_str_split 10 c.args.text.now (lit< tt) c.split-line-items.ensures.text c.split-line-items.ensures.has_more c.split-line-items.ensures.pattern) in
-    let turn = YieldsList-turn yields c.loop-line.yielded _ c.loop-line.yielded_by _ _ c.in-Some.line c.in-Some.is c.next.ensures.steps in
-    let at = next_of (lines_in c.args.text.now) c.loop-line.number (length c.loop-line.yielded) c.in-Some.line.now c.loop-line.invariant.0 turn.0 turn.1 in
-    let counted = ap (λ n. n + 1) c.loop-line.invariant.0 ∙ sym (length_push c.loop-line.yielded c.in-Some.line) in
-    (counted, rw c.in_ok-push.ensures (kept_line _ (c.loop-line.number + 1) c.in-Some.line.now _ _ _ c.loop-line.invariant.1 at (search rules)))
+pub loop-end-init : goal.loop-end-init
+loop-end-init c =
+    let text = c.args.text.now in
+    let places : c.into_iter-end-iterator.result ≡ places_between (is_byte2 9 10) text 0 (length text) =
+    c.into_iter-end-iterator.ensures.into_iter_gives ∙ c.memchr2_iter-end-items.ensures.value ∙ ap (λ bs. places_between (is_byte2 9 10) bs 0 (length bs)) c.as_bytes-bytes.ensures.value in
+    (places, omega arith, omega arith, IsCharBoundary-start text c.utf8.text, rw (c.new.ensures.items, c.new-2.ensures.items, c.new-fields.ensures.items) (begun text))
 
-pub loop-line-preserved : goal.loop-line-preserved
-loop-line-preserved c =
-    let yields = YieldsList-at c.into_iter-line-iterator.ensures.into_iter_gives (YieldsList-from_str_split 10 c.args.text.now (lit< tt) c.split-line-items.ensures.text c.split-line-items.ensures.has_more c.split-line-items.ensures.pattern) in
-    let turn = YieldsList-turn yields c.loop-line.yielded _ c.loop-line.yielded_by _ _ c.in-Some.line c.in-Some.is c.next.ensures.steps in
-    let at = next_of (lines_in c.args.text.now) c.loop-line.number (length c.loop-line.yielded) c.in-Some.line.now c.loop-line.invariant.0 turn.0 turn.1 in
-    let counted = ap (λ n. n + 1) c.loop-line.invariant.0 ∙ sym (length_push c.loop-line.yielded c.in-Some.line) in
-    (counted, skipped_line _ (c.loop-line.number + 1) c.in-Some.line.now _ _ _ c.loop-line.invariant.1 at (search rules))
+pub range-requires-clause-start_le_end : goal.range-requires-clause-start_le_end
+range-requires-clause-start_le_end c =
+    let inv = c.loop-end.invariant in
+    (next_end c.args.text.now c.loop-end.start c.in-Some.end c.next.new.self inv.1 (sym inv.0 ∙ c.in-Some.ensures.steps)).0.low
+
+pub range-requires-clause-end_boundary : goal.range-requires-clause-end_boundary
+range-requires-clause-end_boundary c =
+    let inv = c.loop-end.invariant in
+    let ends = (next_end c.args.text.now c.loop-end.start c.in-Some.end c.next.new.self inv.1 (sym inv.0 ∙ c.in-Some.ensures.steps)).0 in
+    IsCharBoundary-before_ascii c.args.text.now c.in-Some.end ends.high (ended_by_ascii _ ends.ends)
+
+pub bounds-bytes-end : goal.bounds-bytes-end
+bounds-bytes-end c =
+    let inv = c.loop-end.invariant in
+    let ends = (next_end c.args.text.now c.loop-end.start c.in-Some.end c.next.new.self inv.1 (sym inv.0 ∙ c.in-Some.ensures.steps)).0 in
+    omega (arith, ends.high, ap length c.as_bytes-bytes.ensures.value)
+
+pub loop-end-preserved : goal.loop-end-preserved
+loop-end-preserved c =
+    let text = c.args.text.now in
+    let inv = c.loop-end.invariant in
+    let found = next_end text c.loop-end.start c.in-Some.end c.next.new.self inv.1 (sym inv.0 ∙ c.in-Some.ensures.steps) in
+    let ends = found.0 in
+    let after = IsCharBoundary-after_ascii text c.in-Some.end c.utf8.text ends.high (ended_by_ascii _ ends.ends) in
+    let byte : slice_index c.as_bytes-bytes.result.now c.in-Some.end ≡ slice_index text c.in-Some.end = ap (λ bs. slice_index bs c.in-Some.end) c.as_bytes-bytes.ensures.value in
+    let field = take (c.in-Some.end - c.loop-end.start) (drop c.loop-end.start text) in
+    let rest = drop (c.in-Some.end + 1) text in
+    let left : drop c.loop-end.start text ≡ field ++ slice_index text c.in-Some.end ∷ rest = parted text c.loop-end.start c.in-Some.end ends in
+    let added : texts c.push.new.self.items ≡ texts c.loop-end.fields.items ++ field ∷ [] =
+    ap texts c.in_ok-push.ensures.items ∙ map-append (λ t. t.now) c.loop-end.fields.items (c.range.result ∷ []) ∙ ap (λ t. texts c.loop-end.fields.items ++ t ∷ []) c.range.ensures.value in
+    elim c.if-bytes-end-eq10.branch [
+      then-bytes-end-eq10+in_ok-end_line w ↦
+        let feed : slice_index text c.in-Some.end ≡ 10 = sym byte ∙ w.if-bytes-end-eq10.true in
+        let past = past_feed (lines_of c.loop-end.lines) c.loop-end.number (texts c.loop-end.fields.items) (drop c.loop-end.start text) field (kept_lines 1 (lines_in text)) inv.4 ends.plain rest (left ∙ ap (λ b. field ++ b ∷ rest) feed) in
+        (found.1, omega (arith, ends.high), rw w.number-is (omega (arith, ends.low, inv.2)), after, rw (w.lines-is, w.fields-is, w.number-is, w.clear.ensures.items, w.in_ok-end_line.ensures, w.deref.ensures.value, added) past)
+    | else-bytes-end-eq10 w ↦
+        let tab : slice_index text c.in-Some.end ≡ 9 = is_tab _ ends.ends (λ feed. w.if-bytes-end-eq10.false (byte ∙ feed)) in
+        let past = past_tab (lines_of c.loop-end.lines) c.loop-end.number (texts c.loop-end.fields.items) (drop c.loop-end.start text) field (kept_lines 1 (lines_in text)) inv.4 ends.plain rest (left ∙ ap (λ b. field ++ b ∷ rest) tab) in
+        (found.1, omega (arith, ends.high), rw w.number-is (omega (arith, ends.low, inv.2)), after, rw (w.lines-is, w.fields-is, w.number-is, added) past)
+    ]
 
 pub returns : goal.returns
 returns c =
-    let yields = YieldsList-at c.into_iter-line-iterator.ensures.into_iter_gives (YieldsList-from_str_split 10 c.args.text.now (lit< tt) c.split-line-items.ensures.text c.split-line-items.ensures.has_more c.split-line-items.ensures.pattern) in
-    let end = YieldsList-end yields c.loop-line.yielded _ c.loop-line.yielded_by _ _ c.in-None.is c.next.ensures.steps in
-    let past : length (lines_in c.args.text.now) ≤ c.loop-line.number = omega (arith, end.1, c.loop-line.invariant.0) in
-    sym (append-nil (lines_of c.loop-line.lines)) ∙ ap (λ ls. lines_of c.loop-line.lines ++ kept_lines (c.loop-line.number + 1) ls) (sym (drop_of_length-le (lines_in c.args.text.now) past)) ∙ c.loop-line.invariant.1
+    let text = c.args.text.now in
+    let inv = c.loop-end.invariant in
+    let plain = no_end text c.loop-end.start inv.1 (sym inv.0 ∙ c.in-None.ensures.steps.0) in
+    let added : texts c.push-2.new.self.items ≡ texts c.loop-end.fields.items ++ drop c.loop-end.start text ∷ [] =
+    ap texts c.in_ok-push-2.ensures.items ∙ map-append (λ t. t.now) c.loop-end.fields.items (c.range_from.result ∷ []) ∙ ap (λ t. texts c.loop-end.fields.items ++ t ∷ []) c.range_from.ensures.value in
+    c.in_ok-end_line-2.ensures ∙ ap (λ fs. lines_of c.loop-end.lines ++ kept_line c.loop-end.number fs) (ap texts c.deref-2.ensures.value ∙ added)
+    ∙ past_end (lines_of c.loop-end.lines) c.loop-end.number (texts c.loop-end.fields.items) (drop c.loop-end.start text) (drop c.loop-end.start text) (kept_lines 1 (lines_in text)) inv.4 plain refl

@@ -1,0 +1,35 @@
+-- The forms of lines: how all fields of a line come from those that are kept.
+use Rattle.std.specs.Prelude.{ℕ, List, [], ◌∷◌, Bool, true, false, codes, map}
+use Rattle.std.specs.List.{slice_range}
+use Rattle.guppy_packages.specs.Rows.{Text}
+use Rattle.guppy_packages.specs.declared.row.DependencyKind.{DependencyKind}
+use Rattle.guppy_packages.specs.declared.row.DependencyKind.TheVariants.{Normal, Build, Development}
+use Rattle.row_files.specs.declared.line.Form.{Form}
+use Rattle.row_files.specs.declared.line.Form.TheVariants as form
+use Rattle.row_files.specs.declared.line.Line.{Line}
+
+-- one of two words
+abbrev pub word_of : Text → Text → Bool → Text
+word_of true_word false_word true = true_word
+word_of true_word false_word false = false_word
+
+abbrev pub kind_word : DependencyKind → Text
+kind_word Normal = codes "normal"
+kind_word Build = codes "build"
+kind_word Development = codes "dev"
+
+-- the fields of a line of this form
+abbrev pub fields_of : Form → List Text → List Text
+fields_of form.Malformed kept = kept
+fields_of (form.Package in_workspace) (id ∷ []) = codes "package" ∷ id ∷ word_of (codes "workspace") (codes "external") in_workspace ∷ []
+fields_of form.Feature kept = codes "feature" ∷ kept
+fields_of (form.Dep kind optional defaults) (name ∷ target ∷ platform ∷ features) =
+    codes "dep" ∷ name ∷ target ∷ kind_word kind ∷ word_of (codes "optional") (codes "required") optional ∷ platform ∷ word_of (codes "default") (codes "nodefault") defaults ∷ features
+fields_of _ _ = []
+
+-- a line whose kept fields stand at its places among those of all lines
+abbrev pub line_text : List Text → Line → ℕ × List Text
+line_text kept line = (line.number, fields_of line.form (slice_range kept line.start line.end))
+
+abbrev pub line_texts : List Text → List Line → List (ℕ × List Text)
+line_texts kept = map (line_text kept)

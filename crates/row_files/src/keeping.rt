@@ -1,0 +1,42 @@
+//! Keeping the fields of a line that its row speaks of.
+ghost use Rattle.std.specs.Prelude.{◌≡◌, ◌++◌, length, take, OnOk};
+ghost use Rattle.guppy_packages.specs.Rows.{texts};
+ghost use Rattle.row_files.specs.inner.KeptFields.{dep_kept, kept_of};
+
+use crate::line::Form;
+use std::alloc::AllocError;
+
+/// Adds a dependency's fields.
+fn keep_dep<'t>(kept: &mut Vec<&'t str>, fields: &[&'t str]) -> Result<(), AllocError>
+    ensures added { OnOk result (texts kept.new.items ≡ texts kept.old.items ++ dep_kept (texts fields.now)) }
+    ensures grows { take (length kept.old.items) kept.new.items ≡ kept.old.items }
+{
+    let [_, name, target, _, _, platform, _, features @ ..] = fields else {
+        return Ok(());
+    };
+    kept.extend_from_slice(&[*name, *target, *platform])?;
+    kept.extend_from_slice(features)
+}
+
+/// Adds what is kept of the fields of a line of this form.
+pub(crate) fn keep<'t>(
+    kept: &mut Vec<&'t str>,
+    form: Form,
+    fields: &[&'t str],
+) -> Result<(), AllocError>
+    ensures added { OnOk result (texts kept.new.items ≡ texts kept.old.items ++ kept_of form (texts fields.now)) }
+    ensures grows { take (length kept.old.items) kept.new.items ≡ kept.old.items }
+{
+    match form {
+        Form::Malformed => kept.extend_from_slice(fields),
+        Form::Package { .. } => match fields {
+            [_, id, _] => kept.extend_from_slice(&[*id]),
+            _ => Ok(()),
+        },
+        Form::Feature => match fields {
+            [_, others @ ..] => kept.extend_from_slice(others),
+            [] => Ok(()),
+        },
+        Form::Dep { .. } => keep_dep(kept, fields),
+    }
+}
