@@ -158,6 +158,6 @@ module _ (name : Text) where
       cut names numbers first (end - first) long (omega (arith, l, within))
       (λ k d m. equal_by name (get_or names k d).now ∙ by_less _ (sym (ap (is_below name) (get_or-take end names k d (omega (arith, m, l)))) ∙ low.0 k d (omega arith) m))
       (λ k d m o.
-        let n : k < end = omega (arith, o, l) in
-        equal_by name (get_or names k d).now ∙ by_neither _ (sym (ap (is_below name) (get_or-take end names k d n)) ∙ low.1 k d m (omega (arith, n, length-take-le end names within))) (high.0 k d (omega arith) n))
+      let n : k < end = omega (arith, o, l) in
+      equal_by name (get_or names k d).now ∙ by_neither _ (sym (ap (is_below name) (get_or-take end names k d n)) ∙ low.1 k d m (omega (arith, n, length-take-le end names within))) (high.0 k d (omega arith) n))
       (λ k d m o. equal_by name (get_or names k d).now ∙ by_greater _ (high.1 k d (omega (arith, m, l)) o))

@@ -35,7 +35,10 @@ impl<'g> NamedRow<'g> {
     ghost use Rattle.feature_core.specs.inner.NamedLinks.{entries_of};
 
     /// The row of entries that are sorted by name.
-    pub(crate) fn of(alloc: Global, entries: &[(&'g str, usize)]) -> Result<NamedRow<'g>, AllocError>
+    pub(crate) fn of(
+        alloc: Global,
+        entries: &[(&'g str, usize)],
+    ) -> Result<NamedRow<'g>, AllocError>
         requires { IsSortedByKey (λ e. e.0.now) (slice_cmp nat_cmp) entries.now }
         ensures { IfOk result (λ row. entries_of row ≡ entries.now) }
     {

@@ -15,9 +15,8 @@ loop-ix-preserved c =
     let row = c.in_ok-row.row in
     let items = c.in_ok-push.ensures.items in
     let here : (d : Text) → numbers_named d (entries_of row) ≡ link_numbers t n d = λ d.
-        c.in_ok-row.ensures d ∙ ap (λ g. link_numbers g (package_number_of c.package.result) d) c.package.ensures.graph ∙ ap (λ z. link_numbers t z d) c.package.ensures.number in
-    let long : length rows ≡ n = c.loop-ix.invariant.0 in
-    (
+    c.in_ok-row.ensures d ∙ ap (λ g. link_numbers g (package_number_of c.package.result) d) c.package.ensures.graph ∙ ap (λ z. link_numbers t z d) c.package.ensures.number in
+    let long : length rows ≡ n = c.loop-ix.invariant.0 in (
       ap length items ∙ length-append rows (row ∷ []) ∙ ap (λ z. z + 1) long,
       λ p d l. ap (λ z. rows_under z p d) items ∙ rows_next t rows row n long c.loop-ix.invariant.1 here p d l,
     )
