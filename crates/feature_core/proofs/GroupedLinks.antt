@@ -1,136 +1,22 @@
--- Lists under a package and a name, as a map changes.
-use Rattle.std.proofs.Common.{◌≡◌, ℕ, zero, suc, ◌+◌, List, [], ◌∷◌, ◌++◌, Bool, true, false, cond, not, Option, None, Some, map, length, take, refl, ap, sym, ◌∙◌, subst, arith, if◌then◌else◌, is_some, Vec, Global}
-use Rattle.std.specs.Prelude.{slice_get, position, nat_lt, ◌&&◌, ◌==◌, filter}
+-- Links under a package and a name, as rows of packages are made.
+use Rattle.std.proofs.Common.{◌≡◌, ℕ, zero, suc, ◌+◌, ◌-◌, ◌<◌, ◌≤◌, ◌⊎◌, ⊎_elim, List, [], ◌∷◌, ◌++◌, Bool, true, false, cond, None, Some, map, length, take, refl, ap, sym, ◌∙◌, arith, if◌then◌else◌, add-one}
+use Rattle.std.specs.Prelude.{slice_get, ◌&&◌, ◌==◌, filter}
 use Rattle.std.specs.Borrow.{Bor}
-use Rattle.std.specs.List.{position_or_len}
-use Rattle.std.specs.Map.{lookup, keys_of, values_of}
 use Rattle.std.specs.Option.{option_map_or}
 use Rattle.std.specs.Str.{bytes_eq}
 use Rattle.std.specs.Cmp.Lexicographic.{bytes_decides}
 use Rattle.std.proofs.lemmas.Bool.Decides.{nat_tests}
 use Rattle.std.proofs.lemmas.List.{map-append}
-use Rattle.indexmap.specs.Layout.{set_value_at}
-use Rattle.indexmap.proofs.MapLemmas.{some_index}
 use Rattle.guppy_packages.specs.Rows.{Text}
-use Rattle.guppy_packages.specs.Tables.{LinkTable, Tables}
+use Rattle.guppy_packages.specs.Tables.{LinkTable, Tables, AreTables}
 use Rattle.feature_core.specs.Links.{numbered}
-use Rattle.feature_core.specs.inner.NamedLinks.{link_numbers}
+use Rattle.feature_core.specs.declared.named_row.NamedRow.{NamedRow}
+use Rattle.feature_core.specs.inner.NamedEntries.{numbers_named}
+use Rattle.feature_core.specs.inner.NamedLinks.{entries_of, link_numbers}
 use Rattle.feature_core.proofs.NodeLemmas.{take-next, take-all, append-none}
-
-abbrev pub is_under : ℕ → Text → ℕ × Bor (List ℕ) → Bool
-is_under p d k = (p == k.0) && bytes_eq d k.1.now
-
-abbrev pub Entries : Type 0
-Entries = List ((ℕ × Bor (List ℕ)) × Vec ℕ Global)
-
-abbrev pub found_numbers : ℕ → Text → Entries → List ℕ
-found_numbers p d es = option_map_or (λ v. v.items) (lookup (is_under p d) es) []
 
 same_number : (m n : ℕ) → (m == n) ≡ true → m ≡ n
 same_number m n h = grind (arith, nat_tests)
-
-two : (a b : Bool) → a && b ≡ true → (a ≡ true) × (b ≡ true)
-two true b h = (refl, h)
-two false b h = cc
-
--- a key that passes for one package and name has them
-has_parts : (p : ℕ) (d : Text) (k : ℕ × Bor (List ℕ)) → is_under p d k ≡ true → (p ≡ k.0) × (d ≡ k.1.now)
-has_parts p d k h = let t = two (p == k.0) (bytes_eq d k.1.now) h in (same_number p k.0 t.0, (bytes_decides d k.1.now).0 t.1)
-
-module _ (from : ℕ) (name : Text) (x : ℕ) where
-  abbrev pub one_more : ℕ → Text → List ℕ → List ℕ
-  one_more p d xs = if (p == from) && bytes_eq d name then xs ++ x ∷ [] else xs
-
-  -- a key of another package or name
-  other_key : (p : ℕ) (d : Text) (k : ℕ × Bor (List ℕ)) → is_under from name k ≡ false → is_under p d k ≡ true → (p == from) && bytes_eq d name ≡ false
-  other_key p d k failed passed = go ((p == from) && bytes_eq d name) refl
-    where
-      go : (b : Bool) → (p == from) && bytes_eq d name ≡ b → b ≡ false
-      go false e = refl
-      go true e =
-          let t = two (p == from) (bytes_eq d name) e in
-          let same_p : p ≡ from = same_number p from t.0 in
-          let same_d : d ≡ name = (bytes_decides d name).0 t.1 in
-          let passes : is_under from name k ≡ true = subst (λ z. is_under z name k ≡ true) same_p (subst (λ z. is_under p z k ≡ true) same_d passed) in
-          sym passes ∙ failed
-
-  -- the key of this package and name
-  this_key : (p : ℕ) (d : Text) (k : ℕ × Bor (List ℕ)) → is_under from name k ≡ true → is_under p d k ≡ ((p == from) && bytes_eq d name)
-  this_key p d k h = let e = has_parts from name k h in ap (λ z. (p == z) && bytes_eq d k.1.now) (sym e.0) ∙ ap (λ z. (p == from) && bytes_eq d z) (sym e.1)
-
-  written : (es : Entries) (i : ℕ) (v w : Vec ℕ Global) → position_or_len (is_under from name) (keys_of es) ≡ i → slice_get (values_of es) i ≡ Some v → w.items ≡ v.items ++ x ∷ []
-      → (p : ℕ) (d : Text) → found_numbers p d (set_value_at es i w) ≡ one_more p d (found_numbers p d es)
-  written [] i v w at g e p d = cc
-  written (k ∷ es) i v w at g e p d = go (is_under from name k.0) refl i at g (λ j a b. written es j v w a b e p d)
-    where
-      here : (b : Bool) → is_under from name k.0 ≡ true → is_under p d k.0 ≡ b → k.1 ≡ v → option_map_or (λ z. z.items) (cond b (Some w) (lookup (is_under p d) es)) [] ≡ one_more p d (option_map_or (λ z. z.items) (cond b (Some k.1) (lookup (is_under p d) es)) [])
-      here true t u s =
-          let passes : (p == from) && bytes_eq d name ≡ true = sym (this_key p d k.0 t) ∙ u in
-          e ∙ ap (λ z. z.items ++ x ∷ []) (sym s) ∙ sym (ap (λ b. if b then k.1.items ++ x ∷ [] else k.1.items) passes)
-      here false t u s =
-          let fails : (p == from) && bytes_eq d name ≡ false = sym (this_key p d k.0 t) ∙ u in
-          let xs : List ℕ = found_numbers p d es in
-          sym (ap (λ b. if b then xs ++ x ∷ [] else xs) fails)
-
-      there : (b : Bool) (j : ℕ) → is_under from name k.0 ≡ false → is_under p d k.0 ≡ b → found_numbers p d (set_value_at es j w) ≡ one_more p d (found_numbers p d es)
-          → option_map_or (λ z. z.items) (cond b (Some k.1) (lookup (is_under p d) (set_value_at es j w))) [] ≡ one_more p d (option_map_or (λ z. z.items) (cond b (Some k.1) (lookup (is_under p d) es)) [])
-      there true j t u more = sym (ap (λ b. if b then k.1.items ++ x ∷ [] else k.1.items) (other_key p d k.0 t u))
-      there false j t u more = more
-
-      go : (b : Bool) → is_under from name k.0 ≡ b → (j : ℕ) → cond (not b) (1 + position_or_len (is_under from name) (keys_of es)) 0 ≡ j → slice_get (values_of (k ∷ es)) j ≡ Some v
-          → ((j : ℕ) → position_or_len (is_under from name) (keys_of es) ≡ j → slice_get (values_of es) j ≡ Some v → found_numbers p d (set_value_at es j w) ≡ one_more p d (found_numbers p d es))
-          → found_numbers p d (set_value_at (k ∷ es) j w) ≡ one_more p d (found_numbers p d (k ∷ es))
-      go true t zero a b more = let s : k.1 ≡ v = cc in here (is_under p d k.0) t refl s
-      go true t (suc j) a b more = absurd (omega arith)
-      go false t zero a b more = absurd (omega arith)
-      go false t (suc j) a b more = there (is_under p d k.0) j t refl (more j (omega arith) b)
-
-  added : (es : Entries) (key : ℕ × Bor (List ℕ)) (w : Vec ℕ Global) → lookup (is_under from name) es ≡ None → key.0 ≡ from → key.1.now ≡ name → w.items ≡ x ∷ []
-      → (p : ℕ) (d : Text) → found_numbers p d (es ++ (key, w) ∷ []) ≡ one_more p d (found_numbers p d es)
-  added [] key w none f n e p d = go (is_under p d key) refl
-    where
-      same : is_under p d key ≡ ((p == from) && bytes_eq d name)
-      same = ap (λ z. (p == z) && bytes_eq d key.1.now) f ∙ ap (λ z. (p == from) && bytes_eq d z) n
-
-      go : (b : Bool) → is_under p d key ≡ b → option_map_or (λ z. z.items) (cond b (Some w) None) [] ≡ one_more p d []
-      go true t = e ∙ sym (ap (λ b. if b then x ∷ [] else []) (sym same ∙ t))
-      go false t = sym (ap (λ b. if b then x ∷ [] else []) (sym same ∙ t))
-  added (k ∷ es) key w none f n e p d = go (is_under from name k.0) refl none (λ z. added es key w z f n e p d)
-    where
-      there : (b : Bool) → is_under from name k.0 ≡ false → is_under p d k.0 ≡ b → found_numbers p d (es ++ (key, w) ∷ []) ≡ one_more p d (found_numbers p d es)
-          → option_map_or (λ z. z.items) (cond b (Some k.1) (lookup (is_under p d) (es ++ (key, w) ∷ []))) [] ≡ one_more p d (option_map_or (λ z. z.items) (cond b (Some k.1) (lookup (is_under p d) es)) [])
-      there true t u more = sym (ap (λ b. if b then k.1.items ++ x ∷ [] else k.1.items) (other_key p d k.0 t u))
-      there false t u more = more
-
-      go : (b : Bool) → is_under from name k.0 ≡ b → cond b (Some k.1) (lookup (is_under from name) es) ≡ None → (lookup (is_under from name) es ≡ None → found_numbers p d (es ++ (key, w) ∷ []) ≡ one_more p d (found_numbers p d es))
-          → found_numbers p d (k ∷ es ++ (key, w) ∷ []) ≡ one_more p d (found_numbers p d (k ∷ es))
-      go true t a more = cc
-      go false t a more = there (is_under p d k.0) t refl (more a)
-
-  position_or_len-of : (es : Entries) (i : ℕ) → position (is_under from name) (keys_of es) ≡ Some i → position_or_len (is_under from name) (keys_of es) ≡ i
-  position_or_len-of es i h = go (nat_lt (position_or_len (is_under from name) (keys_of es)) (length (keys_of es))) h
-    where
-      go : (b : Bool) → cond b (Some (position_or_len (is_under from name) (keys_of es))) None ≡ Some i → position_or_len (is_under from name) (keys_of es) ≡ i
-      go true h = cc
-      go false h = cc
-
-  -- a number is pushed to the list at the index of a package and a name
-  pub pushed_under : (es : Entries) (i : ℕ) (v w : Vec ℕ Global) → Some i ≡ position (is_under from name) (keys_of es) → slice_get (values_of es) i ≡ Some v → w.items ≡ v.items ++ x ∷ []
-      → (p : ℕ) (d : Text) → found_numbers p d (set_value_at es i w) ≡ one_more p d (found_numbers p d es)
-  pushed_under es i v w at g e p d = written es i v w (position_or_len-of es i (sym at)) g e p d
-
-  none_of : {X : Type 0} (o : Option X) → is_some o ≡ false → o ≡ None
-  none_of None h = refl
-  none_of (Some x) h = cc
-
-  -- where there is no index, there is no list
-  pub nothing_under : (es : Entries) → None ≡ position (is_under from name) (keys_of es) → lookup (is_under from name) es ≡ None
-  nothing_under es h = none_of _ (sym (some_index (is_under from name) es) ∙ ap is_some (sym h))
-
-  -- a list of one number is added for a package and a name that had none
-  pub added_under : (es : Entries) (key : ℕ × Bor (List ℕ)) (w : Vec ℕ Global) → None ≡ position (is_under from name) (keys_of es) → key.0 ≡ from → key.1.now ≡ name → w.items ≡ x ∷ []
-      → (p : ℕ) (d : Text) → found_numbers p d (es ++ (key, w) ∷ []) ≡ one_more p d (found_numbers p d es)
-  added_under es key w h f n e p d = added es key w (nothing_under es h) f n e p d
 
 -- the links before number n, as far as they leave p under a name
 abbrev pub numbers_before : Tables → ℕ → ℕ → Text → List ℕ
@@ -186,15 +72,107 @@ numbers_next t n link p d h =
     last true e = sym (ap (λ b. if b then numbers_before t n p d ++ n ∷ [] else numbers_before t n p d) (sym swapped ∙ e))
     last false e = append-none (map (λ l. l.0) before_kept) ∙ sym (ap (λ b. if b then numbers_before t n p d ++ n ∷ [] else numbers_before t n p d) (sym swapped ∙ e))
 
--- the numbers of one more link are noted
-pub noted_next : (t : Tables) (n from : ℕ) (name : Text) (link : LinkTable) (p : ℕ) (d : Text) (before after : List ℕ) → slice_get t.links n ≡ Some link → from ≡ link.from → name ≡ link.name
-    → before ≡ numbers_before t n p d → after ≡ (if (p == from) && bytes_eq d name then before ++ n ∷ [] else before) → after ≡ numbers_before t (n + 1) p d
-noted_next t n from name link p d before after h f e b a =
-    a ∙ ap (λ z. if (p == z) && bytes_eq d name then before ++ n ∷ [] else before) f
-    ∙ ap (λ z. if (p == link.from) && bytes_eq d z then before ++ n ∷ [] else before) e
-    ∙ ap (λ z. if (p == link.from) && bytes_eq d link.name then z ++ n ∷ [] else z) b
-    ∙ sym (numbers_next t n link p d h)
+others : (b : Bool) (c : Bool) (xs ys : List ℕ) → b ≡ false → (if b && c then ys else xs) ≡ xs
+others true c xs ys h = cc
+others false c xs ys h = refl
 
--- those before the end are all
-pub numbers_all : (t : Tables) (n p : ℕ) (d : Text) → n ≡ length t.links → numbers_before t n p d ≡ link_numbers t p d
-numbers_all t n p d e = ap (λ z. numbers_before t z p d) e ∙ ap (λ z. map (λ l. l.0) (filter (λ l. (l.1.from == p) && bytes_eq l.1.name d) (numbered 0 z))) (take-all t.links)
+differs : (p q : ℕ) → (q ≡ p → ⊥) → (p == q) ≡ false
+differs p q apart = go (p == q) refl
+  where
+    go : (b : Bool) → (p == q) ≡ b → b ≡ false
+    go false e = refl
+    go true e = absurd (apart (sym (same_number p q e)))
+
+-- a link that doesn't leave p adds none
+others_pass : (t : Tables) (p : ℕ) (d : Text) (n : ℕ) (link : LinkTable) → slice_get t.links n ≡ Some link → (link.from ≡ p → ⊥) → numbers_before t (n + 1) p d ≡ numbers_before t n p d
+others_pass t p d n link h apart = numbers_next t n link p d h ∙ others (p == link.from) (bytes_eq d link.name) (numbers_before t n p d) (numbers_before t n p d ++ n ∷ []) (differs p link.from apart)
+
+there : {X : Type 0} (xs : List X) (k : ℕ) → k < length xs → (x : X) × (slice_get xs k ≡ Some x)
+there [] k l = absurd (omega (arith, l))
+there (x ∷ xs) zero l = (x, refl)
+there (x ∷ xs) (suc k) l = there xs k (omega (arith, l))
+
+-- links that don't leave p add none
+pub none_before : (t : Tables) (p : ℕ) (d : Text) (n : ℕ) → n ≤ length t.links → ((k : ℕ) (link : LinkTable) → k < n → slice_get t.links k ≡ Some link → link.from ≡ p → ⊥) → numbers_before t n p d ≡ []
+none_before t p d zero within apart = refl
+none_before t p d (suc n) within apart =
+    let at = there t.links n (omega (arith, within)) in
+    ap (λ z. numbers_before t z p d) (sym (add-one n)) ∙ others_pass t p d n at.0 at.1 (λ e. apart n at.0 (omega arith) at.1 e) ∙ none_before t p d n (omega (arith, within)) (λ k link l h e. apart k link (omega (arith, l)) h e)
+
+-- links from number n on that don't leave p add none
+none_after : (t : Tables) (p : ℕ) (d : Text) (more n : ℕ) → n + more ≡ length t.links → ((k : ℕ) (link : LinkTable) → n ≤ k → slice_get t.links k ≡ Some link → link.from ≡ p → ⊥) → numbers_before t n p d ≡ numbers_before t (length t.links) p d
+none_after t p d zero n long apart = ap (λ z. numbers_before t z p d) (omega (arith, long))
+none_after t p d (suc more) n long apart =
+    let at = there t.links n (omega (arith, long)) in
+    sym (others_pass t p d n at.0 at.1 (λ e. apart n at.0 (omega arith) at.1 e)) ∙ none_after t p d more (n + 1) (omega (arith, long)) (λ k link l h e. apart k link (omega (arith, l)) h e)
+
+-- all of p's links stand before number n
+pub all_before : (t : Tables) (p : ℕ) (d : Text) (n : ℕ) → n ≤ length t.links → ((k : ℕ) (link : LinkTable) → n ≤ k → slice_get t.links k ≡ Some link → link.from ≡ p → ⊥) → numbers_before t n p d ≡ link_numbers t p d
+all_before t p d n within apart =
+    none_after t p d (length t.links - n) n (omega (arith, within)) apart
+    ∙ ap (λ z. map (λ l. l.0) (filter (λ l. (l.1.from == p) && bytes_eq l.1.name d) (numbered 0 z))) (take-all t.links)
+
+-- no link leaves p
+pub no_numbers : (t : Tables) (p : ℕ) (d : Text) → ((k : ℕ) (link : LinkTable) → slice_get t.links k ≡ Some link → link.from ≡ p → ⊥) → link_numbers t p d ≡ []
+no_numbers t p d apart = sym (all_before t p d (length t.links) (omega arith) (λ k link l h e. apart k link h e)) ∙ none_before t p d (length t.links) (omega arith) (λ k link l h e. apart k link h e)
+
+numbers_named_next : (d : Text) (entries : List (Bor (List ℕ) × ℕ)) (e : Bor (List ℕ) × ℕ) → numbers_named d (entries ++ e ∷ []) ≡ (if bytes_eq d e.0.now then numbers_named d entries ++ e.1 ∷ [] else numbers_named d entries)
+numbers_named_next d entries e = ap (map (λ x. x.1)) (filter-append (λ x. bytes_eq d x.0.now) entries (e ∷ [])) ∙ map-append (λ x. x.1) (filter (λ x. bytes_eq d x.0.now) entries) (filter (λ x. bytes_eq d x.0.now) (e ∷ [])) ∙ last (bytes_eq d e.0.now)
+  where
+    last : (b : Bool) → numbers_named d entries ++ map {A = Bor (List ℕ) × ℕ} (λ x. x.1) (cond b (e ∷ []) []) ≡ (if b then numbers_named d entries ++ e.1 ∷ [] else numbers_named d entries)
+    last true = refl
+    last false = append-none (numbers_named d entries)
+
+-- one more link of p stands beside its name
+pub noted_next : (t : Tables) (n p : ℕ) (link : LinkTable) (d : Text) (entries : List (Bor (List ℕ) × ℕ)) (e : Bor (List ℕ) × ℕ) → slice_get t.links n ≡ Some link → link.from ≡ p → e.0.now ≡ link.name → e.1 ≡ n
+    → numbers_named d entries ≡ numbers_before t n p d → numbers_named d (entries ++ e ∷ []) ≡ numbers_before t (n + 1) p d
+noted_next t n p link d entries e h from name number before =
+    numbers_named_next d entries e
+    ∙ ap (λ z. if bytes_eq d z then numbers_named d entries ++ e.1 ∷ [] else numbers_named d entries) name
+    ∙ ap (λ z. if bytes_eq d link.name then numbers_named d entries ++ z ∷ [] else numbers_named d entries) number
+    ∙ ap (λ z. if bytes_eq d link.name then z ++ n ∷ [] else z) before
+    ∙ ap (λ b. if b && bytes_eq d link.name then numbers_before t n p d ++ n ∷ [] else numbers_before t n p d) (sym same)
+    ∙ sym (numbers_next t n link p d h)
+  where
+    same : (p == link.from) ≡ true
+    same = grind (arith, nat_tests, from)
+
+-- the rows of packages, one more at the end
+abbrev pub rows_under : List NamedRow → ℕ → Text → List ℕ
+rows_under rows p d = option_map_or (λ row. numbers_named d (entries_of row)) (slice_get rows p) []
+
+pub rows_next : (t : Tables) (rows : List NamedRow) (row : NamedRow) (n : ℕ) → length rows ≡ n → ((p : ℕ) (d : Text) → p < n → rows_under rows p d ≡ link_numbers t p d) → ((d : Text) → numbers_named d (entries_of row) ≡ link_numbers t n d)
+    → (p : ℕ) (d : Text) → p < n + 1 → rows_under (rows ++ row ∷ []) p d ≡ link_numbers t p d
+rows_next t rows row n long before here p d l = ⊎_elim
+    (λ m. ap (λ o. option_map_or (λ r. numbers_named d (entries_of r)) o []) (earlier rows p (omega (arith, m, long))) ∙ before p d m)
+    (λ e. ap (λ o. option_map_or (λ r. numbers_named d (entries_of r)) o []) (at_end rows p (e ∙ sym long)) ∙ here d ∙ ap (λ z. link_numbers t z d) (sym e))
+    (below_or p n l)
+  where
+    below_or : (a b : ℕ) → a < b + 1 → (a < b) ⊎ (a ≡ b)
+    below_or a b l = grind arith
+
+    earlier : (rows : List NamedRow) (p : ℕ) → p < length rows → slice_get (rows ++ row ∷ []) p ≡ slice_get rows p
+    earlier [] p l = absurd (omega (arith, l))
+    earlier (r ∷ rows) zero l = refl
+    earlier (r ∷ rows) (suc p) l = earlier rows p (omega (arith, l))
+
+    at_end : (rows : List NamedRow) (p : ℕ) → p ≡ length rows → slice_get (rows ++ row ∷ []) p ≡ Some row
+    at_end [] zero e = refl
+    at_end [] (suc p) e = absurd (omega (arith, e))
+    at_end (r ∷ rows) zero e = absurd (omega (arith, e))
+    at_end (r ∷ rows) (suc p) e = at_end rows p (omega (arith, e))
+
+past_end : {X : Type 0} (xs : List X) (p : ℕ) → length xs ≤ p → slice_get xs p ≡ None
+past_end [] p l = refl
+past_end (x ∷ xs) zero l = absurd (omega (arith, l))
+past_end (x ∷ xs) (suc p) l = past_end xs p (omega (arith, l))
+
+-- no package past the last one has links
+pub rows_all : (t : Tables) (tables : AreTables t) (rows : List NamedRow) → length rows ≡ length t.packages → ((p : ℕ) (d : Text) → p < length t.packages → rows_under rows p d ≡ link_numbers t p d) → (p : ℕ) (d : Text) → rows_under rows p d ≡ link_numbers t p d
+rows_all t tables rows long each p d = ⊎_elim
+    (λ l. each p d l)
+    (λ l. ap (λ o. option_map_or (λ r. numbers_named d (entries_of r)) o []) (past_end rows p (omega (arith, l, long))) ∙ sym (no_numbers t p d (λ k link h e. let m = (tables.ends k link h).0 in omega (arith, m, l, e))))
+    (below_or p (length t.packages))
+  where
+    below_or : (a b : ℕ) → (a < b) ⊎ (b ≤ a)
+    below_or a b = grind arith

@@ -5,6 +5,7 @@ pub mod OpenWays
 pub mod ChosenWays
 pub mod Releases
 pub mod Asking
+pub mod NamedEntries
 pub mod NamedLinks
 pub mod Collected
 pub mod Made

@@ -20,6 +20,7 @@ mod key;
 pub mod laws;
 mod link;
 mod named_links;
+mod named_row;
 mod near_keys;
 mod nodes;
 mod numbers;

@@ -1,52 +1,67 @@
 //! The links of each package under each name.
-ghost use Rattle.std.specs.Prelude.{◌≡◌, ◌++◌, ◌∷◌, [], ◌==◌, ◌&&◌, ℕ, IfOk, OnOk, if◌then◌else◌};
-ghost use Rattle.std.specs.Str.{bytes_eq};
+ghost use Rattle.std.specs.Prelude.{◌≡◌, IfOk, OnOk};
+ghost use Rattle.std.specs.List.Sorted.{IsSortedByKey};
+ghost use Rattle.std.specs.Cmp.Lexicographic.{slice_cmp};
+ghost use Rattle.std.specs.Ordering.{nat_cmp};
+ghost use Rattle.guppy_packages.specs.Metadata.{package_graph_of, package_number_of};
 ghost use Rattle.guppy_packages.specs.Rows.{Text};
-ghost use Rattle.feature_core.specs.inner.NamedLinks.{numbers_under, AreNamedLinks};
+ghost use Rattle.feature_core.specs.inner.NamedEntries.{numbers_named};
+ghost use Rattle.feature_core.specs.inner.NamedLinks.{AreNamedLinks, entries_of, link_numbers, numbers_under};
 
-use crate::text_map::TextMap;
-use guppy_packages::PackageGraph;
-use indexmap::IndexMap;
+use crate::named_row::NamedRow;
+use guppy_packages::{PackageGraph, PackageMetadata};
 use std::alloc::{AllocError, Global};
-use std::hash::BuildHasherDefault;
 
-/// The numbers of the links of each package under each name, ascending.
-pub(crate) type LinkGroups<'g> = TextMap<(usize, &'g str), Vec<usize>>;
+/// The links of each package by name.
+pub(crate) type LinkGroups<'g> = Vec<NamedRow<'g>>;
 
-/// Appends a number to the list of a package and a name.
-fn note<'g>(
-    alloc: Global,
-    groups: &mut LinkGroups<'g>,
-    from: usize,
-    name: &'g str,
-    link: usize,
+/// Puts the links of a package beside their names, ascending.
+fn fill_entries<'g>(
+    entries: &mut Vec<(&'g str, usize)>,
+    package: PackageMetadata<'g>,
 ) -> Result<(), AllocError>
-    ensures { OnOk result ((p : ℕ) (d : Text) → numbers_under groups.new p d ≡ (if (p == from) && bytes_eq d name.now then numbers_under groups.old p d ++ link ∷ [] else numbers_under groups.old p d)) }
+    ensures { OnOk result ((name : Text) → numbers_named name entries.new.items ≡ link_numbers (package_graph_of «package».entry) (package_number_of «package».entry) name) }
 {
-    if let Some(at) = groups.get_index_of(&(from, name)) {
-        groups[at].push(link)?;
-        return Ok(());
+    let graph = package.graph();
+    let links = package.direct_links();
+    entries.clear();
+    for ix in links.start..links.end {
+        entries.push((graph.link(ix).dep_name(), ix))?;
     }
-    let mut numbers = Vec::new(alloc);
-    numbers.push(link)?;
-    groups.insert((from, name), numbers)?;
     Ok(())
+}
+
+/// Sorts by name. What is of one name stays in its order.
+fn sort_entries<'g>(entries: &mut Vec<(&'g str, usize)>) -> Result<(), AllocError>
+    ensures sorted { OnOk result (IsSortedByKey (λ e. e.0.now) (slice_cmp nat_cmp) entries.new.items) }
+    ensures same { (name : Text) → numbers_named name entries.new.items ≡ numbers_named name entries.old.items }
+{
+    entries.sort_by_key(|entry| entry.0)
+}
+
+/// The row of a package, made with room for entries.
+fn row_of<'g>(
+    alloc: Global,
+    entries: &mut Vec<(&'g str, usize)>,
+    package: PackageMetadata<'g>,
+) -> Result<NamedRow<'g>, AllocError>
+    ensures { IfOk result (λ row. (name : Text) → numbers_named name (entries_of row) ≡ link_numbers (package_graph_of «package».entry) (package_number_of «package».entry) name) }
+{
+    fill_entries(entries, package)?;
+    sort_entries(entries)?;
+    NamedRow::of(alloc, entries)
 }
 
 /// The links of a graph, grouped by the package that they leave and by name.
 pub(crate) fn named_links(alloc: Global, graph: &PackageGraph) -> Result<LinkGroups<'_>, AllocError>
     ensures { IfOk result (λ groups. AreNamedLinks graph.now groups) }
 {
-    let mut groups = IndexMap::with_hasher(alloc, BuildHasherDefault::new());
-    for ix in 0..graph.link_count() {
-        let link = graph.link(ix);
-        note(
-            alloc,
-            &mut groups,
-            link.from().package_ix(),
-            link.dep_name(),
-            ix,
-        )?;
+    graph.facts();
+    let mut groups = Vec::with_capacity(alloc, graph.package_count())?;
+    let mut entries = Vec::new(alloc);
+    for ix in 0..graph.package_count() {
+        let row = row_of(alloc, &mut entries, graph.package(ix))?;
+        groups.push(row)?;
     }
     Ok(groups)
 }
@@ -55,8 +70,8 @@ pub(crate) fn named_links(alloc: Global, graph: &PackageGraph) -> Result<LinkGro
 pub(crate) fn numbers_of<'a>(groups: &'a LinkGroups<'_>, from: usize, name: &str) -> &'a [usize]
     ensures { result.now ≡ numbers_under groups.now from name.now }
 {
-    match (&*groups).get_index_of(&(from, name)) {
-        Some(at) => (&*groups)[at].as_slice(),
+    match groups.get(from) {
+        Some(row) => row.under(name),
         None => &[],
     }
 }
