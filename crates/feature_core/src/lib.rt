@@ -24,6 +24,7 @@ mod near_keys;
 mod nodes;
 mod numbers;
 mod packed;
+mod quiet;
 mod text_map;
 mod walks;
 mod warning;
