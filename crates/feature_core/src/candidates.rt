@@ -114,13 +114,13 @@ fn push_over(
 ) -> Result<bool, AllocError>
     requires { (i k : ℕ) → slice_get links.now i ≡ Some k → k < length numbers.graph.now.links }
     ensures keys { OnOk result (Adds (λ x. (i k : ℕ) × (slice_get links.now i ≡ Some k) × IsOverLink numbers.entry.graph.now from feature.now weak k x) keys.old.items keys.new.items) }
-    ensures quiet { IfOk result (λ all. IsTrue all → (0 < length links.now) × (flat_map (lack_by numbers.entry.graph.now feature.now) links.now ≡ [])) }
+    ensures quiet { IfOk result (λ each_has. IsTrue each_has → (0 < length links.now) × (flat_map (lack_by numbers.entry.graph.now feature.now) links.now ≡ [])) }
 {
-    let mut all = !links.is_empty();
+    let mut each_has = !links.is_empty();
     for place in 0..links.len() {
-        all &= push_over_link(keys, numbers, from, feature, weak, links[place])?;
+        each_has &= push_over_link(keys, numbers, from, feature, weak, links[place])?;
     }
-    Ok(all)
+    Ok(each_has)
 }
 
 /// Adds the keys of a strong item beside those over links: to the optional dependency, and to the feature of its name.

@@ -11,7 +11,7 @@ use Rattle.feature_core.proofs.candidates.push_over.Goals as goal
 pub loop-place-init : goal.loop-place-init
 loop-place-init c = (
   Adds-start (OverAt c.args.numbers.graph.now c.args.from c.args.feature.now c.args.weak c.args.links.now) c.args.keys.now.items,
-  (λ h. (not_empty c.args.links.now c.is_empty-all.result c.is_empty-all.ensures (is_false c.is_empty-all.result h), refl)),
+  (λ h. (not_empty c.args.links.now c.is_empty-each_has.result c.is_empty-each_has.ensures (is_false c.is_empty-each_has.result h), refl)),
 )
 
 pub loop-place-preserved : goal.loop-place-preserved
@@ -21,11 +21,11 @@ loop-place-preserved c =
     let k = slice_index links c.loop-place.place in
     let at : slice_get links c.loop-place.place ≡ Some k = slice_get-get_or links c.loop-place.place 0 (omega arith) in (
       Adds-turn (OverAt t c.args.from c.args.feature.now c.args.weak links) c.loop-place.place c.args.keys.now.items c.loop-place.keys.items c.push_over_link.new.keys.items c.loop-place.invariant.0
-          (over_pushed t c.args.from c.loop-place.place k c.args.feature.now c.args.weak links c.loop-place.keys.items c.push_over_link.new.keys.items at c.in_ok-all.ensures.keys),
+          (over_pushed t c.args.from c.loop-place.place k c.args.feature.now c.args.weak links c.loop-place.keys.items c.push_over_link.new.keys.items at c.in_ok-each_has.ensures.keys),
       (λ h.
-          let both = and_cases c.loop-place.all c.in_ok-all.field-0 h in (
+          let both = and_cases c.loop-place.each_has c.in_ok-each_has.field-0 h in (
             (c.loop-place.invariant.1 both.0).0,
-            quiet-next (lack_by t c.args.feature.now) links c.loop-place.place k c.loop-place.all c.in_ok-all.field-0 (c.loop-place.all && c.in_ok-all.field-0) at refl (λ i. (c.loop-place.invariant.1 i).1) c.in_ok-all.ensures.quiet h,
+            quiet-next (lack_by t c.args.feature.now) links c.loop-place.place k c.loop-place.each_has c.in_ok-each_has.field-0 (c.loop-place.each_has && c.in_ok-each_has.field-0) at refl (λ i. (c.loop-place.invariant.1 i).1) c.in_ok-each_has.ensures.quiet h,
           )),
     )
 

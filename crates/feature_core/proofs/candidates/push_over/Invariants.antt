@@ -7,4 +7,4 @@ use Rattle.feature_core.proofs.candidates.push_over.Given as goal
 
 abbrev pub invariant-loop-place : goal.invariant-loop-place
 invariant-loop-place l = Adds (Below l.place (OverAt l.numbers.graph.now l.from l.feature l.weak l.links)) l.initial.keys.items l.keys.items
-    × (IsTrue l.all → (0 < length l.links) × (flat_map (lack_by l.numbers.graph.now l.feature) (take l.place l.links) ≡ []))
+    × (IsTrue l.each_has → (0 < length l.links) × (flat_map (lack_by l.numbers.graph.now l.feature) (take l.place l.links) ≡ []))
