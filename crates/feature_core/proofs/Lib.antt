@@ -36,6 +36,7 @@ pub mod StatusLemmas
 pub mod NodeLabels
 pub mod LinkLemmas
 pub mod WarningLemmas
+pub mod QuietLemmas
 pub mod BuildLemmas
 pub mod WeakLemmas
 pub mod Determined

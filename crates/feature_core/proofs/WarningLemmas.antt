@@ -13,6 +13,7 @@ use Rattle.guppy_packages.specs.Tables.{PackageTable, LinkTable, Tables}
 use Rattle.guppy_packages.proofs.ItemLemmas.{list_any-found, list_any-absent}
 use Rattle.feature_core.specs.Links.{numbered, links_named}
 use Rattle.feature_core.specs.inner.NamedLinks.{link_numbers}
+use Rattle.feature_core.specs.inner.Quiet.{lack_by}
 use Rattle.feature_core.specs.Warnings.{Warning, missing_feature, lack_of, lack_over, lacks_over}
 use Rattle.feature_core.proofs.NodeLemmas.{append-none, take-next}
 
@@ -69,10 +70,6 @@ warned test start end x t e = e ∙ ap (λ b. start ++ (if b then [] else x ∷ 
 
 pub unwarned : (test : Bool) (start : List Warning) (x : Warning) → test ≡ true → start ≡ start ++ (if test then [] else x ∷ [])
 unwarned test start x t = sym (append-none start) ∙ ap (λ b. start ++ (if b then [] else x ∷ [])) (sym t)
-
--- what the link of a number lacks
-abbrev pub lack_by : Tables → Text → ℕ → List Warning
-lack_by t g k = option_map_or (λ link. lack_over t link g) (slice_get t.links k) []
 
 pub lack_at : (t : Tables) (g : Text) (k : ℕ) (link : LinkTable) → slice_get t.links k ≡ Some link → lack_over t link g ≡ lack_by t g k
 lack_at t g k link h = sym (ap (λ o. option_map_or (λ link. lack_over t link g) o []) h)

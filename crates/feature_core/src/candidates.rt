@@ -1,5 +1,5 @@
 //! The candidates for the edges of a package's nodes, as keys, part by part of the tables.
-ghost use Rattle.std.specs.Prelude.{◌≡◌, ◌+◌, ◌<◌, ◌^◌, ◌↔◌, ◌&&◌, if◌then◌else◌, ℕ, AllPairs, Contains, OnOk, IsFalse, Some, length, slice_get};
+ghost use Rattle.std.specs.Prelude.{◌≡◌, ◌+◌, ◌<◌, ◌^◌, ◌↔◌, ◌&&◌, if◌then◌else◌, ℕ, AllPairs, Contains, OnOk, IsFalse, IsTrue, IfOk, Some, [], flat_map, length, slice_get};
 ghost use Rattle.std.specs.List.{list_any};
 ghost use Rattle.guppy_packages.specs.Tables.{LinkTable};
 ghost use Rattle.feature_labels.specs.declared.link_declarations.LinkDeclarations.TheVariants.{Optional};
@@ -14,12 +14,14 @@ ghost use Rattle.feature_core.specs.inner.Adds.{Adds, Below};
 ghost use Rattle.feature_core.specs.inner.Keys.{IsNoLater};
 ghost use Rattle.feature_core.specs.Nodes.{NodeAt, first_node, labels_of};
 ghost use Rattle.feature_core.specs.inner.NamedLinks.{AreNamedLinks};
+ghost use Rattle.feature_core.specs.inner.Quiet.{lack_by, IsQuiet, IsQuietItem, IsQuietFeature, AreQuietFeatures, IsQuietPackage};
 ghost use Rattle.feature_core.specs.inner.Parts.{key, over_rank, IsToFirst, IsOverLink, start_of, IsOver, IsBeside, IsOfItem, IsOfItemAt, IsOfFeatureAt, IsOfPackageAt, IsRequest, IsOfDeclarationAt, IsOfLinkAt, IsOfSource};
 
 use crate::declarations::push_links;
 use crate::key::{Key, sort_keys};
 use crate::named_links::{LinkGroups, numbers_of};
 use crate::numbers::Numbers;
+use crate::quiet::{Quiet, note};
 use guppy_packages::{Declaration, NamedFeature, NamedFeatureDep, PackageLink, PackageMetadata};
 use std::alloc::AllocError;
 
@@ -81,7 +83,7 @@ fn rank_over(link: PackageLink<'_>, weak: bool) -> u8
     slash_rank(weak, is_any_optional(link.declarations()))
 }
 
-/// Adds a key to the feature of a link's target, where it has the feature.
+/// Adds a key to the feature of a link's target, where it has the feature. Gives whether it has.
 fn push_over_link(
     keys: &mut Vec<Key>,
     numbers: Numbers<'_>,
@@ -89,17 +91,19 @@ fn push_over_link(
     feature: &str,
     weak: bool,
     ix: usize,
-) -> Result<(), AllocError>
+) -> Result<bool, AllocError>
     requires { ix < length numbers.graph.now.links }
-    ensures { OnOk result (Adds (IsOverLink numbers.entry.graph.now from feature.now weak ix) keys.old.items keys.new.items) }
+    ensures keys { OnOk result (Adds (IsOverLink numbers.entry.graph.now from feature.now weak ix) keys.old.items keys.new.items) }
+    ensures quiet { IfOk result (λ there. IsTrue there → lack_by numbers.entry.graph.now feature.now ix ≡ []) }
 {
     let link = numbers.graph.link(ix);
     let to = numbers.named(link.to(), feature);
     push_to(keys, from, to, rank_over(link, weak), ix, 0)?;
-    Ok(())
+    Ok(to.is_some())
 }
 
-/// Adds a key to the feature of each target of a package's links under a name.
+/// Adds a key to the feature of each target of a package's links under a name. Gives whether there is a link, and each
+/// target has the feature.
 fn push_over(
     keys: &mut Vec<Key>,
     numbers: Numbers<'_>,
@@ -107,14 +111,16 @@ fn push_over(
     from: usize,
     feature: &str,
     weak: bool,
-) -> Result<(), AllocError>
+) -> Result<bool, AllocError>
     requires { (i k : ℕ) → slice_get links.now i ≡ Some k → k < length numbers.graph.now.links }
-    ensures { OnOk result (Adds (λ x. (i k : ℕ) × (slice_get links.now i ≡ Some k) × IsOverLink numbers.entry.graph.now from feature.now weak k x) keys.old.items keys.new.items) }
+    ensures keys { OnOk result (Adds (λ x. (i k : ℕ) × (slice_get links.now i ≡ Some k) × IsOverLink numbers.entry.graph.now from feature.now weak k x) keys.old.items keys.new.items) }
+    ensures quiet { IfOk result (λ each_has. IsTrue each_has → (0 < length links.now) × (flat_map (lack_by numbers.entry.graph.now feature.now) links.now ≡ [])) }
 {
+    let mut each_has = !links.is_empty();
     for place in 0..links.len() {
-        push_over_link(keys, numbers, from, feature, weak, links[place])?;
+        each_has &= push_over_link(keys, numbers, from, feature, weak, links[place])?;
     }
-    Ok(())
+    Ok(each_has)
 }
 
 /// Adds the keys of a strong item beside those over links: to the optional dependency, and to the feature of its name.
@@ -139,7 +145,7 @@ fn push_beside(
     Ok(())
 }
 
-/// Adds the keys of an item of a feature.
+/// Adds the keys of an item of a feature. Where it gives true, no warning is of the item.
 fn push_item(
     keys: &mut Vec<Key>,
     numbers: Numbers<'_>,
@@ -148,21 +154,25 @@ fn push_item(
     from: usize,
     feature_name: &str,
     item: &str,
-) -> Result<(), AllocError>
+) -> Result<bool, AllocError>
     requires graph { package_graph_of metadata ≡ numbers.graph.now }
     requires links { AreNamedLinks numbers.graph.now groups.now }
-    ensures { OnOk result (Adds (IsOfItem numbers.entry.graph.now from metadata.entry.package_ix feature_name.now (item_of item.now)) keys.old.items keys.new.items) }
+    ensures keys { OnOk result (Adds (IsOfItem numbers.entry.graph.now from metadata.entry.package_ix feature_name.now (item_of item.now)) keys.old.items keys.new.items) }
+    ensures quiet { IfOk result (λ quiet. IsTrue quiet → IsQuietItem numbers.entry.graph.now metadata.entry.package_ix feature_name.now (item_of item.now)) }
 {
     match NamedFeatureDep::from_cargo_string(item) {
         NamedFeatureDep::NamedFeature(feature) => {
             if feature != feature_name {
-                push_to(keys, from, numbers.named(metadata, feature), 2, 0, 0)?;
+                let to = numbers.named(metadata, feature);
+                push_to(keys, from, to, 2, 0, 0)?;
+                return Ok(to.is_some());
             }
-            Ok(())
+            Ok(false)
         }
         NamedFeatureDep::OptionalDependency(name) => {
-            push_to(keys, from, numbers.optional(metadata, name), 3, 0, 0)?;
-            Ok(())
+            let to = numbers.optional(metadata, name);
+            push_to(keys, from, to, 3, 0, 0)?;
+            Ok(to.is_some())
         }
         NamedFeatureDep::DependencyNamedFeature {
             dep_name,
@@ -170,16 +180,16 @@ fn push_item(
             weak,
         } => {
             let links = numbers_of(groups, metadata.package_ix(), dep_name);
-            push_over(keys, numbers, links, from, feature, weak)?;
+            let all = push_over(keys, numbers, links, from, feature, weak)?;
             if !weak {
                 push_beside(keys, numbers, metadata, from, feature_name, dep_name)?;
             }
-            Ok(())
+            Ok(all)
         }
     }
 }
 
-/// Adds the keys of the items of a feature.
+/// Adds the keys of the items of a feature. Where it gives true, no warning is of them.
 fn push_feature(
     keys: &mut Vec<Key>,
     numbers: Numbers<'_>,
@@ -187,13 +197,15 @@ fn push_feature(
     metadata: PackageMetadata<'_>,
     from: usize,
     feature: &NamedFeature,
-) -> Result<(), AllocError>
+) -> Result<bool, AllocError>
     requires graph { package_graph_of metadata ≡ numbers.graph.now }
     requires links { AreNamedLinks numbers.graph.now groups.now }
-    ensures { OnOk result (Adds (λ x. (j : ℕ) × IsOfItemAt numbers.entry.graph.now from metadata.entry.package_ix (feature_table feature.now) j x) keys.old.items keys.new.items) }
+    ensures keys { OnOk result (Adds (λ x. (j : ℕ) × IsOfItemAt numbers.entry.graph.now from metadata.entry.package_ix (feature_table feature.now) j x) keys.old.items keys.new.items) }
+    ensures quiet { IfOk result (λ quiet. IsTrue quiet → IsQuietFeature numbers.entry.graph.now metadata.entry.package_ix (feature_table feature.now)) }
 {
+    let mut quiet = true;
     for ix in 0..feature.item_count() {
-        push_item(
+        quiet &= push_item(
             keys,
             numbers,
             groups,
@@ -203,61 +215,69 @@ fn push_feature(
             feature.item(ix),
         )?;
     }
-    Ok(())
+    Ok(quiet)
 }
 
-/// Adds the keys of the items of a package's features.
+/// Adds the keys of the items of a package's features. Where it gives true, no warning is of them.
 fn push_features(
     keys: &mut Vec<Key>,
     numbers: Numbers<'_>,
     groups: &LinkGroups<'_>,
     metadata: PackageMetadata<'_>,
-) -> Result<(), AllocError>
+) -> Result<bool, AllocError>
     requires graph { package_graph_of metadata ≡ numbers.graph.now }
     requires links { AreNamedLinks numbers.graph.now groups.now }
-    ensures { OnOk result (Adds (λ x. (k : ℕ) × IsOfFeatureAt numbers.entry.graph.now metadata.entry.package_ix (package_table_of metadata.entry) k x) keys.old.items keys.new.items) }
+    ensures keys { OnOk result (Adds (λ x. (k : ℕ) × IsOfFeatureAt numbers.entry.graph.now metadata.entry.package_ix (package_table_of metadata.entry) k x) keys.old.items keys.new.items) }
+    ensures quiet { IfOk result (λ quiet. IsTrue quiet → AreQuietFeatures numbers.entry.graph.now metadata.entry.package_ix (package_table_of metadata.entry).features) }
 {
     let features = metadata.named_features();
+    let mut quiet = true;
     for ix in 0..features.len() {
         let from = numbers.feature(metadata, ix);
-        push_feature(keys, numbers, groups, metadata, from, &features[ix])?;
+        quiet &= push_feature(keys, numbers, groups, metadata, from, &features[ix])?;
     }
-    Ok(())
+    Ok(quiet)
 }
 
-/// Adds the keys of a package: to its base, and by the items of its features.
+/// Adds the keys of a package: to its base, and by the items of its features. Where it gives true, no warning is of these.
 fn push_package(
     keys: &mut Vec<Key>,
     numbers: Numbers<'_>,
     groups: &LinkGroups<'_>,
     metadata: PackageMetadata<'_>,
-) -> Result<(), AllocError>
+) -> Result<bool, AllocError>
     requires graph { package_graph_of metadata ≡ numbers.graph.now }
     requires links { AreNamedLinks numbers.graph.now groups.now }
-    ensures { OnOk result (Adds (IsOfPackageAt numbers.entry.graph.now metadata.entry.package_ix) keys.old.items keys.new.items) }
+    ensures keys { OnOk result (Adds (IsOfPackageAt numbers.entry.graph.now metadata.entry.package_ix) keys.old.items keys.new.items) }
+    ensures quiet { IfOk result (λ quiet. IsTrue quiet → IsQuietPackage numbers.entry.graph.now metadata.entry.package_ix) }
 {
     let _ix = metadata.package_ix();
     push_to_first(keys, numbers.base(metadata), numbers.node_count(metadata))?;
-    push_features(keys, numbers, groups, metadata)?;
-    Ok(())
+    let quiet = push_features(keys, numbers, groups, metadata)?;
+    Ok(quiet)
 }
 
-/// The keys of a package: by its nodes, by the items of its features, and by the declarations of its links, in order.
+/// The keys of a package: by its nodes, by the items of its features, and by the declarations of its links, in order. Notes
+/// of which of these no warning is.
 pub(crate) fn package_keys(
     keys: &mut Vec<Key>,
+    quiet: &mut Quiet,
     numbers: Numbers<'_>,
     groups: &LinkGroups<'_>,
     ix: usize,
 ) -> Result<(), AllocError>
     requires links { AreNamedLinks numbers.graph.now groups.now }
     requires package { ix < length numbers.graph.now.packages }
+    requires quiet { IsQuiet numbers.graph.now quiet.now }
     ensures ordered { OnOk result (AllPairs IsNoLater keys.new.items) }
     ensures keys { OnOk result ((x : KeyValue) → Contains keys.new.items x ↔ IsOfSource numbers.entry.graph.now ix x) }
+    ensures quiet { OnOk result (IsQuiet numbers.entry.graph.now quiet.new) }
 {
     let metadata = numbers.graph.package(ix);
     keys.clear();
-    push_package(keys, numbers, groups, metadata)?;
-    push_links(keys, numbers, metadata)?;
+    let told = push_package(keys, numbers, groups, metadata)?;
+    note(&mut quiet.packages, ix, told);
+    push_links(keys, &mut quiet.links, numbers, metadata)?;
     sort_keys(keys);
     Ok(())
 }

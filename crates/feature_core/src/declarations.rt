@@ -1,20 +1,24 @@
 //! The candidates for edges, as keys, that declarations of links request.
-ghost use Rattle.std.specs.Prelude.{◌≡◌, ◌<◌, ◌↔◌, ℕ, OnOk, Some, length, slice_get};
+ghost use Rattle.std.specs.Prelude.{◌≡◌, ◌<◌, ◌↔◌, ℕ, IfOk, OnOk, IsTrue, Some, [], flat_map, length, slice_get};
 ghost use Rattle.guppy_packages.specs.Tables.{LinkTable};
 ghost use Rattle.guppy_packages.specs.Metadata.{package_graph_of, link_graph_of, link_table_of};
 ghost use Rattle.guppy_packages.specs.Stored.{declared};
 ghost use Rattle.feature_core.specs.inner.Adds.{Adds};
 ghost use Rattle.feature_core.specs.Links.{IsLink};
 ghost use Rattle.feature_core.specs.Nodes.{NodeAt};
+ghost use Rattle.feature_core.specs.inner.Quiet.{lack_in, AreQuietLinks, IsQuietDeclaration, IsQuietLink};
 ghost use Rattle.feature_core.specs.inner.Parts.{start_of, IsRequest, IsOfDeclarationAt, IsOfLinkAt, IsLinkFrom};
 
 use crate::candidates::push_to;
 use crate::key::Key;
 use crate::numbers::Numbers;
+use crate::quiet::note;
 use guppy_packages::{Declaration, PackageLink, PackageMetadata};
+use guppy_support::IxBitSet;
 use std::alloc::AllocError;
 
-/// Adds the keys of what a declaration requests of a package.
+/// Adds the keys of what a declaration requests of a package. Gives whether the package has each feature that the declaration
+/// lists.
 fn push_requests(
     keys: &mut Vec<Key>,
     numbers: Numbers<'_>,
@@ -23,9 +27,10 @@ fn push_requests(
     link: usize,
     place: usize,
     declaration: &Declaration,
-) -> Result<(), AllocError>
+) -> Result<bool, AllocError>
     requires { package_graph_of metadata ≡ numbers.graph.now }
-    ensures { OnOk result (Adds (IsRequest numbers.entry.graph.now from metadata.entry.package_ix link place (declared declaration.now)) keys.old.items keys.new.items) }
+    ensures keys { OnOk result (Adds (IsRequest numbers.entry.graph.now from metadata.entry.package_ix link place (declared declaration.now)) keys.old.items keys.new.items) }
+    ensures quiet { IfOk result (λ all. IsTrue all → flat_map (lack_in numbers.entry.graph.now metadata.entry.package_ix) (declared declaration.now).features ≡ []) }
 {
     push_to(keys, from, Some(numbers.base(metadata)), 7, link, place)?;
     if declaration.default_features() {
@@ -39,17 +44,13 @@ fn push_requests(
         )?;
     }
     let names = declaration.features();
+    let mut all = true;
     for ix in 0..names.len() {
-        push_to(
-            keys,
-            from,
-            numbers.named(metadata, names[ix].as_str()),
-            7,
-            link,
-            place,
-        )?;
+        let to = numbers.named(metadata, names[ix].as_str());
+        push_to(keys, from, to, 7, link, place)?;
+        all &= to.is_some();
     }
-    Ok(())
+    Ok(all)
 }
 
 /// The node that a declaration of a link starts from.
@@ -68,51 +69,58 @@ fn start<'g>(
     }
 }
 
-/// Adds the keys of a declaration of a link.
+/// Adds the keys of a declaration of a link. Where it gives true, no warning is of the names that the declaration lists.
 fn push_declaration(
     keys: &mut Vec<Key>,
     numbers: Numbers<'_>,
     ix: usize,
     place: usize,
-) -> Result<(), AllocError>
+) -> Result<bool, AllocError>
     requires place { (link : LinkTable) → slice_get numbers.graph.now.links ix ≡ Some link → place < length link.declarations }
     requires link { ix < length numbers.graph.now.links }
-    ensures { OnOk result (Adds (λ x. (link : LinkTable) × IsLink numbers.entry.graph.now ix link × IsOfDeclarationAt numbers.entry.graph.now ix link place x) keys.old.items keys.new.items) }
+    ensures keys { OnOk result (Adds (λ x. (link : LinkTable) × IsLink numbers.entry.graph.now ix link × IsOfDeclarationAt numbers.entry.graph.now ix link place x) keys.old.items keys.new.items) }
+    ensures quiet { IfOk result (λ quiet. IsTrue quiet → IsQuietDeclaration numbers.entry.graph.now ix place) }
 {
     let link = numbers.graph.link(ix);
     let declaration = &link.declarations()[place];
     let Some(from) = start(numbers, link, declaration) else {
-        return Ok(());
+        return Ok(false);
     };
-    push_requests(keys, numbers, link.to(), from, ix, place, declaration)?;
-    Ok(())
+    let quiet = push_requests(keys, numbers, link.to(), from, ix, place, declaration)?;
+    Ok(quiet)
 }
 
-/// Adds the keys of the declarations of a link.
-fn push_link(keys: &mut Vec<Key>, numbers: Numbers<'_>, ix: usize) -> Result<(), AllocError>
+/// Adds the keys of the declarations of a link. Where it gives true, no warning is of the names that they list.
+fn push_link(keys: &mut Vec<Key>, numbers: Numbers<'_>, ix: usize) -> Result<bool, AllocError>
     requires { ix < length numbers.graph.now.links }
-    ensures { OnOk result (Adds (IsOfLinkAt numbers.entry.graph.now ix) keys.old.items keys.new.items) }
+    ensures keys { OnOk result (Adds (IsOfLinkAt numbers.entry.graph.now ix) keys.old.items keys.new.items) }
+    ensures quiet { IfOk result (λ quiet. IsTrue quiet → IsQuietLink numbers.entry.graph.now ix) }
 {
     let link = numbers.graph.link(ix);
     let declarations = link.declarations();
+    let mut quiet = true;
     for place in 0..declarations.len() {
-        push_declaration(keys, numbers, ix, place)?;
+        quiet &= push_declaration(keys, numbers, ix, place)?;
     }
-    Ok(())
+    Ok(quiet)
 }
 
-/// Adds the keys of the links that leave a package.
+/// Adds the keys of the links that leave a package, and puts into the set those of which no warning is.
 pub(crate) fn push_links(
     keys: &mut Vec<Key>,
+    quiet: &mut IxBitSet,
     numbers: Numbers<'_>,
     metadata: PackageMetadata<'_>,
 ) -> Result<(), AllocError>
-    requires { package_graph_of metadata ≡ numbers.graph.now }
-    ensures { OnOk result (Adds (λ x. (k : ℕ) × IsLinkFrom numbers.entry.graph.now metadata.entry.package_ix k × IsOfLinkAt numbers.entry.graph.now k x) keys.old.items keys.new.items) }
+    requires graph { package_graph_of metadata ≡ numbers.graph.now }
+    requires quiet { AreQuietLinks numbers.graph.now quiet.now }
+    ensures keys { OnOk result (Adds (λ x. (k : ℕ) × IsLinkFrom numbers.entry.graph.now metadata.entry.package_ix k × IsOfLinkAt numbers.entry.graph.now k x) keys.old.items keys.new.items) }
+    ensures quiet { OnOk result (AreQuietLinks numbers.entry.graph.now quiet.new) }
 {
     let links = metadata.direct_links();
     for ix in links.start..links.end {
-        push_link(keys, numbers, ix)?;
+        let told = push_link(keys, numbers, ix)?;
+        note(quiet, ix, told);
     }
     Ok(())
 }

@@ -9,6 +9,7 @@ ghost use Rattle.feature_core.specs.inner.Alike.{IsAppended, IsNext};
 ghost use Rattle.feature_core.specs.inner.Keys.{AreLeast, IsLeast};
 ghost use Rattle.feature_core.specs.inner.Made.{IsMaterial, IsValueOf, AreMade, AreMadeBelow, edge_end};
 ghost use Rattle.feature_core.specs.inner.NamedLinks.{AreNamedLinks};
+ghost use Rattle.feature_core.specs.inner.Quiet.{IsQuiet};
 ghost use Rattle.feature_core.specs.Nodes.{first_nodes, node_packages};
 ghost use Rattle.feature_core.specs.Pairs.{IsPairList};
 ghost use Rattle.feature_core.specs.inner.Parts.{IsOfTables};
@@ -23,6 +24,7 @@ use crate::named_links::LinkGroups;
 use crate::near_keys::NearKeys;
 use crate::nodes::NodeTable;
 use crate::numbers::Numbers;
+use crate::quiet::Quiet;
 use crate::weak_links::note_gate;
 use guppy_support::{Digraph, DigraphError, Edge};
 use indexmap::IndexMap;
@@ -55,12 +57,14 @@ pub(crate) struct MadeEdges {
     weak: IndexMap<usize, usize>,
 }
 
-/// Room for the keys of a package, for the least of each pair, and for the places of keys that may be alike.
+/// Room for the keys of a package, for the least of each pair, and for the places of keys that may be alike; and what is found
+/// to be without a warning on the way.
 #[derive(Drop)]
 struct Room {
     keys: Vec<Key>,
     kept: Vec<Key>,
     near: NearKeys,
+    quiet: Quiet,
 }
 
 impl MadeEdges {
@@ -173,9 +177,11 @@ impl MadeEdges {
         requires links { AreNamedLinks numbers.graph.now groups.now }
         requires package { ix < length numbers.graph.now.packages }
         requires made { AreMadeBelow numbers.graph.now ix self.old }
-        ensures { OnOk result (AreMadeBelow numbers.entry.graph.now (ix + 1) self.new) }
+        requires quiet { IsQuiet numbers.graph.now room.now.quiet }
+        ensures made { OnOk result (AreMadeBelow numbers.entry.graph.now (ix + 1) self.new) }
+        ensures quiet { OnOk result (IsQuiet numbers.entry.graph.now room.new.quiet) }
     {
-        package_keys(&mut room.keys, numbers, groups, ix)?;
+        package_keys(&mut room.keys, &mut room.quiet, numbers, groups, ix)?;
         keep_least_of(&mut room.kept, &room.keys)?;
         let material = Material {
             numbers,
@@ -188,16 +194,17 @@ impl MadeEdges {
     }
 }
 
-/// The edges of the nodes of all packages.
+/// The edges of the nodes of all packages, and what is without a warning.
 fn made_edges(
     alloc: Global,
     numbers: Numbers<'_>,
     packages: &[usize],
     groups: &LinkGroups<'_>,
-) -> Result<MadeEdges, AllocError>
+) -> Result<(MadeEdges, Quiet), AllocError>
     requires packages { packages.now ≡ node_packages numbers.graph.now }
     requires links { AreNamedLinks numbers.graph.now groups.now }
-    ensures { IfOk result (λ made. AreMadeBelow numbers.entry.graph.now (length numbers.entry.graph.now.packages) made) }
+    ensures made { IfOk result (λ m. AreMadeBelow numbers.entry.graph.now (length numbers.entry.graph.now.packages) m.0) }
+    ensures quiet { IfOk result (λ m. IsQuiet numbers.entry.graph.now m.1) }
 {
     let edges = EdgeList::new(alloc)?;
     let mut made = MadeEdges {
@@ -206,15 +213,17 @@ fn made_edges(
         weak: IndexMap::new(alloc),
     };
     let near = NearKeys::new(alloc)?;
+    let quiet = Quiet::none(alloc, numbers.graph)?;
     let mut room = Room {
         keys: Vec::new(alloc),
         kept: Vec::new(alloc),
         near,
+        quiet,
     };
     for ix in 0..numbers.graph.package_count() {
         made.add_package(alloc, numbers, packages, groups, &mut room, ix)?;
     }
-    Ok(made)
+    Ok((made, room.quiet))
 }
 
 /// The digraph of edges that are in order and join nodes. It fails only where memory is refused.
@@ -230,33 +239,31 @@ fn digraph_of(alloc: Global, nodes: usize, ends: Vec<Edge>) -> Result<Digraph, A
     }
 }
 
-/// The edges of a package graph, whose nodes are in the table.
+/// The edges of a package graph, whose nodes are in the table, and what of the graph is without a warning.
 pub(crate) fn edge_table(
     alloc: Global,
     numbers: Numbers<'_>,
     table: &NodeTable,
     groups: &LinkGroups<'_>,
-) -> Result<EdgeTable, AllocError>
+) -> Result<(EdgeTable, Quiet), AllocError>
     requires firsts { table.now.firsts.items ≡ first_nodes numbers.graph.now }
     requires packages { table.now.packages.items ≡ node_packages numbers.graph.now }
     requires links { AreNamedLinks numbers.graph.now groups.now }
-    ensures nodes { IfOk result (λ e. e.digraph.nodes ≡ length table.now.packages.items) }
-    ensures pairs { IfOk result (λ e. IsPairList numbers.entry.graph.now (pairs_of e.digraph.edges)) }
-    ensures long { IfOk result (λ e. length e.edges ≡ length e.digraph.edges) }
-    ensures ends { IfOk result (λ e. e.digraph.edges ≡ map end_of (built_edges e.digraph.edges e.edges)) }
-    ensures edges { IfOk result (λ e. AreBuilt numbers.entry.graph.now (built_edges e.digraph.edges e.edges) e.weak.entries) }
+    ensures nodes { IfOk result (λ e. e.0.digraph.nodes ≡ length table.now.packages.items) }
+    ensures pairs { IfOk result (λ e. IsPairList numbers.entry.graph.now (pairs_of e.0.digraph.edges)) }
+    ensures long { IfOk result (λ e. length e.0.edges ≡ length e.0.digraph.edges) }
+    ensures ends { IfOk result (λ e. e.0.digraph.edges ≡ map end_of (built_edges e.0.digraph.edges e.0.edges)) }
+    ensures edges { IfOk result (λ e. AreBuilt numbers.entry.graph.now (built_edges e.0.digraph.edges e.0.edges) e.0.weak.entries) }
+    ensures quiet { IfOk result (λ e. IsQuiet numbers.entry.graph.now e.1) }
 {
     numbers.graph.facts();
-    let MadeEdges { edges, ends, weak } = made_edges(
-        alloc,
-        numbers,
-        table.packages.as_slice(),
-        groups,
-    )?;
+    let (made, quiet) = made_edges(alloc, numbers, table.packages.as_slice(), groups)?;
+    let MadeEdges { edges, ends, weak } = made;
     let digraph = digraph_of(alloc, table.packages.len(), ends)?;
-    Ok(EdgeTable {
+    let edge_table = EdgeTable {
         digraph,
         edges,
         weak,
-    })
+    };
+    Ok((edge_table, quiet))
 }

@@ -162,8 +162,8 @@ fn made(
     ensures warnings { IfOk result (λ m. warnings_in m.1 ≡ warnings numbers.entry.graph.now) }
 {
     let groups = named_links(alloc, numbers.graph)?;
-    let edges = edge_table(alloc, numbers, table, &groups)?;
-    let warnings = warnings(alloc, numbers.graph, &groups)?;
+    let (edges, quiet) = edge_table(alloc, numbers, table, &groups)?;
+    let warnings = warnings(alloc, numbers.graph, &groups, &quiet)?;
     Ok((edges, warnings))
 }
 

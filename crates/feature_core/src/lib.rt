@@ -25,6 +25,7 @@ mod near_keys;
 mod nodes;
 mod numbers;
 mod packed;
+mod quiet;
 mod text_map;
 mod walks;
 mod warning;

@@ -1,20 +1,23 @@
 //! Warnings: what items and listed names ask for that is not there.
-ghost use Rattle.std.specs.Prelude.{◌≡◌, ◌++◌, ◌∷◌, [], IfOk, OnOk, codes, flat_map, string_bytes, if◌then◌else◌};
+ghost use Rattle.std.specs.Prelude.{◌≡◌, ◌<◌, ◌++◌, ◌∷◌, [], IfOk, IsTrue, OnOk, codes, flat_map, length, string_bytes, if◌then◌else◌};
 ghost use Rattle.std.specs.List.{enumerate_from};
 ghost use Rattle.guppy_packages.specs.Items.{item_of};
 ghost use Rattle.guppy_packages.specs.Metadata.{package_id_of, package_graph_of, package_table_of, link_graph_of, link_table_of};
 ghost use Rattle.guppy_packages.specs.NamedFeature.{feature_table};
 ghost use Rattle.guppy_packages.specs.Stored.{declared};
-ghost use Rattle.guppy_packages.specs.Tables.{has_name};
+ghost use Rattle.guppy_packages.specs.Tables.{LinkTable, has_name};
 ghost use Rattle.feature_core.specs.inner.NamedLinks.{AreNamedLinks, link_numbers};
-ghost use Rattle.feature_core.specs.Links.{links_named};
+ghost use Rattle.feature_core.specs.inner.Quiet.{IsQuiet, IsQuietPackage, IsQuietLink, AreQuietPackages, AreQuietLinks};
+ghost use Rattle.feature_core.specs.Links.{IsLink, links_named};
 ghost use Rattle.feature_core.specs.Warnings.{warnings_in, missing_feature, self_loop, lack_of, lack_over, lacks_over, of_item, of_package, of_link, warnings};
 
 use crate::named_links::{LinkGroups, numbers_of};
+use crate::quiet::Quiet;
 use guppy_packages::{
     Declaration, NamedFeature, NamedFeatureDep, PackageGraph, PackageId, PackageLink,
     PackageMetadata,
 };
+use guppy_support::IxBitSet;
 use std::alloc::{AllocError, Global};
 
 /// What building a feature graph noted: an item or a listed name that leads nowhere.
@@ -204,18 +207,39 @@ fn push_package(
     Ok(())
 }
 
-/// Appends the warnings of the items of all packages.
+/// Appends the warnings of the items of a package's features, of which none is where this is told.
+fn push_package_unless(
+    alloc: Global,
+    found: &mut Vec<FeatureGraphWarning>,
+    groups: &LinkGroups<'_>,
+    metadata: PackageMetadata<'_>,
+    quiet: bool,
+) -> Result<(), AllocError>
+    requires links { AreNamedLinks (package_graph_of metadata) groups.now }
+    requires quiet { IsTrue quiet → IsQuietPackage (package_graph_of metadata) metadata.package_ix }
+    ensures { OnOk result (warnings_in found.new ≡ warnings_in found.old ++ of_package (package_graph_of metadata.entry) (metadata.entry.package_ix, package_table_of metadata.entry)) }
+{
+    let _ix = metadata.package_ix();
+    if !quiet {
+        push_package(alloc, found, groups, metadata)?;
+    }
+    Ok(())
+}
+
+/// Appends the warnings of the items of all packages, of which those in the set have none.
 fn push_packages(
     alloc: Global,
     found: &mut Vec<FeatureGraphWarning>,
     graph: &PackageGraph,
     groups: &LinkGroups<'_>,
+    quiet: &IxBitSet,
 ) -> Result<(), AllocError>
-    requires { AreNamedLinks graph.now groups.now }
+    requires links { AreNamedLinks graph.now groups.now }
+    requires quiet { AreQuietPackages graph.now quiet.now }
     ensures { OnOk result (warnings_in found.new ≡ warnings_in found.old ++ flat_map (of_package graph.now) (enumerate_from 0 graph.now.packages)) }
 {
     for ix in 0..graph.package_count() {
-        push_package(alloc, found, groups, graph.package(ix))?;
+        push_package_unless(alloc, found, groups, graph.package(ix), quiet.contains(ix))?;
     }
     Ok(())
 }
@@ -251,32 +275,54 @@ fn push_link(
     Ok(())
 }
 
-/// Appends the warnings of the names that the declarations of all links list.
-fn push_links(
+/// Appends the warnings of the names that the declarations of a link list, of which none is where this is told.
+fn push_link_unless(
     alloc: Global,
     found: &mut Vec<FeatureGraphWarning>,
     graph: &PackageGraph,
+    ix: usize,
+    quiet: bool,
 ) -> Result<(), AllocError>
-    ensures { OnOk result (warnings_in found.new ≡ warnings_in found.old ++ flat_map (of_link graph.now) graph.now.links) }
+    requires link { ix < length graph.now.links }
+    requires quiet { IsTrue quiet → IsQuietLink graph.now ix }
+    ensures { OnOk result ((link : LinkTable) → IsLink graph.now ix link → warnings_in found.new ≡ warnings_in found.old ++ of_link graph.now link) }
 {
-    for ix in 0..graph.link_count() {
+    if !quiet {
         push_link(alloc, found, graph.link(ix))?;
     }
     Ok(())
 }
 
+/// Appends the warnings of the names that the declarations of all links list, of which those in the set have none.
+fn push_links(
+    alloc: Global,
+    found: &mut Vec<FeatureGraphWarning>,
+    graph: &PackageGraph,
+    quiet: &IxBitSet,
+) -> Result<(), AllocError>
+    requires { AreQuietLinks graph.now quiet.now }
+    ensures { OnOk result (warnings_in found.new ≡ warnings_in found.old ++ flat_map (of_link graph.now) graph.now.links) }
+{
+    for ix in 0..graph.link_count() {
+        push_link_unless(alloc, found, graph, ix, quiet.contains(ix))?;
+    }
+    Ok(())
+}
+
 /// The warnings of a package graph: of the items of features by packages, features and places, then of listed names by
-/// links, declarations and places.
+/// links, declarations and places. What is quiet isn't looked at again.
 pub(crate) fn warnings(
     alloc: Global,
     graph: &PackageGraph,
     groups: &LinkGroups<'_>,
+    quiet: &Quiet,
 ) -> Result<Vec<FeatureGraphWarning>, AllocError>
-    requires { AreNamedLinks graph.now groups.now }
+    requires links { AreNamedLinks graph.now groups.now }
+    requires quiet { IsQuiet graph.now quiet.now }
     ensures { IfOk result (λ found. warnings_in found ≡ warnings graph.now) }
 {
     let mut found = Vec::new(alloc);
-    push_packages(alloc, &mut found, graph, groups)?;
-    push_links(alloc, &mut found, graph)?;
+    push_packages(alloc, &mut found, graph, groups, &quiet.packages)?;
+    push_links(alloc, &mut found, graph, &quiet.links)?;
     Ok(found)
 }

@@ -5,13 +5,19 @@ use Rattle.feature_core.proofs.ValueLemmas.{made_none}
 use Rattle.feature_core.proofs.edge_table.made_edges.Goals as goal
 
 pub loop-ix-init : goal.loop-ix-init
-loop-ix-init c = record {
-  kept = [];
-  is_kept = kept_none c.args.numbers.graph.now;
-  made = made_none c.args.numbers.graph.now _ c.new-3.ensures.empty c.in_ok-edges.ensures c.new-2.ensures.items;
-}
+loop-ix-init c = (
+  record {
+    kept = [];
+    is_kept = kept_none c.args.numbers.graph.now;
+    made = made_none c.args.numbers.graph.now _ c.new-3.ensures.empty c.in_ok-edges.ensures c.new-2.ensures.items;
+  },
+  c.in_ok-quiet.ensures,
+)
 
-pub returns : goal.returns
-returns c =
+pub loop-ix-preserved : goal.loop-ix-preserved
+loop-ix-preserved c = (c.in_ok-add_package.ensures.made, c.in_ok-add_package.ensures.quiet)
+
+pub returns-clause-made : goal.returns-clause-made
+returns-clause-made c =
     let end : c.loop-ix.ix ≡ length c.args.numbers.graph.now.packages = omega arith in
-    subst (λ z. AreMadeBelow c.args.numbers.graph.now z c.loop-ix.made) end c.loop-ix.invariant
+    subst (λ z. AreMadeBelow c.args.numbers.graph.now z c.loop-ix.made) end c.loop-ix.invariant.0

@@ -3,8 +3,9 @@ use Rattle.std.specs.Prelude.{slice_index}
 use Rattle.std.proofs.lemmas.Option.{slice_get-get_or}
 use Rattle.guppy_packages.specs.Metadata.{package_graph_of, package_table_of}
 use Rattle.feature_core.specs.Warnings.{warnings_in}
+use Rattle.feature_core.specs.inner.Quiet.{lack_by}
 use Rattle.feature_core.proofs.PushLemmas.{under_within}
-use Rattle.feature_core.proofs.WarningLemmas.{lack_by, not_empty, with_links, added-all}
+use Rattle.feature_core.proofs.WarningLemmas.{not_empty, with_links, added-all}
 use Rattle.feature_core.proofs.warning.push_lacks_over.Goals as goal
 
 pub link-requires : goal.link-requires

@@ -9,10 +9,10 @@ pub loop-ix-preserved : goal.loop-ix-preserved
 loop-ix-preserved c =
     let t = c.args.graph.now in
     let table = package_table_of c.package.result in
-    added-next (of_package t) (enumerate_from 0 t.packages) c.loop-ix.ix (c.loop-ix.ix, table) (warnings_in c.args.found.now) (warnings_in c.loop-ix.found) (warnings_in c.push_package.new.found)
+    added-next (of_package t) (enumerate_from 0 t.packages) c.loop-ix.ix (c.loop-ix.ix, table) (warnings_in c.args.found.now) (warnings_in c.loop-ix.found) (warnings_in c.push_package_unless.new.found)
     (enumerated_at t.packages c.loop-ix.ix table c.package.ensures.package) c.loop-ix.invariant
-    (subst (λ z. warnings_in c.push_package.new.found ≡ warnings_in c.loop-ix.found ++ of_package t (z, table)) c.package.ensures.number
-    (subst (λ z. warnings_in c.push_package.new.found ≡ warnings_in c.loop-ix.found ++ of_package z (c.package.result.package_ix, table)) c.package.ensures.graph c.in_ok-push_package.ensures))
+    (subst (λ z. warnings_in c.push_package_unless.new.found ≡ warnings_in c.loop-ix.found ++ of_package t (z, table)) c.package.ensures.number
+    (subst (λ z. warnings_in c.push_package_unless.new.found ≡ warnings_in c.loop-ix.found ++ of_package z (c.package.result.package_ix, table)) c.package.ensures.graph c.in_ok-push_package_unless.ensures))
 
 pub returns : goal.returns
 returns c =

@@ -23,8 +23,8 @@ add_all-requires-clause-kept c =
     let least : AreLeast c.package_keys.new.keys.items c.keep_least_of.new.kept.items = subst (λ z. AreLeast z c.keep_least_of.new.kept.items) c.deref.ensures.value c.in_ok-keep_least_of.ensures in
     subst (λ z. AreLeast z c.deref-2.result.now) (sym c.as_slice.ensures.value) (subst (λ z. AreLeast c.package_keys.new.keys.items z) (sym c.deref-2.ensures.value) least)
 
-pub returns : goal.returns
-returns c =
+pub returns-clause-made : goal.returns-clause-made
+returns-clause-made c =
     let t = c.args.numbers.graph.now in
     let made = c.requires.made in
     let more = c.keep_least_of.new.kept.items in
