@@ -45,6 +45,7 @@ pub mod PoolLemmas
 pub mod ListSteps
 pub mod SameData
 pub mod DefaultLemmas
+pub mod DefaultNodeLemmas
 pub mod OfferLemmas
 pub mod LinkNumbers
 pub mod OfferNames

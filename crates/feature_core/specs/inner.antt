@@ -12,4 +12,5 @@ pub mod Made
 pub mod Weak
 pub mod Pools
 pub mod Quiet
+pub mod DefaultNodes
 pub mod Alike

@@ -34,14 +34,7 @@ fn push_requests(
 {
     push_to(keys, from, Some(numbers.base(metadata)), 7, link, place)?;
     if declaration.default_features() {
-        push_to(
-            keys,
-            from,
-            numbers.named(metadata, "default"),
-            7,
-            link,
-            place,
-        )?;
+        push_to(keys, from, numbers.default_of(metadata), 7, link, place)?;
     }
     let names = declaration.features();
     let mut all = true;

@@ -5,6 +5,7 @@ ghost use Rattle.guppy_packages.specs.Metadata.{package_graph_of};
 ghost use Rattle.feature_core.specs.Built.{built_edges};
 ghost use Rattle.feature_core.specs.Defaults.{IsDefaultFeature, AreDefaults};
 ghost use Rattle.feature_core.specs.Edges.{AreBuilt};
+ghost use Rattle.feature_core.specs.inner.DefaultNodes.{AreDefaultNodes};
 ghost use Rattle.feature_core.specs.Nodes.{node_packages};
 
 use crate::chosen_reach::reach_chosen;
@@ -14,6 +15,21 @@ use crate::numbers::Numbers;
 use guppy_packages::{DependencyDirection, PackageMetadata};
 use guppy_support::IxBitSet;
 use std::alloc::{AllocError, Global};
+
+/// The named feature `default` of each package, where it has one.
+pub(crate) fn default_nodes(
+    alloc: Global,
+    numbers: Numbers<'_>,
+) -> Result<Vec<Option<usize>>, AllocError>
+    ensures { IfOk result (λ nodes. AreDefaultNodes numbers.entry.graph.now nodes.items) }
+{
+    let count = numbers.graph.package_count();
+    let mut nodes = Vec::with_capacity(alloc, count)?;
+    for ix in 0..count {
+        nodes.push(numbers.named(numbers.graph.package(ix), "default"))?;
+    }
+    Ok(nodes)
+}
 
 /// The default feature of a package: its feature named `default`, or its base where it has none.
 fn default_feature(numbers: Numbers<'_>, metadata: PackageMetadata<'_>) -> usize

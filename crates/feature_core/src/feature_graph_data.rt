@@ -86,6 +86,7 @@ fn numbers_in<'a>(graph: &'a PackageGraph, table: &'a NodeTable) -> Numbers<'a>
     Numbers {
         graph,
         firsts: table.firsts.as_slice(),
+        defaults: &[],
     }
 }
 

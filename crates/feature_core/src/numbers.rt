@@ -1,20 +1,24 @@
 //! The number of each node, by its package and label.
-ghost use Rattle.std.specs.Prelude.{◌≡◌, ◌+◌, ◌<◌, ◌^◌, ◌↔◌, ℕ, Some, length, slice_get, slice_index};
+ghost use Rattle.std.specs.Prelude.{◌≡◌, ◌+◌, ◌<◌, ◌^◌, ◌↔◌, ℕ, Some, codes, length, slice_get, slice_index};
 ghost use Rattle.guppy_packages.specs.Metadata.{package_graph_of, package_table_of};
 ghost use Rattle.feature_labels.specs.Names.{label_of};
 ghost use Rattle.feature_labels.specs.Names.LabelName.{base, named, optional};
+ghost use Rattle.feature_core.specs.inner.DefaultNodes.{AreDefaultNodes};
 ghost use Rattle.feature_core.specs.Nodes.{NodeAt, labels_of, first_node, first_nodes, node_packages, node_places};
 
 use feature_labels::FeatureLabel;
 use guppy_packages::{PackageGraph, PackageMetadata};
 
-/// A package graph with the first node of each package.
+/// A package graph with the first node of each package. The packages below the length of `defaults` have their named feature
+/// `default` there, or none where they have no such feature; for the others it is looked up.
 #[derive(Clone, Copy)]
 pub(crate) struct Numbers<'g> {
     pub(crate) graph: &'g PackageGraph,
     pub(crate) firsts: &'g [usize],
+    pub(crate) defaults: &'g [Option<usize>],
     pub(crate) ghost all_firsts: { firsts.now ≡ first_nodes graph.now },
     pub(crate) ghost few_nodes: { length (node_places graph.now) < 2 ^ 64 },
+    pub(crate) ghost looked_up: { AreDefaultNodes graph.now defaults.now },
 }
 
 /// The first node of a package.
@@ -90,6 +94,18 @@ impl<'g> Numbers<'g> {
             Some(place) => Some(self.number(metadata, 1 + place)),
             None => None,
         }
+    }
+
+    /// The named feature `default` of a package, where it has one.
+    pub(crate) fn default_of(self, metadata: PackageMetadata<'g>) -> Option<usize>
+        requires { package_graph_of metadata ≡ self.graph.now }
+        ensures { (n : ℕ) → (result ≡ Some n) ↔ NodeAt self.entry.graph.now n metadata.entry.package_ix (named (codes "default")) }
+    {
+        let ix = metadata.package_ix();
+        if ix < self.defaults.len() {
+            return self.defaults[ix];
+        }
+        self.named(metadata, "default")
     }
 
     /// The optional dependency of a package, where it has one of this name.

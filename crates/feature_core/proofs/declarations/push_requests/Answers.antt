@@ -39,7 +39,7 @@ returns-clause-keys c =
     let d = declared c.args.declaration.now in
     let long = mapped_length string_bytes c.features-names.result.now d.features c.features-names.ensures in
     let second : Adds (IsByDefault t c.args.from p c.args.link c.args.place d) c.push_to.new.keys.items c.if-default_features.keys.items = elim c.if-default_features.branch [
-      | then-default_features+in_ok-push_to-2 w ↦ subst (λ z. Adds (IsByDefault t c.args.from p c.args.link c.args.place d) c.push_to.new.keys.items z.items) (sym w.keys-is) (with_default t c.args.from p c.args.link c.args.place d w.named.result c.push_to.new.keys.items w.push_to-then-default_features.new.keys.items (sym w.if-default_features.ensures) w.named.ensures w.in_ok-push_to-2.ensures)
+      | then-default_features+in_ok-push_to-2 w ↦ subst (λ z. Adds (IsByDefault t c.args.from p c.args.link c.args.place d) c.push_to.new.keys.items z.items) (sym w.keys-is) (with_default t c.args.from p c.args.link c.args.place d w.default_of.result c.push_to.new.keys.items w.push_to-then-default_features.new.keys.items (sym w.if-default_features.ensures) w.default_of.ensures w.in_ok-push_to-2.ensures)
       | else-default_features w ↦ subst (λ z. Adds (IsByDefault t c.args.from p c.args.link c.args.place d) c.push_to.new.keys.items z.items) (sym w.keys-is) (without_default t c.args.from p c.args.link c.args.place d c.push_to.new.keys.items (sym w.if-default_features.ensures))
     ] in
     requested t c.args.from p c.args.link c.args.place d c.loop-ix.ix c.args.keys.now.items c.push_to.new.keys.items c.if-default_features.keys.items c.loop-ix.keys.items
