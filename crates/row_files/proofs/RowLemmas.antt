@@ -1,5 +1,5 @@
 -- The numbers and the rows of lines whose kept fields stand in one list.
-use Rattle.std.proofs.Common.{◌≡◌, ℕ, zero, suc, ◌-◌, ◌<◌, List, [], ◌∷◌, Ok, Option, None, Some, Bool, true, false, not, get_or, is_none, is_some, length, take, drop, sym, ap, ◌∙◌, refl, arith}
+use Rattle.std.proofs.Common.{◌≡◌, ℕ, zero, suc, ◌-◌, ◌<◌, List, [], ◌∷◌, Ok, Option, Some, get_or, is_none, length, take, drop, sym, ap, ◌∙◌, refl, arith}
 use Rattle.std.proofs.lemmas.List.{take-map, drop-map}
 use Rattle.std.proofs.lemmas.Option.{slice_get-map}
 use Rattle.std.specs.Prelude.{slice_get}
@@ -11,7 +11,7 @@ use Rattle.row_files.specs.Forms.{line_text, line_texts}
 use Rattle.row_files.specs.RowFile.{line_of, rows_of}
 use Rattle.row_files.specs.RowOfLine.{row_of}
 use Rattle.row_files.specs.declared.error.RowFileError.TheVariants as error
-use Rattle.row_files.specs.inner.KeptFields.{IsKept, form_row}
+use Rattle.row_files.specs.inner.KeptFields.{IsKept, form_row, is_malformed}
 use Rattle.row_files.proofs.EachLemmas.{each_or-at, each_or-length}
 use Rattle.row_files.specs.declared.line.Line.{Line}
 
@@ -26,6 +26,13 @@ row_at_line kept lines i line at is_kept =
     ap (option_map (λ l. row_of l.1)) (slice_get-map (line_text (texts kept)) lines i ∙ ap (option_map (line_text (texts kept))) at)
     ∙ ap Some (sym is_kept.row ∙ ap (form_row line.form) (sym (range_texts kept line.start line.end)))
 
+-- whether the line at a place is no row, by its form
+pub malformed_at : (kept : List (Bor Text)) (lines : List Line) (i : ℕ) (line : Line) → slice_get lines i ≡ Some line → IsKept (texts kept) line
+    → option_map (λ l. is_none (row_of l.1)) (slice_get (line_texts (texts kept) lines) i) ≡ Some (is_malformed line.form)
+malformed_at kept lines i line at is_kept =
+    ap (option_map (λ l. is_none (row_of l.1))) (slice_get-map (line_text (texts kept)) lines i ∙ ap (option_map (line_text (texts kept))) at)
+    ∙ ap Some (sym (ap is_none is_kept.row) ∙ is_kept.known)
+
 -- the number of the line at a place
 pub number_at : (fields : List Text) (lines : List Line) (n : ℕ) (d : Line) → n < length lines → line_of (line_texts fields lines) n ≡ (get_or lines n d).number
 number_at fields [] n d h = absurd (omega arith)
@@ -39,13 +46,6 @@ number_there (l ∷ lines) zero line e =
     let same : l ≡ line = cc in
     ap (λ x. x.0) same
 number_there (l ∷ lines) (suc i) line e = number_there lines i line e
-
--- whether nothing is given, by the answer of a test
-pub same_none : {X Y : Type 0} (f : X → Y) (o : Option X) (b : Bool) → is_some o ≡ not b → is_none (option_map f o) ≡ b
-same_none f None true h = refl
-same_none f None false h = sym h
-same_none f (Some x) true h = sym h
-same_none f (Some x) false h = refl
 
 -- the rows of lines that are all well-formed
 module _ (lines : List (ℕ × List Text)) (rows : List RowText) where

@@ -1,4 +1,6 @@
 //! What is kept of a line.
+ghost use Rattle.std.specs.Prelude.{◌≡◌};
+
 use guppy_packages::DependencyKind;
 
 /// What the kept fields of a line are.
@@ -16,6 +18,17 @@ pub enum Form {
         optional: bool,
         default_features: bool,
     },
+}
+
+impl Form {
+    ghost use Rattle.row_files.specs.inner.KeptFields.{is_malformed};
+
+    /// Whether the line is no row.
+    pub(crate) fn is_malformed(self) -> bool
+        ensures { result ≡ is_malformed self }
+    {
+        matches!(self, Form::Malformed)
+    }
 }
 
 /// A line that is not skipped: its number, and where its kept fields stand among those of all lines.

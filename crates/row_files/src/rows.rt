@@ -19,6 +19,7 @@ fn platform(text: &str) -> Option<&str>
 }
 
 /// The row of a dependency's kept fields.
+#[inline(always)]
 fn dep<'a>(
     kind: DependencyKind,
     optional: bool,
@@ -42,6 +43,7 @@ fn dep<'a>(
 }
 
 /// The row of what is kept of a line's fields, unless it is malformed.
+#[inline(always)]
 fn row<'a>(form: Form, kept: &'a [&'a str]) -> Option<Row<'a>>
     ensures { option_map row_text result ≡ form_row form (texts kept.now) }
 {
@@ -64,6 +66,7 @@ fn row<'a>(form: Form, kept: &'a [&'a str]) -> Option<Row<'a>>
 }
 
 /// The row of the line at this place, unless it is malformed.
+#[inline(always)]
 fn row_at<'l>(lines: &'l Lines<'_>, at: usize) -> Option<Row<'l>>
     requires { at < length (lines_of lines.now) }
     ensures { option_map (λ line. row_of line.1) (slice_get (lines_of lines.now) at) ≡ Some (option_map row_text result) }
@@ -89,7 +92,7 @@ impl<'l, 't> LineRows<'l, 't> {
         ensures err { IfErr result (λ error. rows_of (lines_of lines.now) ≡ Err error) }
     {
         for at in 0..lines.line_count() {
-            if row_at(lines, at).is_none() {
+            if lines.is_malformed(at) {
                 let line = lines.line_number(at);
                 return Err(RowFileError::Malformed { line });
             }
