@@ -9,7 +9,9 @@ pub enum Form {
     /// All fields of a line that is no row.
     Malformed,
     /// A package's id.
-    Package { in_workspace: bool },
+    Package {
+        in_workspace: bool,
+    },
     /// A feature's name and its items.
     Feature,
     /// A dependency's name, its target, its platform, and the features that it asks for.
