@@ -17,20 +17,23 @@ drop_item xs i x h = rw (add-one, drop-cons xs i x (slice_get_within xs i x h), 
 
 -- a loop at i, before which f gave something of each item
 module _ {A B E : Type 0} (f : A → Option B) (fault : A → E) (all : List A) (i : ℕ) (before : find (λ x. is_none (f x)) (drop i all) ≡ find (λ x. is_none (f x)) all) where
-  -- of the item there it gives r
-  module _ (r : Option B) (given : option_map f (slice_get all i) ≡ Some r) where
-    found : (b : Bool) → is_none r ≡ b → (x : A) × (slice_get all i ≡ Some x) × (find (λ y. is_none (f y)) all ≡ cond b (Some x) (find (λ y. is_none (f y)) (drop (i + 1) all)))
-    found b is =
-        let at = item f (slice_get all i) r given in
-        (at.0, at.1, sym before ∙ ap (find (λ y. is_none (f y))) (drop_item all i at.0 at.1) ∙ ap (λ c. cond c (Some at.0) (find (λ y. is_none (f y)) (drop (i + 1) all))) (ap is_none at.2 ∙ is))
+  -- whether it gives nothing of the item there
+  module _ (b : Bool) (given : option_map (λ x. is_none (f x)) (slice_get all i) ≡ Some b) where
+    found : (x : A) × (slice_get all i ≡ Some x) × (find (λ y. is_none (f y)) all ≡ cond b (Some x) (find (λ y. is_none (f y)) (drop (i + 1) all)))
+    found =
+        let at = item (λ x. is_none (f x)) (slice_get all i) b given in
+        (at.0, at.1, sym before ∙ ap (find (λ y. is_none (f y))) (drop_item all i at.0 at.1) ∙ ap (λ c. cond c (Some at.0) (find (λ y. is_none (f y)) (drop (i + 1) all))) at.2)
 
-    pub refused_here : is_none r ≡ true → (x : A) × (slice_get all i ≡ Some x) × (each_or f fault all ≡ Err (fault x))
+    found_by : (answer : Bool) → b ≡ answer → (x : A) × (slice_get all i ≡ Some x) × (find (λ y. is_none (f y)) all ≡ cond answer (Some x) (find (λ y. is_none (f y)) (drop (i + 1) all)))
+    found_by answer is = (found.0, found.1, found.2 ∙ ap (λ c. cond c (Some found.0) (find (λ y. is_none (f y)) (drop (i + 1) all))) is)
+
+    pub refused_here : b ≡ true → (x : A) × (slice_get all i ≡ Some x) × (each_or f fault all ≡ Err (fault x))
     refused_here is =
-        let first = found true is in
+        let first = found_by true is in
         (first.0, first.1, ap (λ o. option_map_or (λ x. Err (fault x)) o (Ok (filter_map f all))) first.2)
 
-    pub passed_here : is_none r ≡ false → find (λ x. is_none (f x)) (drop (i + 1) all) ≡ find (λ x. is_none (f x)) all
-    passed_here is = sym (found false is).2
+    pub passed_here : b ≡ false → find (λ x. is_none (f x)) (drop (i + 1) all) ≡ find (λ x. is_none (f x)) all
+    passed_here is = sym (found_by false is).2
 
 first_parts : {B E : Type 0} (fault : E) (given : Option B) (rest : Result (List B) E) (ys : List B) → with_first fault given rest ≡ Ok ys → (y : B) × (zs : List B) × (given ≡ Some y) × (rest ≡ Ok zs) × (ys ≡ y ∷ zs)
 first_parts fault None rest ys e = absurd (cc)

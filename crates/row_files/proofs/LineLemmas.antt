@@ -1,5 +1,5 @@
 -- One more line, and the lines before it.
-use Rattle.std.proofs.Common.{◌≡◌, ℕ, ◌-◌, ◌≤◌, ◌++◌, List, [], ◌∷◌, Bool, true, false, length, get_or, take, drop, sym, ap, ◌∙◌, refl, arith, cond, suc, zero}
+use Rattle.std.proofs.Common.{is_none, ◌≡◌, ℕ, ◌-◌, ◌≤◌, ◌++◌, List, [], ◌∷◌, Bool, true, false, length, get_or, take, drop, sym, ap, ◌∙◌, refl, arith, cond, suc, zero}
 use Rattle.std.proofs.lemmas.List.{length-append, map-append, take-append-drop, take-append-le, drop-append-le}
 use Rattle.std.proofs.lemmas.Grind.{common_steps}
 use Rattle.std.proofs.Math.Seq.{drop-append_seam, take-length}
@@ -8,7 +8,7 @@ use Rattle.std.specs.Borrow.{Bor}
 use Rattle.guppy_packages.specs.Rows.{Text, texts}
 use Rattle.row_files.specs.Forms.{fields_of, line_text, line_texts}
 use Rattle.row_files.specs.RowOfLine.{row_of}
-use Rattle.row_files.specs.inner.KeptFields.{IsKept, form_row}
+use Rattle.row_files.specs.inner.KeptFields.{IsKept, form_row, is_malformed}
 use Rattle.row_files.specs.declared.line.Line.{Line}
 use Rattle.row_files.specs.declared.line.Form.{Form}
 
@@ -43,6 +43,7 @@ longer kept more lines each k d h =
       ordered = one.ordered;
       within = omega (arith, one.within, length-append kept more);
       row = rw same one.row;
+      known = rw same one.known;
     }
 
 one_more : (P : Line → Type 0) (lines : List Line) (line : Line) → P line → All P lines → All P (lines ++ line ∷ [])
@@ -62,16 +63,17 @@ module _ (kept more : List Text) (lines : List Line) (each : All (IsKept kept) l
       ∙ ap (λ l. l ++ (n, fields_of form more) ∷ []) (lines_kept kept more lines each)
 
   -- a push that may have failed
-  pub one_more_if : (b : Bool) → form_row form more ≡ row_of (fields_of form more)
+  pub one_more_if : (b : Bool) → form_row form more ≡ row_of (fields_of form more) → is_none (form_row form more) ≡ is_malformed form
       → All (IsKept (kept ++ more)) (cond b (lines ++ record { number = n; start = start; end = end; form = form } ∷ []) lines)
-  one_more_if true row =
+  one_more_if true row known =
       let last : IsKept (kept ++ more) (record { number = n; start = start; end = end; form = form }) = record {
         ordered = omega (arith, starts, ends, length-append kept more);
         within = omega (arith, ends);
         row = rw added row;
+        known = rw added known;
       } in
       one_more (IsKept (kept ++ more)) lines _ last (longer kept more lines each)
-  one_more_if false row = longer kept more lines each
+  one_more_if false row known = longer kept more lines each
 
 -- a list that begins with another one's fields
 pub begins_with : (old new : List (Bor Text)) → take (length old) new ≡ old → texts new ≡ texts old ++ texts (drop (length old) new)

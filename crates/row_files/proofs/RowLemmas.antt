@@ -1,5 +1,5 @@
 -- The numbers and the rows of lines whose kept fields stand in one list.
-use Rattle.std.proofs.Common.{◌≡◌, ℕ, zero, suc, ◌-◌, ◌<◌, List, [], ◌∷◌, Ok, Option, None, Some, Bool, true, false, not, get_or, is_none, is_some, length, take, drop, sym, ap, ◌∙◌, refl, arith}
+use Rattle.std.proofs.Common.{None, false, ◌≡◌, ℕ, zero, suc, ◌-◌, ◌<◌, List, [], ◌∷◌, Ok, Option, Some, get_or, is_none, length, take, drop, sym, ap, ◌∙◌, refl, arith}
 use Rattle.std.proofs.lemmas.List.{take-map, drop-map}
 use Rattle.std.proofs.lemmas.Option.{slice_get-map}
 use Rattle.std.specs.Prelude.{slice_get}
@@ -11,8 +11,8 @@ use Rattle.row_files.specs.Forms.{line_text, line_texts}
 use Rattle.row_files.specs.RowFile.{line_of, rows_of}
 use Rattle.row_files.specs.RowOfLine.{row_of}
 use Rattle.row_files.specs.declared.error.RowFileError.TheVariants as error
-use Rattle.row_files.specs.inner.KeptFields.{IsKept, form_row}
-use Rattle.row_files.proofs.EachLemmas.{each_or-at, each_or-length}
+use Rattle.row_files.specs.inner.KeptFields.{IsKept, form_row, is_malformed}
+use Rattle.row_files.proofs.EachLemmas.{each_or-at, each_or-length, there}
 use Rattle.row_files.specs.declared.line.Line.{Line}
 
 -- the texts of a part of all fields
@@ -25,6 +25,21 @@ pub row_at_line : (kept : List (Bor Text)) (lines : List Line) (i : ℕ) (line :
 row_at_line kept lines i line at is_kept =
     ap (option_map (λ l. row_of l.1)) (slice_get-map (line_text (texts kept)) lines i ∙ ap (option_map (line_text (texts kept))) at)
     ∙ ap Some (sym is_kept.row ∙ ap (form_row line.form) (sym (range_texts kept line.start line.end)))
+
+-- whether the line at a place is no row, by its form
+pub malformed_at : (kept : List (Bor Text)) (lines : List Line) (i : ℕ) (line : Line) → slice_get lines i ≡ Some line → IsKept (texts kept) line
+    → option_map (λ l. is_none (row_of l.1)) (slice_get (line_texts (texts kept) lines) i) ≡ Some (is_malformed line.form)
+malformed_at kept lines i line at is_kept =
+    ap (option_map (λ l. is_none (row_of l.1))) (slice_get-map (line_text (texts kept)) lines i ∙ ap (option_map (line_text (texts kept))) at)
+    ∙ ap Some (sym (ap is_none is_kept.row) ∙ is_kept.known)
+
+-- the kept fields of a line that is known to give a row give one
+pub known_at : (kept : List (Bor Text)) (lines : List Line) (i : ℕ) (line : Line) → slice_get lines i ≡ Some line → IsKept (texts kept) line
+    → option_map (λ l. is_none (row_of l.1)) (slice_get (line_texts (texts kept) lines) i) ≡ Some false → is_none (form_row line.form (texts (take (line.end - line.start) (drop line.start kept)))) ≡ false
+known_at kept lines i line at is_kept known =
+    let same : Some (is_malformed line.form) ≡ Some false = sym (malformed_at kept lines i line at is_kept) ∙ known in
+    let is : is_malformed line.form ≡ false = cc in
+    ap (λ fs. is_none (form_row line.form fs)) (range_texts kept line.start line.end) ∙ is_kept.known ∙ is
 
 -- the number of the line at a place
 pub number_at : (fields : List Text) (lines : List Line) (n : ℕ) (d : Line) → n < length lines → line_of (line_texts fields lines) n ≡ (get_or lines n d).number
@@ -40,13 +55,6 @@ number_there (l ∷ lines) zero line e =
     ap (λ x. x.0) same
 number_there (l ∷ lines) (suc i) line e = number_there lines i line e
 
--- whether nothing is given, by the answer of a test
-pub same_none : {X Y : Type 0} (f : X → Y) (o : Option X) (b : Bool) → is_some o ≡ not b → is_none (option_map f o) ≡ b
-same_none f None true h = refl
-same_none f None false h = sym h
-same_none f (Some x) true h = sym h
-same_none f (Some x) false h = refl
-
 -- the rows of lines that are all well-formed
 module _ (lines : List (ℕ × List Text)) (rows : List RowText) where
   pub as_many : rows_of lines ≡ Ok rows → length rows ≡ length lines
@@ -55,3 +63,15 @@ module _ (lines : List (ℕ × List Text)) (rows : List RowText) where
   -- the row of the line at a place
   pub row_there : (i : ℕ) (row : Option RowText) → rows_of lines ≡ Ok rows → option_map (λ l. row_of l.1) (slice_get lines i) ≡ Some row → slice_get rows i ≡ row
   row_there i row read given = each_or-at (λ l. row_of l.1) (λ l. error.Malformed l.0) lines rows i row read given
+
+  -- each line gives a row
+  pub known_there : (i : ℕ) → rows_of lines ≡ Ok rows → i < length rows → option_map (λ l. is_none (row_of l.1)) (slice_get lines i) ≡ Some false
+  known_there i read within = by (slice_get lines i) refl
+    where
+      given : (r : Option RowText) → slice_get rows i ≡ r → is_none r ≡ false
+      given None e = absurd (there rows i within e)
+      given (Some row) e = refl
+
+      by : (o : Option (ℕ × List Text)) → slice_get lines i ≡ o → option_map (λ l. is_none (row_of l.1)) o ≡ Some false
+      by None e = absurd (there lines i (omega (arith, as_many read)) e)
+      by (Some line) e = ap Some (given (row_of line.1) (row_there i (row_of line.1) read (ap (option_map (λ l. row_of l.1)) e)))

@@ -1,9 +1,9 @@
 //! The form of a line, from its fields.
-ghost use Rattle.std.specs.Prelude.{◌≡◌, ◌∷◌, codes};
+ghost use Rattle.std.specs.Prelude.{◌≡◌, ◌∷◌, codes, is_none};
 ghost use Rattle.guppy_packages.specs.Rows.{texts};
 ghost use Rattle.row_files.specs.RowOfLine.{choice, kind_of, package_row, feature_row, dep_row, row_of};
 ghost use Rattle.row_files.specs.Forms.{fields_of};
-ghost use Rattle.row_files.specs.inner.KeptFields.{kept_of, form_row};
+ghost use Rattle.row_files.specs.inner.KeptFields.{kept_of, form_row, is_malformed};
 
 use crate::line::Form;
 use guppy_packages::DependencyKind;
@@ -53,6 +53,7 @@ fn kind(word: &str) -> Option<DependencyKind>
 fn package(fields: &[&str]) -> Form
     ensures fields { fields_of result (kept_of result (codes "package" ∷ texts fields.now)) ≡ codes "package" ∷ texts fields.now }
     ensures row { form_row result (kept_of result (codes "package" ∷ texts fields.now)) ≡ package_row (texts fields.now) }
+    ensures known { is_none (package_row (texts fields.now)) ≡ is_malformed result }
 {
     let [_, at] = fields else {
         return Form::Malformed;
@@ -67,6 +68,7 @@ fn package(fields: &[&str]) -> Form
 fn feature(fields: &[&str]) -> Form
     ensures fields { fields_of result (kept_of result (codes "feature" ∷ texts fields.now)) ≡ codes "feature" ∷ texts fields.now }
     ensures row { form_row result (kept_of result (codes "feature" ∷ texts fields.now)) ≡ feature_row (texts fields.now) }
+    ensures known { is_none (feature_row (texts fields.now)) ≡ is_malformed result }
 {
     if fields.is_empty() {
         Form::Malformed
@@ -79,6 +81,7 @@ fn feature(fields: &[&str]) -> Form
 fn dep(fields: &[&str]) -> Form
     ensures fields { fields_of result (kept_of result (codes "dep" ∷ texts fields.now)) ≡ codes "dep" ∷ texts fields.now }
     ensures row { form_row result (kept_of result (codes "dep" ∷ texts fields.now)) ≡ dep_row (texts fields.now) }
+    ensures known { is_none (dep_row (texts fields.now)) ≡ is_malformed result }
 {
     let [_, _, of_kind, needed, _, with_defaults, ..] = fields else {
         return Form::Malformed;
@@ -97,6 +100,7 @@ fn dep(fields: &[&str]) -> Form
 pub(crate) fn form_of(fields: &[&str]) -> Form
     ensures fields { fields_of result (kept_of result (texts fields.now)) ≡ texts fields.now }
     ensures row { form_row result (kept_of result (texts fields.now)) ≡ row_of (texts fields.now) }
+    ensures known { is_none (row_of (texts fields.now)) ≡ is_malformed result }
 {
     let [word, rest @ ..] = fields else {
         return Form::Malformed;

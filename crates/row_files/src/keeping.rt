@@ -14,7 +14,12 @@ fn keep_dep<'t>(kept: &mut Vec<&'t str>, fields: &[&'t str]) -> Result<(), Alloc
     let [_, name, target, _, _, platform, _, features @ ..] = fields else {
         return Ok(());
     };
-    kept.extend_from_slice(&[*name, *target, *platform])?;
+    kept.push(*name)?;
+    kept.push(*target)?;
+    kept.push(*platform)?;
+    if features.is_empty() {
+        return Ok(());
+    }
     kept.extend_from_slice(features)
 }
 

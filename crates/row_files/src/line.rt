@@ -1,4 +1,6 @@
 //! What is kept of a line.
+ghost use Rattle.std.specs.Prelude.{◌≡◌};
+
 use guppy_packages::DependencyKind;
 
 /// What the kept fields of a line are.
@@ -7,7 +9,9 @@ pub enum Form {
     /// All fields of a line that is no row.
     Malformed,
     /// A package's id.
-    Package { in_workspace: bool },
+    Package {
+        in_workspace: bool,
+    },
     /// A feature's name and its items.
     Feature,
     /// A dependency's name, its target, its platform, and the features that it asks for.
@@ -16,6 +20,17 @@ pub enum Form {
         optional: bool,
         default_features: bool,
     },
+}
+
+impl Form {
+    ghost use Rattle.row_files.specs.inner.KeptFields.{is_malformed};
+
+    /// Whether the line is no row.
+    pub(crate) fn is_malformed(self) -> bool
+        ensures { result ≡ is_malformed self }
+    {
+        matches!(self, Form::Malformed)
+    }
 }
 
 /// A line that is not skipped: its number, and where its kept fields stand among those of all lines.

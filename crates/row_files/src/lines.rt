@@ -19,6 +19,9 @@ pub struct Lines<'t> {
 }
 
 impl<'t> Lines<'t> {
+    ghost use Rattle.std.specs.Prelude.{Some, is_none, slice_get};
+    ghost use Rattle.std.specs.Option.{option_map};
+    ghost use Rattle.row_files.specs.RowOfLine.{row_of};
     ghost use Rattle.row_files.specs.Lines.{lines_in, kept_lines};
     ghost use Rattle.row_files.specs.RowFile.{line_of, lines_of};
     ghost use Rattle.row_files.specs.inner.CutLines.{kept_line};
@@ -84,6 +87,14 @@ impl<'t> Lines<'t> {
         ensures { result ≡ length (lines_of self.now) }
     {
         self.lines.len()
+    }
+
+    /// Whether the line at this place is no row.
+    pub(crate) fn is_malformed(&self, at: usize) -> bool
+        requires { at < length (lines_of self.now) }
+        ensures { option_map (λ line. is_none (row_of line.1)) (slice_get (lines_of self.now) at) ≡ Some result }
+    {
+        self.lines[at].form.is_malformed()
     }
 
     /// The number of the line at this place.

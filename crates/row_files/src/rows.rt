@@ -1,5 +1,5 @@
 //! The rows of lines, from what is kept of their fields.
-ghost use Rattle.std.specs.Prelude.{◌≡◌, ◌<◌, Some, length, slice_get};
+ghost use Rattle.std.specs.Prelude.{◌≡◌, ◌<◌, Some, false, is_none, length, slice_get};
 ghost use Rattle.std.specs.Option.{option_map};
 ghost use Rattle.guppy_packages.specs.Rows.{texts, row_text};
 ghost use Rattle.row_files.specs.RowOfLine.{platform_of, row_of};
@@ -19,18 +19,20 @@ fn platform(text: &str) -> Option<&str>
 }
 
 /// The row of a dependency's kept fields.
+#[inline(always)]
 fn dep<'a>(
     kind: DependencyKind,
     optional: bool,
     default_features: bool,
     kept: &'a [&'a str],
-) -> Option<Row<'a>>
-    ensures { option_map row_text result ≡ dep_row_of kind optional default_features (texts kept.now) }
+) -> Row<'a>
+    requires { is_none (dep_row_of kind optional default_features (texts kept.now)) ≡ false }
+    ensures { dep_row_of kind optional default_features (texts kept.now) ≡ Some (row_text result) }
 {
     let [name, target, at, features @ ..] = kept else {
-        return None;
+        unreachable!()
     };
-    Some(Row::Dep {
+    Row::Dep {
         name,
         target,
         kind,
@@ -38,22 +40,25 @@ fn dep<'a>(
         platform: platform(at),
         default_features,
         features,
-    })
+    }
 }
 
-/// The row of what is kept of a line's fields, unless it is malformed.
-fn row<'a>(form: Form, kept: &'a [&'a str]) -> Option<Row<'a>>
-    ensures { option_map row_text result ≡ form_row form (texts kept.now) }
+/// The row of what is kept of a line's fields. This and its callers are inlined, so that who asks for a row and matches on it
+/// matches on the form.
+#[inline(always)]
+fn row<'a>(form: Form, kept: &'a [&'a str]) -> Row<'a>
+    requires { is_none (form_row form (texts kept.now)) ≡ false }
+    ensures { form_row form (texts kept.now) ≡ Some (row_text result) }
 {
     match form {
-        Form::Malformed => None,
+        Form::Malformed => unreachable!(),
         Form::Package { in_workspace } => match kept {
-            [id] => Some(Row::Package { id, in_workspace }),
-            _ => None,
+            [id] => Row::Package { id, in_workspace },
+            _ => unreachable!(),
         },
         Form::Feature => match kept {
-            [name, items @ ..] => Some(Row::Feature { name, items }),
-            [] => None,
+            [name, items @ ..] => Row::Feature { name, items },
+            [] => unreachable!(),
         },
         Form::Dep {
             kind,
@@ -63,10 +68,12 @@ fn row<'a>(form: Form, kept: &'a [&'a str]) -> Option<Row<'a>>
     }
 }
 
-/// The row of the line at this place, unless it is malformed.
-fn row_at<'l>(lines: &'l Lines<'_>, at: usize) -> Option<Row<'l>>
-    requires { at < length (lines_of lines.now) }
-    ensures { option_map (λ line. row_of line.1) (slice_get (lines_of lines.now) at) ≡ Some (option_map row_text result) }
+/// The row of the line at this place.
+#[inline(always)]
+fn row_at<'l>(lines: &'l Lines<'_>, at: usize) -> Row<'l>
+    requires within { at < length (lines_of lines.now) }
+    requires row { option_map (λ line. is_none (row_of line.1)) (slice_get (lines_of lines.now) at) ≡ Some false }
+    ensures { option_map (λ line. row_of line.1) (slice_get (lines_of lines.now) at) ≡ Some (Some (row_text result)) }
 {
     let line = lines.lines[at];
     row(line.form, &lines.kept[line.start..line.end])
@@ -89,7 +96,7 @@ impl<'l, 't> LineRows<'l, 't> {
         ensures err { IfErr result (λ error. rows_of (lines_of lines.now) ≡ Err error) }
     {
         for at in 0..lines.line_count() {
-            if row_at(lines, at).is_none() {
+            if lines.is_malformed(at) {
                 let line = lines.line_number(at);
                 return Err(RowFileError::Malformed { line });
             }
@@ -105,10 +112,8 @@ impl RowSource for LineRows<'_, '_> {
         self.lines.line_count()
     }
 
+    #[inline(always)]
     fn row(&self, ix: usize) -> Row<'_> {
-        match row_at(self.lines, ix) {
-            Some(row) => row,
-            None => unreachable!(),
-        }
+        row_at(self.lines, ix)
     }
 }

@@ -1,5 +1,5 @@
 -- What is kept of a line's fields, and the row that it gives.
-use Rattle.std.specs.Prelude.{◌≡◌, ◌≤◌, List, [], ◌∷◌, Bool, Option, None, Some, length}
+use Rattle.std.specs.Prelude.{◌≡◌, ◌≤◌, List, [], ◌∷◌, Bool, true, false, Option, None, Some, is_none, length}
 use Rattle.std.specs.List.{slice_range}
 use Rattle.guppy_packages.specs.Rows.{Text, RowText, a_package, a_feature, a_dep}
 use Rattle.guppy_packages.specs.declared.row.DependencyKind.{DependencyKind}
@@ -35,8 +35,13 @@ form_row form.Feature (name ∷ items) = Some (a_feature name items)
 form_row (form.Dep kind optional defaults) kept = dep_row_of kind optional defaults kept
 form_row _ _ = None
 
+abbrev pub is_malformed : Form → Bool
+is_malformed form.Malformed = true
+is_malformed _ = false
+
 -- The line's kept fields lie among these, and give the row of its fields.
 pub record IsKept (kept : List Text) (line : Line) : Type 0 where
   pub ordered : line.start ≤ line.end
   pub within : line.end ≤ length kept
   pub row : form_row line.form (slice_range kept line.start line.end) ≡ row_of (fields_of line.form (slice_range kept line.start line.end))
+  pub known : is_none (form_row line.form (slice_range kept line.start line.end)) ≡ is_malformed line.form

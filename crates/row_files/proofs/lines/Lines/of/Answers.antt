@@ -49,14 +49,14 @@ loop-end-preserved c =
     let added : texts c.push.new.self.items ≡ texts c.loop-end.fields.items ++ field ∷ [] =
     ap texts c.in_ok-push.ensures.items ∙ map-append (λ t. t.now) c.loop-end.fields.items (c.range.result ∷ []) ∙ ap (λ t. texts c.loop-end.fields.items ++ t ∷ []) c.range.ensures.value in
     elim c.if-bytes-end-eq10.branch [
-      then-bytes-end-eq10+in_ok-end_line w ↦
-        let feed : slice_index text c.in-Some.end ≡ 10 = sym byte ∙ w.if-bytes-end-eq10.true in
-        let past = past_feed (lines_of c.loop-end.lines) c.loop-end.number (texts c.loop-end.fields.items) (drop c.loop-end.start text) field (kept_lines 1 (lines_in text)) inv.4 ends.plain rest (left ∙ ap (λ b. field ++ b ∷ rest) feed) in
-        (found.1, omega (arith, ends.high), rw w.number-is (omega (arith, ends.low, inv.2)), after, rw (w.lines-is, w.fields-is, w.number-is, w.clear.ensures.items, w.in_ok-end_line.ensures, w.deref.ensures.value, added) past)
-    | else-bytes-end-eq10 w ↦
-        let tab : slice_index text c.in-Some.end ≡ 9 = is_tab _ ends.ends (λ feed. w.if-bytes-end-eq10.false (byte ∙ feed)) in
-        let past = past_tab (lines_of c.loop-end.lines) c.loop-end.number (texts c.loop-end.fields.items) (drop c.loop-end.start text) field (kept_lines 1 (lines_in text)) inv.4 ends.plain rest (left ∙ ap (λ b. field ++ b ∷ rest) tab) in
-        (found.1, omega (arith, ends.high), rw w.number-is (omega (arith, ends.low, inv.2)), after, rw (w.lines-is, w.fields-is, w.number-is, added) past)
+      | then-bytes-end-eq10+in_ok-end_line w ↦
+          let feed : slice_index text c.in-Some.end ≡ 10 = sym byte ∙ w.if-bytes-end-eq10.true in
+          let past = past_feed (lines_of c.loop-end.lines) c.loop-end.number (texts c.loop-end.fields.items) (drop c.loop-end.start text) field (kept_lines 1 (lines_in text)) inv.4 ends.plain rest (left ∙ ap (λ b. field ++ b ∷ rest) feed) in
+          (found.1, omega (arith, ends.high), rw w.number-is (omega (arith, ends.low, inv.2)), after, rw (w.lines-is, w.fields-is, w.number-is, w.clear.ensures.items, w.in_ok-end_line.ensures, w.deref.ensures.value, added) past)
+      | else-bytes-end-eq10 w ↦
+          let tab : slice_index text c.in-Some.end ≡ 9 = is_tab _ ends.ends (λ feed. w.if-bytes-end-eq10.false (byte ∙ feed)) in
+          let past = past_tab (lines_of c.loop-end.lines) c.loop-end.number (texts c.loop-end.fields.items) (drop c.loop-end.start text) field (kept_lines 1 (lines_in text)) inv.4 ends.plain rest (left ∙ ap (λ b. field ++ b ∷ rest) tab) in
+          (found.1, omega (arith, ends.high), rw w.number-is (omega (arith, ends.low, inv.2)), after, rw (w.lines-is, w.fields-is, w.number-is, added) past)
     ]
 
 pub returns : goal.returns

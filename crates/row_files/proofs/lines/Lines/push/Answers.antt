@@ -1,4 +1,4 @@
-use Rattle.std.proofs.Common.{arith, ap, sym, ◌≡◌, ◌++◌, ◌∷◌, [], ◌∙◌, length, is_ok}
+use Rattle.std.proofs.Common.{is_none, arith, ap, sym, ◌≡◌, ◌++◌, ◌∷◌, [], ◌∙◌, length, is_ok}
 use Rattle.std.proofs.lemmas.List.{length-map}
 use Rattle.guppy_packages.specs.Rows.{texts}
 use Rattle.row_files.specs.RowOfLine.{row_of}
@@ -34,4 +34,5 @@ invariant_of-self-2 c =
     let starts : c.len-start.result ≡ length (texts kept) = omega (arith, c.len-start.ensures, c.args.self.now.kept.ok.0) in
     let ends : c.len-end.result ≡ length (texts kept ++ more) = omega (arith, c.len-end.ensures, c.keep.new.kept.ok.0, ap length added) in
     let row = c.form_of-form.ensures.row ∙ ap row_of (sym c.form_of-form.ensures.fields) in
-    rw (c.push.ensures.items, added) (record { each_kept = one_more_if (texts kept) more c.args.self.now.lines.items c.args.self.now.each_kept c.args.number _ _ c.form_of-form.result starts ends (is_ok c.push.result) row })
+    let known = ap is_none c.form_of-form.ensures.row ∙ c.form_of-form.ensures.known in
+    rw (c.push.ensures.items, added) (record { each_kept = one_more_if (texts kept) more c.args.self.now.lines.items c.args.self.now.each_kept c.args.number _ _ c.form_of-form.result starts ends (is_ok c.push.result) row known })
