@@ -13,7 +13,7 @@ use std::hash::{BuildHasherDefault, Hash};
 use std::marker::Model;
 use std::mem;
 
-/// How many items are scanned: a set of more hashes them.
+/// How many items are scanned: a set of more hashes them. Room for so many is taken at once, and given back by `shrink_to_fit`.
 const FEW: usize = 16;
 
 /// The items, in the order of insertion.
