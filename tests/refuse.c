@@ -1,5 +1,6 @@
 /* Loaded before the C library (LD_PRELOAD): the program's own request for memory of number REFUSE, from 1, gets none. Each
-   refusal is told on standard error. Requests that the C library makes for itself are none of the program's. */
+   refusal is told on standard error. Requests that the C library makes for itself are none of the program's, and a block that is
+   made smaller is no request: the program gives memory back then. */
 #define _GNU_SOURCE
 #include <dlfcn.h>
 #include <errno.h>
@@ -15,6 +16,22 @@ extern void *__libc_memalign(size_t alignment, size_t size);
 
 static uintptr_t begin, end;
 static unsigned long asked;
+
+/* How many bytes were last asked for at each place. */
+#define PLACES (1ul << 20)
+static struct { void *at; size_t size; } sizes[PLACES];
+
+static size_t *size_at(void *at) {
+  unsigned long k = ((uintptr_t)at >> 4) % PLACES;
+  while (sizes[k].at != 0 && sizes[k].at != at) k = (k + 1) % PLACES;
+  sizes[k].at = at;
+  return &sizes[k].size;
+}
+
+static void *noted(void *at, size_t size) {
+  if (at != 0) *size_at(at) = size;
+  return at;
+}
 
 /* The first object is the program. */
 static int see(struct dl_phdr_info *info, size_t size, void *unused) {
@@ -44,27 +61,28 @@ static int refused(void *from) {
 }
 
 void *malloc(size_t size) {
-  return refused(__builtin_return_address(0)) ? 0 : __libc_malloc(size);
+  return refused(__builtin_return_address(0)) ? 0 : noted(__libc_malloc(size), size);
 }
 
 void *calloc(size_t count, size_t size) {
-  return refused(__builtin_return_address(0)) ? 0 : __libc_calloc(count, size);
+  return refused(__builtin_return_address(0)) ? 0 : noted(__libc_calloc(count, size), count * size);
 }
 
 void *realloc(void *old, size_t size) {
-  return refused(__builtin_return_address(0)) ? 0 : __libc_realloc(old, size);
+  int smaller = old != 0 && size <= *size_at(old);
+  return !smaller && refused(__builtin_return_address(0)) ? 0 : noted(__libc_realloc(old, size), size);
 }
 
 void *memalign(size_t alignment, size_t size) {
-  return refused(__builtin_return_address(0)) ? 0 : __libc_memalign(alignment, size);
+  return refused(__builtin_return_address(0)) ? 0 : noted(__libc_memalign(alignment, size), size);
 }
 
 void *aligned_alloc(size_t alignment, size_t size) {
-  return refused(__builtin_return_address(0)) ? 0 : __libc_memalign(alignment, size);
+  return refused(__builtin_return_address(0)) ? 0 : noted(__libc_memalign(alignment, size), size);
 }
 
 int posix_memalign(void **out, size_t alignment, size_t size) {
   if (refused(__builtin_return_address(0))) return ENOMEM;
-  *out = __libc_memalign(alignment, size);
+  *out = noted(__libc_memalign(alignment, size), size);
   return *out ? 0 : ENOMEM;
 }
