@@ -1,7 +1,6 @@
-use Rattle.std.proofs.Common.{◌≡◌, ◌∙◌, ◌+◌, ◌++◌, ◌∷◌, [], ◌<◌, ℕ, List, ap, sym, subst, arith, length, length-append}
+use Rattle.std.proofs.Common.{◌≡◌, ◌∙◌, ◌+◌, ◌∷◌, [], ap, arith, length, length-append}
 use Rattle.guppy_packages.specs.Rows.{Text}
-use Rattle.guppy_packages.specs.Metadata.{package_graph_of, package_number_of}
-use Rattle.feature_core.specs.declared.named_row.NamedRow.{NamedRow}
+use Rattle.guppy_packages.specs.Metadata.{package_number_of}
 use Rattle.feature_core.specs.inner.NamedEntries.{numbers_named}
 use Rattle.feature_core.specs.inner.NamedLinks.{entries_of, link_numbers}
 use Rattle.feature_core.proofs.GroupedLinks.{rows_next, rows_all, rows_under}
