@@ -1,7 +1,8 @@
 -- What a list of edges without a fault is.
-use Rattle.std.proofs.Common.{◌≡◌, ℕ, zero, suc, ◌+◌, ◌-◌, ◌<◌, ◌≤◌, List, refl, sym, ◌∙◌, ap, length, get_or, ◌⊎◌, inl, inr, arith}
+use Rattle.std.proofs.Common.{◌≡◌, ℕ, zero, suc, ◌+◌, ◌-◌, ◌<◌, ◌≤◌, List, refl, sym, ◌∙◌, ap, length, get_or, ◌⊎◌, inl, inr, arith, Some, slice_get}
 use Rattle.std.proofs.lemmas.Bool.{cases_eq, cases_order}
 use Rattle.std.proofs.lemmas.List.{get_or-map, length-map}
+use Rattle.std.proofs.lemmas.Option.{get_or_from_slice_get}
 use Rattle.guppy_support.specs.declared.digraph.Edge.{Edge}
 use Rattle.guppy_support.specs.Graph.{Graph, IsDigraph, IsBefore, ComesAfter, IsSound, sources, targets, source_of, target_of}
 use Rattle.guppy_support.specs.Paths.{HasEdge}
@@ -11,6 +12,13 @@ source_is es k e l is = get_or-map (λ (d : Edge). d.from) es k e 0 l ∙ ap (λ
 
 pub target_is : (es : List Edge) (k : ℕ) (e : Edge) → k < length es → e ≡ get_or es k e → target_of es k ≡ e.to
 target_is es k e l is = get_or-map (λ (d : Edge). d.to) es k e 0 l ∙ ap (λ (d : Edge). d.to) (sym is)
+
+-- the ends of edge k, where it was got
+pub source_got : (es : List Edge) (k : ℕ) (e : Edge) → k < length es → slice_get es k ≡ Some e → source_of es k ≡ e.from
+source_got es k e l got = source_is es k e l (sym (get_or_from_slice_get es k e e got))
+
+pub target_got : (es : List Edge) (k : ℕ) (e : Edge) → k < length es → slice_get es k ≡ Some e → target_of es k ≡ e.to
+target_got es k e l got = target_is es k e l (sym (get_or_from_slice_get es k e e got))
 
 pub ends_within : (g : Graph) (k : ℕ) (e : Edge) → IsDigraph g → k < length g.edges → e ≡ get_or g.edges k e → (e.from < g.nodes) × (e.to < g.nodes)
 ends_within g k e h l is =

@@ -1,5 +1,6 @@
 pub mod BackwardWalk
 pub mod Counts
+pub mod EdgeColumns
 pub mod FinishOrder
 pub mod ForwardWalk
 pub mod Heads

@@ -7,9 +7,11 @@ ghost use Rattle.guppy_support.specs.Rows.{places};
 ghost use Rattle.guppy_support.specs.inner.PackedRows.{IsPacked};
 
 mod begins;
+mod columns;
 
 use crate::rows::{Keys, Rows, pack_rows};
 use begins::source_begins;
+use columns::Columns;
 use std::alloc::{AllocError, Global};
 use std::marker::Model;
 use std::ops::Range;
@@ -37,7 +39,7 @@ pub enum DigraphError {
 #[derive(Debug, Drop)]
 pub struct Digraph {
     nodes: usize,
-    edges: Vec<Edge>,
+    edges: Columns,
     // where the edges of each source begin; the end stands last
     begins: Vec<usize>,
     inward: Rows,
@@ -49,16 +51,19 @@ impl Model for Digraph {
 
     ghost Value = { Graph };
 
-    ghost view = { λ d. record { nodes = d.nodes; edges = d.edges.items } };
+    ghost view = { λ d. record { nodes = d.nodes; edges = d.edges } };
 
     ghost invariant = { λ d.
-        IsDigraph (record { nodes = d.nodes; edges = d.edges.items })
-        × AreAllBegun d.nodes (sources d.edges.items) d.begins.items
-        × IsPacked d.nodes (targets d.edges.items) d.inward.begins.items d.inward.numbers.items };
+        IsDigraph (record { nodes = d.nodes; edges = d.edges })
+        × AreAllBegun d.nodes (sources d.edges) d.begins.items
+        × IsPacked d.nodes (targets d.edges) d.inward.begins.items d.inward.numbers.items };
 }
 
 impl Digraph {
     /// The digraph of these edges. They are examined in order, each edge's ends before its place; the first fault is the error.
+    ///
+    /// More than 2147483648 nodes, whose numbers don't fit in 31 bits, are answered as want of memory: to say where the edges of each
+    /// node begin would take over 32 gigabytes.
     pub fn new(alloc: Global, nodes: usize, edges: &[Edge]) -> Result<Digraph, DigraphError>
         ensures made { IfOk result (λ g. g ≡ record { nodes = nodes; edges = edges.now }) }
         ensures sound { IfOk result (λ g. IsDigraph g) }
@@ -73,7 +78,7 @@ impl Digraph {
         }
     }
 
-    /// The digraph of these edges, as `new` makes it. It keeps the list, and no copy is made.
+    /// The digraph of these edges, as `new` makes it. The list is let go once its edges are copied.
     pub fn from_edges(
         alloc: Global,
         nodes: usize,
@@ -86,7 +91,7 @@ impl Digraph {
         if let Some(fault) = first_fault(nodes, &edges) {
             return Err(fault);
         }
-        match Digraph::built(alloc, nodes, edges) {
+        match Digraph::taken(alloc, nodes, edges) {
             Ok(graph) => Ok(graph),
             Err(_) => Err(DigraphError::Memory),
         }
@@ -96,14 +101,24 @@ impl Digraph {
         requires { IsDigraph (record { nodes = nodes; edges = edges.now }) }
         ensures { IfOk result (λ g. g ≡ record { nodes = nodes; edges = edges.now }) }
     {
-        let copied = Vec::from_slice(alloc, edges)?;
-        let graph = Digraph::built(alloc, nodes, copied)?;
+        let columns = Columns::new(alloc, nodes, edges)?;
+        let graph = Digraph::built(alloc, nodes, columns)?;
         Ok(graph)
     }
 
-    fn built(alloc: Global, nodes: usize, edges: Vec<Edge>) -> Result<Digraph, AllocError>
+    fn taken(alloc: Global, nodes: usize, edges: Vec<Edge>) -> Result<Digraph, AllocError>
         requires { IsDigraph (record { nodes = nodes; edges = edges.items }) }
         ensures { IfOk result (λ g. g ≡ record { nodes = nodes; edges = edges.items }) }
+    {
+        let columns = Columns::new(alloc, nodes, &edges)?;
+        drop(edges);
+        let graph = Digraph::built(alloc, nodes, columns)?;
+        Ok(graph)
+    }
+
+    fn built(alloc: Global, nodes: usize, edges: Columns) -> Result<Digraph, AllocError>
+        requires { IsDigraph (record { nodes = nodes; edges = edges }) }
+        ensures { IfOk result (λ g. g ≡ record { nodes = nodes; edges = edges }) }
     {
         let inward = inward_rows(alloc, nodes, &edges)?;
         let begins = source_begins(alloc, nodes, &edges)?;
@@ -141,7 +156,7 @@ impl Digraph {
         requires { number < length self.now.edges }
         ensures { slice_get self.now.edges number ≡ Some result }
     {
-        self.edges[number]
+        self.edges.edge(number)
     }
 
     /// The number of the edge that leads from one node to the other, by binary search.
@@ -153,7 +168,7 @@ impl Digraph {
         let mut high = self.edges.len();
         while low < high {
             let middle = low + (high - low) / 2;
-            let edge = self.edges[middle];
+            let edge = self.edges.edge(middle);
             if is_before((edge.from, edge.to), (from, to)) {
                 low = middle + 1;
             } else if is_before((from, to), (edge.from, edge.to)) {
@@ -214,7 +229,7 @@ fn is_before(first: (usize, usize), other: (usize, usize)) -> bool
 // The targets of edges, in their order.
 #[derive(Drop)]
 struct Targets<'a> {
-    edges: &'a [Edge],
+    edges: &'a Columns,
 }
 
 impl<'a> Keys for Targets<'a> {
@@ -225,12 +240,12 @@ impl<'a> Keys for Targets<'a> {
     }
 
     fn at(&self, place: usize) -> usize {
-        self.edges[place].to
+        self.edges.edge(place).to
     }
 }
 
 // The numbers of the edges by target.
-fn inward_rows(alloc: Global, nodes: usize, edges: &[Edge]) -> Result<Rows, AllocError>
+fn inward_rows(alloc: Global, nodes: usize, edges: &Columns) -> Result<Rows, AllocError>
     requires { IsDigraph (record { nodes = nodes; edges = edges.now }) }
     ensures { IfOk result (λ rows. IsPacked nodes (targets edges.now) rows.begins.items rows.numbers.items) }
 {

@@ -3,7 +3,7 @@ ghost use Rattle.std.specs.Prelude.{◌≡◌, ℕ, ◌+◌, ◌<◌, ◌≤◌,
 ghost use Rattle.guppy_support.specs.Graph.{IsDigraph, sources};
 ghost use Rattle.guppy_support.specs.inner.PackedRows.{AreAllBegun};
 
-use crate::digraph::Edge;
+use crate::digraph::columns::Columns;
 use std::alloc::{AllocError, Global};
 
 /// Lets the rows up to that of the node begin at the place, where they have no begin.
@@ -22,14 +22,14 @@ fn begin_up_to(begins: &mut Vec<usize>, node: usize, place: usize) -> Result<(),
 pub(crate) fn source_begins(
     alloc: Global,
     nodes: usize,
-    edges: &[Edge],
+    edges: &Columns,
 ) -> Result<Vec<usize>, AllocError>
     requires { IsDigraph (record { nodes = nodes; edges = edges.now }) }
     ensures { IfOk result (λ begins. AreAllBegun nodes (sources edges.now) begins.items) }
 {
     let mut begins = Vec::with_capacity(alloc, nodes.saturating_add(1))?;
     for place in 0..edges.len() {
-        begin_up_to(&mut begins, edges[place].from, place)?;
+        begin_up_to(&mut begins, edges.edge(place).from, place)?;
     }
     begin_up_to(&mut begins, nodes, edges.len())?;
     Ok(begins)

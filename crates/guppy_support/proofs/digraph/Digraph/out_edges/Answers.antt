@@ -5,7 +5,7 @@ use Rattle.guppy_support.proofs.digraph.Digraph.out_edges.Goals as goal
 
 pub returns : goal.returns
 returns c =
-    let g : Graph = record { nodes = c.self.inside.nodes; edges = c.self.inside.edges.items } in
+    let g : Graph = record { nodes = c.self.inside.nodes; edges = c.self.inside.edges } in
     let node : c.args.node < g.nodes = subst (λ (h : Graph). c.args.node < h.nodes) (sym c.self.view_is) c.requires in
     let r : IsOutRange c.args.self.now c.args.node c.index.result.now c.index-2.result.now =
     subst (λ (h : Graph). IsOutRange h c.args.node c.index.result.now c.index-2.result.now) c.self.view_is

@@ -1,18 +1,13 @@
 use Rattle.std.proofs.Common.{◌≡◌, ◌<◌, inl, inr, length, arith, refl}
 use Rattle.std.proofs.lemmas.Bool.{cases_eq}
 use Rattle.std.proofs.lemmas.List.{length-map}
-use Rattle.std.specs.Prelude.{false}
 use Rattle.guppy_support.specs.declared.digraph.Edge.{Edge}
 use Rattle.guppy_support.specs.Graph.{Graph, sources, source_of}
-use Rattle.guppy_support.proofs.FaultLemmas.{ascends, source_read}
+use Rattle.guppy_support.proofs.FaultLemmas.{ascends, source_got}
 use Rattle.guppy_support.proofs.BeginLemmas.{begun_up}
 use Rattle.guppy_support.proofs.digraph.begins.source_begins.Goals as goal
 
-no_edge : Edge
-no_edge = record { from = 0; to = 0; non_dev = false }
-
 pub loop-place-preserved : goal.loop-place-preserved
-unfolding no_edge
 loop-place-preserved c =
     let es = c.args.edges.now in
     let k = c.loop-place.place in
@@ -20,10 +15,11 @@ loop-place-preserved c =
     let e = c.in_ok-begin_up_to.ensures in
     let digraph : Graph = record { nodes = c.args.nodes; edges = es } in
     let edges = length-map es (λ (d : Edge). d.from) in
-    let read = source_read es k no_edge c.loop-place-test.true in
-    let node = (c.requires k c.loop-place-test.true).nodes.from in
+    let inside : k < length es = omega (arith, c.loop-place-test.true, c.len-place-end.ensures) in
+    let read = source_got es k c.edge.result inside c.edge.ensures in
+    let node = (c.requires k inside).nodes.from in
     record {
-      begun = begun_up (sources es) c.loop-place.begins.items c.begin_up_to.new.begins.items _ k i.begun (omega (arith, edges, c.loop-place-test.true)) i.before
+      begun = begun_up (sources es) c.loop-place.begins.items c.begin_up_to.new.begins.items c.edge.result.from k i.begun (omega (arith, edges, inside)) i.before
           (λ j g l.
           let lj : j < length es = omega (arith, l, edges) in
           elim (cases_eq k j) [
@@ -43,6 +39,6 @@ returns c =
     let edges = length-map es (λ (d : Edge). d.from) in
     record {
       long = omega (arith, e.long, i.few);
-      begun = begun_up (sources es) c.loop-place.begins.items c.begin_up_to-2.new.begins.items c.args.nodes (length es) i.begun (omega (arith, edges))
-          (λ j l. i.before j (omega arith)) (λ j g l. absurd (omega (arith, g, l, edges))) e.long e.kept e.added;
+      begun = begun_up (sources es) c.loop-place.begins.items c.begin_up_to-2.new.begins.items c.args.nodes c.len.result i.begun (omega (arith, edges, c.len.ensures))
+          (λ j l. i.before j (omega (arith, l, c.len.ensures, c.len-place-end.ensures))) (λ j g l. absurd (omega (arith, g, l, edges, c.len.ensures))) e.long e.kept e.added;
     }
