@@ -1,5 +1,5 @@
 -- The head of a component, by its row.
-use Rattle.std.proofs.Common.{◌≡◌, ℕ, zero, suc, ◌<◌, ◌≤◌, inl, inr, Bool, true, false, List, [], ◌∷◌, length, get_or, sym, ◌∙◌, arith}
+use Rattle.std.proofs.Common.{◌≡◌, ℕ, zero, suc, ◌<◌, ◌≤◌, inl, inr, Bool, true, false, List, [], ◌∷◌, length, get_or, refl, sym, ◌∙◌, arith}
 use Rattle.std.proofs.lemmas.Bool.{cases_eq, cases_lt}
 use Rattle.std.proofs.lemmas.Bool.Decides.{eqb_tells}
 use Rattle.guppy_support.specs.Rows.{places_from, places}
@@ -47,6 +47,26 @@ has_at (y ∷ ys) x h =
 -- each node of rank c stands in the row of c
 pub row_complete : (ranks : List ℕ) (c u : ℕ) → u < length ranks → get_or ranks u 0 ≡ c → (k : ℕ) × (k < length (places c ranks)) × (get_or (places c ranks) k 0 ≡ u)
 row_complete ranks c u h e = has_at (places c ranks) u (has_place c 0 ranks u u h e (omega arith))
+
+-- in a component of one node, its row has that one
+pub row_alone : (ranks : List ℕ) (c u : ℕ) → u < length ranks → get_or ranks u 0 ≡ c → length (places c ranks) ≡ 1 → (j : ℕ) → j < length (places c ranks) → get_or (places c ranks) j 0 ≡ u
+row_alone ranks c u h e one j l =
+    let r = row_complete ranks c u h e in
+    let same : r.0 ≡ j = omega (arith, r.1, one, l) in
+    rw same at r.2
+
+-- and that one is its first
+pub first_alone : (ranks held : List ℕ) (c u : ℕ) → u < length ranks → get_or ranks u 0 ≡ c → length (places c ranks) ≡ 1 → IsFirst (places c ranks) held u
+first_alone ranks held c u h e one =
+    record {
+      place = 0;
+      within = omega (arith, one);
+      is = row_alone ranks c u h e one 0 (omega (arith, one));
+      first = elim (cases_eq (get_or held u 0) 0) [
+        | inl free ↦ inl (free, λ j l. absurd (omega arith))
+        | inr stuck ↦ inr (refl, λ j l z. stuck (rw (row_alone ranks c u h e one j l) at z))
+      ];
+    }
 
 -- in a component with no node done, the first of its row with no hold, or else the first, is the head
 pub first_head : (n : ℕ) (ranks held : List ℕ) (done : List Bool) (c x : ℕ) → length ranks ≡ n → ((u : ℕ) → get_or ranks u 0 ≡ c → ¬ IsDone done u) → IsFirst (places c ranks) held x → (get_or ranks x 0 ≡ c) × IsHead n ranks held done x

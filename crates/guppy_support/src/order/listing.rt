@@ -76,40 +76,44 @@ pub(crate) fn first_of(row: &[usize], held: &[usize]) -> usize
     row[0]
 }
 
-/// The first node of the component of that rank with no hold, or else its first.
-fn head_of(groups: &Rows, ranks: &[usize], held: &[usize], rank: usize, nodes: usize) -> usize
-    requires rank { rank < nodes }
+/// The first node of that node's component with no hold, or else its first. A node that is alone is the first.
+fn head_of(groups: &Rows, ranks: &[usize], held: &[usize], node: usize, nodes: usize) -> usize
+    requires node { node < length ranks.now }
+    requires small { slice_index ranks.now node < nodes }
     requires packed { IsPacked nodes ranks.now groups.now.begins.items groups.now.numbers.items }
-    requires some { 0 < length (places rank ranks.now) }
-    requires nodes { (j : ℕ) → j < length (places rank ranks.now) → slice_index (places rank ranks.now) j < length held.now }
-    ensures { IsFirst (places rank ranks.now) held.now result }
+    requires nodes { (j : ℕ) → j < length (places (slice_index ranks.now node) ranks.now) → slice_index (places (slice_index ranks.now node) ranks.now) j < length held.now }
+    ensures { IsFirst (places (slice_index ranks.now node) ranks.now) held.now result }
 {
-    let members = row(groups, ranks, rank, nodes);
+    let members = row_of(groups, ranks, node, nodes);
+    if members.len() == 1 {
+        return node;
+    }
     first_of(members, held)
 }
 
-/// One edge less enters the component; when it was the last, its head joins the starts.
+/// One edge less enters the node's component; when it was the last, its head joins the starts.
 fn leave_outside(
     outside: &mut Vec<usize>,
     starts: &mut Queue,
     held: &[usize],
     groups: &Rows,
     ranks: &[usize],
-    rank: usize,
+    node: usize,
     nodes: usize,
 ) -> Result<(), AllocError>
-    requires rank { rank < length outside.old.items }
-    requires small { rank < nodes }
+    requires node { node < length ranks.now }
+    requires rank { slice_index ranks.now node < length outside.old.items }
+    requires small { slice_index ranks.now node < nodes }
     requires packed { IsPacked nodes ranks.now groups.now.begins.items groups.now.numbers.items }
-    requires positive { 0 < slice_index outside.old.items rank }
-    requires some { 0 < length (places rank ranks.now) }
-    requires nodes { (j : ℕ) → j < length (places rank ranks.now) → slice_index (places rank ranks.now) j < length held.now }
-    ensures outside { OnOk result (outside.new.items ≡ set outside.old.items rank (slice_index outside.old.items rank - 1)) }
-    ensures starts { OnOk result (StartsGrow (places rank ranks.now) held.now (slice_index outside.old.items rank - 1) starts.old starts.new) }
+    requires positive { 0 < slice_index outside.old.items (slice_index ranks.now node) }
+    requires nodes { (j : ℕ) → j < length (places (slice_index ranks.now node) ranks.now) → slice_index (places (slice_index ranks.now node) ranks.now) j < length held.now }
+    ensures outside { OnOk result (outside.new.items ≡ set outside.old.items (slice_index ranks.now node) (slice_index outside.old.items (slice_index ranks.now node) - 1)) }
+    ensures starts { OnOk result (StartsGrow (places (slice_index ranks.now node) ranks.now) held.now (slice_index outside.old.items (slice_index ranks.now node) - 1) starts.old starts.new) }
 {
+    let rank = ranks[node];
     outside[rank] -= 1;
     if outside[rank] == 0 {
-        starts.push(head_of(groups, ranks, held, rank, nodes))?;
+        starts.push(head_of(groups, ranks, held, node, nodes))?;
     }
     Ok(())
 }
@@ -159,7 +163,7 @@ fn out_edge(graph: &Digraph, node: usize, place: usize) -> Edge
 }
 
 impl Plan {
-    /// Takes the next node of the component at hand.
+    /// Takes the next node of the component at hand. Where it has one node, that one was taken.
     fn next_within(
         &mut self,
         graph: &Digraph,
@@ -179,6 +183,9 @@ impl Plan {
             return Some(node);
         }
         let members = row(groups, ranks, rank, graph.node_count());
+        if members.len() == 1 {
+            return None;
+        }
         let Some(place) = fresh_from(members, self.next, &self.done) else {
             return None;
         };
@@ -211,7 +218,7 @@ impl Plan {
             &self.held,
             groups,
             ranks,
-            ranks[edge.to],
+            edge.to,
             graph.node_count(),
         )?;
         Ok(())
@@ -363,7 +370,7 @@ fn wait(ready: &mut Queue, held: &[usize], node: usize, start: usize) -> Result<
     Ok(())
 }
 
-/// The nodes of a row with no hold, but the start, are ready.
+/// The nodes of a row with no hold, but the start, are ready. A row of one node has the start alone.
 fn make_ready(
     ready: &mut Queue,
     row: &[usize],
@@ -372,8 +379,12 @@ fn make_ready(
 ) -> Result<(), AllocError>
     requires nodes { (j : ℕ) → j < length row.now → slice_index row.now j < length held.now }
     requires none { ready.old ≡ [] }
+    requires alone { length row.now ≡ 1 → slice_index row.now 0 ≡ start }
     ensures { OnOk result (RowWaits row.now held.now start ready.new) }
 {
+    if row.len() == 1 {
+        return Ok(());
+    }
     for place in 0..row.len() {
         wait(ready, held, row[place], start)?;
     }

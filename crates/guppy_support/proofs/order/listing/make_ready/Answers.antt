@@ -1,4 +1,4 @@
-use Rattle.std.proofs.Common.{◌<◌, length, arith, inl, inr}
+use Rattle.std.proofs.Common.{◌≡◌, ◌<◌, [], Contains, length, arith, inl, inr}
 use Rattle.std.proofs.lemmas.Bool.{cases_eq}
 use Rattle.std.proofs.lemmas.List.Elements.{Contains-get_or}
 use Rattle.guppy_support.proofs.order.listing.make_ready.Goals as goal
@@ -13,4 +13,11 @@ loop-place-preserved c =
     record {
       ready_all = λ j h z ne. elim (cases_eq j k) [ inl e ↦ rw e (a.now (rw e at z) (rw e at ne)) | inr o ↦ a.kept _ (i.ready_all j (omega arith) z ne) ];
       ready_only = λ y cy. elim (a.only y cy) [ inl e ↦ rw e.0 (Contains-get_or row k 0 inside, e.1) | inr o ↦ i.ready_only y o ];
+    }
+
+pub returns-then-row-eq1 : goal.returns-then-row-eq1
+returns-then-row-eq1 c =
+    record {
+      ready_all = λ j h z ne. let first : j ≡ 0 = omega (arith, h, c.if-row-eq1.true) in absurd ((rw first at ne) (c.requires.alone c.if-row-eq1.true));
+      ready_only = λ y cy. let none : Contains [] y = rw c.requires.none at cy in absurd (omega (arith, none.1));
     }

@@ -1,6 +1,7 @@
-use Rattle.std.proofs.Common.{◌<◌, length, arith, ap, get_or}
+use Rattle.std.proofs.Common.{◌<◌, length, arith, ap, refl, get_or}
 use Rattle.guppy_support.specs.Rows.{places}
 use Rattle.guppy_support.proofs.PlaceLemmas.{places_within}
+use Rattle.guppy_support.proofs.GroupLemmas.{row_alone}
 use Rattle.guppy_support.proofs.ChoiceLemmas.{choose_start, order_end, filled}
 use Rattle.guppy_support.proofs.order.listing.Plan.begin.Goals as goal
 
@@ -24,6 +25,15 @@ make_ready-requires-clause-nodes c =
     let w = places_within r c.args.ranks.now j h' in
     let l = ap length c.deref.ensures.value in
     rw c.row_of-members.ensures (omega (arith, w.0, l, c.requires.pause.0.plan.held_long, c.requires.setup.ranking.long))
+
+pub make_ready-requires-clause-alone : goal.make_ready-requires-clause-alone
+make_ready-requires-clause-alone c =
+    λ one.
+    let v = c.in-Some.start in
+    let long = ap length c.row_of-members.ensures in
+    rw c.row_of-members.ensures
+    (row_alone c.args.ranks.now (get_or c.args.ranks.now v 0) v (omega (arith, c.requires.pause.0.plan.starts_nodes _ c.in-Some.ensures.some.was, c.requires.setup.ranking.long)) refl
+    (omega (arith, one, long)) 0 (omega (arith, one, long)))
 
 pub returns-clause-some : goal.returns-clause-some
 returns-clause-some c =

@@ -1,8 +1,8 @@
-use Rattle.std.proofs.Common.{◌≡◌, ◌<◌, length, arith, get_or}
+use Rattle.std.proofs.Common.{◌≡◌, ◌<◌, length, ap, arith, get_or}
 use Rattle.guppy_support.specs.Rows.{places}
 use Rattle.guppy_support.specs.inner.Plans.{rest_of, IsFreshPlace}
 use Rattle.guppy_support.proofs.PlaceLemmas.{places_within}
-use Rattle.guppy_support.proofs.ChoiceLemmas.{choose_ready, choose_rest, within_end, rank_small, takes_row, row_done}
+use Rattle.guppy_support.proofs.ChoiceLemmas.{choose_ready, choose_rest, within_end, alone_end, rank_small, takes_row, row_done}
 use Rattle.guppy_support.proofs.order.listing.Plan.next_within.Goals as goal
 
 pub pop_fresh-requires : goal.pop_fresh-requires
@@ -25,6 +25,16 @@ row-members-requires-clause-rank c =
     let small = rank_small c.args.graph.now c.args.ranks.now c.requires.setup p.listed.items p.done p.outside.items p.held.items p.starts
     c.args.rank p.ready (rest_of c.args.ranks.now c.args.rank p) c.requires.within in
     omega (arith, small, c.node_count.ensures)
+
+pub returns-then-members-eq1-clause-none : goal.returns-then-members-eq1-clause-none
+returns-then-members-eq1-clause-none c =
+    let p = c.args.self.now in
+    let one = ap length c.row-members.ensures in (
+      alone_end c.args.graph.now c.args.ranks.now c.requires.setup p.listed.items p.done p.outside.items p.held.items p.starts
+          c.args.rank p.ready (rest_of c.args.ranks.now c.args.rank p) c.requires.within
+          (omega (arith, one, c.if-members-eq1.true)),
+      c.in_default.ensures.empty,
+    )
 
 pub fresh_from-requires : goal.fresh_from-requires
 fresh_from-requires c =

@@ -1,17 +1,11 @@
-use Rattle.std.proofs.Common.{length, arith, ap, refl, get_or}
+use Rattle.std.proofs.Common.{length, arith, ap, get_or}
 use Rattle.guppy_support.proofs.PlaceLemmas.{places_within}
-use Rattle.guppy_support.proofs.GroupLemmas.{row_complete}
 use Rattle.guppy_support.specs.inner.Plans.{rest_of}
 use Rattle.guppy_support.proofs.AtLemmas.{apart_positive, apart_next}
 use Rattle.guppy_support.proofs.order.listing.Plan.pass_apart.Goals as goal
 
 pub leave_outside-requires-clause-positive : goal.leave_outside-requires-clause-positive
 leave_outside-requires-clause-positive c = apart_positive c.args.graph.now c.args.ranks.now c.requires.setup c.args.node c.args.place c.args.self.now.listed.items c.args.self.now.done c.args.self.now.outside.items c.args.self.now.held.items c.args.self.now.starts c.args.self.now.ready (rest_of c.args.ranks.now (get_or c.args.ranks.now c.args.node 0) c.args.self.now) c.requires.at c.args.edge.to c.args.edge.non_dev c.requires.edge c.requires.apart
-
-pub leave_outside-requires-clause-some : goal.leave_outside-requires-clause-some
-leave_outside-requires-clause-some c =
-    let r = row_complete c.args.ranks.now (get_or c.args.ranks.now c.args.edge.to 0) c.args.edge.to (omega (arith, c.requires.setup.ranking.long, c.requires.edge.node_to)) refl in
-    omega (arith, r.1)
 
 pub leave_outside-requires-clause-nodes : goal.leave_outside-requires-clause-nodes
 leave_outside-requires-clause-nodes c =
