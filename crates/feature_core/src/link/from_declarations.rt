@@ -12,6 +12,7 @@ ghost use Rattle.feature_core.specs.Links.{IsLink, includes, has_declaration, li
 ghost use Rattle.feature_core.specs.inner.NamedLinks.{AreNamedLinks};
 ghost use Rattle.feature_core.specs.Values.{link_facts, half_facts};
 
+use crate::link::held::HeldLink;
 use crate::link::statuses::KindCollectors;
 use crate::link::{ConditionalLinkImpl, EnabledLink};
 use crate::named_links::{LinkGroups, numbers_of};
@@ -162,14 +163,8 @@ impl<'g> LinkParts<'g> {
         ensures { IfOk result (λ l. (parts : List (ℕ × List Declared)) → HasParts self.now parts → link_facts l ≡ over_parts which parts) }
     {
         let statuses = self.statuses.statuses(alloc)?;
-        let package_link_ixs = SmallVec::from_slice(alloc, self.links.as_slice())?;
-        Ok(ConditionalLinkImpl {
-            declarations: which,
-            normal: statuses.normal,
-            build: statuses.build,
-            dev: statuses.dev,
-            package_link_ixs,
-        })
+        let held = HeldLink::new(alloc, which, statuses, self.links.as_slice())?;
+        Ok(ConditionalLinkImpl { held })
     }
 }
 

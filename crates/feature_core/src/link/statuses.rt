@@ -92,11 +92,25 @@ pub(crate) struct KindCollectors<'g> {
 }
 
 /// The status of each kind.
-#[derive(Drop)]
+#[derive(Debug, Drop)]
 pub(crate) struct KindStatuses {
     pub(crate) normal: PlatformStatusImpl,
     pub(crate) build: PlatformStatusImpl,
     pub(crate) dev: PlatformStatusImpl,
+}
+
+impl KindStatuses {
+    /// Equal statuses. It fails only where memory is refused.
+    pub(crate) fn try_clone(&self, alloc: Global) -> Result<KindStatuses, AllocError>
+        ensures normal { IfOk result (λ s. impl_status s.normal ≡ impl_status self.now.normal) }
+        ensures build { IfOk result (λ s. impl_status s.build ≡ impl_status self.now.build) }
+        ensures dev { IfOk result (λ s. impl_status s.dev ≡ impl_status self.now.dev) }
+    {
+        let normal = self.normal.try_clone(alloc)?;
+        let build = self.build.try_clone(alloc)?;
+        let dev = self.dev.try_clone(alloc)?;
+        Ok(KindStatuses { normal, build, dev })
+    }
 }
 
 impl<'g> KindCollectors<'g> {
