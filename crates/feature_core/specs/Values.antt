@@ -1,11 +1,10 @@
 -- Edges and their links, without where they lie in memory.
-use Rattle.std.specs.Prelude.{ℕ, List, [], ◌∷◌, Bool, true, false, Option, None, Some}
+use Rattle.std.specs.Prelude.{[], ◌∷◌, Bool, true, false, Option, None, Some}
 use Rattle.std.specs.Option.{option_map}
 use Rattle.guppy_packages.specs.Platform.{Status, always_status, never_status, impl_status}
-use Rattle.feature_labels.specs.declared.link_declarations.LinkDeclarations.{LinkDeclarations}
 use Rattle.feature_core.specs.declared.link.held.HeldLink.{HeldLink}
 use Rattle.feature_core.specs.declared.link.held.HeldLink.TheVariants.{Plain, Full}
-use Rattle.feature_core.specs.declared.link.statuses.KindStatuses.{KindStatuses}
+use Rattle.feature_core.specs.declared.link.held.FullLink.{FullLink}
 use Rattle.feature_core.specs.declared.link.ConditionalLinkImpl.{ConditionalLinkImpl}
 use Rattle.feature_core.specs.declared.link.EnabledLink.{EnabledLink}
 use Rattle.feature_core.specs.declared.edge.WeakSlashImpl.{WeakSlashImpl}
@@ -21,14 +20,13 @@ abbrev pub plain_status : Bool → Status
 plain_status true = always_status
 plain_status false = never_status
 
--- the link of these statuses over these package links
-abbrev pub facts_of : LinkDeclarations → KindStatuses → List ℕ → LinkFacts
-facts_of which statuses links = record {
-  declarations = which;
-  normal = impl_status statuses.normal;
-  build = impl_status statuses.build;
-  dev = impl_status statuses.dev;
-  package_links = links;
+abbrev pub full_facts : FullLink → LinkFacts
+full_facts l = record {
+  declarations = l.declarations;
+  normal = impl_status l.normal;
+  build = impl_status l.build;
+  dev = impl_status l.dev;
+  package_links = l.package_link_ixs.items;
 }
 
 abbrev pub held_facts : HeldLink → LinkFacts
@@ -39,7 +37,7 @@ held_facts (Plain which normal build dev link) = record {
   dev = plain_status dev;
   package_links = link ∷ [];
 }
-held_facts (Full full) = facts_of full.value.declarations full.value.statuses full.value.package_link_ixs.items
+held_facts (Full full) = full_facts full.value
 
 abbrev pub link_facts : ConditionalLinkImpl → LinkFacts
 link_facts l = held_facts l.held

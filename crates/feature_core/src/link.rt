@@ -40,7 +40,7 @@ impl ConditionalLinkImpl {
     {
         match &self.held {
             HeldLink::Plain { normal, .. } => status_where(*normal),
-            HeldLink::Full(full) => PlatformStatus::new(&full.statuses.normal),
+            HeldLink::Full(full) => PlatformStatus::new(&full.normal),
         }
     }
 
@@ -50,7 +50,7 @@ impl ConditionalLinkImpl {
     {
         match &self.held {
             HeldLink::Plain { build, .. } => status_where(*build),
-            HeldLink::Full(full) => PlatformStatus::new(&full.statuses.build),
+            HeldLink::Full(full) => PlatformStatus::new(&full.build),
         }
     }
 
@@ -60,7 +60,7 @@ impl ConditionalLinkImpl {
     {
         match &self.held {
             HeldLink::Plain { dev, .. } => status_where(*dev),
-            HeldLink::Full(full) => PlatformStatus::new(&full.statuses.dev),
+            HeldLink::Full(full) => PlatformStatus::new(&full.dev),
         }
     }
 

@@ -1,9 +1,8 @@
 //! What a link says, in little room.
 ghost use Rattle.std.specs.Prelude.{◌≡◌, IfOk, IfSome};
 ghost use Rattle.guppy_packages.specs.Platform.{impl_status, status_of};
-ghost use Rattle.feature_core.specs.Values.{facts_of, held_facts, plain_status};
+ghost use Rattle.feature_core.specs.Values.{full_facts, held_facts, plain_status};
 
-use crate::link::statuses::KindStatuses;
 use feature_labels::LinkDeclarations;
 use guppy_packages::{PlatformStatus, PlatformStatusImpl};
 use smallvec::SmallVec;
@@ -28,7 +27,9 @@ pub(crate) enum HeldLink {
 #[derive(Debug, Drop)]
 pub(crate) struct FullLink {
     pub(crate) declarations: LinkDeclarations,
-    pub(crate) statuses: KindStatuses,
+    pub(crate) normal: PlatformStatusImpl,
+    pub(crate) build: PlatformStatusImpl,
+    pub(crate) dev: PlatformStatusImpl,
     pub(crate) package_link_ixs: SmallVec<usize, 2>,
 }
 
@@ -54,59 +55,52 @@ fn plain_of(status: &PlatformStatusImpl) -> Option<bool>
     }
 }
 
-/// The link of these statuses, where it's over one package link and each kind is on all platforms or on none.
-fn plain_link(
-    declarations: LinkDeclarations,
-    statuses: &KindStatuses,
-    package_links: &[usize],
-) -> Option<HeldLink>
-    ensures { IfSome result (λ held. held_facts held ≡ facts_of declarations statuses.now package_links.now) }
-{
-    let [package_link_ix] = package_links else {
-        return None;
-    };
-    let normal = plain_of(&statuses.normal)?;
-    let build = plain_of(&statuses.build)?;
-    let dev = plain_of(&statuses.dev)?;
-    Some(HeldLink::Plain {
-        declarations,
-        normal,
-        build,
-        dev,
-        package_link_ix: *package_link_ix,
-    })
+impl FullLink {
+    /// The link in no allocation, where it's over one package link and each kind is on all platforms or on none.
+    fn plain(&self) -> Option<HeldLink>
+        ensures { IfSome result (λ held. held_facts held ≡ full_facts self.now) }
+    {
+        let [package_link_ix] = self.package_link_ixs.as_slice() else {
+            return None;
+        };
+        let normal = plain_of(&self.normal)?;
+        let build = plain_of(&self.build)?;
+        let dev = plain_of(&self.dev)?;
+        Some(HeldLink::Plain {
+            declarations: self.declarations,
+            normal,
+            build,
+            dev,
+            package_link_ix: *package_link_ix,
+        })
+    }
+
+    /// An equal link. It fails only where memory is refused.
+    fn try_clone(&self, alloc: Global) -> Result<FullLink, AllocError>
+        ensures { IfOk result (λ full. full_facts full ≡ full_facts self.now) }
+    {
+        let normal = self.normal.try_clone(alloc)?;
+        let build = self.build.try_clone(alloc)?;
+        let dev = self.dev.try_clone(alloc)?;
+        let package_link_ixs = SmallVec::from_slice(alloc, self.package_link_ixs.as_slice())?;
+        Ok(FullLink {
+            declarations: self.declarations,
+            normal,
+            build,
+            dev,
+            package_link_ixs,
+        })
+    }
 }
 
 impl HeldLink {
-    /// The link of these statuses over these package links, in an allocation of its own.
-    fn full(
-        alloc: Global,
-        declarations: LinkDeclarations,
-        statuses: KindStatuses,
-        package_links: &[usize],
-    ) -> Result<HeldLink, AllocError>
-        ensures { IfOk result (λ held. held_facts held ≡ facts_of declarations statuses package_links.now) }
+    /// The link that says this.
+    pub(crate) fn new(alloc: Global, full: FullLink) -> Result<HeldLink, AllocError>
+        ensures { IfOk result (λ held. held_facts held ≡ full_facts full) }
     {
-        let full = FullLink {
-            declarations,
-            statuses,
-            package_link_ixs: SmallVec::from_slice(alloc, package_links)?,
-        };
-        Ok(HeldLink::Full(Box::new(alloc, full)?))
-    }
-
-    /// The link of these statuses over these package links.
-    pub(crate) fn new(
-        alloc: Global,
-        declarations: LinkDeclarations,
-        statuses: KindStatuses,
-        package_links: &[usize],
-    ) -> Result<HeldLink, AllocError>
-        ensures { IfOk result (λ held. held_facts held ≡ facts_of declarations statuses package_links.now) }
-    {
-        match plain_link(declarations, &statuses, package_links) {
+        match full.plain() {
             Some(plain) => Ok(plain),
-            None => HeldLink::full(alloc, declarations, statuses, package_links),
+            None => Ok(HeldLink::Full(Box::new(alloc, full)?)),
         }
     }
 
@@ -129,9 +123,8 @@ impl HeldLink {
                 package_link_ix: *package_link_ix,
             }),
             HeldLink::Full(full) => {
-                let statuses = full.statuses.try_clone(alloc)?;
-                let links = full.package_link_ixs.as_slice();
-                HeldLink::full(alloc, full.declarations, statuses, links)
+                let full = full.try_clone(alloc)?;
+                Ok(HeldLink::Full(Box::new(alloc, full)?))
             }
         }
     }
