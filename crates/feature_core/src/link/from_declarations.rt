@@ -1,15 +1,15 @@
 //! Links over declarations of package links.
-ghost use Rattle.std.specs.Prelude.{◌≡◌, ◌++◌, ◌∷◌, ◌<◌, [], ℕ, true, if◌then◌else◌, List, Some, IfOk, IfSome, OnOk, length, map, filter, filter_map, is_some, slice_get};
+ghost use Rattle.std.specs.Prelude.{◌≡◌, ◌++◌, ◌∷◌, ◌<◌, [], ℕ, true, if◌then◌else◌, List, Some, IfOk, IfSome, OnOk, length, map, filter, is_some, slice_get};
 ghost use Rattle.std.specs.List.{list_any};
 ghost use Rattle.guppy_packages.specs.Metadata.{link_table_of};
 ghost use Rattle.guppy_packages.specs.Platform.{impl_status};
-ghost use Rattle.guppy_packages.specs.Rows.{Text, Declared};
+ghost use Rattle.guppy_packages.specs.Rows.{Declared};
 ghost use Rattle.guppy_packages.specs.Stored.{declared};
 ghost use Rattle.guppy_packages.specs.Tables.{LinkTable};
-ghost use Rattle.feature_core.specs.Candidates.{unsplit_of, by_name};
+ghost use Rattle.feature_core.specs.Candidates.{by_name};
 ghost use Rattle.feature_core.specs.inner.Collected.{HasKinds, HasParts};
 ghost use Rattle.feature_core.specs.Edges.{half_of};
-ghost use Rattle.feature_core.specs.Links.{IsLink, includes, has_declaration, links_at, at_places, joined, over, over_parts, over_places, platforms_of};
+ghost use Rattle.feature_core.specs.Links.{IsLink, includes, links_at, at_places, joined, over, over_parts, over_places, platforms_of};
 ghost use Rattle.feature_core.specs.inner.NamedLinks.{AreNamedLinks};
 ghost use Rattle.feature_core.specs.Values.{link_facts, half_facts};
 
