@@ -1,7 +1,10 @@
 -- Edges and their links, without where they lie in memory.
-use Rattle.std.specs.Prelude.{Option, None, Some}
+use Rattle.std.specs.Prelude.{[], ◌∷◌, Bool, true, false, Option, None, Some}
 use Rattle.std.specs.Option.{option_map}
-use Rattle.guppy_packages.specs.Platform.{impl_status}
+use Rattle.guppy_packages.specs.Platform.{Status, always_status, never_status, impl_status}
+use Rattle.feature_core.specs.declared.link.held.HeldLink.{HeldLink}
+use Rattle.feature_core.specs.declared.link.held.HeldLink.TheVariants.{Plain, Full}
+use Rattle.feature_core.specs.declared.link.held.FullLink.{FullLink}
 use Rattle.feature_core.specs.declared.link.ConditionalLinkImpl.{ConditionalLinkImpl}
 use Rattle.feature_core.specs.declared.link.EnabledLink.{EnabledLink}
 use Rattle.feature_core.specs.declared.edge.WeakSlashImpl.{WeakSlashImpl}
@@ -12,14 +15,32 @@ use Rattle.feature_core.specs.declared.edge.FeatureEdge.TheVariants.{FeatureToBa
 use Rattle.feature_core.specs.Links.{LinkFacts}
 use Rattle.feature_core.specs.Edges.{WeakFacts, EdgeFacts, base_edge, feature_edge, colon_edge, strong_edge, weak_edge, section_edge}
 
-abbrev pub link_facts : ConditionalLinkImpl → LinkFacts
-link_facts l = record {
+-- always, or never
+abbrev pub plain_status : Bool → Status
+plain_status true = always_status
+plain_status false = never_status
+
+abbrev pub full_facts : FullLink → LinkFacts
+full_facts l = record {
   declarations = l.declarations;
   normal = impl_status l.normal;
   build = impl_status l.build;
   dev = impl_status l.dev;
   package_links = l.package_link_ixs.items;
 }
+
+abbrev pub held_facts : HeldLink → LinkFacts
+held_facts (Plain which normal build dev link) = record {
+  declarations = which;
+  normal = plain_status normal;
+  build = plain_status build;
+  dev = plain_status dev;
+  package_links = link ∷ [];
+}
+held_facts (Full full) = full_facts full.value
+
+abbrev pub link_facts : ConditionalLinkImpl → LinkFacts
+link_facts l = held_facts l.held
 
 abbrev pub half_facts : EnabledLink → Option LinkFacts
 half_facts half = option_map link_facts half.link

@@ -1,5 +1,5 @@
 //! Edges by number, of which those that say the same share one place.
-ghost use Rattle.std.specs.Prelude.{◌≡◌, ◌++◌, ◌∷◌, ◌<◌, ◌↔◌, [], Some, IfOk, OnOk, IsTrue, length, map, not, position, replicate, slice_get};
+ghost use Rattle.std.specs.Prelude.{◌≡◌, ◌++◌, ◌∷◌, ◌<◌, ◌↔◌, [], Some, IfOk, OnOk, IsTrue, length, map, not, position, slice_get};
 ghost use Rattle.feature_core.specs.inner.Pools.{Keeps};
 ghost use Rattle.feature_core.specs.Edges.{EdgeFacts};
 ghost use Rattle.feature_core.specs.Present.{has_present_link};
@@ -17,8 +17,8 @@ use std::marker::Model;
 #[derive(Drop)]
 pub(crate) struct EdgeList {
     pool: Vec<FeatureEdge>,
-    places: Vec<usize>,
-    recent: Vec<usize>,
+    places: Vec<u32>,
+    recent: Vec<u32>,
 }
 
 impl Model for EdgeList {
@@ -31,13 +31,6 @@ impl Model for EdgeList {
     ghost view = { λ l. facts_at l.pool.items l.places.items };
 
     ghost invariant = { λ l. AreWithin l.pool.items l.places.items × (length l.recent.items ≡ 65536) };
-}
-
-/// So many zeroes.
-pub(crate) fn zeroes(alloc: Global, count: usize) -> Result<Vec<usize>, AllocError>
-    ensures { IfOk result (λ v. v.items ≡ replicate count 0) }
-{
-    vec![in alloc; 0usize; count]
 }
 
 /// Whether the link is over optional declarations, as a number.
@@ -94,22 +87,25 @@ fn is_at(pool: &[FeatureEdge], place: usize, edge: &FeatureEdge) -> bool
     false
 }
 
-/// Adds an edge, and gives its place.
-fn place_after(pool: &mut Vec<FeatureEdge>, edge: FeatureEdge) -> Result<usize, AllocError>
+/// Adds an edge, and gives its place. It fails where memory is refused, or places have run out.
+fn place_after(pool: &mut Vec<FeatureEdge>, edge: FeatureEdge) -> Result<u32, AllocError>
     ensures kept { Keeps pool.old.items pool.new.items }
     ensures place { IfOk result (λ place. slice_get (map edge_facts pool.new.items) place ≡ Some (edge_facts edge)) }
 {
     let place = pool.len();
+    if place > u32::MAX as usize {
+        return Err(AllocError);
+    }
     pool.push(edge)?;
-    Ok(place)
+    Ok(place as u32)
 }
 
 /// The place of an edge that says the same, where it's the one in the edge's slot; else the edge is added.
 fn place_of(
     pool: &mut Vec<FeatureEdge>,
-    recent: &mut Vec<usize>,
+    recent: &mut Vec<u32>,
     edge: FeatureEdge,
-) -> Result<usize, AllocError>
+) -> Result<u32, AllocError>
     requires { length recent.old.items ≡ 65536 }
     ensures kept { Keeps pool.old.items pool.new.items }
     ensures place { IfOk result (λ place. slice_get (map edge_facts pool.new.items) place ≡ Some (edge_facts edge)) }
@@ -117,7 +113,7 @@ fn place_of(
 {
     let slot = edge_slot(&edge);
     let near = recent[slot];
-    if is_at(pool.as_slice(), near, &edge) {
+    if is_at(pool.as_slice(), near as usize, &edge) {
         return Ok(near);
     }
     let place = place_after(pool, edge)?;
@@ -130,7 +126,7 @@ impl EdgeList {
     pub(crate) fn new(alloc: Global) -> Result<EdgeList, AllocError>
         ensures { IfOk result (λ edges. edges ≡ []) }
     {
-        let recent = zeroes(alloc, 65_536)?;
+        let recent = vec![in alloc; 0u32; 65_536]?;
         Ok(EdgeList {
             pool: Vec::new(alloc),
             places: Vec::new(alloc),
@@ -170,7 +166,7 @@ impl EdgeList {
         ensures { slice_get self.now number ≡ Some (edge_facts result.now) }
     {
         let place = self.places[number];
-        &self.pool[place]
+        &self.pool[place as usize]
     }
 }
 

@@ -22,8 +22,8 @@ use crate::link::from_declarations::{half_of, link_of, named_link, section_link}
 use crate::named_links::LinkGroups;
 use crate::numbers::Numbers;
 use feature_labels::{FeatureLabel, LinkDeclarations};
-use guppy_support::collect_exactly;
 use indexmap::IndexMap;
+use smallvec::SmallVec;
 use std::alloc::{AllocError, Global};
 
 /// What the edges of a package's nodes are made of: the numbers of nodes, the package of each node, the links of each
@@ -73,10 +73,14 @@ fn link_to(
 }
 
 /// The places that keys tell.
-fn places_of(alloc: Global, keys: &[Key]) -> Result<Vec<usize>, AllocError>
+fn places_of(alloc: Global, keys: &[Key]) -> Result<SmallVec<usize, 2>, AllocError>
     ensures { IfOk result (λ places. places.items ≡ map (λ y. y.place) keys.now) }
 {
-    collect_exactly(keys.iter().map(|key| key.place), alloc)
+    let mut places = SmallVec::new(alloc);
+    for key in keys {
+        places.push(key.place)?;
+    }
+    Ok(places)
 }
 
 /// The places of the declarations that request a pair of nodes, ascending.
@@ -85,7 +89,7 @@ fn places_at(
     sorted: &[Key],
     from: usize,
     to: usize,
-) -> Result<Vec<usize>, AllocError>
+) -> Result<SmallVec<usize, 2>, AllocError>
     requires { AllPairs IsNoLater sorted.now }
     ensures { IfOk result (λ places. (run : List KeyValue) × IsRun sorted.now from to run × (places.items ≡ dedup eqb (map (λ y. y.place) run))) }
 {
@@ -228,7 +232,13 @@ fn section_edge(
     material.numbers.graph.facts();
     let which = half_from(material, key.from);
     let places = places_at(alloc, material.keys, key.from, key.to)?;
-    let link = section_link(alloc, material.numbers.graph, key.source, which, &places)?;
+    let link = section_link(
+        alloc,
+        material.numbers.graph,
+        key.source,
+        which,
+        places.as_slice(),
+    )?;
     Ok(FeatureEdge::DependenciesSection(link))
 }
 

@@ -26,7 +26,6 @@ mod nodes;
 mod numbers;
 mod packed;
 mod quiet;
-mod text_map;
 mod walks;
 mod warning;
 mod weak_links;

@@ -7,22 +7,20 @@ ghost use Rattle.feature_core.specs.Present.{is_present};
 ghost use Rattle.feature_core.specs.Values.{link_facts, half_facts};
 
 pub(crate) mod from_declarations;
+mod held;
 mod statuses;
 
+use crate::link::held::{HeldLink, status_where};
 use feature_labels::LinkDeclarations;
-use guppy_packages::{PlatformStatus, PlatformStatusImpl};
-use smallvec::SmallVec;
+use guppy_packages::PlatformStatus;
 use std::alloc::{AllocError, Global};
+use std::slice::from_ref;
 
 /// The link of a conditional edge: which declarations it covers, on which platforms for each kind of dependency, and
 /// the package links that have one of them.
 #[derive(Debug, Drop)]
 pub struct ConditionalLinkImpl {
-    declarations: LinkDeclarations,
-    normal: PlatformStatusImpl,
-    build: PlatformStatusImpl,
-    dev: PlatformStatusImpl,
-    package_link_ixs: SmallVec<usize, 2>,
+    held: HeldLink,
 }
 
 impl ConditionalLinkImpl {
@@ -30,35 +28,53 @@ impl ConditionalLinkImpl {
     pub fn declarations(&self) -> LinkDeclarations
         ensures { result ≡ (link_facts self.now).declarations }
     {
-        self.declarations
+        match &self.held {
+            HeldLink::Plain { declarations, .. } => *declarations,
+            HeldLink::Full(full) => full.declarations,
+        }
     }
 
     /// Where the covered declarations for normal use apply.
     pub fn normal(&self) -> PlatformStatus<'_>
         ensures { status_of result ≡ (link_facts self.now).normal }
     {
-        PlatformStatus::new(&self.normal)
+        match &self.held {
+            HeldLink::Plain { normal, .. } => status_where(*normal),
+            HeldLink::Full(full) => PlatformStatus::new(&full.normal),
+        }
     }
 
     /// Where the covered declarations for build scripts apply.
     pub fn build(&self) -> PlatformStatus<'_>
         ensures { status_of result ≡ (link_facts self.now).build }
     {
-        PlatformStatus::new(&self.build)
+        match &self.held {
+            HeldLink::Plain { build, .. } => status_where(*build),
+            HeldLink::Full(full) => PlatformStatus::new(&full.build),
+        }
     }
 
     /// Where the covered declarations for development apply.
     pub fn dev(&self) -> PlatformStatus<'_>
         ensures { status_of result ≡ (link_facts self.now).dev }
     {
-        PlatformStatus::new(&self.dev)
+        match &self.held {
+            HeldLink::Plain { dev, .. } => status_where(*dev),
+            HeldLink::Full(full) => PlatformStatus::new(&full.dev),
+        }
     }
 
     /// The numbers of the package links that have a covered declaration, ascending.
     pub fn package_link_ixs(&self) -> &[usize]
         ensures { result.now ≡ (link_facts self.now).package_links }
     {
-        self.package_link_ixs.as_slice()
+        match &self.held {
+            HeldLink::Plain {
+                package_link_ix,
+                ..
+            } => from_ref(package_link_ix),
+            HeldLink::Full(full) => full.package_link_ixs.as_slice(),
+        }
     }
 
     /// Whether no covered declaration is for normal use or for builds.
@@ -79,17 +95,8 @@ impl ConditionalLinkImpl {
     pub fn try_clone(&self, alloc: Global) -> Result<ConditionalLinkImpl, AllocError>
         ensures { IfOk result (λ link. link_facts link ≡ link_facts self.now) }
     {
-        let normal = self.normal.try_clone(alloc)?;
-        let build = self.build.try_clone(alloc)?;
-        let dev = self.dev.try_clone(alloc)?;
-        let package_link_ixs = SmallVec::from_slice(alloc, self.package_link_ixs.as_slice())?;
-        Ok(ConditionalLinkImpl {
-            declarations: self.declarations,
-            normal,
-            build,
-            dev,
-            package_link_ixs,
-        })
+        let held = self.held.try_clone(alloc)?;
+        Ok(ConditionalLinkImpl { held })
     }
 }
 

@@ -4,7 +4,6 @@ ghost use Rattle.feature_core.specs.declared.key.Key.{Key as KeyValue};
 ghost use Rattle.feature_core.specs.inner.Alike.{AreAlike, IsAlikeBefore, IsSingle, SharesSubject};
 ghost use Rattle.feature_core.specs.inner.Parts.{IsOfTables};
 
-use crate::edge_list::zeroes;
 use crate::key::Key;
 use crate::numbers::Numbers;
 use std::alloc::{AllocError, Global};
@@ -93,7 +92,7 @@ fn is_alike_at(numbers: Numbers<'_>, kept: &[Key], near: usize, key: Key) -> boo
 impl NearKeys {
     /// No place yet.
     pub(crate) fn new(alloc: Global) -> Result<NearKeys, AllocError> {
-        let slots = zeroes(alloc, 16_384)?;
+        let slots = vec![in alloc; 0usize; 16_384]?;
         Ok(NearKeys { slots })
     }
 

@@ -11,9 +11,7 @@ use Rattle.guppy_packages.specs.declared.row.DependencyKind.TheVariants.{Normal,
 use Rattle.feature_core.specs.declared.link.statuses.StatusCollector.{StatusCollector}
 use Rattle.feature_core.specs.declared.link.statuses.KindCollectors.{KindCollectors}
 use Rattle.feature_core.specs.declared.link.from_declarations.LinkParts.{LinkParts}
-use Rattle.guppy_packages.specs.Platform.{impl_status}
-use Rattle.feature_core.specs.declared.link.statuses.KindStatuses.{KindStatuses}
-use Rattle.feature_core.specs.Links.{joined, platforms_of}
+use Rattle.feature_core.specs.Links.{platforms_of}
 
 abbrev pub texts_in : {S : Type 0} → IndexSet (Bor (List ℕ)) S → List Text
 texts_in set = map (λ t. t.now) set.keys
@@ -33,9 +31,3 @@ pub record HasKinds (c : KindCollectors) (declarations : List Declared) : Type 0
 pub record HasParts (c : LinkParts) (parts : List (ℕ × List Declared)) : Type 0 where
   pub kinds : HasKinds c.statuses (flat_map (λ x. x.1) parts)
   pub links : c.links.items ≡ map (λ x. x.0) (filter (λ x. list_any (λ d. true) x.1) parts)
-
--- the status of each kind joins the platforms of these declarations
-pub record AreStatuses (declarations : List Declared) (s : KindStatuses) : Type 0 where
-  pub normal : impl_status s.normal ≡ joined (platforms_of Normal declarations)
-  pub build : impl_status s.build ≡ joined (platforms_of Build declarations)
-  pub dev : impl_status s.dev ≡ joined (platforms_of Development declarations)

@@ -1,24 +1,27 @@
 //! Links over declarations of package links.
-ghost use Rattle.std.specs.Prelude.{◌≡◌, ◌++◌, ◌∷◌, ◌<◌, [], ℕ, true, if◌then◌else◌, List, Some, IfOk, OnOk, length, map, filter, filter_map, is_some, slice_get};
+ghost use Rattle.std.specs.Prelude.{◌≡◌, ◌++◌, ◌∷◌, ◌<◌, [], ℕ, true, if◌then◌else◌, List, Some, IfOk, IfSome, OnOk, length, map, filter, is_some, slice_get};
 ghost use Rattle.std.specs.List.{list_any};
 ghost use Rattle.guppy_packages.specs.Metadata.{link_table_of};
-ghost use Rattle.guppy_packages.specs.Rows.{Text, Declared};
+ghost use Rattle.guppy_packages.specs.Platform.{impl_status};
+ghost use Rattle.guppy_packages.specs.Rows.{Declared};
 ghost use Rattle.guppy_packages.specs.Stored.{declared};
 ghost use Rattle.guppy_packages.specs.Tables.{LinkTable};
-ghost use Rattle.feature_core.specs.Candidates.{unsplit_of, by_name};
+ghost use Rattle.feature_core.specs.Candidates.{by_name};
 ghost use Rattle.feature_core.specs.inner.Collected.{HasKinds, HasParts};
 ghost use Rattle.feature_core.specs.Edges.{half_of};
-ghost use Rattle.feature_core.specs.Links.{IsLink, includes, has_declaration, links_at, at_places, over, over_parts, over_places};
+ghost use Rattle.feature_core.specs.Links.{IsLink, includes, links_at, at_places, joined, over, over_parts, over_places, platforms_of};
 ghost use Rattle.feature_core.specs.inner.NamedLinks.{AreNamedLinks};
 ghost use Rattle.feature_core.specs.Values.{link_facts, half_facts};
 
+use crate::link::held::{FullLink, HeldLink};
 use crate::link::statuses::KindCollectors;
 use crate::link::{ConditionalLinkImpl, EnabledLink};
 use crate::named_links::{LinkGroups, numbers_of};
 use feature_labels::LinkDeclarations;
-use guppy_packages::{Declaration, PackageGraph, PackageLink};
+use guppy_packages::{Declaration, DependencyKind, PackageGraph, PackageLink, PlatformStatusImpl};
 use smallvec::SmallVec;
 use std::alloc::{AllocError, Global};
+use std::slice::from_ref;
 
 /// A link so far: the statuses of its declarations, and the package links that have one of them.
 #[derive(Drop)]
@@ -161,20 +164,74 @@ impl<'g> LinkParts<'g> {
     ) -> Result<ConditionalLinkImpl, AllocError>
         ensures { IfOk result (λ l. (parts : List (ℕ × List Declared)) → HasParts self.now parts → link_facts l ≡ over_parts which parts) }
     {
-        let statuses = self.statuses.statuses(alloc)?;
-        let package_link_ixs = SmallVec::from_slice(alloc, self.links.as_slice())?;
-        Ok(ConditionalLinkImpl {
+        let normal = self.statuses.normal.status(alloc)?;
+        let build = self.statuses.build.status(alloc)?;
+        let dev = self.statuses.dev.status(alloc)?;
+        let full = FullLink {
             declarations: which,
-            normal: statuses.normal,
-            build: statuses.build,
-            dev: statuses.dev,
-            package_link_ixs,
-        })
+            normal,
+            build,
+            dev,
+            package_link_ixs: SmallVec::from_slice(alloc, self.links.as_slice())?,
+        };
+        let held = HeldLink::new(alloc, full)?;
+        Ok(ConditionalLinkImpl { held })
     }
 }
 
-/// The link over the covered declarations of package links.
-pub(crate) fn links_over(
+/// The status for a kind, of one declaration: its platform where it's of this kind, and else none.
+fn status_of_one(
+    alloc: Global,
+    declaration: &Declaration,
+    kind: DependencyKind,
+) -> Result<PlatformStatusImpl, AllocError>
+    ensures { IfOk result (λ status. impl_status status ≡ joined (platforms_of kind (declared declaration.now ∷ []))) }
+{
+    if declaration.kind() == kind {
+        let status = declaration.platform().try_clone(alloc)?;
+        return Ok(status);
+    }
+    Ok(PlatformStatusImpl::Specs(Vec::new(alloc)))
+}
+
+/// The link over one declaration of a package link.
+fn link_over_one(
+    alloc: Global,
+    link_ix: usize,
+    which: LinkDeclarations,
+    declaration: &Declaration,
+) -> Result<ConditionalLinkImpl, AllocError>
+    ensures { IfOk result (λ l. link_facts l ≡ over_parts which ((link_ix, declared declaration.now ∷ []) ∷ [])) }
+{
+    let normal = status_of_one(alloc, declaration, DependencyKind::Normal)?;
+    let build = status_of_one(alloc, declaration, DependencyKind::Build)?;
+    let dev = status_of_one(alloc, declaration, DependencyKind::Development)?;
+    let full = FullLink {
+        declarations: which,
+        normal,
+        build,
+        dev,
+        package_link_ixs: SmallVec::from_slice(alloc, from_ref(&link_ix))?,
+    };
+    let held = HeldLink::new(alloc, full)?;
+    Ok(ConditionalLinkImpl { held })
+}
+
+/// The one declaration of these, where there is no other and it's covered.
+fn only_included(which: LinkDeclarations, declarations: &[Declaration]) -> Option<&Declaration>
+    ensures { IfSome result (λ d. filter (λ d. includes which d) (map declared declarations.now) ≡ declared d.now ∷ []) }
+{
+    let [declaration] = declarations else {
+        return None;
+    };
+    if is_included(which, declaration) {
+        return Some(declaration);
+    }
+    None
+}
+
+/// The link over the covered declarations of package links, collected.
+fn links_collected(
     alloc: Global,
     graph: &PackageGraph,
     links: &[usize],
@@ -188,6 +245,25 @@ pub(crate) fn links_over(
         parts.add_link(graph.link(*link_ix), which)?;
     }
     parts.to_link(alloc, which)
+}
+
+/// The link over the covered declarations of package links. One declaration is not collected.
+pub(crate) fn links_over(
+    alloc: Global,
+    graph: &PackageGraph,
+    links: &[usize],
+    which: LinkDeclarations,
+) -> Result<ConditionalLinkImpl, AllocError>
+    requires { (i k : ℕ) → slice_get links.now i ≡ Some k → k < length graph.now.links }
+    ensures { IfOk result (λ l. link_facts l ≡ over which (λ d. includes which d) (links_at graph.now links.now)) }
+{
+    if let [link_ix] = links {
+        let declarations = graph.link(*link_ix).declarations();
+        if let Some(declaration) = only_included(which, declarations) {
+            return link_over_one(alloc, *link_ix, which, declaration);
+        }
+    }
+    links_collected(alloc, graph, links, which)
 }
 
 /// The link over the covered declarations of one package link.
@@ -239,8 +315,8 @@ pub(crate) fn named_link(
     Ok(link)
 }
 
-/// The link over the declarations of one package link at places, in their order.
-pub(crate) fn section_link(
+/// The link over the declarations of one package link at places, in their order, collected.
+fn section_collected(
     alloc: Global,
     graph: &PackageGraph,
     link_ix: usize,
@@ -253,4 +329,24 @@ pub(crate) fn section_link(
     let mut parts = LinkParts::new(alloc);
     parts.add_places(graph.link(link_ix), places)?;
     parts.to_link(alloc, which)
+}
+
+/// The link over the declarations of one package link at places, in their order. One declaration is not collected.
+pub(crate) fn section_link(
+    alloc: Global,
+    graph: &PackageGraph,
+    link_ix: usize,
+    which: LinkDeclarations,
+    places: &[usize],
+) -> Result<ConditionalLinkImpl, AllocError>
+    requires { link_ix < length graph.now.links }
+    ensures { IfOk result (λ l. (link : LinkTable) → IsLink graph.now link_ix link → link_facts l ≡ over_places which link_ix link places.now) }
+{
+    let declarations = graph.link(link_ix).declarations();
+    if let [place] = places
+        && *place < declarations.len()
+    {
+        return link_over_one(alloc, link_ix, which, &declarations[*place]);
+    }
+    section_collected(alloc, graph, link_ix, which, places)
 }

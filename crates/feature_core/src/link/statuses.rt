@@ -7,13 +7,15 @@ ghost use Rattle.guppy_packages.specs.Platform.{platform_specs, impl_status, spe
 ghost use Rattle.guppy_packages.specs.Rows.{Text, Declared};
 ghost use Rattle.guppy_packages.specs.Stored.{declared};
 ghost use Rattle.feature_core.specs.Links.{joined};
-ghost use Rattle.feature_core.specs.inner.Collected.{HasPlatforms, HasKinds, AreStatuses, texts_in};
+ghost use Rattle.feature_core.specs.inner.Collected.{HasPlatforms, HasKinds, texts_in};
 
-use crate::text_map::TextSet;
 use guppy_packages::{Declaration, DependencyKind, PlatformStatusImpl, Spec};
 use indexmap::IndexSet;
 use std::alloc::{AllocError, Global};
-use std::hash::BuildHasherDefault;
+use std::hash::{BuildHasherDefault, DefaultHasher};
+
+/// A set of texts from outside, by SipHash with a fixed key: texts that collide have to be searched for.
+type TextSet<T> = IndexSet<T, BuildHasherDefault<DefaultHasher>>;
 
 /// Platforms so far: whether one of them is every platform, and the specs by first appearance.
 #[derive(Drop)]
@@ -91,14 +93,6 @@ pub(crate) struct KindCollectors<'g> {
     pub(crate) dev: StatusCollector<'g>,
 }
 
-/// The status of each kind.
-#[derive(Drop)]
-pub(crate) struct KindStatuses {
-    pub(crate) normal: PlatformStatusImpl,
-    pub(crate) build: PlatformStatusImpl,
-    pub(crate) dev: PlatformStatusImpl,
-}
-
 impl<'g> KindCollectors<'g> {
     /// No declaration yet.
     pub(crate) fn new(alloc: Global) -> Self
@@ -130,15 +124,5 @@ impl<'g> KindCollectors<'g> {
                 Ok(())
             }
         }
-    }
-
-    /// The statuses that join the platforms of each kind.
-    pub(crate) fn statuses(&self, alloc: Global) -> Result<KindStatuses, AllocError>
-        ensures { IfOk result (λ s. (declarations : List Declared) → HasKinds self.now declarations → AreStatuses declarations s) }
-    {
-        let normal = self.normal.status(alloc)?;
-        let build = self.build.status(alloc)?;
-        let dev = self.dev.status(alloc)?;
-        Ok(KindStatuses { normal, build, dev })
     }
 }

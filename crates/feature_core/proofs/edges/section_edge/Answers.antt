@@ -31,8 +31,8 @@ returns c weak =
     let s = o.tells in
     let p = c.in_ok-places.ensures in
     let passing = places_passing t c.facts.ensures x o.link s p.0 (run_requests t c.facts.ensures c.args.material.keys.now p.0 x c.requires.material.of_tables c.requires.material.whole c.requires.least c.requires.rank p.1) in
-    let places : c.deref.result.now ≡ c.in_ok-places.places.items = c.deref.ensures.value in
+    let places : c.as_slice.result.now ≡ c.in_ok-places.places.items = c.as_slice.ensures in
     let which = half_is t x o.link s c.half_from-which.result c.half_from-which.ensures.required c.half_from-which.ensures.optional in
-    let made = c.in_ok-link.ensures s.link s.is_link ∙ ap (λ z. over_places z x.source s.link c.deref.result.now) which ∙ ap (λ z. over_places s.which x.source s.link z) (places ∙ p.2) in
+    let made = c.in_ok-link.ensures s.link s.is_link ∙ ap (λ z. over_places z x.source s.link c.as_slice.result.now) which ∙ ap (λ z. over_places s.which x.source s.link z) (places ∙ p.2) in
     let link : link_facts c.in_ok-link.link ≡ o.link = made ∙ passing_over (requesting s.asked s.which) s.which x.source s.link _ passing ∙ sym s.is in
     value_over t weak x section edges.section_edge (SaysSection t x) (λ l. refl) o (link_facts c.in_ok-link.link) link

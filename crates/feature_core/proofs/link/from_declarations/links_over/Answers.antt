@@ -1,30 +1,16 @@
-use Rattle.std.proofs.Common.{◌∙◌, ◌<◌, ◌≤◌, ◌++◌, ◌∷◌, [], ap, subst, length, take, arith}
+use Rattle.std.proofs.Common.{◌≡◌, ◌∙◌, ◌∷◌, [], subst}
 use Rattle.std.specs.Prelude.{filter}
-use Rattle.std.proofs.lemmas.List.{take_all}
 use Rattle.guppy_packages.specs.Metadata.{link_table_of}
-use Rattle.feature_core.specs.inner.Collected.{HasParts}
-use Rattle.feature_core.specs.Links.{includes, links_at, over}
-use Rattle.feature_core.proofs.LinkLemmas.{ok_map, parts_of, parts_next, over_of_parts}
+use Rattle.guppy_packages.specs.Stored.{declared}
+use Rattle.feature_core.specs.Links.{includes}
+use Rattle.feature_core.proofs.LinkLemmas.{ok_map, one_covered}
 use Rattle.feature_core.proofs.link.from_declarations.links_over.Goals as goal
 
-pub loop-link_ix-preserved : goal.loop-link_ix-preserved
-loop-link_ix-preserved c =
-    let t = c.args.graph.now in
-    let i = c.loop-link_ix.link_ix-index in
-    let link = link_table_of c.link.result in
-    let below : i < length c.args.links.now = omega arith in
-    let before = parts_of (λ d. includes c.args.which d) (links_at t (take i c.args.links.now)) in
-    subst (HasParts c.add_link.new.self) (parts_next t (λ d. includes c.args.which d) c.args.links.now i link below c.link.ensures.link)
-    (subst (λ k. HasParts c.add_link.new.self (before ++ (k, filter (λ d. includes c.args.which d) link.declarations) ∷ [])) c.link.ensures.number (c.in_ok-add_link.ensures before c.loop-link_ix.invariant))
-
-pub returns : goal.returns
-returns c =
-    let t = c.args.graph.now in
-    let i = c.loop-link_ix.link_ix-index in
-    let links = c.args.links.now in
+pub returns-in-Some : goal.returns-in-Some
+returns-in-Some c =
     let which = c.args.which in
-    let end : length links ≤ i = omega arith in
-    ok_map _ _ c.to_link.result c.to_link.ensures (λ l holds.
-    holds (parts_of (λ d. includes which d) (links_at t (take i links))) c.loop-link_ix.invariant
-    ∙ over_of_parts which (λ d. includes which d) (links_at t (take i links))
-    ∙ ap (λ z. over which (λ d. includes which d) (links_at t z)) (take_all i links end))
+    let declaration = declared c.in-Some.declaration.now in
+    ok_map _ _ c.link_over_one.result c.link_over_one.ensures (λ l holds.
+    holds
+    ∙ one_covered c.args.graph.now which c.args.links.now (link_table_of c.link.result) declaration c.in-len1.len_at_least c.in-len1.len_below c.link.ensures.link
+    (subst (λ ds. filter (λ d. includes which d) ds ≡ declaration ∷ []) c.declarations-declarations.ensures c.in-Some.ensures))

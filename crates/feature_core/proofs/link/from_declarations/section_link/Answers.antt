@@ -1,14 +1,24 @@
-use Rattle.std.proofs.Common.{◌∙◌, ◌∷◌, [], ap}
+use Rattle.std.proofs.Common.{◌≡◌, ◌∙◌, ◌∷◌, [], Some, ap, get_or, map}
+use Rattle.std.specs.Prelude.{slice_get}
+use Rattle.std.specs.Option.{option_map}
+use Rattle.std.proofs.lemmas.Option.{slice_get-map}
 use Rattle.guppy_packages.specs.Metadata.{link_table_of}
-use Rattle.feature_core.specs.Links.{at_places, over_places}
-use Rattle.feature_core.proofs.LinkLemmas.{ok_map, one_link}
+use Rattle.guppy_packages.specs.Stored.{declared}
+use Rattle.feature_core.specs.Links.{at_places, over_parts, over_places}
+use Rattle.feature_core.proofs.LinkLemmas.{ok_map, one_link, one_place}
+use Rattle.feature_core.proofs.SameLists.{read}
 use Rattle.feature_core.proofs.link.from_declarations.section_link.Goals as goal
 
 pub returns : goal.returns
 returns c =
-    let found = link_table_of c.link.result in
+    let ds = c.declarations-declarations.result.now in
+    let which = c.args.which in
     let places = c.args.places.now in
-    ok_map _ _ c.to_link.result c.to_link.ensures (λ l holds link is.
-    holds ((c.link.result.link_ix, at_places found.declarations places) ∷ []) (c.in_ok-add_places.ensures [] c.new-parts.ensures)
-    ∙ ap (λ k. over_places c.args.which k found places) c.link.ensures.number
-    ∙ ap (λ l. over_places c.args.which c.args.link_ix l places) (one_link c.args.graph.now c.args.link_ix found link c.link.ensures.link is))
+    let place = get_or places 0 0 in
+    let d = c.index-declarations-place.result in
+    let there : slice_get (map declared ds) place ≡ Some (declared d) = slice_get-map declared ds place ∙ ap (option_map declared) (read ds place d c.if-place-declarations.true c.index-declarations-place.is) in
+    ok_map _ _ c.link_over_one.result c.link_over_one.ensures (λ l holds link is.
+    holds
+    ∙ one_place which c.args.link_ix (map declared ds) places (declared d) c.in-len1.len_at_least c.in-len1.len_below there
+    ∙ ap (λ z. over_parts which ((c.args.link_ix, at_places z places) ∷ [])) c.declarations-declarations.ensures
+    ∙ ap (λ l. over_places which c.args.link_ix l places) (one_link c.args.graph.now c.args.link_ix (link_table_of c.link.result) link c.link.ensures.link is))
