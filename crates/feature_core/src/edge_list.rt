@@ -30,7 +30,7 @@ impl Model for EdgeList {
 
     ghost view = { λ l. facts_at l.pool.items l.places.items };
 
-    ghost invariant = { λ l. AreWithin l.pool.items l.places.items × (length l.recent.items ≡ 65536) };
+    ghost invariant = { λ l. AreWithin l.pool.items l.places.items × (length l.recent.items ≡ 8192) };
 }
 
 /// Whether the link is over optional declarations, as a number.
@@ -45,10 +45,10 @@ fn half_slot(link: &ConditionalLinkImpl) -> usize
 
 /// The first package link of a link, as a number that differs for links near one another.
 fn near_slot(link: &ConditionalLinkImpl) -> usize
-    ensures { result < 4096 }
+    ensures { result < 512 }
 {
     match link.package_link_ixs().first() {
-        Some(link_ix) => *link_ix % 4096,
+        Some(link_ix) => *link_ix % 512,
         None => 0,
     }
 }
@@ -56,14 +56,14 @@ fn near_slot(link: &ConditionalLinkImpl) -> usize
 /// The slot of an edge of a kind over a link.
 fn link_slot(link: &ConditionalLinkImpl, kind: usize) -> usize
     requires { kind < 8 }
-    ensures { result < 65536 }
+    ensures { result < 8192 }
 {
     near_slot(link) * 16 + kind * 2 + half_slot(link)
 }
 
 /// The slot of the table of recent places where an edge is looked up.
 fn edge_slot(edge: &FeatureEdge) -> usize
-    ensures { result < 65536 }
+    ensures { result < 8192 }
 {
     match edge {
         FeatureEdge::FeatureToBase => 0,
@@ -106,10 +106,10 @@ fn place_of(
     recent: &mut Vec<u32>,
     edge: FeatureEdge,
 ) -> Result<u32, AllocError>
-    requires { length recent.old.items ≡ 65536 }
+    requires { length recent.old.items ≡ 8192 }
     ensures kept { Keeps pool.old.items pool.new.items }
     ensures place { IfOk result (λ place. slice_get (map edge_facts pool.new.items) place ≡ Some (edge_facts edge)) }
-    ensures long { length recent.new.items ≡ 65536 }
+    ensures long { length recent.new.items ≡ 8192 }
 {
     let slot = edge_slot(&edge);
     let near = recent[slot];
@@ -126,7 +126,7 @@ impl EdgeList {
     pub(crate) fn new(alloc: Global) -> Result<EdgeList, AllocError>
         ensures { IfOk result (λ edges. edges ≡ []) }
     {
-        let recent = vec![in alloc; 0u32; 65_536]?;
+        let recent = vec![in alloc; 0u32; 8_192]?;
         Ok(EdgeList {
             pool: Vec::new(alloc),
             places: Vec::new(alloc),
