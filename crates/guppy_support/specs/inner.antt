@@ -9,4 +9,5 @@ pub mod PackedRows
 pub mod Plans
 pub mod Queues
 pub mod Ranks
+pub mod Widths
 pub mod Words
