@@ -10,4 +10,5 @@ pub mod PackedRows
 pub mod Plans
 pub mod Queues
 pub mod Ranks
+pub mod Widths
 pub mod Words

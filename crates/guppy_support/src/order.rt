@@ -28,10 +28,10 @@ use std::marker::Model;
 #[derive(Debug, Drop)]
 pub struct Order {
     list: Vec<usize>,
-    components: Vec<usize>,
+    components: Vec<u32>,
     count: usize,
-    begins: Vec<usize>,
-    places: Vec<usize>,
+    begins: Vec<u32>,
+    places: Vec<u32>,
 }
 
 impl Model for Order {
@@ -50,13 +50,18 @@ impl Model for Order {
 
 impl Order {
     /// The order and the components of the digraph. Each next node is the least-numbered one that may come next.
+    /// More nodes or edges than 32 bits can count are refused as want of memory.
     pub fn new(alloc: Global, graph: &Digraph) -> Result<Order, AllocError>
         ensures { IfOk result (IsOrderOf graph.now) }
     {
+        let most = u32::MAX as usize;
+        if graph.node_count() > most || graph.edge_count() > most {
+            return Err(AllocError);
+        }
         graph.facts();
         let ranked = component_ranks(alloc, graph)?;
         let ranks = ranked.ranks;
-        let list = listed(alloc, graph, &ranks, ranked.room, ranked.count)?;
+        let list = listed(alloc, graph, &ranks, ranked.count)?;
         let (numbers, begins) = numbered(alloc, &list, &ranks, ranked.count)?;
         let components = scattered(ranks, &list, &numbers);
         let places = placed(numbers, &list);
@@ -89,7 +94,7 @@ impl Order {
         requires { node < length self.now.list }
         ensures { slice_get self.now.list result ≡ Some node }
     {
-        self.places[node]
+        self.places[node] as usize
     }
 
     /// How many components there are.
@@ -104,7 +109,7 @@ impl Order {
         requires { node < length self.now.component }
         ensures { result ≡ component_of self.now node }
     {
-        self.components[node]
+        self.components[node] as usize
     }
 
     /// Whether two nodes are in one component: paths lead both ways.
@@ -122,7 +127,7 @@ impl Order {
         requires { component < self.now.count }
         ensures { result.now ≡ filter (λ v. component_of self.now v == component) self.now.list }
     {
-        &self.list[self.begins[component]..self.begins[component + 1]]
+        &self.list[self.begins[component] as usize..self.begins[component + 1] as usize]
     }
 }
 
@@ -130,15 +135,13 @@ impl Order {
 fn listed(
     alloc: Global,
     graph: &Digraph,
-    ranks: &[usize],
-    room: Vec<usize>,
+    ranks: &[u32],
     components: usize,
 ) -> Result<Vec<usize>, AllocError>
     requires setup { IsSetup graph.now ranks.now }
-    requires room { room.items ≡ [] }
     ensures { IfOk result (λ list. IsOrder graph.now.edges graph.now.nodes list.items) }
 {
     let groups = pack_rows(alloc, graph.node_count(), &ranks)?;
-    let plan = first_plan(alloc, graph, ranks, &groups, room, components)?;
+    let plan = first_plan(alloc, graph, ranks, &groups, components)?;
     order_from(graph, ranks, &groups, plan)
 }

@@ -4,6 +4,7 @@ use Rattle.guppy_support.specs.declared.digraph.Edge.{Edge}
 use Rattle.guppy_support.specs.Graph.{Graph, IsDigraph, sources, targets}
 use Rattle.guppy_support.specs.Rows.{places}
 use Rattle.guppy_support.specs.inner.Ranks.{IsRanking}
+use Rattle.guppy_support.specs.inner.Widths.{IsNarrow}
 use Rattle.guppy_support.specs.Orders.{IsNext}
 use Rattle.guppy_support.specs.inner.Queues.{Joins}
 use Rattle.guppy_support.specs.inner.Counts.{count_below, IsTally, enters, holds}
@@ -110,6 +111,7 @@ pub record StartsGrow (row held : List ℕ) (k : ℕ) (old new : List ℕ) : Typ
 -- what is given: numbers of components below the number of nodes
 pub record IsSetup (g : Graph) (ranks : List ℕ) : Type 0 where
   pub digraph : IsDigraph g
+  pub narrow : IsNarrow g
   pub ranking : IsRanking g ranks
   pub small : (v : ℕ) → v < g.nodes → slice_index ranks v < g.nodes
 

@@ -5,6 +5,7 @@ ghost use Rattle.guppy_support.specs.inner.ForwardWalk.{IsSeen};
 ghost use Rattle.guppy_support.specs.inner.FinishOrder.{IsFinishOrder, AreApart};
 ghost use Rattle.guppy_support.specs.inner.BackwardWalk.{IsTied, AreSpreadIn, AreMarkedIn, marks_left};
 ghost use Rattle.guppy_support.specs.inner.Ranks.{IsRanking};
+ghost use Rattle.guppy_support.specs.inner.Widths.{IsNarrow};
 ghost use Rattle.guppy_support.specs.Paths.{HasEdge};
 ghost use Rattle.guppy_support.specs.Rows.{places};
 ghost use Rattle.guppy_support.specs.Graph.{targets};
@@ -17,8 +18,8 @@ use std::alloc::{AllocError, Global};
 #[derive(Drop)]
 struct Marks {
     seen: IxBitSet,
-    ranks: Vec<usize>,
-    members: Vec<usize>,
+    ranks: Vec<u32>,
+    members: Vec<u32>,
     next: usize,
 }
 
@@ -27,11 +28,12 @@ impl Marks {
     fn enter(
         &mut self,
         graph: &Digraph,
-        order: &[usize],
+        order: &[u32],
         t: usize,
-        rank: usize,
+        rank: u32,
         node: usize,
     ) -> Result<(), AllocError>
+        requires narrow { IsNarrow graph.now }
         requires spread { AreSpreadIn graph.now order.now t rank self.old }
         requires node { node < graph.now.nodes }
         requires tied { IsTied graph.now order.now t (slice_index order.now t) node }
@@ -46,7 +48,7 @@ impl Marks {
         if self.seen.contains(node) {
             return Ok(());
         }
-        self.members.push(node)?;
+        self.members.push(node as u32)?;
         self.seen.insert(node);
         self.ranks[node] = rank;
         Ok(())
@@ -56,10 +58,11 @@ impl Marks {
     fn pass(
         &mut self,
         graph: &Digraph,
-        order: &[usize],
+        order: &[u32],
         t: usize,
-        rank: usize,
+        rank: u32,
     ) -> Result<(), AllocError>
+        requires narrow { IsNarrow graph.now }
         requires order { IsFinishOrder graph.now order.now }
         requires t { t < length order.now }
         requires spread { AreSpreadIn graph.now order.now t rank self.old }
@@ -68,7 +71,7 @@ impl Marks {
         ensures left { OnOk result (marks_left self.new < marks_left self.old) }
         ensures kept { OnOk result ((v : ℕ) → IsSeen self.old.seen v → IsSeen self.new.seen v) }
     {
-        let node = self.members[self.next];
+        let node = self.members[self.next] as usize;
         for place in 0..graph.in_edges(node).len() {
             let from = source(graph, node, place);
             self.enter(graph, order, t, rank, from)?;
@@ -81,19 +84,20 @@ impl Marks {
     fn mark_from(
         &mut self,
         graph: &Digraph,
-        order: &[usize],
+        order: &[u32],
         t: usize,
-        rank: usize,
-    ) -> Result<usize, AllocError>
+        rank: u32,
+    ) -> Result<u32, AllocError>
+        requires narrow { IsNarrow graph.now }
         requires order { IsFinishOrder graph.now order.now }
         requires apart { AreApart order.now }
         requires t { t < length order.now }
-        requires rank { rank < 2 ^ 63 }
+        requires rank { rank + 1 < 2 ^ 32 }
         requires marked { AreMarkedIn graph.now order.now (t + 1) rank self.old }
         ensures marked { IfOk result (λ next. AreMarkedIn graph.now order.now t next self.new) }
         ensures next { IfOk result (λ next. next ≤ rank + 1) }
     {
-        let root = order[t];
+        let root = order[t] as usize;
         if self.seen.contains(root) {
             return Ok(rank);
         }
@@ -118,15 +122,15 @@ fn source(graph: &Digraph, node: usize, place: usize) -> usize
     graph.edge(graph.in_edges(node)[place]).from
 }
 
-/// The rank of each node's component, how many ranks there are, and a list that was worked with. It takes the memory of
-/// two lists.
+/// The rank of each node's component, and how many ranks there are. It takes the memory of two lists.
 pub(crate) fn ranks_from(
     alloc: Global,
     graph: &Digraph,
-    order: &[usize],
-    ranks: Vec<usize>,
-    members: Vec<usize>,
-) -> Result<(Vec<usize>, usize, Vec<usize>), AllocError>
+    order: &[u32],
+    ranks: Vec<u32>,
+    members: Vec<u32>,
+) -> Result<(Vec<u32>, usize), AllocError>
+    requires narrow { IsNarrow graph.now }
     requires order { IsFinishOrder graph.now order.now }
     requires apart { AreApart order.now }
     requires long { length ranks.items ≡ graph.now.nodes }
@@ -147,5 +151,5 @@ pub(crate) fn ranks_from(
         t -= 1;
         rank = marks.mark_from(graph, order, t, rank)?;
     }
-    Ok((marks.ranks, rank, marks.members))
+    Ok((marks.ranks, rank as usize))
 }

@@ -6,6 +6,7 @@ ghost use Rattle.guppy_support.specs.inner.FinishOrder.{IsFinishOrder, AreApart}
 ghost use Rattle.guppy_support.specs.Graph.{IsDigraph, sources};
 ghost use Rattle.guppy_support.specs.Rows.{places};
 ghost use Rattle.guppy_support.specs.inner.Ranks.{IsRanking};
+ghost use Rattle.guppy_support.specs.inner.Widths.{IsNarrow};
 
 use crate::bit_set::IxBitSet;
 use crate::digraph::Digraph;
@@ -16,16 +17,17 @@ pub(crate) struct Search {
     /// The nodes that were opened.
     pub(crate) seen: IxBitSet,
     /// How many edges of each node are left.
-    pub(crate) left: Vec<usize>,
+    pub(crate) left: Vec<u32>,
     /// The open nodes, each of which leads to the next.
-    pub(crate) opened: Vec<usize>,
+    pub(crate) opened: Vec<u32>,
     /// The nodes that were left, in that order.
-    pub(crate) closed: Vec<usize>,
+    pub(crate) closed: Vec<u32>,
 }
 
 impl Search {
     /// Opens a node to which each open node leads.
     fn enter(&mut self, graph: &Digraph, node: usize) -> Result<(), AllocError>
+        requires narrow { IsNarrow graph.now }
         requires walk { IsWalk graph.now self.old }
         requires node { node < graph.now.nodes }
         requires led { LeadTo graph.now self.old.opened.items node }
@@ -36,7 +38,7 @@ impl Search {
         ensures seen { OnOk result (IsSeen self.new.seen node) }
         ensures kept { OnOk result ((v : ℕ) → IsSeen self.old.seen v → IsSeen self.new.seen v) }
     {
-        self.opened.push(node)?;
+        self.opened.push(node as u32)?;
         self.seen.insert(node);
         Ok(())
     }
@@ -49,11 +51,12 @@ impl Search {
         ensures node { result < graph.now.nodes }
         ensures led { LeadTo graph.now self.now.opened.items result }
     {
-        self.opened[self.opened.len() - 1]
+        self.opened[self.opened.len() - 1] as usize
     }
 
     /// Closes the last open node, none of whose edges is left.
     fn close(&mut self, graph: &Digraph, top: usize) -> Result<(), AllocError>
+        requires narrow { IsNarrow graph.now }
         requires walk { IsWalk graph.now self.old }
         requires opened { 0 < length self.old.opened.items }
         requires top { slice_index self.old.opened.items (length self.old.opened.items - 1) ≡ top }
@@ -64,7 +67,7 @@ impl Search {
     {
         graph.facts();
         let _ = self.opened.pop();
-        self.closed.push(top)?;
+        self.closed.push(top as u32)?;
         Ok(())
     }
 
@@ -92,12 +95,13 @@ impl Search {
     {
         graph.facts();
         let edges = graph.out_edges(node);
-        graph.edge(edges.end - self.left[node]).to
+        graph.edge(edges.end - self.left[node] as usize).to
     }
 
     /// Follows the next edge of the last open node, or closes it.
     #[tactic(auto, using(crate::proofs::ForwardLemmas::lead_on))]
     fn step(&mut self, graph: &Digraph) -> Result<(), AllocError>
+        requires narrow { IsNarrow graph.now }
         requires walk { IsWalk graph.now self.old }
         requires opened { 0 < length self.old.opened.items }
         ensures walk { OnOk result (IsWalk graph.now self.new) }
@@ -119,20 +123,22 @@ impl Search {
 
 /// How many edges leave each node.
 #[tactic(auto, using(crate::proofs::ForwardLemmas::out_length))]
-fn out_counts(alloc: Global, graph: &Digraph) -> Result<Vec<usize>, AllocError>
+fn out_counts(alloc: Global, graph: &Digraph) -> Result<Vec<u32>, AllocError>
+    requires narrow { IsNarrow graph.now }
     ensures long { IfOk result (λ left. length left.items ≡ graph.now.nodes) }
     ensures each { IfOk result (λ left. (v : ℕ) → v < graph.now.nodes → slice_index left.items v ≡ length (places v (sources graph.now.edges))) }
 {
     let mut left = Vec::with_capacity(alloc, graph.node_count())?;
     for node in 0..graph.node_count() {
         let edges = graph.out_edges(node);
-        left.push(edges.end - edges.start)?;
+        left.push((edges.end - edges.start) as u32)?;
     }
     Ok(left)
 }
 
 /// A walk along the edges to its end: the nodes are closed in the order in which it leaves them.
 pub(crate) fn walked(alloc: Global, graph: &Digraph) -> Result<Search, AllocError>
+    requires narrow { IsNarrow graph.now }
     ensures order { IfOk result (λ s. IsFinishOrder graph.now s.closed.items) }
     ensures apart { IfOk result (λ s. AreApart s.closed.items) }
     ensures long { IfOk result (λ s. length s.left.items ≡ graph.now.nodes) }

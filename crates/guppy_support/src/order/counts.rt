@@ -22,7 +22,7 @@ fn edge_at(graph: &Digraph, number: usize) -> Edge
 }
 
 /// Counts an edge for the component that it enters.
-fn add_entering(counts: &mut Vec<usize>, graph: &Digraph, ranks: &[usize], number: usize)
+fn add_entering(counts: &mut Vec<u32>, graph: &Digraph, ranks: &[u32], number: usize)
     requires setup { IsSetup graph.now ranks.now }
     requires number { number < length graph.now.edges }
     requires counted { AreEntering graph.now ranks.now number counts.old.items }
@@ -33,22 +33,22 @@ fn add_entering(counts: &mut Vec<usize>, graph: &Digraph, ranks: &[usize], numbe
     if ranks[edge.from] == ranks[edge.to] {
         return;
     }
-    counts[ranks[edge.to]] += 1;
+    counts[ranks[edge.to] as usize] += 1;
 }
 
-fn zeroes(alloc: Global, count: usize) -> Result<Vec<usize>, AllocError>
+fn zeroes(alloc: Global, count: usize) -> Result<Vec<u32>, AllocError>
     ensures { IfOk result (λ v. v.items ≡ replicate count 0) }
 {
-    vec![in alloc; 0usize; count]
+    vec![in alloc; 0u32; count]
 }
 
 /// Adds the first node of the component of that rank, if there is one and no edge enters it.
 fn add_start(
     starts: &mut Queue,
     members: &[usize],
-    ranks: &[usize],
-    outside: &[usize],
-    held: &[usize],
+    ranks: &[u32],
+    outside: &[u32],
+    held: &[u32],
     rank: usize,
 ) -> Result<(), AllocError>
     requires rank { rank < length outside.now }
@@ -69,7 +69,7 @@ fn add_start(
 }
 
 /// Counts an edge for the node that it holds.
-fn add_holding(counts: &mut Vec<usize>, graph: &Digraph, ranks: &[usize], number: usize)
+fn add_holding(counts: &mut Vec<u32>, graph: &Digraph, ranks: &[u32], number: usize)
     requires setup { IsSetup graph.now ranks.now }
     requires number { number < length graph.now.edges }
     requires counted { AreHolding graph.now ranks.now number counts.old.items }
@@ -93,8 +93,8 @@ fn add_holding(counts: &mut Vec<usize>, graph: &Digraph, ranks: &[usize], number
 fn count_edges(
     alloc: Global,
     graph: &Digraph,
-    ranks: &[usize],
-) -> Result<(Vec<usize>, Vec<usize>), AllocError>
+    ranks: &[u32],
+) -> Result<(Vec<u32>, Vec<u32>), AllocError>
     requires setup { IsSetup graph.now ranks.now }
     ensures entering { IfOk result (λ counts. AreEntering graph.now ranks.now (length graph.now.edges) counts.0.items) }
     ensures holding { IfOk result (λ counts. AreHolding graph.now ranks.now (length graph.now.edges) counts.1.items) }
@@ -112,10 +112,10 @@ fn count_edges(
 fn first_starts(
     alloc: Global,
     nodes: usize,
-    ranks: &[usize],
+    ranks: &[u32],
     groups: &Rows,
-    outside: &[usize],
-    held: &[usize],
+    outside: &[u32],
+    held: &[u32],
     components: usize,
 ) -> Result<Queue, AllocError>
     requires ranks { length ranks.now ≡ nodes }
@@ -136,13 +136,11 @@ fn first_starts(
 pub(crate) fn first_plan(
     alloc: Global,
     graph: &Digraph,
-    ranks: &[usize],
+    ranks: &[u32],
     groups: &Rows,
-    room: Vec<usize>,
     components: usize,
 ) -> Result<Plan, AllocError>
     requires setup { IsSetup graph.now ranks.now }
-    requires room { room.items ≡ [] }
     requires packed { IsPacked graph.now.nodes ranks.now groups.now.begins.items groups.now.numbers.items }
     ensures { IfOk result (λ plan. IsPauseIn graph.now ranks.now plan) }
 {
@@ -152,8 +150,9 @@ pub(crate) fn first_plan(
     let done = IxBitSet::empty(alloc, nodes)?;
     let largest = nodes.saturating_sub(components).saturating_add(1);
     let ready = Queue::with_capacity(alloc, largest)?;
+    let listed = Vec::with_capacity(alloc, nodes)?;
     Ok(Plan {
-        listed: room,
+        listed,
         done,
         outside,
         held,

@@ -22,9 +22,9 @@ pub(crate) struct Plan {
     /// Which nodes are listed.
     pub(crate) done: IxBitSet,
     /// How many edges from nodes that aren't listed enter each component.
-    pub(crate) outside: Vec<usize>,
+    pub(crate) outside: Vec<u32>,
     /// How many edges hold each node.
-    pub(crate) held: Vec<usize>,
+    pub(crate) held: Vec<u32>,
     /// The heads of the components that may begin.
     pub(crate) starts: Queue,
     /// The nodes of the component at hand that aren't held.
@@ -63,7 +63,7 @@ fn fresh_from(row: &[usize], from: usize, done: &IxBitSet) -> Option<usize>
 }
 
 /// The first node of the row with no hold, or else the first.
-pub(crate) fn first_of(row: &[usize], held: &[usize]) -> usize
+pub(crate) fn first_of(row: &[usize], held: &[u32]) -> usize
     requires some { 0 < length row.now }
     requires nodes { (j : ℕ) → j < length row.now → slice_index row.now j < length held.now }
     ensures { IsFirst row.now held.now result }
@@ -77,7 +77,7 @@ pub(crate) fn first_of(row: &[usize], held: &[usize]) -> usize
 }
 
 /// The first node of that node's component with no hold, or else its first. A node that is alone is the first.
-fn head_of(groups: &Rows, ranks: &[usize], held: &[usize], node: usize, nodes: usize) -> usize
+fn head_of(groups: &Rows, ranks: &[u32], held: &[u32], node: usize, nodes: usize) -> usize
     requires node { node < length ranks.now }
     requires small { slice_index ranks.now node < nodes }
     requires packed { IsPacked nodes ranks.now groups.now.begins.items groups.now.numbers.items }
@@ -93,11 +93,11 @@ fn head_of(groups: &Rows, ranks: &[usize], held: &[usize], node: usize, nodes: u
 
 /// One edge less enters the node's component; when it was the last, its head joins the starts.
 fn leave_outside(
-    outside: &mut Vec<usize>,
+    outside: &mut Vec<u32>,
     starts: &mut Queue,
-    held: &[usize],
+    held: &[u32],
     groups: &Rows,
-    ranks: &[usize],
+    ranks: &[u32],
     node: usize,
     nodes: usize,
 ) -> Result<(), AllocError>
@@ -110,7 +110,7 @@ fn leave_outside(
     ensures outside { OnOk result (outside.new.items ≡ set outside.old.items (slice_index ranks.now node) (slice_index outside.old.items (slice_index ranks.now node) - 1)) }
     ensures starts { OnOk result (StartsGrow (places (slice_index ranks.now node) ranks.now) held.now (slice_index outside.old.items (slice_index ranks.now node) - 1) starts.old starts.new) }
 {
-    let rank = ranks[node];
+    let rank = ranks[node] as usize;
     outside[rank] -= 1;
     if outside[rank] == 0 {
         starts.push(head_of(groups, ranks, held, node, nodes))?;
@@ -119,7 +119,7 @@ fn leave_outside(
 }
 
 /// One hold less; when it was the last, the node is ready.
-fn leave_held(held: &mut Vec<usize>, ready: &mut Queue, node: usize) -> Result<(), AllocError>
+fn leave_held(held: &mut Vec<u32>, ready: &mut Queue, node: usize) -> Result<(), AllocError>
     requires node { node < length held.old.items }
     requires positive { 0 < slice_index held.old.items node }
     ensures held { OnOk result (held.new.items ≡ set held.old.items node (slice_index held.old.items node - 1)) }
@@ -134,7 +134,7 @@ fn leave_held(held: &mut Vec<usize>, ready: &mut Queue, node: usize) -> Result<(
 }
 
 /// The row of the component of that rank.
-pub(crate) fn row<'a>(groups: &'a Rows, ranks: &[usize], rank: usize, nodes: usize) -> &'a [usize]
+pub(crate) fn row<'a>(groups: &'a Rows, ranks: &[u32], rank: usize, nodes: usize) -> &'a [usize]
     requires rank { rank < nodes }
     requires packed { IsPacked nodes ranks.now groups.now.begins.items groups.now.numbers.items }
     ensures { result.now ≡ places rank ranks.now }
@@ -143,13 +143,13 @@ pub(crate) fn row<'a>(groups: &'a Rows, ranks: &[usize], rank: usize, nodes: usi
 }
 
 /// The row of the component of that node.
-fn row_of<'a>(groups: &'a Rows, ranks: &[usize], node: usize, nodes: usize) -> &'a [usize]
+fn row_of<'a>(groups: &'a Rows, ranks: &[u32], node: usize, nodes: usize) -> &'a [usize]
     requires node { node < length ranks.now }
     requires small { slice_index ranks.now node < nodes }
     requires packed { IsPacked nodes ranks.now groups.now.begins.items groups.now.numbers.items }
     ensures { result.now ≡ places (slice_index ranks.now node) ranks.now }
 {
-    row(groups, ranks, ranks[node], nodes)
+    row(groups, ranks, ranks[node] as usize, nodes)
 }
 
 /// The edge at that place of those that leave the node.
@@ -167,7 +167,7 @@ impl Plan {
     fn next_within(
         &mut self,
         graph: &Digraph,
-        ranks: &[usize],
+        ranks: &[u32],
         groups: &Rows,
         rank: usize,
     ) -> Option<usize>
@@ -197,7 +197,7 @@ impl Plan {
     fn pass_apart(
         &mut self,
         graph: &Digraph,
-        ranks: &[usize],
+        ranks: &[u32],
         groups: &Rows,
         node: usize,
         place: usize,
@@ -228,7 +228,7 @@ impl Plan {
     fn pass_firm(
         &mut self,
         graph: &Digraph,
-        ranks: &[usize],
+        ranks: &[u32],
         node: usize,
         place: usize,
         edge: Edge,
@@ -253,7 +253,7 @@ impl Plan {
     fn pass(
         &mut self,
         graph: &Digraph,
-        ranks: &[usize],
+        ranks: &[u32],
         groups: &Rows,
         node: usize,
         place: usize,
@@ -278,7 +278,7 @@ impl Plan {
     }
 
     /// Lists the node.
-    fn mark(&mut self, graph: &Digraph, ranks: &[usize], node: usize) -> Result<(), AllocError>
+    fn mark(&mut self, graph: &Digraph, ranks: &[u32], node: usize) -> Result<(), AllocError>
         requires setup { IsSetup graph.now ranks.now }
         requires chosen { IsChosenIn graph.now ranks.now node self.old }
         ensures at { OnOk result (IsAtIn graph.now ranks.now node 0 self.new) }
@@ -295,7 +295,7 @@ impl Plan {
     fn list(
         &mut self,
         graph: &Digraph,
-        ranks: &[usize],
+        ranks: &[u32],
         groups: &Rows,
         node: usize,
     ) -> Result<(), AllocError>
@@ -317,7 +317,7 @@ impl Plan {
     fn begin(
         &mut self,
         graph: &Digraph,
-        ranks: &[usize],
+        ranks: &[u32],
         groups: &Rows,
     ) -> Result<Option<usize>, AllocError>
         requires setup { IsSetup graph.now ranks.now }
@@ -340,7 +340,7 @@ impl Plan {
     fn finish(
         &mut self,
         graph: &Digraph,
-        ranks: &[usize],
+        ranks: &[u32],
         groups: &Rows,
         start: usize,
     ) -> Result<(), AllocError>
@@ -353,14 +353,14 @@ impl Plan {
         let mut rank = start;
         while let Some(node) = self.next_within(graph, ranks, groups, rank) {
             self.list(graph, ranks, groups, node)?;
-            rank = ranks[node];
+            rank = ranks[node] as usize;
         }
         Ok(())
     }
 }
 
 /// A node with no hold is ready, but for the start.
-fn wait(ready: &mut Queue, held: &[usize], node: usize, start: usize) -> Result<(), AllocError>
+fn wait(ready: &mut Queue, held: &[u32], node: usize, start: usize) -> Result<(), AllocError>
     requires { node < length held.now }
     ensures { OnOk result (Waits held.now start node ready.old ready.new) }
 {
@@ -374,7 +374,7 @@ fn wait(ready: &mut Queue, held: &[usize], node: usize, start: usize) -> Result<
 fn make_ready(
     ready: &mut Queue,
     row: &[usize],
-    held: &[usize],
+    held: &[u32],
     start: usize,
 ) -> Result<(), AllocError>
     requires nodes { (j : ℕ) → j < length row.now → slice_index row.now j < length held.now }
@@ -394,7 +394,7 @@ fn make_ready(
 /// The order of the nodes, from the counts.
 pub(crate) fn order_from(
     graph: &Digraph,
-    ranks: &[usize],
+    ranks: &[u32],
     groups: &Rows,
     first: Plan,
 ) -> Result<Vec<usize>, AllocError>
@@ -406,7 +406,7 @@ pub(crate) fn order_from(
     let mut plan = first;
     while let Some(start) = plan.begin(graph, ranks, groups)? {
         plan.list(graph, ranks, groups, start)?;
-        plan.finish(graph, ranks, groups, ranks[start])?;
+        plan.finish(graph, ranks, groups, ranks[start] as usize)?;
     }
     Ok(plan.listed)
 }

@@ -3,6 +3,11 @@ use Rattle.guppy_support.proofs.BackwardLemmas.{ranked, ranking}
 use Rattle.guppy_support.proofs.ApartLemmas.{apart_short}
 use Rattle.guppy_support.proofs.components.backward.ranks_from.Goals as goal
 
+pub mark_from-requires-clause-rank : goal.mark_from-requires-clause-rank
+mark_from-requires-clause-rank c =
+    let short = apart_short c.args.order.now c.args.graph.now.nodes c.requires.apart c.requires.order.nodes in
+    omega (arith, short, c.loop-t.invariant.few, c.requires.narrow.nodes, c.loop-t-test.true)
+
 pub returns-clause-ranking : goal.returns-clause-ranking
 returns-clause-ranking c =
     let m = c.loop-t.marks in

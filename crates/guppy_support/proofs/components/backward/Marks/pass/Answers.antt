@@ -22,6 +22,6 @@ returns-clause-spread c =
     pass_mark c.args.graph.now c.args.order.now c.args.t c.args.rank (get_or c.args.order.now c.args.t 0) m.next m.seen m.ranks.items m.members.items
     i.spread i.inside
     (λ a e.
-    let f = edge_into_found c.args.graph.now.edges a c.index-node.result.now (rw i.node at e) in
-    let long : length c.in_edges-place-end.result.now ≡ length (places c.index-node.result.now (targets c.args.graph.now.edges)) = rw c.in_edges-place-end.ensures refl in
+    let f = edge_into_found c.args.graph.now.edges a c.index.result.now (rw i.node at e) in
+    let long : length c.in_edges-place-end.result.now ≡ length (places c.index.result.now (targets c.args.graph.now.edges)) = rw c.in_edges-place-end.ensures refl in
     rw f.2 at (i.entered f.0 (omega (arith, f.1, long))))
