@@ -8,6 +8,7 @@ pub mod LinkEdges
 pub mod LinkRanges
 pub mod Lists
 pub mod PackageOrders
+pub mod PartLemmas
 pub mod Passes
 pub mod Sections
 pub mod Sound

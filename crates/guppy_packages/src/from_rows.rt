@@ -73,9 +73,8 @@ fn push_feature(
 ) -> Result<(), RowFault>
     ensures { Takes (map feature_table features.new) result (with_feature name.now (texts items.now) (map feature_table features.old)) }
 {
-    let name = String::from_str(alloc, name)?;
-    let items = owned(alloc, items)?;
-    let added = features.insert(alloc, NamedFeature { name, items })?;
+    let feature = NamedFeature::new(alloc, name, items)?;
+    let added = features.insert(alloc, feature)?;
     if !added {
         return Err(RowFault::DuplicateFeature);
     }
