@@ -7,6 +7,7 @@ pub mod Joined
 pub mod LinkEdges
 pub mod LinkRanges
 pub mod Lists
+pub mod NotedLemmas
 pub mod PackageOrders
 pub mod PartLemmas
 pub mod Passes
