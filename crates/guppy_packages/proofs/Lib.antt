@@ -7,7 +7,9 @@ pub mod Joined
 pub mod LinkEdges
 pub mod LinkRanges
 pub mod Lists
+pub mod NotedLemmas
 pub mod PackageOrders
+pub mod PartLemmas
 pub mod Passes
 pub mod Sections
 pub mod Sound

@@ -1,21 +1,19 @@
 -- What the calls of the maps do to the tables.
-use Rattle.std.proofs.Common.{◌≡◌, ℕ, zero, suc, ◌+◌, ◌-◌, List, [], ◌∷◌, ◌++◌, Bool, true, false, cond, ◌||◌, not, Option, None, Some, Ok, Err, map, length, refl, ap, sym, ◌∙◌, arith, if◌then◌else◌, is_some}
-use Rattle.std.specs.Prelude.{slice_get, slice_set, position, nat_lt, ◌&&◌, ◌==◌}
+use Rattle.std.proofs.Common.{◌≡◌, ℕ, zero, suc, ◌+◌, ◌-◌, List, [], ◌∷◌, ◌++◌, Bool, true, false, cond, ◌||◌, not, Option, None, Some, Ok, Err, map, length, refl, ap, sym, ◌∙◌, subst, arith, if◌then◌else◌, is_some}
+use Rattle.std.specs.Prelude.{slice_get, slice_set}
 use Rattle.std.specs.List.{list_any, position_or_len}
-use Rattle.std.specs.Map.{lookup, keys_of, values_of}
+use Rattle.std.specs.Map.{lookup, values_of}
 use Rattle.std.specs.String.{string_bytes}
 use Rattle.std.specs.Str.{bytes_eq}
 use Rattle.std.proofs.lemmas.List.{length-map}
 use Rattle.indexmap.specs.Layout.{set_value_at}
-use Rattle.indexmap.proofs.MapLemmas.{some_index}
 use Rattle.guppy_packages.specs.Rows.{Text, Declared}
 use Rattle.guppy_packages.specs.Tables.{LinkTable, PackageTable}
-use Rattle.guppy_packages.specs.inner.Steps.{Outcome, Takes, add_link, add_name, change_last, joins, result_map, with_name}
-use Rattle.guppy_packages.specs.Stored.{declared, link_table, package_table}
+use Rattle.guppy_packages.specs.inner.Steps.{Outcome, Takes, add_link, add_name, change_last, joined_link, joins, result_map, with_name}
+use Rattle.guppy_packages.specs.Stored.{package_table}
 use Rattle.guppy_packages.specs.declared.row_error.RowFault.TheVariants.{NoPackage, DuplicatePackage, DuplicateFeature, UnknownTarget, OtherName, Memory}
-use Rattle.guppy_packages.specs.declared.contents.LinkData.{LinkData}
 use Rattle.guppy_packages.specs.declared.contents.PackageData.{PackageData}
-use Rattle.guppy_packages.proofs.Lists.{position_or_len-map, slice_get-map}
+use Rattle.guppy_packages.proofs.Lists.{slice_get-map}
 
 -- a map has a key exactly where the list of its tables has an entry that passes
 pub lookup_any : {K V T : Type 0} (f : K × V → T) (test : K → Bool) (p : T → Bool) → ((e : K × V) → p (f e) ≡ test e.0) → (es : List (K × V)) → list_any p (map f es) ≡ is_some (lookup test es)
@@ -108,7 +106,7 @@ module _ (from to : ℕ) (name : Text) (d : Declared) where
       go false t p more = rw (t, more p)
 
   -- the link of the pair, at its index
-  pub link_at : (ls : List LinkTable) (i : ℕ) (l : LinkTable) → position_or_len (joins from to) ls ≡ i → slice_get ls i ≡ Some l
+  link_at : (ls : List LinkTable) (i : ℕ) (l : LinkTable) → position_or_len (joins from to) ls ≡ i → slice_get ls i ≡ Some l
       → add_link from to name d ls ≡ (if bytes_eq name l.name then Ok (slice_set ls i (record l { declarations = l.declarations ++ d ∷ [] })) else Err OtherName)
   link_at [] i l p g = cc
   link_at (x ∷ ls) i l p g = go (joins from to x) refl i p g (λ j p g. link_at ls j l p g)
@@ -125,37 +123,9 @@ module _ (from to : ℕ) (name : Text) (d : Declared) where
           let at : position_or_len (joins from to) ls ≡ j = omega arith in
           rw (t, more j at g) (result_map_if (λ rest. x ∷ rest) (bytes_eq name l.name) _ OtherName)
 
-position_or_len-of : {X : Type 0} (p : X → Bool) (xs : List X) (i : ℕ) → position p xs ≡ Some i → position_or_len p xs ≡ i
-position_or_len-of p xs i h = go (nat_lt (position_or_len p xs) (length xs)) h
-  where
-    go : (b : Bool) → cond b (Some (position_or_len p xs)) None ≡ Some i → position_or_len p xs ≡ i
-    go true h = cc
-    go false h = cc
-
-module _ (from to : ℕ) (name : Text) (d : Declared) (es : List ((ℕ × ℕ) × LinkData)) where
-  abbrev pub at_pair : ℕ × ℕ → Bool
-  at_pair k = (from == k.0) && (to == k.1)
-
-  place : (i : ℕ) → Some i ≡ position at_pair (keys_of es) → (v : LinkData) → (g : slice_get (values_of es) i ≡ Some v)
-      → add_link from to name d (map link_table es) ≡ (if bytes_eq name (string_bytes v.name) then Ok (slice_set (map link_table es) i (record { from = (entry_of es i v g).0.0; to = (entry_of es i v g).0.1; name = string_bytes v.name; declarations = map declared v.declarations.items ++ d ∷ [] })) else Err OtherName)
-  place i p v g =
-      let e = entry_of es i v g in
-      let at : position_or_len (joins from to) (map link_table es) ≡ i = position_or_len-map link_table (joins from to) es ∙ sym (position_or_len-map (λ x. x.0) at_pair es) ∙ position_or_len-of at_pair (keys_of es) i (sym p) in
-      link_at from to name d (map link_table es) i (link_table (e.0, v)) at (slice_get-map link_table es i (e.0, v) e.1)
-
-  -- the map's index of the pair is that of the link: what joining it by the value w gives
-  pub found_link : (i : ℕ) (v w : LinkData) → Some i ≡ position at_pair (keys_of es) → slice_get (values_of es) i ≡ Some v
-      → string_bytes w.name ≡ string_bytes v.name → map declared w.declarations.items ≡ map declared v.declarations.items ++ d ∷ []
-      → bytes_eq name (string_bytes v.name) ≡ true → add_link from to name d (map link_table es) ≡ Ok (map link_table (set_value_at es i w))
-  found_link i v w p g n m t =
-      let e = entry_of es i v g in
-      rw (place i p v g, t, set_value_at-map link_table es i e.0 v w e.1, n, m)
-
-  pub other_link : (i : ℕ) (v : LinkData) → Some i ≡ position at_pair (keys_of es) → slice_get (values_of es) i ≡ Some v
-      → bytes_eq name (string_bytes v.name) ≡ false → add_link from to name d (map link_table es) ≡ Err OtherName
-  other_link i v p g t = rw (place i p v g, t)
-
-  pub missing_link : None ≡ position at_pair (keys_of es) → (list_any (joins from to) (map link_table es) ≡ false) × (lookup at_pair es ≡ None)
-  missing_link p =
-      let gone : is_some (lookup at_pair es) ≡ false = sym (some_index at_pair es) ∙ ap is_some (sym p) in
-      (lookup_any link_table at_pair (joins from to) (λ e. refl) es ∙ gone, none_of _ gone)
+  -- the link of the pair was joined
+  pub link_joined : {C : Type 0} (ls : List LinkTable) (i : ℕ) (l new : LinkTable) (result : Outcome C) → position_or_len (joins from to) ls ≡ i → slice_get ls i ≡ Some l
+      → Takes new result (joined_link name d l) → Takes (slice_set ls i new) result (add_link from to name d ls)
+  link_joined ls i l new result p g taken =
+      let same : result_map (slice_set ls i) (joined_link name d l) ≡ add_link from to name d ls = result_map_if (slice_set ls i) (bytes_eq name l.name) _ OtherName ∙ sym (link_at ls i l p g) in
+      subst (λ o. Takes (slice_set ls i new) result o) same (Takes-map (slice_set ls i) new result (joined_link name d l) taken)

@@ -4,6 +4,7 @@ pub mod Metadata
 pub mod NamedFeature
 pub mod PackageOrder
 pub mod PackageSets
+pub mod Parts
 pub mod Platform
 pub mod Rows
 pub mod Stored

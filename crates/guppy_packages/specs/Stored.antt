@@ -22,5 +22,5 @@ package_tables m = map package_table m.entries
 abbrev pub link_table : (ℕ × ℕ) × LinkData → LinkTable
 link_table e = record { from = e.0.0; to = e.0.1; name = string_bytes e.1.name; declarations = map declared e.1.declarations.items }
 
-abbrev pub link_tables : {S : Type 0} → IndexMap (ℕ × ℕ) LinkData S → List LinkTable
-link_tables m = map link_table m.entries
+abbrev pub link_tables : List ((ℕ × ℕ) × LinkData) → List LinkTable
+link_tables links = map link_table links

@@ -1,4 +1,4 @@
-//! What the maps of a package graph hold for a package and for a link.
+//! What a package graph holds for a package and for a link.
 use crate::declaration::Declaration;
 use crate::name_set::NameSet;
 use crate::named_feature::NamedFeature;
@@ -11,6 +11,9 @@ pub struct PackageData {
     pub(crate) features: NameSet<NamedFeature>,
     pub(crate) optional_names: NameSet<String>,
 }
+
+/// A link: the numbers of the package that it leaves and of the one that it leads to, and what is declared.
+pub(crate) type Link = ((usize, usize), LinkData);
 
 /// The declarations of a pair of packages: most pairs have one, which then lies here.
 #[derive(Debug, Drop)]

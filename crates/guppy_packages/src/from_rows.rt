@@ -1,16 +1,17 @@
 //! From rows to a package graph, in two passes.
-ghost use Rattle.std.specs.Prelude.{◌≡◌, ◌+◌, ◌-◌, ◌<◌, ◌≤◌, ◌^◌, ◌∷◌, [], Ok, IfOk, IfErr, length, map};
-ghost use Rattle.std.specs.Option.{option_map};
+ghost use Rattle.std.specs.Prelude.{◌≡◌, ℕ, ◌+◌, ◌-◌, ◌<◌, ◌≤◌, ◌^◌, ◌∷◌, [], Ok, IfOk, IfErr, OnOk, false, length, map, slice_get};
+ghost use Rattle.std.specs.Option.{option_map, option_map_or};
 ghost use Rattle.std.specs.String.{string_bytes};
 ghost use Rattle.guppy_packages.specs.Graph.{NamesRow, Reads, first_or, faults_by, row_fault, link_fault, packages_of, links_of, dependencies_of, tables_of};
 ghost use Rattle.guppy_packages.specs.NamedFeature.{feature_table};
 ghost use Rattle.guppy_packages.specs.Platform.{platform_specs, platform_text};
 ghost use Rattle.guppy_packages.specs.Rows.{row_text, texts};
-ghost use Rattle.guppy_packages.specs.inner.Steps.{Takes, add_package, add_feature, add_name, add_link, begun_after, change_last, first_step, second_step, with_feature, with_name};
-ghost use Rattle.guppy_packages.specs.Stored.{declared, package_tables, link_tables};
+ghost use Rattle.guppy_packages.specs.inner.Noted.{AreNoted};
+ghost use Rattle.guppy_packages.specs.inner.Steps.{Takes, add_package, add_feature, add_name, add_link, begun_after, change_last, joined_link, joins, first_step, second_step, with_feature, with_name};
+ghost use Rattle.guppy_packages.specs.Stored.{declared, link_table, link_tables, package_tables};
 ghost use Rattle.guppy_packages.specs.Tables.{package_place};
 
-use crate::contents::{LinkData, PackageData};
+use crate::contents::{Link, LinkData, PackageData};
 use crate::declaration::Declaration;
 use crate::name_set::NameSet;
 use crate::named_feature::NamedFeature;
@@ -73,9 +74,8 @@ fn push_feature(
 ) -> Result<(), RowFault>
     ensures { Takes (map feature_table features.new) result (with_feature name.now (texts items.now) (map feature_table features.old)) }
 {
-    let name = String::from_str(alloc, name)?;
-    let items = owned(alloc, items)?;
-    let added = features.insert(alloc, NamedFeature { name, items })?;
+    let feature = NamedFeature::new(alloc, name, items)?;
+    let added = features.insert(alloc, feature)?;
     if !added {
         return Err(RowFault::DuplicateFeature);
     }
@@ -211,29 +211,53 @@ fn declare(
     })
 }
 
-/// A Dep row of a pair of packages.
+/// Whether the link of this number joins the pair.
+fn joins_pair(links: &[Link], at: usize, from: usize, to: usize) -> bool
+    ensures { result ≡ option_map_or (joins from to) (slice_get (link_tables links.now) at) false }
+{
+    match links.get(at) {
+        Some((pair, _)) => from == pair.0 && to == pair.1,
+        None => false,
+    }
+}
+
+/// A Dep row of a pair of packages whose link this is.
+fn join_link(link: &mut LinkData, name: &str, declaration: Declaration) -> Result<(), RowFault>
+    ensures { (pair : ℕ × ℕ) → Takes (link_table (pair, link.new)) result (joined_link name.now (declared declaration) (link_table (pair, link.old))) }
+{
+    if name != link.name.as_str() {
+        return Err(RowFault::OtherName);
+    }
+    link.declarations.push(declaration)?;
+    Ok(())
+}
+
+/// A Dep row of a pair of packages. The links that leave the first one are noted at the packages that they lead to, and no link
+/// leaves a later one.
 fn push_link(
     alloc: Global,
-    links: &mut IndexMap<(usize, usize), LinkData>,
+    links: &mut Vec<Link>,
+    last: &mut Vec<usize>,
     from: usize,
     to: usize,
     name: &str,
     declaration: Declaration,
 ) -> Result<(), RowFault>
-    ensures { Takes (link_tables links.new) result (add_link from to name.now (declared declaration) (link_tables links.old)) }
+    requires within { to < length last.old.items }
+    requires noted { AreNoted from (link_tables links.old.items) last.old.items }
+    ensures tables { Takes (link_tables links.new.items) result (add_link from to name.now (declared declaration) (link_tables links.old.items)) }
+    ensures noted { OnOk result (AreNoted from (link_tables links.new.items) last.new.items) }
+    ensures count { OnOk result (length last.new.items ≡ length last.old.items) }
 {
-    if let Some(at) = links.get_index_of(&(from, to)) {
-        let link = &mut links[at];
-        if name != link.name.as_str() {
-            return Err(RowFault::OtherName);
-        }
-        link.declarations.push(declaration)?;
-        return Ok(());
+    let at = last[to];
+    if joins_pair(links, at, from, to) {
+        return join_link(&mut links[at].1, name, declaration);
     }
     let name = String::from_str(alloc, name)?;
     let mut declarations = SmallVec::new(alloc);
     declarations.push(declaration)?;
-    links.insert((from, to), LinkData { name, declarations })?;
+    last[to] = links.len();
+    links.push(((from, to), LinkData { name, declarations }))?;
     Ok(())
 }
 
@@ -248,11 +272,16 @@ fn place_of(packages: &TextMap<PackageId, PackageData>, id: &str) -> Option<usiz
 fn link_row(
     alloc: Global,
     packages: &TextMap<PackageId, PackageData>,
-    links: &mut IndexMap<(usize, usize), LinkData>,
+    links: &mut Vec<Link>,
+    last: &mut Vec<usize>,
     begun: usize,
     row: Row,
 ) -> Result<(), RowFault>
-    ensures { Takes (link_tables links.new) result (second_step (package_tables packages.now) begun (link_tables links.old) (row_text row.entry)) }
+    requires count { length last.old.items ≡ length (package_tables packages.now) }
+    requires noted { AreNoted (begun - 1) (link_tables links.old.items) last.old.items }
+    ensures tables { Takes (link_tables links.new.items) result (second_step (package_tables packages.now) begun (link_tables links.old.items) (row_text row.entry)) }
+    ensures noted { OnOk result (AreNoted (begun - 1) (link_tables links.new.items) last.new.items) }
+    ensures count { OnOk result (length last.new.items ≡ length last.old.items) }
 {
     let Row::Dep {
         name,
@@ -270,7 +299,8 @@ fn link_row(
         return Err(RowFault::UnknownTarget);
     };
     let declaration = declare(alloc, kind, optional, platform, default_features, features)?;
-    push_link(alloc, links, begun.saturating_sub(1), to, name, declaration)
+    let from = begun.saturating_sub(1);
+    push_link(alloc, links, last, from, to, name, declaration)
 }
 
 /// How many packages began, with this row.
@@ -278,6 +308,7 @@ fn count(begun: usize, row: Row) -> usize
     requires { begun + 1 < 2 ^ 64 }
     ensures value { result ≡ begun_after begun (row_text row.entry) }
     ensures few { result ≤ begun + 1 }
+    ensures kept { begun ≤ result }
 {
     match row {
         Row::Package { .. } => begun + 1,
@@ -285,20 +316,22 @@ fn count(begun: usize, row: Row) -> usize
     }
 }
 
-/// The second pass. No link comes after it, so the map keeps no more room than it needs.
+/// The second pass. Rows of a package stand together, so the last link to each package tells whether a pair has come before. No link
+/// comes after it, so the list keeps no more room than it needs.
 fn take_links<S: RowSource>(
     alloc: Global,
     packages: &TextMap<PackageId, PackageData>,
     source: &S,
-) -> Result<IndexMap<(usize, usize), LinkData>, RowError>
-    ensures tables { Reads link_tables result (first_or (faults_by (link_fault (package_tables packages.now)) (S.rows source.now)) (links_of (dependencies_of (package_tables packages.now) (S.rows source.now)))) }
+) -> Result<Vec<Link>, RowError>
+    ensures tables { Reads (λ links. link_tables links.items) result (first_or (faults_by (link_fault (package_tables packages.now)) (S.rows source.now)) (links_of (dependencies_of (package_tables packages.now) (S.rows source.now)))) }
     ensures row { IfErr result (NamesRow (S.rows source.now)) }
 {
-    let mut links = IndexMap::new(alloc);
+    let mut links = Vec::new(alloc);
+    let mut last = vec![in alloc; 0usize; packages.len()]?;
     let mut begun = 0;
     for row in 0..source.row_count() {
         let given = source.row(row);
-        if let Err(fault) = link_row(alloc, packages, &mut links, begun, given) {
+        if let Err(fault) = link_row(alloc, packages, &mut links, &mut last, begun, given) {
             return Err(RowError::new(row, fault));
         }
         begun = count(begun, given);

@@ -1,31 +1,115 @@
-//! A named feature of a package.
-ghost use Rattle.std.specs.Prelude.{◌≡◌, ◌<◌, Some, length, map, slice_get};
-ghost use Rattle.guppy_packages.specs.NamedFeature.{feature_table};
+//! A named feature of a package, in one text.
+ghost use Rattle.std.specs.Prelude.{◌≡◌, ◌∷◌, ◌<◌, Some, IfOk, length, slice_get};
+ghost use Rattle.std.specs.String.{string_bytes};
+ghost use Rattle.guppy_packages.specs.Parts.{AreEnds, AreEnds-prop, item_ends, name_end};
+ghost use Rattle.guppy_packages.specs.Rows.{texts};
+ghost use Rattle.guppy_packages.specs.inner.Pushed.{IsPushed};
 
 use indexmap::Equivalent;
+use std::alloc::{AllocError, Global};
+use std::fmt;
+use std::hash::{Hash, Hasher};
+
+/// Where the name and the items of a feature end in its text. The last of them ends where the text does.
+#[derive(Drop)]
+enum Ends {
+    /// There is no item.
+    NoItem,
+    /// There is one item, and the name ends here.
+    OneItem(usize),
+    /// There are more.
+    Items(Box<ItemEnds>),
+}
+
+/// Where the name of a feature ends in its text, and where each of its items does.
+#[derive(Drop)]
+struct ItemEnds {
+    name: usize,
+    items: Vec<usize>,
+}
 
 /// A named feature with its items. Among those of a package it is told by its name, so equality is of names.
-#[derive_where(PartialEq, Eq, Hash)]
-#[derive(Debug, Drop)]
+///
+/// The name and the items stand in one text, one after the other: most features have one item, and then need nothing else.
+#[derive(Drop)]
 pub struct NamedFeature {
-    pub(crate) name: String,
-    #[derive_where(skip(EqHashOrd))]
-    pub(crate) items: Vec<String>,
+    text: String,
+    ends: Ends,
+    ghost cut: { AreEnds 0 (name_end ends (string_bytes text) ∷ item_ends ends (string_bytes text)) (string_bytes text) } by { AreEnds-prop 0 (name_end ends (string_bytes text) ∷ item_ends ends (string_bytes text)) (string_bytes text) },
+}
+
+/// How long the text is, or the greatest number where no text is so long.
+fn room_for(name: &str, items: &[&str]) -> usize {
+    let mut room = name.len();
+    for item in items {
+        room = room.saturating_add(item.len());
+    }
+    room
+}
+
+/// Adds each item, and tells where it ends.
+fn push_each(alloc: Global, text: &mut String, items: &[&str]) -> Result<Vec<usize>, AllocError>
+    ensures { IfOk result (λ ends. IsPushed (string_bytes text.old) (texts items.now) (string_bytes text.new) ends.items) }
+{
+    let mut ends = Vec::with_capacity(alloc, items.len())?;
+    for item in items {
+        text.push_str(item)?;
+        ends.push(text.as_str().len())?;
+    }
+    Ok(ends)
+}
+
+/// Adds the items of a feature to its name.
+fn push_items(alloc: Global, text: &mut String, items: &[&str]) -> Result<Ends, AllocError>
+    ensures { IfOk result (λ ends. (name_end ends (string_bytes text.new) ≡ length (string_bytes text.old)) × IsPushed (string_bytes text.old) (texts items.now) (string_bytes text.new) (item_ends ends (string_bytes text.new))) }
+{
+    let name = text.as_str().len();
+    match items {
+        [] => Ok(Ends::NoItem),
+        [item] => {
+            text.push_str(item)?;
+            Ok(Ends::OneItem(name))
+        }
+        _ => {
+            let items = push_each(alloc, text, items)?;
+            Ok(Ends::Items(Box::new(alloc, ItemEnds { name, items })?))
+        }
+    }
 }
 
 impl NamedFeature {
+    ghost use Rattle.guppy_packages.specs.NamedFeature.{feature_table};
+
+    /// The feature of this name with these items.
+    pub(crate) fn new(alloc: Global, name: &str, items: &[&str]) -> Result<NamedFeature, AllocError>
+        ensures { IfOk result (λ f. feature_table f ≡ record { name = name.now; items = texts items.now }) }
+    {
+        let mut text = String::with_capacity(alloc, room_for(name, items))?;
+        text.push_str(name)?;
+        let ends = push_items(alloc, &mut text, items)?;
+        Ok(NamedFeature { text, ends })
+    }
+
     /// Its name.
     pub fn name(&self) -> &str
         ensures { result.now ≡ (feature_table self.now).name }
     {
-        self.name.as_str()
+        match &self.ends {
+            Ends::NoItem => self.text.as_str(),
+            Ends::OneItem(end) => &self.text[..*end],
+            Ends::Items(ends) => &self.text[..ends.name],
+        }
     }
 
     /// How many items it has.
     pub fn item_count(&self) -> usize
         ensures { result ≡ length (feature_table self.now).items }
     {
-        self.items.len()
+        match &self.ends {
+            Ends::NoItem => 0,
+            Ends::OneItem(_) => 1,
+            Ends::Items(ends) => ends.items.len(),
+        }
     }
 
     /// The text of an item, by its place in the row.
@@ -33,7 +117,55 @@ impl NamedFeature {
         requires { ix < length (feature_table self.now).items }
         ensures { slice_get (feature_table self.now).items ix ≡ Some result.now }
     {
-        self.items[ix].as_str()
+        match &self.ends {
+            Ends::NoItem => unreachable!(),
+            Ends::OneItem(end) => &self.text[*end..],
+            Ends::Items(ends) => {
+                let end = ends.items[ix];
+                if ix == 0 {
+                    return &self.text[ends.name..end];
+                }
+                &self.text[ends.items[ix - 1]..end]
+            }
+        }
+    }
+}
+
+impl PartialEq for NamedFeature {
+    ghost use Rattle.guppy_packages.specs.NamedFeature.{name_text};
+    ghost use Rattle.std.specs.Str.{bytes_eq};
+    ghost use Rattle.std.specs.Cmp.{on_per, partial_equiv_from_equiv};
+    ghost use Rattle.std.specs.Cmp.Lexicographic.{nat_list_eq_equiv};
+
+    ghost eq = { λ x y. bytes_eq (name_text x) (name_text y) };
+
+    ghost laws = { on_per name_text (partial_equiv_from_equiv nat_list_eq_equiv) };
+
+    fn eq(&self, other: &NamedFeature) -> bool {
+        self.name() == other.name()
+    }
+}
+
+impl Eq for NamedFeature {
+    ghost use Rattle.guppy_packages.specs.NamedFeature.{name_text};
+    ghost use Rattle.std.specs.Cmp.{on_equiv};
+    ghost use Rattle.std.specs.Cmp.Lexicographic.{nat_list_eq_equiv};
+
+    ghost laws = { on_equiv name_text nat_list_eq_equiv };
+}
+
+impl Hash for NamedFeature {
+    ghost use Rattle.guppy_packages.specs.NamedFeature.{name_text};
+    ghost use Rattle.std.specs.Cmp.Lexicographic.{bytes_decides};
+    ghost use Rattle.std.specs.Hash as fed;
+    ghost use Rattle.std.proofs.Common.{ap};
+
+    ghost hash_input = { λ f. fed.str (name_text f) };
+
+    ghost respects_eq = { λ x y h. ap fed.str ((bytes_decides (name_text x) (name_text y)).0 h) };
+
+    fn hash<H: Hasher>(&self, state: &mut H) {
+        self.name().hash(state);
     }
 }
 
@@ -49,6 +181,17 @@ impl Equivalent<NamedFeature> for &str {
     ghost respects_eq = { λ q x y. text_congr q.now x y };
 
     fn equivalent(&self, key: &NamedFeature) -> bool {
-        *self == key.name.as_str()
+        *self == key.name()
+    }
+}
+
+impl fmt::Debug for NamedFeature {
+    fn fmt<W: fmt::Write>(&self, f: &mut fmt::Formatter<W>) -> fmt::Result {
+        let mut told = f.debug_tuple("NamedFeature");
+        told.field(&self.name());
+        for ix in 0..self.item_count() {
+            told.field(&self.item(ix));
+        }
+        told.finish()
     }
 }

@@ -4,13 +4,12 @@ ghost use Rattle.guppy_support.specs.Sequences.{IsOrderOf};
 ghost use Rattle.guppy_packages.specs.PackageOrder.{digraph_of_packages};
 ghost use Rattle.guppy_packages.specs.Tables.{package_place, AreLinksFrom, AreTables};
 
-use crate::contents::{LinkData, PackageData};
+use crate::contents::{Link, PackageData};
 use crate::package_id::PackageId;
 use crate::package_link::PackageLink;
 use crate::package_metadata::{PackageMetadata, UnknownPackageId};
 use crate::text_map::TextMap;
 use guppy_support::Order;
-use indexmap::IndexMap;
 use std::marker::Model;
 use std::ops::Range;
 
@@ -18,7 +17,7 @@ use std::ops::Range;
 #[derive(Drop)]
 pub struct PackageGraph {
     pub(crate) packages: TextMap<PackageId, PackageData>,
-    pub(crate) links: IndexMap<(usize, usize), LinkData>,
+    pub(crate) links: Vec<Link>,
     pub(crate) order: Order,
 }
 
@@ -31,11 +30,11 @@ impl Model for PackageGraph {
     ghost use Rattle.guppy_packages.specs.PackageOrder.{digraph_of_packages};
     ghost use Rattle.guppy_packages.specs.Stored.{package_tables, link_tables};
 
-    ghost view = { λ g. record { packages = package_tables g.packages; links = link_tables g.links } };
+    ghost view = { λ g. record { packages = package_tables g.packages; links = link_tables g.links.items } };
 
     ghost invariant = { λ g.
-        AreTables (record { packages = package_tables g.packages; links = link_tables g.links })
-        × IsOrderOf (digraph_of_packages (record { packages = package_tables g.packages; links = link_tables g.links })) g.order };
+        AreTables (record { packages = package_tables g.packages; links = link_tables g.links.items })
+        × IsOrderOf (digraph_of_packages (record { packages = package_tables g.packages; links = link_tables g.links.items })) g.order };
 }
 
 impl PackageGraph {
@@ -82,10 +81,8 @@ impl PackageGraph {
         ensures link { slice_get self.now.links ix ≡ Some (link_table_of result) }
         ensures number { link_number_of result ≡ ix }
     {
-        match self.links.get_index(ix) {
-            Some((pair, data)) => PackageLink::new(self, ix, *pair, data),
-            None => unreachable!(),
-        }
+        let (pair, data) = &self.links[ix];
+        PackageLink::new(self, ix, *pair, data)
     }
 
     /// The order of the packages, by their numbers: that of the digraph of their links, in which a link that is dev-only doesn't
@@ -100,15 +97,16 @@ impl PackageGraph {
     pub(crate) fn links_from(&self, package_ix: usize) -> Range<usize>
         ensures { AreLinksFrom self.now.links package_ix result.start result.end }
     {
-        let first = self.links.partition_point(
-            |pair: &(usize, usize), _: &LinkData| -> bool
-                ensures { result ≡ nat_lt pair.now.0 package_ix }
-            { pair.0 < package_ix },
+        let links = self.links.as_slice();
+        let first = links.partition_point(
+            |link: &Link| -> bool
+                ensures { result ≡ nat_lt link.now.0.0 package_ix }
+            { link.0.0 < package_ix },
         );
-        let end = self.links.partition_point(
-            |pair: &(usize, usize), _: &LinkData| -> bool
-                ensures { result ≡ nat_le pair.now.0 package_ix }
-            { pair.0 <= package_ix },
+        let end = links.partition_point(
+            |link: &Link| -> bool
+                ensures { result ≡ nat_le link.now.0.0 package_ix }
+            { link.0.0 <= package_ix },
         );
         first..end
     }

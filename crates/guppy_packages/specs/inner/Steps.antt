@@ -60,6 +60,10 @@ first_step packages (a_dep name target d) = change_last (λ p. Ok (add_name name
 abbrev pub joins : ℕ → ℕ → LinkTable → Bool
 joins from to l = (from == l.from) && (to == l.to)
 
+-- a Dep row joins a link of its name
+abbrev pub joined_link : Text → Declared → LinkTable → Outcome LinkTable
+joined_link name d l = if bytes_eq name l.name then Ok (record l { declarations = l.declarations ++ d ∷ [] }) else Err OtherName
+
 -- a Dep row joins the link of its pair, which has its name, or begins one
 abbrev pub add_link : ℕ → ℕ → Text → Declared → List LinkTable → Outcome (List LinkTable)
 add_link from to name d [] = Ok (record { from = from; to = to; name = name; declarations = d ∷ [] } ∷ [])

@@ -1,32 +1,60 @@
-use Rattle.std.proofs.Common.{Bool, ◌≡◌, refl, ◌∙◌, false, true, not, ap, map, ◌++◌, [], ◌∷◌}
-use Rattle.std.proofs.lemmas.List.{map-append}
-use Rattle.std.specs.Str.{bytes_eq}
-use Rattle.std.specs.String.{string_bytes}
-use Rattle.indexmap.proofs.CallerLemmas.{insert_entry-new}
-use Rattle.guppy_packages.specs.Stored.{declared, link_table}
-use Rattle.guppy_packages.proofs.TakenLemmas.{link_new, found_link, other_link, missing_link}
+use Rattle.std.proofs.Common.{◌≡◌, ◌∙◌, [], ◌∷◌, ◌++◌, Some, true, false, map, length, ap, refl, subst, sym}
+use Rattle.std.specs.Prelude.{slice_get}
+use Rattle.std.specs.Option.{option_map_or}
+use Rattle.std.proofs.lemmas.List.{length-map, map-append, map-set}
+use Rattle.std.proofs.lemmas.Option.{slice_get_read}
+use Rattle.guppy_packages.specs.Stored.{declared, link_table, link_tables}
+use Rattle.guppy_packages.specs.inner.Noted.{AreNoted}
+use Rattle.guppy_packages.specs.inner.Steps.{joins}
+use Rattle.guppy_packages.proofs.NotedLemmas.{link_there, missing_link, noted_joined, noted_link, noted_new, on_ok}
+use Rattle.guppy_packages.proofs.TakenLemmas.{link_joined, link_new}
 use Rattle.guppy_packages.proofs.from_rows.push_link.Goals as goal
 
-flipped : (b k : Bool) → not k ≡ not b → b ≡ k
-flipped true true h = refl
-flipped true false h = h
-flipped false true h = h
-flipped false false h = refl
+pub returns-then-joins_pair-clause-tables : goal.returns-then-joins_pair-clause-tables
+returns-then-joins_pair-clause-tables c =
+    let es = c.args.links.now.items in
+    let at = c.index-at.result.now in
+    let from = c.args.from in
+    let to = c.args.to in
+    let is : slice_get c.args.last.now.items to ≡ Some at = slice_get_read c.args.last.now.items (length c.args.last.now.items) to at refl c.requires.within c.index-at.ensures in
+    let entry = c.index_mut.result.now in
+    let passes : option_map_or (joins from to) (slice_get (link_tables es) at) false ≡ true = ap (λ ls. option_map_or (joins from to) (slice_get (link_tables ls) at) false) (sym c.deref.ensures.value) ∙ sym c.joins_pair.ensures ∙ c.if-joins_pair.true in
+    let there = link_there (joins from to) es at entry passes c.index_mut.ensures.value in
+    let place = noted_link from to (link_tables es) c.args.last.now.items c.requires.noted at is (link_table entry) there.0 there.1 in
+    rw (map-set link_table es at (entry.0, c.join_link.new.link)) (link_joined from to c.args.name.now (declared c.args.declaration) (link_tables es) at (link_table entry) (link_table (entry.0, c.join_link.new.link)) c.join_link.result place there.0 (c.join_link.ensures entry.0))
 
-pub returns-then-ne : goal.returns-then-ne
-returns-then-ne c =
-    let differs : bytes_eq c.args.name.now (string_bytes c.index_mut-link.result.now.name) ≡ false = rw (← c.as_str.ensures.value) (flipped _ false c.if-ne.ensures) in
-    other_link c.args.from c.args.to _ _ c.args.links.now.entries c.in-Some.at c.index_mut-link.result.now c.in-Some.ensures.index c.index_mut-link.ensures.value differs
+pub returns-then-joins_pair-clause-noted : goal.returns-then-joins_pair-clause-noted
+returns-then-joins_pair-clause-noted c =
+    let es = c.args.links.now.items in
+    let at = c.index-at.result.now in
+    let from = c.args.from in
+    let to = c.args.to in
+    let is : slice_get c.args.last.now.items to ≡ Some at = slice_get_read c.args.last.now.items (length c.args.last.now.items) to at refl c.requires.within c.index-at.ensures in
+    let entry = c.index_mut.result.now in
+    let passes : option_map_or (joins from to) (slice_get (link_tables es) at) false ≡ true = ap (λ ls. option_map_or (joins from to) (slice_get (link_tables ls) at) false) (sym c.deref.ensures.value) ∙ sym c.joins_pair.ensures ∙ c.if-joins_pair.true in
+    let there = link_there (joins from to) es at entry passes c.index_mut.ensures.value in
+    on_ok c.join_link.result _ (subst (λ ls. AreNoted from ls c.args.last.now.items) (sym (map-set link_table es at (entry.0, c.join_link.new.link))) (noted_joined from to (link_tables es) c.args.last.now.items c.requires.noted at is (link_table entry) (link_table (entry.0, c.join_link.new.link)) there.0 refl refl))
 
-pub returns-in-Some : goal.returns-in-Some
-returns-in-Some c =
-    let same : bytes_eq c.args.name.now (string_bytes c.index_mut-link.result.now.name) ≡ true = rw (← c.as_str.ensures.value) (flipped _ true c.if-ne.ensures) in
-    let pushed : map declared c.push.new.self.items ≡ map declared c.index_mut-link.result.now.declarations.items ++ declared c.args.declaration ∷ [] = ap (map declared) c.in_ok-push.ensures.ok ∙ map-append declared _ _ in
-    found_link c.args.from c.args.to _ _ c.args.links.now.entries c.in-Some.at c.index_mut-link.result.now (record { name = c.index_mut-link.result.now.name; declarations = c.push.new.self }) c.in-Some.ensures.index c.index_mut-link.ensures.value refl pushed same
+pub returns-clause-tables : goal.returns-clause-tables
+returns-clause-tables c =
+    let es = c.args.links.now.items in
+    let at = c.index-at.result.now in
+    let from = c.args.from in
+    let to = c.args.to in
+    let is : slice_get c.args.last.now.items to ≡ Some at = slice_get_read c.args.last.now.items (length c.args.last.now.items) to at refl c.requires.within c.index-at.ensures in
+    let missing : option_map_or (joins from to) (slice_get (link_tables es) at) false ≡ false = ap (λ ls. option_map_or (joins from to) (slice_get (link_tables ls) at) false) (sym c.deref.ensures.value) ∙ sym c.joins_pair.ensures ∙ c.if-joins_pair.false in
+    let none = missing_link from to (link_tables es) c.args.last.now.items c.requires.noted at is missing in
+    let one : map declared c.push.new.self.items ≡ declared c.args.declaration ∷ [] = ap (map declared) c.in_ok-push.ensures.ok ∙ ap (λ xs. map declared (xs ++ c.args.declaration ∷ [])) c.new-declarations.ensures.items in
+    rw (link_new from to c.args.name.now (declared c.args.declaration) _ none, c.in_ok-push-2.ensures.items, map-append link_table es _, one, c.in_ok-name.ensures.ok)
 
-pub returns : goal.returns
-returns c =
-    let none = missing_link c.args.from c.args.to c.args.name.now (declared c.args.declaration) c.args.links.now.entries c.in_default.ensures.index in
-    let added = c.in_ok-insert.ensures.entries ∙ insert_entry-new _ c.args.links.now _ _ none.1 in
-    let one : map declared c.push-2.new.self.items ≡ declared c.args.declaration ∷ [] = ap (map declared) c.in_ok-push-2.ensures.ok ∙ ap (λ xs. map declared (xs ++ c.args.declaration ∷ [])) c.new-declarations.ensures.items in
-    rw (link_new c.args.from c.args.to c.args.name.now (declared c.args.declaration) _ none.0, added, map-append link_table c.args.links.now.entries _, one, c.in_ok-name.ensures.ok)
+pub returns-clause-noted : goal.returns-clause-noted
+returns-clause-noted c =
+    let es = c.args.links.now.items in
+    let at = c.index-at.result.now in
+    let from = c.args.from in
+    let to = c.args.to in
+    let is : slice_get c.args.last.now.items to ≡ Some at = slice_get_read c.args.last.now.items (length c.args.last.now.items) to at refl c.requires.within c.index-at.ensures in
+    let missing : option_map_or (joins from to) (slice_get (link_tables es) at) false ≡ false = ap (λ ls. option_map_or (joins from to) (slice_get (link_tables ls) at) false) (sym c.deref.ensures.value) ∙ sym c.joins_pair.ensures ∙ c.if-joins_pair.false in
+    let count : c.len.result ≡ length (link_tables es) = c.len.ensures ∙ c.args.links.now.ok.0 ∙ sym (length-map es link_table) in
+    let grown = ap link_tables c.in_ok-push-2.ensures.items ∙ map-append link_table es _ in
+    rw (grown, count) (noted_new from to (link_tables es) c.args.last.now.items c.requires.noted at is missing _ refl refl c.requires.within)

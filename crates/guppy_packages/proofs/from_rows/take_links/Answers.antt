@@ -1,7 +1,8 @@
-use Rattle.std.proofs.Common.{◌∙◌, ◌<◌, ◌≤◌, ◌+◌, length, rules, arith}
+use Rattle.std.proofs.Common.{◌∙◌, ◌<◌, ◌≤◌, ◌+◌, ◌-◌, length, rules, arith}
 use Rattle.guppy_packages.specs.Graph.{dependencies_of, links_of}
 use Rattle.guppy_packages.specs.Stored.{link_tables, package_tables}
 use Rattle.guppy_packages.proofs.Lists.{drop_at}
+use Rattle.guppy_packages.proofs.NotedLemmas.{noted_later}
 use Rattle.guppy_packages.proofs.Passes.{second_answers, second_goes_on}
 use Rattle.guppy_packages.proofs.from_rows.take_links.Goals as goal
 
@@ -12,7 +13,7 @@ returns-in-Err-clause-tables g c =
     let i = c.loop-row.row in
     let at = drop_at all i _ c.row-given.ensures in
     let within : i < length all = search rules in
-    second_answers all i _ within at packages c.loop-row.invariant.none c.loop-row.begun c.loop-row.invariant.counted (link_tables c.loop-row.links) c.loop-row.invariant.tables (Unit {0}) c.in-Err.fault c.new.result (link_tables c.link_row.new.links) (links_of (dependencies_of packages all)) c.new.ensures.fault c.new.ensures.row c.in-Err.ensures
+    second_answers all i _ within at packages c.loop-row.invariant.none c.loop-row.begun c.loop-row.invariant.counted (link_tables c.loop-row.links.items) c.loop-row.invariant.tables (Unit {0}) c.in-Err.fault c.new.result (link_tables c.link_row.new.links.items) (links_of (dependencies_of packages all)) c.new.ensures.fault c.new.ensures.row c.in-Err.ensures.tables
 
 pub loop-row-preserved : goal.loop-row-preserved
 loop-row-preserved g c =
@@ -21,6 +22,14 @@ loop-row-preserved g c =
     let i = c.loop-row.row in
     let at = drop_at all i _ c.row-given.ensures in
     let within : i < length all = search rules in
-    let next = second_goes_on all i _ within at packages c.loop-row.invariant.none c.loop-row.begun c.loop-row.invariant.counted (link_tables c.loop-row.links) c.loop-row.invariant.tables (link_tables c.link_row.new.links) c.in_default.ensures in
+    let next = second_goes_on all i _ within at packages c.loop-row.invariant.none c.loop-row.begun c.loop-row.invariant.counted (link_tables c.loop-row.links.items) c.loop-row.invariant.tables (link_tables c.link_row.new.links.items) c.in_default.ensures.tables in
     let few : c.count-begun.result ≤ i + 1 = omega (arith, c.count-begun.ensures.few) in
-    record { few = few; none = next.0; counted = c.count-begun.ensures.value ∙ next.1; tables = next.2 }
+    let kept : c.loop-row.begun - 1 ≤ c.count-begun.result - 1 = omega (arith, c.count-begun.ensures.kept) in
+    record {
+      few = few;
+      none = next.0;
+      counted = c.count-begun.ensures.value ∙ next.1;
+      size = c.in_default.ensures.count ∙ c.loop-row.invariant.size;
+      noted = noted_later _ _ (link_tables c.link_row.new.links.items) c.link_row.new.last.items kept c.in_default.ensures.noted;
+      tables = next.2;
+    }

@@ -1,6 +1,7 @@
-use Rattle.std.proofs.Common.{◌≡◌, ◌≤◌, [], length, take}
+use Rattle.std.proofs.Common.{◌≡◌, ◌-◌, ◌≤◌, [], length, take}
 use Rattle.guppy_packages.specs.Graph.{dependencies_of, faults_by, link_fault, links_of, packages_of}
 use Rattle.guppy_packages.specs.Stored.{link_tables, package_tables}
+use Rattle.guppy_packages.specs.inner.Noted.{AreNoted}
 use Rattle.guppy_packages.proofs.from_rows.take_links.Given as goal
 
 -- the links so far are those of the rows so far, none of which has a fault
@@ -11,5 +12,7 @@ invariant-loop-row g l =
       few : l.begun ≤ l.row;
       none : faults_by (link_fault (package_tables l.packages)) (take l.row rows) ≡ [];
       counted : l.begun ≡ length (packages_of (take l.row rows));
-      tables : link_tables l.links ≡ links_of (dependencies_of (package_tables l.packages) (take l.row rows));
+      size : length l.last.items ≡ length (package_tables l.packages);
+      noted : AreNoted (l.begun - 1) (link_tables l.links.items) l.last.items;
+      tables : link_tables l.links.items ≡ links_of (dependencies_of (package_tables l.packages) (take l.row rows));
     }

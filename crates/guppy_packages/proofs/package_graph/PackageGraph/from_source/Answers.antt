@@ -1,4 +1,6 @@
-use Rattle.std.proofs.Common.{◌≡◌, Err}
+use Rattle.std.proofs.Common.{◌≡◌, Err, subst, sym}
+use Rattle.guppy_support.specs.Sequences.{IsOrderOf}
+use Rattle.guppy_packages.specs.PackageOrder.{digraph_of_packages}
 use Rattle.std.proofs.lemmas.Result.{err_from_is_err_and}
 use Rattle.guppy_packages.specs.Graph.{dependencies_of, links_of, first_or, faults_by, link_fault, tables_of}
 use Rattle.guppy_packages.specs.Stored.{link_tables, package_tables}
@@ -17,9 +19,9 @@ returns-in_err-links-clause-tables g c =
 
 pub invariant_of-result : goal.invariant_of-result
 invariant_of-result g c = (
-  tables_hold (g.S.RowSource.rows c.args.source.now) (package_tables c.in_ok-packages.packages) c.in_ok-packages.ensures.tables (link_tables c.in_ok-links.links) c.in_ok-links.ensures.tables AreTables (tables_sound (g.S.RowSource.rows c.args.source.now)),
-  c.in_ok-order.ensures,
+  tables_hold (g.S.RowSource.rows c.args.source.now) (package_tables c.in_ok-packages.packages) c.in_ok-packages.ensures.tables (link_tables c.in_ok-links.links.items) c.in_ok-links.ensures.tables AreTables (tables_sound (g.S.RowSource.rows c.args.source.now)),
+  subst (λ ls. IsOrderOf (digraph_of_packages (record { packages = package_tables c.in_ok-packages.packages; links = link_tables ls })) c.in_ok-order.order) c.deref.ensures.value c.in_ok-order.ensures,
 )
 
 pub package_order-requires : goal.package_order-requires
-package_order-requires g c = tables_hold (g.S.RowSource.rows c.args.source.now) (package_tables c.in_ok-packages.packages) c.in_ok-packages.ensures.tables (link_tables c.in_ok-links.links) c.in_ok-links.ensures.tables AreTables (tables_sound (g.S.RowSource.rows c.args.source.now))
+package_order-requires g c = subst (λ ls. AreTables (record { packages = package_tables c.in_ok-packages.packages; links = link_tables ls })) (sym c.deref.ensures.value) (tables_hold (g.S.RowSource.rows c.args.source.now) (package_tables c.in_ok-packages.packages) c.in_ok-packages.ensures.tables (link_tables c.in_ok-links.links.items) c.in_ok-links.ensures.tables AreTables (tables_sound (g.S.RowSource.rows c.args.source.now)))
