@@ -177,6 +177,37 @@ impl<'g> LinkParts<'g> {
         let held = HeldLink::new(alloc, full)?;
         Ok(ConditionalLinkImpl { held })
     }
+
+    /// The link over the covered declarations of package links, where none is added yet.
+    fn over_links(
+        &mut self,
+        alloc: Global,
+        graph: &'g PackageGraph,
+        links: &[usize],
+        which: LinkDeclarations,
+    ) -> Result<ConditionalLinkImpl, AllocError>
+        requires { (i k : ℕ) → slice_get links.now i ≡ Some k → k < length graph.now.links }
+        ensures { IfOk result (λ l. HasParts self.old [] → link_facts l ≡ over which (λ d. includes which d) (links_at graph.now links.now)) }
+    {
+        for link_ix in links {
+            self.add_link(graph.link(*link_ix), which)?;
+        }
+        self.to_link(alloc, which)
+    }
+
+    /// The link over the declarations of a package link at places, where none is added yet.
+    fn over_places(
+        &mut self,
+        alloc: Global,
+        link: PackageLink<'g>,
+        which: LinkDeclarations,
+        places: &[usize],
+    ) -> Result<ConditionalLinkImpl, AllocError>
+        ensures { IfOk result (λ l. HasParts self.old [] → link_facts l ≡ over_places which link.entry.link_ix (link_table_of link.entry) places.now) }
+    {
+        self.add_places(link, places)?;
+        self.to_link(alloc, which)
+    }
 }
 
 /// The status for a kind, of one declaration: its platform where it's of this kind, and else none.
@@ -230,23 +261,6 @@ fn only_included(which: LinkDeclarations, declarations: &[Declaration]) -> Optio
     None
 }
 
-/// The link over the covered declarations of package links, collected.
-fn links_collected(
-    alloc: Global,
-    graph: &PackageGraph,
-    links: &[usize],
-    which: LinkDeclarations,
-) -> Result<ConditionalLinkImpl, AllocError>
-    requires { (i k : ℕ) → slice_get links.now i ≡ Some k → k < length graph.now.links }
-    ensures { IfOk result (λ l. link_facts l ≡ over which (λ d. includes which d) (links_at graph.now links.now)) }
-{
-    let mut parts = LinkParts::new(alloc);
-    for link_ix in links {
-        parts.add_link(graph.link(*link_ix), which)?;
-    }
-    parts.to_link(alloc, which)
-}
-
 /// The link over the covered declarations of package links. One declaration is not collected.
 pub(crate) fn links_over(
     alloc: Global,
@@ -263,7 +277,8 @@ pub(crate) fn links_over(
             return link_over_one(alloc, *link_ix, which, declaration);
         }
     }
-    links_collected(alloc, graph, links, which)
+    let mut parts = LinkParts::new(alloc);
+    parts.over_links(alloc, graph, links, which)
 }
 
 /// The link over the covered declarations of one package link.
@@ -315,22 +330,6 @@ pub(crate) fn named_link(
     Ok(link)
 }
 
-/// The link over the declarations of one package link at places, in their order, collected.
-fn section_collected(
-    alloc: Global,
-    graph: &PackageGraph,
-    link_ix: usize,
-    which: LinkDeclarations,
-    places: &[usize],
-) -> Result<ConditionalLinkImpl, AllocError>
-    requires { link_ix < length graph.now.links }
-    ensures { IfOk result (λ l. (link : LinkTable) → IsLink graph.now link_ix link → link_facts l ≡ over_places which link_ix link places.now) }
-{
-    let mut parts = LinkParts::new(alloc);
-    parts.add_places(graph.link(link_ix), places)?;
-    parts.to_link(alloc, which)
-}
-
 /// The link over the declarations of one package link at places, in their order. One declaration is not collected.
 pub(crate) fn section_link(
     alloc: Global,
@@ -348,5 +347,6 @@ pub(crate) fn section_link(
     {
         return link_over_one(alloc, link_ix, which, &declarations[*place]);
     }
-    section_collected(alloc, graph, link_ix, which, places)
+    let mut parts = LinkParts::new(alloc);
+    parts.over_places(alloc, graph.link(link_ix), which, places)
 }

@@ -22,3 +22,12 @@ returns c =
     ∙ one_place which c.args.link_ix (map declared ds) places (declared d) c.in-len1.len_at_least c.in-len1.len_below there
     ∙ ap (λ z. over_parts which ((c.args.link_ix, at_places z places) ∷ [])) c.declarations-declarations.ensures
     ∙ ap (λ l. over_places which c.args.link_ix l places) (one_link c.args.graph.now c.args.link_ix (link_table_of c.link.result) link c.link.ensures.link is))
+
+pub returns-2 : goal.returns-2
+returns-2 c =
+    let found = link_table_of c.link-2.result in
+    let places = c.args.places.now in
+    ok_map _ _ c.over_places.result c.over_places.ensures (λ l holds link is.
+    holds c.new-parts.ensures
+    ∙ ap (λ k. over_places c.args.which k found places) c.link-2.ensures.number
+    ∙ ap (λ l. over_places c.args.which c.args.link_ix l places) (one_link c.args.graph.now c.args.link_ix found link c.link-2.ensures.link is))
