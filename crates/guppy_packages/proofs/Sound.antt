@@ -36,7 +36,7 @@ add_link-keeps Q from to name d keep begin [] new a h =
 add_link-keeps Q from to name d keep begin (l ∷ ls) new a h = go (joins from to l) (bytes_eq name l.name) (add_link from to name d ls) refl h (λ more e. add_link-keeps Q from to name d keep begin ls more a.1 e)
   where
     go : (b n : Bool) (o : Outcome (List LinkTable)) → add_link from to name d ls ≡ o
-        → (if b then (if n then Ok (record l { declarations = l.declarations ++ d ∷ [] } ∷ ls) else Err OtherName) else result_map (λ rest. l ∷ rest) o) ≡ Ok new
+        → (if b then result_map (λ joined. joined ∷ ls) (if n then Ok (record l { declarations = l.declarations ++ d ∷ [] }) else Err OtherName) else result_map (λ rest. l ∷ rest) o) ≡ Ok new
         → ((more : List LinkTable) → add_link from to name d ls ≡ Ok more → AllIn Q more) → AllIn Q new
     go true true o e h more =
         let same : record l { declarations = l.declarations ++ d ∷ [] } ∷ ls ≡ new = cc in
@@ -87,7 +87,7 @@ optional-add_link i n from to name d (l ∷ ls) new h = go (joins from to l) ref
     here = (i == l.from) && bytes_eq n l.name && list_any (λ e. e.optional) l.declarations
 
     go : (b : Bool) → joins from to l ≡ b → (m : Bool) → bytes_eq name l.name ≡ m → (o : Outcome (List LinkTable)) → add_link from to name d ls ≡ o
-        → (if b then (if m then Ok (record l { declarations = l.declarations ++ d ∷ [] } ∷ ls) else Err OtherName) else result_map (λ rest. l ∷ rest) o) ≡ Ok new
+        → (if b then result_map (λ joined. joined ∷ ls) (if m then Ok (record l { declarations = l.declarations ++ d ∷ [] }) else Err OtherName) else result_map (λ rest. l ∷ rest) o) ≡ Ok new
         → ((more : List LinkTable) → add_link from to name d ls ≡ Ok more → has_optional_link i n more ≡ has_optional_link i n ls || ((i == from) && bytes_eq n name && d.optional))
         → has_optional_link i n new ≡ ((i == l.from) && bytes_eq n l.name && list_any (λ e. e.optional) l.declarations || has_optional_link i n ls) || ((i == from) && bytes_eq n name && d.optional)
     go true e true m o f h more =
@@ -185,7 +185,7 @@ add_link-ordered from to name d [] new a o h =
 add_link-ordered from to name d (l ∷ ls) new a o h = go (joins from to l) (bytes_eq name l.name) (add_link from to name d ls) refl h (λ more e. add_link-ordered from to name d ls more a.1 o.1 e)
   where
     go : (b n : Bool) (r : Outcome (List LinkTable)) → add_link from to name d ls ≡ r
-        → (if b then (if n then Ok (record l { declarations = l.declarations ++ d ∷ [] } ∷ ls) else Err OtherName) else result_map (λ rest. l ∷ rest) r) ≡ Ok new
+        → (if b then result_map (λ joined. joined ∷ ls) (if n then Ok (record l { declarations = l.declarations ++ d ∷ [] }) else Err OtherName) else result_map (λ rest. l ∷ rest) r) ≡ Ok new
         → ((more : List LinkTable) → add_link from to name d ls ≡ Ok more → AreOrdered more) → AreOrdered new
     go true true r e h more =
         let same : record l { declarations = l.declarations ++ d ∷ [] } ∷ ls ≡ new = cc in

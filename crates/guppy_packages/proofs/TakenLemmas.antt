@@ -1,10 +1,9 @@
 -- What the calls of the maps do to the tables.
-use Rattle.std.proofs.Common.{◌≡◌, ℕ, zero, suc, ◌+◌, ◌-◌, List, [], ◌∷◌, ◌++◌, Bool, true, false, cond, ◌||◌, not, Option, None, Some, Ok, Err, map, length, refl, ap, sym, ◌∙◌, subst, arith, if◌then◌else◌, is_some}
+use Rattle.std.proofs.Common.{◌≡◌, ℕ, zero, suc, ◌+◌, ◌-◌, List, [], ◌∷◌, ◌++◌, Bool, true, false, cond, ◌||◌, not, Option, None, Some, Result, Ok, Err, map, length, refl, ap, sym, ◌∙◌, subst, arith, is_some}
 use Rattle.std.specs.Prelude.{slice_get, slice_set}
 use Rattle.std.specs.List.{list_any, position_or_len}
 use Rattle.std.specs.Map.{lookup, values_of}
 use Rattle.std.specs.String.{string_bytes}
-use Rattle.std.specs.Str.{bytes_eq}
 use Rattle.std.proofs.lemmas.List.{length-map}
 use Rattle.indexmap.specs.Layout.{set_value_at}
 use Rattle.guppy_packages.specs.Rows.{Text, Declared}
@@ -88,9 +87,9 @@ pub not_noted : (es : List (Text × PackageData)) (v : PackageData) (name : Text
 not_noted es v name true at o = cc
 not_noted es v name false at o = last_changed {C = ℕ} es v v (λ p. Ok p) (Ok 0) at (λ id. refl)
 
-result_map_if : {A B E : Type 0} (f : A → B) (b : Bool) (x : A) (e : E) → result_map f (if b then Ok x else Err e) ≡ (if b then Ok (f x) else Err e)
-result_map_if f true x e = refl
-result_map_if f false x e = refl
+result_map-twice : {A B C E : Type 0} (f : B → C) (g : A → B) (r : Result A E) → result_map f (result_map g r) ≡ result_map (λ x. f (g x)) r
+result_map-twice f g (Ok x) = refl
+result_map-twice f g (Err e) = refl
 
 module _ (from to : ℕ) (name : Text) (d : Declared) where
   abbrev new_link : LinkTable
@@ -107,13 +106,13 @@ module _ (from to : ℕ) (name : Text) (d : Declared) where
 
   -- the link of the pair, at its index
   link_at : (ls : List LinkTable) (i : ℕ) (l : LinkTable) → position_or_len (joins from to) ls ≡ i → slice_get ls i ≡ Some l
-      → add_link from to name d ls ≡ (if bytes_eq name l.name then Ok (slice_set ls i (record l { declarations = l.declarations ++ d ∷ [] })) else Err OtherName)
+      → add_link from to name d ls ≡ result_map (slice_set ls i) (joined_link name d l)
   link_at [] i l p g = cc
   link_at (x ∷ ls) i l p g = go (joins from to x) refl i p g (λ j p g. link_at ls j l p g)
     where
       go : (b : Bool) → joins from to x ≡ b → (j : ℕ) → cond (not b) (1 + position_or_len (joins from to) ls) 0 ≡ j → slice_get (x ∷ ls) j ≡ Some l
-          → ((k : ℕ) → position_or_len (joins from to) ls ≡ k → slice_get ls k ≡ Some l → add_link from to name d ls ≡ (if bytes_eq name l.name then Ok (slice_set ls k (record l { declarations = l.declarations ++ d ∷ [] })) else Err OtherName))
-          → add_link from to name d (x ∷ ls) ≡ (if bytes_eq name l.name then Ok (slice_set (x ∷ ls) j (record l { declarations = l.declarations ++ d ∷ [] })) else Err OtherName)
+          → ((k : ℕ) → position_or_len (joins from to) ls ≡ k → slice_get ls k ≡ Some l → add_link from to name d ls ≡ result_map (slice_set ls k) (joined_link name d l))
+          → add_link from to name d (x ∷ ls) ≡ result_map (slice_set (x ∷ ls) j) (joined_link name d l)
       go true t zero p g more =
           let here : x ≡ l = cc in
           rw (t, here)
@@ -121,11 +120,10 @@ module _ (from to : ℕ) (name : Text) (d : Declared) where
       go false t zero p g more = absurd (omega arith)
       go false t (suc j) p g more =
           let at : position_or_len (joins from to) ls ≡ j = omega arith in
-          rw (t, more j at g) (result_map_if (λ rest. x ∷ rest) (bytes_eq name l.name) _ OtherName)
+          rw (t, more j at g) (result_map-twice (λ rest. x ∷ rest) (slice_set ls j) (joined_link name d l))
 
   -- the link of the pair was joined
   pub link_joined : {C : Type 0} (ls : List LinkTable) (i : ℕ) (l new : LinkTable) (result : Outcome C) → position_or_len (joins from to) ls ≡ i → slice_get ls i ≡ Some l
       → Takes new result (joined_link name d l) → Takes (slice_set ls i new) result (add_link from to name d ls)
   link_joined ls i l new result p g taken =
-      let same : result_map (slice_set ls i) (joined_link name d l) ≡ add_link from to name d ls = result_map_if (slice_set ls i) (bytes_eq name l.name) _ OtherName ∙ sym (link_at ls i l p g) in
-      subst (λ o. Takes (slice_set ls i new) result o) same (Takes-map (slice_set ls i) new result (joined_link name d l) taken)
+      subst (λ o. Takes (slice_set ls i new) result o) (sym (link_at ls i l p g)) (Takes-map (slice_set ls i) new result (joined_link name d l) taken)

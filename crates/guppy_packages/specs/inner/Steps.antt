@@ -68,7 +68,7 @@ joined_link name d l = if bytes_eq name l.name then Ok (record l { declarations 
 abbrev pub add_link : ℕ → ℕ → Text → Declared → List LinkTable → Outcome (List LinkTable)
 add_link from to name d [] = Ok (record { from = from; to = to; name = name; declarations = d ∷ [] } ∷ [])
 add_link from to name d (l ∷ links) =
-    if joins from to l then (if bytes_eq name l.name then Ok (record l { declarations = l.declarations ++ d ∷ [] } ∷ links) else Err OtherName)
+    if joins from to l then result_map (λ joined. joined ∷ links) (joined_link name d l)
     else result_map (λ rest. l ∷ rest) (add_link from to name d links)
 
 -- how many packages began, with this row
