@@ -14,11 +14,12 @@ use crate::link::held::{HeldLink, status_where};
 use feature_labels::LinkDeclarations;
 use guppy_packages::PlatformStatus;
 use std::alloc::{AllocError, Global};
+use std::fmt;
 use std::slice::from_ref;
 
 /// The link of a conditional edge: which declarations it covers, on which platforms for each kind of dependency, and
 /// the package links that have one of them.
-#[derive(Debug, Drop)]
+#[derive(Drop)]
 pub struct ConditionalLinkImpl {
     held: HeldLink,
 }
@@ -97,6 +98,19 @@ impl ConditionalLinkImpl {
     {
         let held = self.held.try_clone(alloc)?;
         Ok(ConditionalLinkImpl { held })
+    }
+}
+
+// Equal links print the same, however they are held.
+impl fmt::Debug for ConditionalLinkImpl {
+    fn fmt<W: fmt::Write>(&self, f: &mut fmt::Formatter<W>) -> fmt::Result {
+        f.debug_struct("ConditionalLinkImpl")
+            .field("declarations", &self.declarations())
+            .field("normal", &self.normal())
+            .field("build", &self.build())
+            .field("dev", &self.dev())
+            .field("package_link_ixs", &self.package_link_ixs())
+            .finish()
     }
 }
 

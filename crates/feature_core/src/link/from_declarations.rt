@@ -1,5 +1,5 @@
 //! Links over declarations of package links.
-ghost use Rattle.std.specs.Prelude.{◌≡◌, ◌++◌, ◌∷◌, ◌<◌, [], ℕ, true, if◌then◌else◌, List, Some, IfOk, IfSome, OnOk, length, map, filter, is_some, slice_get};
+ghost use Rattle.std.specs.Prelude.{◌≡◌, ◌++◌, ◌∷◌, ◌<◌, [], ℕ, true, if◌then◌else◌, List, None, Some, IfOk, IfSome, OnOk, length, map, filter, is_some, slice_get};
 ghost use Rattle.std.specs.List.{list_any};
 ghost use Rattle.guppy_packages.specs.Metadata.{link_table_of};
 ghost use Rattle.guppy_packages.specs.Platform.{impl_status};
@@ -225,6 +225,25 @@ fn status_of_one(
     Ok(PlatformStatusImpl::Specs(Vec::new(alloc)))
 }
 
+/// The link over one declaration of a package link that applies on all platforms.
+fn link_everywhere(
+    link_ix: usize,
+    which: LinkDeclarations,
+    kind: DependencyKind,
+) -> ConditionalLinkImpl
+    ensures { (d : Declared) → d.kind ≡ kind → d.platform ≡ None → link_facts result ≡ over_parts which ((link_ix, d ∷ []) ∷ []) }
+{
+    ConditionalLinkImpl {
+        held: HeldLink::Plain {
+            declarations: which,
+            normal: kind == DependencyKind::Normal,
+            build: kind == DependencyKind::Build,
+            dev: kind == DependencyKind::Development,
+            package_link_ix: link_ix,
+        },
+    }
+}
+
 /// The link over one declaration of a package link.
 fn link_over_one(
     alloc: Global,
@@ -234,6 +253,9 @@ fn link_over_one(
 ) -> Result<ConditionalLinkImpl, AllocError>
     ensures { IfOk result (λ l. link_facts l ≡ over_parts which ((link_ix, declared declaration.now ∷ []) ∷ [])) }
 {
+    if let PlatformStatusImpl::Always = declaration.platform() {
+        return Ok(link_everywhere(link_ix, which, declaration.kind()));
+    }
     let normal = status_of_one(alloc, declaration, DependencyKind::Normal)?;
     let build = status_of_one(alloc, declaration, DependencyKind::Build)?;
     let dev = status_of_one(alloc, declaration, DependencyKind::Development)?;

@@ -9,7 +9,7 @@ use smallvec::SmallVec;
 use std::alloc::{AllocError, Global};
 
 /// A link: which declarations it covers, its status for each kind, and its package links.
-#[derive(Debug, Drop)]
+#[derive(Drop)]
 pub(crate) enum HeldLink {
     /// Over one package link, where each kind is on all platforms or on none: whether it's on all.
     Plain {
@@ -24,7 +24,7 @@ pub(crate) enum HeldLink {
 }
 
 /// A link with its statuses and its package links.
-#[derive(Debug, Drop)]
+#[derive(Drop)]
 pub(crate) struct FullLink {
     pub(crate) declarations: LinkDeclarations,
     pub(crate) normal: PlatformStatusImpl,
