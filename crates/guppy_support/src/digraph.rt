@@ -41,7 +41,7 @@ pub struct Digraph {
     nodes: usize,
     edges: Columns,
     // where the edges of each source begin; the end stands last
-    begins: Vec<usize>,
+    begins: Vec<u32>,
     inward: Rows,
 }
 
@@ -62,8 +62,8 @@ impl Model for Digraph {
 impl Digraph {
     /// The digraph of these edges. They are examined in order, each edge's ends before its place; the first fault is the error.
     ///
-    /// More than 2147483648 nodes, whose numbers don't fit in 31 bits, are answered as want of memory: to say where the edges of each
-    /// node begin would take over 32 gigabytes.
+    /// More than 2147483648 nodes or 4294967295 edges, whose numbers don't fit, are answered as want of memory: they would take
+    /// over 24 gigabytes.
     pub fn new(alloc: Global, nodes: usize, edges: &[Edge]) -> Result<Digraph, DigraphError>
         ensures made { IfOk result (λ g. g ≡ record { nodes = nodes; edges = edges.now }) }
         ensures sound { IfOk result (λ g. IsDigraph g) }
@@ -187,7 +187,7 @@ impl Digraph {
         ensures ascends { result.start ≤ result.end }
         ensures within { result.end ≤ length self.now.edges }
     {
-        self.begins[node]..self.begins[node + 1]
+        self.begins[node] as usize..self.begins[node + 1] as usize
     }
 
     /// The numbers of the edges that enter the node, ascending.

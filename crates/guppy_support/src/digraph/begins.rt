@@ -6,8 +6,11 @@ ghost use Rattle.guppy_support.specs.inner.PackedRows.{AreAllBegun};
 use crate::digraph::columns::Columns;
 use std::alloc::{AllocError, Global};
 
+/// Places beyond this one don't fit in 32 bits.
+const LAST_PLACE: usize = 4294967295;
+
 /// Lets the rows up to that of the node begin at the place, where they have no begin.
-fn begin_up_to(begins: &mut Vec<usize>, node: usize, place: usize) -> Result<(), AllocError>
+fn begin_up_to(begins: &mut Vec<u32>, node: usize, place: u32) -> Result<(), AllocError>
     ensures long { OnOk result (length begins.new.items ≡ max (length begins.old.items) (node + 1)) }
     ensures kept { OnOk result ((v : ℕ) → v < length begins.old.items → slice_index begins.new.items v ≡ slice_index begins.old.items v) }
     ensures added { OnOk result ((v : ℕ) → length begins.old.items ≤ v → v < length begins.new.items → slice_index begins.new.items v ≡ place) }
@@ -18,19 +21,23 @@ fn begin_up_to(begins: &mut Vec<usize>, node: usize, place: usize) -> Result<(),
     Ok(())
 }
 
-/// Where the edges of each source begin.
+/// Where the edges of each source begin. Too many edges are answered as want of memory.
 pub(crate) fn source_begins(
     alloc: Global,
     nodes: usize,
     edges: &Columns,
-) -> Result<Vec<usize>, AllocError>
+) -> Result<Vec<u32>, AllocError>
     requires { IsDigraph (record { nodes = nodes; edges = edges.now }) }
     ensures { IfOk result (λ begins. AreAllBegun nodes (sources edges.now) begins.items) }
 {
-    let mut begins = Vec::with_capacity(alloc, nodes.saturating_add(1))?;
-    for place in 0..edges.len() {
-        begin_up_to(&mut begins, edges.edge(place).from, place)?;
+    let end = edges.len();
+    if end > LAST_PLACE {
+        return Err(AllocError);
     }
-    begin_up_to(&mut begins, nodes, edges.len())?;
+    let mut begins = Vec::with_capacity(alloc, nodes.saturating_add(1))?;
+    for place in 0..end {
+        begin_up_to(&mut begins, edges.edge(place).from, place as u32)?;
+    }
+    begin_up_to(&mut begins, nodes, end as u32)?;
     Ok(begins)
 }

@@ -15,7 +15,7 @@ loop-place-preserved c =
     let e = c.in_ok-begin_up_to.ensures in
     let digraph : Graph = record { nodes = c.args.nodes; edges = es } in
     let edges = length-map es (λ (d : Edge). d.from) in
-    let inside : k < length es = omega (arith, c.loop-place-test.true, c.len-place-end.ensures) in
+    let inside : k < length es = omega (arith, c.loop-place-test.true, c.len-end.ensures) in
     let read = source_got es k c.edge.result inside c.edge.ensures in
     let node = (c.requires k inside).nodes.from in
     record {
@@ -39,6 +39,6 @@ returns c =
     let edges = length-map es (λ (d : Edge). d.from) in
     record {
       long = omega (arith, e.long, i.few);
-      begun = begun_up (sources es) c.loop-place.begins.items c.begin_up_to-2.new.begins.items c.args.nodes c.len.result i.begun (omega (arith, edges, c.len.ensures))
-          (λ j l. i.before j (omega (arith, l, c.len.ensures, c.len-place-end.ensures))) (λ j g l. absurd (omega (arith, g, l, edges, c.len.ensures))) e.long e.kept e.added;
+      begun = begun_up (sources es) c.loop-place.begins.items c.begin_up_to-2.new.begins.items c.args.nodes c.len-end.result i.begun (omega (arith, edges, c.len-end.ensures))
+          (λ j l. i.before j (omega (arith, l))) (λ j g l. absurd (omega (arith, g, l, edges, c.len-end.ensures))) e.long e.kept e.added;
     }
