@@ -4,8 +4,8 @@ use Rattle.std.proofs.Math.ListN.{length-set}
 use Rattle.std.proofs.lemmas.Bool.{cases_eq, cases_lt}
 use Rattle.std.proofs.lemmas.List.{get_or_past, length-replicate, get_or-replicate, get_or-map, length-map, ext_get_or, map-id}
 use Rattle.std.proofs.lemmas.List.FromFn.{length-map-range_with_len, get_or-map-range_with_len, fill_by_all}
-use Rattle.std.proofs.lemmas.Nat.Bits.{bit_at_or, bit_at_and, bit_at_set_same, bit_at_set_other, bit_at_xor, bit_at_ones, bit_at_ones_above, same_from_bits_below, bit_at-lt, bit_at-zero, bit_at_above, bit_at-trailing_zeros}
-use Rattle.std.specs.Int.{bit_at, trailing_zeros}
+use Rattle.std.proofs.lemmas.Nat.Bits.{bit_at_or, bit_at_and, bit_at_set_same, bit_at_set_other, bit_at_clear_same, bit_at_clear_other, bit_at_xor, bit_at_ones, bit_at_ones_above, same_from_bits_below, bit_at-lt, bit_at-zero, bit_at_above, bit_at-trailing_zeros}
+use Rattle.std.specs.Int.{bit_at, bit_not, trailing_zeros}
 use Rattle.std.specs.Prelude.{map, zip, not, count_by, count_ones, bit_xor, filter}
 use Rattle.std.specs.List.{range_with_len}
 use Rattle.std.specs.Simd.Lanes.{mask_l}
@@ -15,7 +15,7 @@ use Rattle.std.proofs.lemmas.Simd.{mask_l-lt, bit_mask_l, ones-mask_l}
 use Rattle.std.proofs.lemmas.List.Sums.{sum_by-cons, sum_by-append, length-filter, count_by-le-length}
 use Rattle.std.proofs.lemmas.Slice.Zip.{get_or-zip, length-zip}
 use Rattle.guppy_support.specs.Bits.{has, one_alone}
-use Rattle.guppy_support.specs.inner.Words.{word_bit, bits_of, members_from, AreWords}
+use Rattle.guppy_support.specs.inner.Words.{word_bit, bits_of, members_from, AreWords, IsFirstIn}
 
 pub length-bits_of : (n : ℕ) (words : List ℕ) → length (bits_of n words) ≡ n
 length-bits_of n words = length-map-range_with_len (λ k. word_bit words k == 1) 0 n
@@ -66,6 +66,47 @@ with_bit_view n words k h a =
     elim (cases_eq j k) [
       | inl e ↦ rw (e, get_or-set_same (bits_of n words) k true false (omega arith), with_bit_same words k inside) refl
       | inr ne ↦ rw (get_or-set_other (bits_of n words) k j true false ne, with_bit_other words k j inside ne) (has-bits_of n words j lj)
+    ]))
+
+-- the words with bit k cleared
+abbrev without_bit : List ℕ → ℕ → List ℕ
+without_bit words k = set words (k / 64) (bit_and (get_or words (k / 64) 0) (bit_not w64 (1 * 2 ^ (k % 64) % 2 ^ 64)))
+
+without_bit_same : (words : List ℕ) (k : ℕ) → k / 64 < length words → word_bit (without_bit words k) k ≡ 0
+without_bit_same words k h =
+    let below : k % 64 < 64 = omega arith in
+    rw (get_or-set_same words (k / 64) (bit_and (get_or words (k / 64) 0) (bit_not w64 (1 * 2 ^ (k % 64) % 2 ^ 64))) 0 h) (bit_at_clear_same w64 (get_or words (k / 64) 0) (k % 64) below)
+
+without_bit_other : (words : List ℕ) (k j : ℕ) → k / 64 < length words → j ≢ k → word_bit (without_bit words k) j ≡ word_bit words j
+without_bit_other words k j h ne =
+    elim (cases_eq (j / 64) (k / 64)) [
+      | inl e ↦
+          let below : k % 64 < 64 = omega arith in
+          let low : j % 64 < 64 = omega arith in
+          let apart : j % 64 ≢ k % 64 = λ same. ne (omega arith) in
+          rw (e, get_or-set_same words (k / 64) (bit_and (get_or words (k / 64) 0) (bit_not w64 (1 * 2 ^ (k % 64) % 2 ^ 64))) 0 h)
+          (bit_at_clear_other w64 (get_or words (k / 64) 0) (k % 64) below (j % 64) low apart)
+      | inr other ↦ rw (get_or-set_other words (k / 64) (j / 64) (bit_and (get_or words (k / 64) 0) (bit_not w64 (1 * 2 ^ (k % 64) % 2 ^ 64))) 0 other) refl
+    ]
+
+pub without_bit_words : (n : ℕ) (words : List ℕ) (k : ℕ) → k < n → AreWords n words → AreWords n (without_bit words k)
+without_bit_words n words k h a =
+    let inside : k / 64 < length words = omega (arith, a.long) in
+    record {
+      long = length-set words (k / 64) _ ∙ a.long;
+      fits = a.fits;
+      clear = λ j le. let ne : j ≢ k = omega arith in without_bit_other words k j inside ne ∙ a.clear j le;
+    }
+
+pub without_bit_view : (n : ℕ) (words : List ℕ) (k : ℕ) → k < n → AreWords n words → bits_of n (without_bit words k) ≡ set (bits_of n words) k false
+without_bit_view n words k h a =
+    let inside : k / 64 < length words = omega (arith, a.long) in
+    let long = length-bits_of n words in
+    sym (same_bits (set (bits_of n words) k false) n (without_bit words k) (length-set (bits_of n words) k false ∙ long)
+    (λ j lj.
+    elim (cases_eq j k) [
+      | inl e ↦ rw (e, get_or-set_same (bits_of n words) k false false (omega arith), without_bit_same words k inside) refl
+      | inr ne ↦ rw (get_or-set_other (bits_of n words) k j false false ne, without_bit_other words k j inside ne) (has-bits_of n words j lj)
     ]))
 
 pub empty_view : (n m : ℕ) (words : List ℕ) → words ≡ replicate m 0 → bits_of n words ≡ replicate n false
@@ -453,3 +494,37 @@ none_in_later words from p is none j from_j j_below =
           let there : p * 64 + (j - p * 64) ≡ j = omega arith in
           rw (← there) (word_bit_at words p (j - p * 64) (omega arith) ∙ rw is (bit_at-zero (j - p * 64)))
     ]
+
+-- ---- one word
+
+-- the word has no bit
+pub none_in_word : (n : ℕ) (words : List ℕ) (now : List Bool) (p : ℕ) → bits_of n words ≡ now → get_or words p 0 ≡ 0 → (j : ℕ) → j / 64 ≡ p → has now j ≡ false
+none_in_word n words now p e is j at =
+    elim (cases_lt j (length now)) [
+      | inr past ↦ has_past now j past
+      | inl h ↦ has_is n words now j e h ∙ rw (none_in_later words (p * 64) p is (λ i a b. absurd (omega arith)) j (omega arith) (omega arith)) refl
+    ]
+
+-- the lowest bit of the word
+pub first_in_word : (n : ℕ) (words : List ℕ) (now : List Bool) (p : ℕ) → AreWords n words → bits_of n words ≡ now → get_or words p 0 < 2 ^ 64 → 0 < get_or words p 0 → (trailing_zeros w64 (get_or words p 0) < 64) × (p * 64 + trailing_zeros w64 (get_or words p 0) < length now) × IsFirstIn now p (p * 64 + trailing_zeros w64 (get_or words p 0))
+first_in_word n words now p a e fits some =
+    let next = next_in_later n words now (p * 64) p a e fits (omega arith) (λ j b c. absurd (omega arith)) some in
+    let word : ℕ = get_or words p 0 in
+    let low = bit_at-trailing_zeros w64 word some fits in
+    let t : ℕ = trailing_zeros w64 word in
+    let inside : p * 64 + t < length now = next.1.inside in (
+      low.0,
+      inside,
+      record {
+        word = omega (arith, low.0);
+        is = has_is n words now (p * 64 + t) e inside ∙ rw (word_bit_at words p t low.0 ∙ low.1) refl;
+        least = λ j at h.
+            elim (cases_lt j (p * 64 + t)) [
+              | inr le ↦ le
+              | inl less ↦
+                  let there : p * 64 + (j - p * 64) ≡ j = omega arith in
+                  let off : word_bit words j ≡ 0 = rw (← there) (word_bit_at words p (j - p * 64) (omega arith) ∙ low.2 (j - p * 64) (omega arith)) in
+                  absurd (true≢false (sym h ∙ has_is n words now j e (omega arith) ∙ rw off refl))
+            ];
+      },
+    )

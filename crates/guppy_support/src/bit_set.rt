@@ -1,5 +1,5 @@
 //! Sets of numbers below a bound, 64 numbers to a word.
-ghost use Rattle.std.specs.Prelude.{◌≡◌, ℕ, ◌+◌, ◌*◌, ◌-◌, ◌^◌, ◌<◌, ◌≤◌, ◌||◌, ◌&&◌, ◌==◌, not, false, [], ◌∷◌, length, map, zip, IfOk, IfSome, Some, MatchOption, replicate, slice_set, count_by, bit_and, bit_or, bit_xor, nat_eq, slice_index, true, IsTrue, ◌↔◌};
+ghost use Rattle.std.specs.Prelude.{◌≡◌, ℕ, ◌+◌, ◌*◌, ◌-◌, ◌/◌, ◌^◌, ◌<◌, ◌≤◌, ◌||◌, ◌&&◌, ◌==◌, not, false, [], ◌∷◌, length, map, zip, IfOk, IfSome, IfNone, Some, MatchOption, replicate, slice_set, count_by, bit_and, bit_or, bit_xor, nat_eq, slice_index, true, IsTrue, ◌↔◌};
 ghost use Rattle.std.specs.Iterator.{YieldsFirst, UpTo, item_count};
 ghost use Rattle.std.specs.Iterator.SizeHint.{IsWithinCount};
 ghost use Rattle.std.specs.Cmp.{partial_equiv_from_equiv};
@@ -7,7 +7,7 @@ ghost use Rattle.std.specs.Cmp.Lexicographic.{pointwise};
 ghost use Rattle.std.specs.Ordering.{on};
 ghost use Rattle.std.proofs.lemmas.Cmp.{on_equiv, nat_list_eq_equiv};
 ghost use Rattle.guppy_support.specs.Bits.{has, members, one_alone};
-ghost use Rattle.guppy_support.specs.inner.Words.{members_from, Fit};
+ghost use Rattle.guppy_support.specs.inner.Words.{members_from, Fit, IsFirstIn};
 
 use std::alloc::{AllocError, Global};
 use std::marker::Model;
@@ -80,6 +80,14 @@ impl IxBitSet {
         ensures { self.new ≡ slice_set self.old number true }
     {
         self.words[number / 64] |= 1 << (number % 64);
+    }
+
+    /// Takes the number out of the set.
+    pub(crate) fn remove(&mut self, number: usize)
+        requires { number < length self.old }
+        ensures { self.new ≡ slice_set self.old number false }
+    {
+        self.words[number / 64] &= !(1 << (number % 64));
     }
 
     /// How many numbers the set has.
@@ -167,8 +175,21 @@ impl IxBitSet {
         self.size == other.size && same_words(&self.words, &other.words)
     }
 
-    // The least number of the set from `from` on.
-    fn next_from(&self, from: usize) -> Option<usize>
+    /// The least number of the set among the 64 of that word.
+    pub(crate) fn first_in(&self, place: usize) -> Option<usize>
+        requires { place * 64 ≤ length self.now }
+        ensures none { IfNone result ((j : ℕ) → j / 64 ≡ place → has self.now j ≡ false) }
+        ensures some { IfSome result (IsFirstIn self.now place) }
+    {
+        let word = self.words[place];
+        if word == 0 {
+            return None;
+        }
+        Some(place * 64 + word.trailing_zeros() as usize)
+    }
+
+    /// The least number of the set from `from` on.
+    pub(crate) fn next_from(&self, from: usize) -> Option<usize>
         requires { from ≤ length self.now }
         ensures fits { length self.now < 2 ^ 64 }
         ensures least { MatchOption result (members_from self.now from ≡ []) (λ k. (from ≤ k) × (k < length self.now) × (members_from self.now from ≡ k ∷ members_from self.now (k + 1))) }

@@ -61,7 +61,7 @@ impl Order {
         graph.facts();
         let ranked = component_ranks(alloc, graph)?;
         let ranks = ranked.ranks;
-        let list = listed(alloc, graph, &ranks, ranked.count)?;
+        let list = listed(alloc, graph, &ranks)?;
         let (numbers, begins) = numbered(alloc, &list, &ranks, ranked.count)?;
         let components = scattered(ranks, &list, &numbers);
         let places = placed(numbers, &list);
@@ -132,16 +132,11 @@ impl Order {
 }
 
 // The order of the nodes, from the ranks of their components.
-fn listed(
-    alloc: Global,
-    graph: &Digraph,
-    ranks: &[u32],
-    components: usize,
-) -> Result<Vec<usize>, AllocError>
+fn listed(alloc: Global, graph: &Digraph, ranks: &[u32]) -> Result<Vec<usize>, AllocError>
     requires setup { IsSetup graph.now ranks.now }
     ensures { IfOk result (λ list. IsOrder graph.now.edges graph.now.nodes list.items) }
 {
     let groups = pack_rows(alloc, graph.node_count(), &ranks)?;
-    let plan = first_plan(alloc, graph, ranks, &groups, components)?;
+    let plan = first_plan(alloc, graph, ranks, &groups)?;
     order_from(graph, ranks, &groups, plan)
 }

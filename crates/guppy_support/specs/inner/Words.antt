@@ -1,5 +1,5 @@
 -- A set of numbers as words of 64 bits.
-use Rattle.std.specs.Prelude.{◌≡◌, ℕ, ◌+◌, ◌-◌, ◌<◌, ◌≤◌, ◌/◌, ◌%◌, ◌^◌, ◌==◌, Bool, List, length, map, filter, slice_index}
+use Rattle.std.specs.Prelude.{◌≡◌, ℕ, ◌+◌, ◌-◌, ◌<◌, ◌≤◌, ◌/◌, ◌%◌, ◌^◌, ◌==◌, Bool, true, List, length, map, filter, slice_index}
 use Rattle.std.specs.List.{range_with_len}
 use Rattle.std.specs.Int.{bit_at}
 use Rattle.guppy_support.specs.Bits.{has}
@@ -25,3 +25,9 @@ pub record AreWords (n : ℕ) (words : List ℕ) : Type 0 where
 -- each word is one of 64 bits
 abbrev pub Fit : List ℕ → Type 0
 Fit words = (i : ℕ) → slice_index words i < 2 ^ 64
+
+-- k is the least number of the set among the 64 of that word
+pub record IsFirstIn (set : List Bool) (place k : ℕ) : Type 0 where
+  pub word : k / 64 ≡ place
+  pub is : has set k ≡ true
+  pub least : (j : ℕ) → j / 64 ≡ place → has set j ≡ true → k ≤ j

@@ -116,7 +116,6 @@ fn first_starts(
     groups: &Rows,
     outside: &[u32],
     held: &[u32],
-    components: usize,
 ) -> Result<Queue, AllocError>
     requires ranks { length ranks.now ≡ nodes }
     requires outside { length outside.now ≡ nodes }
@@ -124,7 +123,7 @@ fn first_starts(
     requires packed { IsPacked nodes ranks.now groups.now.begins.items groups.now.numbers.items }
     ensures { IfOk result (λ starts. AreFirsts ranks.now outside.now held.now nodes starts) }
 {
-    let mut starts = Queue::with_capacity(alloc, components)?;
+    let mut starts = Queue::empty(alloc, nodes)?;
     for rank in 0..nodes {
         let members = row(groups, ranks, rank, nodes);
         add_start(&mut starts, members, ranks, outside, held, rank)?;
@@ -132,13 +131,12 @@ fn first_starts(
     Ok(starts)
 }
 
-/// The plan in which no node is listed. So many components there are; no queue outgrows its room.
+/// The plan in which no node is listed.
 pub(crate) fn first_plan(
     alloc: Global,
     graph: &Digraph,
     ranks: &[u32],
     groups: &Rows,
-    components: usize,
 ) -> Result<Plan, AllocError>
     requires setup { IsSetup graph.now ranks.now }
     requires packed { IsPacked graph.now.nodes ranks.now groups.now.begins.items groups.now.numbers.items }
@@ -146,10 +144,9 @@ pub(crate) fn first_plan(
 {
     let nodes = graph.node_count();
     let (outside, held) = count_edges(alloc, graph, ranks)?;
-    let starts = first_starts(alloc, nodes, ranks, groups, &outside, &held, components)?;
+    let starts = first_starts(alloc, nodes, ranks, groups, &outside, &held)?;
     let done = IxBitSet::empty(alloc, nodes)?;
-    let largest = nodes.saturating_sub(components).saturating_add(1);
-    let ready = Queue::with_capacity(alloc, largest)?;
+    let ready = Queue::empty(alloc, nodes)?;
     let listed = Vec::with_capacity(alloc, nodes)?;
     Ok(Plan {
         listed,

@@ -1,55 +1,80 @@
 //! Numbers, of which the least comes first.
-ghost use Rattle.std.specs.Prelude.{◌≡◌, ◌≤◌, [], IfSome, IfNone, IfOk, OnOk};
+ghost use Rattle.std.specs.Prelude.{◌≡◌, [], IfSome, IfNone, IfOk, OnOk};
 ghost use Rattle.guppy_support.specs.inner.Queues.{Joins, Leaves};
 
+use crate::bit_set::IxBitSet;
 use std::alloc::{AllocError, Global};
-use std::cmp::Reverse;
-use std::collections::BinaryHeap;
 use std::marker::Model;
 
-/// Numbers, of which the least comes first.
+/// Numbers below a bound, of which the least comes first. A number that joins twice stands there once.
 #[derive(Drop)]
 pub(crate) struct Queue {
-    heap: BinaryHeap<Reverse<usize>>,
+    numbers: IxBitSet,
+    /// Each word of `numbers` that has a bit, and words that had one.
+    words: IxBitSet,
+    /// Each word of `words` that has a bit, and words that had one.
+    blocks: IxBitSet,
 }
 
 impl Model for Queue {
-    ghost use Rattle.std.specs.Prelude.{ℕ, List, map};
-    ghost use Rattle.std.specs.BinaryHeap.{IsHeap, heap_items};
-    ghost use Rattle.std.specs.Ordering.{nat_cmp};
+    ghost use Rattle.std.specs.Prelude.{ℕ, List};
+    ghost use Rattle.guppy_support.specs.Bits.{members};
+    ghost use Rattle.guppy_support.specs.inner.Queues.{IsAbove};
 
     ghost Value = { List ℕ };
 
-    ghost view = { λ q. map (λ x. x.0) (heap_items q.heap) };
+    ghost view = { λ q. members q.numbers };
 
-    ghost invariant = { λ q. IsHeap (λ x y. nat_cmp y.0 x.0) (heap_items q.heap) };
+    ghost invariant = { λ q. IsAbove q.numbers q.words × IsAbove q.words q.blocks };
 }
 
 impl Queue {
-    /// An empty queue with room for so many numbers.
-    pub(crate) fn with_capacity(alloc: Global, capacity: usize) -> Result<Queue, AllocError>
+    /// An empty queue of numbers below the bound.
+    pub(crate) fn empty(alloc: Global, bound: usize) -> Result<Queue, AllocError>
         ensures { IfOk result (λ queue. queue ≡ []) }
     {
+        let word_count = bound / 64 + 1;
+        let numbers = IxBitSet::empty(alloc, bound)?;
+        let words = IxBitSet::empty(alloc, word_count)?;
+        let blocks = IxBitSet::empty(alloc, word_count / 64 + 1)?;
         Ok(Queue {
-            heap: BinaryHeap::with_capacity(alloc, capacity)?,
+            numbers,
+            words,
+            blocks,
         })
     }
 
+    /// A number joins. For one that isn't below the bound there is no room.
     pub(crate) fn push(&mut self, number: usize) -> Result<(), AllocError>
         ensures { OnOk result (Joins self.old number self.new) }
     {
-        self.heap.push(Reverse(number))?;
+        if number >= self.numbers.size() {
+            return Err(AllocError);
+        }
+        let word = number / 64;
+        self.numbers.insert(number);
+        self.words.insert(word);
+        self.blocks.insert(word / 64);
         Ok(())
     }
 
+    /// Takes the least number. On the way, words that have no bit are forgotten.
     pub(crate) fn pop(&mut self) -> Option<usize>
         ensures none { IfNone result (self.old ≡ []) }
         ensures empty { IfNone result (self.new ≡ []) }
         ensures some { IfSome result (λ x. Leaves self.old x self.new) }
     {
-        let Some(Reverse(number)) = self.heap.pop() else {
-            return None;
-        };
-        Some(number)
+        while let Some(block) = self.blocks.next_from(0) {
+            if let Some(word) = self.words.first_in(block) {
+                if let Some(number) = self.numbers.first_in(word) {
+                    self.numbers.remove(number);
+                    return Some(number);
+                }
+                self.words.remove(word);
+            } else {
+                self.blocks.remove(block);
+            }
+        }
+        None
     }
 }
