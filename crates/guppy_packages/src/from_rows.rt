@@ -232,8 +232,8 @@ fn join_link(link: &mut LinkData, name: &str, declaration: Declaration) -> Resul
     Ok(())
 }
 
-/// A Dep row of a pair of packages. The links that leave the first one are noted at the packages that they lead to, and no link
-/// leaves a later one.
+/// A Dep row of a pair of packages. `last` has for each package the number of the last link that leads to it: no link leaves a
+/// package after the first of the pair, so only that link can be the pair's.
 fn push_link(
     alloc: Global,
     links: &mut Vec<Link>,
