@@ -25,7 +25,15 @@ use crate::quiet::{Quiet, note};
 use guppy_packages::{Declaration, NamedFeature, NamedFeatureDep, PackageLink, PackageMetadata};
 use std::alloc::AllocError;
 
-/// Adds a key to the node, where there is one.
+/// Whether a number takes more than 32 bits.
+fn is_wide(number: usize) -> bool
+    ensures { IsFalse result → number < 2 ^ 32 }
+{
+    number > u32::MAX as usize
+}
+
+/// Adds a key to the node, where there is one. A number that a key has no room for is answered as want of memory: what it counts
+/// would take tens of gigabytes.
 pub(crate) fn push_to(
     keys: &mut Vec<Key>,
     from: usize,
@@ -36,15 +44,19 @@ pub(crate) fn push_to(
 ) -> Result<(), AllocError>
     ensures { OnOk result (Adds (λ x. (w : ℕ) × (to ≡ Some w) × (x ≡ key from w rank source place)) keys.old.items keys.new.items) }
 {
-    if let Some(to) = to {
-        keys.push(Key {
-            from,
-            to,
-            rank,
-            source,
-            place,
-        })?;
+    let Some(to) = to else {
+        return Ok(());
+    };
+    if is_wide(from) || is_wide(to) || is_wide(source) || is_wide(place) {
+        return Err(AllocError);
     }
+    keys.push(Key {
+        from: from as u32,
+        to: to as u32,
+        rank,
+        source: source as u32,
+        place: place as u32,
+    })?;
     Ok(())
 }
 

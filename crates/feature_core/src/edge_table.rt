@@ -44,8 +44,8 @@ fn edge_end(key: Key, edge: &FeatureEdge) -> Edge
     ensures { result ≡ edge_end key (edge_facts edge.now) }
 {
     Edge {
-        from: key.from,
-        to: key.to,
+        from: key.from as usize,
+        to: key.to as usize,
         non_dev: !edge.is_dev_only(),
     }
 }

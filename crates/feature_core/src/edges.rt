@@ -78,7 +78,7 @@ fn places_of(alloc: Global, keys: &[Key]) -> Result<SmallVec<usize, 2>, AllocErr
 {
     let mut places = SmallVec::new(alloc);
     for key in keys {
-        places.push(key.place)?;
+        places.push(key.place as usize)?;
     }
     Ok(places)
 }
@@ -87,8 +87,8 @@ fn places_of(alloc: Global, keys: &[Key]) -> Result<SmallVec<usize, 2>, AllocErr
 fn places_at(
     alloc: Global,
     sorted: &[Key],
-    from: usize,
-    to: usize,
+    from: u32,
+    to: u32,
 ) -> Result<SmallVec<usize, 2>, AllocError>
     requires { AllPairs IsNoLater sorted.now }
     ensures { IfOk result (λ places. (run : List KeyValue) × IsRun sorted.now from to run × (places.items ≡ dedup eqb (map (λ y. y.place) run))) }
@@ -134,7 +134,7 @@ fn colon_edge(
     ensures { IfOk result (λ edge. (weak : List ℕ) → IsValueOf material.entry.numbers.graph.now weak key (edge_facts edge)) }
 {
     material.numbers.graph.facts();
-    let link = link_to(alloc, material, key.to, LinkDeclarations::Unsplit)?;
+    let link = link_to(alloc, material, key.to as usize, LinkDeclarations::Unsplit)?;
     Ok(FeatureEdge::NamedFeatureDepColon(link))
 }
 
@@ -150,7 +150,7 @@ fn beside_edge(
     ensures { IfOk result (λ edge. (weak : List ℕ) → IsValueOf material.entry.numbers.graph.now weak key (edge_facts edge)) }
 {
     material.numbers.graph.facts();
-    let link = link_to(alloc, material, key.to, LinkDeclarations::Optional)?;
+    let link = link_to(alloc, material, key.to as usize, LinkDeclarations::Optional)?;
     Ok(FeatureEdge::NamedFeatureWithSlash {
         link,
         slash: SlashForm::Strong,
@@ -168,7 +168,7 @@ fn full_edge(alloc: Global, material: Material<'_, '_>, key: Key) -> Result<Feat
     let link = link_of(
         alloc,
         material.numbers.graph,
-        key.source,
+        key.source as usize,
         LinkDeclarations::Unsplit,
     )?;
     Ok(FeatureEdge::NamedFeatureWithSlash {
@@ -194,22 +194,22 @@ fn weak_edge(
     let link = link_of(
         alloc,
         material.numbers.graph,
-        key.source,
+        key.source as usize,
         LinkDeclarations::Unsplit,
     )?;
     let required = half_of(
         alloc,
         material.numbers.graph,
-        key.source,
+        key.source as usize,
         LinkDeclarations::Required,
     )?;
     let optional = half_of(
         alloc,
         material.numbers.graph,
-        key.source,
+        key.source as usize,
         LinkDeclarations::Optional,
     )?;
-    let index = index_in(table, key.source);
+    let index = index_in(table, key.source as usize);
     let weak = Box::new(alloc, WeakSlashImpl::new(required, optional, index))?;
     Ok(FeatureEdge::NamedFeatureWithSlash {
         link,
@@ -230,12 +230,12 @@ fn section_edge(
     ensures { IfOk result (λ edge. (weak : List ℕ) → IsValueOf material.entry.numbers.graph.now weak key (edge_facts edge)) }
 {
     material.numbers.graph.facts();
-    let which = half_from(material, key.from);
+    let which = half_from(material, key.from as usize);
     let places = places_at(alloc, material.keys, key.from, key.to)?;
     let link = section_link(
         alloc,
         material.numbers.graph,
-        key.source,
+        key.source as usize,
         which,
         places.as_slice(),
     )?;

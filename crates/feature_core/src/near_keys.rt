@@ -28,9 +28,9 @@ impl Model for NearKeys {
 /// What the edge of a key speaks of, as a number: a node or a package link.
 fn subject(key: Key) -> usize {
     if key.rank == 3 || key.rank == 5 {
-        key.to
+        key.to as usize
     } else {
-        key.source
+        key.source as usize
     }
 }
 
@@ -57,7 +57,7 @@ fn shares_declaration(numbers: Numbers<'_>, earlier: Key, key: Key) -> bool
 {
     numbers.graph.facts();
     if earlier.source == key.source && earlier.from == key.from {
-        return is_single(numbers, key.source);
+        return is_single(numbers, key.source as usize);
     }
     false
 }

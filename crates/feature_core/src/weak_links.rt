@@ -38,7 +38,7 @@ pub(crate) fn note_gate(
     if key.rank != 6 {
         return Ok(());
     }
-    let gate = gate_of(numbers, key.source);
-    table.insert(key.source, gate)?;
+    let gate = gate_of(numbers, key.source as usize);
+    table.insert(key.source as usize, gate)?;
     Ok(())
 }
