@@ -1,14 +1,12 @@
--- The links that leave a package.
-use Rattle.std.proofs.Common.{◌≡◌, ℕ, zero, suc, ◌<◌, ◌≤◌, List, [], ◌∷◌, Bool, true, false, map, length, get_or, refl, ap, sym, ◌∙◌, subst, arith}
-use Rattle.std.specs.Prelude.{nat_le, nat_lt}
-use Rattle.std.specs.List.Sorted.{IsNonDecreasingBy, IsPartitionPoint}
-use Rattle.std.proofs.lemmas.List.{length-map}
-use Rattle.std.proofs.lemmas.Bool.{leb-false, ltb-false}
+-- The links that leave a package, by where the links of each package begin.
+use Rattle.std.proofs.Common.{◌≡◌, ℕ, ◌+◌, ◌<◌, ◌≤◌, List, [], ◌∷◌, Bool, true, false, Some, inl, inr, length, get_or, max, refl, sym, subst, arith}
+use Rattle.std.specs.Prelude.{nat_le, nat_lt, slice_get}
+use Rattle.std.proofs.lemmas.Bool.{cases_lt, leb-false, ltb-false}
+use Rattle.std.proofs.lemmas.List.{get_or_read}
+use Rattle.std.proofs.lemmas.Option.{get_or_from_slice_get, slice_get-get_or, slice_get_within}
 use borrow.Author.Tests.{leb-true, ltb-true}
-use Rattle.guppy_packages.specs.Stored.{link_table}
-use Rattle.guppy_packages.specs.Tables.{AreLinksFrom, LinkTable}
-use Rattle.guppy_packages.specs.declared.contents.LinkData.{LinkData}
-use Rattle.guppy_packages.proofs.Lists.{map_at}
+use Rattle.guppy_packages.specs.Tables.{AreLinksFrom, AreTables, LinkTable, Tables}
+use Rattle.guppy_packages.specs.inner.Begins.{AreAllBegun, AreBegun, IsBegin}
 
 unless : (a b : ℕ) → (a < b → ⊥) → b ≤ a
 unless a b h = go (nat_lt a b) refl
@@ -24,68 +22,64 @@ unless_le a b h = go (nat_le b a) refl
     go true e = absurd (h (leb-true b a e))
     go false e = leb-false b a e
 
-strict : (a b : ℕ) → a ≡ b → a < b → ⊥
-strict a b e h = omega arith
+there : (links : List LinkTable) (k : ℕ) → k < length links → (l : LinkTable) × (slice_get links k ≡ Some l)
+there [] k h = absurd (omega arith)
+there (x ∷ xs) k h = (get_or (x ∷ xs) k x, slice_get-get_or (x ∷ xs) k x h)
 
-strict_from : (a b : ℕ) → a ≡ b → b < a → ⊥
-strict_from a b e h = omega arith
+-- the links between two begins
+pub links_between : (links : List LinkTable) (from first end : ℕ) → IsBegin links from first → IsBegin links (from + 1) end → AreLinksFrom links from first end
+links_between links from first end low high = record {
+  ascend = unless end first (λ h. crossed h (there links end (omega (arith, h, low.within))));
+  within = high.within;
+  exactly = λ k l got. (
+    λ is. (unless k first (λ h. omega (arith, (low.before k l got).0 h, is)), (high.before k l got).1 (omega (arith, is))),
+    λ both. let few = (high.before k l got).0 both.1 in
+        let more = unless l.from from (λ h. omega (arith, (low.before k l got).1 h, both.0)) in
+        omega (arith, few, more),
+  );
+}
+  where
+    crossed : end < first → (l : LinkTable) × (slice_get links end ≡ Some l) → ⊥
+    crossed h t =
+        let less = (low.before end t.0 t.1).0 h in
+        let again = (high.before end t.0 t.1).1 (omega (arith, less)) in
+        omega (arith, again)
 
-apart : (a b : ℕ) → a < b → b < a → ⊥
-apart a b p q = omega arith
+-- the links of a package that has a begin
+pub links_begun : (links : List LinkTable) (packages : ℕ) (begins : List ℕ) → AreAllBegun packages links begins → (from first end : ℕ) → from < packages
+    → first ≡ get_or begins from first → end ≡ get_or begins (from + 1) end → AreLinksFrom links from first end
+links_begun links packages begins all from first end h is_first is_end =
+    let lf : from < length begins = omega (arith, all.long, h) in
+    let le : from + 1 < length begins = omega (arith, all.long, h) in
+    links_between links from first end
+    (subst (IsBegin links from) (sym (get_or_read begins from first lf is_first 0)) (all.begun from lf))
+    (subst (IsBegin links (from + 1)) (sym (get_or_read begins (from + 1) end le is_end 0)) (all.begun (from + 1) le))
 
-module _ (es : List ((ℕ × ℕ) × LinkData)) where
-  -- the entries ascend by the packages that they leave
-  pub entries_ordered : IsNonDecreasingBy (λ l. l.from) (map link_table es) → IsNonDecreasingBy (λ e. e.0.0) es
-  entries_ordered up i j d le h =
-      let at = up i j (link_table d) le (rw (length-map es link_table) h) in
-      subst (λ n. n ≤ (get_or es j d).0.0) (ap (λ l. l.from) (get_or-map es i d)) (subst (λ n. (get_or (map link_table es) i (link_table d)).from ≤ n) (ap (λ l. l.from) (get_or-map es j d)) at)
-    where
-      get_or-map : (xs : List ((ℕ × ℕ) × LinkData)) (k : ℕ) (d : (ℕ × ℕ) × LinkData) → get_or (map link_table xs) k (link_table d) ≡ link_table (get_or xs k d)
-      get_or-map [] k d = refl
-      get_or-map (x ∷ xs) zero d = refl
-      get_or-map (x ∷ xs) (suc k) d = get_or-map xs k d
+-- more begins, at one place
+pub begun_up : (links : List LinkTable) (begins more : List ℕ) (last place : ℕ) → AreBegun links begins → place ≤ length links
+    → ((k : ℕ) (l : LinkTable) → slice_get links k ≡ Some l → k < place → l.from < length begins)
+    → ((k : ℕ) (l : LinkTable) → slice_get links k ≡ Some l → place ≤ k → last ≤ l.from)
+    → length more ≡ max (length begins) (last + 1)
+    → ((p : ℕ) → p < length begins → get_or more p 0 ≡ get_or begins p 0)
+    → ((p : ℕ) → length begins ≤ p → p < length more → get_or more p 0 ≡ place) → AreBegun links more
+begun_up links begins more last place begun h before behind long kept added p lp =
+    elim (cases_lt p (length begins)) [
+      | inl l ↦ rw (kept p l) (begun p l)
+      | inr ge ↦
+          let few : p ≤ last = omega (arith, lp, long, ge) in
+          rw (added p ge lp)
+          (record {
+            within = h;
+            before = λ k l got. (
+              λ less. let one = before k l got less in omega (arith, one, ge),
+              λ less. unless_le k place (λ le. let one = behind k l got le in omega (arith, one, less, few)),
+            );
+          })
+    ]
 
-  pub links_between : (from first end : ℕ) → end ≤ length es
-      → IsPartitionPoint (λ e. nat_lt e.0.0 from ≡ true) (λ e. nat_lt e.0.0 from ≡ false) es first
-      → IsPartitionPoint (λ e. nat_le e.0.0 from ≡ true) (λ e. nat_le e.0.0 from ≡ false) es end
-      → first ≤ end → AreLinksFrom (map link_table es) from first end
-  links_between from first end bound low high ascend = record {
-    ascend = ascend;
-    within = rw (length-map es link_table) bound;
-    exactly = λ k l h. let e = map_at link_table es k l h in (out k l e.0 e.1 e.2 e.3, into k l e.0 e.1 e.2 e.3);
-  }
-    where
-      below : (k : ℕ) (e : (ℕ × ℕ) × LinkData) → get_or es k e ≡ e → k < first → e.0.0 < from
-      below k e at h = ltb-true e.0.0 from (subst (λ x. nat_lt x.0.0 from ≡ true) at (low.0 k e (omega arith) h))
-
-      not_below : (k : ℕ) (e : (ℕ × ℕ) × LinkData) → k < length es → get_or es k e ≡ e → first ≤ k → from ≤ e.0.0
-      not_below k e n at h = ltb-false e.0.0 from (subst (λ x. nat_lt x.0.0 from ≡ false) at (low.1 k e h n))
-
-      not_above : (k : ℕ) (e : (ℕ × ℕ) × LinkData) → get_or es k e ≡ e → k < end → e.0.0 ≤ from
-      not_above k e at h = leb-true e.0.0 from (subst (λ x. nat_le x.0.0 from ≡ true) at (high.0 k e (omega arith) h))
-
-      above : (k : ℕ) (e : (ℕ × ℕ) × LinkData) → k < length es → get_or es k e ≡ e → end ≤ k → from < e.0.0
-      above k e n at h = leb-false e.0.0 from (subst (λ x. nat_le x.0.0 from ≡ false) at (high.1 k e h n))
-
-      out : (k : ℕ) (l : LinkTable) (e : (ℕ × ℕ) × LinkData) → k < length es → get_or es k e ≡ e → l ≡ link_table e → l.from ≡ from → (first ≤ k) × (k < end)
-      out k l e n at same h =
-          let key : e.0.0 ≡ from = sym (ap (λ m. m.from) same) ∙ h in
-          let p = below k e at in
-          let q = above k e n at in
-          (unless k first (λ h. absurd (strict e.0.0 from key (p h))), unless_le k end (λ h. absurd (strict_from e.0.0 from key (q h))))
-
-      into : (k : ℕ) (l : LinkTable) (e : (ℕ × ℕ) × LinkData) → k < length es → get_or es k e ≡ e → l ≡ link_table e → (first ≤ k) × (k < end) → l.from ≡ from
-      into k l e n at same h =
-          let p = not_below k e n at h.0 in
-          let q = not_above k e at h.1 in
-          ap (λ m. m.from) same ∙ (omega arith)
-
--- the links below a package's number end where those up to it do, or before
-pub ranges_ascend : (es : List ((ℕ × ℕ) × LinkData)) (from first end : ℕ) → first ≤ length es
-    → IsPartitionPoint (λ e. nat_lt e.0.0 from ≡ true) (λ e. nat_lt e.0.0 from ≡ false) es first
-    → IsPartitionPoint (λ e. nat_le e.0.0 from ≡ true) (λ e. nat_le e.0.0 from ≡ false) es end → first ≤ end
-ranges_ascend [] from first end bound low high = omega arith
-ranges_ascend (e ∷ es) from first end bound low high =
-    let below : end < first → (get_or (e ∷ es) end e).0.0 < from = λ h. ltb-true (get_or (e ∷ es) end e).0.0 from (low.0 end e (omega arith) h) in
-    let above : end < first → from < (get_or (e ∷ es) end e).0.0 = λ h. leb-false (get_or (e ∷ es) end e).0.0 from (high.1 end e (omega arith) (omega arith)) in
-    unless end first (λ h. absurd (apart (get_or (e ∷ es) end e).0.0 from (below h) (above h)))
+-- the links behind one leave its package or later ones
+pub leaves_behind : (t : Tables) → AreTables t → (place : ℕ) (link : LinkTable) → slice_get t.links place ≡ Some link
+    → (k : ℕ) (l : LinkTable) → slice_get t.links k ≡ Some l → place ≤ k → link.from ≤ l.from
+leaves_behind t are place link at k l got le =
+    let up = are.order place k l le (slice_get_within t.links k l got) in
+    rw (get_or_from_slice_get t.links place link l at, get_or_from_slice_get t.links k l l got) at up

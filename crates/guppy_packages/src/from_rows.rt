@@ -13,6 +13,7 @@ ghost use Rattle.guppy_packages.specs.Tables.{package_place};
 
 use crate::contents::{Link, LinkData, PackageData};
 use crate::declaration::Declaration;
+use crate::link_begins::link_begins;
 use crate::name_set::NameSet;
 use crate::named_feature::NamedFeature;
 use crate::package_graph::PackageGraph;
@@ -356,10 +357,12 @@ impl PackageGraph {
     {
         let packages = take_packages(alloc, source)?;
         let links = take_links(alloc, &packages, source)?;
+        let begins = link_begins(alloc, &packages, &links)?;
         let order = package_order(alloc, &packages, &links)?;
         Ok(PackageGraph {
             packages,
             links,
+            begins,
             order,
         })
     }

@@ -6,6 +6,7 @@ mod declaration;
 mod direction;
 mod from_rows;
 pub mod laws;
+mod link_begins;
 mod name_set;
 mod named_feature;
 mod named_feature_dep;

@@ -1,5 +1,5 @@
 //! The package graph.
-ghost use Rattle.std.specs.Prelude.{◌≡◌, ◌<◌, Some, None, length, nat_le, nat_lt, slice_get, IfOk, MatchResult};
+ghost use Rattle.std.specs.Prelude.{◌≡◌, ◌<◌, Some, None, length, slice_get, IfOk, MatchResult};
 ghost use Rattle.guppy_support.specs.Sequences.{IsOrderOf};
 ghost use Rattle.guppy_packages.specs.PackageOrder.{digraph_of_packages};
 ghost use Rattle.guppy_packages.specs.Tables.{package_place, AreLinksFrom, AreTables};
@@ -18,6 +18,8 @@ use std::ops::Range;
 pub struct PackageGraph {
     pub(crate) packages: TextMap<PackageId, PackageData>,
     pub(crate) links: Vec<Link>,
+    // where the links of each package begin; the end of all links stands last
+    pub(crate) begins: Vec<u32>,
     pub(crate) order: Order,
 }
 
@@ -26,15 +28,18 @@ impl Model for PackageGraph {
 
     ghost Value = { Tables };
 
+    ghost use Rattle.std.specs.Prelude.{length};
     ghost use Rattle.guppy_support.specs.Sequences.{IsOrderOf};
     ghost use Rattle.guppy_packages.specs.PackageOrder.{digraph_of_packages};
     ghost use Rattle.guppy_packages.specs.Stored.{package_tables, link_tables};
+    ghost use Rattle.guppy_packages.specs.inner.Begins.{AreAllBegun};
 
     ghost view = { λ g. record { packages = package_tables g.packages; links = link_tables g.links.items } };
 
     ghost invariant = { λ g.
         AreTables (record { packages = package_tables g.packages; links = link_tables g.links.items })
-        × IsOrderOf (digraph_of_packages (record { packages = package_tables g.packages; links = link_tables g.links.items })) g.order };
+        × IsOrderOf (digraph_of_packages (record { packages = package_tables g.packages; links = link_tables g.links.items })) g.order
+        × AreAllBegun (length (package_tables g.packages)) (link_tables g.links.items) g.begins.items };
 }
 
 impl PackageGraph {
@@ -97,18 +102,11 @@ impl PackageGraph {
     pub(crate) fn links_from(&self, package_ix: usize) -> Range<usize>
         ensures { AreLinksFrom self.now.links package_ix result.start result.end }
     {
-        let links = self.links.as_slice();
-        let first = links.partition_point(
-            |link: &Link| -> bool
-                ensures { result ≡ nat_lt link.now.0.0 package_ix }
-            { link.0.0 < package_ix },
-        );
-        let end = links.partition_point(
-            |link: &Link| -> bool
-                ensures { result ≡ nat_le link.now.0.0 package_ix }
-            { link.0.0 <= package_ix },
-        );
-        first..end
+        if package_ix >= self.packages.len() {
+            let end = self.links.len();
+            return end..end;
+        }
+        self.begins[package_ix] as usize..self.begins[package_ix + 1] as usize
     }
 
     /// The package with this id, or an error where there is none.

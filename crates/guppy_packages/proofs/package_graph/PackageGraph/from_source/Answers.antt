@@ -1,10 +1,11 @@
-use Rattle.std.proofs.Common.{◌≡◌, Err, subst, sym}
+use Rattle.std.proofs.Common.{◌≡◌, Err, length, subst, sym}
 use Rattle.guppy_support.specs.Sequences.{IsOrderOf}
 use Rattle.guppy_packages.specs.PackageOrder.{digraph_of_packages}
 use Rattle.std.proofs.lemmas.Result.{err_from_is_err_and}
 use Rattle.guppy_packages.specs.Graph.{dependencies_of, links_of, first_or, faults_by, link_fault, tables_of}
 use Rattle.guppy_packages.specs.Stored.{link_tables, package_tables}
 use Rattle.guppy_packages.specs.Tables.{AreTables}
+use Rattle.guppy_packages.specs.inner.Begins.{AreAllBegun}
 use Rattle.guppy_packages.proofs.Passes.{MatchMemory-map, second_refused, tables_hold}
 use Rattle.guppy_packages.proofs.Sound.{tables_sound}
 use Rattle.guppy_packages.proofs.package_graph.PackageGraph.from_source.Goals as goal
@@ -20,8 +21,12 @@ returns-in_err-links-clause-tables g c =
 pub invariant_of-result : goal.invariant_of-result
 invariant_of-result g c = (
   tables_hold (g.S.RowSource.rows c.args.source.now) (package_tables c.in_ok-packages.packages) c.in_ok-packages.ensures.tables (link_tables c.in_ok-links.links.items) c.in_ok-links.ensures.tables AreTables (tables_sound (g.S.RowSource.rows c.args.source.now)),
-  subst (λ ls. IsOrderOf (digraph_of_packages (record { packages = package_tables c.in_ok-packages.packages; links = link_tables ls })) c.in_ok-order.order) c.deref.ensures.value c.in_ok-order.ensures,
+  subst (λ ls. IsOrderOf (digraph_of_packages (record { packages = package_tables c.in_ok-packages.packages; links = link_tables ls })) c.in_ok-order.order) c.deref-2.ensures.value c.in_ok-order.ensures,
+  subst (λ ls. AreAllBegun (length (package_tables c.in_ok-packages.packages)) (link_tables ls) c.in_ok-begins.begins.items) c.deref.ensures.value c.in_ok-begins.ensures,
 )
 
+pub link_begins-requires : goal.link_begins-requires
+link_begins-requires g c = subst (λ ls. AreTables (record { packages = package_tables c.in_ok-packages.packages; links = link_tables ls })) (sym c.deref.ensures.value) (tables_hold (g.S.RowSource.rows c.args.source.now) (package_tables c.in_ok-packages.packages) c.in_ok-packages.ensures.tables (link_tables c.in_ok-links.links.items) c.in_ok-links.ensures.tables AreTables (tables_sound (g.S.RowSource.rows c.args.source.now)))
+
 pub package_order-requires : goal.package_order-requires
-package_order-requires g c = subst (λ ls. AreTables (record { packages = package_tables c.in_ok-packages.packages; links = link_tables ls })) (sym c.deref.ensures.value) (tables_hold (g.S.RowSource.rows c.args.source.now) (package_tables c.in_ok-packages.packages) c.in_ok-packages.ensures.tables (link_tables c.in_ok-links.links.items) c.in_ok-links.ensures.tables AreTables (tables_sound (g.S.RowSource.rows c.args.source.now)))
+package_order-requires g c = subst (λ ls. AreTables (record { packages = package_tables c.in_ok-packages.packages; links = link_tables ls })) (sym c.deref-2.ensures.value) (tables_hold (g.S.RowSource.rows c.args.source.now) (package_tables c.in_ok-packages.packages) c.in_ok-packages.ensures.tables (link_tables c.in_ok-links.links.items) c.in_ok-links.ensures.tables AreTables (tables_sound (g.S.RowSource.rows c.args.source.now)))

@@ -1,0 +1,47 @@
+//! Where the links of each package begin: links stand in the order of the packages that they leave.
+ghost use Rattle.std.specs.Prelude.{◌≡◌, ℕ, ◌+◌, ◌<◌, ◌≤◌, length, slice_index, max, IfOk, OnOk};
+ghost use Rattle.guppy_packages.specs.inner.Begins.{AreAllBegun};
+ghost use Rattle.guppy_packages.specs.Stored.{link_tables, package_tables};
+ghost use Rattle.guppy_packages.specs.Tables.{AreTables};
+
+use crate::contents::{Link, PackageData};
+use crate::package_id::PackageId;
+use crate::text_map::TextMap;
+use std::alloc::{AllocError, Global};
+
+/// Places beyond this one don't fit in 32 bits.
+const LAST_PLACE: usize = 4294967295;
+
+/// Lets the links of the packages up to this one begin at the place, where they have no begin.
+fn begin_up_to(begins: &mut Vec<u32>, from: usize, place: u32) -> Result<(), AllocError>
+    ensures long { OnOk result (length begins.new.items ≡ max (length begins.old.items) (from + 1)) }
+    ensures kept { OnOk result ((p : ℕ) → p < length begins.old.items → slice_index begins.new.items p ≡ slice_index begins.old.items p) }
+    ensures added { OnOk result ((p : ℕ) → length begins.old.items ≤ p → p < length begins.new.items → slice_index begins.new.items p ≡ place) }
+{
+    while begins.len() <= from {
+        begins.push(place)?;
+    }
+    Ok(())
+}
+
+/// Where the links of each package begin; the end of all links stands last. Too many links are answered as want of memory.
+pub(crate) fn link_begins(
+    alloc: Global,
+    packages: &TextMap<PackageId, PackageData>,
+    links: &[Link],
+) -> Result<Vec<u32>, AllocError>
+    requires { AreTables (record { packages = package_tables packages.now; links = link_tables links.now }) }
+    ensures { IfOk result (λ begins. AreAllBegun (length (package_tables packages.now)) (link_tables links.now) begins.items) }
+{
+    let count = packages.len();
+    let end = links.len();
+    if end > LAST_PLACE {
+        return Err(AllocError);
+    }
+    let mut begins = Vec::with_capacity(alloc, count.saturating_add(1))?;
+    for place in 0..end {
+        begin_up_to(&mut begins, links[place].0.0, place as u32)?;
+    }
+    begin_up_to(&mut begins, count, end as u32)?;
+    Ok(begins)
+}
