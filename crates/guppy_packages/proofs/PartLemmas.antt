@@ -1,14 +1,13 @@
 -- Texts that were pushed behind one another are the parts of the text that they make.
-use Rattle.std.proofs.Common.{◌≡◌, ℕ, zero, suc, ◌+◌, ◌-◌, ◌<◌, ◌≤◌, List, [], ◌∷◌, ◌++◌, Some, length, take, drop, get_or, refl, ap, ap₂, sym, ◌∙◌, subst, append_assoc, arith}
+use Rattle.std.proofs.Common.{◌≡◌, ℕ, zero, suc, ◌+◌, ◌-◌, ◌<◌, ◌≤◌, List, [], ◌∷◌, ◌++◌, Bool, true, false, Some, length, take, drop, get_or, refl, ap, ap₂, sym, ◌∙◌, subst, append_assoc, arith}
 use Rattle.std.specs.Prelude.{slice_get, slice_range}
 use Rattle.std.specs.List.{AllByRecursion}
 use Rattle.std.specs.Str.{IsCharBoundary, IsUtf8}
 use Rattle.std.proofs.Math.Seq.{take-append_seam, drop-append_seam}
-use Rattle.std.proofs.lemmas.List.{append-nil, length-append}
+use Rattle.std.proofs.lemmas.List.{append-nil, get_or_append_left, length-append}
 use Rattle.std.proofs.lemmas.Str.{IsCharBoundary-at_seam, IsCharBoundary-from_take, IsUtf8-append, IsUtf8-drop, IsUtf8-nil}
-use Rattle.guppy_packages.specs.Parts.{AreEnds, item_ends, name_end, parts}
+use Rattle.guppy_packages.specs.Parts.{AreEnds, item_ends, parts}
 use Rattle.guppy_packages.specs.Rows.{Text}
-use Rattle.guppy_packages.specs.declared.named_feature.Ends.{Ends}
 use Rattle.guppy_packages.specs.inner.Pushed.{IsPushed, ends_from, joined}
 
 joined-push : (xs : List Text) (x : Text) → joined (xs ++ x ∷ []) ≡ joined xs ++ x
@@ -69,48 +68,42 @@ joined_parts old (x ∷ xs) new e all =
     )
 
 -- the part at a place, and that the text may be cut there
-first_part : (from : ℕ) (ends : List ℕ) (text : Text) (ix end : ℕ) → ix ≡ 0 → ix < length ends → end ≡ get_or ends ix end → AreEnds from ends text
-    → (slice_get (parts from ends text) ix ≡ Some (slice_range text from end)) × (from ≤ end) × IsCharBoundary text end
-first_part from [] text ix end z h at cut = absurd (omega arith)
-first_part from (e ∷ ends) text zero end z h at cut = rw at (refl, cut.0, cut.1)
-first_part from (e ∷ ends) text (suc ix) end z h at cut = absurd (omega arith)
+pub record IsPart (all : List Text) (text : Text) (ix start end : ℕ) : Type 0 where
+  pub part : slice_get all ix ≡ Some (slice_range text start end)
+  pub ascends : start ≤ end
+  pub start_cut : IsCharBoundary text start
+  pub end_cut : IsCharBoundary text end
 
-later_part : (from : ℕ) (ends : List ℕ) (text : Text) (ix before start end : ℕ) → before + 1 ≡ ix → ix < length ends → start ≡ get_or ends before start → end ≡ get_or ends ix end
-    → AreEnds from ends text → (slice_get (parts from ends text) ix ≡ Some (slice_range text start end)) × (start ≤ end) × IsCharBoundary text start × IsCharBoundary text end
-later_part from [] text ix before start end e h s t cut = absurd (omega arith)
-later_part from (x ∷ ends) text zero before start end e h s t cut = absurd (omega arith)
-later_part from (x ∷ ends) text (suc ix) zero start end e h s t cut =
-    let here = first_part x ends text ix end (omega arith) (omega arith) t cut.2 in
-    rw s (here.0, here.1, cut.1, here.2)
-later_part from (x ∷ ends) text (suc ix) (suc before) start end e h s t cut = later_part x ends text ix before start end (omega arith) (omega arith) s t cut.2
+part_at : (from : ℕ) (ends : List ℕ) (text : Text) (ix : ℕ) → ix < length ends → IsCharBoundary text from → AreEnds from ends text
+    → IsPart (parts from ends text) text ix (get_or (from ∷ ends) ix 0) (get_or ends ix 0)
+part_at from [] text ix h first cut = absurd (omega arith)
+part_at from (e ∷ ends) text zero h first cut = record { part = refl; ascends = cut.0; start_cut = first; end_cut = cut.1 }
+part_at from (e ∷ ends) text (suc ix) h first cut = let more = part_at e ends text ix (omega arith) cut.1 cut.2 in record { part = more.part; ascends = more.ascends; start_cut = more.start_cut; end_cut = more.end_cut }
 
 pub length-parts : (from : ℕ) (ends : List ℕ) (text : Text) → length (parts from ends text) ≡ length ends
 length-parts from [] text = refl
 length-parts from (end ∷ ends) text = ap suc (length-parts end ends text)
 
 -- the items of a feature, by where they end
-module _ (e : Ends) (text : Text) (name : ℕ) (ends : List ℕ) (is_name : name_end e text ≡ name) (are_ends : item_ends e text ≡ ends) (ix : ℕ) (within : ix < length (parts (name_end e text) (item_ends e text) text)) where
-  pub item_within : ix < length ends
-  item_within = subst (λ n. ix < n) (length-parts (name_end e text) (item_ends e text) text ∙ ap length are_ends) within
+module _ (has : Bool) (name : ℕ) (ends : List ℕ) (text : Text) (ix : ℕ) (within : ix < length (parts name (item_ends has ends text) text)) where
+  pub item_within : ix ≤ length ends
+  item_within = go has (subst (λ n. ix < n) (length-parts name (item_ends has ends text) text) within)
+    where
+      go : (has : Bool) → ix < length (item_ends has ends text) → ix ≤ length ends
+      go false h = absurd (omega arith)
+      go true h = omega (arith, h, length-append ends (length text ∷ []))
 
-  module _ (cut : AreEnds 0 (name_end e text ∷ item_ends e text) text) (end : ℕ) (at : end ≡ get_or ends ix end) where
-    cut_items : AreEnds name ends text
-    cut_items = subst (λ n. AreEnds n ends text) is_name (subst (λ es. AreEnds (name_end e text) es text) are_ends cut.2)
-
-    same_parts : slice_get (parts (name_end e text) (item_ends e text) text) ix ≡ slice_get (parts name ends text) ix
-    same_parts = ap₂ (λ n es. slice_get (parts n es text) ix) is_name are_ends
-
-    pub first_item : ix ≡ 0
-        → (slice_get (parts (name_end e text) (item_ends e text) text) ix ≡ Some (slice_range text name end)) × (name ≤ end) × IsCharBoundary text name × IsCharBoundary text end
-    first_item first =
-        let part = first_part name ends text ix end first item_within at cut_items in
-        (same_parts ∙ part.0, part.1, subst (IsCharBoundary text) is_name cut.1, part.2)
-
-    pub later_item : (before start : ℕ) → before + 1 ≡ ix → start ≡ get_or ends before start
-        → (slice_get (parts (name_end e text) (item_ends e text) text) ix ≡ Some (slice_range text start end)) × (start ≤ end) × IsCharBoundary text start × IsCharBoundary text end
-    later_item before start next from =
-        let part = later_part name ends text ix before start end next item_within from at cut_items in
-        (same_parts ∙ part.0, part.1, part.2, part.3)
+  pub item_part : AreEnds 0 (name ∷ item_ends has ends text) text
+      → IsPart (parts name (item_ends has ends text) text) text ix (get_or (name ∷ ends) ix 0) (get_or (ends ++ length text ∷ []) ix 0)
+  item_part = go has (subst (λ n. ix < n) (length-parts name (item_ends has ends text) text) within)
+    where
+      go : (has : Bool) → ix < length (item_ends has ends text) → AreEnds 0 (name ∷ item_ends has ends text) text
+          → IsPart (parts name (item_ends has ends text) text) text ix (get_or (name ∷ ends) ix 0) (get_or (ends ++ length text ∷ []) ix 0)
+      go false h cut = absurd (omega arith)
+      go true h cut =
+          let start : get_or ((name ∷ ends) ++ length text ∷ []) ix 0 ≡ get_or (name ∷ ends) ix 0 = get_or_append_left (name ∷ ends) (length text ∷ []) 0 ix (omega (arith, item_within)) in
+          subst (λ n. IsPart (parts name (ends ++ length text ∷ []) text) text ix n (get_or (ends ++ length text ∷ []) ix 0)) start
+          (part_at name (ends ++ length text ∷ []) text ix h cut.1 cut.2)
 
 -- a feature's text is its name and its items
 pub feature_parts : (name : Text) (items : List Text) (text : Text) (end : ℕ) (ends : List ℕ) → IsUtf8 name → end ≡ length name → IsPushed name items text ends

@@ -5,18 +5,18 @@ use Rattle.std.specs.Str.{bytes_eq}
 use Rattle.std.specs.Hash as fed
 use Rattle.std.specs.Cmp.Lexicographic.{bytes_decides, nat_list_eq_equiv}
 use Rattle.std.proofs.Common.{ap}
-use Rattle.guppy_packages.specs.Parts.{item_ends, name_end, parts}
+use Rattle.guppy_packages.specs.Parts.{item_ends, parts}
 use Rattle.guppy_packages.specs.Rows.{Text}
 use Rattle.guppy_packages.specs.Tables.{FeatureTable}
 use Rattle.guppy_packages.specs.declared.named_feature.NamedFeature.{NamedFeature}
 
 -- the text begins with the name
 abbrev pub name_text : NamedFeature → Text
-name_text f = take (name_end f.ends (string_bytes f.text)) (string_bytes f.text)
+name_text f = take f.name_end (string_bytes f.text)
 
 -- behind the name the items stand, one after the other
 abbrev pub item_texts : NamedFeature → List Text
-item_texts f = parts (name_end f.ends (string_bytes f.text)) (item_ends f.ends (string_bytes f.text)) (string_bytes f.text)
+item_texts f = parts f.name_end (item_ends f.has_items f.ends.items (string_bytes f.text)) (string_bytes f.text)
 
 abbrev pub feature_table : NamedFeature → FeatureTable
 feature_table f = record { name = name_text f; items = item_texts f }

@@ -10,6 +10,7 @@ mod link_begins;
 mod name_set;
 mod named_feature;
 mod named_feature_dep;
+mod narrow;
 mod package_graph;
 mod package_id;
 mod package_link;

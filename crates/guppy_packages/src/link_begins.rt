@@ -5,12 +5,10 @@ ghost use Rattle.guppy_packages.specs.Stored.{link_tables, package_tables};
 ghost use Rattle.guppy_packages.specs.Tables.{AreTables};
 
 use crate::contents::{Link, PackageData};
+use crate::narrow::LAST_PLACE;
 use crate::package_id::PackageId;
 use crate::text_map::TextMap;
 use std::alloc::{AllocError, Global};
-
-/// Places beyond this one don't fit in 32 bits.
-const LAST_PLACE: usize = 4294967295;
 
 /// Lets the links of the packages up to this one begin at the place, where they have no begin.
 fn begin_up_to(begins: &mut Vec<u32>, from: usize, place: u32) -> Result<(), AllocError>

@@ -1,41 +1,28 @@
 //! A named feature of a package, in one text.
-ghost use Rattle.std.specs.Prelude.{◌≡◌, ◌∷◌, ◌<◌, Some, IfOk, length, slice_get};
+ghost use Rattle.std.specs.Prelude.{◌≡◌, ◌∷◌, ◌++◌, [], ◌<◌, ◌≤◌, ◌==◌, Some, IfOk, length, not, slice_get, slice_index};
 ghost use Rattle.std.specs.String.{string_bytes};
-ghost use Rattle.guppy_packages.specs.Parts.{AreEnds, AreEnds-prop, item_ends, name_end};
+ghost use Rattle.guppy_packages.specs.Parts.{AreEnds, AreEnds-prop, item_ends};
 ghost use Rattle.guppy_packages.specs.Rows.{texts};
 ghost use Rattle.guppy_packages.specs.inner.Pushed.{IsPushed};
 
+use crate::narrow::narrow;
 use indexmap::Equivalent;
 use std::alloc::{AllocError, Global};
 use std::fmt;
 use std::hash::{Hash, Hasher};
 
-/// Where the name and the items of a feature end in its text. The last of them ends where the text does.
-#[derive(Drop)]
-enum Ends {
-    /// There is no item.
-    NoItem,
-    /// There is one item, and the name ends here.
-    OneItem(usize),
-    /// There are more.
-    Items(Box<ItemEnds>),
-}
-
-/// Where the name of a feature ends in its text, and where each of its items does.
-#[derive(Drop)]
-struct ItemEnds {
-    name: usize,
-    items: Vec<usize>,
-}
-
 /// A named feature with its items. Among those of a package it is told by its name, so equality is of names.
 ///
-/// The name and the items stand in one text, one after the other: most features have one item, and then need nothing else.
+/// The name and the items stand in one text, one after the other: most features have at most one item, and then need nothing else.
+/// Where the name ends stands beside the text, so that names of other lengths are told apart by one look.
 #[derive(Drop)]
 pub struct NamedFeature {
     text: String,
-    ends: Ends,
-    ghost cut: { AreEnds 0 (name_end ends (string_bytes text) ∷ item_ends ends (string_bytes text)) (string_bytes text) } by { AreEnds-prop 0 (name_end ends (string_bytes text) ∷ item_ends ends (string_bytes text)) (string_bytes text) },
+    name_end: u32,
+    has_items: bool,
+    // where each item but the last ends: that one ends where the text does
+    ends: Vec<u32>,
+    ghost cut: { AreEnds 0 (name_end ∷ item_ends has_items ends.items (string_bytes text)) (string_bytes text) } by { AreEnds-prop 0 (name_end ∷ item_ends has_items ends.items (string_bytes text)) (string_bytes text) },
 }
 
 /// How long the text is, or the greatest number where no text is so long.
@@ -48,68 +35,85 @@ fn room_for(name: &str, items: &[&str]) -> usize {
 }
 
 /// Adds each item, and tells where it ends.
-fn push_each(alloc: Global, text: &mut String, items: &[&str]) -> Result<Vec<usize>, AllocError>
+fn push_each(alloc: Global, text: &mut String, items: &[&str]) -> Result<Vec<u32>, AllocError>
     ensures { IfOk result (λ ends. IsPushed (string_bytes text.old) (texts items.now) (string_bytes text.new) ends.items) }
 {
     let mut ends = Vec::with_capacity(alloc, items.len())?;
     for item in items {
         text.push_str(item)?;
-        ends.push(text.as_str().len())?;
+        ends.push(narrow(text.as_str().len())?)?;
     }
     Ok(ends)
 }
 
-/// Adds the items of a feature to its name.
-fn push_items(alloc: Global, text: &mut String, items: &[&str]) -> Result<Ends, AllocError>
-    ensures { IfOk result (λ ends. (name_end ends (string_bytes text.new) ≡ length (string_bytes text.old)) × IsPushed (string_bytes text.old) (texts items.now) (string_bytes text.new) (item_ends ends (string_bytes text.new))) }
+/// Adds the items of a feature to its name, and tells where each but the last ends.
+fn push_items(alloc: Global, text: &mut String, items: &[&str]) -> Result<Vec<u32>, AllocError>
+    ensures { IfOk result (λ ends. IsPushed (string_bytes text.old) (texts items.now) (string_bytes text.new) (item_ends (not (length items.now == 0)) ends.items (string_bytes text.new))) }
 {
-    let name = text.as_str().len();
-    match items {
-        [] => Ok(Ends::NoItem),
-        [item] => {
-            text.push_str(item)?;
-            Ok(Ends::OneItem(name))
-        }
-        _ => {
-            let items = push_each(alloc, text, items)?;
-            Ok(Ends::Items(Box::new(alloc, ItemEnds { name, items })?))
-        }
-    }
+    let Some((last, before)) = items.split_last() else {
+        return Ok(Vec::new(alloc));
+    };
+    let ends = push_each(alloc, text, before)?;
+    text.push_str(last)?;
+    Ok(ends)
 }
 
 impl NamedFeature {
     ghost use Rattle.guppy_packages.specs.NamedFeature.{feature_table};
 
-    /// The feature of this name with these items.
+    /// The feature of this name with these items. A text that takes over four gigabytes is answered as want of memory.
     pub(crate) fn new(alloc: Global, name: &str, items: &[&str]) -> Result<NamedFeature, AllocError>
         ensures { IfOk result (λ f. feature_table f ≡ record { name = name.now; items = texts items.now }) }
     {
         let mut text = String::with_capacity(alloc, room_for(name, items))?;
         text.push_str(name)?;
+        let name_end = narrow(name.len())?;
         let ends = push_items(alloc, &mut text, items)?;
-        Ok(NamedFeature { text, ends })
+        Ok(NamedFeature {
+            text,
+            name_end,
+            has_items: !items.is_empty(),
+            ends,
+        })
     }
 
     /// Its name.
     pub fn name(&self) -> &str
         ensures { result.now ≡ (feature_table self.now).name }
     {
-        match &self.ends {
-            Ends::NoItem => self.text.as_str(),
-            Ends::OneItem(end) => &self.text[..*end],
-            Ends::Items(ends) => &self.text[..ends.name],
-        }
+        &self.text[..self.name_end as usize]
     }
 
     /// How many items it has.
     pub fn item_count(&self) -> usize
         ensures { result ≡ length (feature_table self.now).items }
     {
-        match &self.ends {
-            Ends::NoItem => 0,
-            Ends::OneItem(_) => 1,
-            Ends::Items(ends) => ends.items.len(),
+        if self.has_items {
+            return self.ends.len() + 1;
         }
+        0
+    }
+
+    /// Where an item begins.
+    fn item_start(&self, ix: usize) -> usize
+        requires { ix ≤ length self.now.ends.items }
+        ensures { result ≡ slice_index (self.now.name_end ∷ self.now.ends.items) ix }
+    {
+        if ix == 0 {
+            return self.name_end as usize;
+        }
+        self.ends[ix - 1] as usize
+    }
+
+    /// Where an item ends.
+    fn item_end(&self, ix: usize) -> usize
+        requires { ix ≤ length self.now.ends.items }
+        ensures { result ≡ slice_index (self.now.ends.items ++ length (string_bytes self.now.text) ∷ []) ix }
+    {
+        if ix < self.ends.len() {
+            return self.ends[ix] as usize;
+        }
+        self.text.as_str().len()
     }
 
     /// The text of an item, by its place in the row.
@@ -117,17 +121,9 @@ impl NamedFeature {
         requires { ix < length (feature_table self.now).items }
         ensures { slice_get (feature_table self.now).items ix ≡ Some result.now }
     {
-        match &self.ends {
-            Ends::NoItem => unreachable!(),
-            Ends::OneItem(end) => &self.text[*end..],
-            Ends::Items(ends) => {
-                let end = ends.items[ix];
-                if ix == 0 {
-                    return &self.text[ends.name..end];
-                }
-                &self.text[ends.items[ix - 1]..end]
-            }
-        }
+        let start = self.item_start(ix);
+        let end = self.item_end(ix);
+        &self.text[start..end]
     }
 }
 

@@ -1,12 +1,13 @@
-use Rattle.std.proofs.Common.{◌≡◌, ◌∙◌, ap, length, sym}
+use Rattle.std.proofs.Common.{◌≡◌, ◌∷◌, [], ◌+◌, length, arith}
 use Rattle.std.specs.String.{string_bytes}
-use Rattle.guppy_packages.specs.Parts.{item_ends, name_end}
+use Rattle.std.proofs.lemmas.List.{length-append}
+use Rattle.guppy_packages.specs.Parts.{item_ends}
 use Rattle.guppy_packages.proofs.PartLemmas.{length-parts}
 use Rattle.guppy_packages.proofs.named_feature.NamedFeature.item_count.Goals as goal
 
-pub returns-in-Items : goal.returns-in-Items
-returns-in-Items c =
-    let e = c.args.self.now.ends in
-    let text = string_bytes c.args.self.now.text in
-    let ends : item_ends e text ≡ c.in-Items.ends.value.items.items = ap (λ e. item_ends e text) c.in-Items.is in
-    c.len.ensures ∙ ap (λ v. v.items.len) c.deref.ensures ∙ c.in-Items.ends.value.items.ok.0 ∙ sym (length-parts (name_end e text) (item_ends e text) text ∙ ap length ends)
+pub returns-then-self : goal.returns-then-self
+returns-then-self c =
+    let f = c.args.self.now in
+    let text = string_bytes f.text in
+    let long : length (item_ends f.has_items f.ends.items text) ≡ length f.ends.items + 1 = rw c.if-self.true (length-append f.ends.items (length text ∷ [])) in
+    omega (arith, length-parts f.name_end (item_ends f.has_items f.ends.items text) text, long, c.len.ensures, f.ends.ok.0)
