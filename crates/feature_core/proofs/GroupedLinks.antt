@@ -1,18 +1,16 @@
--- Links under a package and a name, as rows of packages are made.
-use Rattle.std.proofs.Common.{◌≡◌, ℕ, zero, suc, ◌+◌, ◌-◌, ◌<◌, ◌≤◌, ◌⊎◌, ⊎_elim, List, [], ◌∷◌, ◌++◌, Bool, true, false, cond, None, Some, map, length, take, refl, ap, sym, ◌∙◌, arith, if◌then◌else◌, add-one}
+-- Links under a package and a name, as they are put beside their names.
+use Rattle.std.proofs.Common.{◌≡◌, ℕ, zero, suc, ◌+◌, ◌-◌, ◌<◌, ◌≤◌, List, [], ◌∷◌, ◌++◌, Bool, true, false, cond, Some, map, length, take, refl, ap, sym, ◌∙◌, arith, if◌then◌else◌, add-one}
 use Rattle.std.specs.Prelude.{slice_get, ◌&&◌, ◌==◌, filter}
 use Rattle.std.specs.Borrow.{Bor}
-use Rattle.std.specs.Option.{option_map_or}
 use Rattle.std.specs.Str.{bytes_eq}
 use Rattle.std.specs.Cmp.Lexicographic.{bytes_decides}
 use Rattle.std.proofs.lemmas.Bool.Decides.{nat_tests}
 use Rattle.std.proofs.lemmas.List.{map-append}
 use Rattle.guppy_packages.specs.Rows.{Text}
-use Rattle.guppy_packages.specs.Tables.{LinkTable, Tables, AreTables}
+use Rattle.guppy_packages.specs.Tables.{LinkTable, Tables}
 use Rattle.feature_core.specs.Links.{numbered}
-use Rattle.feature_core.specs.declared.named_row.NamedRow.{NamedRow}
 use Rattle.feature_core.specs.inner.NamedEntries.{numbers_named}
-use Rattle.feature_core.specs.inner.NamedLinks.{entries_of, link_numbers}
+use Rattle.feature_core.specs.inner.NamedLinks.{link_numbers}
 use Rattle.feature_core.proofs.NodeLemmas.{take-next, take-all, append-none}
 
 same_number : (m n : ℕ) → (m == n) ≡ true → m ≡ n
@@ -87,7 +85,7 @@ differs p q apart = go (p == q) refl
 others_pass : (t : Tables) (p : ℕ) (d : Text) (n : ℕ) (link : LinkTable) → slice_get t.links n ≡ Some link → (link.from ≡ p → ⊥) → numbers_before t (n + 1) p d ≡ numbers_before t n p d
 others_pass t p d n link h apart = numbers_next t n link p d h ∙ others (p == link.from) (bytes_eq d link.name) (numbers_before t n p d) (numbers_before t n p d ++ n ∷ []) (differs p link.from apart)
 
-there : {X : Type 0} (xs : List X) (k : ℕ) → k < length xs → (x : X) × (slice_get xs k ≡ Some x)
+pub there : {X : Type 0} (xs : List X) (k : ℕ) → k < length xs → (x : X) × (slice_get xs k ≡ Some x)
 there [] k l = absurd (omega (arith, l))
 there (x ∷ xs) zero l = (x, refl)
 there (x ∷ xs) (suc k) l = there xs k (omega (arith, l))
@@ -136,43 +134,3 @@ noted_next t n p link d entries e h from name number before =
   where
     same : (p == link.from) ≡ true
     same = grind (arith, nat_tests, from)
-
--- the rows of packages, one more at the end
-abbrev pub rows_under : List NamedRow → ℕ → Text → List ℕ
-rows_under rows p d = option_map_or (λ row. numbers_named d (entries_of row)) (slice_get rows p) []
-
-pub rows_next : (t : Tables) (rows : List NamedRow) (row : NamedRow) (n : ℕ) → length rows ≡ n → ((p : ℕ) (d : Text) → p < n → rows_under rows p d ≡ link_numbers t p d) → ((d : Text) → numbers_named d (entries_of row) ≡ link_numbers t n d)
-    → (p : ℕ) (d : Text) → p < n + 1 → rows_under (rows ++ row ∷ []) p d ≡ link_numbers t p d
-rows_next t rows row n long before here p d l = ⊎_elim
-    (λ m. ap (λ o. option_map_or (λ r. numbers_named d (entries_of r)) o []) (earlier rows p (omega (arith, m, long))) ∙ before p d m)
-    (λ e. ap (λ o. option_map_or (λ r. numbers_named d (entries_of r)) o []) (at_end rows p (e ∙ sym long)) ∙ here d ∙ ap (λ z. link_numbers t z d) (sym e))
-    (below_or p n l)
-  where
-    below_or : (a b : ℕ) → a < b + 1 → (a < b) ⊎ (a ≡ b)
-    below_or a b l = grind arith
-
-    earlier : (rows : List NamedRow) (p : ℕ) → p < length rows → slice_get (rows ++ row ∷ []) p ≡ slice_get rows p
-    earlier [] p l = absurd (omega (arith, l))
-    earlier (r ∷ rows) zero l = refl
-    earlier (r ∷ rows) (suc p) l = earlier rows p (omega (arith, l))
-
-    at_end : (rows : List NamedRow) (p : ℕ) → p ≡ length rows → slice_get (rows ++ row ∷ []) p ≡ Some row
-    at_end [] zero e = refl
-    at_end [] (suc p) e = absurd (omega (arith, e))
-    at_end (r ∷ rows) zero e = absurd (omega (arith, e))
-    at_end (r ∷ rows) (suc p) e = at_end rows p (omega (arith, e))
-
-past_end : {X : Type 0} (xs : List X) (p : ℕ) → length xs ≤ p → slice_get xs p ≡ None
-past_end [] p l = refl
-past_end (x ∷ xs) zero l = absurd (omega (arith, l))
-past_end (x ∷ xs) (suc p) l = past_end xs p (omega (arith, l))
-
--- no package past the last one has links
-pub rows_all : (t : Tables) (tables : AreTables t) (rows : List NamedRow) → length rows ≡ length t.packages → ((p : ℕ) (d : Text) → p < length t.packages → rows_under rows p d ≡ link_numbers t p d) → (p : ℕ) (d : Text) → rows_under rows p d ≡ link_numbers t p d
-rows_all t tables rows long each p d = ⊎_elim
-    (λ l. each p d l)
-    (λ l. ap (λ o. option_map_or (λ r. numbers_named d (entries_of r)) o []) (past_end rows p (omega (arith, l, long))) ∙ sym (no_numbers t p d (λ k link h e. let m = (tables.ends k link h).0 in omega (arith, m, l, e))))
-    (below_or p (length t.packages))
-  where
-    below_or : (a b : ℕ) → (a < b) ⊎ (b ≤ a)
-    below_or a b = grind arith

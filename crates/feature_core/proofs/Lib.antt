@@ -18,6 +18,7 @@ pub mod ChosenWayLemmas
 pub mod AskingLemmas
 pub mod NameLemmas
 pub mod GroupedLinks
+pub mod RowLemmas
 pub mod NamedEntryLemmas
 pub mod PushLemmas
 pub mod PairLemmas

@@ -31,12 +31,24 @@ pub(crate) fn default_nodes(
     Ok(nodes)
 }
 
+/// The numbers, with the features `default` that were looked up.
+pub(crate) fn with_defaults<'a>(numbers: Numbers<'a>, defaults: &'a [Option<usize>]) -> Numbers<'a>
+    requires { AreDefaultNodes numbers.graph.now defaults.now }
+    ensures { result.graph.now ≡ numbers.entry.graph.now }
+{
+    Numbers {
+        graph: numbers.graph,
+        firsts: numbers.firsts,
+        defaults,
+    }
+}
+
 /// The default feature of a package: its feature named `default`, or its base where it has none.
 fn default_feature(numbers: Numbers<'_>, metadata: PackageMetadata<'_>) -> usize
     requires { package_graph_of metadata ≡ numbers.graph.now }
     ensures { (n : ℕ) → (result ≡ n) ↔ IsDefaultFeature numbers.entry.graph.now metadata.entry.package_ix n }
 {
-    match numbers.named(metadata, "default") {
+    match numbers.default_of(metadata) {
         Some(node) => node,
         None => numbers.base(metadata),
     }

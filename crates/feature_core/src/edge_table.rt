@@ -16,7 +16,6 @@ ghost use Rattle.feature_core.specs.inner.Parts.{IsOfTables};
 ghost use Rattle.feature_core.specs.Values.{edge_facts};
 
 use crate::candidates::package_keys;
-use crate::defaults::default_nodes;
 use crate::edge::FeatureEdge;
 use crate::edge_list::EdgeList;
 use crate::edges::{Material, edge_of};
@@ -227,28 +226,6 @@ fn made_edges(
     Ok((made, room.quiet))
 }
 
-/// The edges of the nodes of all packages, and what is without a warning. Each package's feature `default` is looked up once.
-fn made_with_defaults(
-    alloc: Global,
-    numbers: Numbers<'_>,
-    packages: &[usize],
-    groups: &LinkGroups<'_>,
-) -> Result<(MadeEdges, Quiet), AllocError>
-    requires packages { packages.now ≡ node_packages numbers.graph.now }
-    requires links { AreNamedLinks numbers.graph.now groups.now }
-    ensures made { IfOk result (λ m. AreMadeBelow numbers.entry.graph.now (length numbers.entry.graph.now.packages) m.0) }
-    ensures quiet { IfOk result (λ m. IsQuiet numbers.entry.graph.now m.1) }
-{
-    let defaults = default_nodes(alloc, numbers)?;
-    let known = Numbers {
-        graph: numbers.graph,
-        firsts: numbers.firsts,
-        defaults: defaults.as_slice(),
-    };
-    let made = made_edges(alloc, known, packages, groups)?;
-    Ok(made)
-}
-
 /// The digraph of edges that are in order and join nodes. It fails only where memory is refused.
 fn digraph_of(alloc: Global, nodes: usize, ends: Vec<Edge>) -> Result<Digraph, AllocError>
     requires { IsDigraph (record { nodes = nodes; edges = ends.items }) }
@@ -280,7 +257,7 @@ pub(crate) fn edge_table(
     ensures quiet { IfOk result (λ e. IsQuiet numbers.entry.graph.now e.1) }
 {
     numbers.graph.facts();
-    let (made, quiet) = made_with_defaults(alloc, numbers, table.packages.as_slice(), groups)?;
+    let (made, quiet) = made_edges(alloc, numbers, table.packages.as_slice(), groups)?;
     let MadeEdges { edges, ends, weak } = made;
     let digraph = digraph_of(alloc, table.packages.len(), ends)?;
     let edge_table = EdgeTable {

@@ -19,7 +19,7 @@ ghost use Rattle.feature_core.specs.inner.Releases.{AreReleases};
 ghost use Rattle.feature_core.specs.Ways.{content};
 
 use crate::chosen_reach::reach_chosen;
-use crate::defaults::default_marks;
+use crate::defaults::{default_marks, default_nodes, with_defaults};
 use crate::edge::{EdgeChoice, FeatureEdge};
 use crate::edge_list::{EdgeList, first_absent};
 use crate::edge_table::{EdgeTable, edge_table};
@@ -168,13 +168,15 @@ fn made(
     Ok((edges, warnings))
 }
 
-/// The feature graph of a package graph, under a stamp of the caller's.
+/// The feature graph of a package graph, under a stamp of the caller's. Each package's feature `default` is looked up once.
 fn built(alloc: Global, graph: &PackageGraph, stamp: u64) -> Result<FeatureGraphData, AllocError>
     ensures built { IfOk result (λ b. IsBuilt graph.now b) }
     ensures stamp { IfOk result (λ b. b.stamp ≡ stamp) }
 {
     let table = node_table(alloc, graph)?;
-    let numbers = numbers_in(graph, &table);
+    let unknown = numbers_in(graph, &table);
+    let defaults = default_nodes(alloc, unknown)?;
+    let numbers = with_defaults(unknown, &defaults);
     let (edge_table, warnings) = made(alloc, numbers, &table)?;
     let found = found_with(alloc, numbers, &edge_table)?;
     Ok(FeatureGraphData {

@@ -6,14 +6,15 @@ ghost use Rattle.std.specs.Ordering.{nat_cmp};
 ghost use Rattle.guppy_packages.specs.Metadata.{package_graph_of, package_number_of};
 ghost use Rattle.guppy_packages.specs.Rows.{Text};
 ghost use Rattle.feature_core.specs.inner.NamedEntries.{numbers_named};
-ghost use Rattle.feature_core.specs.inner.NamedLinks.{AreNamedLinks, entries_of, link_numbers, numbers_under};
+ghost use Rattle.feature_core.specs.inner.NamedLinks.{AreNamedLinks, link_numbers, numbers_under};
 
-use crate::named_row::NamedRow;
+use crate::named_row::{NamedRows, OrderedRows};
 use guppy_packages::{PackageGraph, PackageMetadata};
 use std::alloc::{AllocError, Global};
 
-/// The links of each package by name.
-pub(crate) type LinkGroups<'g> = Vec<NamedRow<'g>>;
+/// The links of each package by name: for each package a row of the names in order, and beside each name the number of its link.
+/// Links of one name ascend.
+pub(crate) type LinkGroups<'g> = OrderedRows<'g>;
 
 /// Puts the links of a package beside their names, ascending.
 fn fill_entries<'g>(
@@ -39,17 +40,17 @@ fn sort_entries<'g>(entries: &mut Vec<(&'g str, usize)>) -> Result<(), AllocErro
     entries.sort_by_key(|entry| entry.0)
 }
 
-/// The row of a package, made with room for entries.
-fn row_of<'g>(
-    alloc: Global,
+/// Puts the links of a package beside their names, in the order of the names.
+fn fill_in_order<'g>(
     entries: &mut Vec<(&'g str, usize)>,
     package: PackageMetadata<'g>,
-) -> Result<NamedRow<'g>, AllocError>
-    ensures { IfOk result (λ row. (name : Text) → numbers_named name (entries_of row) ≡ link_numbers (package_graph_of «package».entry) (package_number_of «package».entry) name) }
+) -> Result<(), AllocError>
+    ensures sorted { OnOk result (IsSortedByKey (λ e. e.0.now) (slice_cmp nat_cmp) entries.new.items) }
+    ensures links { OnOk result ((name : Text) → numbers_named name entries.new.items ≡ link_numbers (package_graph_of «package».entry) (package_number_of «package».entry) name) }
 {
     fill_entries(entries, package)?;
     sort_entries(entries)?;
-    NamedRow::of(alloc, entries)
+    Ok(())
 }
 
 /// The links of a graph, grouped by the package that they leave and by name.
@@ -57,21 +58,18 @@ pub(crate) fn named_links(alloc: Global, graph: &PackageGraph) -> Result<LinkGro
     ensures { IfOk result (λ groups. AreNamedLinks graph.now groups) }
 {
     graph.facts();
-    let mut groups = Vec::with_capacity(alloc, graph.package_count())?;
+    let mut rows = NamedRows::with_room(alloc, graph.package_count(), graph.link_count())?;
     let mut entries = Vec::new(alloc);
     for ix in 0..graph.package_count() {
-        let row = row_of(alloc, &mut entries, graph.package(ix))?;
-        groups.push(row)?;
+        fill_in_order(&mut entries, graph.package(ix))?;
+        rows.push(entries.as_slice())?;
     }
-    Ok(groups)
+    Ok(OrderedRows { rows })
 }
 
 /// The links of a package under a name.
 pub(crate) fn numbers_of<'a>(groups: &'a LinkGroups<'_>, from: usize, name: &str) -> &'a [usize]
     ensures { result.now ≡ numbers_under groups.now from name.now }
 {
-    match groups.get(from) {
-        Some(row) => row.under(name),
-        None => &[],
-    }
+    groups.rows.under(from, name)
 }

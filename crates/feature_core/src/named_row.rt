@@ -1,69 +1,114 @@
-//! The links of a package by name.
-ghost use Rattle.std.specs.Prelude.{◌≡◌, IfOk, length, map, not};
-ghost use Rattle.std.specs.List.Sorted.{IsSortedByKey};
+//! Rows of names, with a number beside each name.
+ghost use Rattle.std.specs.Prelude.{◌≡◌, ◌++◌, ◌∷◌, [], IfOk, OnOk, length, map, not};
+ghost use Rattle.std.specs.List.{zip};
 ghost use Rattle.std.specs.Cmp.Lexicographic.{slice_cmp};
 ghost use Rattle.std.specs.Ordering.{is_gt, is_lt, nat_cmp};
-ghost use Rattle.feature_core.specs.inner.NamedEntries.{AreOrdered, numbers_named};
+ghost use Rattle.feature_core.specs.inner.NamedEntries.{AreOrdered, AreRows, numbers_in_row, numbers_named};
 
-use guppy_support::collect_exactly;
 use std::alloc::{AllocError, Global};
 
-/// The links of a package by name: the names in order, and beside each the number of its link. Links of one name ascend.
+/// Where a row stands: from a start up to an end.
+#[derive(Clone, Copy)]
+pub(crate) struct Span {
+    start: usize,
+    end: usize,
+}
+
+/// Rows of names, one after the other, with a number beside each name; and where each row stands.
 #[derive(Drop)]
-pub(crate) struct NamedRow<'g> {
+pub(crate) struct NamedRows<'g> {
     names: Vec<&'g str>,
     numbers: Vec<usize>,
-    ghost ordered: { AreOrdered names.items },
-    ghost beside: { length names.items ≡ length numbers.items },
+    spans: Vec<Span>,
 }
 
-/// The names of entries.
-fn names_of<'g>(alloc: Global, entries: &[(&'g str, usize)]) -> Result<Vec<&'g str>, AllocError>
-    ensures { IfOk result (λ names. names.items ≡ map (λ e. e.0) entries.now) }
+/// Rows, each with its names in order.
+#[derive(Drop)]
+pub(crate) struct OrderedRows<'g> {
+    pub(crate) rows: NamedRows<'g>,
+    pub(crate) ghost in_order: { AreRows rows },
+}
+
+/// Appends the names of entries.
+fn push_names<'g>(names: &mut Vec<&'g str>, entries: &[(&'g str, usize)]) -> Result<(), AllocError>
+    ensures { OnOk result (names.new.items ≡ names.old.items ++ map (λ e. e.0) entries.now) }
 {
-    collect_exactly(entries.iter().map(|entry| entry.0), alloc)
+    names.extend(entries.iter().map(|entry| entry.0))
 }
 
-/// The numbers of entries.
-fn numbers_in(alloc: Global, entries: &[(&str, usize)]) -> Result<Vec<usize>, AllocError>
-    ensures { IfOk result (λ numbers. numbers.items ≡ map (λ e. e.1) entries.now) }
+/// Appends the numbers of entries.
+fn push_numbers(numbers: &mut Vec<usize>, entries: &[(&str, usize)]) -> Result<(), AllocError>
+    ensures { OnOk result (numbers.new.items ≡ numbers.old.items ++ map (λ e. e.1) entries.now) }
 {
-    collect_exactly(entries.iter().map(|entry| entry.1), alloc)
+    numbers.extend(entries.iter().map(|entry| entry.1))
 }
 
-impl<'g> NamedRow<'g> {
-    ghost use Rattle.feature_core.specs.inner.NamedLinks.{entries_of};
+/// The numbers beside a name, among names in order.
+fn numbers_beside<'a>(names: &[&str], numbers: &'a [usize], name: &str) -> &'a [usize]
+    requires ordered { AreOrdered names.now }
+    requires beside { length names.now ≡ length numbers.now }
+    ensures { result.now ≡ numbers_named name.now (zip names.now numbers.now) }
+{
+    let end = names.partition_point(
+        |text: &&str| -> bool
+            ensures { result ≡ not (is_gt (slice_cmp nat_cmp text.now.now name.entry.now)) }
+        { text.cmp(&name).is_le() },
+    );
+    let below = &names[..end];
+    let first = below.partition_point(
+        |text: &&str| -> bool
+            ensures { result ≡ is_lt (slice_cmp nat_cmp text.now.now name.entry.now) }
+        { text.cmp(&name).is_lt() },
+    );
+    &numbers[first..end]
+}
 
-    /// The row of entries that are sorted by name.
-    pub(crate) fn of(
+impl<'g> NamedRows<'g> {
+    /// No row, and room for so many rows and names.
+    pub(crate) fn with_room(
         alloc: Global,
-        entries: &[(&'g str, usize)],
-    ) -> Result<NamedRow<'g>, AllocError>
-        requires { IsSortedByKey (λ e. e.0.now) (slice_cmp nat_cmp) entries.now }
-        ensures { IfOk result (λ row. entries_of row ≡ entries.now) }
+        rows: usize,
+        names: usize,
+    ) -> Result<NamedRows<'g>, AllocError>
+        ensures names { IfOk result (λ made. made.names.items ≡ []) }
+        ensures numbers { IfOk result (λ made. made.numbers.items ≡ []) }
+        ensures spans { IfOk result (λ made. made.spans.items ≡ []) }
     {
-        let names = names_of(alloc, entries)?;
-        let numbers = numbers_in(alloc, entries)?;
-        Ok(NamedRow { names, numbers })
+        let spans = Vec::with_capacity(alloc, rows)?;
+        let numbers = Vec::with_capacity(alloc, names)?;
+        let names = Vec::with_capacity(alloc, names)?;
+        Ok(NamedRows {
+            names,
+            numbers,
+            spans,
+        })
     }
 
-    /// The numbers beside a name.
-    pub(crate) fn under(&self, name: &str) -> &[usize]
-        ensures { result.now ≡ numbers_named name.now (entries_of self.now) }
+    /// Appends a row.
+    pub(crate) fn push(&mut self, entries: &[(&'g str, usize)]) -> Result<(), AllocError>
+        ensures names { OnOk result (self.new.names.items ≡ self.old.names.items ++ map (λ e. e.0) entries.now) }
+        ensures numbers { OnOk result (self.new.numbers.items ≡ self.old.numbers.items ++ map (λ e. e.1) entries.now) }
+        ensures spans { OnOk result (self.new.spans.items ≡ self.old.spans.items ++ record { start = length self.old.names.items; end = length self.new.names.items } ∷ []) }
     {
-        let names = self.names.as_slice();
-        let end = names.partition_point(
-            |text: &&str| -> bool
-                ensures { result ≡ not (is_gt (slice_cmp nat_cmp text.now.now name.entry.now)) }
-            { text.cmp(&name).is_le() },
-        );
-        let below = &names[..end];
-        let first = below.partition_point(
-            |text: &&str| -> bool
-                ensures { result ≡ is_lt (slice_cmp nat_cmp text.now.now name.entry.now) }
-            { text.cmp(&name).is_lt() },
-        );
-        let numbers = self.numbers.as_slice();
-        &numbers[first..end]
+        let start = self.names.len();
+        push_names(&mut self.names, entries)?;
+        push_numbers(&mut self.numbers, entries)?;
+        let end = self.names.len();
+        self.spans.push(Span { start, end })?;
+        Ok(())
+    }
+
+    /// The numbers beside a name in a row, none where there is no such row.
+    pub(crate) fn under(&self, row: usize, name: &str) -> &[usize]
+        requires { AreRows self.now }
+        ensures { result.now ≡ numbers_in_row self.now row name.now }
+    {
+        match self.spans.get(row) {
+            Some(span) => {
+                let names = &self.names[span.start..span.end];
+                numbers_beside(names, &self.numbers[span.start..span.end], name)
+            }
+            None => &[],
+        }
     }
 }

@@ -12,7 +12,7 @@ use std::marker::Model;
 /// Places of keys of a package, each in the slot of what the key's edge speaks of.
 #[derive(Drop)]
 pub(crate) struct NearKeys {
-    slots: Vec<usize>,
+    slots: Vec<u32>,
 }
 
 impl Model for NearKeys {
@@ -22,7 +22,7 @@ impl Model for NearKeys {
 
     ghost view = { λ n. n.slots.items };
 
-    ghost invariant = { λ n. length n.slots.items ≡ 16384 };
+    ghost invariant = { λ n. length n.slots.items ≡ 4096 };
 }
 
 /// What the edge of a key speaks of, as a number: a node or a package link.
@@ -36,9 +36,9 @@ fn subject(key: Key) -> usize {
 
 /// The slot of a key.
 fn key_slot(key: Key) -> usize
-    ensures { result < 16384 }
+    ensures { result < 4096 }
 {
-    (subject(key) % 2048) * 8 + usize::from(key.rank % 8)
+    (subject(key) % 512) * 8 + usize::from(key.rank % 8)
 }
 
 /// Whether a package link has one declaration.
@@ -92,11 +92,12 @@ fn is_alike_at(numbers: Numbers<'_>, kept: &[Key], near: usize, key: Key) -> boo
 impl NearKeys {
     /// No place yet.
     pub(crate) fn new(alloc: Global) -> Result<NearKeys, AllocError> {
-        let slots = vec![in alloc; 0usize; 16_384]?;
+        let slots = vec![in alloc; 0u32; 4_096]?;
         Ok(NearKeys { slots })
     }
 
-    /// The place of an earlier key that is alike, where it's the last one that took the slot. The key at hand takes it.
+    /// The place of an earlier key that is alike, where it's the last one that took the slot. The key at hand takes it, if its place
+    /// fits in 32 bits.
     pub(crate) fn alike_before(
         &mut self,
         numbers: Numbers<'_>,
@@ -108,8 +109,10 @@ impl NearKeys {
         ensures { IfSome result (λ near. IsAlikeBefore numbers.entry.graph.now kept.now ix key near) }
     {
         let slot = key_slot(key);
-        let near = self.slots[slot];
-        self.slots[slot] = ix;
+        let near = self.slots[slot] as usize;
+        if ix <= u32::MAX as usize {
+            self.slots[slot] = ix as u32;
+        }
         if near < ix && is_alike_at(numbers, kept, near, key) {
             return Some(near);
         }

@@ -182,10 +182,14 @@ fn edge_number(
 }
 
 /// The number at a place of a list.
-fn number_at(numbers: &[usize], place: usize) -> Option<usize>
+fn number_at(numbers: &[u32], place: usize) -> Option<usize>
     ensures { result ≡ slice_get numbers.now place }
 {
-    numbers.get(place).copied()
+    if place < numbers.len() {
+        Some(numbers[place] as usize)
+    } else {
+        None
+    }
 }
 
 /// The number of the edge at this place, from 0, among those that wait for the gate, as the direction follows them.

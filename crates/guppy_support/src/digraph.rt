@@ -191,11 +191,12 @@ impl Digraph {
     }
 
     /// The numbers of the edges that enter the node, ascending.
-    pub fn in_edges(&self, node: usize) -> &[usize]
+    pub fn in_edges(&self, node: usize) -> &[u32]
         requires { node < self.now.nodes }
         ensures { result.now ≡ places node (targets self.now.edges) }
     {
-        &self.inward.numbers[self.inward.begins[node]..self.inward.begins[node + 1]]
+        let begins = &self.inward.begins;
+        &self.inward.numbers[begins[node] as usize..begins[node + 1] as usize]
     }
 }
 

@@ -16,6 +16,7 @@ use guppy_features::FeatureGraphData;
 use guppy_packages::PackageGraph;
 use row_files::graph_of;
 use std::alloc::Global;
+use std::mem::forget;
 
 /// The text that answers the command over what was built of a package graph, or the first refusal.
 fn answer_built(
@@ -38,12 +39,17 @@ fn answer_built(
     }
 }
 
-/// The text that answers the command over a package graph, or the first refusal.
+/// The text that answers the command over a package graph, or the first refusal. What was built is kept until the process ends, which
+/// gives it back as a whole.
 fn answer_graph(alloc: Global, command: &Command, graph: &PackageGraph) -> Result<Vec<u8>, Fault>
     ensures { GivesAnswer (λ text. text.items) result (IsOutput (command_of command.now) graph.now) }
 {
     match FeatureGraphData::build(alloc, graph, 0) {
-        Ok(built) => answer_built(alloc, command, graph, &built),
+        Ok(built) => {
+            let text = answer_built(alloc, command, graph, &built);
+            forget(built);
+            text
+        }
         Err(_) => Err(Fault::Memory),
     }
 }
@@ -58,11 +64,13 @@ fn graph_of_bytes(alloc: Global, bytes: &[u8]) -> Result<PackageGraph, Fault>
     }
 }
 
-/// The text that answers the command over a row file's bytes, or the first refusal.
+/// The text that answers the command over a row file's bytes, or the first refusal. The package graph is kept until the process ends.
 pub fn answer(alloc: Global, command: &Command, bytes: Vec<u8>) -> Result<Vec<u8>, Fault>
     ensures { GivesAnswer (λ text. text.items) result (IsAnswer (command_of command.now) bytes.items) }
 {
     let graph = graph_of_bytes(alloc, &bytes)?;
     drop(bytes);
-    answer_graph(alloc, command, &graph)
+    let text = answer_graph(alloc, command, &graph);
+    forget(graph);
+    text
 }

@@ -86,7 +86,9 @@ fn tell_edges_at(out: &mut Out, graph: &Digraph, node: usize) {
             out.number(" ", number);
         }
         out.part(", in");
-        out.numbers(graph.in_edges(node));
+        for number in graph.in_edges(node) {
+            out.number(" ", *number as usize);
+        }
     }
 }
 

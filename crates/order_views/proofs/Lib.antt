@@ -1,4 +1,3 @@
-pub mod Copied
 pub mod CycleLemmas
 pub mod Distinct
 pub mod Followed

@@ -63,6 +63,18 @@ impl<'a> LinksInOrder<'a> {
     }
 }
 
+// The number at a place of a list.
+fn number_at(numbers: &[u32], place: usize) -> Option<usize>
+    ensures number { result ≡ slice_get numbers.now place }
+    ensures few { IfSome result (λ _. place + 1 < 2 ^ 64) }
+{
+    if place < numbers.len() {
+        Some(numbers[place] as usize)
+    } else {
+        None
+    }
+}
+
 // The edge at that place of those that start at the node.
 fn edge_at(digraph: &Digraph, reading: Reading, node: usize, place: usize) -> Option<usize>
     requires { node < digraph.now.nodes }
@@ -78,7 +90,7 @@ fn edge_at(digraph: &Digraph, reading: Reading, node: usize, place: usize) -> Op
                 None
             }
         }
-        Reading::Backward => digraph.in_edges(node).get(place).copied(),
+        Reading::Backward => number_at(digraph.in_edges(node), place),
     }
 }
 

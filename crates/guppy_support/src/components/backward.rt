@@ -119,7 +119,7 @@ fn source(graph: &Digraph, node: usize, place: usize) -> usize
     ensures edge { HasEdge graph.now.edges result node }
 {
     graph.facts();
-    graph.edge(graph.in_edges(node)[place]).from
+    graph.edge(graph.in_edges(node)[place] as usize).from
 }
 
 /// The rank of each node's component, and how many ranks there are. It takes the memory of two lists.

@@ -45,7 +45,7 @@ fn zeroes(alloc: Global, count: usize) -> Result<Vec<u32>, AllocError>
 /// Adds the first node of the component of that rank, if there is one and no edge enters it.
 fn add_start(
     starts: &mut Queue,
-    members: &[usize],
+    members: &[u32],
     ranks: &[u32],
     outside: &[u32],
     held: &[u32],

@@ -49,13 +49,13 @@ fn pop_fresh(queue: &mut Queue, done: &IxBitSet) -> Option<usize>
 }
 
 /// The first place of the row, from that one on, at which a node stands that isn't done.
-fn fresh_from(row: &[usize], from: usize, done: &IxBitSet) -> Option<usize>
+fn fresh_from(row: &[u32], from: usize, done: &IxBitSet) -> Option<usize>
     requires nodes { (j : ℕ) → j < length row.now → slice_index row.now j < length done.now }
     ensures some { IfSome result (IsFreshPlace row.now done.now from) }
     ensures none { IfNone result ((j : ℕ) → from ≤ j → j < length row.now → IsDone done.now (slice_index row.now j)) }
 {
     for place in from..row.len() {
-        if !done.contains(row[place]) {
+        if !done.contains(row[place] as usize) {
             return Some(place);
         }
     }
@@ -63,17 +63,17 @@ fn fresh_from(row: &[usize], from: usize, done: &IxBitSet) -> Option<usize>
 }
 
 /// The first node of the row with no hold, or else the first.
-pub(crate) fn first_of(row: &[usize], held: &[u32]) -> usize
+pub(crate) fn first_of(row: &[u32], held: &[u32]) -> usize
     requires some { 0 < length row.now }
     requires nodes { (j : ℕ) → j < length row.now → slice_index row.now j < length held.now }
     ensures { IsFirst row.now held.now result }
 {
     for place in 0..row.len() {
-        if held[row[place]] == 0 {
-            return row[place];
+        if held[row[place] as usize] == 0 {
+            return row[place] as usize;
         }
     }
-    row[0]
+    row[0] as usize
 }
 
 /// The first node of that node's component with no hold, or else its first. A node that is alone is the first.
@@ -134,16 +134,16 @@ fn leave_held(held: &mut Vec<u32>, ready: &mut Queue, node: usize) -> Result<(),
 }
 
 /// The row of the component of that rank.
-pub(crate) fn row<'a>(groups: &'a Rows, ranks: &[u32], rank: usize, nodes: usize) -> &'a [usize]
+pub(crate) fn row<'a>(groups: &'a Rows, ranks: &[u32], rank: usize, nodes: usize) -> &'a [u32]
     requires rank { rank < nodes }
     requires packed { IsPacked nodes ranks.now groups.now.begins.items groups.now.numbers.items }
     ensures { result.now ≡ places rank ranks.now }
 {
-    &groups.numbers[groups.begins[rank]..groups.begins[rank + 1]]
+    &groups.numbers[groups.begins[rank] as usize..groups.begins[rank + 1] as usize]
 }
 
 /// The row of the component of that node.
-fn row_of<'a>(groups: &'a Rows, ranks: &[u32], node: usize, nodes: usize) -> &'a [usize]
+fn row_of<'a>(groups: &'a Rows, ranks: &[u32], node: usize, nodes: usize) -> &'a [u32]
     requires node { node < length ranks.now }
     requires small { slice_index ranks.now node < nodes }
     requires packed { IsPacked nodes ranks.now groups.now.begins.items groups.now.numbers.items }
@@ -190,7 +190,7 @@ impl Plan {
             return None;
         };
         self.next = place;
-        Some(members[place])
+        Some(members[place] as usize)
     }
 
     /// Passes an edge that leads to another component.
@@ -371,12 +371,7 @@ fn wait(ready: &mut Queue, held: &[u32], node: usize, start: usize) -> Result<()
 }
 
 /// The nodes of a row with no hold, but the start, are ready. A row of one node has the start alone.
-fn make_ready(
-    ready: &mut Queue,
-    row: &[usize],
-    held: &[u32],
-    start: usize,
-) -> Result<(), AllocError>
+fn make_ready(ready: &mut Queue, row: &[u32], held: &[u32], start: usize) -> Result<(), AllocError>
     requires nodes { (j : ℕ) → j < length row.now → slice_index row.now j < length held.now }
     requires none { ready.old ≡ [] }
     requires alone { length row.now ≡ 1 → slice_index row.now 0 ≡ start }
@@ -386,7 +381,7 @@ fn make_ready(
         return Ok(());
     }
     for place in 0..row.len() {
-        wait(ready, held, row[place], start)?;
+        wait(ready, held, row[place] as usize, start)?;
     }
     Ok(())
 }

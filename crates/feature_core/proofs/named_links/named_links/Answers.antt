@@ -1,27 +1,28 @@
-use Rattle.std.proofs.Common.{◌≡◌, ◌∙◌, ◌+◌, ◌∷◌, [], ap, arith, length, length-append}
-use Rattle.guppy_packages.specs.Rows.{Text}
+use Rattle.std.proofs.Common.{◌≡◌, ◌∙◌, ◌++◌, ap, arith, length, map, subst}
 use Rattle.guppy_packages.specs.Metadata.{package_number_of}
-use Rattle.feature_core.specs.inner.NamedEntries.{numbers_named}
-use Rattle.feature_core.specs.inner.NamedLinks.{entries_of, link_numbers}
-use Rattle.feature_core.proofs.GroupedLinks.{rows_next, rows_all, rows_under}
+use Rattle.feature_core.specs.inner.NamedLinks.{link_numbers}
+use Rattle.feature_core.proofs.RowLemmas.{Entry, AreRowsBefore, no_rows, next_row, all_rows, are_rows}
 use Rattle.feature_core.proofs.named_links.named_links.Goals as goal
+
+pub loop-ix-init : goal.loop-ix-init
+loop-ix-init c = no_rows c.args.graph.now c.in_ok-rows.rows c.in_ok-rows.ensures.names c.in_ok-rows.ensures.numbers c.in_ok-rows.ensures.spans
 
 pub loop-ix-preserved : goal.loop-ix-preserved
 loop-ix-preserved c =
     let t = c.args.graph.now in
-    let n = c.loop-ix.ix in
-    let rows = c.loop-ix.groups.items in
-    let row = c.in_ok-row.row in
-    let items = c.in_ok-push.ensures.items in
-    let here : (d : Text) → numbers_named d (entries_of row) ≡ link_numbers t n d = λ d.
-    c.in_ok-row.ensures d ∙ ap (λ g. link_numbers g (package_number_of c.package.result) d) c.package.ensures.graph ∙ ap (λ z. link_numbers t z d) c.package.ensures.number in
-    let long : length rows ≡ n = c.loop-ix.invariant.0 in (
-      ap length items ∙ length-append rows (row ∷ []) ∙ ap (λ z. z + 1) long,
-      λ p d l. ap (λ z. rows_under z p d) items ∙ rows_next t rows row n long c.loop-ix.invariant.1 here p d l,
-    )
+    let rows = c.loop-ix.rows in
+    let same = c.as_slice.ensures.value in
+    next_row t rows c.push.new.self c.loop-ix.ix c.fill_in_order.new.entries.items c.loop-ix.invariant
+    (c.in_ok-push.ensures.names ∙ ap (λ z. rows.names.items ++ map (λ (e : Entry). e.0) z) same)
+    (c.in_ok-push.ensures.numbers ∙ ap (λ z. rows.numbers.items ++ map (λ (e : Entry). e.1) z) same)
+    c.in_ok-push.ensures.spans c.in_ok-fill_in_order.ensures.sorted
+    (λ d. c.in_ok-fill_in_order.ensures.links d ∙ ap (λ g. link_numbers g (package_number_of c.package.result) d) c.package.ensures.graph ∙ ap (λ z. link_numbers t z d) c.package.ensures.number)
+
+pub invariant_of-result : goal.invariant_of-result
+invariant_of-result c = record { in_order = are_rows c.args.graph.now c.loop-ix.rows c.loop-ix.ix c.loop-ix.invariant }
 
 pub returns : goal.returns
 returns c =
     let t = c.args.graph.now in
     let n : c.loop-ix.ix ≡ length t.packages = omega (arith, c.package_count-ix-end.ensures) in
-    rows_all t c.facts.ensures c.loop-ix.groups.items (c.loop-ix.invariant.0 ∙ n) (λ p d l. c.loop-ix.invariant.1 p d (omega (arith, l, n)))
+    all_rows t c.facts.ensures c.loop-ix.rows (subst (AreRowsBefore t c.loop-ix.rows) n c.loop-ix.invariant)

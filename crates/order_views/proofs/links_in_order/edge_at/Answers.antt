@@ -1,6 +1,5 @@
 use Rattle.std.proofs.Common.{◌∙◌, ap, sym}
 use Rattle.std.specs.Prelude.{slice_get}
-use Rattle.order_views.proofs.Copied.{copied_is}
 use Rattle.order_views.proofs.Places.{get_range, get_range_past, starting_forward, starting_backward}
 use Rattle.order_views.proofs.links_in_order.edge_at.Goals as goal
 
@@ -16,6 +15,5 @@ returns-else-place-numbers-clause-edge c =
 
 pub returns-in-Backward-clause-edge : goal.returns-in-Backward-clause-edge
 returns-in-Backward-clause-edge c =
-    c.copied.ensures
-    ∙ copied_is c.in_edges.result.now c.args.place c.get.result c.get.ensures.lookup.0 c.get.ensures.lookup.1
+    c.number_at.ensures.number
     ∙ ap (λ xs. slice_get xs c.args.place) (c.in_edges.ensures ∙ starting_backward c.args.reading c.args.digraph.now.edges c.args.node c.in-Backward.is)
