@@ -4,7 +4,7 @@ use Rattle.std.specs.Prelude.{filter, not, ◌&&◌}
 use Rattle.std.specs.Borrow.{Bor}
 use Rattle.std.specs.List.{zip}
 use Rattle.std.specs.List.Sorted.{IsSortedByKey, IsPartitionPoint, IsPartitionedBy, IsStableByKey}
-use Rattle.std.specs.Cmp.Lexicographic.{slice_cmp, texts_ties}
+use Rattle.std.specs.Cmp.Lexicographic.{bytes_decides, slice_cmp, texts_ties}
 use Rattle.std.specs.Ordering.{is_eq, is_gt, is_lt, nat_cmp, ordering_reverse}
 use Rattle.std.specs.declared.cmp.Ordering.{Ordering}
 use Rattle.std.specs.declared.cmp.Ordering.TheVariants.{Less, Equal, Greater}
@@ -160,3 +160,33 @@ module _ (name : Text) where
       let n : k < end = omega (arith, o, l) in
       equal_by name (get_or names k d).now ∙ by_neither _ (sym (ap (is_below name) (get_or-take end names k d n)) ∙ low.1 k d m (omega (arith, n, length-take-le end names within))) (high.0 k d (omega arith) n))
       (λ k d m o. equal_by name (get_or names k d).now ∙ by_greater _ (high.1 k d (omega (arith, m, l)) o))
+
+-- the numbers from the first place of a name up to the first place of another one are those beside the name
+pub scanned : (name : Text) (names : List (Bor (List ℕ))) (numbers : List ℕ) (first end : ℕ) → AreOrdered names → length names ≡ length numbers → first ≤ end → end ≤ length names
+    → ((k : ℕ) (d : Bor (List ℕ)) → k < first → bytes_eq name (get_or names k d).now ≡ false)
+    → ((d : Bor (List ℕ)) → first < length names → bytes_eq name (get_or names first d).now ≡ true)
+    → ((k : ℕ) (d : Bor (List ℕ)) → first ≤ k → k < end → bytes_eq name (get_or names k d).now ≡ true)
+    → ((d : Bor (List ℕ)) → end < length names → bytes_eq name (get_or names end d).now ≡ false)
+    → take (end - first) (drop first numbers) ≡ numbers_named name (zip names numbers)
+scanned name names numbers first end ordered long l within before found inside ended =
+    cut name names numbers first (end - first) long (omega (arith, l, within)) before (λ k d m o. inside k d m (omega (arith, l, o)))
+    (λ k d m o. passed_by k d (omega (arith, l, m)) o (bytes_eq name (get_or names k d).now) refl)
+  where
+    neither : (r s : Bool) → r ≡ false → s ≡ false → not r && not s ≡ true
+    neither false false p q = refl
+    neither true s p q = cc
+    neither false true p q = cc
+
+    clash : {P : Type 0} → true ≡ false → P
+    clash e = cc
+
+    -- past the end stands no such name, since what stands at the end would stand between two of them
+    passed_by : (k : ℕ) (d : Bor (List ℕ)) → end ≤ k → k < length names → (b : Bool) → bytes_eq name (get_or names k d).now ≡ b → bytes_eq name (get_or names k d).now ≡ false
+    passed_by k d m o false e = e
+    passed_by k d m o true e =
+        let last : name ≡ (get_or names k d).now = (bytes_decides name (get_or names k d).now).0 e in
+        let start : name ≡ (get_or names first d).now = (bytes_decides name (get_or names first d).now).0 (found d (omega (arith, l, m, o))) in
+        let stop : Text = (get_or names end d).now in
+        let above : is_lt (compare stop name) ≡ false = ap (λ z. is_lt (compare stop z)) start ∙ far names ordered first end d l (omega (arith, m, o)) in
+        let below : is_lt (compare name stop) ≡ false = ap (λ z. is_lt (compare z stop)) last ∙ far names ordered end k d m o in
+        clash (sym (sym (ties_are_equal name stop) ∙ neither (is_lt (compare name stop)) (is_lt (compare stop name)) below above) ∙ ended d (omega (arith, m, o)))

@@ -18,7 +18,8 @@ use std::marker::Model;
 pub(crate) struct EdgeList {
     pool: Vec<FeatureEdge>,
     places: Vec<u32>,
-    recent: Vec<u32>,
+    // the place and the mark of an edge of each slot
+    recent: Vec<(u32, u32)>,
 }
 
 impl Model for EdgeList {
@@ -30,7 +31,7 @@ impl Model for EdgeList {
 
     ghost view = { λ l. facts_at l.pool.items l.places.items };
 
-    ghost invariant = { λ l. AreWithin l.pool.items l.places.items × (length l.recent.items ≡ 8192) };
+    ghost invariant = { λ l. AreWithin l.pool.items l.places.items × (length l.recent.items ≡ 4096) };
 }
 
 /// Whether the link is over optional declarations, as a number.
@@ -43,12 +44,10 @@ fn half_slot(link: &ConditionalLinkImpl) -> usize
     }
 }
 
-/// The first package link of a link, as a number that differs for links near one another.
-fn near_slot(link: &ConditionalLinkImpl) -> usize
-    ensures { result < 512 }
-{
+/// The first package link of a link.
+fn first_link(link: &ConditionalLinkImpl) -> usize {
     match link.package_link_ixs().first() {
-        Some(link_ix) => *link_ix % 512,
+        Some(link_ix) => *link_ix,
         None => 0,
     }
 }
@@ -56,14 +55,14 @@ fn near_slot(link: &ConditionalLinkImpl) -> usize
 /// The slot of an edge of a kind over a link.
 fn link_slot(link: &ConditionalLinkImpl, kind: usize) -> usize
     requires { kind < 8 }
-    ensures { result < 8192 }
+    ensures { result < 4096 }
 {
-    near_slot(link) * 16 + kind * 2 + half_slot(link)
+    (first_link(link) % 256) * 16 + kind * 2 + half_slot(link)
 }
 
 /// The slot of the table of recent places where an edge is looked up.
 fn edge_slot(edge: &FeatureEdge) -> usize
-    ensures { result < 8192 }
+    ensures { result < 4096 }
 {
     match edge {
         FeatureEdge::FeatureToBase => 0,
@@ -74,6 +73,16 @@ fn edge_slot(edge: &FeatureEdge) -> usize
             SlashForm::Strong => link_slot(link, 3),
             SlashForm::Weak(_) => link_slot(link, 4),
         },
+    }
+}
+
+/// The mark of an edge: the low bits of its first package link. Most edges that say something else have another mark.
+fn edge_mark(edge: &FeatureEdge) -> u32 {
+    match edge {
+        FeatureEdge::FeatureToBase | FeatureEdge::NamedFeature => 0,
+        FeatureEdge::DependenciesSection(link)
+        | FeatureEdge::NamedFeatureDepColon(link)
+        | FeatureEdge::NamedFeatureWithSlash { link, .. } => (first_link(link) % 4294967296) as u32,
     }
 }
 
@@ -103,21 +112,22 @@ fn place_after(pool: &mut Vec<FeatureEdge>, edge: FeatureEdge) -> Result<u32, Al
 /// The place of an edge that says the same, where it's the one in the edge's slot; else the edge is added.
 fn place_of(
     pool: &mut Vec<FeatureEdge>,
-    recent: &mut Vec<u32>,
+    recent: &mut Vec<(u32, u32)>,
     edge: FeatureEdge,
 ) -> Result<u32, AllocError>
-    requires { length recent.old.items ≡ 8192 }
+    requires { length recent.old.items ≡ 4096 }
     ensures kept { Keeps pool.old.items pool.new.items }
     ensures place { IfOk result (λ place. slice_get (map edge_facts pool.new.items) place ≡ Some (edge_facts edge)) }
-    ensures long { length recent.new.items ≡ 8192 }
+    ensures long { length recent.new.items ≡ 4096 }
 {
     let slot = edge_slot(&edge);
-    let near = recent[slot];
-    if is_at(pool.as_slice(), near as usize, &edge) {
+    let mark = edge_mark(&edge);
+    let (near, near_mark) = recent[slot];
+    if near_mark == mark && is_at(pool.as_slice(), near as usize, &edge) {
         return Ok(near);
     }
     let place = place_after(pool, edge)?;
-    recent[slot] = place;
+    recent[slot] = (place, mark);
     Ok(place)
 }
 
@@ -126,7 +136,7 @@ impl EdgeList {
     pub(crate) fn new(alloc: Global) -> Result<EdgeList, AllocError>
         ensures { IfOk result (λ edges. edges ≡ []) }
     {
-        let recent = vec![in alloc; 0u32; 8_192]?;
+        let recent = vec![in alloc; (0u32, 0u32); 4_096]?;
         Ok(EdgeList {
             pool: Vec::new(alloc),
             places: Vec::new(alloc),

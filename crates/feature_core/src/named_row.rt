@@ -1,8 +1,10 @@
 //! Rows of names, with a number beside each name.
-ghost use Rattle.std.specs.Prelude.{◌≡◌, ◌++◌, ◌∷◌, [], IfOk, OnOk, length, map, not};
+ghost use Rattle.std.specs.Prelude.{◌≡◌, ◌++◌, ◌∷◌, ◌<◌, ◌≤◌, ℕ, [], false, get_or, true, IfOk, List, OnOk, length, map, not};
+ghost use Rattle.std.specs.Borrow.{Bor};
 ghost use Rattle.std.specs.List.{zip};
 ghost use Rattle.std.specs.Cmp.Lexicographic.{slice_cmp};
 ghost use Rattle.std.specs.Ordering.{is_gt, is_lt, nat_cmp};
+ghost use Rattle.std.specs.Str.{bytes_eq};
 ghost use Rattle.feature_core.specs.inner.NamedEntries.{AreOrdered, AreRows, numbers_in_row, numbers_named};
 
 use std::alloc::{AllocError, Global};
@@ -43,8 +45,52 @@ fn push_numbers(numbers: &mut Vec<usize>, entries: &[(&str, usize)]) -> Result<(
     numbers.extend(entries.iter().map(|entry| entry.1))
 }
 
-/// The numbers beside a name, among names in order.
-fn numbers_beside<'a>(names: &[&str], numbers: &'a [usize], name: &str) -> &'a [usize]
+/// Up to how many names are looked through one by one.
+const FEW: usize = 12;
+
+/// The first place of a name, or how many names there are where it isn't among them.
+fn first_place(names: &[&str], name: &str) -> usize
+    ensures within { result ≤ length names.now }
+    ensures before { (k : ℕ) (d : Bor (List ℕ)) → k < result → bytes_eq name.now (get_or names.now k d).now ≡ false }
+    ensures found { (d : Bor (List ℕ)) → result < length names.now → bytes_eq name.now (get_or names.now result d).now ≡ true }
+{
+    for place in 0..names.len() {
+        if name == names[place] {
+            return place;
+        }
+    }
+    names.len()
+}
+
+/// The first place of another name, from a start on, or how many names there are where no other comes.
+fn end_place(names: &[&str], start: usize, name: &str) -> usize
+    requires { start ≤ length names.now }
+    ensures from { start ≤ result }
+    ensures within { result ≤ length names.now }
+    ensures inside { (k : ℕ) (d : Bor (List ℕ)) → start ≤ k → k < result → bytes_eq name.now (get_or names.now k d).now ≡ true }
+    ensures ended { (d : Bor (List ℕ)) → result < length names.now → bytes_eq name.now (get_or names.now result d).now ≡ false }
+{
+    for place in start..names.len() {
+        if name != names[place] {
+            return place;
+        }
+    }
+    names.len()
+}
+
+/// The numbers beside a name, among names in order, which are looked through one by one.
+fn numbers_scanned<'a>(names: &[&str], numbers: &'a [usize], name: &str) -> &'a [usize]
+    requires ordered { AreOrdered names.now }
+    requires beside { length names.now ≡ length numbers.now }
+    ensures { result.now ≡ numbers_named name.now (zip names.now numbers.now) }
+{
+    let first = first_place(names, name);
+    let end = end_place(names, first, name);
+    &numbers[first..end]
+}
+
+/// The numbers beside a name, among names in order, which are searched by halves.
+fn numbers_halved<'a>(names: &[&str], numbers: &'a [usize], name: &str) -> &'a [usize]
     requires ordered { AreOrdered names.now }
     requires beside { length names.now ≡ length numbers.now }
     ensures { result.now ≡ numbers_named name.now (zip names.now numbers.now) }
@@ -61,6 +107,19 @@ fn numbers_beside<'a>(names: &[&str], numbers: &'a [usize], name: &str) -> &'a [
         { text.cmp(&name).is_lt() },
     );
     &numbers[first..end]
+}
+
+/// The numbers beside a name, among names in order.
+fn numbers_beside<'a>(names: &[&str], numbers: &'a [usize], name: &str) -> &'a [usize]
+    requires ordered { AreOrdered names.now }
+    requires beside { length names.now ≡ length numbers.now }
+    ensures { result.now ≡ numbers_named name.now (zip names.now numbers.now) }
+{
+    if names.len() <= FEW {
+        numbers_scanned(names, numbers, name)
+    } else {
+        numbers_halved(names, numbers, name)
+    }
 }
 
 impl<'g> NamedRows<'g> {

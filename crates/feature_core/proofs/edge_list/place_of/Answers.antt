@@ -7,4 +7,4 @@ pub returns-then-is_at-clause-kept : goal.returns-then-is_at-clause-kept
 returns-then-is_at-clause-kept c = λ p f h. h
 
 pub returns-then-is_at-clause-place : goal.returns-then-is_at-clause-place
-returns-then-is_at-clause-place c = subst (λ z. slice_get (map edge_facts z) c.index-near.result.now ≡ Some (edge_facts c.args.edge)) c.as_slice.ensures.value (c.is_at.ensures.0 c.if-is_at.true)
+returns-then-is_at-clause-place c = subst (λ z. slice_get (map edge_facts z) c.index.result.now.0 ≡ Some (edge_facts c.args.edge)) c.as_slice.ensures.value (c.is_at.ensures.0 c.if-is_at.true)

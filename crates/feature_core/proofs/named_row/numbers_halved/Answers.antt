@@ -1,7 +1,7 @@
 use Rattle.std.proofs.Common.{of_calls, rules}
 use Rattle.std.proofs.lemmas.Fn.{always_returns_same}
 use Rattle.feature_core.proofs.NamedEntryLemmas.{is_up_to, is_below, parted_up_to, parted_below, between}
-use Rattle.feature_core.proofs.named_row.numbers_beside.Goals as goal
+use Rattle.feature_core.proofs.named_row.numbers_halved.Goals as goal
 
 pub returns : goal.returns
 returns c =
