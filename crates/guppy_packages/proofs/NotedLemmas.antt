@@ -1,15 +1,16 @@
 -- The link of a pair is the one that is noted where it leads to.
-use Rattle.std.proofs.Common.{◌≡◌, ◌≢◌, ◌⊎◌, inl, inr, ℕ, zero, suc, ◌+◌, ◌<◌, ◌≤◌, List, [], ◌∷◌, ◌++◌, Bool, true, false, cond, ◌||◌, not, Option, None, Some, Ok, Err, Result, map, get_or, length, refl, ap, sym, ◌∙◌, subst, arith}
+use Rattle.std.proofs.Common.{◌≡◌, ◌≢◌, ◌⊎◌, ◌↔◌, inl, inr, ℕ, zero, suc, ◌+◌, ◌<◌, ◌≤◌, List, [], ◌∷◌, ◌++◌, Bool, true, false, cond, ◌||◌, not, Option, None, Some, Ok, Err, Result, map, get_or, length, refl, ap, sym, ◌∙◌, subst, arith}
 use Rattle.std.specs.Prelude.{slice_get, slice_set, OnOk, ◌==◌, ◌&&◌}
 use Rattle.std.specs.List.{list_any, position_or_len}
 use Rattle.std.specs.Option.{option_map_or}
 use Rattle.std.proofs.lemmas.Bool.{eq-eqb, eqb-true}
-use Rattle.std.proofs.lemmas.List.{length-map}
+use Rattle.std.proofs.lemmas.List.{length-append, length-map, length-set}
 use Rattle.std.proofs.lemmas.Option.{slice_get_read, slice_get_within}
 use Rattle.guppy_packages.specs.Stored.{link_table}
 use Rattle.guppy_packages.specs.Tables.{LinkTable}
 use Rattle.guppy_packages.specs.declared.contents.LinkData.{LinkData}
 use Rattle.guppy_packages.proofs.Lists.{slice_get-map}
+use Rattle.guppy_packages.specs.inner.Begins.{IsBegin}
 use Rattle.guppy_packages.specs.inner.Noted.{AreNoted}
 use Rattle.guppy_packages.specs.inner.Steps.{joins}
 
@@ -95,26 +96,32 @@ link_there p es at e h is = go (slice_get (map link_table es) at) refl h
         (there, ap p (sym same) ∙ t)
 
 -- no link was made, and none is noted
-pub noted_none : (from : ℕ) (last : List ℕ) → AreNoted from [] last
-noted_none from last = λ k l h. cc
+pub noted_none : (from : ℕ) (last : List ℕ) → AreNoted from [] last 0
+noted_none from last = record {
+  each = λ k l h. cc;
+  begin = record { within = omega arith; before = λ k l h. cc };
+}
 
--- the rows of a later package follow
-pub noted_later : (from later : ℕ) (links : List LinkTable) (last : List ℕ) → from ≤ later → AreNoted from links last → AreNoted later links last
-noted_later from later links last le noted = λ k l h.
-    let p = noted k l h in
-    let below : l.from ≤ from = p.0 in
-    let within : l.from ≤ later = omega arith in
-    (within, λ e. let same : l.from ≡ from = omega arith in p.1 same)
+-- the rows of a later package follow, whose links begin there
+pub noted_later : (from later : ℕ) (links : List LinkTable) (last : List ℕ) (first next : ℕ) → from ≤ later → AreNoted from links last first → IsBegin links later next → AreNoted later links last next
+noted_later from later links last first next le noted begin = record {
+  each = λ k l h.
+      let p = noted.each k l h in
+      let below : l.from ≤ from = p.0 in
+      let within : l.from ≤ later = omega arith in
+      (within, λ e. let same : l.from ≡ from = omega arith in p.1 same);
+  begin = begin;
+}
 
 pub on_ok : {A E : Type 0} (r : Result A E) (P : Type 0) → P → OnOk r P
 on_ok (Ok x) P h = h
 on_ok (Err e) P h = tt
 
-module _ (from to : ℕ) (links : List LinkTable) (last : List ℕ) (noted : AreNoted from links last) (at : ℕ) (is : slice_get last to ≡ Some at) where
+module _ (from to : ℕ) (links : List LinkTable) (last : List ℕ) (first : ℕ) (noted : AreNoted from links last first) (at : ℕ) (is : slice_get last to ≡ Some at) where
   only : (k : ℕ) (l : LinkTable) → slice_get links k ≡ Some l → joins from to l ≡ true → k ≡ at
   only k l g t =
       let e = joins_ends from to l t in
-      let there : slice_get last to ≡ Some k = subst (λ n. slice_get last n ≡ Some k) (sym e.1) ((noted k l g).1 (sym e.0)) in
+      let there : slice_get last to ≡ Some k = subst (λ n. slice_get last n ≡ Some k) (sym e.1) ((noted.each k l g).1 (sym e.0)) in
       cc
 
   -- the link at that number joins the pair
@@ -122,12 +129,22 @@ module _ (from to : ℕ) (links : List LinkTable) (last : List ℕ) (noted : Are
   noted_link l g t = first_at (joins from to) links at l g t only
 
   -- the link keeps its ends
-  pub noted_joined : (l new : LinkTable) → slice_get links at ≡ Some l → new.from ≡ l.from → new.to ≡ l.to → AreNoted from (slice_set links at new) last
-  noted_joined l new g f t = λ k m h. go k m (set_at links at new k m h)
+  pub noted_joined : (l new : LinkTable) → slice_get links at ≡ Some l → new.from ≡ l.from → new.to ≡ l.to → AreNoted from (slice_set links at new) last first
+  noted_joined l new g f t = record {
+    each = λ k m h. go k m (set_at links at new k m h);
+    begin = record {
+      within = omega (arith, noted.begin.within, length-set links at new);
+      before = λ k m h. ends k m (set_at links at new k m h);
+    };
+  }
     where
+      ends : (k : ℕ) (m : LinkTable) → (slice_get links k ≡ Some m) ⊎ ((k ≡ at) × (m ≡ new)) → (k < first) ↔ (m.from < from)
+      ends k m (inl h) = noted.begin.before k m h
+      ends k m (inr e) = rw (e.0, e.1, f) (noted.begin.before at l g)
+
       go : (k : ℕ) (m : LinkTable) → (slice_get links k ≡ Some m) ⊎ ((k ≡ at) × (m ≡ new)) → (m.from ≤ from) × (m.from ≡ from → slice_get last m.to ≡ Some k)
-      go k m (inl h) = noted k m h
-      go k m (inr e) = rw (e.0, e.1, f, t) (noted at l g)
+      go k m (inl h) = noted.each k m h
+      go k m (inr e) = rw (e.0, e.1, f, t) (noted.each at l g)
 
   -- no link joins the pair
   module _ (missing : option_map_or (joins from to) (slice_get links at) false ≡ false) where
@@ -141,14 +158,26 @@ module _ (from to : ℕ) (links : List LinkTable) (last : List ℕ) (noted : Are
     pub missing_link : list_any (joins from to) links ≡ false
     missing_link = none_at (joins from to) links never
 
-    pub noted_new : (new : LinkTable) → new.from ≡ from → new.to ≡ to → to < length last → AreNoted from (links ++ new ∷ []) (slice_set last to (length links))
-    noted_new new f t within = λ k m h. go k m (pushed_at links new k m h)
+    pub noted_new : (new : LinkTable) → new.from ≡ from → new.to ≡ to → to < length last → AreNoted from (links ++ new ∷ []) (slice_set last to (length links)) first
+    noted_new new f t within = record {
+      each = λ k m h. go k m (pushed_at links new k m h);
+      begin = record {
+        within = omega (arith, noted.begin.within, length-append links (new ∷ []));
+        before = λ k m h. ends k m (pushed_at links new k m h);
+      };
+    }
       where
+        ends : (k : ℕ) (m : LinkTable) → (slice_get links k ≡ Some m) ⊎ ((k ≡ length links) × (m ≡ new)) → (k < first) ↔ (m.from < from)
+        ends k m (inl h) = noted.begin.before k m h
+        ends k m (inr e) =
+            let same : m.from ≡ from = ap (λ (l : LinkTable). l.from) e.1 ∙ f in
+            (λ less. absurd (omega (arith, less, e.0, noted.begin.within)), λ less. absurd (omega (arith, less, same)))
+
         other : (k : ℕ) (m : LinkTable) → slice_get links k ≡ Some m → m.from ≡ from → m.to ≢ to
         other k m g e = λ same. never k m g (rw (eq-eqb from m.from (sym e), eq-eqb to m.to (sym same)))
 
         go : (k : ℕ) (m : LinkTable) → (slice_get links k ≡ Some m) ⊎ ((k ≡ length links) × (m ≡ new)) → (m.from ≤ from) × (m.from ≡ from → slice_get (slice_set last to (length links)) m.to ≡ Some k)
-        go k m (inl h) = ((noted k m h).0, λ e. read_other last to m.to (length links) (other k m h e) ∙ (noted k m h).1 e)
+        go k m (inl h) = ((noted.each k m h).0, λ e. read_other last to m.to (length links) (other k m h e) ∙ (noted.each k m h).1 e)
         go k m (inr e) =
             let low : new.from ≤ from = omega (arith, f) in
             rw (e.0, e.1) (low, λ _. rw t (read_set last to (length links) within))

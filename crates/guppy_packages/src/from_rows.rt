@@ -1,21 +1,23 @@
 //! From rows to a package graph, in two passes.
-ghost use Rattle.std.specs.Prelude.{◌≡◌, ℕ, ◌+◌, ◌-◌, ◌<◌, ◌≤◌, ◌^◌, ◌∷◌, [], Ok, IfOk, IfErr, OnOk, false, length, map, slice_get};
+ghost use Rattle.std.specs.Prelude.{◌≡◌, ℕ, ◌+◌, ◌-◌, ◌<◌, ◌≤◌, ◌^◌, ◌∷◌, [], Ok, IfOk, IfErr, OnOk, Some, false, length, map, slice_get};
 ghost use Rattle.std.specs.Option.{option_map, option_map_or};
 ghost use Rattle.std.specs.String.{string_bytes};
 ghost use Rattle.guppy_packages.specs.Graph.{NamesRow, Reads, first_or, faults_by, row_fault, link_fault, packages_of, links_of, dependencies_of, tables_of};
 ghost use Rattle.guppy_packages.specs.NamedFeature.{feature_table};
 ghost use Rattle.guppy_packages.specs.Platform.{platform_specs, platform_text};
 ghost use Rattle.guppy_packages.specs.Rows.{row_text, texts};
+ghost use Rattle.guppy_packages.specs.inner.Begins.{IsBegin};
 ghost use Rattle.guppy_packages.specs.inner.Noted.{AreNoted};
 ghost use Rattle.guppy_packages.specs.inner.Steps.{Takes, add_package, add_feature, add_name, add_link, begun_after, change_last, joined_link, joins, first_step, second_step, with_feature, with_name};
 ghost use Rattle.guppy_packages.specs.Stored.{declared, link_table, link_tables, package_tables};
-ghost use Rattle.guppy_packages.specs.Tables.{package_place};
+ghost use Rattle.guppy_packages.specs.Tables.{LinkTable, package_place};
 
 use crate::contents::{Link, LinkData, PackageData};
 use crate::declaration::Declaration;
 use crate::link_begins::link_begins;
 use crate::name_set::NameSet;
 use crate::named_feature::NamedFeature;
+use crate::narrow::narrow;
 use crate::package_graph::PackageGraph;
 use crate::package_id::PackageId;
 use crate::package_order::package_order;
@@ -212,10 +214,23 @@ fn declare(
     })
 }
 
-/// Whether the link of this number joins the pair.
-fn joins_pair(links: &[Link], at: usize, from: usize, to: usize) -> bool
+/// What the second pass notes of the links so far.
+#[derive(Drop)]
+struct Noted {
+    /// For each package the number of the last link that leads to it.
+    last: Vec<u32>,
+    /// Where the links of the package at hand begin.
+    first: usize,
+}
+
+/// Whether the link of this number joins the pair. Those before `first` leave other packages, and aren't looked at.
+fn joins_pair(links: &[Link], first: usize, at: usize, from: usize, to: usize) -> bool
+    requires { IsBegin (link_tables links.now) from first }
     ensures { result ≡ option_map_or (joins from to) (slice_get (link_tables links.now) at) false }
 {
+    if at < first {
+        return false;
+    }
     match links.get(at) {
         Some((pair, _)) => from == pair.0 && to == pair.1,
         None => false,
@@ -233,31 +248,31 @@ fn join_link(link: &mut LinkData, name: &str, declaration: Declaration) -> Resul
     Ok(())
 }
 
-/// A Dep row of a pair of packages. `last` has for each package the number of the last link that leads to it: no link leaves a
-/// package after the first of the pair, so only that link can be the pair's.
+/// A Dep row of a pair of packages. No link leaves a package after the first of the pair, so only the last link that leads to the
+/// second can be the pair's.
 fn push_link(
     alloc: Global,
     links: &mut Vec<Link>,
-    last: &mut Vec<usize>,
+    noted: &mut Noted,
     from: usize,
     to: usize,
     name: &str,
     declaration: Declaration,
 ) -> Result<(), RowFault>
-    requires within { to < length last.old.items }
-    requires noted { AreNoted from (link_tables links.old.items) last.old.items }
+    requires within { to < length noted.old.last.items }
+    requires noted { AreNoted from (link_tables links.old.items) noted.old.last.items noted.old.first }
     ensures tables { Takes (link_tables links.new.items) result (add_link from to name.now (declared declaration) (link_tables links.old.items)) }
-    ensures noted { OnOk result (AreNoted from (link_tables links.new.items) last.new.items) }
-    ensures count { OnOk result (length last.new.items ≡ length last.old.items) }
+    ensures noted { OnOk result (AreNoted from (link_tables links.new.items) noted.new.last.items noted.new.first) }
+    ensures count { OnOk result (length noted.new.last.items ≡ length noted.old.last.items) }
 {
-    let at = last[to];
-    if joins_pair(links, at, from, to) {
+    let at = noted.last[to] as usize;
+    if joins_pair(links, noted.first, at, from, to) {
         return join_link(&mut links[at].1, name, declaration);
     }
     let name = String::from_str(alloc, name)?;
     let mut declarations = SmallVec::new(alloc);
     declarations.push(declaration)?;
-    last[to] = links.len();
+    noted.last[to] = narrow(links.len())?;
     links.push(((from, to), LinkData { name, declarations }))?;
     Ok(())
 }
@@ -274,15 +289,15 @@ fn link_row(
     alloc: Global,
     packages: &TextMap<PackageId, PackageData>,
     links: &mut Vec<Link>,
-    last: &mut Vec<usize>,
+    noted: &mut Noted,
     begun: usize,
     row: Row,
 ) -> Result<(), RowFault>
-    requires count { length last.old.items ≡ length (package_tables packages.now) }
-    requires noted { AreNoted (begun - 1) (link_tables links.old.items) last.old.items }
+    requires count { length noted.old.last.items ≡ length (package_tables packages.now) }
+    requires noted { AreNoted (begun - 1) (link_tables links.old.items) noted.old.last.items noted.old.first }
     ensures tables { Takes (link_tables links.new.items) result (second_step (package_tables packages.now) begun (link_tables links.old.items) (row_text row.entry)) }
-    ensures noted { OnOk result (AreNoted (begun - 1) (link_tables links.new.items) last.new.items) }
-    ensures count { OnOk result (length last.new.items ≡ length last.old.items) }
+    ensures noted { OnOk result (AreNoted (begun - 1) (link_tables links.new.items) noted.new.last.items noted.new.first) }
+    ensures count { OnOk result (length noted.new.last.items ≡ length noted.old.last.items) }
 {
     let Row::Dep {
         name,
@@ -301,7 +316,7 @@ fn link_row(
     };
     let declaration = declare(alloc, kind, optional, platform, default_features, features)?;
     let from = begun.saturating_sub(1);
-    push_link(alloc, links, last, from, to, name, declaration)
+    push_link(alloc, links, noted, from, to, name, declaration)
 }
 
 /// How many packages began, with this row.
@@ -317,6 +332,19 @@ fn count(begun: usize, row: Row) -> usize
     }
 }
 
+/// Where the links of the package at hand begin, with this row behind these links. Those of the first package begin the list, and those
+/// of any other come behind all that there are.
+fn first_link(links: &[Link], first: usize, begun: usize, row: Row) -> usize
+    requires ends { (k : ℕ) (l : LinkTable) → slice_get (link_tables links.now) k ≡ Some l → l.from ≤ begun - 1 }
+    requires begin { IsBegin (link_tables links.now) (begun - 1) first }
+    ensures { IsBegin (link_tables links.now) (begun_after begun (row_text row.entry) - 1) result }
+{
+    match row {
+        Row::Package { .. } if begun > 0 => links.len(),
+        _ => first,
+    }
+}
+
 /// The second pass. Rows of a package stand together, so the last link to each package tells whether a pair has come before. No link
 /// comes after it, so the list keeps no more room than it needs.
 fn take_links<S: RowSource>(
@@ -328,13 +356,17 @@ fn take_links<S: RowSource>(
     ensures row { IfErr result (NamesRow (S.rows source.now)) }
 {
     let mut links = Vec::new(alloc);
-    let mut last = vec![in alloc; 0usize; packages.len()]?;
+    let mut noted = Noted {
+        last: vec![in alloc; 0u32; packages.len()]?,
+        first: 0,
+    };
     let mut begun = 0;
     for row in 0..source.row_count() {
         let given = source.row(row);
-        if let Err(fault) = link_row(alloc, packages, &mut links, &mut last, begun, given) {
+        if let Err(fault) = link_row(alloc, packages, &mut links, &mut noted, begun, given) {
             return Err(RowError::new(row, fault));
         }
+        noted.first = first_link(&links, noted.first, begun, given);
         begun = count(begun, given);
     }
     links.shrink_to_fit();

@@ -13,48 +13,48 @@ use Rattle.guppy_packages.proofs.from_rows.push_link.Goals as goal
 pub returns-then-joins_pair-clause-tables : goal.returns-then-joins_pair-clause-tables
 returns-then-joins_pair-clause-tables c =
     let es = c.args.links.now.items in
-    let at = c.index-at.result.now in
+    let at = c.index.result.now in
     let from = c.args.from in
     let to = c.args.to in
-    let is : slice_get c.args.last.now.items to ≡ Some at = slice_get_read c.args.last.now.items (length c.args.last.now.items) to at refl c.requires.within c.index-at.ensures in
+    let is : slice_get c.args.noted.now.last.items to ≡ Some at = slice_get_read c.args.noted.now.last.items (length c.args.noted.now.last.items) to at refl c.requires.within c.index.ensures in
     let entry = c.index_mut.result.now in
     let passes : option_map_or (joins from to) (slice_get (link_tables es) at) false ≡ true = ap (λ ls. option_map_or (joins from to) (slice_get (link_tables ls) at) false) (sym c.deref.ensures.value) ∙ sym c.joins_pair.ensures ∙ c.if-joins_pair.true in
     let there = link_there (joins from to) es at entry passes c.index_mut.ensures.value in
-    let place = noted_link from to (link_tables es) c.args.last.now.items c.requires.noted at is (link_table entry) there.0 there.1 in
+    let place = noted_link from to (link_tables es) c.args.noted.now.last.items c.args.noted.now.first c.requires.noted at is (link_table entry) there.0 there.1 in
     rw (map-set link_table es at (entry.0, c.join_link.new.link)) (link_joined from to c.args.name.now (declared c.args.declaration) (link_tables es) at (link_table entry) (link_table (entry.0, c.join_link.new.link)) c.join_link.result place there.0 (c.join_link.ensures entry.0))
 
 pub returns-then-joins_pair-clause-noted : goal.returns-then-joins_pair-clause-noted
 returns-then-joins_pair-clause-noted c =
     let es = c.args.links.now.items in
-    let at = c.index-at.result.now in
+    let at = c.index.result.now in
     let from = c.args.from in
     let to = c.args.to in
-    let is : slice_get c.args.last.now.items to ≡ Some at = slice_get_read c.args.last.now.items (length c.args.last.now.items) to at refl c.requires.within c.index-at.ensures in
+    let is : slice_get c.args.noted.now.last.items to ≡ Some at = slice_get_read c.args.noted.now.last.items (length c.args.noted.now.last.items) to at refl c.requires.within c.index.ensures in
     let entry = c.index_mut.result.now in
     let passes : option_map_or (joins from to) (slice_get (link_tables es) at) false ≡ true = ap (λ ls. option_map_or (joins from to) (slice_get (link_tables ls) at) false) (sym c.deref.ensures.value) ∙ sym c.joins_pair.ensures ∙ c.if-joins_pair.true in
     let there = link_there (joins from to) es at entry passes c.index_mut.ensures.value in
-    on_ok c.join_link.result _ (subst (λ ls. AreNoted from ls c.args.last.now.items) (sym (map-set link_table es at (entry.0, c.join_link.new.link))) (noted_joined from to (link_tables es) c.args.last.now.items c.requires.noted at is (link_table entry) (link_table (entry.0, c.join_link.new.link)) there.0 refl refl))
+    on_ok c.join_link.result _ (subst (λ ls. AreNoted from ls c.args.noted.now.last.items c.args.noted.now.first) (sym (map-set link_table es at (entry.0, c.join_link.new.link))) (noted_joined from to (link_tables es) c.args.noted.now.last.items c.args.noted.now.first c.requires.noted at is (link_table entry) (link_table (entry.0, c.join_link.new.link)) there.0 refl refl))
 
 pub returns-clause-tables : goal.returns-clause-tables
 returns-clause-tables c =
     let es = c.args.links.now.items in
-    let at = c.index-at.result.now in
+    let at = c.index.result.now in
     let from = c.args.from in
     let to = c.args.to in
-    let is : slice_get c.args.last.now.items to ≡ Some at = slice_get_read c.args.last.now.items (length c.args.last.now.items) to at refl c.requires.within c.index-at.ensures in
+    let is : slice_get c.args.noted.now.last.items to ≡ Some at = slice_get_read c.args.noted.now.last.items (length c.args.noted.now.last.items) to at refl c.requires.within c.index.ensures in
     let missing : option_map_or (joins from to) (slice_get (link_tables es) at) false ≡ false = ap (λ ls. option_map_or (joins from to) (slice_get (link_tables ls) at) false) (sym c.deref.ensures.value) ∙ sym c.joins_pair.ensures ∙ c.if-joins_pair.false in
-    let none = missing_link from to (link_tables es) c.args.last.now.items c.requires.noted at is missing in
+    let none = missing_link from to (link_tables es) c.args.noted.now.last.items c.args.noted.now.first c.requires.noted at is missing in
     let one : map declared c.push.new.self.items ≡ declared c.args.declaration ∷ [] = ap (map declared) c.in_ok-push.ensures.ok ∙ ap (λ xs. map declared (xs ++ c.args.declaration ∷ [])) c.new-declarations.ensures.items in
     rw (link_new from to c.args.name.now (declared c.args.declaration) _ none, c.in_ok-push-2.ensures.items, map-append link_table es _, one, c.in_ok-name.ensures.ok)
 
 pub returns-clause-noted : goal.returns-clause-noted
 returns-clause-noted c =
     let es = c.args.links.now.items in
-    let at = c.index-at.result.now in
+    let at = c.index.result.now in
     let from = c.args.from in
     let to = c.args.to in
-    let is : slice_get c.args.last.now.items to ≡ Some at = slice_get_read c.args.last.now.items (length c.args.last.now.items) to at refl c.requires.within c.index-at.ensures in
+    let is : slice_get c.args.noted.now.last.items to ≡ Some at = slice_get_read c.args.noted.now.last.items (length c.args.noted.now.last.items) to at refl c.requires.within c.index.ensures in
     let missing : option_map_or (joins from to) (slice_get (link_tables es) at) false ≡ false = ap (λ ls. option_map_or (joins from to) (slice_get (link_tables ls) at) false) (sym c.deref.ensures.value) ∙ sym c.joins_pair.ensures ∙ c.if-joins_pair.false in
     let count : c.len.result ≡ length (link_tables es) = c.len.ensures ∙ c.args.links.now.ok.0 ∙ sym (length-map es link_table) in
     let grown = ap link_tables c.in_ok-push-2.ensures.items ∙ map-append link_table es _ in
-    rw (grown, count) (noted_new from to (link_tables es) c.args.last.now.items c.requires.noted at is missing _ refl refl c.requires.within)
+    rw (grown, c.in_ok-noted.ensures, count) (noted_new from to (link_tables es) c.args.noted.now.last.items c.args.noted.now.first c.requires.noted at is missing _ refl refl c.requires.within)

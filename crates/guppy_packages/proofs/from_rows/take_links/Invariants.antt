@@ -12,7 +12,7 @@ invariant-loop-row g l =
       few : l.begun ≤ l.row;
       none : faults_by (link_fault (package_tables l.packages)) (take l.row rows) ≡ [];
       counted : l.begun ≡ length (packages_of (take l.row rows));
-      size : length l.last.items ≡ length (package_tables l.packages);
-      noted : AreNoted (l.begun - 1) (link_tables l.links.items) l.last.items;
+      size : length l.noted.last.items ≡ length (package_tables l.packages);
+      noted : AreNoted (l.begun - 1) (link_tables l.links.items) l.noted.last.items l.noted.first;
       tables : link_tables l.links.items ≡ links_of (dependencies_of (package_tables l.packages) (take l.row rows));
     }
