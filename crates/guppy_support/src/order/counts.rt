@@ -1,5 +1,5 @@
 //! The edges are counted before the first node of an order: those that enter each component, and those that hold each node.
-ghost use Rattle.std.specs.Prelude.{◌≡◌, ◌≢◌, ℕ, [], ◌+◌, ◌<◌, ◌≤◌, length, slice_index, IfOk, OnOk, replicate, false};
+ghost use Rattle.std.specs.Prelude.{◌≡◌, ◌≢◌, ℕ, [], ◌+◌, ◌<◌, ◌≤◌, length, slice_index, IfOk, OnOk, false};
 ghost use Rattle.guppy_support.specs.Graph.{IsDigraph};
 ghost use Rattle.guppy_support.specs.Rows.{places};
 ghost use Rattle.guppy_support.specs.inner.PackedRows.{IsPacked};
@@ -9,7 +9,7 @@ use crate::bit_set::IxBitSet;
 use crate::digraph::{Digraph, Edge};
 use crate::order::listing::{Plan, first_of, row};
 use crate::order::queue::Queue;
-use crate::rows::Rows;
+use crate::rows::{Rows, zeroes};
 use std::alloc::{AllocError, Global};
 
 /// The edge of that number.
@@ -34,12 +34,6 @@ fn add_entering(counts: &mut Vec<u32>, graph: &Digraph, ranks: &[u32], number: u
         return;
     }
     counts[ranks[edge.to] as usize] += 1;
-}
-
-fn zeroes(alloc: Global, count: usize) -> Result<Vec<u32>, AllocError>
-    ensures { IfOk result (λ v. v.items ≡ replicate count 0) }
-{
-    vec![in alloc; 0u32; count]
 }
 
 /// Adds the first node of the component of that rank, if there is one and no edge enters it.
