@@ -37,13 +37,13 @@ apart_short xs n apart inside =
     (λ e. apart i j l h (get_or_default xs i 0 d (omega arith) ∙ e ∙ sym (get_or_default xs j 0 d h)))))
     (λ q any. let k = any_at xs q any in omega (arith, inside k.0 k.1, k.2))
 
-more_apart : (x : ℕ) (xs : List ℕ) → AreApart xs → ((k : ℕ) → k < length xs → get_or xs k 0 ≢ x) → AreApart (x ∷ xs)
+pub more_apart : (x : ℕ) (xs : List ℕ) → AreApart xs → ((k : ℕ) → k < length xs → get_or xs k 0 ≢ x) → AreApart (x ∷ xs)
 more_apart x xs apart none zero zero l h = absurd (omega arith)
 more_apart x xs apart none zero (suc j) l h = λ e. none j (omega arith) (sym e)
 more_apart x xs apart none (suc i) zero l h = absurd (omega arith)
 more_apart x xs apart none (suc i) (suc j) l h = apart i j (omega arith) (omega arith)
 
-more_inside : (x n : ℕ) (xs : List ℕ) → x < n → ((i : ℕ) → i < length xs → get_or xs i 0 < n) → (i : ℕ) → i < length (x ∷ xs) → get_or (x ∷ xs) i 0 < n
+pub more_inside : (x n : ℕ) (xs : List ℕ) → x < n → ((i : ℕ) → i < length xs → get_or xs i 0 < n) → (i : ℕ) → i < length (x ∷ xs) → get_or (x ∷ xs) i 0 < n
 more_inside x n xs lx inside zero h = lx
 more_inside x n xs lx inside (suc i) h = inside i (omega arith)
 

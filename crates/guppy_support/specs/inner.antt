@@ -1,8 +1,7 @@
-pub mod BackwardWalk
+pub mod ComponentWalk
 pub mod Counts
 pub mod EdgeColumns
 pub mod FinishOrder
-pub mod ForwardWalk
 pub mod Heads
 pub mod NodeEdges
 pub mod Numbering

@@ -1,5 +1,5 @@
 //! The edges are counted before the first node of an order: those that enter each component, and those that hold each node.
-ghost use Rattle.std.specs.Prelude.{◌≡◌, ◌≢◌, ℕ, [], ◌+◌, ◌<◌, ◌≤◌, length, slice_index, IfOk, OnOk, replicate, false};
+ghost use Rattle.std.specs.Prelude.{◌≡◌, ◌≢◌, ℕ, [], ◌+◌, ◌<◌, ◌≤◌, length, slice_index, IfOk, OnOk, false};
 ghost use Rattle.guppy_support.specs.Graph.{IsDigraph};
 ghost use Rattle.guppy_support.specs.Rows.{places};
 ghost use Rattle.guppy_support.specs.inner.PackedRows.{IsPacked};
@@ -9,7 +9,7 @@ use crate::bit_set::IxBitSet;
 use crate::digraph::{Digraph, Edge};
 use crate::order::listing::{Plan, first_of, row};
 use crate::order::queue::Queue;
-use crate::rows::Rows;
+use crate::rows::{Rows, zeroes};
 use std::alloc::{AllocError, Global};
 
 /// The edge of that number.
@@ -21,25 +21,35 @@ fn edge_at(graph: &Digraph, number: usize) -> Edge
     graph.edge(number)
 }
 
-/// Counts an edge for the component that it enters.
-fn add_entering(counts: &mut Vec<u32>, graph: &Digraph, ranks: &[u32], number: usize)
+/// Counts an edge for the component that it enters, or for the node that it holds.
+fn count_edge(
+    outside: &mut Vec<u32>,
+    held: &mut Vec<u32>,
+    graph: &Digraph,
+    ranks: &[u32],
+    number: usize,
+)
     requires setup { IsSetup graph.now ranks.now }
     requires number { number < length graph.now.edges }
-    requires counted { AreEntering graph.now ranks.now number counts.old.items }
-    ensures { AreEntering graph.now ranks.now (number + 1) counts.new.items }
+    requires entering { AreEntering graph.now ranks.now number outside.old.items }
+    requires holding { AreHolding graph.now ranks.now number held.old.items }
+    ensures entering { AreEntering graph.now ranks.now (number + 1) outside.new.items }
+    ensures holding { AreHolding graph.now ranks.now (number + 1) held.new.items }
 {
     let _edges = graph.edge_count();
     let edge = edge_at(graph, number);
-    if ranks[edge.from] == ranks[edge.to] {
+    let rank = ranks[edge.to];
+    if ranks[edge.from] != rank {
+        outside[rank as usize] += 1;
         return;
     }
-    counts[ranks[edge.to] as usize] += 1;
-}
-
-fn zeroes(alloc: Global, count: usize) -> Result<Vec<u32>, AllocError>
-    ensures { IfOk result (λ v. v.items ≡ replicate count 0) }
-{
-    vec![in alloc; 0u32; count]
+    if !edge.non_dev {
+        return;
+    }
+    if edge.from == edge.to {
+        return;
+    }
+    held[edge.to] += 1;
 }
 
 /// Adds the first node of the component of that rank, if there is one and no edge enters it.
@@ -68,27 +78,6 @@ fn add_start(
     Ok(())
 }
 
-/// Counts an edge for the node that it holds.
-fn add_holding(counts: &mut Vec<u32>, graph: &Digraph, ranks: &[u32], number: usize)
-    requires setup { IsSetup graph.now ranks.now }
-    requires number { number < length graph.now.edges }
-    requires counted { AreHolding graph.now ranks.now number counts.old.items }
-    ensures { AreHolding graph.now ranks.now (number + 1) counts.new.items }
-{
-    let _edges = graph.edge_count();
-    let edge = edge_at(graph, number);
-    if !edge.non_dev {
-        return;
-    }
-    if edge.from == edge.to {
-        return;
-    }
-    if ranks[edge.from] != ranks[edge.to] {
-        return;
-    }
-    counts[edge.to] += 1;
-}
-
 /// How many edges enter each component, and how many hold each node.
 fn count_edges(
     alloc: Global,
@@ -102,8 +91,7 @@ fn count_edges(
     let mut outside = zeroes(alloc, graph.node_count())?;
     let mut held = zeroes(alloc, graph.node_count())?;
     for number in 0..graph.edge_count() {
-        add_entering(&mut outside, graph, ranks, number);
-        add_holding(&mut held, graph, ranks, number);
+        count_edge(&mut outside, &mut held, graph, ranks, number);
     }
     Ok((outside, held))
 }

@@ -111,8 +111,9 @@ fn leave_outside(
     ensures starts { OnOk result (StartsGrow (places (slice_index ranks.now node) ranks.now) held.now (slice_index outside.old.items (slice_index ranks.now node) - 1) starts.old starts.new) }
 {
     let rank = ranks[node] as usize;
-    outside[rank] -= 1;
-    if outside[rank] == 0 {
+    let left = outside[rank] - 1;
+    outside[rank] = left;
+    if left == 0 {
         starts.push(head_of(groups, ranks, held, node, nodes))?;
     }
     Ok(())
