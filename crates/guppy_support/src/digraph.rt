@@ -11,10 +11,13 @@ mod columns;
 
 use crate::rows::{Keys, Rows, pack_rows};
 use begins::source_begins;
-use columns::Columns;
+pub use columns::EdgeColumns;
 use std::alloc::{AllocError, Global};
 use std::marker::Model;
 use std::ops::Range;
+
+/// More nodes than these have numbers that don't fit in 31 bits.
+const MOST_NODES: usize = 2147483648;
 
 /// An edge of a digraph. `non_dev` says that it isn't dev-only: such an edge orders its two ends inside a component.
 #[derive(Clone, Copy, Debug, Drop, PartialEq, Eq)]
@@ -39,7 +42,7 @@ pub enum DigraphError {
 #[derive(Debug, Drop)]
 pub struct Digraph {
     nodes: usize,
-    edges: Columns,
+    edges: EdgeColumns,
     // where the edges of each source begin; the end stands last
     begins: Vec<u32>,
     inward: Rows,
@@ -97,29 +100,19 @@ impl Digraph {
         }
     }
 
-    fn copied(alloc: Global, nodes: usize, edges: &[Edge]) -> Result<Digraph, AllocError>
-        requires { IsDigraph (record { nodes = nodes; edges = edges.now }) }
-        ensures { IfOk result (λ g. g ≡ record { nodes = nodes; edges = edges.now }) }
-    {
-        let columns = Columns::new(alloc, nodes, edges)?;
-        let graph = Digraph::built(alloc, nodes, columns)?;
-        Ok(graph)
-    }
-
-    fn taken(alloc: Global, nodes: usize, edges: Vec<Edge>) -> Result<Digraph, AllocError>
-        requires { IsDigraph (record { nodes = nodes; edges = edges.items }) }
-        ensures { IfOk result (λ g. g ≡ record { nodes = nodes; edges = edges.items }) }
-    {
-        let columns = Columns::new(alloc, nodes, &edges)?;
-        drop(edges);
-        let graph = Digraph::built(alloc, nodes, columns)?;
-        Ok(graph)
-    }
-
-    fn built(alloc: Global, nodes: usize, edges: Columns) -> Result<Digraph, AllocError>
-        requires { IsDigraph (record { nodes = nodes; edges = edges }) }
+    /// The digraph of edges that are known to be without a fault, which aren't copied. Too many nodes or edges are answered as want of
+    /// memory, as `new` does.
+    pub fn from_columns(
+        alloc: Global,
+        nodes: usize,
+        edges: EdgeColumns,
+    ) -> Result<Digraph, AllocError>
+        requires sound { IsDigraph (record { nodes = nodes; edges = edges }) }
         ensures { IfOk result (λ g. g ≡ record { nodes = nodes; edges = edges }) }
     {
+        if nodes > MOST_NODES {
+            return Err(AllocError);
+        }
         let inward = inward_rows(alloc, nodes, &edges)?;
         let begins = source_begins(alloc, nodes, &edges)?;
         Ok(Digraph {
@@ -128,6 +121,25 @@ impl Digraph {
             begins,
             inward,
         })
+    }
+
+    fn copied(alloc: Global, nodes: usize, edges: &[Edge]) -> Result<Digraph, AllocError>
+        requires { IsDigraph (record { nodes = nodes; edges = edges.now }) }
+        ensures { IfOk result (λ g. g ≡ record { nodes = nodes; edges = edges.now }) }
+    {
+        let columns = EdgeColumns::copied(alloc, edges)?;
+        let graph = Digraph::from_columns(alloc, nodes, columns)?;
+        Ok(graph)
+    }
+
+    fn taken(alloc: Global, nodes: usize, edges: Vec<Edge>) -> Result<Digraph, AllocError>
+        requires { IsDigraph (record { nodes = nodes; edges = edges.items }) }
+        ensures { IfOk result (λ g. g ≡ record { nodes = nodes; edges = edges.items }) }
+    {
+        let columns = EdgeColumns::copied(alloc, &edges)?;
+        drop(edges);
+        let graph = Digraph::from_columns(alloc, nodes, columns)?;
+        Ok(graph)
     }
 
     /// How many nodes there are.
@@ -230,7 +242,7 @@ fn is_before(first: (usize, usize), other: (usize, usize)) -> bool
 // The targets of edges, in their order.
 #[derive(Drop)]
 struct Targets<'a> {
-    edges: &'a Columns,
+    edges: &'a EdgeColumns,
 }
 
 impl<'a> Keys for Targets<'a> {
@@ -246,7 +258,7 @@ impl<'a> Keys for Targets<'a> {
 }
 
 // The numbers of the edges by target.
-fn inward_rows(alloc: Global, nodes: usize, edges: &Columns) -> Result<Rows, AllocError>
+fn inward_rows(alloc: Global, nodes: usize, edges: &EdgeColumns) -> Result<Rows, AllocError>
     requires { IsDigraph (record { nodes = nodes; edges = edges.now }) }
     ensures { IfOk result (λ rows. IsPacked nodes (targets edges.now) rows.begins.items rows.numbers.items) }
 {

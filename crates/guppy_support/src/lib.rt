@@ -11,5 +11,5 @@ mod rows;
 
 pub use bit_set::{IxBitSet, Ones};
 pub use collecting::collect_exactly;
-pub use digraph::{Digraph, DigraphError, Edge};
+pub use digraph::{Digraph, DigraphError, Edge, EdgeColumns};
 pub use order::Order;

@@ -1,6 +1,5 @@
 -- Edges in two columns of numbers: where each comes from; and twice where it leads, and one more if it isn't dev-only.
-use Rattle.std.specs.Prelude.{ℕ, ◌+◌, ◌*◌, ◌/◌, ◌%◌, ◌==◌, List, [], ◌∷◌, map}
-use Rattle.std.specs.Int.{from_bool}
+use Rattle.std.specs.Prelude.{ℕ, ◌/◌, ◌%◌, ◌==◌, List, [], ◌∷◌}
 use Rattle.guppy_support.specs.declared.digraph.Edge.{Edge}
 
 -- the edge that two numbers are
@@ -11,7 +10,3 @@ abbrev pub edges_in : List ℕ → List ℕ → List Edge
 edges_in [] ends = []
 edges_in (s ∷ ss) [] = []
 edges_in (s ∷ ss) (e ∷ es) = edge_of s e ∷ edges_in ss es
-
--- the second column of a list of edges; the first is their sources
-abbrev pub ends : List Edge → List ℕ
-ends es = map (λ e. 2 * e.to + from_bool e.non_dev) es

@@ -3,7 +3,7 @@ ghost use Rattle.std.specs.Prelude.{◌≡◌, ℕ, ◌+◌, ◌<◌, ◌≤◌,
 ghost use Rattle.guppy_support.specs.Graph.{IsDigraph, sources};
 ghost use Rattle.guppy_support.specs.inner.PackedRows.{AreAllBegun};
 
-use crate::digraph::columns::Columns;
+use crate::digraph::columns::EdgeColumns;
 use std::alloc::{AllocError, Global};
 
 /// Places beyond this one don't fit in 32 bits.
@@ -25,7 +25,7 @@ fn begin_up_to(begins: &mut Vec<u32>, node: usize, place: u32) -> Result<(), All
 pub(crate) fn source_begins(
     alloc: Global,
     nodes: usize,
-    edges: &Columns,
+    edges: &EdgeColumns,
 ) -> Result<Vec<u32>, AllocError>
     requires { IsDigraph (record { nodes = nodes; edges = edges.now }) }
     ensures { IfOk result (λ begins. AreAllBegun nodes (sources edges.now) begins.items) }

@@ -1,23 +1,25 @@
 //! Edges in two narrow columns.
-ghost use Rattle.std.specs.Prelude.{◌≡◌, ◌<◌, length, slice_get, Some, IfOk};
-ghost use Rattle.guppy_support.specs.Graph.{IsDigraph};
+ghost use Rattle.std.specs.Prelude.{◌≡◌, ◌++◌, ◌∷◌, [], ◌<◌, length, slice_get, Some, IfOk, OnOk};
 
 use crate::digraph::Edge;
 use std::alloc::{AllocError, Global};
 use std::marker::Model;
 
-/// More nodes than these have numbers that don't fit in 31 bits.
-const MOST_NODES: usize = 2147483648;
+/// Sources beyond this one don't fit in 32 bits.
+const LAST_SOURCE: usize = 4294967295;
+
+/// Targets beyond this one don't fit in 31 bits.
+const LAST_TARGET: usize = 2147483647;
 
 /// A list of edges, of eight bytes each: where each edge comes from, and where it leads beside its `non_dev`.
 #[derive(Debug, Drop)]
-pub(crate) struct Columns {
+pub struct EdgeColumns {
     sources: Vec<u32>,
     // twice the target, and one more if the edge isn't dev-only
     ends: Vec<u32>,
 }
 
-impl Model for Columns {
+impl Model for EdgeColumns {
     ghost use Rattle.std.specs.Prelude.{◌≡◌, List, length};
     ghost use Rattle.guppy_support.specs.declared.digraph.Edge.{Edge};
     ghost use Rattle.guppy_support.specs.inner.EdgeColumns.{edges_in};
@@ -29,34 +31,62 @@ impl Model for Columns {
     ghost invariant = { λ c. length c.sources.items ≡ length c.ends.items };
 }
 
-impl Columns {
-    /// The edges of a digraph. Too many nodes are answered as want of memory.
-    pub(crate) fn new(alloc: Global, nodes: usize, edges: &[Edge]) -> Result<Columns, AllocError>
-        requires { IsDigraph (record { nodes = nodes; edges = edges.now }) }
+impl EdgeColumns {
+    /// No edge.
+    pub fn new(alloc: Global) -> EdgeColumns
+        ensures { result ≡ [] }
+    {
+        EdgeColumns {
+            sources: Vec::new(alloc),
+            ends: Vec::new(alloc),
+        }
+    }
+
+    /// No edge, with room for so many.
+    fn with_capacity(alloc: Global, room: usize) -> Result<EdgeColumns, AllocError>
+        ensures { IfOk result (λ columns. columns ≡ []) }
+    {
+        let sources = Vec::with_capacity(alloc, room)?;
+        let ends = Vec::with_capacity(alloc, room)?;
+        Ok(EdgeColumns { sources, ends })
+    }
+
+    /// These edges. An end whose number doesn't fit is answered as want of memory.
+    pub(crate) fn copied(alloc: Global, edges: &[Edge]) -> Result<EdgeColumns, AllocError>
         ensures { IfOk result (λ columns. columns ≡ edges.now) }
     {
-        if nodes > MOST_NODES {
+        let mut columns = EdgeColumns::with_capacity(alloc, edges.len())?;
+        for place in 0..edges.len() {
+            columns.push(edges[place])?;
+        }
+        Ok(columns)
+    }
+
+    /// Appends an edge. A source from 4294967296 on, or a target from 2147483648 on, doesn't fit, and is answered as want of memory.
+    pub fn push(&mut self, edge: Edge) -> Result<(), AllocError>
+        ensures { OnOk result (self.new ≡ self.old ++ edge ∷ []) }
+    {
+        if edge.from > LAST_SOURCE || edge.to > LAST_TARGET {
             return Err(AllocError);
         }
-        let mut sources = Vec::with_capacity(alloc, edges.len())?;
-        let mut ends = Vec::with_capacity(alloc, edges.len())?;
-        for place in 0..edges.len() {
-            let edge = edges[place];
-            sources.push(edge.from as u32)?;
-            ends.push((2 * edge.to + usize::from(edge.non_dev)) as u32)?;
+        self.sources.push(edge.from as u32)?;
+        let end = 2 * edge.to + usize::from(edge.non_dev);
+        if self.ends.push(end as u32).is_err() {
+            self.sources.pop();
+            return Err(AllocError);
         }
-        Ok(Columns { sources, ends })
+        Ok(())
     }
 
     /// How many edges there are.
-    pub(crate) fn len(&self) -> usize
+    pub fn len(&self) -> usize
         ensures { result ≡ length self.now }
     {
         self.sources.len()
     }
 
     /// The edge of that number.
-    pub(crate) fn edge(&self, number: usize) -> Edge
+    pub fn edge(&self, number: usize) -> Edge
         requires { number < length self.now }
         ensures { slice_get self.now number ≡ Some result }
     {

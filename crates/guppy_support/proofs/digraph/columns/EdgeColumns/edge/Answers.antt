@@ -1,7 +1,7 @@
 use Rattle.std.proofs.Common.{rules, ◌≡◌, ◌<◌, ap, length, get_or, arith, vec_len}
 use Rattle.std.proofs.lemmas.List.{get_or_read}
 use Rattle.guppy_support.proofs.ColumnLemmas.{length_edges_in, edge_in_columns}
-use Rattle.guppy_support.proofs.digraph.columns.Columns.edge.Goals as goal
+use Rattle.guppy_support.proofs.digraph.columns.EdgeColumns.edge.Goals as goal
 
 pub index-requires : goal.index-requires
 index-requires c =

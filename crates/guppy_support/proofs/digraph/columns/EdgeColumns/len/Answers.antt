@@ -1,6 +1,6 @@
 use Rattle.std.proofs.Common.{rules, ◌≡◌, ◌∙◌, sym, ap, length}
 use Rattle.guppy_support.proofs.ColumnLemmas.{length_edges_in}
-use Rattle.guppy_support.proofs.digraph.columns.Columns.len.Goals as goal
+use Rattle.guppy_support.proofs.digraph.columns.EdgeColumns.len.Goals as goal
 
 pub returns : goal.returns
 returns c =
