@@ -6,7 +6,7 @@ use Rattle.std.proofs.lemmas.Bool.Decides.{eqb_tells}
 use Rattle.std.proofs.lemmas.List.{get_or_default}
 use Rattle.std.proofs.lemmas.Map.Keys.{IsDistinct-from_apart}
 use Rattle.std.proofs.lemmas.Map.Steps.{length-le_from_distinct_below}
-use Rattle.guppy_support.specs.inner.FinishOrder.{AreApart}
+use Rattle.guppy_support.specs.inner.Apart.{AreApart}
 
 -- a place at which v stands, or none
 find_at : (xs : List ℕ) (v n : ℕ) → ((k : ℕ) × (k < n) × (get_or xs k 0 ≡ v)) ⊎ ((k : ℕ) → k < n → get_or xs k 0 ≢ v)

@@ -3,7 +3,7 @@ use Rattle.std.proofs.Common.{◌≡◌, ◌≢◌, ℕ, suc, ◌+◌, ◌-◌, 
 use Rattle.std.proofs.lemmas.Option.{slice_get-get_or}
 use Rattle.std.proofs.lemmas.List.{get_or-map}
 use Rattle.guppy_support.proofs.PlaceLemmas.{places_within}
-use Rattle.guppy_support.proofs.ForwardLemmas.{place_inside, edge_to}
+use Rattle.guppy_support.proofs.OutEdgeLemmas.{place_inside, edge_to}
 use Rattle.std.proofs.lemmas.Bool.{cases_eq}
 use Rattle.guppy_support.specs.declared.digraph.Edge.{Edge}
 use Rattle.guppy_support.specs.Graph.{Graph, IsDigraph, sources}

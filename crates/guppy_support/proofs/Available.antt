@@ -9,7 +9,7 @@ use Rattle.guppy_support.specs.Paths.{HasEdge, HasFirmEdge, Path, nowhere, onwar
 use Rattle.guppy_support.specs.Orders.{IsHeld, IsAvailable}
 use Rattle.guppy_support.proofs.FaultLemmas.{nodes_of_edge}
 use Rattle.guppy_support.specs.inner.Ranks.{IsRanking}
-use Rattle.guppy_support.proofs.BackwardLemmas.{contains_cases}
+use Rattle.guppy_support.proofs.ContainsLemmas.{contains_cases}
 
 -- a number below n that passes, or none does
 pub search_below : (P : ℕ → Type 0) → ((k : ℕ) → P k ⊎ ¬ P k) → (n : ℕ) → ((k : ℕ) × (k < n) × P k) ⊎ ((k : ℕ) → k < n → ¬ P k)

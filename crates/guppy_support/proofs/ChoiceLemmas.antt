@@ -6,7 +6,7 @@ use Rattle.std.proofs.lemmas.List.Elements.{Contains-get_or}
 use Rattle.guppy_support.specs.Graph.{Graph}
 use Rattle.guppy_support.specs.Orders.{IsOrder}
 use Rattle.guppy_support.proofs.FaultLemmas.{nodes_of_edge}
-use Rattle.guppy_support.proofs.BackwardLemmas.{place_of}
+use Rattle.guppy_support.proofs.ContainsLemmas.{place_of}
 use Rattle.guppy_support.specs.inner.Heads.{IsDone, IsHead, IsEntered}
 use Rattle.guppy_support.specs.inner.Plans.{is_fresh, IsRun, IsWithin, IsChosen, IsSetup, IsPause, AreReadyBut, AreCut, TakesFresh, IsBegun, IsWaiting, RowWaits, IsFreshPlace}
 use Rattle.guppy_support.specs.Rows.{places}

@@ -14,7 +14,7 @@ use Rattle.std.specs.List.{range_with_len}
 use Rattle.std.proofs.lemmas.List.FromFn.{length-range_with_len}
 use Rattle.guppy_support.specs.inner.Ranks.{IsRanking}
 use Rattle.guppy_support.proofs.FaultLemmas.{nodes_of_edge}
-use Rattle.guppy_support.proofs.ForwardLemmas.{at_left, at_last, length_push, out_number}
+use Rattle.guppy_support.proofs.OutEdgeLemmas.{at_left, at_last, length_push, out_number}
 use Rattle.guppy_support.proofs.FirstLemmas.{count_le}
 use Rattle.guppy_support.proofs.ApartLemmas.{apart_short, more_apart, more_inside}
 use Rattle.guppy_support.proofs.CountLemmas.{count_fewer, count_same}

@@ -14,7 +14,7 @@ use Rattle.guppy_support.specs.inner.Counts.{count_below}
 use Rattle.guppy_support.specs.Laws.{OrderExists}
 use Rattle.guppy_support.proofs.FaultLemmas.{nodes_of_edge}
 use Rattle.guppy_support.proofs.PathLemmas.{join, one_edge, same_self, same_turned, same_joined}
-use Rattle.guppy_support.proofs.BackwardLemmas.{contains_cases}
+use Rattle.guppy_support.proofs.ContainsLemmas.{contains_cases}
 use Rattle.guppy_support.proofs.ApartLemmas.{apart_short}
 use Rattle.guppy_support.proofs.LawLemmas.{path_inside}
 use Rattle.guppy_support.proofs.Available.{search_below, search_nodes, and_cases, not_cases, edge_cases, IsFront, front_none, front_more, some_available, held_cases}

@@ -10,7 +10,7 @@ use Rattle.guppy_support.specs.declared.digraph.Edge.{Edge}
 use Rattle.guppy_support.specs.Laws.{OrderListsEach}
 use Rattle.guppy_support.specs.Orders.{IsOrder, ListsEach}
 use Rattle.guppy_support.specs.inner.PackedRows.{below, AreBegun}
-use Rattle.guppy_support.specs.inner.FinishOrder.{AreApart}
+use Rattle.guppy_support.specs.inner.Apart.{AreApart}
 use Rattle.guppy_support.specs.inner.Ranks.{IsRanking}
 use Rattle.guppy_support.specs.Sequences.{Sequence, IsSequence, IsOrderOf}
 use Rattle.guppy_support.specs.inner.Numbering.{ArePlaces, numbers_of, AreGrouped, rank_at, AreNumbered}

@@ -1,7 +1,7 @@
+pub mod Apart
 pub mod ComponentWalk
 pub mod Counts
 pub mod EdgeColumns
-pub mod FinishOrder
 pub mod Heads
 pub mod NodeEdges
 pub mod Numbering

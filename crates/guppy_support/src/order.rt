@@ -4,7 +4,7 @@ ghost use Rattle.guppy_support.specs.Graph.{Graph, IsDigraph};
 ghost use Rattle.guppy_support.specs.Paths.{SameComponent};
 ghost use Rattle.guppy_support.specs.Orders.{IsOrder};
 ghost use Rattle.guppy_support.specs.inner.Plans.{IsSetup};
-ghost use Rattle.guppy_support.specs.inner.FinishOrder.{AreApart};
+ghost use Rattle.guppy_support.specs.inner.Apart.{AreApart};
 ghost use Rattle.guppy_support.specs.inner.PackedRows.{AreBegun};
 ghost use Rattle.guppy_support.specs.Sequences.{IsOrderOf, IsSequence, component_of};
 ghost use Rattle.guppy_support.specs.inner.Numbering.{AreNumbered, rank_at};

@@ -181,12 +181,17 @@ pub(crate) fn walked(alloc: Global, graph: &Digraph) -> Result<Walk, AllocError>
     ensures whole { IfOk result (λ w. (v : ℕ) → v < graph.now.nodes → graph.now.nodes < slice_index w.marks.items v) }
 {
     let nodes = graph.node_count();
+    let marks = zeroes(alloc, nodes)?;
+    let pending = Vec::with_capacity(alloc, nodes)?;
+    let bounds = Vec::with_capacity(alloc, nodes)?;
+    let opened = Vec::with_capacity(alloc, nodes)?;
+    let left = Vec::with_capacity(alloc, nodes)?;
     let mut walk = Walk {
-        marks: zeroes(alloc, nodes)?,
-        pending: Vec::new(alloc),
-        bounds: Vec::new(alloc),
-        opened: Vec::new(alloc),
-        left: Vec::new(alloc),
+        marks,
+        pending,
+        bounds,
+        opened,
+        left,
         rank: (2 * nodes) as u32,
     };
     for root in 0..nodes {

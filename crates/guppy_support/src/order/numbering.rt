@@ -1,6 +1,6 @@
 //! Numbers of components along the list of an order, and places.
 ghost use Rattle.std.specs.Prelude.{◌≡◌, ◌≢◌, ℕ, [], ◌∷◌, ◌++◌, ◌+◌, ◌-◌, ◌^◌, ◌<◌, ◌≤◌, length, slice_index, IfOk, OnOk};
-ghost use Rattle.guppy_support.specs.inner.FinishOrder.{AreApart};
+ghost use Rattle.guppy_support.specs.inner.Apart.{AreApart};
 ghost use Rattle.guppy_support.specs.inner.PackedRows.{AreBegun};
 ghost use Rattle.guppy_support.specs.inner.Numbering.{AreNumbered, rank_at};
 

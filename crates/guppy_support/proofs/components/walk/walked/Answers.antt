@@ -6,10 +6,10 @@ use Rattle.guppy_support.proofs.components.walk.walked.Goals as goal
 pub loop-root-init : goal.loop-root-init
 loop-root-init c =
     let n = c.node_count-nodes.result in
-    let e = c.in_ok-zeroes.ensures in
+    let e = c.in_ok-marks.ensures in
     record {
-      walk = rw (c.new.ensures.items, c.new-2.ensures.items, c.new-3.ensures.items, c.new-4.ensures.items, c.node_count-nodes.ensures)
-          (started c.args.graph.now c.in_ok-zeroes.field-0.items (ap length e ∙ length-replicate n 0 ∙ c.node_count-nodes.ensures) (λ v. zero_at n v c.in_ok-zeroes.field-0.items e));
-      none = rw c.new-3.ensures.items refl;
+      walk = rw (c.in_ok-pending.ensures.items, c.in_ok-bounds.ensures.items, c.in_ok-opened.ensures.items, c.in_ok-left.ensures.items, c.node_count-nodes.ensures)
+          (started c.args.graph.now c.in_ok-marks.marks.items (ap length e ∙ length-replicate n 0 ∙ c.node_count-nodes.ensures) (λ v. zero_at n v c.in_ok-marks.marks.items e));
+      none = rw c.in_ok-opened.ensures.items refl;
       seen = λ v h. absurd (omega (arith, h));
     }

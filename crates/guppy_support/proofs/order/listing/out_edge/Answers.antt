@@ -1,5 +1,5 @@
 use Rattle.std.proofs.Common.{arith}
-use Rattle.guppy_support.proofs.ForwardLemmas.{place_inside, out_number, out_length}
+use Rattle.guppy_support.proofs.OutEdgeLemmas.{place_inside, out_number, out_length}
 use Rattle.guppy_support.proofs.AtLemmas.{out_is}
 use Rattle.guppy_support.proofs.order.listing.out_edge.Goals as goal
 

@@ -4,7 +4,7 @@ use Rattle.std.proofs.lemmas.List.{get_or_read, length-take}
 use Rattle.std.specs.Prelude.{sum_by}
 use Rattle.std.proofs.lemmas.List.Sums.{sum_by-append}
 use Rattle.guppy_support.specs.inner.ComponentWalk.{IsMore, IsFrontOf, AreGiven, unentered}
-use Rattle.guppy_support.proofs.ForwardLemmas.{length_push}
+use Rattle.guppy_support.proofs.OutEdgeLemmas.{length_push}
 use Rattle.guppy_support.proofs.ComponentLemmas.{more_from, front_take, bound_low, bounded, closed_inner, closed_root, unentered_given}
 use Rattle.guppy_support.proofs.components.walk.Walk.close.Goals as goal
 

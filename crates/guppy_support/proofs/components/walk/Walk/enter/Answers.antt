@@ -1,7 +1,7 @@
 use Rattle.std.proofs.Common.{rules, ◌≡◌, ◌+◌, ◌-◌, ◌++◌, ◌∷◌, [], length, arith}
 use Rattle.std.specs.Prelude.{sum_by}
 use Rattle.std.proofs.lemmas.List.Sums.{sum_by-append}
-use Rattle.guppy_support.proofs.ForwardLemmas.{out_length, length_push}
+use Rattle.guppy_support.proofs.OutEdgeLemmas.{out_length, length_push}
 use Rattle.guppy_support.proofs.ComponentLemmas.{entered, entered_fewer, more, fewer_steps}
 use Rattle.guppy_support.proofs.components.walk.Walk.enter.Goals as goal
 

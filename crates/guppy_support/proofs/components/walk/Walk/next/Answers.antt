@@ -2,7 +2,7 @@ use Rattle.std.proofs.Common.{rules, ◌≡◌, ◌-◌, ◌≤◌, length, get_
 use Rattle.std.proofs.lemmas.List.{get_or_read}
 use Rattle.guppy_support.specs.Rows.{places}
 use Rattle.guppy_support.specs.Graph.{sources}
-use Rattle.guppy_support.proofs.ForwardLemmas.{IsEdgeTo, edge_to, out_length}
+use Rattle.guppy_support.proofs.OutEdgeLemmas.{IsEdgeTo, edge_to, out_length}
 use Rattle.guppy_support.proofs.ComponentLemmas.{next_edge}
 use Rattle.guppy_support.proofs.components.walk.Walk.next.Goals as goal
 

@@ -1,6 +1,6 @@
 use Rattle.std.proofs.Common.{get_or, arith}
 use Rattle.guppy_support.specs.inner.Plans.{rest_of}
-use Rattle.guppy_support.proofs.ForwardLemmas.{out_length}
+use Rattle.guppy_support.proofs.OutEdgeLemmas.{out_length}
 use Rattle.guppy_support.proofs.AtLemmas.{at_end}
 use Rattle.guppy_support.proofs.order.listing.Plan.list.Goals as goal
 
