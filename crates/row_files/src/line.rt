@@ -15,8 +15,14 @@ pub enum Form {
     },
     /// A feature's name and its items.
     Feature,
-    /// A dependency's name, its target, its platform, and the features that it asks for.
+    /// The name of a dependency on every platform, its target, and the features that it asks for.
     Dep {
+        kind: DependencyKind,
+        optional: bool,
+        default_features: bool,
+    },
+    /// The name of a dependency on some platforms, its target, which platforms, and the features that it asks for.
+    PlatformDep {
         kind: DependencyKind,
         optional: bool,
         default_features: bool,
