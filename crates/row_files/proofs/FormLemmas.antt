@@ -45,16 +45,32 @@ package_fields (id ∷ []) d b low high e = absurd (omega arith)
 package_fields (id ∷ place ∷ []) d b low high e = ap (λ w. codes "package" ∷ id.now ∷ w ∷ []) (sym (chosen (codes "workspace") (codes "external") place.now b e))
 package_fields (id ∷ place ∷ more ∷ fields) d b low high e = absurd (omega arith)
 
-pub dep_fields : (fields : List (Bor Text)) (d : Bor Text) (kind : DependencyKind) (optional defaults : Bool) → 6 ≤ length fields → Some kind ≡ kind_of (get_or fields 2 d).now
+pub platform_dep_fields : (fields : List (Bor Text)) (d : Bor Text) (kind : DependencyKind) (optional defaults : Bool) → 6 ≤ length fields → Some kind ≡ kind_of (get_or fields 2 d).now
     → Some optional ≡ choice (codes "optional") (codes "required") (get_or fields 3 d).now → Some defaults ≡ choice (codes "default") (codes "nodefault") (get_or fields 5 d).now
-    → fields_of (form.Dep kind optional defaults) (kept_of (form.Dep kind optional defaults) (codes "dep" ∷ texts fields)) ≡ codes "dep" ∷ texts fields
-dep_fields [] d kind optional defaults low k o w = absurd (omega arith)
-dep_fields (name ∷ []) d kind optional defaults low k o w = absurd (omega arith)
-dep_fields (name ∷ target ∷ []) d kind optional defaults low k o w = absurd (omega arith)
-dep_fields (name ∷ target ∷ of_kind ∷ []) d kind optional defaults low k o w = absurd (omega arith)
-dep_fields (name ∷ target ∷ of_kind ∷ need ∷ []) d kind optional defaults low k o w = absurd (omega arith)
-dep_fields (name ∷ target ∷ of_kind ∷ need ∷ platform ∷ []) d kind optional defaults low k o w = absurd (omega arith)
-dep_fields (name ∷ target ∷ of_kind ∷ need ∷ platform ∷ with ∷ features) d kind optional defaults low k o w =
+    → fields_of (form.PlatformDep kind optional defaults) (kept_of (form.PlatformDep kind optional defaults) (codes "dep" ∷ texts fields)) ≡ codes "dep" ∷ texts fields
+platform_dep_fields [] d kind optional defaults low k o w = absurd (omega arith)
+platform_dep_fields (name ∷ []) d kind optional defaults low k o w = absurd (omega arith)
+platform_dep_fields (name ∷ target ∷ []) d kind optional defaults low k o w = absurd (omega arith)
+platform_dep_fields (name ∷ target ∷ of_kind ∷ []) d kind optional defaults low k o w = absurd (omega arith)
+platform_dep_fields (name ∷ target ∷ of_kind ∷ need ∷ []) d kind optional defaults low k o w = absurd (omega arith)
+platform_dep_fields (name ∷ target ∷ of_kind ∷ need ∷ platform ∷ []) d kind optional defaults low k o w = absurd (omega arith)
+platform_dep_fields (name ∷ target ∷ of_kind ∷ need ∷ platform ∷ with ∷ features) d kind optional defaults low k o w =
     ap (λ t. codes "dep" ∷ name.now ∷ target.now ∷ t ∷ word_of (codes "optional") (codes "required") optional ∷ platform.now ∷ word_of (codes "default") (codes "nodefault") defaults ∷ texts features) (sym (kind_chosen of_kind.now kind k))
     ∙ ap (λ t. codes "dep" ∷ name.now ∷ target.now ∷ of_kind.now ∷ t ∷ platform.now ∷ word_of (codes "default") (codes "nodefault") defaults ∷ texts features) (sym (chosen (codes "optional") (codes "required") need.now optional o))
     ∙ ap (λ t. codes "dep" ∷ name.now ∷ target.now ∷ of_kind.now ∷ need.now ∷ platform.now ∷ t ∷ texts features) (sym (chosen (codes "default") (codes "nodefault") with.now defaults w))
+
+pub dep_fields : (fields : List (Bor Text)) (d : Bor Text) (kind : DependencyKind) (optional defaults : Bool) → 6 ≤ length fields → Some kind ≡ kind_of (get_or fields 2 d).now
+    → Some optional ≡ choice (codes "optional") (codes "required") (get_or fields 3 d).now → Some defaults ≡ choice (codes "default") (codes "nodefault") (get_or fields 5 d).now
+    → true ≡ bytes_eq (get_or fields 4 d).now (codes "*")
+    → fields_of (form.Dep kind optional defaults) (kept_of (form.Dep kind optional defaults) (codes "dep" ∷ texts fields)) ≡ codes "dep" ∷ texts fields
+dep_fields [] d kind optional defaults low k o w p = absurd (omega arith)
+dep_fields (name ∷ []) d kind optional defaults low k o w p = absurd (omega arith)
+dep_fields (name ∷ target ∷ []) d kind optional defaults low k o w p = absurd (omega arith)
+dep_fields (name ∷ target ∷ of_kind ∷ []) d kind optional defaults low k o w p = absurd (omega arith)
+dep_fields (name ∷ target ∷ of_kind ∷ need ∷ []) d kind optional defaults low k o w p = absurd (omega arith)
+dep_fields (name ∷ target ∷ of_kind ∷ need ∷ platform ∷ []) d kind optional defaults low k o w p = absurd (omega arith)
+dep_fields (name ∷ target ∷ of_kind ∷ need ∷ platform ∷ with ∷ features) d kind optional defaults low k o w p =
+    ap (λ t. codes "dep" ∷ name.now ∷ target.now ∷ t ∷ word_of (codes "optional") (codes "required") optional ∷ codes "*" ∷ word_of (codes "default") (codes "nodefault") defaults ∷ texts features) (sym (kind_chosen of_kind.now kind k))
+    ∙ ap (λ t. codes "dep" ∷ name.now ∷ target.now ∷ of_kind.now ∷ t ∷ codes "*" ∷ word_of (codes "default") (codes "nodefault") defaults ∷ texts features) (sym (chosen (codes "optional") (codes "required") need.now optional o))
+    ∙ ap (λ t. codes "dep" ∷ name.now ∷ target.now ∷ of_kind.now ∷ need.now ∷ codes "*" ∷ t ∷ texts features) (sym (chosen (codes "default") (codes "nodefault") with.now defaults w))
+    ∙ ap (λ t. codes "dep" ∷ name.now ∷ target.now ∷ of_kind.now ∷ need.now ∷ t ∷ with.now ∷ texts features) (sym (same_text platform.now (codes "*") (sym p)))

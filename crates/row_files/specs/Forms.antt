@@ -23,7 +23,9 @@ abbrev pub fields_of : Form → List Text → List Text
 fields_of form.Malformed kept = kept
 fields_of (form.Package in_workspace) (id ∷ []) = codes "package" ∷ id ∷ word_of (codes "workspace") (codes "external") in_workspace ∷ []
 fields_of form.Feature kept = codes "feature" ∷ kept
-fields_of (form.Dep kind optional defaults) (name ∷ target ∷ platform ∷ features) =
+fields_of (form.Dep kind optional defaults) (name ∷ target ∷ features) =
+    codes "dep" ∷ name ∷ target ∷ kind_word kind ∷ word_of (codes "optional") (codes "required") optional ∷ codes "*" ∷ word_of (codes "default") (codes "nodefault") defaults ∷ features
+fields_of (form.PlatformDep kind optional defaults) (name ∷ target ∷ platform ∷ features) =
     codes "dep" ∷ name ∷ target ∷ kind_word kind ∷ word_of (codes "optional") (codes "required") optional ∷ platform ∷ word_of (codes "default") (codes "nodefault") defaults ∷ features
 fields_of _ _ = []
 

@@ -83,15 +83,25 @@ fn dep(fields: &[&str]) -> Form
     ensures row { form_row result (kept_of result (codes "dep" ∷ texts fields.now)) ≡ dep_row (texts fields.now) }
     ensures known { is_none (dep_row (texts fields.now)) ≡ is_malformed result }
 {
-    let [_, _, of_kind, needed, _, with_defaults, ..] = fields else {
+    let [_, _, of_kind, needed, platform, with_defaults, ..] = fields else {
         return Form::Malformed;
     };
     match (kind(of_kind), need(needed), defaults(with_defaults)) {
-        (Some(kind), Some(optional), Some(default_features)) => Form::Dep {
-            kind,
-            optional,
-            default_features,
-        },
+        (Some(kind), Some(optional), Some(default_features)) => {
+            if *platform == "*" {
+                Form::Dep {
+                    kind,
+                    optional,
+                    default_features,
+                }
+            } else {
+                Form::PlatformDep {
+                    kind,
+                    optional,
+                    default_features,
+                }
+            }
+        }
         _ => Form::Malformed,
     }
 }

@@ -1,14 +1,30 @@
 //! Keeping the fields of a line that its row speaks of.
 ghost use Rattle.std.specs.Prelude.{◌≡◌, ◌++◌, length, take, OnOk};
 ghost use Rattle.guppy_packages.specs.Rows.{texts};
-ghost use Rattle.row_files.specs.inner.KeptFields.{dep_kept, kept_of};
+ghost use Rattle.row_files.specs.inner.KeptFields.{dep_kept, kept_of, platform_dep_kept};
 
 use crate::line::Form;
 use std::alloc::AllocError;
 
-/// Adds a dependency's fields.
+/// Adds the fields of a dependency on every platform.
 fn keep_dep<'t>(kept: &mut Vec<&'t str>, fields: &[&'t str]) -> Result<(), AllocError>
     ensures added { OnOk result (texts kept.new.items ≡ texts kept.old.items ++ dep_kept (texts fields.now)) }
+    ensures grows { take (length kept.old.items) kept.new.items ≡ kept.old.items }
+{
+    let [_, name, target, _, _, _, _, features @ ..] = fields else {
+        return Ok(());
+    };
+    kept.push(*name)?;
+    kept.push(*target)?;
+    if features.is_empty() {
+        return Ok(());
+    }
+    kept.extend_from_slice(features)
+}
+
+/// Adds the fields of a dependency on some platforms.
+fn keep_platform_dep<'t>(kept: &mut Vec<&'t str>, fields: &[&'t str]) -> Result<(), AllocError>
+    ensures added { OnOk result (texts kept.new.items ≡ texts kept.old.items ++ platform_dep_kept (texts fields.now)) }
     ensures grows { take (length kept.old.items) kept.new.items ≡ kept.old.items }
 {
     let [_, name, target, _, _, platform, _, features @ ..] = fields else {
@@ -43,5 +59,6 @@ pub(crate) fn keep<'t>(
             [] => Ok(()),
         },
         Form::Dep { .. } => keep_dep(kept, fields),
+        Form::PlatformDep { .. } => keep_platform_dep(kept, fields),
     }
 }

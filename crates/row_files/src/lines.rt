@@ -33,13 +33,8 @@ impl<'t> Lines<'t> {
         let form = form_of(fields);
         let start = self.kept.len();
         keep(&mut self.kept, form, fields)?;
-        let end = self.kept.len();
-        match self.lines.push(Line {
-            number,
-            start,
-            end,
-            form,
-        }) {
+        let line = Line::new(number, start, self.kept.len(), form)?;
+        match self.lines.push(line) {
             Ok(()) => Ok(()),
             Err(_) => Err(AllocError),
         }
@@ -102,6 +97,6 @@ impl<'t> Lines<'t> {
         requires { at < length (lines_of self.now) }
         ensures { result ≡ line_of (lines_of self.now) at }
     {
-        self.lines[at].number
+        self.lines[at].number as usize
     }
 }

@@ -2,8 +2,8 @@
 ghost use Rattle.std.specs.Prelude.{◌≡◌, ◌<◌, Some, false, is_none, length, slice_get};
 ghost use Rattle.std.specs.Option.{option_map};
 ghost use Rattle.guppy_packages.specs.Rows.{texts, row_text};
-ghost use Rattle.row_files.specs.RowOfLine.{platform_of, row_of};
-ghost use Rattle.row_files.specs.inner.KeptFields.{form_row, dep_row_of};
+ghost use Rattle.row_files.specs.RowOfLine.{row_of};
+ghost use Rattle.row_files.specs.inner.KeptFields.{form_row, dep_row_of, platform_dep_row_of};
 ghost use Rattle.row_files.specs.RowFile.{lines_of, rows_of};
 ghost use Rattle.row_files.specs.WellFormed.{AreWellFormed, rows_in};
 
@@ -12,13 +12,7 @@ use crate::line::Form;
 use crate::lines::Lines;
 use guppy_packages::{DependencyKind, Row, RowSource};
 
-fn platform(text: &str) -> Option<&str>
-    ensures { option_map (λ t. t.now) result ≡ platform_of text.now }
-{
-    if text == "*" { None } else { Some(text) }
-}
-
-/// The row of a dependency's kept fields.
+/// The row of the kept fields of a dependency on every platform.
 #[inline(always)]
 fn dep<'a>(
     kind: DependencyKind,
@@ -29,6 +23,31 @@ fn dep<'a>(
     requires { is_none (dep_row_of kind optional default_features (texts kept.now)) ≡ false }
     ensures { dep_row_of kind optional default_features (texts kept.now) ≡ Some (row_text result) }
 {
+    let [name, target, features @ ..] = kept else {
+        unreachable!()
+    };
+    Row::Dep {
+        name,
+        target,
+        kind,
+        optional,
+        platform: None,
+        default_features,
+        features,
+    }
+}
+
+/// The row of the kept fields of a dependency on some platforms.
+#[inline(always)]
+fn platform_dep<'a>(
+    kind: DependencyKind,
+    optional: bool,
+    default_features: bool,
+    kept: &'a [&'a str],
+) -> Row<'a>
+    requires { is_none (platform_dep_row_of kind optional default_features (texts kept.now)) ≡ false }
+    ensures { platform_dep_row_of kind optional default_features (texts kept.now) ≡ Some (row_text result) }
+{
     let [name, target, at, features @ ..] = kept else {
         unreachable!()
     };
@@ -37,7 +56,7 @@ fn dep<'a>(
         target,
         kind,
         optional,
-        platform: platform(at),
+        platform: Some(at),
         default_features,
         features,
     }
@@ -65,6 +84,11 @@ fn row<'a>(form: Form, kept: &'a [&'a str]) -> Row<'a>
             optional,
             default_features,
         } => dep(kind, optional, default_features, kept),
+        Form::PlatformDep {
+            kind,
+            optional,
+            default_features,
+        } => platform_dep(kind, optional, default_features, kept),
     }
 }
 
@@ -76,7 +100,10 @@ fn row_at<'l>(lines: &'l Lines<'_>, at: usize) -> Row<'l>
     ensures { option_map (λ line. row_of line.1) (slice_get (lines_of lines.now) at) ≡ Some (Some (row_text result)) }
 {
     let line = lines.lines[at];
-    row(line.form, &lines.kept[line.start..line.end])
+    row(
+        line.form,
+        &lines.kept[line.start as usize..line.end as usize],
+    )
 }
 
 /// The rows of lines that are all well-formed. Each row is made when it is asked for.

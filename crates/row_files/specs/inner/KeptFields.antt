@@ -3,16 +3,21 @@ use Rattle.std.specs.Prelude.{◌≡◌, ◌≤◌, List, [], ◌∷◌, Bool, t
 use Rattle.std.specs.List.{slice_range}
 use Rattle.guppy_packages.specs.Rows.{Text, RowText, a_package, a_feature, a_dep}
 use Rattle.guppy_packages.specs.declared.row.DependencyKind.{DependencyKind}
-use Rattle.row_files.specs.RowOfLine.{row_of, platform_of}
+use Rattle.row_files.specs.RowOfLine.{row_of}
 use Rattle.row_files.specs.Forms.{fields_of}
 use Rattle.row_files.specs.declared.line.Form.{Form}
 use Rattle.row_files.specs.declared.line.Form.TheVariants as form
 use Rattle.row_files.specs.declared.line.Line.{Line}
 
--- the kept ones of a dependency's fields
+-- the kept ones of the fields of a dependency on every platform
 abbrev pub dep_kept : List Text → List Text
-dep_kept (word ∷ name ∷ target ∷ of_kind ∷ need ∷ platform ∷ with_defaults ∷ features) = name ∷ target ∷ platform ∷ features
+dep_kept (word ∷ name ∷ target ∷ of_kind ∷ need ∷ platform ∷ with_defaults ∷ features) = name ∷ target ∷ features
 dep_kept _ = []
+
+-- the kept ones of the fields of a dependency on some platforms
+abbrev pub platform_dep_kept : List Text → List Text
+platform_dep_kept (word ∷ name ∷ target ∷ of_kind ∷ need ∷ platform ∷ with_defaults ∷ features) = name ∷ target ∷ platform ∷ features
+platform_dep_kept _ = []
 
 -- the kept ones of these fields
 abbrev pub kept_of : Form → List Text → List Text
@@ -20,19 +25,27 @@ kept_of form.Malformed fields = fields
 kept_of (form.Package in_workspace) (word ∷ id ∷ place ∷ []) = id ∷ []
 kept_of form.Feature (word ∷ fields) = fields
 kept_of (form.Dep kind optional defaults) fields = dep_kept fields
+kept_of (form.PlatformDep kind optional defaults) fields = platform_dep_kept fields
 kept_of _ _ = []
 
--- the row of a dependency's kept fields
+-- the row of the kept fields of a dependency on every platform
 abbrev pub dep_row_of : DependencyKind → Bool → Bool → List Text → Option RowText
-dep_row_of kind optional defaults (name ∷ target ∷ platform ∷ features) =
-    Some (a_dep name target (record { kind = kind; optional = optional; platform = platform_of platform; default_features = defaults; features = features }))
+dep_row_of kind optional defaults (name ∷ target ∷ features) =
+    Some (a_dep name target (record { kind = kind; optional = optional; platform = None; default_features = defaults; features = features }))
 dep_row_of _ _ _ _ = None
+
+-- the row of the kept fields of a dependency on some platforms
+abbrev pub platform_dep_row_of : DependencyKind → Bool → Bool → List Text → Option RowText
+platform_dep_row_of kind optional defaults (name ∷ target ∷ platform ∷ features) =
+    Some (a_dep name target (record { kind = kind; optional = optional; platform = Some platform; default_features = defaults; features = features }))
+platform_dep_row_of _ _ _ _ = None
 
 -- the row of the kept fields
 abbrev pub form_row : Form → List Text → Option RowText
 form_row (form.Package in_workspace) (id ∷ []) = Some (a_package id in_workspace)
 form_row form.Feature (name ∷ items) = Some (a_feature name items)
 form_row (form.Dep kind optional defaults) kept = dep_row_of kind optional defaults kept
+form_row (form.PlatformDep kind optional defaults) kept = platform_dep_row_of kind optional defaults kept
 form_row _ _ = None
 
 abbrev pub is_malformed : Form → Bool
