@@ -170,7 +170,7 @@ pub next_made : (t : Tables) (done kept : List Key) (ix : ℕ) (x : Key) (old mi
     → map (λ e. e.0) mid.weak.entries ≡ first_ones (weak_sources ((done ++ take ix kept) ++ x ∷ []))
     → AreGates t mid.weak.entries
     → map (λ e. e.0) mid.weak.entries ≡ map (λ e. e.0) old.weak.entries ++ more
-    → mid.edges ≡ old.edges → mid.ends.items ≡ old.ends.items
+    → mid.edges ≡ old.edges → mid.ends ≡ old.ends
     → IsNext t kept ix x mid new → AreMade t (done ++ take ix kept) old → AreMade t (done ++ take (ix + 1) kept) new
 next_made t done kept ix x old mid new more at links gates grown edges ends n h =
     let before : List Key = done ++ take ix kept in

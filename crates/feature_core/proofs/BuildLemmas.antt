@@ -254,7 +254,7 @@ module _ (kept : List Key) (facts : List EdgeFacts) (digraph : List End) (made :
       subst (λ z. AreBuilt t z weak) (sym same) built
 
 -- what was made of the least keys of all packages
-module _ (t : Tables) (tables : AreTables t) (m : MadeEdges) (below : AreMadeBelow t (length t.packages) m) (digraph : List End) (is : digraph ≡ m.ends.items) where
+module _ (t : Tables) (tables : AreTables t) (m : MadeEdges) (below : AreMadeBelow t (length t.packages) m) (digraph : List End) (is : digraph ≡ m.ends) where
   all_made : IsMade below.kept m.edges digraph
   all_made = record { long = (below.made.values []).long; ends = is ∙ below.made.ends }
 

@@ -44,7 +44,7 @@ ends_more [] (g ∷ facts) x f h = absurd (omega (arith, h))
 ends_more (k ∷ keys) [] x f h = absurd (omega (arith, h))
 ends_more (k ∷ keys) (g ∷ facts) x f h = ap (λ z. edge_end k g ∷ z) (ends_more keys facts x f (omega (arith, h)))
 
-pub made_none : (t : Tables) (m : MadeEdges) → m.weak.entries ≡ [] → m.edges ≡ [] → m.ends.items ≡ [] → AreMade t [] m
+pub made_none : (t : Tables) (m : MadeEdges) → m.weak.entries ≡ [] → m.edges ≡ [] → m.ends ≡ [] → AreMade t [] m
 made_none t m weak edges ends = record {
   links = ap (map (λ e. e.0)) weak;
   gates = subst (λ z. AreGates t z) (sym weak) (λ i k gate h. cc);
@@ -58,7 +58,7 @@ pub made_next : (t : Tables) (done : List Key) (x : Key) (old new : MadeEdges) (
     → AreGates t new.weak.entries
     → map (λ e. e.0) new.weak.entries ≡ map (λ e. e.0) old.weak.entries ++ more
     → new.edges ≡ old.edges ++ f ∷ []
-    → new.ends.items ≡ old.ends.items ++ edge_end x f ∷ []
+    → new.ends ≡ old.ends ++ edge_end x f ∷ []
     → ((rest : List ℕ) → IsValueOf t (map (λ e. e.0) new.weak.entries ++ rest) x f)
     → AreMade t done old → AreMade t (done ++ x ∷ []) new
 made_next t done x old new f more links gates grown edges ends value h =

@@ -1,7 +1,6 @@
 //! The edges of a package graph, package by package, from keys to what each edge says.
 ghost use Rattle.std.specs.Prelude.{◌≡◌, ◌++◌, ℕ, ◌+◌, ◌-◌, ◌<◌, ◌≤◌, Contains, IfOk, List, OnOk, Some, length, map, slice_get, take};
 ghost use Rattle.indexmap.specs.IndexMap.{keys};
-ghost use Rattle.guppy_support.specs.Graph.{IsDigraph};
 ghost use Rattle.feature_core.specs.declared.key.Key.{Key as KeyValue};
 ghost use Rattle.feature_core.specs.Built.{pairs_of, built_edges, end_of};
 ghost use Rattle.feature_core.specs.Edges.{AreBuilt, EdgeFacts};
@@ -26,7 +25,7 @@ use crate::nodes::NodeTable;
 use crate::numbers::Numbers;
 use crate::quiet::Quiet;
 use crate::weak_links::note_gate;
-use guppy_support::{Digraph, DigraphError, Edge};
+use guppy_support::{Digraph, Edge, EdgeColumns};
 use indexmap::IndexMap;
 use std::alloc::{AllocError, Global};
 
@@ -53,7 +52,7 @@ fn edge_end(key: Key, edge: &FeatureEdge) -> Edge
 #[derive(Drop)]
 pub(crate) struct MadeEdges {
     edges: EdgeList,
-    ends: Vec<Edge>,
+    ends: EdgeColumns,
     weak: IndexMap<usize, usize>,
 }
 
@@ -209,7 +208,7 @@ fn made_edges(
     let edges = EdgeList::new(alloc)?;
     let mut made = MadeEdges {
         edges,
-        ends: Vec::new(alloc),
+        ends: EdgeColumns::new(alloc),
         weak: IndexMap::new(alloc),
     };
     let near = NearKeys::new(alloc)?;
@@ -224,19 +223,6 @@ fn made_edges(
         made.add_package(alloc, numbers, packages, groups, &mut room, ix)?;
     }
     Ok((made, room.quiet))
-}
-
-/// The digraph of edges that are in order and join nodes. It fails only where memory is refused.
-fn digraph_of(alloc: Global, nodes: usize, ends: Vec<Edge>) -> Result<Digraph, AllocError>
-    requires { IsDigraph (record { nodes = nodes; edges = ends.items }) }
-    ensures nodes { IfOk result (λ d. d.nodes ≡ nodes) }
-    ensures edges { IfOk result (λ d. d.edges ≡ ends.items) }
-{
-    match Digraph::from_edges(alloc, nodes, ends) {
-        Ok(digraph) => Ok(digraph),
-        Err(DigraphError::Memory) => Err(AllocError),
-        Err(DigraphError::BadNode | DigraphError::Unsorted) => unreachable!(),
-    }
 }
 
 /// The edges of a package graph, whose nodes are in the table, and what of the graph is without a warning.
@@ -259,7 +245,7 @@ pub(crate) fn edge_table(
     numbers.graph.facts();
     let (made, quiet) = made_edges(alloc, numbers, table.packages.as_slice(), groups)?;
     let MadeEdges { edges, ends, weak } = made;
-    let digraph = digraph_of(alloc, table.packages.len(), ends)?;
+    let digraph = Digraph::from_columns(alloc, table.packages.len(), ends)?;
     let edge_table = EdgeTable {
         digraph,
         edges,

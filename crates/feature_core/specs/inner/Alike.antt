@@ -32,7 +32,7 @@ pub record IsAlikeBefore (t : Tables) (kept : List Key) (ix : ℕ) (y : Key) (ne
 pub record IsAppended (x : Key) (f : EdgeFacts) (old new : MadeEdges) : Type 0 where
   pub weak : new.weak.entries ≡ old.weak.entries
   pub edges : new.edges ≡ old.edges ++ f ∷ []
-  pub ends : new.ends.items ≡ old.ends.items ++ edge_end x f ∷ []
+  pub ends : new.ends ≡ old.ends ++ edge_end x f ∷ []
 
 -- one edge more, of the key x at this place, that says what x tells once what each earlier key of these tells was made
 pub record IsNext (t : Tables) (kept : List Key) (ix : ℕ) (x : Key) (old new : MadeEdges) : Type 0 where

@@ -55,7 +55,7 @@ pub record AreMade (t : Tables) (kept : List Key) (m : MadeEdges) : Type 0 where
   pub links : map (λ e. e.0) m.weak.entries ≡ first_ones (weak_sources kept)
   pub gates : AreGates t m.weak.entries
   pub values : (rest : List ℕ) → AreValues t (map (λ e. e.0) m.weak.entries ++ rest) kept m.edges
-  pub ends : m.ends.items ≡ map (λ p. edge_end p.0 p.1) (zip kept m.edges)
+  pub ends : m.ends ≡ map (λ p. edge_end p.0 p.1) (zip kept m.edges)
 
 -- made of the least keys of the packages before p
 pub record AreMadeBelow (t : Tables) (p : ℕ) (m : MadeEdges) : Type 0 where
