@@ -132,14 +132,20 @@ fn place_of(
 }
 
 impl EdgeList {
-    /// No edge.
-    pub(crate) fn new(alloc: Global) -> Result<EdgeList, AllocError>
+    /// No edge, with room for so many, and for so many that say something of their own.
+    pub(crate) fn with_capacity(
+        alloc: Global,
+        room: usize,
+        own: usize,
+    ) -> Result<EdgeList, AllocError>
         ensures { IfOk result (λ edges. edges ≡ []) }
     {
         let recent = vec![in alloc; (0u32, 0u32); 4_096]?;
+        let pool = Vec::with_capacity(alloc, own)?;
+        let places = Vec::with_capacity(alloc, room)?;
         Ok(EdgeList {
-            pool: Vec::new(alloc),
-            places: Vec::new(alloc),
+            pool,
+            places,
             recent,
         })
     }

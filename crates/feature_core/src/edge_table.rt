@@ -1,5 +1,5 @@
 //! The edges of a package graph, package by package, from keys to what each edge says.
-ghost use Rattle.std.specs.Prelude.{◌≡◌, ◌++◌, ℕ, ◌+◌, ◌-◌, ◌<◌, ◌≤◌, Contains, IfOk, List, OnOk, Some, length, map, slice_get, take};
+ghost use Rattle.std.specs.Prelude.{◌≡◌, ◌++◌, [], ℕ, ◌+◌, ◌-◌, ◌<◌, ◌≤◌, Contains, IfOk, List, OnOk, Some, length, map, slice_get, take};
 ghost use Rattle.indexmap.specs.IndexMap.{keys};
 ghost use Rattle.feature_core.specs.declared.key.Key.{Key as KeyValue};
 ghost use Rattle.feature_core.specs.Built.{pairs_of, built_edges, end_of};
@@ -193,6 +193,24 @@ impl MadeEdges {
     }
 }
 
+/// No edge, with room for as many as graphs of so many nodes and links mostly have: an edge for each node, and four for each link, of
+/// which two say something of their own. Room that isn't used is never touched.
+fn no_edges(alloc: Global, nodes: usize, links: usize) -> Result<MadeEdges, AllocError>
+    ensures edges { IfOk result (λ made. made.edges ≡ []) }
+    ensures ends { IfOk result (λ made. made.ends ≡ []) }
+    ensures weak { IfOk result (λ made. made.weak.entries ≡ []) }
+{
+    let own = links.saturating_mul(2);
+    let room = nodes.saturating_add(own.saturating_mul(2));
+    let edges = EdgeList::with_capacity(alloc, room, own)?;
+    let ends = EdgeColumns::with_capacity(alloc, room)?;
+    Ok(MadeEdges {
+        edges,
+        ends,
+        weak: IndexMap::new(alloc),
+    })
+}
+
 /// The edges of the nodes of all packages, and what is without a warning.
 fn made_edges(
     alloc: Global,
@@ -205,12 +223,7 @@ fn made_edges(
     ensures made { IfOk result (λ m. AreMadeBelow numbers.entry.graph.now (length numbers.entry.graph.now.packages) m.0) }
     ensures quiet { IfOk result (λ m. IsQuiet numbers.entry.graph.now m.1) }
 {
-    let edges = EdgeList::new(alloc)?;
-    let mut made = MadeEdges {
-        edges,
-        ends: EdgeColumns::new(alloc),
-        weak: IndexMap::new(alloc),
-    };
+    let mut made = no_edges(alloc, packages.len(), numbers.graph.link_count())?;
     let near = NearKeys::new(alloc)?;
     let quiet = Quiet::none(alloc, numbers.graph)?;
     let mut room = Room {

@@ -32,18 +32,8 @@ impl Model for EdgeColumns {
 }
 
 impl EdgeColumns {
-    /// No edge.
-    pub fn new(alloc: Global) -> EdgeColumns
-        ensures { result ≡ [] }
-    {
-        EdgeColumns {
-            sources: Vec::new(alloc),
-            ends: Vec::new(alloc),
-        }
-    }
-
     /// No edge, with room for so many.
-    fn with_capacity(alloc: Global, room: usize) -> Result<EdgeColumns, AllocError>
+    pub fn with_capacity(alloc: Global, room: usize) -> Result<EdgeColumns, AllocError>
         ensures { IfOk result (λ columns. columns ≡ []) }
     {
         let sources = Vec::with_capacity(alloc, room)?;

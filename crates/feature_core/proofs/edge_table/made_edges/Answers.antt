@@ -9,7 +9,7 @@ loop-ix-init c = (
   record {
     kept = [];
     is_kept = kept_none c.args.numbers.graph.now;
-    made = made_none c.args.numbers.graph.now _ c.new-3.ensures.empty c.in_ok-edges.ensures c.new-2.ensures;
+    made = made_none c.args.numbers.graph.now _ c.in_ok-made.ensures.weak c.in_ok-made.ensures.edges c.in_ok-made.ensures.ends;
   },
   c.in_ok-quiet.ensures,
 )
