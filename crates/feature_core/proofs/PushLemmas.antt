@@ -336,10 +336,10 @@ module _ (t : Tables) (p first end : ℕ) (are : AreLinksFrom t.links p first en
       (λ x i. (i.0, (i.1, i.2)))
       (Adds-all (IsOfLinkFrom t p) n a b (λ k x i. let w = leaves_within k i.0 in omega (arith, w.1, l)) h)
 
--- by a package, then by the links that leave it, from none on
-pub all_of_source : (t : Tables) (p : ℕ) (a b c : List Key) → a ≡ [] → Adds (IsOfPackageAt t p) a b → Adds (λ x. (k : ℕ) × IsLinkFrom t p k × IsOfLinkAt t k x) b c → (x : Key) → Contains c x ↔ IsOfSource t p x
+-- by the links that leave a package, then by the package, from none on
+pub all_of_source : (t : Tables) (p : ℕ) (a b c : List Key) → a ≡ [] → Adds (λ x. (k : ℕ) × IsLinkFrom t p k × IsOfLinkAt t k x) a b → Adds (IsOfPackageAt t p) b c → (x : Key) → Contains c x ↔ IsOfSource t p x
 all_of_source t p a b c e f g x =
-    let all : Adds (λ x. IsOfPackageAt t p x ⊎ ((k : ℕ) × IsLinkFrom t p k × IsOfLinkAt t k x)) a c = Adds-then (IsOfPackageAt t p) (λ x. (k : ℕ) × IsLinkFrom t p k × IsOfLinkAt t k x) a b c f g in (
-      (λ h. ⊎_elim (λ i. absurd (Contains-none x (subst (λ z. Contains z x) e i))) (λ i. i) (all.nothing_else x h)),
-      (λ h. all.added x h),
+    let all : Adds (λ x. ((k : ℕ) × IsLinkFrom t p k × IsOfLinkAt t k x) ⊎ IsOfPackageAt t p x) a c = Adds-then (λ x. (k : ℕ) × IsLinkFrom t p k × IsOfLinkAt t k x) (IsOfPackageAt t p) a b c f g in (
+      (λ h. ⊎_elim (λ i. absurd (Contains-none x (subst (λ z. Contains z x) e i))) (λ i. ⊎_elim (λ l. inr l) (λ q. inl q) i) (all.nothing_else x h)),
+      (λ h. all.added x (⊎_elim (λ q. inr q) (λ l. inl l) h)),
     )

@@ -287,9 +287,10 @@ pub(crate) fn package_keys(
 {
     let metadata = numbers.graph.package(ix);
     keys.clear();
+    // keys from the base come first in order, and most of them are of links
+    push_links(keys, &mut quiet.links, numbers, metadata)?;
     let told = push_package(keys, numbers, groups, metadata)?;
     note(&mut quiet.packages, ix, told);
-    push_links(keys, &mut quiet.links, numbers, metadata)?;
     sort_keys(keys);
     Ok(())
 }

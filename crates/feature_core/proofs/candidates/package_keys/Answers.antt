@@ -11,12 +11,12 @@ pub returns-clause-keys : goal.returns-clause-keys
 returns-clause-keys c x =
     let t = c.args.numbers.graph.now in
     let p = c.args.ix in
-    let before = c.push_links.new.keys.items in
+    let before = c.push_package.new.keys.items in
     let sorted = c.sort_keys.new.keys.items in
     let moved = c.sort_keys.ensures.permutation in
-    let of = all_of_source t p c.clear.new.self.items c.push_package.new.keys.items before c.clear.ensures.items
-    (subst (λ z. Adds (IsOfPackageAt t z) c.clear.new.self.items c.push_package.new.keys.items) c.package-metadata.ensures.number c.in_ok-told.ensures.keys)
-    (subst (λ z. Adds (λ x. (k : ℕ) × IsLinkFrom t z k × IsOfLinkAt t k x) c.push_package.new.keys.items before) c.package-metadata.ensures.number c.in_ok-push_links.ensures.keys) x in (
+    let of = all_of_source t p c.clear.new.self.items c.push_links.new.keys.items before c.clear.ensures.items
+    (subst (λ z. Adds (λ x. (k : ℕ) × IsLinkFrom t z k × IsOfLinkAt t k x) c.clear.new.self.items c.push_links.new.keys.items) c.package-metadata.ensures.number c.in_ok-push_links.ensures.keys)
+    (subst (λ z. Adds (IsOfPackageAt t z) c.push_links.new.keys.items before) c.package-metadata.ensures.number c.in_ok-told.ensures.keys) x in (
       (λ h. of.0 (Contains-permutation sorted before x (IsPermutation-sym before sorted moved) h)),
       (λ h. Contains-permutation before sorted x moved (of.1 h)),
     )
