@@ -1,15 +1,18 @@
 -- Edges that share places.
-use Rattle.std.proofs.Common.{◌≡◌, ℕ, ◌<◌, List, [], ◌∷◌, ◌++◌, length, map, get_or, Bool, false, Option, None, Some, refl, ap, sym, ◌∙◌, subst, arith}
-use Rattle.std.specs.Prelude.{IsTrue, ◌↔◌, slice_get}
+use Rattle.std.proofs.Common.{◌≡◌, ℕ, zero, suc, ◌<◌, ◌≤◌, ⊎_elim, List, [], ◌∷◌, ◌++◌, length, map, get_or, Bool, false, Option, None, Some, refl, ap, sym, ◌∙◌, subst, arith}
+use Rattle.std.specs.Prelude.{IsTrue, ◌↔◌, nat_lt, slice_get}
 use Rattle.std.specs.Option.{option_map}
+use Rattle.std.proofs.lemmas.Bool.Decides.{nat_tests}
 use Rattle.std.proofs.lemmas.List.{length-map, map-append}
 use Rattle.std.proofs.lemmas.List.Elements.{All-nil, All-head, All-tail, All-push, All-weaker, All-get_or}
 use Rattle.std.proofs.lemmas.Option.{slice_get-map, slice_get-get_or, slice_get_within, get_or_from_slice_get}
+use Rattle.feature_core.specs.declared.edge.EdgeChoice.TheVariants.{FeatureToBaseAndNamed}
 use Rattle.feature_core.specs.declared.edge.FeatureEdge.{FeatureEdge}
-use Rattle.feature_core.specs.Edges.{EdgeFacts, base_edge}
-use Rattle.feature_core.specs.inner.Pools.{AreWithin, Keeps, facts_at}
+use Rattle.feature_core.specs.Choices.{is_chosen}
+use Rattle.feature_core.specs.Edges.{EdgeFacts, base_edge, feature_edge, colon_edge, strong_edge, weak_edge, section_edge}
+use Rattle.feature_core.specs.inner.Pools.{AreWithin, IsParted, Keeps, facts_at, fixed_place}
 use Rattle.feature_core.specs.Values.{edge_facts}
-use Rattle.feature_core.proofs.Places.{get_left, get_right, got_same}
+use Rattle.feature_core.proofs.Places.{get_left, get_right, get_cases, got_same}
 use Rattle.feature_core.proofs.SameLists.{no}
 
 -- what stands at a place of a pool
@@ -53,6 +56,38 @@ keeps_more old e p f h = ap (λ z. slice_get z p) (map-append edge_facts old (e 
 pub last_place : (old : List FeatureEdge) (e : FeatureEdge) (p : ℕ) → p ≡ length old → slice_get (map edge_facts (old ++ e ∷ [])) p ≡ Some (edge_facts e)
 last_place old e p h = ap (λ z. slice_get z p) (map-append edge_facts old (e ∷ [])) ∙ get_right (map edge_facts old) (edge_facts e ∷ []) p 0 (omega (arith, h, length-map old edge_facts))
 
+only_one : (x : EdgeFacts) (m : ℕ) (y : EdgeFacts) → slice_get (x ∷ []) m ≡ Some y → x ≡ y
+only_one x zero y h = got_same x y h
+only_one x (suc m) y h = cc
+
+-- with a conditional edge more
+pub parted_more : (old : List FeatureEdge) (e : FeatureEdge) → fixed_place (edge_facts e) ≡ None → IsParted old → IsParted (old ++ e ∷ [])
+parted_more old e h parted = record {
+  to_base = keeps_more old e 0 base_edge parted.to_base;
+  to_named = keeps_more old e 1 feature_edge parted.to_named;
+  conditional = λ p f l is. ⊎_elim
+      (λ here. parted.conditional p f l here)
+      (λ last. subst (λ z. fixed_place z ≡ None) (only_one (edge_facts e) last.0 f last.2) h)
+      (get_cases (map edge_facts old) (edge_facts e ∷ []) p f (sym (ap (λ z. slice_get z p) (map-append edge_facts old (e ∷ []))) ∙ is));
+}
+
+not_fixed : (f : EdgeFacts) → fixed_place f ≡ None → is_chosen FeatureToBaseAndNamed f ≡ false
+not_fixed base_edge h = cc
+not_fixed feature_edge h = cc
+not_fixed (colon_edge l) h = refl
+not_fixed (strong_edge l) h = refl
+not_fixed (weak_edge l halves) h = refl
+not_fixed (section_edge l) h = refl
+
+not_first : (p : ℕ) → 2 ≤ p → nat_lt p 2 ≡ false
+not_first p h = grind (arith, nat_tests)
+
+-- the places of the unconditional edges are the first ones
+chosen_at : (pool : List FeatureEdge) (p : ℕ) (f : EdgeFacts) → IsParted pool → slice_get (map edge_facts pool) p ≡ Some f → is_chosen FeatureToBaseAndNamed f ≡ nat_lt p 2
+chosen_at pool zero f parted is = ap (is_chosen FeatureToBaseAndNamed) (sym (got_same base_edge f (sym parted.to_base ∙ is)))
+chosen_at pool (suc zero) f parted is = ap (is_chosen FeatureToBaseAndNamed) (sym (got_same feature_edge f (sym parted.to_named ∙ is)))
+chosen_at pool (suc (suc p)) f parted is = not_fixed f (parted.conditional (suc (suc p)) f (omega arith) is) ∙ sym (not_first (suc (suc p)) (omega arith))
+
 module _ (old new : List FeatureEdge) (keeps : Keeps old new) where
   stays : (p : ℕ) → p < length old → get_or (map edge_facts new) p base_edge ≡ get_or (map edge_facts old) p base_edge
   stays p h = get_or_from_slice_get (map edge_facts new) p (get_or (map edge_facts old) p base_edge) base_edge (keeps p (get_or (map edge_facts old) p base_edge) (said_at old p h))
@@ -94,3 +129,9 @@ module _ (pool : List FeatureEdge) (places : List ℕ) (k p : ℕ) (there : slic
       said_at pool p (place_within h)
       ∙ sym (slice_get-map (λ q. get_or (map edge_facts pool) q base_edge) places k ∙ ap (option_map (λ q. get_or (map edge_facts pool) q base_edge)) there)
       ∙ e
+
+  pub chosen_there : AreWithin pool places → IsParted pool → Some (nat_lt p 2) ≡ option_map (is_chosen FeatureToBaseAndNamed) (slice_get (facts_at pool places) k)
+  chosen_there h parted =
+      let said = get_or (map edge_facts pool) p base_edge in
+      let here : slice_get (facts_at pool places) k ≡ Some said = slice_get-map (λ q. get_or (map edge_facts pool) q base_edge) places k ∙ ap (option_map (λ q. get_or (map edge_facts pool) q base_edge)) there in
+      sym (ap (option_map (is_chosen FeatureToBaseAndNamed)) here ∙ ap Some (chosen_at pool p said parted (said_at pool p (place_within h))))

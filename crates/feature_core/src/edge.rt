@@ -2,7 +2,6 @@
 ghost use Rattle.std.specs.Prelude.{◌≡◌, IfOk, option_copied};
 ghost use Rattle.std.specs.Option.{option_map};
 ghost use Rattle.feature_core.specs.Edges.{full_link, is_dev_only};
-ghost use Rattle.feature_core.specs.Choices.{is_chosen};
 ghost use Rattle.feature_core.specs.Offers.{halves_of, link_at};
 ghost use Rattle.feature_core.specs.Present.{has_present_link};
 ghost use Rattle.feature_core.specs.Values.{link_facts, half_facts, weak_facts_of, slash_facts, edge_facts};
@@ -140,18 +139,6 @@ pub enum EdgeChoice {
 }
 
 impl FeatureEdge {
-    /// Whether it is among the chosen edges.
-    pub(crate) fn is_chosen(&self, which: EdgeChoice) -> bool
-        ensures { result ≡ is_chosen which (edge_facts self.now) }
-    {
-        match which {
-            EdgeChoice::All => true,
-            EdgeChoice::FeatureToBaseAndNamed => {
-                matches!(self, FeatureEdge::FeatureToBase | FeatureEdge::NamedFeature)
-            }
-        }
-    }
-
     /// The full link of a conditional edge.
     fn full_link(&self) -> Option<&ConditionalLinkImpl>
         ensures { option_map link_facts (option_copied result) ≡ full_link (edge_facts self.now) }

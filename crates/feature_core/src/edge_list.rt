@@ -1,6 +1,9 @@
 //! Edges by number, of which those that say the same share one place.
-ghost use Rattle.std.specs.Prelude.{◌≡◌, ◌++◌, ◌∷◌, ◌<◌, ◌↔◌, [], Some, IfOk, OnOk, IsTrue, length, map, not, position, slice_get};
-ghost use Rattle.feature_core.specs.inner.Pools.{Keeps};
+ghost use Rattle.std.specs.Prelude.{◌≡◌, ◌++◌, ◌∷◌, ◌<◌, ◌↔◌, [], None, Some, IfOk, OnOk, IsTrue, length, map, not, position, slice_get};
+ghost use Rattle.std.specs.Option.{option_map};
+ghost use Rattle.feature_core.specs.declared.edge.EdgeChoice.TheVariants.{FeatureToBaseAndNamed};
+ghost use Rattle.feature_core.specs.Choices.{is_chosen};
+ghost use Rattle.feature_core.specs.inner.Pools.{fixed_place, IsParted, Keeps};
 ghost use Rattle.feature_core.specs.Edges.{EdgeFacts};
 ghost use Rattle.feature_core.specs.Present.{has_present_link};
 ghost use Rattle.feature_core.specs.Values.{edge_facts};
@@ -12,8 +15,8 @@ use feature_labels::LinkDeclarations;
 use std::alloc::{AllocError, Global};
 use std::marker::Model;
 
-/// Edges by number: for each its place in a pool. An edge that says the same as a recent one has the place of that one. A contract
-/// sees what each edge says.
+/// Edges by number: for each its place in a pool. The unconditional edges have the first places, and a conditional one that says the
+/// same as a recent one has the place of that one. A contract sees what each edge says.
 #[derive(Drop)]
 pub(crate) struct EdgeList {
     pool: Vec<FeatureEdge>,
@@ -25,13 +28,36 @@ pub(crate) struct EdgeList {
 impl Model for EdgeList {
     ghost use Rattle.std.specs.Prelude.{◌≡◌, List, length};
     ghost use Rattle.feature_core.specs.Edges.{EdgeFacts};
-    ghost use Rattle.feature_core.specs.inner.Pools.{AreWithin, facts_at};
+    ghost use Rattle.feature_core.specs.inner.Pools.{AreWithin, IsParted, facts_at};
 
     ghost Value = { List EdgeFacts };
 
     ghost view = { λ l. facts_at l.pool.items l.places.items };
 
-    ghost invariant = { λ l. AreWithin l.pool.items l.places.items × (length l.recent.items ≡ 4096) };
+    ghost invariant = { λ l. AreWithin l.pool.items l.places.items × (length l.recent.items ≡ 4096) × IsParted l.pool.items };
+}
+
+/// A pool of the unconditional edges, with room for so many edges.
+fn fixed_edges(alloc: Global, room: usize) -> Result<Vec<FeatureEdge>, AllocError>
+    ensures { IfOk result (λ pool. IsParted pool.items) }
+{
+    let mut pool = Vec::with_capacity(alloc, room)?;
+    pool.push(FeatureEdge::FeatureToBase)?;
+    pool.push(FeatureEdge::NamedFeature)?;
+    Ok(pool)
+}
+
+/// The place that an unconditional edge has in each pool.
+fn fixed_place(edge: &FeatureEdge) -> Option<u32>
+    ensures { result ≡ fixed_place (edge_facts edge.now) }
+{
+    match edge {
+        FeatureEdge::FeatureToBase => Some(0),
+        FeatureEdge::NamedFeature => Some(1),
+        FeatureEdge::DependenciesSection(_)
+        | FeatureEdge::NamedFeatureDepColon(_)
+        | FeatureEdge::NamedFeatureWithSlash { .. } => None,
+    }
 }
 
 /// Whether the link is over optional declarations, as a number.
@@ -96,8 +122,11 @@ fn is_at(pool: &[FeatureEdge], place: usize, edge: &FeatureEdge) -> bool
     false
 }
 
-/// Adds an edge, and gives its place. It fails where memory is refused, or places have run out.
+/// Adds a conditional edge, and gives its place. It fails where memory is refused, or places have run out.
 fn place_after(pool: &mut Vec<FeatureEdge>, edge: FeatureEdge) -> Result<u32, AllocError>
+    requires conditional { fixed_place (edge_facts edge) ≡ None }
+    requires parted { IsParted pool.old.items }
+    ensures parted { IsParted pool.new.items }
     ensures kept { Keeps pool.old.items pool.new.items }
     ensures place { IfOk result (λ place. slice_get (map edge_facts pool.new.items) place ≡ Some (edge_facts edge)) }
 {
@@ -109,13 +138,16 @@ fn place_after(pool: &mut Vec<FeatureEdge>, edge: FeatureEdge) -> Result<u32, Al
     Ok(place as u32)
 }
 
-/// The place of an edge that says the same, where it's the one in the edge's slot; else the edge is added.
-fn place_of(
+/// The place of a conditional edge that says the same, where it's the one in the edge's slot; else the edge is added.
+fn place_near(
     pool: &mut Vec<FeatureEdge>,
     recent: &mut Vec<(u32, u32)>,
     edge: FeatureEdge,
 ) -> Result<u32, AllocError>
-    requires { length recent.old.items ≡ 4096 }
+    requires conditional { fixed_place (edge_facts edge) ≡ None }
+    requires parted { IsParted pool.old.items }
+    requires long { length recent.old.items ≡ 4096 }
+    ensures parted { IsParted pool.new.items }
     ensures kept { Keeps pool.old.items pool.new.items }
     ensures place { IfOk result (λ place. slice_get (map edge_facts pool.new.items) place ≡ Some (edge_facts edge)) }
     ensures long { length recent.new.items ≡ 4096 }
@@ -131,6 +163,25 @@ fn place_of(
     Ok(place)
 }
 
+/// The place of an edge, which is added where it's conditional and no edge that says the same is in its slot.
+fn place_of(
+    pool: &mut Vec<FeatureEdge>,
+    recent: &mut Vec<(u32, u32)>,
+    edge: FeatureEdge,
+) -> Result<u32, AllocError>
+    requires parted { IsParted pool.old.items }
+    requires long { length recent.old.items ≡ 4096 }
+    ensures parted { IsParted pool.new.items }
+    ensures kept { Keeps pool.old.items pool.new.items }
+    ensures place { IfOk result (λ place. slice_get (map edge_facts pool.new.items) place ≡ Some (edge_facts edge)) }
+    ensures long { length recent.new.items ≡ 4096 }
+{
+    match fixed_place(&edge) {
+        Some(place) => Ok(place),
+        None => place_near(pool, recent, edge),
+    }
+}
+
 impl EdgeList {
     /// No edge, with room for so many, and for so many that say something of their own.
     pub(crate) fn with_capacity(
@@ -141,7 +192,7 @@ impl EdgeList {
         ensures { IfOk result (λ edges. edges ≡ []) }
     {
         let recent = vec![in alloc; (0u32, 0u32); 4_096]?;
-        let pool = Vec::with_capacity(alloc, own)?;
+        let pool = fixed_edges(alloc, own.saturating_add(2))?;
         let places = Vec::with_capacity(alloc, room)?;
         Ok(EdgeList {
             pool,
@@ -183,6 +234,14 @@ impl EdgeList {
     {
         let place = self.places[number];
         &self.pool[place as usize]
+    }
+
+    /// Whether the edge of this number is unconditional, by its place alone.
+    pub(crate) fn is_unconditional(&self, number: usize) -> bool
+        requires { number < length self.now }
+        ensures { Some result ≡ option_map (is_chosen FeatureToBaseAndNamed) (slice_get self.now number) }
+    {
+        self.places[number] < 2
     }
 }
 

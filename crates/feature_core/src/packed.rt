@@ -1,7 +1,9 @@
 //! The edges of a feature graph as a source for walks.
 ghost use Rattle.std.specs.Prelude.{◌≡◌, ◌+◌, ◌^◌, ◌<◌, ℕ, Some, length, slice_get};
+ghost use Rattle.std.specs.Option.{option_map};
 ghost use Rattle.walk_engine.specs.Walks.{Content, EndsAreNodes, starting, releasing, told};
 ghost use Rattle.feature_core.specs.Built.{built_edges};
+ghost use Rattle.feature_core.specs.Choices.{is_chosen};
 ghost use Rattle.feature_core.specs.Ways.{asked, content, waits, GatesAreNodes, Reading};
 ghost use Rattle.feature_core.specs.inner.Asking.{ask_in, gate_in, held, IsTied, IsOrdered, released_place};
 ghost use Rattle.feature_core.specs.inner.ChosenWays.{ask_where, chosen_content};
@@ -33,16 +35,33 @@ pub(crate) enum Asking<'a> {
     Chosen(EdgeChoice),
 }
 
-/// What is asked of an edge.
-fn ask_of(asking: &Asking<'_>, direction: DependencyDirection, edge: &FeatureEdge) -> Ask
-    ensures { result ≡ ask_in asking.now direction (edge_facts edge.now) }
+/// What is asked of the edge of this number.
+fn ask_of(
+    asking: &Asking<'_>,
+    direction: DependencyDirection,
+    edges: &EdgeList,
+    number: usize,
+) -> Ask
+    requires { number < length edges.now }
+    ensures { Some result ≡ option_map (ask_in asking.now direction) (slice_get edges.now number) }
 {
     match asking {
         Asking::Offers {
             weak: _,
             released: _,
-        } => offers_of(direction, edge),
-        Asking::Chosen(which) => ask_unless(edge.is_chosen(*which)),
+        } => offers_of(direction, edges.get(number)),
+        Asking::Chosen(which) => ask_unless(is_chosen(edges, *which, number)),
+    }
+}
+
+/// Whether the edge of this number is among the chosen ones.
+fn is_chosen(edges: &EdgeList, which: EdgeChoice, number: usize) -> bool
+    requires { number < length edges.now }
+    ensures { Some result ≡ option_map (is_chosen which) (slice_get edges.now number) }
+{
+    match which {
+        EdgeChoice::All => true,
+        EdgeChoice::FeatureToBaseAndNamed => edges.is_unconditional(number),
     }
 }
 
@@ -236,7 +255,7 @@ fn taken(
     Taken {
         edge,
         far: far_end(direction, digraph.edge(edge)),
-        ask: ask_of(asking, direction, edges.get(edge)),
+        ask: ask_of(asking, direction, edges, edge),
     }
 }
 
@@ -296,12 +315,11 @@ fn table_edge(
     ensures { Tells (slice_get (held asking.now direction digraph.now.nodes (built_edges digraph.now.edges edges.now)).ways number) (Some result) }
 {
     let ends = digraph.edge(number);
-    let edge = edges.get(number);
     TableEdge {
         start: near_end(direction, ends),
         far: far_end(direction, ends),
-        ask: ask_of(asking, direction, edge),
-        gate: gate_in(asking, edge),
+        ask: ask_of(asking, direction, edges, number),
+        gate: gate_in(asking, edges.get(number)),
     }
 }
 

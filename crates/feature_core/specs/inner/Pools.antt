@@ -1,7 +1,7 @@
 -- Edges by number, of which those that say the same may share one place.
-use Rattle.std.specs.Prelude.{◌≡◌, ℕ, ◌<◌, List, All, Some, length, map, slice_get, slice_index_or}
+use Rattle.std.specs.Prelude.{◌≡◌, ℕ, ◌<◌, ◌≤◌, List, All, Option, None, Some, length, map, slice_get, slice_index_or}
 use Rattle.feature_core.specs.declared.edge.FeatureEdge.{FeatureEdge}
-use Rattle.feature_core.specs.Edges.{EdgeFacts, base_edge}
+use Rattle.feature_core.specs.Edges.{EdgeFacts, base_edge, feature_edge, colon_edge, strong_edge, weak_edge, section_edge}
 use Rattle.feature_core.specs.Values.{edge_facts}
 
 -- what the edges at the places say
@@ -15,3 +15,18 @@ AreWithin pool places = All (λ p. p < length pool) places
 -- what an edge says stays where it stands
 abbrev pub Keeps : List FeatureEdge → List FeatureEdge → Type 0
 Keeps old new = (p : ℕ) (f : EdgeFacts) → slice_get (map edge_facts old) p ≡ Some f → slice_get (map edge_facts new) p ≡ Some f
+
+-- the place that an unconditional edge has in each pool
+abbrev pub fixed_place : EdgeFacts → Option ℕ
+fixed_place base_edge = Some 0
+fixed_place feature_edge = Some 1
+fixed_place (colon_edge l) = None
+fixed_place (strong_edge l) = None
+fixed_place (weak_edge l halves) = None
+fixed_place (section_edge l) = None
+
+-- the unconditional edges stand in their places, and conditional ones after them
+pub record IsParted (pool : List FeatureEdge) : Type 0 where
+  pub to_base : slice_get (map edge_facts pool) 0 ≡ Some base_edge
+  pub to_named : slice_get (map edge_facts pool) 1 ≡ Some feature_edge
+  pub conditional : (p : ℕ) (f : EdgeFacts) → 2 ≤ p → slice_get (map edge_facts pool) p ≡ Some f → fixed_place f ≡ None

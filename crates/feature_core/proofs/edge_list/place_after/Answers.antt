@@ -1,9 +1,14 @@
 use Rattle.std.proofs.Common.{rules, ◌≡◌, map, length, Some, sym, subst}
 use Rattle.std.specs.Prelude.{slice_get}
-use Rattle.feature_core.specs.inner.Pools.{Keeps}
+use Rattle.feature_core.specs.inner.Pools.{IsParted, Keeps}
 use Rattle.feature_core.specs.Values.{edge_facts}
-use Rattle.feature_core.proofs.PoolLemmas.{keeps_more, last_place}
+use Rattle.feature_core.proofs.PoolLemmas.{keeps_more, parted_more, last_place}
 use Rattle.feature_core.proofs.edge_list.place_after.Goals as goal
+
+pub returns-clause-parted : goal.returns-clause-parted
+returns-clause-parted c =
+    let old = c.args.pool.now.items in
+    subst IsParted (sym c.in_ok-push.ensures.items) (parted_more old c.args.edge c.requires.conditional c.requires.parted)
 
 pub returns-clause-kept : goal.returns-clause-kept
 returns-clause-kept c =

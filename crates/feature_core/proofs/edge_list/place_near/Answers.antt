@@ -1,7 +1,7 @@
 use Rattle.std.proofs.Common.{◌≡◌, map, Some, subst}
 use Rattle.std.specs.Prelude.{slice_get}
 use Rattle.feature_core.specs.Values.{edge_facts}
-use Rattle.feature_core.proofs.edge_list.place_of.Goals as goal
+use Rattle.feature_core.proofs.edge_list.place_near.Goals as goal
 
 pub returns-then-is_at-clause-kept : goal.returns-then-is_at-clause-kept
 returns-then-is_at-clause-kept c = λ p f h. h
