@@ -2,6 +2,7 @@ pub mod Apart
 pub mod ComponentWalk
 pub mod Counts
 pub mod EdgeColumns
+pub mod Groups
 pub mod Heads
 pub mod NodeEdges
 pub mod Numbering

@@ -10,14 +10,15 @@ ghost use Rattle.guppy_support.specs.Sequences.{IsOrderOf, IsSequence, component
 ghost use Rattle.guppy_support.specs.inner.Numbering.{AreNumbered, rank_at};
 
 mod counts;
+mod groups;
 mod listing;
 mod numbering;
 mod queue;
 
 use crate::components::component_ranks;
 use crate::digraph::Digraph;
-use crate::rows::pack_rows;
 use counts::first_plan;
+use groups::Groups;
 use listing::order_from;
 use numbering::{numbered, placed, scattered};
 use std::alloc::{AllocError, Global};
@@ -136,7 +137,7 @@ fn listed(alloc: Global, graph: &Digraph, ranks: &[u32]) -> Result<Vec<usize>, A
     requires setup { IsSetup graph.now ranks.now }
     ensures { IfOk result (λ list. IsOrder graph.now.edges graph.now.nodes list.items) }
 {
-    let groups = pack_rows(alloc, graph.node_count(), &ranks)?;
+    let groups = Groups::new(alloc, ranks, graph.node_count())?;
     let plan = first_plan(alloc, graph, ranks, &groups)?;
     order_from(graph, ranks, &groups, plan)
 }

@@ -2,14 +2,15 @@
 ghost use Rattle.std.specs.Prelude.{◌≡◌, ◌≢◌, ℕ, [], ◌+◌, ◌<◌, ◌≤◌, length, slice_index, IfOk, OnOk, false};
 ghost use Rattle.guppy_support.specs.Graph.{IsDigraph};
 ghost use Rattle.guppy_support.specs.Rows.{places};
-ghost use Rattle.guppy_support.specs.inner.PackedRows.{IsPacked};
+ghost use Rattle.guppy_support.specs.inner.Groups.{AreGroups};
 ghost use Rattle.guppy_support.specs.inner.Plans.{IsSetup, IsPauseIn, IsEdge, AreEntering, AreHolding, AreFirsts};
 
 use crate::bit_set::IxBitSet;
 use crate::digraph::{Digraph, Edge};
-use crate::order::listing::{Plan, first_of, row};
+use crate::order::groups::Groups;
+use crate::order::listing::{Plan, first_of};
 use crate::order::queue::Queue;
-use crate::rows::{Rows, zeroes};
+use crate::rows::zeroes;
 use std::alloc::{AllocError, Global};
 
 /// The edge of that number.
@@ -101,19 +102,19 @@ fn first_starts(
     alloc: Global,
     nodes: usize,
     ranks: &[u32],
-    groups: &Rows,
+    groups: &Groups,
     outside: &[u32],
     held: &[u32],
 ) -> Result<Queue, AllocError>
     requires ranks { length ranks.now ≡ nodes }
     requires outside { length outside.now ≡ nodes }
     requires held { length held.now ≡ nodes }
-    requires packed { IsPacked nodes ranks.now groups.now.begins.items groups.now.numbers.items }
+    requires groups { AreGroups nodes ranks.now groups.now }
     ensures { IfOk result (λ starts. AreFirsts ranks.now outside.now held.now nodes starts) }
 {
     let mut starts = Queue::empty(alloc, nodes)?;
     for rank in 0..nodes {
-        let members = row(groups, ranks, rank, nodes);
+        let members = groups.row(ranks, rank, nodes);
         add_start(&mut starts, members, ranks, outside, held, rank)?;
     }
     Ok(starts)
@@ -124,10 +125,10 @@ pub(crate) fn first_plan(
     alloc: Global,
     graph: &Digraph,
     ranks: &[u32],
-    groups: &Rows,
+    groups: &Groups,
 ) -> Result<Plan, AllocError>
     requires setup { IsSetup graph.now ranks.now }
-    requires packed { IsPacked graph.now.nodes ranks.now groups.now.begins.items groups.now.numbers.items }
+    requires groups { AreGroups graph.now.nodes ranks.now groups.now }
     ensures { IfOk result (λ plan. IsPauseIn graph.now ranks.now plan) }
 {
     let nodes = graph.node_count();

@@ -2,7 +2,7 @@
 ghost use Rattle.std.specs.Prelude.{◌≡◌, ◌≢◌, ℕ, [], ◌∷◌, ◌++◌, ◌+◌, ◌-◌, ◌<◌, ◌≤◌, length, slice_index, slice_set, IfSome, IfNone, IfOk, OnOk, Contains, set, true};
 ghost use Rattle.guppy_support.specs.Graph.{IsDigraph, sources};
 ghost use Rattle.guppy_support.specs.Rows.{places};
-ghost use Rattle.guppy_support.specs.inner.PackedRows.{IsPacked};
+ghost use Rattle.guppy_support.specs.inner.Groups.{AreGroups};
 ghost use Rattle.guppy_support.specs.Orders.{IsOrder};
 ghost use Rattle.guppy_support.specs.inner.Heads.{IsDone};
 ghost use Rattle.guppy_support.specs.inner.Plans.{TakesFresh, IsFirst, IsFreshPlace, StartsGrow, AreReady, Waits, IsSetup, IsOutEdge, IsAtIn, IsWithinIn, IsChosenIn, IsPauseIn, RowWaits};
@@ -10,8 +10,8 @@ ghost use Rattle.guppy_support.specs.inner.Queues.{Joins};
 
 use crate::bit_set::IxBitSet;
 use crate::digraph::{Digraph, Edge};
+use crate::order::groups::Groups;
 use crate::order::queue::Queue;
-use crate::rows::Rows;
 use std::alloc::AllocError;
 
 /// What is known between two nodes of the order.
@@ -77,18 +77,18 @@ pub(crate) fn first_of(row: &[u32], held: &[u32]) -> usize
 }
 
 /// The first node of that node's component with no hold, or else its first. A node that is alone is the first.
-fn head_of(groups: &Rows, ranks: &[u32], held: &[u32], node: usize, nodes: usize) -> usize
+fn head_of(groups: &Groups, ranks: &[u32], held: &[u32], node: usize, nodes: usize) -> usize
     requires node { node < length ranks.now }
     requires small { slice_index ranks.now node < nodes }
-    requires packed { IsPacked nodes ranks.now groups.now.begins.items groups.now.numbers.items }
+    requires groups { AreGroups nodes ranks.now groups.now }
     requires nodes { (j : ℕ) → j < length (places (slice_index ranks.now node) ranks.now) → slice_index (places (slice_index ranks.now node) ranks.now) j < length held.now }
     ensures { IsFirst (places (slice_index ranks.now node) ranks.now) held.now result }
 {
-    let members = row_of(groups, ranks, node, nodes);
-    if members.len() == 1 {
+    let rank = ranks[node] as usize;
+    if groups.is_alone(ranks, rank, nodes) {
         return node;
     }
-    first_of(members, held)
+    first_of(groups.row(ranks, rank, nodes), held)
 }
 
 /// One edge less enters the node's component; when it was the last, its head joins the starts.
@@ -96,7 +96,7 @@ fn leave_outside(
     outside: &mut Vec<u32>,
     starts: &mut Queue,
     held: &[u32],
-    groups: &Rows,
+    groups: &Groups,
     ranks: &[u32],
     node: usize,
     nodes: usize,
@@ -104,7 +104,7 @@ fn leave_outside(
     requires node { node < length ranks.now }
     requires rank { slice_index ranks.now node < length outside.old.items }
     requires small { slice_index ranks.now node < nodes }
-    requires packed { IsPacked nodes ranks.now groups.now.begins.items groups.now.numbers.items }
+    requires groups { AreGroups nodes ranks.now groups.now }
     requires positive { 0 < slice_index outside.old.items (slice_index ranks.now node) }
     requires nodes { (j : ℕ) → j < length (places (slice_index ranks.now node) ranks.now) → slice_index (places (slice_index ranks.now node) ranks.now) j < length held.now }
     ensures outside { OnOk result (outside.new.items ≡ set outside.old.items (slice_index ranks.now node) (slice_index outside.old.items (slice_index ranks.now node) - 1)) }
@@ -134,25 +134,6 @@ fn leave_held(held: &mut Vec<u32>, ready: &mut Queue, node: usize) -> Result<(),
     Ok(())
 }
 
-/// The row of the component of that rank.
-pub(crate) fn row<'a>(groups: &'a Rows, ranks: &[u32], rank: usize, nodes: usize) -> &'a [u32]
-    requires rank { rank < nodes }
-    requires packed { IsPacked nodes ranks.now groups.now.begins.items groups.now.numbers.items }
-    ensures { result.now ≡ places rank ranks.now }
-{
-    &groups.numbers[groups.begins[rank] as usize..groups.begins[rank + 1] as usize]
-}
-
-/// The row of the component of that node.
-fn row_of<'a>(groups: &'a Rows, ranks: &[u32], node: usize, nodes: usize) -> &'a [u32]
-    requires node { node < length ranks.now }
-    requires small { slice_index ranks.now node < nodes }
-    requires packed { IsPacked nodes ranks.now groups.now.begins.items groups.now.numbers.items }
-    ensures { result.now ≡ places (slice_index ranks.now node) ranks.now }
-{
-    row(groups, ranks, ranks[node] as usize, nodes)
-}
-
 /// The edge at that place of those that leave the node.
 fn out_edge(graph: &Digraph, node: usize, place: usize) -> Edge
     requires node { node < graph.now.nodes }
@@ -169,11 +150,11 @@ impl Plan {
         &mut self,
         graph: &Digraph,
         ranks: &[u32],
-        groups: &Rows,
+        groups: &Groups,
         rank: usize,
     ) -> Option<usize>
         requires setup { IsSetup graph.now ranks.now }
-        requires packed { IsPacked graph.now.nodes ranks.now groups.now.begins.items groups.now.numbers.items }
+        requires groups { AreGroups graph.now.nodes ranks.now groups.now }
         requires within { IsWithinIn graph.now ranks.now rank self.old }
         ensures none { IfNone result (IsPauseIn graph.now ranks.now self.new) }
         ensures some { IfSome result (λ v. IsChosenIn graph.now ranks.now v self.new) }
@@ -183,10 +164,10 @@ impl Plan {
         if let Some(node) = pop_fresh(&mut self.ready, &self.done) {
             return Some(node);
         }
-        let members = row(groups, ranks, rank, graph.node_count());
-        if members.len() == 1 {
+        if groups.is_alone(ranks, rank, graph.node_count()) {
             return None;
         }
+        let members = groups.row(ranks, rank, graph.node_count());
         let Some(place) = fresh_from(members, self.next, &self.done) else {
             return None;
         };
@@ -199,13 +180,13 @@ impl Plan {
         &mut self,
         graph: &Digraph,
         ranks: &[u32],
-        groups: &Rows,
+        groups: &Groups,
         node: usize,
         place: usize,
         edge: Edge,
     ) -> Result<(), AllocError>
         requires setup { IsSetup graph.now ranks.now }
-        requires packed { IsPacked graph.now.nodes ranks.now groups.now.begins.items groups.now.numbers.items }
+        requires groups { AreGroups graph.now.nodes ranks.now groups.now }
         requires edge { IsOutEdge graph.now node place edge.to edge.non_dev }
         requires apart { slice_index ranks.now edge.to ≢ slice_index ranks.now node }
         requires at { IsAtIn graph.now ranks.now node place self.old }
@@ -255,12 +236,12 @@ impl Plan {
         &mut self,
         graph: &Digraph,
         ranks: &[u32],
-        groups: &Rows,
+        groups: &Groups,
         node: usize,
         place: usize,
     ) -> Result<(), AllocError>
         requires setup { IsSetup graph.now ranks.now }
-        requires packed { IsPacked graph.now.nodes ranks.now groups.now.begins.items groups.now.numbers.items }
+        requires groups { AreGroups graph.now.nodes ranks.now groups.now }
         requires node { node < graph.now.nodes }
         requires place { place < length (places node (sources graph.now.edges)) }
         requires at { IsAtIn graph.now ranks.now node place self.old }
@@ -297,11 +278,11 @@ impl Plan {
         &mut self,
         graph: &Digraph,
         ranks: &[u32],
-        groups: &Rows,
+        groups: &Groups,
         node: usize,
     ) -> Result<(), AllocError>
         requires setup { IsSetup graph.now ranks.now }
-        requires packed { IsPacked graph.now.nodes ranks.now groups.now.begins.items groups.now.numbers.items }
+        requires groups { AreGroups graph.now.nodes ranks.now groups.now }
         requires chosen { IsChosenIn graph.now ranks.now node self.old }
         ensures within { OnOk result (IsWithinIn graph.now ranks.now (slice_index ranks.now node) self.new) }
         ensures longer { OnOk result (length self.new.listed.items ≡ length self.old.listed.items + 1) }
@@ -319,10 +300,10 @@ impl Plan {
         &mut self,
         graph: &Digraph,
         ranks: &[u32],
-        groups: &Rows,
+        groups: &Groups,
     ) -> Result<Option<usize>, AllocError>
         requires setup { IsSetup graph.now ranks.now }
-        requires packed { IsPacked graph.now.nodes ranks.now groups.now.begins.items groups.now.numbers.items }
+        requires groups { AreGroups graph.now.nodes ranks.now groups.now }
         requires pause { IsPauseIn graph.now ranks.now self.old }
         ensures none { IfOk result (λ found. IfNone found (IsOrder graph.now.edges graph.now.nodes self.new.listed.items)) }
         ensures some { IfOk result (λ found. IfSome found (λ v. IsChosenIn graph.now ranks.now v self.new)) }
@@ -331,8 +312,14 @@ impl Plan {
         let Some(start) = pop_fresh(&mut self.starts, &self.done) else {
             return Ok(None);
         };
-        let members = row_of(groups, ranks, start, graph.node_count());
-        make_ready(&mut self.ready, members, &self.held, start)?;
+        make_ready(
+            &mut self.ready,
+            groups,
+            ranks,
+            &self.held,
+            start,
+            graph.node_count(),
+        )?;
         self.next = 0;
         Ok(Some(start))
     }
@@ -342,11 +329,11 @@ impl Plan {
         &mut self,
         graph: &Digraph,
         ranks: &[u32],
-        groups: &Rows,
+        groups: &Groups,
         start: usize,
     ) -> Result<(), AllocError>
         requires setup { IsSetup graph.now ranks.now }
-        requires packed { IsPacked graph.now.nodes ranks.now groups.now.begins.items groups.now.numbers.items }
+        requires groups { AreGroups graph.now.nodes ranks.now groups.now }
         requires within { IsWithinIn graph.now ranks.now start self.old }
         ensures pause { OnOk result (IsPauseIn graph.now ranks.now self.new) }
         ensures longer { OnOk result (length self.old.listed.items ≤ length self.new.listed.items) }
@@ -371,19 +358,40 @@ fn wait(ready: &mut Queue, held: &[u32], node: usize, start: usize) -> Result<()
     Ok(())
 }
 
-/// The nodes of a row with no hold, but the start, are ready. A row of one node has the start alone.
-fn make_ready(ready: &mut Queue, row: &[u32], held: &[u32], start: usize) -> Result<(), AllocError>
+/// The nodes of a row with no hold, but the start, are ready.
+fn add_ready(ready: &mut Queue, row: &[u32], held: &[u32], start: usize) -> Result<(), AllocError>
     requires nodes { (j : ℕ) → j < length row.now → slice_index row.now j < length held.now }
     requires none { ready.old ≡ [] }
-    requires alone { length row.now ≡ 1 → slice_index row.now 0 ≡ start }
     ensures { OnOk result (RowWaits row.now held.now start ready.new) }
 {
-    if row.len() == 1 {
-        return Ok(());
-    }
     for place in 0..row.len() {
         wait(ready, held, row[place] as usize, start)?;
     }
+    Ok(())
+}
+
+/// The nodes of the start's component with no hold, but the start, are ready.
+fn make_ready(
+    ready: &mut Queue,
+    groups: &Groups,
+    ranks: &[u32],
+    held: &[u32],
+    start: usize,
+    nodes: usize,
+) -> Result<(), AllocError>
+    requires start { start < length ranks.now }
+    requires small { slice_index ranks.now start < nodes }
+    requires groups { AreGroups nodes ranks.now groups.now }
+    requires nodes { (j : ℕ) → j < length (places (slice_index ranks.now start) ranks.now) → slice_index (places (slice_index ranks.now start) ranks.now) j < length held.now }
+    requires none { ready.old ≡ [] }
+    ensures { OnOk result (RowWaits (places (slice_index ranks.now start) ranks.now) held.now start ready.new) }
+{
+    let rank = ranks[start] as usize;
+    if groups.is_alone(ranks, rank, nodes) {
+        return Ok(());
+    }
+    let members = groups.row(ranks, rank, nodes);
+    add_ready(ready, members, held, start)?;
     Ok(())
 }
 
@@ -391,11 +399,11 @@ fn make_ready(ready: &mut Queue, row: &[u32], held: &[u32], start: usize) -> Res
 pub(crate) fn order_from(
     graph: &Digraph,
     ranks: &[u32],
-    groups: &Rows,
+    groups: &Groups,
     first: Plan,
 ) -> Result<Vec<usize>, AllocError>
     requires setup { IsSetup graph.now ranks.now }
-    requires packed { IsPacked graph.now.nodes ranks.now groups.now.begins.items groups.now.numbers.items }
+    requires groups { AreGroups graph.now.nodes ranks.now groups.now }
     requires pause { IsPauseIn graph.now ranks.now first }
     ensures { IfOk result (λ list. IsOrder graph.now.edges graph.now.nodes list.items) }
 {

@@ -1,23 +1,12 @@
-use Rattle.std.proofs.Common.{◌≡◌, ◌<◌, [], Contains, length, arith, inl, inr}
-use Rattle.std.proofs.lemmas.Bool.{cases_eq}
-use Rattle.std.proofs.lemmas.List.Elements.{Contains-get_or}
+use Rattle.std.proofs.Common.{[], Contains, arith, refl, get_or}
+use Rattle.guppy_support.proofs.GroupLemmas.{row_alone}
 use Rattle.guppy_support.proofs.order.listing.make_ready.Goals as goal
 
-pub loop-place-preserved : goal.loop-place-preserved
-loop-place-preserved c =
-    let i = c.loop-place.invariant in
-    let k = c.loop-place.place in
-    let row = c.args.row.now in
-    let a = c.in_ok-wait.ensures in
-    let inside : k < length row = c.loop-place-test.true in
+pub returns-then-is_alone : goal.returns-then-is_alone
+returns-then-is_alone c =
+    let v = c.args.start in
+    let ranks = c.args.ranks.now in
     record {
-      ready_all = λ j h z ne. elim (cases_eq j k) [ inl e ↦ rw e (a.now (rw e at z) (rw e at ne)) | inr o ↦ a.kept _ (i.ready_all j (omega arith) z ne) ];
-      ready_only = λ y cy. elim (a.only y cy) [ inl e ↦ rw e.0 (Contains-get_or row k 0 inside, e.1) | inr o ↦ i.ready_only y o ];
-    }
-
-pub returns-then-row-eq1 : goal.returns-then-row-eq1
-returns-then-row-eq1 c =
-    record {
-      ready_all = λ j h z ne. let first : j ≡ 0 = omega (arith, h, c.if-row-eq1.true) in absurd ((rw first at ne) (c.requires.alone c.if-row-eq1.true));
+      ready_all = λ j h z ne. absurd (ne (row_alone ranks (get_or ranks v 0) v c.requires.start refl (c.is_alone.ensures c.if-is_alone.true) j h));
       ready_only = λ y cy. let none : Contains [] y = rw c.requires.none at cy in absurd (omega (arith, none.1));
     }

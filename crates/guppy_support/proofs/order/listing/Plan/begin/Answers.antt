@@ -1,7 +1,5 @@
-use Rattle.std.proofs.Common.{◌<◌, length, arith, ap, refl, get_or}
-use Rattle.guppy_support.specs.Rows.{places}
+use Rattle.std.proofs.Common.{length, arith, ap, get_or}
 use Rattle.guppy_support.proofs.PlaceLemmas.{places_within}
-use Rattle.guppy_support.proofs.GroupLemmas.{row_alone}
 use Rattle.guppy_support.proofs.ChoiceLemmas.{choose_start, order_end, filled}
 use Rattle.guppy_support.proofs.order.listing.Plan.begin.Goals as goal
 
@@ -14,26 +12,15 @@ pop_fresh-requires c =
 pub returns-in_default-clause-none : goal.returns-in_default-clause-none
 returns-in_default-clause-none c = order_end c.args.graph.now c.args.ranks.now c.requires.setup c.args.self.now.listed.items c.args.self.now.done c.args.self.now.outside.items c.args.self.now.held.items c.args.self.now.starts c.requires.pause.0 c.in_default.ensures.none
 
-pub row_of-members-requires-clause-node : goal.row_of-members-requires-clause-node
-row_of-members-requires-clause-node c = omega (arith, c.requires.pause.0.plan.starts_nodes _ c.in-Some.ensures.some.was, c.requires.setup.ranking.long)
+pub make_ready-requires-clause-start : goal.make_ready-requires-clause-start
+make_ready-requires-clause-start c = omega (arith, c.requires.pause.0.plan.starts_nodes _ c.in-Some.ensures.some.was, c.requires.setup.ranking.long)
 
 pub make_ready-requires-clause-nodes : goal.make_ready-requires-clause-nodes
 make_ready-requires-clause-nodes c =
     λ j h.
-    let r = get_or c.args.ranks.now c.in-Some.start 0 in
-    let h' : j < length (places r c.args.ranks.now) = rw c.row_of-members.ensures at h in
-    let w = places_within r c.args.ranks.now j h' in
+    let w = places_within (get_or c.args.ranks.now c.in-Some.start 0) c.args.ranks.now j h in
     let l = ap length c.deref.ensures.value in
-    rw c.row_of-members.ensures (omega (arith, w.0, l, c.requires.pause.0.plan.held_long, c.requires.setup.ranking.long))
-
-pub make_ready-requires-clause-alone : goal.make_ready-requires-clause-alone
-make_ready-requires-clause-alone c =
-    λ one.
-    let v = c.in-Some.start in
-    let long = ap length c.row_of-members.ensures in
-    rw c.row_of-members.ensures
-    (row_alone c.args.ranks.now (get_or c.args.ranks.now v 0) v (omega (arith, c.requires.pause.0.plan.starts_nodes _ c.in-Some.ensures.some.was, c.requires.setup.ranking.long)) refl
-    (omega (arith, one, long)) 0 (omega (arith, one, long)))
+    omega (arith, w.0, l, c.requires.pause.0.plan.held_long, c.requires.setup.ranking.long)
 
 pub returns-clause-some : goal.returns-clause-some
 returns-clause-some c =
@@ -41,4 +28,4 @@ returns-clause-some c =
     choose_start c.args.graph.now c.args.ranks.now c.requires.setup p.listed.items p.done p.outside.items p.held.items p.starts c.requires.pause.0 c.in-Some.start c.pop_fresh.new.queue c.make_ready.new.ready
     c.in-Some.ensures.some
     (filled c.args.graph.now.nodes c.args.ranks.now p.held.items (get_or c.args.ranks.now c.in-Some.start 0) c.in-Some.start c.make_ready.new.ready c.requires.setup.ranking.long
-    (rw (c.row_of-members.ensures, c.deref.ensures.value) at c.in_ok-make_ready.ensures))
+    (rw c.deref.ensures.value at c.in_ok-make_ready.ensures))

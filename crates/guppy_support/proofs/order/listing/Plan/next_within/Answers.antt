@@ -1,4 +1,4 @@
-use Rattle.std.proofs.Common.{◌≡◌, ◌<◌, length, ap, arith, get_or}
+use Rattle.std.proofs.Common.{◌≡◌, ◌<◌, length, arith, get_or}
 use Rattle.guppy_support.specs.Rows.{places}
 use Rattle.guppy_support.specs.inner.Plans.{rest_of, IsFreshPlace}
 use Rattle.guppy_support.proofs.PlaceLemmas.{places_within}
@@ -26,13 +26,12 @@ row-members-requires-clause-rank c =
     c.args.rank p.ready (rest_of c.args.ranks.now c.args.rank p) c.requires.within in
     omega (arith, small, c.node_count.ensures)
 
-pub returns-then-members-eq1-clause-none : goal.returns-then-members-eq1-clause-none
-returns-then-members-eq1-clause-none c =
-    let p = c.args.self.now in
-    let one = ap length c.row-members.ensures in (
+pub returns-then-is_alone-clause-none : goal.returns-then-is_alone-clause-none
+returns-then-is_alone-clause-none c =
+    let p = c.args.self.now in (
       alone_end c.args.graph.now c.args.ranks.now c.requires.setup p.listed.items p.done p.outside.items p.held.items p.starts
           c.args.rank p.ready (rest_of c.args.ranks.now c.args.rank p) c.requires.within
-          (omega (arith, one, c.if-members-eq1.true)),
+          (c.is_alone.ensures c.if-is_alone.true),
       c.in_default.ensures.empty,
     )
 

@@ -1,5 +1,5 @@
 use Rattle.std.proofs.Common.{◌≡◌, ◌≢◌, ◌<◌, ℕ, slice_index, Contains}
-use Rattle.guppy_support.proofs.order.listing.make_ready.Given as goal
+use Rattle.guppy_support.proofs.order.listing.add_ready.Given as goal
 
 abbrev pub invariant-loop-place : goal.invariant-loop-place
 invariant-loop-place l =
