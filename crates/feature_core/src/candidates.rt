@@ -291,6 +291,6 @@ pub(crate) fn package_keys(
     push_links(keys, &mut quiet.links, numbers, metadata)?;
     let told = push_package(keys, numbers, groups, metadata)?;
     note(&mut quiet.packages, ix, told);
-    sort_keys(keys);
+    sort_keys(keys)?;
     Ok(())
 }

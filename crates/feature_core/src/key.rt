@@ -18,12 +18,13 @@ pub(crate) struct Key {
     pub(crate) place: u32,
 }
 
-/// Sorts keys by pair, rank, source and place.
-pub(crate) fn sort_keys(keys: &mut Vec<Key>)
+/// Sorts keys by pair, rank, source and place. They come in long runs that are in order, which a merge sort keeps.
+pub(crate) fn sort_keys(keys: &mut Vec<Key>) -> Result<(), AllocError>
     ensures permutation { IsPermutation keys.old.items keys.new.items }
-    ensures sorted { AllPairs IsNoLater keys.new.items }
+    ensures sorted { OnOk result (AllPairs IsNoLater keys.new.items) }
 {
-    keys.sort_unstable();
+    keys.sort()?;
+    Ok(())
 }
 
 /// Of sorted keys, keeps the least of each pair.
