@@ -51,7 +51,7 @@ impl Model for Order {
 
 impl Order {
     /// The order and the components of the digraph. Each next node is the least-numbered one that may come next.
-    /// More nodes or edges than 32 bits can count are refused as want of memory.
+    /// More nodes than 2147483647, or edges than 4294967295, are refused as want of memory.
     pub fn new(alloc: Global, graph: &Digraph) -> Result<Order, AllocError>
         ensures { IfOk result (IsOrderOf graph.now) }
     {
