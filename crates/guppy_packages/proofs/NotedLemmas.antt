@@ -117,6 +117,11 @@ pub on_ok : {A E : Type 0} (r : Result A E) (P : Type 0) → P → OnOk r P
 on_ok (Ok x) P h = h
 on_ok (Err e) P h = tt
 
+-- what is noted, where a call gave these links and notes
+pub noted_given : {A E : Type 0} (r : Result A E) (from first : ℕ) (links new_links : List LinkTable) (last new_last : List ℕ) → OnOk r (new_links ≡ links) → OnOk r (new_last ≡ last) → AreNoted from links last first → OnOk r (AreNoted from new_links new_last first)
+noted_given (Ok x) from first links new_links last new_last h e noted = rw (h, e) noted
+noted_given (Err f) from first links new_links last new_last h e noted = tt
+
 module _ (from to : ℕ) (links : List LinkTable) (last : List ℕ) (first : ℕ) (noted : AreNoted from links last first) (at : ℕ) (is : slice_get last to ≡ Some at) where
   only : (k : ℕ) (l : LinkTable) → slice_get links k ≡ Some l → joins from to l ≡ true → k ≡ at
   only k l g t =

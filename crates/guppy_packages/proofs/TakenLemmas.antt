@@ -1,5 +1,5 @@
 -- What the calls of the maps do to the tables.
-use Rattle.std.proofs.Common.{◌≡◌, ℕ, zero, suc, ◌+◌, ◌-◌, List, [], ◌∷◌, ◌++◌, Bool, true, false, cond, ◌||◌, not, Option, None, Some, Result, Ok, Err, map, length, refl, ap, sym, ◌∙◌, subst, arith, is_some}
+use Rattle.std.proofs.Common.{◌≡◌, ℕ, zero, suc, ◌+◌, ◌-◌, List, [], ◌∷◌, ◌++◌, Bool, true, false, cond, ◌||◌, not, Option, None, Some, Result, Ok, Err, IfErr, OnOk, map, length, refl, ap, sym, ◌∙◌, subst, arith, is_some}
 use Rattle.std.specs.Prelude.{slice_get, slice_set}
 use Rattle.std.specs.List.{list_any, position_or_len}
 use Rattle.std.specs.Map.{lookup, values_of}
@@ -127,3 +127,9 @@ module _ (from to : ℕ) (name : Text) (d : Declared) where
       → Takes new result (joined_link name d l) → Takes (slice_set ls i new) result (add_link from to name d ls)
   link_joined ls i l new result p g taken =
       subst (λ o. Takes (slice_set ls i new) result o) (sym (link_at ls i l p g)) (Takes-map (slice_set ls i) new result (joined_link name d l) taken)
+
+  -- a link was begun, or memory was refused
+  pub link_begun : {C : Type 0} (ls new : List LinkTable) (result : Outcome C) → list_any (joins from to) ls ≡ false
+      → OnOk result (new ≡ ls ++ new_link ∷ []) → IfErr result (λ fault. fault ≡ Memory) → Takes new result (add_link from to name d ls)
+  link_begun ls new (Ok x) none made fault = link_new ls none ∙ ap Ok (sym made)
+  link_begun {C} ls new (Err e) none made fault = subst (λ f. Takes {A = C} new (Err f) (add_link from to name d ls)) (sym fault) tt

@@ -1,16 +1,19 @@
 //! From rows to a package graph, in two passes.
-ghost use Rattle.std.specs.Prelude.{◌≡◌, ℕ, ◌+◌, ◌-◌, ◌<◌, ◌≤◌, ◌^◌, ◌∷◌, [], Ok, IfOk, IfErr, OnOk, Some, false, length, map, slice_get};
+ghost use Rattle.std.specs.Prelude.{◌≡◌, ℕ, ◌+◌, ◌-◌, ◌<◌, ◌≤◌, ◌^◌, ◌∷◌, ◌++◌, [], Ok, IfOk, IfErr, OnOk, Some, false, length, map, slice_get, slice_set};
 ghost use Rattle.std.specs.Option.{option_map, option_map_or};
 ghost use Rattle.std.specs.String.{string_bytes};
+ghost use Rattle.guppy_support.specs.Sequences.{IsOrderOf};
 ghost use Rattle.guppy_packages.specs.Graph.{NamesRow, Reads, first_or, faults_by, row_fault, link_fault, packages_of, links_of, dependencies_of, tables_of};
 ghost use Rattle.guppy_packages.specs.NamedFeature.{feature_table};
+ghost use Rattle.guppy_packages.specs.PackageOrder.{digraph_of_packages};
 ghost use Rattle.guppy_packages.specs.Platform.{platform_specs, platform_text};
 ghost use Rattle.guppy_packages.specs.Rows.{row_text, texts};
-ghost use Rattle.guppy_packages.specs.inner.Begins.{IsBegin};
+ghost use Rattle.guppy_packages.specs.inner.Begins.{AreAllBegun, IsBegin};
 ghost use Rattle.guppy_packages.specs.inner.Noted.{AreNoted};
 ghost use Rattle.guppy_packages.specs.inner.Steps.{Takes, add_package, add_feature, add_name, add_link, begun_after, change_last, joined_link, joins, first_step, second_step, with_feature, with_name};
 ghost use Rattle.guppy_packages.specs.Stored.{declared, link_table, link_tables, package_tables};
-ghost use Rattle.guppy_packages.specs.Tables.{LinkTable, package_place};
+ghost use Rattle.guppy_packages.specs.Tables.{AreTables, LinkTable, package_place};
+ghost use Rattle.guppy_packages.specs.declared.row_error.RowFault.TheVariants.{Memory};
 
 use crate::contents::{Link, LinkData, PackageData};
 use crate::declaration::Declaration;
@@ -22,10 +25,12 @@ use crate::package_graph::PackageGraph;
 use crate::package_id::PackageId;
 use crate::package_order::package_order;
 use crate::platform::{PlatformStatusImpl, Spec};
+use crate::pushing::push_to;
 use crate::row::{DependencyKind, Row};
 use crate::row_error::{RowError, RowFault};
 use crate::row_source::{RowSlice, RowSource};
 use crate::text_map::TextMap;
+use guppy_support::Order;
 use indexmap::IndexMap;
 use smallvec::SmallVec;
 use std::alloc::{AllocError, Global};
@@ -37,9 +42,21 @@ fn owned(alloc: Global, items: &[&str]) -> Result<Vec<String>, AllocError>
 {
     let mut all = Vec::with_capacity(alloc, items.len())?;
     for item in items {
-        all.push(String::from_str(alloc, item)?)?;
+        push_to(&mut all, String::from_str(alloc, item)?)?;
     }
     Ok(all)
+}
+
+/// A package of which no more rows are known. It allocates nothing.
+#[inline]
+fn blank_package(alloc: Global, in_workspace: bool) -> PackageData
+    ensures { result ≡ record { in_workspace = in_workspace; features = []; optional_names = [] } }
+{
+    PackageData {
+        in_workspace,
+        features: NameSet::new(alloc),
+        optional_names: NameSet::new(alloc),
+    }
 }
 
 /// A Package row.
@@ -52,16 +69,7 @@ fn push_package(
     ensures { Takes (package_tables packages.new) result (add_package id.now in_workspace (package_tables packages.old)) }
 {
     let id = PackageId::new(alloc, id)?;
-    let features = NameSet::new(alloc);
-    let optional_names = NameSet::new(alloc);
-    let before = packages.insert(
-        id,
-        PackageData {
-            in_workspace,
-            features,
-            optional_names,
-        },
-    )?;
+    let before = packages.insert(id, blank_package(alloc, in_workspace))?;
     if before.is_some() {
         return Err(RowFault::DuplicatePackage);
     }
@@ -182,7 +190,7 @@ fn platform_of(alloc: Global, platform: Option<&str>) -> Result<PlatformStatusIm
         return Ok(PlatformStatusImpl::Always);
     };
     let mut specs = Vec::with_capacity(alloc, 1)?;
-    specs.push(Spec::new(alloc, text)?)?;
+    push_to(&mut specs, Spec::new(alloc, text)?)?;
     Ok(PlatformStatusImpl::Specs(specs))
 }
 
@@ -221,6 +229,8 @@ struct Noted {
     last: Vec<u32>,
     /// Where the links of the package at hand begin.
     first: usize,
+    /// How many packages began.
+    begun: usize,
 }
 
 /// Whether the link of this number joins the pair. Those before `first` leave other packages, and aren't looked at.
@@ -248,6 +258,37 @@ fn join_link(link: &mut LinkData, name: &str, declaration: Declaration) -> Resul
     Ok(())
 }
 
+/// What a link of one declaration holds.
+fn link_data(alloc: Global, name: &str, declaration: Declaration) -> Result<LinkData, AllocError>
+    ensures { IfOk result (λ link. (pair : ℕ × ℕ) → link_table (pair, link) ≡ record { from = pair.0; to = pair.1; name = name.now; declarations = declared declaration ∷ [] }) }
+{
+    let name = String::from_str(alloc, name)?;
+    let mut declarations = SmallVec::new(alloc);
+    declarations.push(declaration)?;
+    Ok(LinkData { name, declarations })
+}
+
+/// A Dep row of a pair of packages that no link joins.
+fn begin_link(
+    alloc: Global,
+    links: &mut Vec<Link>,
+    last: &mut Vec<u32>,
+    pair: (usize, usize),
+    name: &str,
+    declaration: Declaration,
+) -> Result<(), RowFault>
+    requires { pair.1 < length last.old.items }
+    ensures links { OnOk result (link_tables links.new.items ≡ link_tables links.old.items ++ record { from = pair.0; to = pair.1; name = name.now; declarations = declared declaration ∷ [] } ∷ []) }
+    ensures last { OnOk result (last.new.items ≡ slice_set last.old.items pair.1 (length (link_tables links.old.items))) }
+    ensures fault { IfErr result (λ fault. fault ≡ Memory) }
+{
+    let at = links.len();
+    let link = link_data(alloc, name, declaration)?;
+    push_to(links, (pair, link))?;
+    last[pair.1] = narrow(at)?;
+    Ok(())
+}
+
 /// A Dep row of a pair of packages. No link leaves a package after the first of the pair, so only the last link that leads to the
 /// second can be the pair's.
 fn push_link(
@@ -269,12 +310,7 @@ fn push_link(
     if joins_pair(links, noted.first, at, from, to) {
         return join_link(&mut links[at].1, name, declaration);
     }
-    let name = String::from_str(alloc, name)?;
-    let mut declarations = SmallVec::new(alloc);
-    declarations.push(declaration)?;
-    noted.last[to] = narrow(links.len())?;
-    links.push(((from, to), LinkData { name, declarations }))?;
-    Ok(())
+    begin_link(alloc, links, &mut noted.last, (from, to), name, declaration)
 }
 
 /// The number of the package with this id.
@@ -345,6 +381,30 @@ fn first_link(links: &[Link], first: usize, begun: usize, row: Row) -> usize
     }
 }
 
+/// A row of the second pass, with what it changes of what is noted.
+fn take_link(
+    alloc: Global,
+    packages: &TextMap<PackageId, PackageData>,
+    links: &mut Vec<Link>,
+    noted: &mut Noted,
+    row: Row,
+) -> Result<(), RowFault>
+    requires few { noted.old.begun + 1 < 2 ^ 64 }
+    requires count { length noted.old.last.items ≡ length (package_tables packages.now) }
+    requires noted { AreNoted (noted.old.begun - 1) (link_tables links.old.items) noted.old.last.items noted.old.first }
+    ensures tables { Takes (link_tables links.new.items) result (second_step (package_tables packages.now) noted.old.begun (link_tables links.old.items) (row_text row.entry)) }
+    ensures begun { OnOk result (noted.new.begun ≡ begun_after noted.old.begun (row_text row.entry)) }
+    ensures few { OnOk result (noted.new.begun ≤ noted.old.begun + 1) }
+    ensures count { OnOk result (length noted.new.last.items ≡ length (package_tables packages.now)) }
+    ensures noted { OnOk result (AreNoted (noted.new.begun - 1) (link_tables links.new.items) noted.new.last.items noted.new.first) }
+{
+    let begun = noted.begun;
+    link_row(alloc, packages, links, noted, begun, row)?;
+    noted.first = first_link(links, noted.first, begun, row);
+    noted.begun = count(begun, row);
+    Ok(())
+}
+
 /// The second pass. Rows of a package stand together, so the last link to each package tells whether a pair has come before. No link
 /// comes after it, so the list keeps no more room than it needs.
 fn take_links<S: RowSource>(
@@ -359,18 +419,44 @@ fn take_links<S: RowSource>(
     let mut noted = Noted {
         last: vec![in alloc; 0u32; packages.len()]?,
         first: 0,
+        begun: 0,
     };
-    let mut begun = 0;
     for row in 0..source.row_count() {
-        let given = source.row(row);
-        if let Err(fault) = link_row(alloc, packages, &mut links, &mut noted, begun, given) {
+        if let Err(fault) = take_link(alloc, packages, &mut links, &mut noted, source.row(row)) {
             return Err(RowError::new(row, fault));
         }
-        noted.first = first_link(&links, noted.first, begun, given);
-        begun = count(begun, given);
     }
     links.shrink_to_fit();
     Ok(links)
+}
+
+/// Both passes.
+fn take_tables<S: RowSource>(
+    alloc: Global,
+    source: &S,
+) -> Result<(TextMap<PackageId, PackageData>, Vec<Link>), RowError>
+    ensures tables { Reads (λ both. record { packages = package_tables both.0; links = link_tables both.1.items }) result (tables_of (S.rows source.now)) }
+    ensures sound { IfOk result (λ both. AreTables (record { packages = package_tables both.0; links = link_tables both.1.items })) }
+    ensures row { IfErr result (NamesRow (S.rows source.now)) }
+{
+    let packages = take_packages(alloc, source)?;
+    let links = take_links(alloc, &packages, source)?;
+    Ok((packages, links))
+}
+
+/// Where the links of each package begin, and the order of the packages.
+fn begins_and_order(
+    alloc: Global,
+    packages: &TextMap<PackageId, PackageData>,
+    links: &[Link],
+) -> Result<(Vec<u32>, Order), AllocError>
+    requires { AreTables (record { packages = package_tables packages.now; links = link_tables links.now }) }
+    ensures begins { IfOk result (λ both. AreAllBegun (length (package_tables packages.now)) (link_tables links.now) both.0.items) }
+    ensures order { IfOk result (λ both. IsOrderOf (digraph_of_packages (record { packages = package_tables packages.now; links = link_tables links.now })) both.1) }
+{
+    let begins = link_begins(alloc, packages, links)?;
+    let order = package_order(alloc, packages, links)?;
+    Ok((begins, order))
 }
 
 impl PackageGraph {
@@ -387,10 +473,8 @@ impl PackageGraph {
         ensures tables { Reads (λ graph. graph) result (tables_of (S.rows source.now)) }
         ensures row { IfErr result (NamesRow (S.rows source.now)) }
     {
-        let packages = take_packages(alloc, source)?;
-        let links = take_links(alloc, &packages, source)?;
-        let begins = link_begins(alloc, &packages, &links)?;
-        let order = package_order(alloc, &packages, &links)?;
+        let (packages, links) = take_tables(alloc, source)?;
+        let (begins, order) = begins_and_order(alloc, &packages, &links)?;
         Ok(PackageGraph {
             packages,
             links,

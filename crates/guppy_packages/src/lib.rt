@@ -18,6 +18,7 @@ mod package_metadata;
 mod package_order;
 mod package_set;
 mod platform;
+mod pushing;
 mod row;
 mod row_error;
 mod row_source;

@@ -2,10 +2,12 @@
 //!
 //! Most packages have few names: a scan finds one of them sooner than a hash does, and needs no table. A package may also have
 //! thousands, and then they are hashed.
-ghost use Rattle.std.specs.Prelude.{◌≡◌, [], IfOk, not, position};
+ghost use Rattle.std.specs.Prelude.{◌≡◌, ◌<◌, ◌∷◌, ◌++◌, [], IfOk, OnErr, if◌then◌else◌, is_ok, length, not, position};
 ghost use Rattle.std.specs.List.{list_any};
 ghost use Rattle.indexmap.specs.IndexSet.{insert_all, insert_key};
+ghost use Rattle.guppy_packages.specs.inner.NameSets.{held_items, IsSet};
 
+use crate::pushing::push_to;
 use crate::text_map::TextSet;
 use indexmap::{Equivalent, IndexSet};
 use std::alloc::{AllocError, Global};
@@ -49,12 +51,51 @@ fn has<T: Eq + Hash>(items: &[T], item: &T) -> bool
 }
 
 /// The items, hashed.
-fn hashed<T: Eq + Hash + Drop>(alloc: Global, items: Vec<T>) -> Result<Box<TextSet<T>>, AllocError>
-    ensures { IfOk result (λ set. set.value.keys ≡ insert_all T.eq [] items.items) }
+fn hashed<T: Eq + Hash + Drop>(alloc: Global, items: Vec<T>) -> Result<TextSet<T>, AllocError>
+    ensures { IfOk result (λ set. set.keys ≡ insert_all T.eq [] items.items) }
 {
     let mut set = IndexSet::with_capacity_and_hasher(alloc, 2 * FEW, BuildHasherDefault::new())?;
     set.extend(items)?;
-    Ok(Box::new(alloc, set)?)
+    Ok(set)
+}
+
+/// The items and one more, hashed.
+fn grown<T: Eq + Hash + Drop>(alloc: Global, items: Vec<T>, item: T) -> Result<Held<T>, AllocError>
+    ensures { IfOk result (λ held. held_items held ≡ insert_key T.eq (insert_all T.eq [] items.items) item) }
+{
+    let mut many = Box::new(alloc, hashed(alloc, items)?)?;
+    many.insert(item)?;
+    Ok(Held::Many(many))
+}
+
+/// Adds an item at the end, unless an equal one is there, and tells whether it did. Where memory is refused, items may be lost.
+#[inline]
+fn insert_into<T: Eq + Hash + Drop>(
+    alloc: Global,
+    held: &mut Held<T>,
+    item: T,
+) -> Result<bool, AllocError>
+    requires { IsSet T.eq (held_items held.old) }
+    ensures added { IfOk result (λ added. added ≡ not (list_any (T.eq item) (held_items held.old))) }
+    ensures items { IfOk result (λ _. held_items held.new ≡ insert_key T.eq (held_items held.old) item) }
+    ensures lost { OnErr result (IsSet T.eq (held_items held.new)) }
+{
+    match held {
+        Held::Many(items) => Ok(items.insert(item)?),
+        Held::Few(items) => {
+            if has(items, &item) {
+                return Ok(false);
+            }
+            if items.len() < FEW {
+                items.reserve_exact(FEW - items.len())?;
+                push_to(items, item)?;
+            } else {
+                let all = mem::replace(items, Vec::new(alloc));
+                *held = grown(alloc, all, item)?;
+            }
+            Ok(true)
+        }
+    }
 }
 
 impl<T: Eq + Hash + Drop> NameSet<T> {
@@ -92,23 +133,7 @@ impl<T: Eq + Hash + Drop> NameSet<T> {
         ensures added { IfOk result (λ added. added ≡ not (list_any (T.eq item) self.old)) }
         ensures items { IfOk result (λ _. self.new ≡ insert_key T.eq self.old item) }
     {
-        match &mut self.held {
-            Held::Many(items) => Ok(items.insert(item)?),
-            Held::Few(items) => {
-                if has(items, &item) {
-                    return Ok(false);
-                }
-                if items.len() < FEW {
-                    items.reserve_exact(FEW - items.len())?;
-                    items.push(item)?;
-                    return Ok(true);
-                }
-                let mut many = hashed(alloc, mem::replace(items, Vec::new(alloc)))?;
-                many.insert(item)?;
-                self.held = Held::Many(many);
-                Ok(true)
-            }
-        }
+        insert_into(alloc, &mut self.held, item)
     }
 
     /// Gives back memory that no item needs.

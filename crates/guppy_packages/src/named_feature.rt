@@ -6,6 +6,7 @@ ghost use Rattle.guppy_packages.specs.Rows.{texts};
 ghost use Rattle.guppy_packages.specs.inner.Pushed.{IsPushed};
 
 use crate::narrow::narrow;
+use crate::pushing::push_to;
 use indexmap::Equivalent;
 use std::alloc::{AllocError, Global};
 use std::fmt;
@@ -41,7 +42,7 @@ fn push_each(alloc: Global, text: &mut String, items: &[&str]) -> Result<Vec<u32
     let mut ends = Vec::with_capacity(alloc, items.len())?;
     for item in items {
         text.push_str(item)?;
-        ends.push(narrow(text.as_str().len())?)?;
+        push_to(&mut ends, narrow(text.as_str().len())?)?;
     }
     Ok(ends)
 }

@@ -2,6 +2,7 @@
 ghost use Rattle.std.specs.Prelude.{◌≡◌, IsTrue, ◌↔◌, IfOk, map};
 ghost use Rattle.guppy_packages.specs.Platform.{Status, spec_text, status_of, impl_status, platform_specs, always_status, never_status, IsPresent};
 
+use crate::pushing::push_to;
 use std::alloc::{AllocError, Global};
 
 /// The spec of a platform, an opaque text.
@@ -48,7 +49,7 @@ fn copied(alloc: Global, specs: &[Spec]) -> Result<Vec<Spec>, AllocError>
 {
     let mut all = Vec::with_capacity(alloc, specs.len())?;
     for spec in specs {
-        all.push(spec.try_clone(alloc)?)?;
+        push_to(&mut all, spec.try_clone(alloc)?)?;
     }
     Ok(all)
 }

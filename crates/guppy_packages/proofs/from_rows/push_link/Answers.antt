@@ -1,13 +1,13 @@
-use Rattle.std.proofs.Common.{◌≡◌, ◌∙◌, [], ◌∷◌, ◌++◌, Some, true, false, map, length, ap, refl, subst, sym}
+use Rattle.std.proofs.Common.{◌≡◌, ◌∙◌, Some, true, false, length, ap, refl, subst, sym}
 use Rattle.std.specs.Prelude.{slice_get}
 use Rattle.std.specs.Option.{option_map_or}
-use Rattle.std.proofs.lemmas.List.{length-map, map-append, map-set}
+use Rattle.std.proofs.lemmas.List.{map-set}
 use Rattle.std.proofs.lemmas.Option.{slice_get_read}
 use Rattle.guppy_packages.specs.Stored.{declared, link_table, link_tables}
 use Rattle.guppy_packages.specs.inner.Noted.{AreNoted}
 use Rattle.guppy_packages.specs.inner.Steps.{joins}
-use Rattle.guppy_packages.proofs.NotedLemmas.{link_there, missing_link, noted_joined, noted_link, noted_new, on_ok}
-use Rattle.guppy_packages.proofs.TakenLemmas.{link_joined, link_new}
+use Rattle.guppy_packages.proofs.NotedLemmas.{link_there, missing_link, noted_given, noted_joined, noted_link, noted_new, on_ok}
+use Rattle.guppy_packages.proofs.TakenLemmas.{link_begun, link_joined}
 use Rattle.guppy_packages.proofs.from_rows.push_link.Goals as goal
 
 pub returns-then-joins_pair-clause-tables : goal.returns-then-joins_pair-clause-tables
@@ -44,8 +44,7 @@ returns-clause-tables c =
     let is : slice_get c.args.noted.now.last.items to ≡ Some at = slice_get_read c.args.noted.now.last.items (length c.args.noted.now.last.items) to at refl c.requires.within c.index.ensures in
     let missing : option_map_or (joins from to) (slice_get (link_tables es) at) false ≡ false = ap (λ ls. option_map_or (joins from to) (slice_get (link_tables ls) at) false) (sym c.deref.ensures.value) ∙ sym c.joins_pair.ensures ∙ c.if-joins_pair.false in
     let none = missing_link from to (link_tables es) c.args.noted.now.last.items c.args.noted.now.first c.requires.noted at is missing in
-    let one : map declared c.push.new.self.items ≡ declared c.args.declaration ∷ [] = ap (map declared) c.in_ok-push.ensures.ok ∙ ap (λ xs. map declared (xs ++ c.args.declaration ∷ [])) c.new-declarations.ensures.items in
-    rw (link_new from to c.args.name.now (declared c.args.declaration) _ none, c.in_ok-push-2.ensures.items, map-append link_table es _, one, c.in_ok-name.ensures.ok)
+    link_begun from to c.args.name.now (declared c.args.declaration) (link_tables es) (link_tables c.begin_link.new.links.items) c.begin_link.result none c.begin_link.ensures.links c.begin_link.ensures.fault
 
 pub returns-clause-noted : goal.returns-clause-noted
 returns-clause-noted c =
@@ -55,6 +54,5 @@ returns-clause-noted c =
     let to = c.args.to in
     let is : slice_get c.args.noted.now.last.items to ≡ Some at = slice_get_read c.args.noted.now.last.items (length c.args.noted.now.last.items) to at refl c.requires.within c.index.ensures in
     let missing : option_map_or (joins from to) (slice_get (link_tables es) at) false ≡ false = ap (λ ls. option_map_or (joins from to) (slice_get (link_tables ls) at) false) (sym c.deref.ensures.value) ∙ sym c.joins_pair.ensures ∙ c.if-joins_pair.false in
-    let count : c.len.result ≡ length (link_tables es) = c.len.ensures ∙ c.args.links.now.ok.0 ∙ sym (length-map es link_table) in
-    let grown = ap link_tables c.in_ok-push-2.ensures.items ∙ map-append link_table es _ in
-    rw (grown, c.in_ok-noted.ensures, count) (noted_new from to (link_tables es) c.args.noted.now.last.items c.args.noted.now.first c.requires.noted at is missing _ refl refl c.requires.within)
+    let new = noted_new from to (link_tables es) c.args.noted.now.last.items c.args.noted.now.first c.requires.noted at is missing _ refl refl c.requires.within in
+    noted_given c.begin_link.result from c.args.noted.now.first _ (link_tables c.begin_link.new.links.items) _ c.begin_link.new.last.items c.begin_link.ensures.links c.begin_link.ensures.last new

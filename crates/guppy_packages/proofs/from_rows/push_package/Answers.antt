@@ -22,4 +22,4 @@ returns c =
     let fresh : list_any (λ p. bytes_eq c.args.id.now p.id) (package_tables m) ≡ false =
     lookup_any package_table (bytes_eq c.args.id.now) _ (λ e. refl) m.entries ∙ ap (λ i. is_some (lookup (bytes_eq i) m.entries)) (sym c.in_ok-id.ensures) ∙ ap is_some none in
     let added = c.in_ok-before.ensures.entries ∙ insert_entry-new _ m _ _ none in
-    rw (fresh, added, map-append package_table m.entries _, c.in_ok-id.ensures, c.new-features.ensures, c.new-optional_names.ensures)
+    rw (fresh, added, map-append package_table m.entries _, c.in_ok-id.ensures, c.blank_package.ensures)

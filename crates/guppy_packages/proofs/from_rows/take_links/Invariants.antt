@@ -9,10 +9,10 @@ abbrev pub invariant-loop-row : goal.invariant-loop-row
 invariant-loop-row g l =
     let rows = g.S.RowSource.rows l.source in
     record {
-      few : l.begun ≤ l.row;
+      few : l.noted.begun ≤ l.row;
       none : faults_by (link_fault (package_tables l.packages)) (take l.row rows) ≡ [];
-      counted : l.begun ≡ length (packages_of (take l.row rows));
+      counted : l.noted.begun ≡ length (packages_of (take l.row rows));
       size : length l.noted.last.items ≡ length (package_tables l.packages);
-      noted : AreNoted (l.begun - 1) (link_tables l.links.items) l.noted.last.items l.noted.first;
+      noted : AreNoted (l.noted.begun - 1) (link_tables l.links.items) l.noted.last.items l.noted.first;
       tables : link_tables l.links.items ≡ links_of (dependencies_of (package_tables l.packages) (take l.row rows));
     }
