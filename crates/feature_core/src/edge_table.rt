@@ -25,6 +25,7 @@ use crate::nodes::NodeTable;
 use crate::numbers::Numbers;
 use crate::quiet::Quiet;
 use crate::weak_links::note_gate;
+use guppy_packages::PackageGraph;
 use guppy_support::{Digraph, Edge, EdgeColumns};
 use indexmap::IndexMap;
 use std::alloc::{AllocError, Global};
@@ -64,6 +65,22 @@ struct Room {
     kept: Vec<Key>,
     near: NearKeys,
     quiet: Quiet,
+}
+
+impl Room {
+    /// Room for the edges of a graph. Nothing of it is found yet.
+    fn new(alloc: Global, graph: &PackageGraph) -> Result<Room, AllocError>
+        ensures { IfOk result (λ room. IsQuiet graph.now room.quiet) }
+    {
+        let near = NearKeys::new(alloc)?;
+        let quiet = Quiet::none(alloc, graph)?;
+        Ok(Room {
+            keys: Vec::new(alloc),
+            kept: Vec::new(alloc),
+            near,
+            quiet,
+        })
+    }
 }
 
 impl MadeEdges {
@@ -224,14 +241,7 @@ fn made_edges(
     ensures quiet { IfOk result (λ m. IsQuiet numbers.entry.graph.now m.1) }
 {
     let mut made = no_edges(alloc, packages.len(), numbers.graph.link_count())?;
-    let near = NearKeys::new(alloc)?;
-    let quiet = Quiet::none(alloc, numbers.graph)?;
-    let mut room = Room {
-        keys: Vec::new(alloc),
-        kept: Vec::new(alloc),
-        near,
-        quiet,
-    };
+    let mut room = Room::new(alloc, numbers.graph)?;
     for ix in 0..numbers.graph.package_count() {
         made.add_package(alloc, numbers, packages, groups, &mut room, ix)?;
     }

@@ -31,18 +31,20 @@ pub(crate) struct OrderedRows<'g> {
     pub(crate) ghost in_order: { AreRows rows },
 }
 
-/// Appends the names of entries.
-fn push_names<'g>(names: &mut Vec<&'g str>, entries: &[(&'g str, usize)]) -> Result<(), AllocError>
-    ensures { OnOk result (names.new.items ≡ names.old.items ++ map (λ e. e.0) entries.now) }
+/// Appends the names of entries, and their numbers.
+fn push_entries<'g>(
+    names: &mut Vec<&'g str>,
+    numbers: &mut Vec<usize>,
+    entries: &[(&'g str, usize)],
+) -> Result<(), AllocError>
+    ensures names { OnOk result (names.new.items ≡ names.old.items ++ map (λ e. e.0) entries.now) }
+    ensures numbers { OnOk result (numbers.new.items ≡ numbers.old.items ++ map (λ e. e.1) entries.now) }
 {
-    names.extend(entries.iter().map(|entry| entry.0))
-}
-
-/// Appends the numbers of entries.
-fn push_numbers(numbers: &mut Vec<usize>, entries: &[(&str, usize)]) -> Result<(), AllocError>
-    ensures { OnOk result (numbers.new.items ≡ numbers.old.items ++ map (λ e. e.1) entries.now) }
-{
-    numbers.extend(entries.iter().map(|entry| entry.1))
+    for entry in entries {
+        names.push(entry.0)?;
+        numbers.push(entry.1)?;
+    }
+    Ok(())
 }
 
 /// Up to how many names are looked through one by one.
@@ -150,8 +152,7 @@ impl<'g> NamedRows<'g> {
         ensures spans { OnOk result (self.new.spans.items ≡ self.old.spans.items ++ record { start = length self.old.names.items; end = length self.new.names.items } ∷ []) }
     {
         let start = self.names.len();
-        push_names(&mut self.names, entries)?;
-        push_numbers(&mut self.numbers, entries)?;
+        push_entries(&mut self.names, &mut self.numbers, entries)?;
         let end = self.names.len();
         self.spans.push(Span { start, end })?;
         Ok(())

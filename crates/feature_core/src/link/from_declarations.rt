@@ -42,12 +42,15 @@ fn is_included(which: LinkDeclarations, declaration: &Declaration) -> bool
 }
 
 /// Whether a declaration is covered by some.
-fn is_any_included(which: LinkDeclarations, declarations: &[Declaration]) -> bool
+pub(crate) fn is_any_included(which: LinkDeclarations, declarations: &[Declaration]) -> bool
     ensures { result ≡ list_any (λ d. includes which (declared d)) declarations.now }
 {
-    declarations
-        .iter()
-        .any(|declaration| is_included(which, declaration))
+    for declaration in declarations {
+        if is_included(which, declaration) {
+            return true;
+        }
+    }
+    false
 }
 
 /// Adds a declaration if it is covered, and says whether it is.
@@ -152,8 +155,7 @@ impl<'g> LinkParts<'g> {
         ensures { OnOk result ((before : List (ℕ × List Declared)) → HasParts self.old before → HasParts self.new (before ++ (link.entry.link_ix, at_places (link_table_of link.entry).declarations places.now) ∷ [])) }
     {
         let added = add_all_at(&mut self.statuses, link.declarations(), places)?;
-        self.note(link.link_ix(), added)?;
-        Ok(())
+        self.note(link.link_ix(), added)
     }
 
     /// The link, as one that covers these.
@@ -314,8 +316,7 @@ pub(crate) fn link_of(
     ensures { IfOk result (λ l. (link : LinkTable) → IsLink graph.now link_ix link → link_facts l ≡ over which (λ d. includes which d) ((link_ix, link) ∷ [])) }
 {
     let links = [link_ix];
-    let link = links_over(alloc, graph, &links, which)?;
-    Ok(link)
+    links_over(alloc, graph, &links, which)
 }
 
 /// One half of a weak edge over a package link.

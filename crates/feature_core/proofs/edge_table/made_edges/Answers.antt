@@ -11,7 +11,7 @@ loop-ix-init c = (
     is_kept = kept_none c.args.numbers.graph.now;
     made = made_none c.args.numbers.graph.now _ c.in_ok-made.ensures.weak c.in_ok-made.ensures.edges c.in_ok-made.ensures.ends;
   },
-  c.in_ok-quiet.ensures,
+  c.in_ok-room.ensures,
 )
 
 pub loop-ix-preserved : goal.loop-ix-preserved
