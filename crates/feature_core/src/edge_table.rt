@@ -208,6 +208,28 @@ impl MadeEdges {
         self.add_all(alloc, material, &mut room.near, &room.kept)?;
         Ok(())
     }
+
+    /// Adds the edges of the nodes of all packages.
+    fn add_packages(
+        &mut self,
+        alloc: Global,
+        numbers: Numbers<'_>,
+        packages: &[usize],
+        groups: &LinkGroups<'_>,
+        room: &mut Room,
+    ) -> Result<(), AllocError>
+        requires packages { packages.now ≡ node_packages numbers.graph.now }
+        requires links { AreNamedLinks numbers.graph.now groups.now }
+        requires made { AreMadeBelow numbers.graph.now 0 self.old }
+        requires quiet { IsQuiet numbers.graph.now room.now.quiet }
+        ensures made { OnOk result (AreMadeBelow numbers.entry.graph.now (length numbers.entry.graph.now.packages) self.new) }
+        ensures quiet { OnOk result (IsQuiet numbers.entry.graph.now room.new.quiet) }
+    {
+        for ix in 0..numbers.graph.package_count() {
+            self.add_package(alloc, numbers, packages, groups, room, ix)?;
+        }
+        Ok(())
+    }
 }
 
 /// No edge, with room for as many as graphs of so many nodes and links mostly have: an edge for each node, and four for each link, of
@@ -242,9 +264,7 @@ fn made_edges(
 {
     let mut made = no_edges(alloc, packages.len(), numbers.graph.link_count())?;
     let mut room = Room::new(alloc, numbers.graph)?;
-    for ix in 0..numbers.graph.package_count() {
-        made.add_package(alloc, numbers, packages, groups, &mut room, ix)?;
-    }
+    made.add_packages(alloc, numbers, packages, groups, &mut room)?;
     Ok((made, room.quiet))
 }
 

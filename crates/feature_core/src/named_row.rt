@@ -1,9 +1,9 @@
 //! Rows of names, with a number beside each name.
-ghost use Rattle.std.specs.Prelude.{◌≡◌, ◌++◌, ◌∷◌, ◌<◌, ◌≤◌, ℕ, [], false, get_or, true, IfOk, List, OnOk, length, map, not};
+ghost use Rattle.std.specs.Prelude.{◌≡◌, ◌++◌, ◌∷◌, ◌<◌, ◌≤◌, ℕ, [], false, get_or, true, IfOk, List, OnOk, length, map};
 ghost use Rattle.std.specs.Borrow.{Bor};
 ghost use Rattle.std.specs.List.{zip};
 ghost use Rattle.std.specs.Cmp.Lexicographic.{slice_cmp};
-ghost use Rattle.std.specs.Ordering.{is_gt, is_lt, nat_cmp};
+ghost use Rattle.std.specs.Ordering.{is_lt, nat_cmp};
 ghost use Rattle.std.specs.Str.{bytes_eq};
 ghost use Rattle.feature_core.specs.inner.NamedEntries.{AreOrdered, AreRows, numbers_in_row, numbers_named};
 
@@ -91,23 +91,18 @@ fn numbers_scanned<'a>(names: &[&str], numbers: &'a [usize], name: &str) -> &'a 
     &numbers[first..end]
 }
 
-/// The numbers beside a name, among names in order, which are searched by halves.
+/// The numbers beside a name, among names in order, of which the first is searched by halves.
 fn numbers_halved<'a>(names: &[&str], numbers: &'a [usize], name: &str) -> &'a [usize]
     requires ordered { AreOrdered names.now }
     requires beside { length names.now ≡ length numbers.now }
     ensures { result.now ≡ numbers_named name.now (zip names.now numbers.now) }
 {
-    let end = names.partition_point(
-        |text: &&str| -> bool
-            ensures { result ≡ not (is_gt (slice_cmp nat_cmp text.now.now name.entry.now)) }
-        { text.cmp(&name).is_le() },
-    );
-    let below = &names[..end];
-    let first = below.partition_point(
+    let first = names.partition_point(
         |text: &&str| -> bool
             ensures { result ≡ is_lt (slice_cmp nat_cmp text.now.now name.entry.now) }
         { text.cmp(&name).is_lt() },
     );
+    let end = end_place(names, first, name);
     &numbers[first..end]
 }
 

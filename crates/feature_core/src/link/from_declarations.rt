@@ -180,36 +180,50 @@ impl<'g> LinkParts<'g> {
         Ok(ConditionalLinkImpl { held })
     }
 
-    /// The link over the covered declarations of package links, where none is added yet.
-    fn over_links(
+    /// Adds the covered declarations of package links.
+    fn add_links(
         &mut self,
-        alloc: Global,
         graph: &'g PackageGraph,
         links: &[usize],
         which: LinkDeclarations,
-    ) -> Result<ConditionalLinkImpl, AllocError>
+    ) -> Result<(), AllocError>
         requires { (i k : ℕ) → slice_get links.now i ≡ Some k → k < length graph.now.links }
-        ensures { IfOk result (λ l. HasParts self.old [] → link_facts l ≡ over which (λ d. includes which d) (links_at graph.now links.now)) }
+        ensures { OnOk result (HasParts self.old [] → HasParts self.new (map (λ l. (l.0, filter (λ d. includes which d) l.1.declarations)) (links_at graph.now links.now))) }
     {
         for link_ix in links {
             self.add_link(graph.link(*link_ix), which)?;
         }
-        self.to_link(alloc, which)
+        Ok(())
     }
+}
 
-    /// The link over the declarations of a package link at places, where none is added yet.
-    fn over_places(
-        &mut self,
-        alloc: Global,
-        link: PackageLink<'g>,
-        which: LinkDeclarations,
-        places: &[usize],
-    ) -> Result<ConditionalLinkImpl, AllocError>
-        ensures { IfOk result (λ l. HasParts self.old [] → link_facts l ≡ over_places which link.entry.link_ix (link_table_of link.entry) places.now) }
-    {
-        self.add_places(link, places)?;
-        self.to_link(alloc, which)
-    }
+/// The link over the covered declarations of package links, all of which are collected.
+fn collected_links(
+    alloc: Global,
+    graph: &PackageGraph,
+    links: &[usize],
+    which: LinkDeclarations,
+) -> Result<ConditionalLinkImpl, AllocError>
+    requires { (i k : ℕ) → slice_get links.now i ≡ Some k → k < length graph.now.links }
+    ensures { IfOk result (λ l. link_facts l ≡ over which (λ d. includes which d) (links_at graph.now links.now)) }
+{
+    let mut parts = LinkParts::new(alloc);
+    parts.add_links(graph, links, which)?;
+    parts.to_link(alloc, which)
+}
+
+/// The link over the declarations of a package link at places, all of which are collected.
+fn collected_places(
+    alloc: Global,
+    link: PackageLink<'_>,
+    which: LinkDeclarations,
+    places: &[usize],
+) -> Result<ConditionalLinkImpl, AllocError>
+    ensures { IfOk result (λ l. link_facts l ≡ over_places which link.entry.link_ix (link_table_of link.entry) places.now) }
+{
+    let mut parts = LinkParts::new(alloc);
+    parts.add_places(link, places)?;
+    parts.to_link(alloc, which)
 }
 
 /// The status for a kind, of one declaration: its platform where it's of this kind, and else none.
@@ -301,8 +315,7 @@ pub(crate) fn links_over(
             return link_over_one(alloc, *link_ix, which, declaration);
         }
     }
-    let mut parts = LinkParts::new(alloc);
-    parts.over_links(alloc, graph, links, which)
+    collected_links(alloc, graph, links, which)
 }
 
 /// The link over the covered declarations of one package link.
@@ -370,6 +383,5 @@ pub(crate) fn section_link(
     {
         return link_over_one(alloc, link_ix, which, &declarations[*place]);
     }
-    let mut parts = LinkParts::new(alloc);
-    parts.over_places(alloc, graph.link(link_ix), which, places)
+    collected_places(alloc, graph.link(link_ix), which, places)
 }

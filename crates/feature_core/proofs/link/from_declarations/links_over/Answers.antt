@@ -14,6 +14,3 @@ returns-in-Some c =
     holds
     ∙ one_covered c.args.graph.now which c.args.links.now (link_table_of c.link.result) declaration c.in-len1.len_at_least c.in-len1.len_below c.link.ensures.link
     (subst (λ ds. filter (λ d. includes which d) ds ≡ declaration ∷ []) c.declarations-declarations.ensures c.in-Some.ensures))
-
-pub returns : goal.returns
-returns c = ok_map _ _ c.over_links.result c.over_links.ensures (λ l holds. holds c.new-parts.ensures)

@@ -27,7 +27,7 @@ pub returns-2 : goal.returns-2
 returns-2 c =
     let found = link_table_of c.link-2.result in
     let places = c.args.places.now in
-    ok_map _ _ c.over_places.result c.over_places.ensures (λ l holds link is.
-    holds c.new-parts.ensures
+    ok_map _ _ c.collected_places.result c.collected_places.ensures (λ l holds link is.
+    holds
     ∙ ap (λ k. over_places c.args.which k found places) c.link-2.ensures.number
     ∙ ap (λ l. over_places c.args.which c.args.link_ix l places) (one_link c.args.graph.now c.args.link_ix found link c.link-2.ensures.link is))
