@@ -157,8 +157,7 @@ impl MadeEdges {
         ensures long { OnOk result (ix + 1 ≤ length self.new.edges) }
     {
         note_gate(&mut self.weak, material.numbers, kept[ix])?;
-        self.add_noted(alloc, material, near, kept, ix)?;
-        Ok(())
+        self.add_noted(alloc, material, near, kept, ix)
     }
 
     /// Adds the edges of the least keys of a package.
@@ -209,7 +208,7 @@ impl MadeEdges {
         Ok(())
     }
 
-    /// Adds the edges of the nodes of all packages.
+    /// Adds the edges of the nodes of all packages, each in the same room.
     fn add_packages(
         &mut self,
         alloc: Global,
@@ -229,6 +228,25 @@ impl MadeEdges {
             self.add_package(alloc, numbers, packages, groups, room, ix)?;
         }
         Ok(())
+    }
+
+    /// Adds the edges of the nodes of all packages to none, and gives what is without a warning.
+    fn fill(
+        &mut self,
+        alloc: Global,
+        numbers: Numbers<'_>,
+        packages: &[usize],
+        groups: &LinkGroups<'_>,
+    ) -> Result<Quiet, AllocError>
+        requires packages { packages.now ≡ node_packages numbers.graph.now }
+        requires links { AreNamedLinks numbers.graph.now groups.now }
+        requires made { AreMadeBelow numbers.graph.now 0 self.old }
+        ensures made { OnOk result (AreMadeBelow numbers.entry.graph.now (length numbers.entry.graph.now.packages) self.new) }
+        ensures quiet { IfOk result (λ quiet. IsQuiet numbers.entry.graph.now quiet) }
+    {
+        let mut room = Room::new(alloc, numbers.graph)?;
+        self.add_packages(alloc, numbers, packages, groups, &mut room)?;
+        Ok(room.quiet)
     }
 }
 
@@ -263,9 +281,8 @@ fn made_edges(
     ensures quiet { IfOk result (λ m. IsQuiet numbers.entry.graph.now m.1) }
 {
     let mut made = no_edges(alloc, packages.len(), numbers.graph.link_count())?;
-    let mut room = Room::new(alloc, numbers.graph)?;
-    made.add_packages(alloc, numbers, packages, groups, &mut room)?;
-    Ok((made, room.quiet))
+    let quiet = made.fill(alloc, numbers, packages, groups)?;
+    Ok((made, quiet))
 }
 
 /// The edges of a package graph, whose nodes are in the table, and what of the graph is without a warning.

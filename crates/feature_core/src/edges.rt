@@ -66,15 +66,14 @@ fn link_to(
 {
     let name = name_at(material, ix);
     let package_ix = material.packages[ix];
-    let link = named_link(
+    named_link(
         alloc,
         material.numbers.graph,
         material.groups,
         package_ix,
         name,
         which,
-    )?;
-    Ok(link)
+    )
 }
 
 /// The places that keys tell.

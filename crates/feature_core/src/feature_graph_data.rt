@@ -352,15 +352,14 @@ impl FeatureGraphData {
         ensures size { IfOk result (λ set. length set ≡ length self.now.packages) }
         ensures members { IfOk result (λ set. (n : ℕ) → IsTrue (has set n) ↔ ReachAlong (PairLeads (chosen_pairs which self.now.edges) direction) (has initials.now) n) }
     {
-        let set = reach_chosen(
+        reach_chosen(
             alloc,
             &self.digraph,
             &self.edges,
             which,
             direction,
             initials,
-        )?;
-        Ok(set)
+        )
     }
 
     /// Its edges as a source of walks, as the direction follows them.

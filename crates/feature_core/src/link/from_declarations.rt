@@ -146,8 +146,7 @@ impl<'g> LinkParts<'g> {
         ensures { OnOk result ((before : List (ℕ × List Declared)) → HasParts self.old before → HasParts self.new (before ++ (link.entry.link_ix, filter (λ d. includes which d) (link_table_of link.entry).declarations) ∷ [])) }
     {
         let added = add_all_included(&mut self.statuses, link.declarations(), which)?;
-        self.note(link.link_ix(), added)?;
-        Ok(())
+        self.note(link.link_ix(), added)
     }
 
     /// Adds the declarations of a package link at places.
@@ -180,20 +179,35 @@ impl<'g> LinkParts<'g> {
         Ok(ConditionalLinkImpl { held })
     }
 
-    /// Adds the covered declarations of package links.
-    fn add_links(
+    /// The link over the covered declarations of package links, where none is added yet.
+    fn over_links(
         &mut self,
+        alloc: Global,
         graph: &'g PackageGraph,
         links: &[usize],
         which: LinkDeclarations,
-    ) -> Result<(), AllocError>
+    ) -> Result<ConditionalLinkImpl, AllocError>
         requires { (i k : ℕ) → slice_get links.now i ≡ Some k → k < length graph.now.links }
-        ensures { OnOk result (HasParts self.old [] → HasParts self.new (map (λ l. (l.0, filter (λ d. includes which d) l.1.declarations)) (links_at graph.now links.now))) }
+        ensures { IfOk result (λ l. HasParts self.old [] → link_facts l ≡ over which (λ d. includes which d) (links_at graph.now links.now)) }
     {
         for link_ix in links {
             self.add_link(graph.link(*link_ix), which)?;
         }
-        Ok(())
+        self.to_link(alloc, which)
+    }
+
+    /// The link over the declarations of a package link at places, where none is added yet.
+    fn over_places(
+        &mut self,
+        alloc: Global,
+        link: PackageLink<'g>,
+        which: LinkDeclarations,
+        places: &[usize],
+    ) -> Result<ConditionalLinkImpl, AllocError>
+        ensures { IfOk result (λ l. HasParts self.old [] → link_facts l ≡ over_places which link.entry.link_ix (link_table_of link.entry) places.now) }
+    {
+        self.add_places(link, places)?;
+        self.to_link(alloc, which)
     }
 }
 
@@ -208,8 +222,7 @@ fn collected_links(
     ensures { IfOk result (λ l. link_facts l ≡ over which (λ d. includes which d) (links_at graph.now links.now)) }
 {
     let mut parts = LinkParts::new(alloc);
-    parts.add_links(graph, links, which)?;
-    parts.to_link(alloc, which)
+    parts.over_links(alloc, graph, links, which)
 }
 
 /// The link over the declarations of a package link at places, all of which are collected.
@@ -222,8 +235,7 @@ fn collected_places(
     ensures { IfOk result (λ l. link_facts l ≡ over_places which link.entry.link_ix (link_table_of link.entry) places.now) }
 {
     let mut parts = LinkParts::new(alloc);
-    parts.add_places(link, places)?;
-    parts.to_link(alloc, which)
+    parts.over_places(alloc, link, which, places)
 }
 
 /// The status for a kind, of one declaration: its platform where it's of this kind, and else none.
@@ -362,8 +374,7 @@ pub(crate) fn named_link(
     ensures { IfOk result (λ l. link_facts l ≡ by_name graph.now package_ix which name.now) }
 {
     let links = numbers_of(groups, package_ix, name);
-    let link = links_over(alloc, graph, links, which)?;
-    Ok(link)
+    links_over(alloc, graph, links, which)
 }
 
 /// The link over the declarations of one package link at places, in their order. One declaration is not collected.
