@@ -7,7 +7,7 @@ ghost use Rattle.guppy_packages.specs.Rows.{Declared};
 ghost use Rattle.guppy_packages.specs.Stored.{declared};
 ghost use Rattle.guppy_packages.specs.Tables.{LinkTable};
 ghost use Rattle.feature_core.specs.Candidates.{by_name};
-ghost use Rattle.feature_core.specs.inner.Collected.{HasKinds, HasParts};
+ghost use Rattle.feature_core.specs.inner.Collected.{HasKinds, HasParts, wanted, wanted_parts};
 ghost use Rattle.feature_core.specs.Edges.{half_of};
 ghost use Rattle.feature_core.specs.Links.{IsLink, includes, links_at, at_places, joined, over, over_parts, over_places, platforms_of};
 ghost use Rattle.feature_core.specs.inner.NamedLinks.{AreNamedLinks};
@@ -179,63 +179,53 @@ impl<'g> LinkParts<'g> {
         Ok(ConditionalLinkImpl { held })
     }
 
-    /// The link over the covered declarations of package links, where none is added yet.
-    fn over_links(
+    /// Adds the wanted declarations of a package link: those at the places where these are given, and else the covered ones.
+    fn add(
+        &mut self,
+        link: PackageLink<'g>,
+        which: LinkDeclarations,
+        places: Option<&[usize]>,
+    ) -> Result<(), AllocError>
+        ensures { OnOk result ((before : List (ℕ × List Declared)) → HasParts self.old before → HasParts self.new (before ++ (link.entry.link_ix, wanted which places.entry (link_table_of link.entry)) ∷ [])) }
+    {
+        match places {
+            Some(places) => self.add_places(link, places),
+            None => self.add_link(link, which),
+        }
+    }
+
+    /// The link over the wanted declarations of package links, where none is added yet.
+    fn over(
         &mut self,
         alloc: Global,
         graph: &'g PackageGraph,
         links: &[usize],
         which: LinkDeclarations,
+        places: Option<&[usize]>,
     ) -> Result<ConditionalLinkImpl, AllocError>
         requires { (i k : ℕ) → slice_get links.now i ≡ Some k → k < length graph.now.links }
-        ensures { IfOk result (λ l. HasParts self.old [] → link_facts l ≡ over which (λ d. includes which d) (links_at graph.now links.now)) }
+        ensures { IfOk result (λ l. HasParts self.old [] → link_facts l ≡ over_parts which (wanted_parts which places.entry (links_at graph.now links.now))) }
     {
         for link_ix in links {
-            self.add_link(graph.link(*link_ix), which)?;
+            self.add(graph.link(*link_ix), which, places)?;
         }
-        self.to_link(alloc, which)
-    }
-
-    /// The link over the declarations of a package link at places, where none is added yet.
-    fn over_places(
-        &mut self,
-        alloc: Global,
-        link: PackageLink<'g>,
-        which: LinkDeclarations,
-        places: &[usize],
-    ) -> Result<ConditionalLinkImpl, AllocError>
-        ensures { IfOk result (λ l. HasParts self.old [] → link_facts l ≡ over_places which link.entry.link_ix (link_table_of link.entry) places.now) }
-    {
-        self.add_places(link, places)?;
         self.to_link(alloc, which)
     }
 }
 
-/// The link over the covered declarations of package links, all of which are collected.
-fn collected_links(
+/// The link over the wanted declarations of package links, all of which are collected.
+fn collected(
     alloc: Global,
     graph: &PackageGraph,
     links: &[usize],
     which: LinkDeclarations,
+    places: Option<&[usize]>,
 ) -> Result<ConditionalLinkImpl, AllocError>
     requires { (i k : ℕ) → slice_get links.now i ≡ Some k → k < length graph.now.links }
-    ensures { IfOk result (λ l. link_facts l ≡ over which (λ d. includes which d) (links_at graph.now links.now)) }
+    ensures { IfOk result (λ l. link_facts l ≡ over_parts which (wanted_parts which places.entry (links_at graph.now links.now))) }
 {
     let mut parts = LinkParts::new(alloc);
-    parts.over_links(alloc, graph, links, which)
-}
-
-/// The link over the declarations of a package link at places, all of which are collected.
-fn collected_places(
-    alloc: Global,
-    link: PackageLink<'_>,
-    which: LinkDeclarations,
-    places: &[usize],
-) -> Result<ConditionalLinkImpl, AllocError>
-    ensures { IfOk result (λ l. link_facts l ≡ over_places which link.entry.link_ix (link_table_of link.entry) places.now) }
-{
-    let mut parts = LinkParts::new(alloc);
-    parts.over_places(alloc, link, which, places)
+    parts.over(alloc, graph, links, which, places)
 }
 
 /// The status for a kind, of one declaration: its platform where it's of this kind, and else none.
@@ -327,7 +317,7 @@ pub(crate) fn links_over(
             return link_over_one(alloc, *link_ix, which, declaration);
         }
     }
-    collected_links(alloc, graph, links, which)
+    collected(alloc, graph, links, which, None)
 }
 
 /// The link over the covered declarations of one package link.
@@ -394,5 +384,6 @@ pub(crate) fn section_link(
     {
         return link_over_one(alloc, link_ix, which, &declarations[*place]);
     }
-    collected_places(alloc, graph.link(link_ix), which, places)
+    let links = [link_ix];
+    collected(alloc, graph, &links, which, Some(places))
 }
