@@ -69,15 +69,19 @@ parts_more c d k ds added before h more a e = record {
 abbrev pub parts_of : (Declared → Bool) → List (ℕ × LinkTable) → List (ℕ × List Declared)
 parts_of passes links = map (λ l. (l.0, filter passes l.1.declarations)) links
 
+-- what is given of package links, beside the number of each
+abbrev given : (LinkTable → List Declared) → List (ℕ × LinkTable) → List (ℕ × List Declared)
+given g links = map (λ l. (l.0, g l.1)) links
+
 -- one more package link
-pub parts_next : (t : Tables) (passes : Declared → Bool) (links : List ℕ) (i : ℕ) (link : LinkTable) → i < length links → IsLink t (get_or links i 0) link
-    → parts_of passes (links_at t (take i links)) ++ (get_or links i 0, filter passes link.declarations) ∷ [] ≡ parts_of passes (links_at t (take (i + 1) links))
-parts_next t passes links i link h is =
+pub given_next : (t : Tables) (g : LinkTable → List Declared) (links : List ℕ) (i : ℕ) (link : LinkTable) → i < length links → IsLink t (get_or links i 0) link
+    → given g (links_at t (take i links)) ++ (get_or links i 0, g link) ∷ [] ≡ given g (links_at t (take (i + 1) links))
+given_next t g links i link h is =
     let k : ℕ = get_or links i 0 in
     let found : links_at t (k ∷ []) ≡ (k, link) ∷ [] = ap (λ o. cons_option (option_map (λ l. (k, l)) o) []) is in
-    sym (ap (λ z. parts_of passes (links_at t z)) (take_more links i 0 h)
-    ∙ ap (parts_of passes) (filter_map-append (λ n. option_map (λ l. (n, l)) (slice_get t.links n)) (take i links) (k ∷ []) ∙ ap (λ z. links_at t (take i links) ++ z) found)
-    ∙ map-append (λ (l : ℕ × LinkTable). (l.0, filter passes l.1.declarations)) (links_at t (take i links)) ((k, link) ∷ []))
+    sym (ap (λ z. given g (links_at t z)) (take_more links i 0 h)
+    ∙ ap (given g) (filter_map-append (λ n. option_map (λ l. (n, l)) (slice_get t.links n)) (take i links) (k ∷ []) ∙ ap (λ z. links_at t (take i links) ++ z) found)
+    ∙ map-append (λ (l : ℕ × LinkTable). (l.0, g l.1)) (links_at t (take i links)) ((k, link) ∷ []))
 
 both : (passes : Declared → Bool) (kind : DependencyKind) (ds : List Declared) → filter (λ d. is_kind kind d.kind) (filter passes ds) ≡ filter (λ d. passes d && is_kind kind d.kind) ds
 both passes kind [] = refl

@@ -10,7 +10,7 @@ use Rattle.std.specs.declared.cmp.Ordering.{Ordering}
 use Rattle.std.specs.declared.cmp.Ordering.TheVariants.{Less, Equal, Greater}
 use Rattle.std.specs.Str.{bytes_eq}
 use Rattle.std.proofs.lemmas.Cmp.{nat_list_cmp_total}
-use Rattle.std.proofs.lemmas.List.{get_or-map, get_or-take, length-map, length-take-le}
+use Rattle.std.proofs.lemmas.List.{get_or-map, length-map}
 use Rattle.std.proofs.lemmas.List.Sorted.{sorted_far, ranks_by}
 use Rattle.guppy_packages.specs.Rows.{Text}
 use Rattle.feature_core.specs.inner.NamedEntries.{AreOrdered, numbers_named}
@@ -57,9 +57,6 @@ names_ordered entries sorted k d l m =
     ∙ ap (λ z. is_lt (compare (get_or entries (k + 1) (d, 0)).0.now z.now)) (get_or-map (λ (e : Entry). e.0) entries k (d, 0) d (omega (arith, n)))
     ∙ sorted k (d, 0) l n
 
-abbrev pub is_up_to : Text → Bor (List ℕ) → Bool
-is_up_to name text = not (is_gt (compare text.now name))
-
 abbrev pub is_below : Text → Bor (List ℕ) → Bool
 is_below name text = is_lt (compare text.now name)
 
@@ -75,50 +72,20 @@ turned Greater h = refl
 not_after : (x y : Text) → is_lt (compare y x) ≡ false → is_gt (compare x y) ≡ false
 not_after x y h = ap is_gt (nat_list_cmp_total.antisymm x y) ∙ turned (compare y x) h
 
-chain : (x y z : Text) (r s : Ordering) → compare x y ≡ r → compare y z ≡ s → is_gt r ≡ false → (not (is_gt s) ≡ true → not (is_gt (compare x z)) ≡ true) × (is_lt s ≡ true → is_lt (compare x z) ≡ true)
-chain x y z Less Less p q h = let e = nat_list_cmp_total.trans x y z p q in (λ g. ap (λ r. not (is_gt r)) e, λ g. ap is_lt e)
-chain x y z Less Equal p q h = let e = sym (right x y z q) ∙ p in (λ g. ap (λ r. not (is_gt r)) e, λ g. ap is_lt e)
-  where
-    right : (x y z : Text) → compare y z ≡ Equal → compare x y ≡ compare x z
-    right x y z q = nat_list_cmp_total.antisymm x y ∙ ap ordering_reverse (nat_list_cmp_total.congr y z x q) ∙ sym (nat_list_cmp_total.antisymm x z)
-chain x y z Less Greater p q h = (λ g. cc, λ g. cc)
-chain x y z Equal s p q h = let e = nat_list_cmp_total.congr x y z p ∙ q in (λ g. ap (λ r. not (is_gt r)) e ∙ g, λ g. ap is_lt e ∙ g)
-chain x y z Greater s p q h = cc
+chain : (x y z : Text) (r s : Ordering) → compare x y ≡ r → compare y z ≡ s → is_gt r ≡ false → is_lt s ≡ true → is_lt (compare x z) ≡ true
+chain x y z Less Less p q h g = ap is_lt (nat_list_cmp_total.trans x y z p q)
+chain x y z Less Equal p q h g = cc
+chain x y z Less Greater p q h g = cc
+chain x y z Equal s p q h g = ap is_lt (nat_list_cmp_total.congr x y z p ∙ q) ∙ g
+chain x y z Greater s p q h g = cc
 
-parted : (names : List (Bor (List ℕ))) → AreOrdered names → (name : Text) → IsPartitionedBy (is_up_to name) names × IsPartitionedBy (is_below name) names
-parted names ordered name = (
-  (λ i j d l m e. (steps i j d l m).0 e),
-  (λ i j d l m e. (steps i j d l m).1 e),
-)
-  where
-    steps : (i j : ℕ) (d : Bor (List ℕ)) → i ≤ j → j < length names
-        → (is_up_to name (get_or names j d) ≡ true → is_up_to name (get_or names i d) ≡ true) × (is_below name (get_or names j d) ≡ true → is_below name (get_or names i d) ≡ true)
-    steps i j d l m = chain (get_or names i d).now (get_or names j d).now name _ _ refl refl (not_after (get_or names i d).now (get_or names j d).now (far names ordered i j d l m))
-
-pub parted_up_to : (names : List (Bor (List ℕ))) → AreOrdered names → (name : Text) → IsPartitionedBy (is_up_to name) names
-parted_up_to names ordered name = (parted names ordered name).0
-
--- also among the first ones
-pub parted_below : (names : List (Bor (List ℕ))) → AreOrdered names → (name : Text) (end : ℕ) → end ≤ length names → IsPartitionedBy (is_below name) (take end names)
-parted_below names ordered name end within i j d l m e =
-    let n : j < end = omega (arith, m, length-take-le end names within) in
-    ap (is_below name) (get_or-take end names i d (omega (arith, n, l)))
-    ∙ (parted names ordered name).1 i j d l (omega (arith, n, within)) (sym (ap (is_below name) (get_or-take end names j d n)) ∙ e)
+pub parted_below : (names : List (Bor (List ℕ))) → AreOrdered names → (name : Text) → IsPartitionedBy (is_below name) names
+parted_below names ordered name i j d l m e = chain (get_or names i d).now (get_or names j d).now name _ _ refl refl (not_after (get_or names i d).now (get_or names j d).now (far names ordered i j d l m)) e
 
 by_less : (r : Ordering) → is_lt r ≡ true → is_eq (ordering_reverse r) ≡ false
 by_less Less h = refl
 by_less Equal h = cc
 by_less Greater h = cc
-
-by_greater : (r : Ordering) → not (is_gt r) ≡ false → is_eq (ordering_reverse r) ≡ false
-by_greater Less h = cc
-by_greater Equal h = cc
-by_greater Greater h = refl
-
-by_neither : (r : Ordering) → is_lt r ≡ false → not (is_gt r) ≡ true → is_eq (ordering_reverse r) ≡ true
-by_neither Less h i = cc
-by_neither Equal h i = refl
-by_neither Greater h i = cc
 
 module _ (name : Text) where
   passed : (e : Entry) (entries : List Entry) (numbers : List ℕ) → bytes_eq name e.0.now ≡ false → numbers ≡ numbers_named name entries → numbers ≡ numbers_named name (e ∷ entries)
@@ -147,46 +114,43 @@ module _ (name : Text) where
       passed (x, n) (zip names numbers) (take count (drop first numbers)) (before 0 x (omega arith))
       (cut names numbers first count (omega (arith, long)) (omega (arith, within)) (λ k d m. before (suc k) d (omega (arith, m))) (λ k d m o. inside (suc k) d (omega (arith, m)) (omega (arith, o))) (λ k d m o. after (suc k) d (omega (arith, m)) (omega (arith, o))))
 
-  -- the numbers between the two partition points are those beside the name
-  pub between : (names : List (Bor (List ℕ))) (numbers : List ℕ) (end first : ℕ) → length names ≡ length numbers → end ≤ length names → first ≤ length (take end names)
-      → IsPartitionPoint (λ y. is_up_to name y ≡ true) (λ y. is_up_to name y ≡ false) names end
-      → IsPartitionPoint (λ y. is_below name y ≡ true) (λ y. is_below name y ≡ false) (take end names) first
-      → take (end - first) (drop first numbers) ≡ numbers_named name (zip names numbers)
-  between names numbers end first long within low_within high low =
-      let l : first ≤ end = omega (arith, low_within, length-take-le end names within) in
-      cut names numbers first (end - first) long (omega (arith, l, within))
-      (λ k d m. equal_by name (get_or names k d).now ∙ by_less _ (sym (ap (is_below name) (get_or-take end names k d (omega (arith, m, l)))) ∙ low.0 k d (omega arith) m))
-      (λ k d m o.
-      let n : k < end = omega (arith, o, l) in
-      equal_by name (get_or names k d).now ∙ by_neither _ (sym (ap (is_below name) (get_or-take end names k d n)) ∙ low.1 k d m (omega (arith, n, length-take-le end names within))) (high.0 k d (omega arith) n))
-      (λ k d m o. equal_by name (get_or names k d).now ∙ by_greater _ (high.1 k d (omega (arith, m, l)) o))
-
 -- the numbers from the first place of a name up to the first place of another one are those beside the name
-pub scanned : (name : Text) (names : List (Bor (List ℕ))) (numbers : List ℕ) (first end : ℕ) → AreOrdered names → length names ≡ length numbers → first ≤ end → end ≤ length names
-    → ((k : ℕ) (d : Bor (List ℕ)) → k < first → bytes_eq name (get_or names k d).now ≡ false)
-    → ((d : Bor (List ℕ)) → first < length names → bytes_eq name (get_or names first d).now ≡ true)
-    → ((k : ℕ) (d : Bor (List ℕ)) → first ≤ k → k < end → bytes_eq name (get_or names k d).now ≡ true)
-    → ((d : Bor (List ℕ)) → end < length names → bytes_eq name (get_or names end d).now ≡ false)
-    → take (end - first) (drop first numbers) ≡ numbers_named name (zip names numbers)
-scanned name names numbers first end ordered long l within before found inside ended =
-    cut name names numbers first (end - first) long (omega (arith, l, within)) before (λ k d m o. inside k d m (omega (arith, l, o)))
-    (λ k d m o. passed_by k d (omega (arith, l, m)) o (bytes_eq name (get_or names k d).now) refl)
-  where
-    neither : (r s : Bool) → r ≡ false → s ≡ false → not r && not s ≡ true
-    neither false false p q = refl
-    neither true s p q = cc
-    neither false true p q = cc
+module _ (name : Text) (names : List (Bor (List ℕ))) (numbers : List ℕ) (first end : ℕ) (ordered : AreOrdered names) (long : length names ≡ length numbers) (l : first ≤ end) (within : end ≤ length names)
+    (inside : (k : ℕ) (d : Bor (List ℕ)) → first ≤ k → k < end → bytes_eq name (get_or names k d).now ≡ true)
+    (ended : (d : Bor (List ℕ)) → end < length names → bytes_eq name (get_or names end d).now ≡ false) where
+  neither : (r s : Bool) → r ≡ false → s ≡ false → not r && not s ≡ true
+  neither false false p q = refl
+  neither true s p q = cc
+  neither false true p q = cc
 
-    clash : {P : Type 0} → true ≡ false → P
-    clash e = cc
+  clash : {P : Type 0} → true ≡ false → P
+  clash e = cc
 
-    -- past the end stands no such name, since what stands at the end would stand between two of them
-    passed_by : (k : ℕ) (d : Bor (List ℕ)) → end ≤ k → k < length names → (b : Bool) → bytes_eq name (get_or names k d).now ≡ b → bytes_eq name (get_or names k d).now ≡ false
-    passed_by k d m o false e = e
-    passed_by k d m o true e =
-        let last : name ≡ (get_or names k d).now = (bytes_decides name (get_or names k d).now).0 e in
-        let start : name ≡ (get_or names first d).now = (bytes_decides name (get_or names first d).now).0 (found d (omega (arith, l, m, o))) in
-        let stop : Text = (get_or names end d).now in
-        let above : is_lt (compare stop name) ≡ false = ap (λ z. is_lt (compare stop z)) start ∙ far names ordered first end d l (omega (arith, m, o)) in
-        let below : is_lt (compare name stop) ≡ false = ap (λ z. is_lt (compare z stop)) last ∙ far names ordered end k d m o in
-        clash (sym (sym (ties_are_equal name stop) ∙ neither (is_lt (compare name stop)) (is_lt (compare stop name)) below above) ∙ ended d (omega (arith, m, o)))
+  -- past the end stands no such name, since what stands at the end would stand between two of them
+  passed_by : ((d : Bor (List ℕ)) → end < length names → is_lt (compare (get_or names end d).now name) ≡ false)
+      → (k : ℕ) (d : Bor (List ℕ)) → end ≤ k → k < length names → (b : Bool) → bytes_eq name (get_or names k d).now ≡ b → bytes_eq name (get_or names k d).now ≡ false
+  passed_by above k d m o false e = e
+  passed_by above k d m o true e =
+      let last : name ≡ (get_or names k d).now = (bytes_decides name (get_or names k d).now).0 e in
+      let stop : Text = (get_or names end d).now in
+      let below : is_lt (compare name stop) ≡ false = ap (λ z. is_lt (compare z stop)) last ∙ far names ordered end k d m o in
+      clash (sym (sym (ties_are_equal name stop) ∙ neither (is_lt (compare name stop)) (is_lt (compare stop name)) below (above d (omega (arith, m, o)))) ∙ ended d (omega (arith, m, o)))
+
+  beside : ((k : ℕ) (d : Bor (List ℕ)) → k < first → bytes_eq name (get_or names k d).now ≡ false)
+      → ((d : Bor (List ℕ)) → end < length names → is_lt (compare (get_or names end d).now name) ≡ false)
+      → take (end - first) (drop first numbers) ≡ numbers_named name (zip names numbers)
+  beside before above =
+      cut name names numbers first (end - first) long (omega (arith, l, within)) before (λ k d m o. inside k d m (omega (arith, l, o)))
+      (λ k d m o. passed_by above k d (omega (arith, l, m)) o (bytes_eq name (get_or names k d).now) refl)
+
+  -- where the first place was found by looking through
+  pub scanned : ((k : ℕ) (d : Bor (List ℕ)) → k < first → bytes_eq name (get_or names k d).now ≡ false)
+      → ((d : Bor (List ℕ)) → first < length names → bytes_eq name (get_or names first d).now ≡ true)
+      → take (end - first) (drop first numbers) ≡ numbers_named name (zip names numbers)
+  scanned before found = beside before (λ d m.
+      let start : name ≡ (get_or names first d).now = (bytes_decides name (get_or names first d).now).0 (found d (omega (arith, l, m))) in
+      ap (λ z. is_lt (compare (get_or names end d).now z)) start ∙ far names ordered first end d l m)
+
+  -- where it was found by halves
+  pub halved : IsPartitionPoint (λ y. is_below name y ≡ true) (λ y. is_below name y ≡ false) names first → take (end - first) (drop first numbers) ≡ numbers_named name (zip names numbers)
+  halved low = beside (λ k d m. equal_by name (get_or names k d).now ∙ by_less _ (low.0 k d (omega arith) m)) (λ d m. low.1 end d l m)

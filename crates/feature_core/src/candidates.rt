@@ -19,10 +19,12 @@ ghost use Rattle.feature_core.specs.inner.Parts.{key, over_rank, IsToFirst, IsOv
 
 use crate::declarations::push_links;
 use crate::key::{Key, sort_keys};
+use crate::link::from_declarations::is_any_included;
 use crate::named_links::{LinkGroups, numbers_of};
 use crate::numbers::Numbers;
 use crate::quiet::{Quiet, note};
-use guppy_packages::{Declaration, NamedFeature, NamedFeatureDep, PackageLink, PackageMetadata};
+use feature_labels::LinkDeclarations;
+use guppy_packages::{NamedFeature, NamedFeatureDep, PackageLink, PackageMetadata};
 use std::alloc::AllocError;
 
 /// Whether a number takes more than 32 bits.
@@ -72,15 +74,6 @@ fn push_to_first(keys: &mut Vec<Key>, first: usize, count: usize) -> Result<(), 
     Ok(())
 }
 
-/// Whether a declaration is optional.
-fn is_any_optional(declarations: &[Declaration]) -> bool
-    ensures { result ≡ list_any (λ d. (declared d).optional) declarations.now }
-{
-    declarations
-        .iter()
-        .any(|declaration| declaration.optional())
-}
-
 /// The rank of an edge over a link, where the item is weak or not and a declaration of the link is optional or none is.
 fn slash_rank(weak: bool, optional: bool) -> u8
     ensures { result ≡ (if weak && optional then 6 else 4) }
@@ -92,7 +85,10 @@ fn slash_rank(weak: bool, optional: bool) -> u8
 fn rank_over(link: PackageLink<'_>, weak: bool) -> u8
     ensures { result ≡ over_rank weak (link_table_of link.entry) }
 {
-    slash_rank(weak, is_any_optional(link.declarations()))
+    slash_rank(
+        weak,
+        is_any_included(LinkDeclarations::Optional, link.declarations()),
+    )
 }
 
 /// Adds a key to the feature of a link's target, where it has the feature. Gives whether it has.

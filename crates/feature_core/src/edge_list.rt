@@ -60,16 +60,6 @@ fn fixed_place(edge: &FeatureEdge) -> Option<u32>
     }
 }
 
-/// Whether the link is over optional declarations, as a number.
-fn half_slot(link: &ConditionalLinkImpl) -> usize
-    ensures { result < 2 }
-{
-    match link.declarations() {
-        LinkDeclarations::Unsplit | LinkDeclarations::Required => 0,
-        LinkDeclarations::Optional => 1,
-    }
-}
-
 /// The first package link of a link.
 fn first_link(link: &ConditionalLinkImpl) -> usize {
     match link.package_link_ixs().first() {
@@ -78,12 +68,16 @@ fn first_link(link: &ConditionalLinkImpl) -> usize {
     }
 }
 
-/// The slot of an edge of a kind over a link.
+/// The slot of an edge of a kind over a link, by the link's first package link, and whether it's over optional declarations.
 fn link_slot(link: &ConditionalLinkImpl, kind: usize) -> usize
     requires { kind < 8 }
     ensures { result < 4096 }
 {
-    (first_link(link) % 256) * 16 + kind * 2 + half_slot(link)
+    let half = match link.declarations() {
+        LinkDeclarations::Unsplit | LinkDeclarations::Required => 0,
+        LinkDeclarations::Optional => 1,
+    };
+    (first_link(link) % 256) * 16 + kind * 2 + half
 }
 
 /// The slot of the table of recent places where an edge is looked up.

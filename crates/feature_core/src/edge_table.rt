@@ -25,6 +25,7 @@ use crate::nodes::NodeTable;
 use crate::numbers::Numbers;
 use crate::quiet::Quiet;
 use crate::weak_links::note_gate;
+use guppy_packages::PackageGraph;
 use guppy_support::{Digraph, Edge, EdgeColumns};
 use indexmap::IndexMap;
 use std::alloc::{AllocError, Global};
@@ -64,6 +65,22 @@ struct Room {
     kept: Vec<Key>,
     near: NearKeys,
     quiet: Quiet,
+}
+
+impl Room {
+    /// Room for the edges of a graph. Nothing of it is found yet.
+    fn new(alloc: Global, graph: &PackageGraph) -> Result<Room, AllocError>
+        ensures { IfOk result (λ room. IsQuiet graph.now room.quiet) }
+    {
+        let near = NearKeys::new(alloc)?;
+        let quiet = Quiet::none(alloc, graph)?;
+        Ok(Room {
+            keys: Vec::new(alloc),
+            kept: Vec::new(alloc),
+            near,
+            quiet,
+        })
+    }
 }
 
 impl MadeEdges {
@@ -140,8 +157,7 @@ impl MadeEdges {
         ensures long { OnOk result (ix + 1 ≤ length self.new.edges) }
     {
         note_gate(&mut self.weak, material.numbers, kept[ix])?;
-        self.add_noted(alloc, material, near, kept, ix)?;
-        Ok(())
+        self.add_noted(alloc, material, near, kept, ix)
     }
 
     /// Adds the edges of the least keys of a package.
@@ -191,6 +207,47 @@ impl MadeEdges {
         self.add_all(alloc, material, &mut room.near, &room.kept)?;
         Ok(())
     }
+
+    /// Adds the edges of the nodes of all packages, each in the same room.
+    fn add_packages(
+        &mut self,
+        alloc: Global,
+        numbers: Numbers<'_>,
+        packages: &[usize],
+        groups: &LinkGroups<'_>,
+        room: &mut Room,
+    ) -> Result<(), AllocError>
+        requires packages { packages.now ≡ node_packages numbers.graph.now }
+        requires links { AreNamedLinks numbers.graph.now groups.now }
+        requires made { AreMadeBelow numbers.graph.now 0 self.old }
+        requires quiet { IsQuiet numbers.graph.now room.now.quiet }
+        ensures made { OnOk result (AreMadeBelow numbers.entry.graph.now (length numbers.entry.graph.now.packages) self.new) }
+        ensures quiet { OnOk result (IsQuiet numbers.entry.graph.now room.new.quiet) }
+    {
+        for ix in 0..numbers.graph.package_count() {
+            self.add_package(alloc, numbers, packages, groups, room, ix)?;
+        }
+        Ok(())
+    }
+
+    /// Adds the edges of the nodes of all packages to none, and gives what is without a warning.
+    fn fill(
+        &mut self,
+        alloc: Global,
+        numbers: Numbers<'_>,
+        packages: &[usize],
+        groups: &LinkGroups<'_>,
+    ) -> Result<Quiet, AllocError>
+        requires packages { packages.now ≡ node_packages numbers.graph.now }
+        requires links { AreNamedLinks numbers.graph.now groups.now }
+        requires made { AreMadeBelow numbers.graph.now 0 self.old }
+        ensures made { OnOk result (AreMadeBelow numbers.entry.graph.now (length numbers.entry.graph.now.packages) self.new) }
+        ensures quiet { IfOk result (λ quiet. IsQuiet numbers.entry.graph.now quiet) }
+    {
+        let mut room = Room::new(alloc, numbers.graph)?;
+        self.add_packages(alloc, numbers, packages, groups, &mut room)?;
+        Ok(room.quiet)
+    }
 }
 
 /// No edge, with room for as many as graphs of so many nodes and links mostly have: an edge for each node, and four for each link, of
@@ -224,18 +281,8 @@ fn made_edges(
     ensures quiet { IfOk result (λ m. IsQuiet numbers.entry.graph.now m.1) }
 {
     let mut made = no_edges(alloc, packages.len(), numbers.graph.link_count())?;
-    let near = NearKeys::new(alloc)?;
-    let quiet = Quiet::none(alloc, numbers.graph)?;
-    let mut room = Room {
-        keys: Vec::new(alloc),
-        kept: Vec::new(alloc),
-        near,
-        quiet,
-    };
-    for ix in 0..numbers.graph.package_count() {
-        made.add_package(alloc, numbers, packages, groups, &mut room, ix)?;
-    }
-    Ok((made, room.quiet))
+    let quiet = made.fill(alloc, numbers, packages, groups)?;
+    Ok((made, quiet))
 }
 
 /// The edges of a package graph, whose nodes are in the table, and what of the graph is without a warning.

@@ -20,7 +20,7 @@ use crate::key::{Key, run_of};
 use crate::link::ConditionalLinkImpl;
 use crate::link::from_declarations::{half_of, link_of, named_link, section_link};
 use crate::named_links::LinkGroups;
-use crate::numbers::Numbers;
+use crate::numbers::{Numbers, label_at};
 use feature_labels::{FeatureLabel, LinkDeclarations};
 use indexmap::IndexMap;
 use smallvec::SmallVec;
@@ -42,7 +42,12 @@ fn name_at<'g>(material: Material<'_, 'g>, ix: usize) -> &'g str
     requires named { (p : ℕ) × (d : Text) × (NodeAt material.numbers.graph.now ix p (optional d) ⊎ NodeAt material.numbers.graph.now ix p (named d)) }
     ensures { (p : ℕ) (d : Text) → NodeAt material.entry.numbers.graph.now ix p (optional d) ⊎ NodeAt material.entry.numbers.graph.now ix p (named d) → result.now ≡ d }
 {
-    match material.numbers.label_at(material.packages, ix) {
+    match label_at(
+        material.numbers.graph,
+        material.numbers.firsts,
+        material.packages,
+        ix,
+    ) {
         FeatureLabel::Base => unreachable!(),
         FeatureLabel::Named(name) | FeatureLabel::OptionalDependency(name) => name,
     }
@@ -61,15 +66,14 @@ fn link_to(
 {
     let name = name_at(material, ix);
     let package_ix = material.packages[ix];
-    let link = named_link(
+    named_link(
         alloc,
         material.numbers.graph,
         material.groups,
         package_ix,
         name,
         which,
-    )?;
-    Ok(link)
+    )
 }
 
 /// The places that keys tell.
@@ -106,7 +110,12 @@ fn half_from(material: Material<'_, '_>, ix: usize) -> LinkDeclarations
     ensures required { (p : ℕ) → NodeAt material.entry.numbers.graph.now ix p base → result ≡ LinkDeclarations.Required }
     ensures optional { (p : ℕ) (d : Text) → NodeAt material.entry.numbers.graph.now ix p (optional d) → result ≡ LinkDeclarations.Optional }
 {
-    match material.numbers.label_at(material.packages, ix) {
+    match label_at(
+        material.numbers.graph,
+        material.numbers.firsts,
+        material.packages,
+        ix,
+    ) {
         FeatureLabel::Base => LinkDeclarations::Required,
         FeatureLabel::Named(_) | FeatureLabel::OptionalDependency(_) => LinkDeclarations::Optional,
     }

@@ -14,7 +14,7 @@ use crate::laws::warning_equality;
 use crate::link::{ConditionalLinkImpl, EnabledLink};
 use crate::warning::FeatureGraphWarning;
 use guppy_packages::{PackageGraph, PlatformStatus, Spec};
-use guppy_support::{Digraph, Edge, IxBitSet};
+use guppy_support::{Digraph, Edge};
 use indexmap::IndexMap;
 use std::alloc::Global;
 
@@ -146,13 +146,6 @@ pub(crate) fn same_numbers(a: &[usize], b: &[usize]) -> bool
     ensures { IsTrue result ↔ (a.now ≡ b.now) }
 {
     a == b
-}
-
-/// Whether sets have the same numbers, below the same bound.
-pub(crate) fn same_sets(a: &IxBitSet, b: &IxBitSet) -> bool
-    ensures { IsTrue result ↔ (a.now ≡ b.now) }
-{
-    a.is_identical(b)
 }
 
 /// Whether digraphs have edges between the same nodes.

@@ -23,7 +23,7 @@ use crate::defaults::{default_marks, default_nodes, with_defaults};
 use crate::edge::{EdgeChoice, FeatureEdge};
 use crate::edge_list::{EdgeList, first_absent};
 use crate::edge_table::{EdgeTable, edge_table};
-use crate::equality::{same_edges, same_gates, same_numbers, same_pairs, same_sets, same_warnings};
+use crate::equality::{same_edges, same_gates, same_numbers, same_pairs, same_warnings};
 use crate::error::Error;
 use crate::gates::release_table;
 use crate::named_links::named_links;
@@ -352,15 +352,14 @@ impl FeatureGraphData {
         ensures size { IfOk result (λ set. length set ≡ length self.now.packages) }
         ensures members { IfOk result (λ set. (n : ℕ) → IsTrue (has set n) ↔ ReachAlong (PairLeads (chosen_pairs which self.now.edges) direction) (has initials.now) n) }
     {
-        let set = reach_chosen(
+        reach_chosen(
             alloc,
             &self.digraph,
             &self.edges,
             which,
             direction,
             initials,
-        )?;
-        Ok(set)
+        )
     }
 
     /// Its edges as a source of walks, as the direction follows them.
@@ -423,7 +422,7 @@ impl FeatureGraphData {
     fn has_same_defaults(&self, other: &FeatureGraphData) -> bool
         ensures { IsTrue result ↔ (self.now.defaults ≡ other.now.defaults) }
     {
-        same_sets(&self.defaults, &other.defaults)
+        self.defaults.is_identical(&other.defaults)
     }
 
     /// Whether two are the same in each part.

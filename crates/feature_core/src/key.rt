@@ -9,7 +9,7 @@ use std::alloc::AllocError;
 /// Keys are ordered by the pair, then by rank. The source is the number of the package link that the candidate comes
 /// from, and the place that of the declaration there; both are 0 where the pair alone tells what the candidate is. All four take
 /// four bytes each: a package with 100,000 features has hundreds of thousands of keys.
-#[derive(Clone, Copy, PartialEq, Eq, PartialOrd, Ord, Debug)]
+#[derive(Clone, Copy, PartialEq, Eq, PartialOrd, Ord)]
 pub(crate) struct Key {
     pub(crate) from: u32,
     pub(crate) to: u32,

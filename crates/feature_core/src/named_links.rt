@@ -49,8 +49,7 @@ fn fill_in_order<'g>(
     ensures links { OnOk result ((name : Text) → numbers_named name entries.new.items ≡ link_numbers (package_graph_of «package».entry) (package_number_of «package».entry) name) }
 {
     fill_entries(entries, package)?;
-    sort_entries(entries)?;
-    Ok(())
+    sort_entries(entries)
 }
 
 /// The links of a graph, grouped by the package that they leave and by name.

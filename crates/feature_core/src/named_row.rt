@@ -1,9 +1,9 @@
 //! Rows of names, with a number beside each name.
-ghost use Rattle.std.specs.Prelude.{◌≡◌, ◌++◌, ◌∷◌, ◌<◌, ◌≤◌, ℕ, [], false, get_or, true, IfOk, List, OnOk, length, map, not};
+ghost use Rattle.std.specs.Prelude.{◌≡◌, ◌++◌, ◌∷◌, ◌<◌, ◌≤◌, ℕ, [], false, get_or, true, IfOk, List, OnOk, length, map};
 ghost use Rattle.std.specs.Borrow.{Bor};
 ghost use Rattle.std.specs.List.{zip};
 ghost use Rattle.std.specs.Cmp.Lexicographic.{slice_cmp};
-ghost use Rattle.std.specs.Ordering.{is_gt, is_lt, nat_cmp};
+ghost use Rattle.std.specs.Ordering.{is_lt, nat_cmp};
 ghost use Rattle.std.specs.Str.{bytes_eq};
 ghost use Rattle.feature_core.specs.inner.NamedEntries.{AreOrdered, AreRows, numbers_in_row, numbers_named};
 
@@ -31,18 +31,20 @@ pub(crate) struct OrderedRows<'g> {
     pub(crate) ghost in_order: { AreRows rows },
 }
 
-/// Appends the names of entries.
-fn push_names<'g>(names: &mut Vec<&'g str>, entries: &[(&'g str, usize)]) -> Result<(), AllocError>
-    ensures { OnOk result (names.new.items ≡ names.old.items ++ map (λ e. e.0) entries.now) }
+/// Appends the names of entries, and their numbers.
+fn push_entries<'g>(
+    names: &mut Vec<&'g str>,
+    numbers: &mut Vec<usize>,
+    entries: &[(&'g str, usize)],
+) -> Result<(), AllocError>
+    ensures names { OnOk result (names.new.items ≡ names.old.items ++ map (λ e. e.0) entries.now) }
+    ensures numbers { OnOk result (numbers.new.items ≡ numbers.old.items ++ map (λ e. e.1) entries.now) }
 {
-    names.extend(entries.iter().map(|entry| entry.0))
-}
-
-/// Appends the numbers of entries.
-fn push_numbers(numbers: &mut Vec<usize>, entries: &[(&str, usize)]) -> Result<(), AllocError>
-    ensures { OnOk result (numbers.new.items ≡ numbers.old.items ++ map (λ e. e.1) entries.now) }
-{
-    numbers.extend(entries.iter().map(|entry| entry.1))
+    for entry in entries {
+        names.push(entry.0)?;
+        numbers.push(entry.1)?;
+    }
+    Ok(())
 }
 
 /// Up to how many names are looked through one by one.
@@ -89,23 +91,18 @@ fn numbers_scanned<'a>(names: &[&str], numbers: &'a [usize], name: &str) -> &'a 
     &numbers[first..end]
 }
 
-/// The numbers beside a name, among names in order, which are searched by halves.
+/// The numbers beside a name, among names in order, of which the first is searched by halves.
 fn numbers_halved<'a>(names: &[&str], numbers: &'a [usize], name: &str) -> &'a [usize]
     requires ordered { AreOrdered names.now }
     requires beside { length names.now ≡ length numbers.now }
     ensures { result.now ≡ numbers_named name.now (zip names.now numbers.now) }
 {
-    let end = names.partition_point(
-        |text: &&str| -> bool
-            ensures { result ≡ not (is_gt (slice_cmp nat_cmp text.now.now name.entry.now)) }
-        { text.cmp(&name).is_le() },
-    );
-    let below = &names[..end];
-    let first = below.partition_point(
+    let first = names.partition_point(
         |text: &&str| -> bool
             ensures { result ≡ is_lt (slice_cmp nat_cmp text.now.now name.entry.now) }
         { text.cmp(&name).is_lt() },
     );
+    let end = end_place(names, first, name);
     &numbers[first..end]
 }
 
@@ -150,8 +147,7 @@ impl<'g> NamedRows<'g> {
         ensures spans { OnOk result (self.new.spans.items ≡ self.old.spans.items ++ record { start = length self.old.names.items; end = length self.new.names.items } ∷ []) }
     {
         let start = self.names.len();
-        push_names(&mut self.names, entries)?;
-        push_numbers(&mut self.numbers, entries)?;
+        push_entries(&mut self.names, &mut self.numbers, entries)?;
         let end = self.names.len();
         self.spans.push(Span { start, end })?;
         Ok(())

@@ -25,20 +25,16 @@ impl Model for NearKeys {
     ghost invariant = { λ n. length n.slots.items ≡ 4096 };
 }
 
-/// What the edge of a key speaks of, as a number: a node or a package link.
-fn subject(key: Key) -> usize {
-    if key.rank == 3 || key.rank == 5 {
-        key.to as usize
-    } else {
-        key.source as usize
-    }
-}
-
-/// The slot of a key.
+/// The slot of a key, by its rank and what its edge speaks of: a node or a package link.
 fn key_slot(key: Key) -> usize
     ensures { result < 4096 }
 {
-    (subject(key) % 512) * 8 + usize::from(key.rank % 8)
+    let subject = if key.rank == 3 || key.rank == 5 {
+        key.to
+    } else {
+        key.source
+    };
+    (subject as usize % 512) * 8 + usize::from(key.rank % 8)
 }
 
 /// Whether a package link has one declaration.

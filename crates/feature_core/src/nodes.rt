@@ -31,8 +31,7 @@ fn push_nodes(packages: &mut Vec<usize>, metadata: PackageMetadata<'_>) -> Resul
     let ix = metadata.package_ix();
     push_times(packages, ix, 1)?;
     push_times(packages, ix, metadata.named_features().len())?;
-    push_times(packages, ix, metadata.optional_deps().len())?;
-    Ok(())
+    push_times(packages, ix, metadata.optional_deps().len())
 }
 
 /// The nodes of all packages.

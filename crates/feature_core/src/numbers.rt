@@ -143,13 +143,4 @@ impl<'g> Numbers<'g> {
         let names = metadata.optional_deps().len();
         1 + features + names
     }
-
-    /// The label of a node, by the package of each node.
-    pub(crate) fn label_at(self, packages: &[usize], ix: usize) -> FeatureLabel<'g>
-        requires packages { packages.now ≡ node_packages self.graph.now }
-        requires node { ix < length packages.now }
-        ensures { NodeAt self.entry.graph.now ix (slice_index packages.now ix) (label_of result) }
-    {
-        label_at(self.graph, self.firsts, packages, ix)
-    }
 }

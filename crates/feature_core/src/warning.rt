@@ -288,7 +288,7 @@ fn push_link_unless(
     ensures { OnOk result ((link : LinkTable) → IsLink graph.now ix link → warnings_in found.new ≡ warnings_in found.old ++ of_link graph.now link) }
 {
     if !quiet {
-        push_link(alloc, found, graph.link(ix))?;
+        return push_link(alloc, found, graph.link(ix));
     }
     Ok(())
 }

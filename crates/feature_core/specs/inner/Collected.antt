@@ -1,5 +1,5 @@
 -- What has been collected of the declarations of a link.
-use Rattle.std.specs.Prelude.{◌≡◌, ℕ, List, true, not, Option, map, filter, filter_map, flat_map}
+use Rattle.std.specs.Prelude.{◌≡◌, ℕ, List, None, Some, true, not, Option, map, filter, filter_map, flat_map}
 use Rattle.std.specs.List.{list_any}
 use Rattle.std.specs.Option.{is_some}
 use Rattle.std.specs.Str.{bytes_eq}
@@ -11,7 +11,9 @@ use Rattle.guppy_packages.specs.declared.row.DependencyKind.TheVariants.{Normal,
 use Rattle.feature_core.specs.declared.link.statuses.StatusCollector.{StatusCollector}
 use Rattle.feature_core.specs.declared.link.statuses.KindCollectors.{KindCollectors}
 use Rattle.feature_core.specs.declared.link.from_declarations.LinkParts.{LinkParts}
-use Rattle.feature_core.specs.Links.{platforms_of}
+use Rattle.feature_labels.specs.declared.link_declarations.LinkDeclarations.{LinkDeclarations}
+use Rattle.guppy_packages.specs.Tables.{LinkTable}
+use Rattle.feature_core.specs.Links.{platforms_of, includes, at_places}
 
 abbrev pub texts_in : {S : Type 0} → IndexSet (Bor (List ℕ)) S → List Text
 texts_in set = map (λ t. t.now) set.keys
@@ -31,3 +33,12 @@ pub record HasKinds (c : KindCollectors) (declarations : List Declared) : Type 0
 pub record HasParts (c : LinkParts) (parts : List (ℕ × List Declared)) : Type 0 where
   pub kinds : HasKinds c.statuses (flat_map (λ x. x.1) parts)
   pub links : c.links.items ≡ map (λ x. x.0) (filter (λ x. list_any (λ d. true) x.1) parts)
+
+-- of a package link, the declarations at the places where these are given, and else those that are covered
+abbrev pub wanted : LinkDeclarations → Option (Bor (List ℕ)) → LinkTable → List Declared
+wanted which None link = filter (λ d. includes which d) link.declarations
+wanted which (Some places) link = at_places link.declarations places.now
+
+-- of package links, beside the number of each
+abbrev pub wanted_parts : LinkDeclarations → Option (Bor (List ℕ)) → List (ℕ × LinkTable) → List (ℕ × List Declared)
+wanted_parts which places links = map (λ l. (l.0, wanted which places l.1)) links

@@ -7,7 +7,7 @@ ghost use Rattle.guppy_packages.specs.Rows.{Declared};
 ghost use Rattle.guppy_packages.specs.Stored.{declared};
 ghost use Rattle.guppy_packages.specs.Tables.{LinkTable};
 ghost use Rattle.feature_core.specs.Candidates.{by_name};
-ghost use Rattle.feature_core.specs.inner.Collected.{HasKinds, HasParts};
+ghost use Rattle.feature_core.specs.inner.Collected.{HasKinds, HasParts, wanted, wanted_parts};
 ghost use Rattle.feature_core.specs.Edges.{half_of};
 ghost use Rattle.feature_core.specs.Links.{IsLink, includes, links_at, at_places, joined, over, over_parts, over_places, platforms_of};
 ghost use Rattle.feature_core.specs.inner.NamedLinks.{AreNamedLinks};
@@ -42,12 +42,15 @@ fn is_included(which: LinkDeclarations, declaration: &Declaration) -> bool
 }
 
 /// Whether a declaration is covered by some.
-fn is_any_included(which: LinkDeclarations, declarations: &[Declaration]) -> bool
+pub(crate) fn is_any_included(which: LinkDeclarations, declarations: &[Declaration]) -> bool
     ensures { result ≡ list_any (λ d. includes which (declared d)) declarations.now }
 {
-    declarations
-        .iter()
-        .any(|declaration| is_included(which, declaration))
+    for declaration in declarations {
+        if is_included(which, declaration) {
+            return true;
+        }
+    }
+    false
 }
 
 /// Adds a declaration if it is covered, and says whether it is.
@@ -143,8 +146,7 @@ impl<'g> LinkParts<'g> {
         ensures { OnOk result ((before : List (ℕ × List Declared)) → HasParts self.old before → HasParts self.new (before ++ (link.entry.link_ix, filter (λ d. includes which d) (link_table_of link.entry).declarations) ∷ [])) }
     {
         let added = add_all_included(&mut self.statuses, link.declarations(), which)?;
-        self.note(link.link_ix(), added)?;
-        Ok(())
+        self.note(link.link_ix(), added)
     }
 
     /// Adds the declarations of a package link at places.
@@ -152,8 +154,7 @@ impl<'g> LinkParts<'g> {
         ensures { OnOk result ((before : List (ℕ × List Declared)) → HasParts self.old before → HasParts self.new (before ++ (link.entry.link_ix, at_places (link_table_of link.entry).declarations places.now) ∷ [])) }
     {
         let added = add_all_at(&mut self.statuses, link.declarations(), places)?;
-        self.note(link.link_ix(), added)?;
-        Ok(())
+        self.note(link.link_ix(), added)
     }
 
     /// The link, as one that covers these.
@@ -178,36 +179,53 @@ impl<'g> LinkParts<'g> {
         Ok(ConditionalLinkImpl { held })
     }
 
-    /// The link over the covered declarations of package links, where none is added yet.
-    fn over_links(
+    /// Adds the wanted declarations of a package link: those at the places where these are given, and else the covered ones.
+    fn add(
+        &mut self,
+        link: PackageLink<'g>,
+        which: LinkDeclarations,
+        places: Option<&[usize]>,
+    ) -> Result<(), AllocError>
+        ensures { OnOk result ((before : List (ℕ × List Declared)) → HasParts self.old before → HasParts self.new (before ++ (link.entry.link_ix, wanted which places.entry (link_table_of link.entry)) ∷ [])) }
+    {
+        match places {
+            Some(places) => self.add_places(link, places),
+            None => self.add_link(link, which),
+        }
+    }
+
+    /// The link over the wanted declarations of package links, where none is added yet.
+    fn over(
         &mut self,
         alloc: Global,
         graph: &'g PackageGraph,
         links: &[usize],
         which: LinkDeclarations,
+        places: Option<&[usize]>,
     ) -> Result<ConditionalLinkImpl, AllocError>
         requires { (i k : ℕ) → slice_get links.now i ≡ Some k → k < length graph.now.links }
-        ensures { IfOk result (λ l. HasParts self.old [] → link_facts l ≡ over which (λ d. includes which d) (links_at graph.now links.now)) }
+        ensures { IfOk result (λ l. HasParts self.old [] → link_facts l ≡ over_parts which (wanted_parts which places.entry (links_at graph.now links.now))) }
     {
         for link_ix in links {
-            self.add_link(graph.link(*link_ix), which)?;
+            self.add(graph.link(*link_ix), which, places)?;
         }
         self.to_link(alloc, which)
     }
+}
 
-    /// The link over the declarations of a package link at places, where none is added yet.
-    fn over_places(
-        &mut self,
-        alloc: Global,
-        link: PackageLink<'g>,
-        which: LinkDeclarations,
-        places: &[usize],
-    ) -> Result<ConditionalLinkImpl, AllocError>
-        ensures { IfOk result (λ l. HasParts self.old [] → link_facts l ≡ over_places which link.entry.link_ix (link_table_of link.entry) places.now) }
-    {
-        self.add_places(link, places)?;
-        self.to_link(alloc, which)
-    }
+/// The link over the wanted declarations of package links, all of which are collected.
+fn collected(
+    alloc: Global,
+    graph: &PackageGraph,
+    links: &[usize],
+    which: LinkDeclarations,
+    places: Option<&[usize]>,
+) -> Result<ConditionalLinkImpl, AllocError>
+    requires { (i k : ℕ) → slice_get links.now i ≡ Some k → k < length graph.now.links }
+    ensures { IfOk result (λ l. link_facts l ≡ over_parts which (wanted_parts which places.entry (links_at graph.now links.now))) }
+{
+    let mut parts = LinkParts::new(alloc);
+    parts.over(alloc, graph, links, which, places)
 }
 
 /// The status for a kind, of one declaration: its platform where it's of this kind, and else none.
@@ -299,8 +317,7 @@ pub(crate) fn links_over(
             return link_over_one(alloc, *link_ix, which, declaration);
         }
     }
-    let mut parts = LinkParts::new(alloc);
-    parts.over_links(alloc, graph, links, which)
+    collected(alloc, graph, links, which, None)
 }
 
 /// The link over the covered declarations of one package link.
@@ -314,8 +331,7 @@ pub(crate) fn link_of(
     ensures { IfOk result (λ l. (link : LinkTable) → IsLink graph.now link_ix link → link_facts l ≡ over which (λ d. includes which d) ((link_ix, link) ∷ [])) }
 {
     let links = [link_ix];
-    let link = links_over(alloc, graph, &links, which)?;
-    Ok(link)
+    links_over(alloc, graph, &links, which)
 }
 
 /// One half of a weak edge over a package link.
@@ -348,8 +364,7 @@ pub(crate) fn named_link(
     ensures { IfOk result (λ l. link_facts l ≡ by_name graph.now package_ix which name.now) }
 {
     let links = numbers_of(groups, package_ix, name);
-    let link = links_over(alloc, graph, links, which)?;
-    Ok(link)
+    links_over(alloc, graph, links, which)
 }
 
 /// The link over the declarations of one package link at places, in their order. One declaration is not collected.
@@ -369,6 +384,6 @@ pub(crate) fn section_link(
     {
         return link_over_one(alloc, link_ix, which, &declarations[*place]);
     }
-    let mut parts = LinkParts::new(alloc);
-    parts.over_places(alloc, graph.link(link_ix), which, places)
+    let links = [link_ix];
+    collected(alloc, graph, &links, which, Some(places))
 }

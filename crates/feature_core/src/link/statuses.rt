@@ -66,10 +66,7 @@ impl<'g> StatusCollector<'g> {
                 self.always = true;
                 Ok(())
             }
-            PlatformStatusImpl::Specs(specs) => {
-                insert_all(&mut self.specs, specs.as_slice())?;
-                Ok(())
-            }
+            PlatformStatusImpl::Specs(specs) => insert_all(&mut self.specs, specs.as_slice()),
         }
     }
 
@@ -111,18 +108,9 @@ impl<'g> KindCollectors<'g> {
     {
         let platform = declaration.platform();
         match declaration.kind() {
-            DependencyKind::Normal => {
-                self.normal.add(platform)?;
-                Ok(())
-            }
-            DependencyKind::Build => {
-                self.build.add(platform)?;
-                Ok(())
-            }
-            DependencyKind::Development => {
-                self.dev.add(platform)?;
-                Ok(())
-            }
+            DependencyKind::Normal => self.normal.add(platform),
+            DependencyKind::Build => self.build.add(platform),
+            DependencyKind::Development => self.dev.add(platform),
         }
     }
 }

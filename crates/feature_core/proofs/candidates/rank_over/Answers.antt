@@ -11,4 +11,4 @@ pub returns : goal.returns
 returns c =
     let is_optional : Declared → Bool = λ d. d.optional in
     let same : list_any (λ d. (declared d).optional) c.declarations.result.now ≡ list_any is_optional (link_table_of c.args.link).declarations = sym (list_any-map declared is_optional c.declarations.result.now) ∙ ap (list_any is_optional) c.declarations.ensures in
-    c.slash_rank.ensures ∙ ap (λ b. if c.args.weak && b then 6 else 4) (c.is_any_optional.ensures ∙ same)
+    c.slash_rank.ensures ∙ ap (λ b. if c.args.weak && b then 6 else 4) (c.is_any_included.ensures ∙ same)

@@ -1,23 +1,11 @@
-use Rattle.std.proofs.Common.{[], ◌≡◌, length, subst, arith}
-use Rattle.feature_core.specs.inner.Made.{AreMadeBelow}
+use Rattle.std.proofs.Common.{[]}
 use Rattle.feature_core.proofs.SourceLemmas.{kept_none}
 use Rattle.feature_core.proofs.ValueLemmas.{made_none}
 use Rattle.feature_core.proofs.edge_table.made_edges.Goals as goal
 
-pub loop-ix-init : goal.loop-ix-init
-loop-ix-init c = (
-  record {
-    kept = [];
-    is_kept = kept_none c.args.numbers.graph.now;
-    made = made_none c.args.numbers.graph.now _ c.in_ok-made.ensures.weak c.in_ok-made.ensures.edges c.in_ok-made.ensures.ends;
-  },
-  c.in_ok-quiet.ensures,
-)
-
-pub loop-ix-preserved : goal.loop-ix-preserved
-loop-ix-preserved c = (c.in_ok-add_package.ensures.made, c.in_ok-add_package.ensures.quiet)
-
-pub returns-clause-made : goal.returns-clause-made
-returns-clause-made c =
-    let end : c.loop-ix.ix ≡ length c.args.numbers.graph.now.packages = omega arith in
-    subst (λ z. AreMadeBelow c.args.numbers.graph.now z c.loop-ix.made) end c.loop-ix.invariant.0
+pub fill-requires-clause-made : goal.fill-requires-clause-made
+fill-requires-clause-made c = record {
+  kept = [];
+  is_kept = kept_none c.args.numbers.graph.now;
+  made = made_none c.args.numbers.graph.now _ c.in_ok-made.ensures.weak c.in_ok-made.ensures.edges c.in_ok-made.ensures.ends;
+}

@@ -2,8 +2,8 @@ use Rattle.std.proofs.Common.{◌≡◌, ◌∙◌, ◌∷◌, [], subst}
 use Rattle.std.specs.Prelude.{filter}
 use Rattle.guppy_packages.specs.Metadata.{link_table_of}
 use Rattle.guppy_packages.specs.Stored.{declared}
-use Rattle.feature_core.specs.Links.{includes}
-use Rattle.feature_core.proofs.LinkLemmas.{ok_map, one_covered}
+use Rattle.feature_core.specs.Links.{includes, links_at}
+use Rattle.feature_core.proofs.LinkLemmas.{ok_map, one_covered, over_of_parts}
 use Rattle.feature_core.proofs.link.from_declarations.links_over.Goals as goal
 
 pub returns-in-Some : goal.returns-in-Some
@@ -16,4 +16,4 @@ returns-in-Some c =
     (subst (λ ds. filter (λ d. includes which d) ds ≡ declaration ∷ []) c.declarations-declarations.ensures c.in-Some.ensures))
 
 pub returns : goal.returns
-returns c = ok_map _ _ c.over_links.result c.over_links.ensures (λ l holds. holds c.new-parts.ensures)
+returns c = ok_map _ _ c.collected.result c.collected.ensures (λ l holds. holds ∙ over_of_parts c.args.which (λ d. includes c.args.which d) (links_at c.args.graph.now c.args.links.now))

@@ -4,6 +4,8 @@ use Rattle.std.specs.Option.{option_map}
 use Rattle.std.proofs.lemmas.Option.{slice_get-map}
 use Rattle.guppy_packages.specs.Metadata.{link_table_of}
 use Rattle.guppy_packages.specs.Stored.{declared}
+use Rattle.std.specs.List.{cons_option}
+use Rattle.feature_core.specs.inner.Collected.{wanted_parts}
 use Rattle.feature_core.specs.Links.{at_places, over_parts, over_places}
 use Rattle.feature_core.proofs.LinkLemmas.{ok_map, one_link, one_place}
 use Rattle.feature_core.proofs.SameLists.{read}
@@ -25,9 +27,6 @@ returns c =
 
 pub returns-2 : goal.returns-2
 returns-2 c =
-    let found = link_table_of c.link-2.result in
-    let places = c.args.places.now in
-    ok_map _ _ c.over_places.result c.over_places.ensures (λ l holds link is.
-    holds c.new-parts.ensures
-    ∙ ap (λ k. over_places c.args.which k found places) c.link-2.ensures.number
-    ∙ ap (λ l. over_places c.args.which c.args.link_ix l places) (one_link c.args.graph.now c.args.link_ix found link c.link-2.ensures.link is))
+    let k = c.args.link_ix in
+    ok_map _ _ c.collected.result c.collected.ensures (λ l holds link is.
+    holds ∙ ap (λ o. over_parts c.args.which (wanted_parts c.args.which (Some c.args.places) (cons_option (option_map (λ l. (k, l)) o) []))) is)

@@ -1,0 +1,14 @@
+use Rattle.std.proofs.Common.{◌≡◌, length, subst, arith}
+use Rattle.feature_core.specs.inner.Made.{AreMadeBelow}
+use Rattle.feature_core.proofs.edge_table.MadeEdges.add_packages.Goals as goal
+
+pub loop-ix-init : goal.loop-ix-init
+loop-ix-init c = (c.requires.made, c.requires.quiet)
+
+pub loop-ix-preserved : goal.loop-ix-preserved
+loop-ix-preserved c = (c.in_ok-add_package.ensures.made, c.in_ok-add_package.ensures.quiet)
+
+pub returns-clause-made : goal.returns-clause-made
+returns-clause-made c =
+    let end : c.loop-ix.ix ≡ length c.args.numbers.graph.now.packages = omega arith in
+    subst (λ z. AreMadeBelow c.args.numbers.graph.now z c.loop-ix.self) end c.loop-ix.invariant.0
