@@ -1,7 +1,8 @@
 -- Steps that add to a list, one after the other.
 use Rattle.std.proofs.Common.{◌≡◌, ℕ, zero, suc, ◌+◌, ◌<◌, ◌⊎◌, inl, inr, ⊎_elim, List, ◌∷◌, [], ◌++◌, length, refl, ap, sym, subst, arith, Some}
-use Rattle.std.specs.Prelude.{Contains, slice_get, slice_index_or}
+use Rattle.std.specs.Prelude.{Contains, IsPermutation, slice_get, slice_index_or}
 use Rattle.std.proofs.lemmas.List.Elements.{Contains-append_left, Contains-append_right, Contains-append_cases}
+use Rattle.std.proofs.lemmas.List.Sorted.{Contains-permutation, IsPermutation-sym}
 use Rattle.feature_core.specs.inner.Adds.{Adds, Below}
 
 pub Contains-first : {X : Type 0} (x : X) (xs : List X) → Contains (x ∷ xs) x
@@ -56,6 +57,14 @@ module _ {X : Type 0} where
     kept = λ x h. s.kept x (f.kept x h);
     added = λ x h. ⊎_elim (λ p. s.kept x (f.added x p)) (λ q. s.added x q) h;
     nothing_else = λ x h. ⊎_elim (λ i. ⊎_elim (λ j. inl j) (λ j. inr (inl j)) (f.nothing_else x i)) (λ i. inr (inr i)) (s.nothing_else x h);
+  }
+
+  -- what was added may then be put in order
+  pub Adds-permuted : (P : X → Type 0) (a b c : List X) → Adds P a b → IsPermutation b c → Adds P a c
+  Adds-permuted P a b c f moved = record {
+    kept = λ x h. Contains-permutation b c x moved (f.kept x h);
+    added = λ x h. Contains-permutation b c x moved (f.added x h);
+    nothing_else = λ x h. f.nothing_else x (Contains-permutation c b x (IsPermutation-sym b c moved) h);
   }
 
   -- what is added may be said in another way

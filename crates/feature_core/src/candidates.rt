@@ -18,14 +18,14 @@ ghost use Rattle.feature_core.specs.inner.Quiet.{lack_by, IsQuiet, IsQuietItem, 
 ghost use Rattle.feature_core.specs.inner.Parts.{key, over_rank, IsToFirst, IsOverLink, start_of, IsOver, IsBeside, IsOfItem, IsOfItemAt, IsOfFeatureAt, IsOfPackageAt, IsRequest, IsOfDeclarationAt, IsOfLinkAt, IsOfSource};
 
 use crate::declarations::push_links;
-use crate::key::{Key, sort_keys};
+use crate::key::{Key, sort_keys, sort_keys_from};
 use crate::link::from_declarations::is_any_included;
 use crate::named_links::{LinkGroups, numbers_of};
 use crate::numbers::Numbers;
 use crate::quiet::{Quiet, note};
 use feature_labels::LinkDeclarations;
 use guppy_packages::{NamedFeature, NamedFeatureDep, PackageLink, PackageMetadata};
-use std::alloc::AllocError;
+use std::alloc::{AllocError, Global};
 
 /// Whether a number takes more than 32 bits.
 fn is_wide(number: usize) -> bool
@@ -226,8 +226,30 @@ fn push_feature(
     Ok(quiet)
 }
 
+/// Adds the keys of the items of a feature, in order. Where it gives true, no warning is of them.
+fn push_in_order(
+    alloc: Global,
+    keys: &mut Vec<Key>,
+    numbers: Numbers<'_>,
+    groups: &LinkGroups<'_>,
+    metadata: PackageMetadata<'_>,
+    from: usize,
+    feature: &NamedFeature,
+) -> Result<bool, AllocError>
+    requires graph { package_graph_of metadata ≡ numbers.graph.now }
+    requires links { AreNamedLinks numbers.graph.now groups.now }
+    ensures keys { OnOk result (Adds (λ x. (j : ℕ) × IsOfItemAt numbers.entry.graph.now from metadata.entry.package_ix (feature_table feature.now) j x) keys.old.items keys.new.items) }
+    ensures quiet { IfOk result (λ quiet. IsTrue quiet → IsQuietFeature numbers.entry.graph.now metadata.entry.package_ix (feature_table feature.now)) }
+{
+    let start = keys.len();
+    let quiet = push_feature(keys, numbers, groups, metadata, from, feature)?;
+    sort_keys_from(alloc, keys, start)?;
+    Ok(quiet)
+}
+
 /// Adds the keys of the items of a package's features. Where it gives true, no warning is of them.
 fn push_features(
+    alloc: Global,
     keys: &mut Vec<Key>,
     numbers: Numbers<'_>,
     groups: &LinkGroups<'_>,
@@ -242,13 +264,14 @@ fn push_features(
     let mut quiet = true;
     for ix in 0..features.len() {
         let from = numbers.feature(metadata, ix);
-        quiet &= push_feature(keys, numbers, groups, metadata, from, &features[ix])?;
+        quiet &= push_in_order(alloc, keys, numbers, groups, metadata, from, &features[ix])?;
     }
     Ok(quiet)
 }
 
 /// Adds the keys of a package: to its base, and by the items of its features. Where it gives true, no warning is of these.
 fn push_package(
+    alloc: Global,
     keys: &mut Vec<Key>,
     numbers: Numbers<'_>,
     groups: &LinkGroups<'_>,
@@ -261,13 +284,14 @@ fn push_package(
 {
     let _ix = metadata.package_ix();
     push_to_first(keys, numbers.base(metadata), numbers.node_count(metadata))?;
-    let quiet = push_features(keys, numbers, groups, metadata)?;
+    let quiet = push_features(alloc, keys, numbers, groups, metadata)?;
     Ok(quiet)
 }
 
 /// The keys of a package: by its nodes, by the items of its features, and by the declarations of its links, in order. Notes
 /// of which of these no warning is.
 pub(crate) fn package_keys(
+    alloc: Global,
     keys: &mut Vec<Key>,
     quiet: &mut Quiet,
     numbers: Numbers<'_>,
@@ -285,7 +309,7 @@ pub(crate) fn package_keys(
     keys.clear();
     // keys from the base come first in order, and most of them are of links
     push_links(keys, &mut quiet.links, numbers, metadata)?;
-    let told = push_package(keys, numbers, groups, metadata)?;
+    let told = push_package(alloc, keys, numbers, groups, metadata)?;
     note(&mut quiet.packages, ix, told);
     sort_keys(keys)?;
     Ok(())

@@ -196,7 +196,7 @@ impl MadeEdges {
         ensures made { OnOk result (AreMadeBelow numbers.entry.graph.now (ix + 1) self.new) }
         ensures quiet { OnOk result (IsQuiet numbers.entry.graph.now room.new.quiet) }
     {
-        package_keys(&mut room.keys, &mut room.quiet, numbers, groups, ix)?;
+        package_keys(alloc, &mut room.keys, &mut room.quiet, numbers, groups, ix)?;
         keep_least_of(&mut room.kept, &room.keys)?;
         let material = Material {
             numbers,

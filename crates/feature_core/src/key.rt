@@ -1,8 +1,8 @@
 //! Candidates for edges as small keys, and the least of each pair of nodes.
-ghost use Rattle.std.specs.Prelude.{◌≡◌, IsPermutation, AllPairs, OnOk};
+ghost use Rattle.std.specs.Prelude.{◌≡◌, ◌≤◌, IsPermutation, AllPairs, OnOk, length};
 ghost use Rattle.feature_core.specs.inner.Keys.{IsNoLater, AreLeast, IsRun, is_pair_below, is_pair_up_to};
 
-use std::alloc::AllocError;
+use std::alloc::{AllocError, Global};
 
 /// A candidate for the edge of a pair of nodes.
 ///
@@ -25,6 +25,27 @@ pub(crate) fn sort_keys(keys: &mut Vec<Key>) -> Result<(), AllocError>
 {
     keys.sort()?;
     Ok(())
+}
+
+/// Sorts the end of a slice of keys.
+fn sort_end(alloc: Global, keys: &mut [Key], start: usize) -> Result<(), AllocError>
+    requires { start ≤ length keys.old }
+    ensures { IsPermutation keys.old keys.new }
+{
+    let (_, end) = keys.split_at_mut(start);
+    end.sort(alloc)
+}
+
+/// Sorts the keys from a place on. So the keys of a package, which come source by source, are mostly in order when all are there.
+pub(crate) fn sort_keys_from(
+    alloc: Global,
+    keys: &mut Vec<Key>,
+    start: usize,
+) -> Result<(), AllocError>
+    ensures { OnOk result (IsPermutation keys.old.items keys.new.items) }
+{
+    let start = start.min(keys.len());
+    sort_end(alloc, keys.as_mut_slice(), start)
 }
 
 /// Of sorted keys, keeps the least of each pair.

@@ -25,8 +25,8 @@ loop-ix-preserved c =
     let feature = feature_table c.index-features-ix.result in
     let read : slice_get c.named_features-features.result.now c.loop-ix.ix ≡ Some c.index-features-ix.result = slice_get_read c.named_features-features.result.now (length c.named_features-features.result.now) c.loop-ix.ix c.index-features-ix.result refl (omega arith) c.index-features-ix.is in
     let at : slice_get table.features c.loop-ix.ix ≡ Some feature = ap (λ z. slice_get z c.loop-ix.ix) (sym c.named_features-features.ensures) ∙ slice_get-map feature_table c.named_features-features.result.now c.loop-ix.ix ∙ ap (option_map feature_table) read in (
-      Adds-turn (IsOfFeatureAt t p table) c.loop-ix.ix c.args.keys.now.items c.loop-ix.keys.items c.push_feature.new.keys.items c.loop-ix.invariant.0
-          (feature_at t p c.loop-ix.ix c.feature-from.result table feature c.loop-ix.keys.items c.push_feature.new.keys.items at c.feature-from.ensures c.in_ok-quiet.ensures.keys),
+      Adds-turn (IsOfFeatureAt t p table) c.loop-ix.ix c.args.keys.now.items c.loop-ix.keys.items c.push_in_order.new.keys.items c.loop-ix.invariant.0
+          (feature_at t p c.loop-ix.ix c.feature-from.result table feature c.loop-ix.keys.items c.push_in_order.new.keys.items at c.feature-from.ensures c.in_ok-quiet.ensures.keys),
       features_next t p c.loop-ix.ix table.features feature c.loop-ix.quiet c.in_ok-quiet.field-0 (c.loop-ix.quiet && c.in_ok-quiet.field-0) at refl c.loop-ix.invariant.1 c.in_ok-quiet.ensures.quiet,
     )
 
