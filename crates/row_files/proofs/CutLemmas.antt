@@ -1,5 +1,5 @@
 -- A text that is cut at its next tab or line feed.
-use Rattle.std.proofs.Common.{◌≡◌, ℕ, ◌+◌, ◌<◌, ◌++◌, ◌==◌, List, [], ◌∷◌, Bool, true, false, not, cond, map, filter, length, sym, ap, ◌∙◌, refl, arith, append-nil, append_assoc}
+use Rattle.std.proofs.Common.{◌≡◌, ℕ, ◌+◌, ◌<◌, ◌≤◌, ◌++◌, ◌==◌, List, [], ◌∷◌, Bool, true, false, not, cond, if◌then◌else◌, map, filter, length, sym, ap, ◌∙◌, refl, arith, append-nil, append_assoc}
 use Rattle.std.proofs.lemmas.Bool.{eqb-true}
 use Rattle.std.proofs.lemmas.List.Elements.{All-head, All-tail}
 use Rattle.std.proofs.lemmas.List.Splits.{slice_split-cons_no, slice_split_at, slice_split_none, length-slice_split}
@@ -116,3 +116,18 @@ module _ (lines : List (ℕ × List Text)) (n : ℕ) (fields : List Text) (left 
   past_end e =
       ap (λ ls. lines ++ ls) (sym (append-nil (kept_line n (fields ++ field ∷ []))))
       ∙ ap (λ ls. lines ++ keep n (onto fields ls)) (sym (end_after field plain) ∙ ap cut (sym e)) ∙ so_far
+
+  -- past a tab or a line feed
+  pub past_field : (ends : Bool) (rest : Text) → (ends ≡ true → left ≡ field ++ 10 ∷ rest) → (ends ≡ false → left ≡ field ++ 9 ∷ rest)
+      → (lines ++ (if ends then kept_line n (fields ++ field ∷ []) else [])) ++ keep (if ends then n + 1 else n) (onto (if ends then [] else fields ++ field ∷ []) (cut rest)) ≡ all
+  past_field true rest feed tab = past_feed rest (feed refl)
+  past_field false rest feed tab = ap (λ ls. ls ++ keep n (onto (fields ++ field ∷ []) (cut rest))) (append-nil lines) ∙ past_tab rest (tab refl)
+
+-- the number of the line that goes on
+pub next_number : (ends : Bool) (n : ℕ) → (if ends then n + 1 else n) ≤ n + 1
+next_number true n = omega arith
+next_number false n = omega arith
+
+pub not_both : (b : Bool) → b ≡ true → b ≡ false → ⊥
+not_both true h e = cc
+not_both false h e = cc

@@ -14,8 +14,7 @@ fn keep_dep<'t>(kept: &mut Vec<&'t str>, fields: &[&'t str]) -> Result<(), Alloc
     let [_, name, target, _, _, _, _, features @ ..] = fields else {
         return Ok(());
     };
-    kept.push(*name)?;
-    kept.push(*target)?;
+    kept.extend_from_slice(&[*name, *target])?;
     if features.is_empty() {
         return Ok(());
     }
@@ -30,9 +29,7 @@ fn keep_platform_dep<'t>(kept: &mut Vec<&'t str>, fields: &[&'t str]) -> Result<
     let [_, name, target, _, _, platform, _, features @ ..] = fields else {
         return Ok(());
     };
-    kept.push(*name)?;
-    kept.push(*target)?;
-    kept.push(*platform)?;
+    kept.extend_from_slice(&[*name, *target, *platform])?;
     if features.is_empty() {
         return Ok(());
     }

@@ -1,5 +1,5 @@
 //! The lines of a text and their fields.
-ghost use Rattle.std.specs.Prelude.{◌≡◌, ◌+◌, ◌<◌, ◌≤◌, ◌++◌, [], ◌∷◌, length, IfOk, OnOk, All};
+ghost use Rattle.std.specs.Prelude.{◌≡◌, ◌+◌, ◌<◌, ◌≤◌, ◌^◌, ◌++◌, [], ◌∷◌, if◌then◌else◌, length, IfOk, OnOk, All};
 ghost use Rattle.guppy_packages.specs.Rows.{texts};
 ghost use Rattle.row_files.specs.inner.KeptFields.{IsKept};
 
@@ -51,6 +51,29 @@ impl<'t> Lines<'t> {
         }
     }
 
+    /// Adds a field that has ended to those of its line, and the line, if it ends there too. Tells the number of the line that goes on.
+    #[inline(always)]
+    fn end_field(
+        &mut self,
+        fields: &mut Vec<&'t str>,
+        number: usize,
+        field: &'t str,
+        ends: bool,
+    ) -> Result<usize, AllocError>
+        requires { number + 1 < 2 ^ 64 }
+        ensures lines { OnOk result (lines_of self.new ≡ lines_of self.old ++ (if ends then kept_line number (texts fields.old.items ++ field.now ∷ []) else [])) }
+        ensures fields { OnOk result (texts fields.new.items ≡ (if ends then [] else texts fields.old.items ++ field.now ∷ [])) }
+        ensures number { IfOk result (λ next. next ≡ (if ends then number + 1 else number)) }
+    {
+        fields.push(field)?;
+        if ends {
+            self.end_line(number, fields)?;
+            fields.clear();
+            return Ok(number + 1);
+        }
+        Ok(number)
+    }
+
     /// The lines that count, with their numbers and fields.
     pub fn of(alloc: Global, text: &'t str) -> Result<Self, AllocError>
         ensures { IfOk result (λ l. lines_of l ≡ kept_lines 1 (lines_in text.now)) }
@@ -64,16 +87,11 @@ impl<'t> Lines<'t> {
         let mut number = 1;
         let mut start = 0;
         for end in memchr2_iter(b'\t', b'\n', bytes) {
-            fields.push(&text[start..end])?;
-            if bytes[end] == b'\n' {
-                lines.end_line(number, &fields)?;
-                fields.clear();
-                number += 1;
-            }
+            let ends = bytes[end] == b'\n';
+            number = lines.end_field(&mut fields, number, &text[start..end], ends)?;
             start = end + 1;
         }
-        fields.push(&text[start..])?;
-        lines.end_line(number, &fields)?;
+        lines.end_field(&mut fields, number, &text[start..], true)?;
         Ok(lines)
     }
 

@@ -1,14 +1,13 @@
-use Rattle.std.proofs.Common.{◌≡◌, ◌+◌, ◌-◌, ◌++◌, [], ◌∷◌, length, take, drop, slice_index, sym, ap, ◌∙◌, arith, refl}
-use Rattle.std.proofs.lemmas.List.{map-append}
+use Rattle.std.proofs.Common.{◌≡◌, ◌≤◌, ◌==◌, ◌+◌, ◌-◌, ◌++◌, [], ◌∷◌, true, false, length, take, drop, slice_index, subst, sym, ap, ◌∙◌, arith, refl}
+use Rattle.std.proofs.lemmas.Bool.{eqb-true}
 use Rattle.std.proofs.lemmas.Str.{IsCharBoundary-start, IsCharBoundary-before_ascii, IsCharBoundary-after_ascii}
 use Rattle.guppy_packages.specs.Rows.{texts}
 use Rattle.row_files.specs.Lines.{kept_lines, lines_in}
 use Rattle.row_files.specs.RowFile.{lines_of}
 use Rattle.row_files.specs.inner.CutLines.{kept_line}
 use Rattle.memchr.specs.Find.{is_byte2, places_between}
-use Rattle.row_files.proofs.CutLemmas.{begun, past_tab, past_feed, past_end}
+use Rattle.row_files.proofs.CutLemmas.{begun, next_number, not_both, past_end, past_field}
 use Rattle.row_files.proofs.PlaceLemmas.{next_end, no_end, parted, ended_by_ascii, is_tab}
-use Rattle.row_files.proofs.lines.Lines.of.Goals.{then-bytes-end-eq10+in_ok-end_line, else-bytes-end-eq10}
 use Rattle.row_files.proofs.lines.Lines.of.Goals as goal
 
 pub loop-end-init : goal.loop-end-init
@@ -46,25 +45,20 @@ loop-end-preserved c =
     let field = take (c.in-Some.end - c.loop-end.start) (drop c.loop-end.start text) in
     let rest = drop (c.in-Some.end + 1) text in
     let left : drop c.loop-end.start text ≡ field ++ slice_index text c.in-Some.end ∷ rest = parted text c.loop-end.start c.in-Some.end ends in
-    let added : texts c.push.new.self.items ≡ texts c.loop-end.fields.items ++ field ∷ [] =
-    ap texts c.in_ok-push.ensures.items ∙ map-append (λ t. t.now) c.loop-end.fields.items (c.range.result ∷ []) ∙ ap (λ t. texts c.loop-end.fields.items ++ t ∷ []) c.range.ensures.value in
-    elim c.if-bytes-end-eq10.branch [
-      | then-bytes-end-eq10+in_ok-end_line w ↦
-          let feed : slice_index text c.in-Some.end ≡ 10 = sym byte ∙ w.if-bytes-end-eq10.true in
-          let past = past_feed (lines_of c.loop-end.lines) c.loop-end.number (texts c.loop-end.fields.items) (drop c.loop-end.start text) field (kept_lines 1 (lines_in text)) inv.4 ends.plain rest (left ∙ ap (λ b. field ++ b ∷ rest) feed) in
-          (found.1, omega (arith, ends.high), rw w.number-is (omega (arith, ends.low, inv.2)), after, rw (w.lines-is, w.fields-is, w.number-is, w.clear.ensures.items, w.in_ok-end_line.ensures, w.deref.ensures.value, added) past)
-      | else-bytes-end-eq10 w ↦
-          let tab : slice_index text c.in-Some.end ≡ 9 = is_tab _ ends.ends (λ feed. w.if-bytes-end-eq10.false (byte ∙ feed)) in
-          let past = past_tab (lines_of c.loop-end.lines) c.loop-end.number (texts c.loop-end.fields.items) (drop c.loop-end.start text) field (kept_lines 1 (lines_in text)) inv.4 ends.plain rest (left ∙ ap (λ b. field ++ b ∷ rest) tab) in
-          (found.1, omega (arith, ends.high), rw w.number-is (omega (arith, ends.low, inv.2)), after, rw (w.lines-is, w.fields-is, w.number-is, added) past)
-    ]
+    let b = slice_index c.as_bytes-bytes.result.now c.in-Some.end in
+    let feed : (b == 10) ≡ true → drop c.loop-end.start text ≡ field ++ 10 ∷ rest = λ e. left ∙ ap (λ x. field ++ x ∷ rest) (sym byte ∙ eqb-true b 10 e) in
+    let tab : (b == 10) ≡ false → drop c.loop-end.start text ≡ field ++ 9 ∷ rest = λ e. left ∙ ap (λ x. field ++ x ∷ rest) (is_tab _ ends.ends (λ at. not_both (b == 10) (ap (λ x. x == 10) (byte ∙ at)) e)) in
+    let past = past_field (lines_of c.loop-end.lines) c.loop-end.number (texts c.loop-end.fields.items) (drop c.loop-end.start text) field (kept_lines 1 (lines_in text)) inv.4 ends.plain (b == 10) rest feed tab in
+    let given = c.in_ok-number.ensures in
+    let next : c.in_ok-number.number ≤ c.loop-end.number + 1 = subst (λ n. n ≤ c.loop-end.number + 1) (sym given.number) (next_number (b == 10) c.loop-end.number) in
+    (found.1, omega (arith, ends.high), omega (arith, ends.low, inv.2), after, rw (given.lines, given.fields, given.number, c.range.ensures.value) past)
 
 pub returns : goal.returns
 returns c =
     let text = c.args.text.now in
     let inv = c.loop-end.invariant in
     let plain = no_end text c.loop-end.start inv.1 (sym inv.0 ∙ c.in-None.ensures.steps.0) in
-    let added : texts c.push-2.new.self.items ≡ texts c.loop-end.fields.items ++ drop c.loop-end.start text ∷ [] =
-    ap texts c.in_ok-push-2.ensures.items ∙ map-append (λ t. t.now) c.loop-end.fields.items (c.range_from.result ∷ []) ∙ ap (λ t. texts c.loop-end.fields.items ++ t ∷ []) c.range_from.ensures.value in
-    c.in_ok-end_line-2.ensures ∙ ap (λ fs. lines_of c.loop-end.lines ++ kept_line c.loop-end.number fs) (ap texts c.deref-2.ensures.value ∙ added)
-    ∙ past_end (lines_of c.loop-end.lines) c.loop-end.number (texts c.loop-end.fields.items) (drop c.loop-end.start text) (drop c.loop-end.start text) (kept_lines 1 (lines_in text)) inv.4 plain refl
+    let left = drop c.loop-end.start text in
+    let added : lines_of c.end_field-2.new.self ≡ lines_of c.loop-end.lines ++ kept_line c.loop-end.number (texts c.loop-end.fields.items ++ c.range_from.result.now ∷ []) = c.in_ok-end_field.ensures.lines in
+    added ∙ ap (λ t. lines_of c.loop-end.lines ++ kept_line c.loop-end.number (texts c.loop-end.fields.items ++ t ∷ [])) c.range_from.ensures.value
+    ∙ past_end (lines_of c.loop-end.lines) c.loop-end.number (texts c.loop-end.fields.items) left left (kept_lines 1 (lines_in text)) inv.4 plain refl
