@@ -107,6 +107,28 @@ impl<'g> FeatureSet<'g> {
         Ok(part)
     }
 
+    /// The features of the first part and those of the second, by the callback's answers. It is called as by `filter`.
+    fn parted<A: Answer + Drop, F: FnMut(FeatureMetadata<'g>) -> A>(
+        &self,
+        alloc: Global,
+        direction: DependencyDirection,
+        f: &mut F,
+    ) -> Result<(FeatureSet<'g>, FeatureSet<'g>), Error<'g>>
+        requires { F.IsAlwaysCallable f.old }
+        ensures called { IfOk result (λ parts. Calls F.step direction self.now f.old f.new (λ calls. IsPart A.first calls self.now parts.0 × IsPart A.second calls self.now parts.1)) }
+        ensures refused { IfErr result (λ e. e ≡ Error.Memory) }
+        ensures untouched { IfErr result (λ _. f.new ≡ f.old) }
+    {
+        let mut one = self.empty_part(alloc)?;
+        let mut other = self.empty_part(alloc)?;
+        let numbers = self.nodes_in_order(direction);
+        call_each(self.graph, numbers, f, &mut one, &mut other);
+        Ok((
+            FeatureSet::new(self.graph, one),
+            FeatureSet::new(self.graph, other),
+        ))
+    }
+
     /// The features for which the callback answers true. It is called once for each feature of the set, in the order of
     /// `features`, after all memory was taken. The only error is want of memory, and the callback wasn't called then.
     pub fn filter<F: FnMut(FeatureMetadata<'g>) -> bool>(
@@ -136,14 +158,7 @@ impl<'g> FeatureSet<'g> {
         ensures refused { IfErr result (λ e. e ≡ Error.Memory) }
         ensures untouched { IfErr result (λ _. f.new ≡ f.old) }
     {
-        let mut one = self.empty_part(alloc)?;
-        let mut other = self.empty_part(alloc)?;
-        let numbers = self.nodes_in_order(direction);
-        call_each(self.graph, numbers, f, &mut one, &mut other);
-        Ok((
-            FeatureSet::new(self.graph, one),
-            FeatureSet::new(self.graph, other),
-        ))
+        self.parted(alloc, direction, f)
     }
 
     /// The features for which the callback answers that they are of the first part, and those for which it answers that they
@@ -159,13 +174,6 @@ impl<'g> FeatureSet<'g> {
         ensures refused { IfErr result (λ e. e ≡ Error.Memory) }
         ensures untouched { IfErr result (λ _. f.new ≡ f.old) }
     {
-        let mut one = self.empty_part(alloc)?;
-        let mut other = self.empty_part(alloc)?;
-        let numbers = self.nodes_in_order(direction);
-        call_each(self.graph, numbers, f, &mut one, &mut other);
-        Ok((
-            FeatureSet::new(self.graph, one),
-            FeatureSet::new(self.graph, other),
-        ))
+        self.parted(alloc, direction, f)
     }
 }
