@@ -151,23 +151,27 @@ module _ (t : Tables) (p : ℕ) (table : PackageTable) (is : IsPackage t p table
       let e : s.row ≡ table = same_table t p s.row table s.is_row is in
       (s.place, s.is, subst (λ z. slice_get (labels_of z) s.place ≡ Some label) e s.is_place)
 
+  -- the number of a named feature at a place
+  pub named_at : AreTables t → (name : Text) (k m : ℕ) (f : FeatureTable) → slice_get table.features k ≡ Some f → f.name ≡ name → m ≡ first_node t p + (1 + k) → (n : ℕ) → (◌≡◌ {A = Option ℕ} (Some m) (Some n)) ↔ NodeAt t n p (named name)
+  named_at tables name k m f there same e n = (
+    (λ i.
+        let at : NodeAt t (first_node t p + suc k) p (named f.name) = node_there t p (suc k) table (named f.name) is (named_label table k f there) in
+        let is_n : first_node t p + suc k ≡ n = let z : m ≡ n = same_some m n i in omega arith in
+        subst (λ z. NodeAt t z p (named name)) is_n (subst (λ z. NodeAt t (first_node t p + suc k) p (named z)) same at)),
+    (λ i.
+        let r = row_back n (named name) i in
+        let b = named_back table r.0 name r.2 in
+        let name_at : (j : ℕ) (g : FeatureTable) → slice_get table.features j ≡ Some g → g.name ≡ name → slice_get (map (λ f. f.name) table.features) j ≡ Some name = λ j g a s. slice_get-map (λ f. f.name) table.features j ∙ ap (option_map (λ f. f.name)) a ∙ ap Some s in
+        let place : b.0 ≡ k = tables.features p table is b.0 k name (name_at b.0 b.2.0 b.2.1 b.2.2) (name_at k f there same) in
+        let is_m : m ≡ n = omega (arith, r.1, b.1, place) in
+        ap Some is_m),
+  )
+
   -- the number of a named feature that was found at a place
   pub named_found : AreTables t → (name : Text) (k m : ℕ) → feature_place name table.features ≡ Some k → m ≡ first_node t p + (1 + k) → (n : ℕ) → (◌≡◌ {A = Option ℕ} (Some m) (Some n)) ↔ NodeAt t n p (named name)
   named_found tables name k m h e n =
       let q = position_there (λ f. bytes_eq name f.name) k table.features h in
-      let same : q.element.name ≡ name = sym ((bytes_decides name q.element.name).0 q.passes) in (
-        (λ i.
-            let at : NodeAt t (first_node t p + suc k) p (named q.element.name) = node_there t p (suc k) table (named q.element.name) is (named_label table k q.element q.there) in
-            let is_n : first_node t p + suc k ≡ n = let z : m ≡ n = same_some m n i in omega arith in
-            subst (λ z. NodeAt t z p (named name)) is_n (subst (λ z. NodeAt t (first_node t p + suc k) p (named z)) same at)),
-        (λ i.
-            let r = row_back n (named name) i in
-            let b = named_back table r.0 name r.2 in
-            let name_at : (j : ℕ) (f : FeatureTable) → slice_get table.features j ≡ Some f → f.name ≡ name → slice_get (map (λ f. f.name) table.features) j ≡ Some name = λ j f a s. slice_get-map (λ f. f.name) table.features j ∙ ap (option_map (λ f. f.name)) a ∙ ap Some s in
-            let place : b.0 ≡ k = tables.features p table is b.0 k name (name_at b.0 b.2.0 b.2.1 b.2.2) (name_at k q.element q.there same) in
-            let is_m : m ≡ n = omega (arith, r.1, b.1, place) in
-            ap Some is_m),
-      )
+      named_at tables name k m q.element q.there (sym ((bytes_decides name q.element.name).0 q.passes)) e n
 
   pub named_missing : (name : Text) → feature_place name table.features ≡ None → (n : ℕ) → (◌≡◌ {A = Option ℕ} None (Some n)) ↔ NodeAt t n p (named name)
   named_missing name h n = (

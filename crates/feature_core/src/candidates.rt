@@ -153,7 +153,8 @@ fn push_beside(
     Ok(())
 }
 
-/// Adds the keys of an item of a feature. Where it gives true, no warning is of the item.
+/// Adds the keys of an item of a feature, beside whose place other features are looked for first. Where it gives true, no warning is of
+/// the item.
 fn push_item(
     keys: &mut Vec<Key>,
     numbers: Numbers<'_>,
@@ -161,6 +162,7 @@ fn push_item(
     metadata: PackageMetadata<'_>,
     from: usize,
     feature_name: &str,
+    place: usize,
     item: &str,
 ) -> Result<bool, AllocError>
     requires graph { package_graph_of metadata ≡ numbers.graph.now }
@@ -171,7 +173,7 @@ fn push_item(
     match NamedFeatureDep::from_cargo_string(item) {
         NamedFeatureDep::NamedFeature(feature) => {
             if feature != feature_name {
-                let to = numbers.named(metadata, feature);
+                let to = numbers.named_beside(metadata, place, feature);
                 push_to(keys, from, to, 2, 0, 0)?;
                 return Ok(to.is_some());
             }
@@ -204,6 +206,7 @@ fn push_feature(
     groups: &LinkGroups<'_>,
     metadata: PackageMetadata<'_>,
     from: usize,
+    place: usize,
     feature: &NamedFeature,
 ) -> Result<bool, AllocError>
     requires graph { package_graph_of metadata ≡ numbers.graph.now }
@@ -220,6 +223,7 @@ fn push_feature(
             metadata,
             from,
             feature.name(),
+            place,
             feature.item(ix),
         )?;
     }
@@ -234,6 +238,7 @@ fn push_in_order(
     groups: &LinkGroups<'_>,
     metadata: PackageMetadata<'_>,
     from: usize,
+    place: usize,
     feature: &NamedFeature,
 ) -> Result<bool, AllocError>
     requires graph { package_graph_of metadata ≡ numbers.graph.now }
@@ -242,7 +247,7 @@ fn push_in_order(
     ensures quiet { IfOk result (λ quiet. IsTrue quiet → IsQuietFeature numbers.entry.graph.now metadata.entry.package_ix (feature_table feature.now)) }
 {
     let start = keys.len();
-    let quiet = push_feature(keys, numbers, groups, metadata, from, feature)?;
+    let quiet = push_feature(keys, numbers, groups, metadata, from, place, feature)?;
     sort_keys_from(alloc, keys, start)?;
     Ok(quiet)
 }
@@ -264,7 +269,16 @@ fn push_features(
     let mut quiet = true;
     for ix in 0..features.len() {
         let from = numbers.feature(metadata, ix);
-        quiet &= push_in_order(alloc, keys, numbers, groups, metadata, from, &features[ix])?;
+        quiet &= push_in_order(
+            alloc,
+            keys,
+            numbers,
+            groups,
+            metadata,
+            from,
+            ix,
+            &features[ix],
+        )?;
     }
     Ok(quiet)
 }

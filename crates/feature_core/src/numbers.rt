@@ -1,13 +1,15 @@
 //! The number of each node, by its package and label.
-ghost use Rattle.std.specs.Prelude.{◌≡◌, ◌+◌, ◌<◌, ◌^◌, ◌↔◌, ℕ, Some, codes, length, slice_get, slice_index};
+ghost use Rattle.std.specs.Prelude.{◌≡◌, ◌+◌, ◌<◌, ◌^◌, ◌↔◌, ℕ, IfSome, IsTrue, Some, codes, length, map, slice_get, slice_index};
 ghost use Rattle.guppy_packages.specs.Metadata.{package_graph_of, package_table_of};
+ghost use Rattle.guppy_packages.specs.NamedFeature.{feature_table};
+ghost use Rattle.guppy_packages.specs.Tables.{FeatureTable};
 ghost use Rattle.feature_labels.specs.Names.{label_of};
 ghost use Rattle.feature_labels.specs.Names.LabelName.{base, named, optional};
 ghost use Rattle.feature_core.specs.inner.DefaultNodes.{AreDefaultNodes};
 ghost use Rattle.feature_core.specs.Nodes.{NodeAt, labels_of, first_node, first_nodes, node_packages, node_places};
 
 use feature_labels::FeatureLabel;
-use guppy_packages::{PackageGraph, PackageMetadata};
+use guppy_packages::{NamedFeature, PackageGraph, PackageMetadata};
 
 /// A package graph with the first node of each package. The packages below the length of `defaults` have their named feature
 /// `default` there, or none where they have no such feature; for the others it is looked up.
@@ -62,6 +64,38 @@ pub(crate) fn label_at<'g>(
     label(graph.package(package_ix), place)
 }
 
+/// Whether the feature has this name.
+fn is_called(feature: &NamedFeature, name: &str) -> bool
+    ensures { IsTrue result → (feature_table feature.now).name ≡ name.now }
+{
+    feature.name() == name
+}
+
+/// Whether there is a feature of this name at the place.
+fn has_name(features: &[NamedFeature], place: usize, name: &str) -> bool
+    ensures { IsTrue result → (f : FeatureTable) × (slice_get (map feature_table features.now) place ≡ Some f) × (f.name ≡ name.now) }
+{
+    if place < features.len() {
+        return is_called(&features[place], name);
+    }
+    false
+}
+
+/// The place of the feature of this name, where it is the one after or before this place.
+fn place_beside(features: &[NamedFeature], place: usize, name: &str) -> Option<usize>
+    ensures { IfSome result (λ k. (f : FeatureTable) × (slice_get (map feature_table features.now) k ≡ Some f) × (f.name ≡ name.now)) }
+{
+    let after = place.saturating_add(1);
+    if has_name(features, after, name) {
+        return Some(after);
+    }
+    let before = place.saturating_sub(1);
+    if has_name(features, before, name) {
+        return Some(before);
+    }
+    None
+}
+
 impl<'g> Numbers<'g> {
     /// The node at a place of a package.
     fn number(self, metadata: PackageMetadata<'g>, place: usize) -> usize
@@ -93,6 +127,26 @@ impl<'g> Numbers<'g> {
         match metadata.feature_place(name) {
             Some(place) => Some(self.number(metadata, 1 + place)),
             None => None,
+        }
+    }
+
+    /// The named feature of a package, where it has one of this name: features often name those beside them, so what stands beside this
+    /// place is looked at first.
+    pub(crate) fn named_beside(
+        self,
+        metadata: PackageMetadata<'g>,
+        place: usize,
+        name: &str,
+    ) -> Option<usize>
+        requires { package_graph_of metadata ≡ self.graph.now }
+        ensures { (n : ℕ) → (result ≡ Some n) ↔ NodeAt self.entry.graph.now n metadata.entry.package_ix (named name.now) }
+    {
+        self.graph.facts();
+        let _ix = metadata.package_ix();
+        let features = metadata.named_features();
+        match place_beside(features, place, name) {
+            Some(found) => Some(self.number(metadata, 1 + found)),
+            None => self.named(metadata, name),
         }
     }
 

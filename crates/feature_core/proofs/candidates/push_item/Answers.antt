@@ -23,7 +23,7 @@ returns-then-ne-clause-keys c =
     let g = c.in-NamedFeature.feature.now in
     item_read t u p f (feature_item g) (item_of c.args.item.now) c.args.keys.now.items c.push_to.new.keys.items c.in-NamedFeature.ensures
     (other_feature t u p f g c.args.keys.now.items c.push_to.new.keys.items (texts_differ g f c.if-ne.ensures)
-    (pushed_to t u p 2 0 0 (named g) c.named-to.result c.args.keys.now.items c.push_to.new.keys.items (λ n. c.named-to.ensures n) c.in_ok-push_to-in-NamedFeature.ensures))
+    (pushed_to t u p 2 0 0 (named g) c.named_beside-to.result c.args.keys.now.items c.push_to.new.keys.items (λ n. c.named_beside-to.ensures n) c.in_ok-push_to-in-NamedFeature.ensures))
 
 pub returns-then-ne-clause-quiet : goal.returns-then-ne-clause-quiet
 returns-then-ne-clause-quiet c h =
@@ -32,7 +32,7 @@ returns-then-ne-clause-quiet c h =
     let f = c.args.feature_name.now in
     let g = c.in-NamedFeature.feature.now in
     quiet_read t p f (feature_item g) (item_of c.args.item.now) c.in-NamedFeature.ensures
-    (feature_found t p f g c.named-to.result c.if-ne.ensures (λ n. c.named-to.ensures n) (sym c.is_some.ensures ∙ h))
+    (feature_found t p f g c.named_beside-to.result c.if-ne.ensures (λ n. c.named_beside-to.ensures n) (sym c.is_some.ensures ∙ h))
 
 pub returns-in_ok-push_to-in-OptionalDependency-clause-keys : goal.returns-in_ok-push_to-in-OptionalDependency-clause-keys
 returns-in_ok-push_to-in-OptionalDependency-clause-keys c =
