@@ -1,4 +1,4 @@
-use Rattle.std.proofs.Common.{◌≡◌, ◌+◌, ◌<◌, ◌∙◌, ap, suc, subst, arith, length, Some}
+use Rattle.std.proofs.Common.{◌≡◌, ◌+◌, ◌<◌, suc, subst, arith, length, Some}
 use Rattle.std.specs.Prelude.{slice_get}
 use Rattle.guppy_packages.specs.Metadata.{package_table_of, package_graph_of}
 use Rattle.feature_labels.specs.Names.LabelName.{named}
