@@ -130,8 +130,8 @@ impl<'g> Numbers<'g> {
         }
     }
 
-    /// The named feature of a package, where it has one of this name: features often name those beside them, so what stands beside this
-    /// place is looked at first.
+    /// The named feature of a package, where it has one of this name: what stands beside this place is looked at first, which serves
+    /// features that name their neighbours.
     pub(crate) fn named_beside(
         self,
         metadata: PackageMetadata<'g>,
