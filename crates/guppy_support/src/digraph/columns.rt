@@ -1,5 +1,5 @@
 //! Edges in two narrow columns.
-ghost use Rattle.std.specs.Prelude.{◌≡◌, ◌++◌, ◌∷◌, [], ◌<◌, length, slice_get, Some, IfOk, OnOk};
+ghost use Rattle.std.specs.Prelude.{◌≡◌, ◌++◌, ◌∷◌, [], ◌<◌, length, slice_get, Some, IfOk, OnOk, OnErr};
 
 use crate::digraph::Edge;
 use std::alloc::{AllocError, Global};
@@ -52,9 +52,10 @@ impl EdgeColumns {
         Ok(columns)
     }
 
-    /// Appends an edge. A source from 4294967296 on, or a target from 2147483648 on, doesn't fit, and is answered as want of memory.
+    /// Appends an edge. A source from 4294967296 on, or a target from 2147483648 on, doesn't fit, and is answered as want of memory; after that the list is as it was.
     pub fn push(&mut self, edge: Edge) -> Result<(), AllocError>
-        ensures { OnOk result (self.new ≡ self.old ++ edge ∷ []) }
+        ensures pushed { OnOk result (self.new ≡ self.old ++ edge ∷ []) }
+        ensures untouched { OnErr result (self.new ≡ self.old) }
     {
         if edge.from > LAST_SOURCE || edge.to > LAST_TARGET {
             return Err(AllocError);

@@ -8,7 +8,7 @@ returns c = (
   record {
     weak = refl;
     edges = c.in_ok-push-2.ensures;
-    ends = c.in_ok-push.ensures ∙ ap (λ z. c.args.self.now.ends ++ z ∷ []) c.edge_end.ensures;
+    ends = c.in_ok-push.ensures.pushed ∙ ap (λ z. c.args.self.now.ends ++ z ∷ []) c.edge_end.ensures;
   },
   c.in_ok-edge.ensures,
 )

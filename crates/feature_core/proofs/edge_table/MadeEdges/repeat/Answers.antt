@@ -10,7 +10,7 @@ returns c =
       record {
         weak = refl;
         edges = c.in_ok-repeat.ensures f c.get.ensures;
-        ends = c.in_ok-push.ensures ∙ ap (λ z. c.args.self.now.ends ++ z ∷ []) c.edge_end-end.ensures;
+        ends = c.in_ok-push.ensures.pushed ∙ ap (λ z. c.args.self.now.ends ++ z ∷ []) c.edge_end-end.ensures;
       },
       ap (λ z. slice_get c.args.self.now.edges (z - c.args.back)) (sym c.len.ensures) ∙ c.get.ensures,
     )

@@ -12,7 +12,7 @@ unfolding no_edge
 loop-place-preserved c =
     let edges = c.args.edges.now in
     let k = c.loop-place.place in
-    c.in_ok-push.ensures ∙ rw c.loop-place.invariant (sym (take_more edges k no_edge c.loop-place-test.true))
+    c.in_ok-push.ensures.pushed ∙ rw c.loop-place.invariant (sym (take_more edges k no_edge c.loop-place-test.true))
 
 pub returns : goal.returns
 returns c = c.loop-place.invariant ∙ take_all c.loop-place.place c.args.edges.now (omega arith)

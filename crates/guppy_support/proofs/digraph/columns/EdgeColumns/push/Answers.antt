@@ -4,8 +4,8 @@ use Rattle.guppy_support.specs.inner.EdgeColumns.{edges_in}
 use Rattle.guppy_support.proofs.ColumnLemmas.{edges_in_more, one_edge}
 use Rattle.guppy_support.proofs.digraph.columns.EdgeColumns.push.Goals as goal
 
-pub returns : goal.returns
-returns c =
+pub returns-clause-pushed : goal.returns-clause-pushed
+returns-clause-pushed c =
     let ss = c.self.inside.sources.items in
     let es = c.self.inside.ends.items in
     let e = c.args.edge in
