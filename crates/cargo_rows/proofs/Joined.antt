@@ -9,7 +9,7 @@ use Rattle.std.specs.Str.{bytes_eq}
 use Rattle.std.specs.declared.alloc.Global.{Global}
 use Rattle.cargo_rows.specs.declared.packages.Package.{Package}
 use Rattle.cargo_rows.specs.declared.nodes.Dep.{Dep}
-use Rattle.cargo_rows.specs.Faults.{Text, Refusal, IfNotMemory, ◌>>=◌}
+use Rattle.cargo_documents.specs.Faults.{Text, Refusal, IfNotMemory, ◌>>=◌}
 use Rattle.cargo_rows.specs.Lists.{id_cmp, at_id}
 use Rattle.cargo_rows.specs.Nodes.{DepText}
 use Rattle.cargo_rows.specs.Rows.{package_rows, all_rows}

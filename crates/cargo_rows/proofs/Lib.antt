@@ -5,5 +5,4 @@ pub mod Lists
 pub mod Entries
 pub mod Members
 pub mod Joined
-pub mod Split
 pub mod Whole

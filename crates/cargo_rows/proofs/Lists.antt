@@ -6,9 +6,9 @@ use Rattle.json.specs.Json.{Json}
 use Rattle.json.specs.Find.{as_array}
 use Rattle.json.specs.Value.{value_view, items_view}
 use Rattle.json.specs.declared.value.Value.{Value}
-use Rattle.cargo_rows.specs.declared.fault.Place.{Place}
-use Rattle.cargo_rows.specs.Faults.{Text, Refusal, bad_field, repeated, no_package, ambiguous, two_names, control, out_of_memory, IfNotMemory, ◌>>=◌}
-use Rattle.cargo_rows.specs.Fields.{wanted, all_texts}
+use Rattle.cargo_documents.specs.declared.fault.Place.{Place}
+use Rattle.cargo_documents.specs.Faults.{Text, Refusal, bad_field, repeated, no_package, ambiguous, two_names, control, out_of_memory, IfNotMemory, ◌>>=◌}
+use Rattle.cargo_documents.specs.Fields.{wanted, all_texts}
 use Rattle.cargo_rows.specs.Lists.{each}
 use Rattle.cargo_rows.specs.Packages.{FeatureText, features_of}
 use Rattle.cargo_rows.specs.inner.Views.{entries_view}

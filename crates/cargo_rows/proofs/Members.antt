@@ -8,8 +8,8 @@ use Rattle.std.proofs.lemmas.List.{take_more, map-append}
 use Rattle.std.proofs.lemmas.List.Folds.{list_any-append}
 use Rattle.std.proofs.lemmas.Map.Text.{is_eq-slice_cmp}
 use Rattle.std.proofs.lemmas.Slice.Eq.{bytes_eq-Decides}
-use Rattle.cargo_rows.specs.declared.fault.Place.TheVariants as place
-use Rattle.cargo_rows.specs.Faults.{Text, Refusal, IfNotMemory}
+use Rattle.cargo_documents.specs.declared.fault.Place.TheVariants as place
+use Rattle.cargo_documents.specs.Faults.{Text, Refusal, IfNotMemory}
 use Rattle.cargo_rows.specs.Lists.{ById, id_cmp}
 use Rattle.cargo_rows.specs.Packages.{PackageText}
 use Rattle.cargo_rows.specs.Nodes.{package_at, known}

@@ -8,7 +8,7 @@ use Rattle.cargo_rows.specs.declared.nodes.Dep.{Dep}
 use Rattle.cargo_rows.specs.declared.dependencies.Asked.{Asked}
 use Rattle.cargo_rows.specs.Packages.{DeclarationText, PackageText}
 use Rattle.cargo_rows.specs.Nodes.{DepText}
-use Rattle.cargo_rows.specs.Faults.{Text, Refusal, ◌>>=◌}
+use Rattle.cargo_documents.specs.Faults.{Text, Refusal, ◌>>=◌}
 use Rattle.cargo_rows.specs.Dependencies.{nothing, found_of, pick, DependencyText, target_of, led}
 use Rattle.cargo_rows.specs.inner.Picks.{with_one, and_one, answers, meets}
 use Rattle.cargo_rows.specs.inner.Views.{declaration_view, dep_view, package_view}

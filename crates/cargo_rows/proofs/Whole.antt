@@ -3,14 +3,13 @@ use Rattle.std.proofs.Common.{◌≡◌, ◌∙◌, sym, ap, refl, List}
 use Rattle.std.specs.Prelude.{Ok, Err, Option, codes}
 use Rattle.json.specs.Json.{Json}
 use Rattle.json.specs.Find.{get}
-use Rattle.cargo_rows.specs.Faults.{Text, Refusal, IfNotMemory}
+use Rattle.cargo_documents.specs.Faults.{Text, Refusal, IfNotMemory}
 use Rattle.cargo_rows.specs.Lists.{ById}
 use Rattle.cargo_rows.specs.Packages.{PackageText, packages_at, packages_in}
 use Rattle.cargo_rows.specs.Nodes.{DepText, members_in, nodes_in}
 use Rattle.cargo_rows.specs.Rows.{all_rows, rows_of}
-use Rattle.cargo_rows.specs.inner.Parts.{fields_of, Parts}
+use Rattle.cargo_documents.specs.Parts.{Parts}
 use Rattle.cargo_rows.proofs.Lists.{if_not_memory}
-use Rattle.cargo_rows.proofs.Split.{get-fields_of}
 
 same_members : (packages : ById PackageText) (a b : Json) → get (codes "workspace_members") a ≡ get (codes "workspace_members") b → members_in packages a ≡ members_in packages b
 unfolding members_in
@@ -20,16 +19,16 @@ same_nodes : (packages : ById PackageText) (a b : Json) → get (codes "resolve"
 unfolding nodes_in
 same_nodes packages a b e = rw e refl
 
-module _ (d : Json) (found : Option Json) (rest : Json) (parts : Parts (fields_of d) found rest) (packages : ById PackageText) (were : packages_at found ≡ Ok packages) where
+module _ (d : Json) (found : Option Json) (rest : Json) (parts : Parts d found rest) (packages : ById PackageText) (were : packages_at found ≡ Ok packages) where
   listed : packages_in d ≡ Ok packages
   unfolding packages_in
-  listed = ap packages_at (sym (parts.taken ∙ get-fields_of (codes "packages") d)) ∙ were
+  listed = ap packages_at (sym parts.taken) ∙ were
 
   of_members : members_in packages d ≡ members_in packages rest
-  of_members = same_members packages d rest (sym (parts.others (codes "workspace_members") refl ∙ get-fields_of (codes "workspace_members") d))
+  of_members = same_members packages d rest (sym (parts.others (codes "workspace_members") refl))
 
   of_nodes : nodes_in packages d ≡ nodes_in packages rest
-  of_nodes = same_nodes packages d rest (sym (parts.others (codes "resolve") refl ∙ get-fields_of (codes "resolve") d))
+  of_nodes = same_nodes packages d rest (sym (parts.others (codes "resolve") refl))
 
   pub members_refused : (e : Refusal) → IfNotMemory e (members_in packages rest ≡ Err e) → IfNotMemory e (rows_of d ≡ Err e)
   unfolding rows_of

@@ -5,7 +5,7 @@ use Rattle.std.specs.Str.{bytes_eq}
 use Rattle.std.specs.Cmp.Lexicographic.{pointwise}
 use Rattle.cargo_rows.specs.declared.packages.Kind.{Kind}
 use Rattle.cargo_rows.specs.declared.packages.Kind.TheVariants as kind
-use Rattle.cargo_rows.specs.Faults.{Text, Refusal, ambiguous, two_names, ◌>>=◌}
+use Rattle.cargo_documents.specs.Faults.{Text, Refusal, ambiguous, two_names, ◌>>=◌}
 use Rattle.cargo_rows.specs.Packages.{DeclarationText, PackageText}
 use Rattle.cargo_rows.specs.Nodes.{DepText}
 use Rattle.cargo_rows.specs.Requirements.{admits}

@@ -2,7 +2,7 @@
 use Rattle.std.specs.Prelude.{Option, option_and_then}
 use Rattle.json.specs.Json.{Json, value, if_last}
 use Rattle.json.specs.Lex.{tokens}
-use Rattle.cargo_rows.specs.Faults.{Text}
+use Rattle.cargo_documents.specs.Faults.{Text}
 
 -- the document, with arrays and objects nested no deeper than 127
 abbrev pub document : Text → Option Json

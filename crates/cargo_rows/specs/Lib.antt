@@ -1,6 +1,4 @@
-pub mod Faults
 pub mod Document
-pub mod Fields
 pub mod Lists
 pub mod Packages
 pub mod Nodes

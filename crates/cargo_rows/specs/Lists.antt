@@ -7,8 +7,8 @@ use Rattle.std.specs.Map.{lookup}
 use Rattle.std.specs.BTreeMap.{insert_entry}
 use Rattle.std.specs.declared.cmp.Ordering.{Ordering}
 use Rattle.json.specs.Json.{Json, Items, no_items, item}
-use Rattle.cargo_rows.specs.declared.fault.Place.{Place}
-use Rattle.cargo_rows.specs.Faults.{Text, Refusal, repeated, ◌>>=◌}
+use Rattle.cargo_documents.specs.declared.fault.Place.{Place}
+use Rattle.cargo_documents.specs.Faults.{Text, Refusal, repeated, ◌>>=◌}
 
 -- what is read of each item, by its place, from place n on; or the first fault
 abbrev pub each : {X : Type 0} → (ℕ → Json → Result X Refusal) → ℕ → Items → Result (List X) Refusal

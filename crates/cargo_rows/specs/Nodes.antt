@@ -2,11 +2,11 @@
 use Rattle.std.specs.Prelude.{ℕ, List, [], ◌∷◌, codes, Option, Some, None, Result, Ok, Err, ⊤}
 use Rattle.json.specs.Json.{Json}
 use Rattle.json.specs.Find.{get}
-use Rattle.cargo_rows.specs.declared.fault.Place.{Place}
-use Rattle.cargo_rows.specs.declared.fault.Place.TheVariants as place
+use Rattle.cargo_documents.specs.declared.fault.Place.{Place}
+use Rattle.cargo_documents.specs.declared.fault.Place.TheVariants as place
 use Rattle.cargo_rows.specs.declared.packages.Kind.{Kind}
-use Rattle.cargo_rows.specs.Faults.{Text, Refusal, no_package, ◌>>=◌}
-use Rattle.cargo_rows.specs.Fields.{wanted, text_in, optional_text_in, list_in, texts_in}
+use Rattle.cargo_documents.specs.Faults.{Text, Refusal, no_package, ◌>>=◌}
+use Rattle.cargo_documents.specs.Fields.{wanted, text_in, optional_text_in, list_in, texts_in}
 use Rattle.cargo_rows.specs.Lists.{each, ById, at_id, each_by_id}
 use Rattle.cargo_rows.specs.Packages.{kind_in, PackageText}
 

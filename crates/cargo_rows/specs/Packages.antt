@@ -5,12 +5,12 @@ use Rattle.std.specs.Str.{bytes_eq}
 use Rattle.std.specs.BTreeMap.{insert_entry}
 use Rattle.json.specs.Json.{Json, Items, Members, no_members, member}
 use Rattle.json.specs.Find.{get, as_array}
-use Rattle.cargo_rows.specs.declared.fault.Place.{Place}
-use Rattle.cargo_rows.specs.declared.fault.Place.TheVariants as place
+use Rattle.cargo_documents.specs.declared.fault.Place.{Place}
+use Rattle.cargo_documents.specs.declared.fault.Place.TheVariants as place
 use Rattle.cargo_rows.specs.declared.packages.Kind.{Kind}
 use Rattle.cargo_rows.specs.declared.packages.Kind.TheVariants as kind
-use Rattle.cargo_rows.specs.Faults.{Text, Refusal, bad_field, ◌>>=◌}
-use Rattle.cargo_rows.specs.Fields.{wanted, all_texts, text_in, optional_text_in, flag_in, list_in, object_in, texts_in}
+use Rattle.cargo_documents.specs.Faults.{Text, Refusal, bad_field, ◌>>=◌}
+use Rattle.cargo_documents.specs.Fields.{wanted, all_texts, text_in, optional_text_in, flag_in, list_in, object_in, texts_in}
 use Rattle.cargo_rows.specs.Lists.{each, first_some, ById, id_cmp, each_by_id}
 
 -- the kind that a text names; null is the normal one

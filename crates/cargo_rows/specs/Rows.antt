@@ -7,7 +7,7 @@ use Rattle.std.specs.Char.{is_ascii_control}
 use Rattle.json.specs.Json.{Json}
 use Rattle.cargo_rows.specs.declared.packages.Kind.{Kind}
 use Rattle.cargo_rows.specs.declared.packages.Kind.TheVariants as kind
-use Rattle.cargo_rows.specs.Faults.{Text, Refusal, control, ◌>>=◌}
+use Rattle.cargo_documents.specs.Faults.{Text, Refusal, control, ◌>>=◌}
 use Rattle.cargo_rows.specs.Lists.{joined, ById, at_id}
 use Rattle.cargo_rows.specs.Packages.{FeatureText, PackageText, packages_in}
 use Rattle.cargo_rows.specs.Nodes.{DepText, members_in, nodes_in}

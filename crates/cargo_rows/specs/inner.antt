@@ -1,4 +1,3 @@
 -- What private functions alone speak of: the texts that their types hold.
 pub mod Views
 pub mod Picks
-pub mod Parts

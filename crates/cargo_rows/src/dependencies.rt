@@ -1,16 +1,16 @@
 //! The package that each declaration leads to.
 ghost use Rattle.std.specs.Prelude.{◌≡◌, IfOk, map, option_map, string_bytes};
 ghost use Rattle.std.specs.List.{find};
-ghost use Rattle.cargo_rows.specs.Faults.{Gives, refusal_of};
-ghost use Rattle.cargo_rows.specs.Faults as fault;
+ghost use Rattle.cargo_documents.specs.Faults.{Gives, refusal_of};
+ghost use Rattle.cargo_documents.specs.Faults as fault;
 ghost use Rattle.cargo_rows.specs.Dependencies as spec;
 ghost use Rattle.cargo_rows.specs.inner.Picks as picks;
 ghost use Rattle.cargo_rows.specs.inner.Views.{text_view, declaration_view, dep_view, package_view, dependency_view};
 
-use crate::fault::DocumentFault;
 use crate::nodes::Dep;
 use crate::packages::{Declaration, Kind, Package};
 use crate::requirements::admits;
+use cargo_documents::DocumentFault;
 use std::alloc::{AllocError, Global};
 
 /// A declaration, and the package that it leads to.

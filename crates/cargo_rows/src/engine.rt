@@ -3,9 +3,9 @@ ghost use Rattle.std.specs.Prelude.{◌≡◌, ℕ, List, false, OnOk, IfErr, If
 ghost use Rattle.std.specs.Io.KnownBytes.{Appends, IsAtEnd};
 ghost use Rattle.cargo_rows.specs.Run.{AreRows, Ends};
 
-use crate::fault::Fault;
 use crate::metadata::rows_of_bytes;
 use byte_devices::{ByteInput, ByteOutput, Failed, read_all, write_all};
+use cargo_documents::Fault;
 use std::alloc::Global;
 
 /// Reads all there is, and writes the rows of it and nothing else.

@@ -3,16 +3,12 @@
 
 mod dependencies;
 mod engine;
-mod fault;
-mod fields;
 mod metadata;
 mod nodes;
 mod packages;
-mod parts;
 mod requirements;
 mod rows;
-mod tree;
 
 pub use byte_devices::{ByteInput, ByteOutput, Failed, FromReader, ToWriter};
+pub use cargo_documents::{DocumentFault, Fault, Place};
 pub use engine::run;
-pub use fault::{DocumentFault, Fault, Place};

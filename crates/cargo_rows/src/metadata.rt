@@ -3,18 +3,16 @@ ghost use Rattle.std.specs.Prelude.{◌≡◌, ℕ, List, Some, None, OnOk, IfOk
 ghost use Rattle.std.specs.Str.{IsUtf8};
 ghost use Rattle.json.specs.Value.{value_view};
 ghost use Rattle.cargo_rows.specs.Document.{document};
-ghost use Rattle.cargo_rows.specs.Faults.{Gives};
+ghost use Rattle.cargo_documents.specs.Faults.{Gives};
 ghost use Rattle.cargo_rows.specs.Rows.{package_rows, all_rows, rows_of};
 ghost use Rattle.cargo_rows.specs.Run.{AreRows, Refuses};
 ghost use Rattle.cargo_rows.specs.inner.Views.{text_view, dep_view, package_view, entries_view, after};
 
 use crate::dependencies::{check_names, dependencies_of};
-use crate::fault::{DocumentFault, Fault};
 use crate::nodes::{Dep, Nodes, members_in, nodes_in, set_of};
 use crate::packages::{Package, Packages, packages_of};
-use crate::parts::parts_of;
 use crate::rows::{push_dependencies, push_features, push_package};
-use crate::tree::{Unread, read};
+use cargo_documents::{DocumentFault, Fault, Unread, parts_of, read};
 use json::{Reader, Scratch, Value};
 use std::alloc::Global;
 

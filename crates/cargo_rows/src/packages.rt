@@ -2,14 +2,13 @@
 ghost use Rattle.std.specs.Prelude.{◌≡◌, [], Some, IfOk, map, option_map};
 ghost use Rattle.std.specs.List.{list_any};
 ghost use Rattle.json.specs.Value.{value_view, items_view, members_view};
-ghost use Rattle.cargo_rows.specs.Faults.{Gives};
+ghost use Rattle.cargo_documents.specs.Faults.{Gives};
 ghost use Rattle.cargo_rows.specs.Lists.{each};
 ghost use Rattle.cargo_rows.specs.Packages as spec;
 ghost use Rattle.cargo_rows.specs.inner.Views.{text_view, declaration_view, feature_view, package_view, entries_view};
-ghost use Rattle.cargo_rows.specs.declared.fault.Place.TheVariants.{Dependency};
+ghost use Rattle.cargo_documents.specs.declared.fault.Place.TheVariants.{Dependency};
 
-use crate::fault::{DocumentFault, Place};
-use crate::fields::{flag_in, list_in, object_in, optional_text_in, text_in, texts_in, texts_of};
+use cargo_documents::{DocumentFault, Place, flag_in, list_in, object_in, optional_text_in, text_in, texts_in, texts_of};
 use json::Value;
 use std::alloc::{AllocError, Global};
 use std::collections::BTreeMap;

@@ -1,12 +1,12 @@
 //! The text of rows.
 ghost use Rattle.std.specs.Prelude.{◌≡◌, ◌++◌, [], ◌∷◌, codes, map, option_map, IfOk, OnOk, string_bytes};
-ghost use Rattle.cargo_rows.specs.Faults.{Gives};
+ghost use Rattle.cargo_documents.specs.Faults.{Gives};
 ghost use Rattle.cargo_rows.specs.Rows as spec;
 ghost use Rattle.cargo_rows.specs.inner.Views.{text_view, feature_view, dependency_view, after};
 
 use crate::dependencies::Dependency;
-use crate::fault::DocumentFault;
 use crate::packages::{Feature, Kind, Package};
+use cargo_documents::DocumentFault;
 use std::alloc::{AllocError, Global};
 
 /// Whether one of the bytes is a control character.

@@ -11,7 +11,7 @@ use Rattle.cargo_rows.specs.declared.packages.Package.{Package}
 use Rattle.cargo_rows.specs.declared.nodes.Use.{Use}
 use Rattle.cargo_rows.specs.declared.nodes.Dep.{Dep}
 use Rattle.cargo_rows.specs.declared.dependencies.Dependency.{Dependency}
-use Rattle.cargo_rows.specs.Faults.{Text, Refusal, ◌>>=◌}
+use Rattle.cargo_documents.specs.Faults.{Text, Refusal, ◌>>=◌}
 use Rattle.cargo_rows.specs.Lists.{ById, id_cmp}
 use Rattle.cargo_rows.specs.Packages.{DeclarationText, FeatureText, PackageText}
 use Rattle.cargo_rows.specs.Nodes.{UseText, DepText}

@@ -2,7 +2,7 @@ use Rattle.std.proofs.Common.{◌∙◌, sym, ap, map}
 use Rattle.std.specs.Prelude.{Vec}
 use Rattle.std.specs.declared.alloc.Global.{Global}
 use Rattle.cargo_rows.specs.declared.nodes.Dep.{Dep}
-use Rattle.cargo_rows.specs.declared.fault.Place.TheVariants as place
+use Rattle.cargo_documents.specs.declared.fault.Place.TheVariants as place
 use Rattle.cargo_rows.specs.Lists.{each_by_id}
 use Rattle.cargo_rows.specs.Nodes.{node_in}
 use Rattle.cargo_rows.specs.inner.Views.{dep_view, package_view, entries_view}

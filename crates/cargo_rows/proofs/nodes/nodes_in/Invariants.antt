@@ -1,6 +1,6 @@
 use Rattle.std.proofs.Common.{◌≡◌, map, drop}
 use Rattle.json.specs.Value.{value_view, items_view}
-use Rattle.cargo_rows.specs.declared.fault.Place.TheVariants as place
+use Rattle.cargo_documents.specs.declared.fault.Place.TheVariants as place
 use Rattle.cargo_rows.specs.Lists.{each_by_id}
 use Rattle.cargo_rows.specs.Nodes.{nodes_in, node_in}
 use Rattle.cargo_rows.specs.inner.Views.{dep_view, package_view, entries_view}

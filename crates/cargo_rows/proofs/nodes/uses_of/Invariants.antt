@@ -1,6 +1,6 @@
 use Rattle.std.proofs.Common.{◌≡◌, ℕ, map, drop}
 use Rattle.json.specs.Value.{items_view}
-use Rattle.cargo_rows.specs.declared.fault.Place.TheVariants as place
+use Rattle.cargo_documents.specs.declared.fault.Place.TheVariants as place
 use Rattle.cargo_rows.specs.Lists.{each}
 use Rattle.cargo_rows.specs.Nodes.{use_in}
 use Rattle.cargo_rows.specs.inner.Views.{use_view}

@@ -6,7 +6,7 @@ use Rattle.std.proofs.lemmas.Map.Iter.{rest_more}
 use Rattle.json.specs.Find.{as_array}
 use Rattle.json.specs.Value.{value_view}
 use Rattle.json.proofs.Trees.{view-Array}
-use Rattle.cargo_rows.specs.Fields.{wanted, all_texts}
+use Rattle.cargo_documents.specs.Fields.{wanted, all_texts}
 use Rattle.cargo_rows.specs.inner.Views.{text_view, feature_view}
 use Rattle.cargo_rows.proofs.Lists.{features_more}
 use Rattle.cargo_rows.proofs.packages.features_of.Goals as goal

@@ -1,8 +1,8 @@
 use Rattle.std.proofs.Common.{◌≡◌, ℕ, ◌∷◌, drop, option_map}
 use Rattle.std.specs.Prelude.{Ok}
 use Rattle.json.specs.Value.{items_view}
-use Rattle.cargo_rows.specs.declared.fault.Place.TheVariants as place
-use Rattle.cargo_rows.specs.Faults.{◌>>=◌}
+use Rattle.cargo_documents.specs.declared.fault.Place.TheVariants as place
+use Rattle.cargo_documents.specs.Faults.{◌>>=◌}
 use Rattle.cargo_rows.specs.Lists.{each, first_some}
 use Rattle.cargo_rows.specs.Packages.{library_in, first_library}
 use Rattle.cargo_rows.specs.inner.Views.{text_view}

@@ -2,7 +2,7 @@ use Rattle.std.proofs.Common.{◌≡◌, ◌∙◌, ◌-◌, length, arith, sym,
 use Rattle.std.specs.Prelude.{Ok}
 use Rattle.std.proofs.lemmas.Result.{err_from_is_err_and}
 use Rattle.json.specs.Value.{value_view}
-use Rattle.cargo_rows.specs.declared.fault.Place.TheVariants as place
+use Rattle.cargo_documents.specs.declared.fault.Place.TheVariants as place
 use Rattle.cargo_rows.specs.Packages.{package_with_id}
 use Rattle.cargo_rows.specs.inner.Views.{package_view}
 use Rattle.cargo_rows.proofs.Entries.{next_by_id, again_by_id, last_by_id, others_by_id, fewer, package_refused}

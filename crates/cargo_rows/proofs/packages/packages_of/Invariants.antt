@@ -1,7 +1,7 @@
 use Rattle.std.proofs.Common.{◌≡◌, ◌-◌, ◌≤◌, length, option_map}
 use Rattle.std.specs.Prelude.{reverse, vec_len}
 use Rattle.json.specs.Value.{value_view, items_view}
-use Rattle.cargo_rows.specs.declared.fault.Place.TheVariants as place
+use Rattle.cargo_documents.specs.declared.fault.Place.TheVariants as place
 use Rattle.cargo_rows.specs.Lists.{each_by_id}
 use Rattle.cargo_rows.specs.Packages.{packages_at, package_with_id}
 use Rattle.cargo_rows.specs.inner.Views.{package_view, entries_view}

@@ -1,6 +1,6 @@
 //! Why there are no rows.
 ghost use Rattle.std.specs.Prelude.{◌≡◌, Some};
-ghost use Rattle.cargo_rows.specs.Faults.{place_text, read_fault, status_of};
+ghost use Rattle.cargo_documents.specs.Faults.{place_text, read_fault, status_of};
 
 use byte_devices::ReadError;
 use std::alloc::{AllocError, AllocFailed};
@@ -115,7 +115,7 @@ pub enum DocumentFault {
 }
 
 impl From<AllocError> for DocumentFault {
-    ghost use Rattle.cargo_rows.specs.declared.fault.DocumentFault.TheVariants.{Memory};
+    ghost use Rattle.cargo_documents.specs.declared.fault.DocumentFault.TheVariants.{Memory};
 
     ghost from_gives = { λ _ fault. fault ≡ Memory };
 
@@ -125,7 +125,7 @@ impl From<AllocError> for DocumentFault {
 }
 
 impl<T: Drop> From<AllocFailed<T>> for DocumentFault {
-    ghost use Rattle.cargo_rows.specs.declared.fault.DocumentFault.TheVariants.{Memory};
+    ghost use Rattle.cargo_documents.specs.declared.fault.DocumentFault.TheVariants.{Memory};
 
     ghost from_gives = { λ _ fault. fault ≡ Memory };
 

@@ -1,6 +1,6 @@
 -- The fields of an object, from the last one on.
 use Rattle.std.proofs.Common.{◌≡◌, ◌∙◌, sym, ap, refl, List, [], ◌∷◌, ◌++◌, reverse, Bool, true, false, cond, append_assoc, Bor}
-use Rattle.std.specs.Prelude.{Option, Some, None}
+use Rattle.std.specs.Prelude.{Option, Some, None, codes}
 use Rattle.std.specs.Str.{bytes_eq}
 use Rattle.std.specs.declared.alloc.Global.{Global}
 use Rattle.std.proofs.lemmas.List.{reverse-append}
@@ -9,8 +9,9 @@ use Rattle.json.specs.Json.{Json, null, boolean, number, string, array, object}
 use Rattle.json.specs.Find.{later_or, get_member, get}
 use Rattle.json.specs.Value.{value_view, members_view}
 use Rattle.json.specs.declared.value.Value.{Value}
-use Rattle.cargo_rows.specs.Faults.{Text}
-use Rattle.cargo_rows.specs.inner.Parts.{fields_of}
+use Rattle.cargo_documents.specs.Faults.{Text}
+use Rattle.cargo_documents.specs.Parts.{Parts}
+use Rattle.cargo_documents.specs.inner.Members.{fields_of}
 
 abbrev Field : Type 0
 Field = Bor Text × Value Global
@@ -56,10 +57,17 @@ module _ (xs all : List Field) (m : Field) (is : all ≡ xs ++ m ∷ []) where
       let apart : bytes_eq m.0.now name ≡ false = ap (λ s. bytes_eq s name) own ∙ other in
       get_member-append name xs (reverse rest) ∙ ap (λ o. later_or (get_member name (members_view (reverse rest))) o) (sym (get_member-before name apart)) ∙ sym (get_member-append name all (reverse rest))
 
-pub get-fields_of : (name : Text) (d : Json) → get_member name (fields_of d) ≡ get name d
+get-fields_of : (name : Text) (d : Json) → get name (object (fields_of d)) ≡ get name d
 get-fields_of name null = refl
 get-fields_of name (boolean b) = refl
 get-fields_of name (number s) = refl
 get-fields_of name (string s) = refl
 get-fields_of name (array js) = refl
 get-fields_of name (object ms) = refl
+
+-- the parts of what a value's fields make are the parts of the value
+pub of_fields : (d : Json) (packages : Option Json) (rest : Json) → Parts (object (fields_of d)) packages rest → Parts d packages rest
+of_fields d packages rest parts = record {
+  taken = parts.taken ∙ get-fields_of (codes "packages") d;
+  others = λ name other. parts.others name other ∙ get-fields_of name d;
+}

@@ -3,8 +3,8 @@ use Rattle.std.specs.Prelude.{reverse, vec_len, codes}
 use Rattle.std.specs.Str.{bytes_eq}
 use Rattle.json.specs.Find.{later_or, get_member}
 use Rattle.json.specs.Value.{value_view, members_view}
-use Rattle.cargo_rows.specs.Faults.{Text}
-use Rattle.cargo_rows.proofs.parts.split.Given as goal
+use Rattle.cargo_documents.specs.Faults.{Text}
+use Rattle.cargo_documents.proofs.parts.split.Given as goal
 
 -- what was taken, or else is left to take; and the other fields, of which those behind stand in reverse
 abbrev pub invariant-fields : goal.invariant-fields

@@ -1,15 +1,15 @@
 //! Fields of JSON objects, by their types.
 ghost use Rattle.std.specs.Prelude.{option_map, map};
 ghost use Rattle.json.specs.Value.{value_view, items_view, members_view};
-ghost use Rattle.cargo_rows.specs.Faults.{Gives};
-ghost use Rattle.cargo_rows.specs.Fields as spec;
+ghost use Rattle.cargo_documents.specs.Faults.{Gives};
+ghost use Rattle.cargo_documents.specs.Fields as spec;
 
 use crate::fault::{DocumentFault, Place};
 use json::Value;
 use std::alloc::Global;
 
 /// The field that is a text.
-pub(crate) fn text_in<'v>(
+pub fn text_in<'v>(
     object: &Value<'v>,
     place: Place,
     name: &'static str,
@@ -23,7 +23,7 @@ pub(crate) fn text_in<'v>(
 }
 
 /// The field that is a text or null.
-pub(crate) fn optional_text_in<'v>(
+pub fn optional_text_in<'v>(
     object: &Value<'v>,
     place: Place,
     name: &'static str,
@@ -38,7 +38,7 @@ pub(crate) fn optional_text_in<'v>(
 }
 
 /// The field that is true or false.
-pub(crate) fn flag_in(
+pub fn flag_in(
     object: &Value<'_>,
     place: Place,
     name: &'static str,
@@ -52,7 +52,7 @@ pub(crate) fn flag_in(
 }
 
 /// The field that is a list.
-pub(crate) fn list_in<'d, 'v>(
+pub fn list_in<'d, 'v>(
     object: &'d Value<'v>,
     place: Place,
     name: &'static str,
@@ -66,7 +66,7 @@ pub(crate) fn list_in<'d, 'v>(
 }
 
 /// The field that is an object.
-pub(crate) fn object_in<'d, 'v>(
+pub fn object_in<'d, 'v>(
     object: &'d Value<'v>,
     place: Place,
     name: &'static str,
@@ -80,7 +80,7 @@ pub(crate) fn object_in<'d, 'v>(
 }
 
 /// The texts of a list; the fault is of the field that holds it.
-pub(crate) fn texts_of<'v>(
+pub fn texts_of<'v>(
     alloc: Global,
     items: &Vec<Value<'v>>,
     place: Place,
@@ -99,7 +99,7 @@ pub(crate) fn texts_of<'v>(
 }
 
 /// The field that is a list of texts.
-pub(crate) fn texts_in<'v>(
+pub fn texts_in<'v>(
     alloc: Global,
     object: &Value<'v>,
     place: Place,

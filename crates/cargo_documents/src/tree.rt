@@ -2,20 +2,20 @@
 ghost use Rattle.std.specs.Prelude.{◌≡◌, ◌<◌, length, Some, None, Err, IfOk, OnOk};
 ghost use Rattle.json.specs.Json.{value, items, members};
 ghost use Rattle.json.specs.Value.{value_view, items_view, members_view};
-ghost use Rattle.cargo_rows.specs.declared.tree.Unread.TheVariants as unread;
+ghost use Rattle.cargo_documents.specs.declared.tree.Unread.TheVariants as unread;
 
 use json::{Invalid, Reader, Token, Value};
 use std::alloc::{AllocError, AllocFailed, Global};
 
 /// Why no value was read.
 #[derive(Clone, Copy, Debug, Drop)]
-pub(crate) enum Unread {
+pub enum Unread {
     Invalid,
     Memory,
 }
 
 impl From<Invalid> for Unread {
-    ghost use Rattle.cargo_rows.specs.declared.tree.Unread.TheVariants as unread;
+    ghost use Rattle.cargo_documents.specs.declared.tree.Unread.TheVariants as unread;
 
     ghost from_gives = { λ _ it. it ≡ unread.Invalid };
 
@@ -25,7 +25,7 @@ impl From<Invalid> for Unread {
 }
 
 impl From<AllocError> for Unread {
-    ghost use Rattle.cargo_rows.specs.declared.tree.Unread.TheVariants as unread;
+    ghost use Rattle.cargo_documents.specs.declared.tree.Unread.TheVariants as unread;
 
     ghost from_gives = { λ _ it. it ≡ unread.Memory };
 
@@ -35,7 +35,7 @@ impl From<AllocError> for Unread {
 }
 
 impl<T: Drop> From<AllocFailed<T>> for Unread {
-    ghost use Rattle.cargo_rows.specs.declared.tree.Unread.TheVariants as unread;
+    ghost use Rattle.cargo_documents.specs.declared.tree.Unread.TheVariants as unread;
 
     ghost from_gives = { λ _ it. it ≡ unread.Memory };
 
@@ -55,7 +55,7 @@ fn exact<T: Drop>(alloc: Global, mut found: Vec<T>) -> Result<Vec<T>, AllocError
 
 /// The next value of the reader; arrays and objects may nest `depth` deep.
 #[cycle(read)]
-pub(crate) fn read<'a>(
+pub fn read<'a>(
     alloc: Global,
     reader: &mut Reader<'a>,
     depth: usize,

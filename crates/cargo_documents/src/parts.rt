@@ -2,8 +2,10 @@
 ghost use Rattle.std.specs.Prelude.{◌≡◌, Some, IfOk, codes, option_map};
 ghost use Rattle.std.specs.Str.{bytes_eq};
 ghost use Rattle.json.specs.Find.{later_or};
+ghost use Rattle.json.specs.Json.{object};
 ghost use Rattle.json.specs.Value.{value_view, members_view};
-ghost use Rattle.cargo_rows.specs.inner.Parts.{fields_of, Parts};
+ghost use Rattle.cargo_documents.specs.Parts.{Parts};
+ghost use Rattle.cargo_documents.specs.inner.Members.{fields_of};
 
 use json::Value;
 use std::alloc::{AllocFailed, Global};
@@ -40,7 +42,7 @@ fn split<'v>(
     alloc: Global,
     mut fields: Vec<(&'v str, Value<'v>)>,
 ) -> Result<(Option<Value<'v>>, Value<'v>), AllocFailed<(&'v str, Value<'v>)>>
-    ensures { IfOk result (λ r. Parts (members_view fields.entry.items) (option_map value_view r.0) (value_view r.1)) }
+    ensures { IfOk result (λ r. Parts (object (members_view fields.entry.items)) (option_map value_view r.0) (value_view r.1)) }
 {
     let mut packages = None;
     let mut rest = Vec::new(alloc);
@@ -56,11 +58,11 @@ fn split<'v>(
 }
 
 /// The packages of a document, and the document without them.
-pub(crate) fn parts_of<'v>(
+pub fn parts_of<'v>(
     alloc: Global,
     document: Value<'v>,
 ) -> Result<(Option<Value<'v>>, Value<'v>), AllocFailed<(&'v str, Value<'v>)>>
-    ensures { IfOk result (λ r. Parts (fields_of (value_view document.entry)) (option_map value_view r.0) (value_view r.1)) }
+    ensures { IfOk result (λ r. Parts (value_view document.entry) (option_map value_view r.0) (value_view r.1)) }
 {
     split(alloc, fields_of(alloc, document))
 }

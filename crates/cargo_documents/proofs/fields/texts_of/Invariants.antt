@@ -1,7 +1,7 @@
 use Rattle.std.proofs.Common.{option_map, map, ◌≡◌, ◌++◌, drop}
 use Rattle.json.specs.Value.{items_view}
-use Rattle.cargo_rows.specs.Fields.{all_texts}
-use Rattle.cargo_rows.proofs.fields.texts_of.Given as goal
+use Rattle.cargo_documents.specs.Fields.{all_texts}
+use Rattle.cargo_documents.proofs.fields.texts_of.Given as goal
 
 -- The texts so far and those of the items to come are the texts of all items.
 abbrev pub invariant-loop-item : goal.invariant-loop-item

@@ -1,0 +1,4 @@
+pub mod Faults
+pub mod Fields
+pub mod Parts
+pub mod inner

@@ -1,0 +1,14 @@
+//! What `cargo metadata` writes, as a tree: reading it, its fields by their types, the places in it, and faults.
+#![tactic(auto)]
+
+mod fault;
+mod fields;
+mod parts;
+mod tree;
+
+pub use fault::{DocumentFault, Fault, Place};
+pub use fields::{
+    flag_in, list_in, object_in, optional_text_in, text_in, texts_in, texts_of,
+};
+pub use parts::parts_of;
+pub use tree::{Unread, read};
