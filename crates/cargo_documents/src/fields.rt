@@ -38,11 +38,7 @@ pub fn optional_text_in<'v>(
 }
 
 /// The field that is true or false.
-pub fn flag_in(
-    object: &Value<'_>,
-    place: Place,
-    name: &'static str,
-) -> Result<bool, DocumentFault>
+pub fn flag_in(object: &Value<'_>, place: Place, name: &'static str) -> Result<bool, DocumentFault>
     ensures { Gives (λ b. b) result (spec.flag_in place name.now (value_view object.now)) }
 {
     match object.get(name) {

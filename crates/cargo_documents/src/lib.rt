@@ -7,8 +7,6 @@ mod parts;
 mod tree;
 
 pub use fault::{DocumentFault, Fault, Place};
-pub use fields::{
-    flag_in, list_in, object_in, optional_text_in, text_in, texts_in, texts_of,
-};
+pub use fields::{flag_in, list_in, object_in, optional_text_in, text_in, texts_in, texts_of};
 pub use parts::parts_of;
 pub use tree::{Unread, read};

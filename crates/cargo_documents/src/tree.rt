@@ -55,11 +55,7 @@ fn exact<T: Drop>(alloc: Global, mut found: Vec<T>) -> Result<Vec<T>, AllocError
 
 /// The next value of the reader; arrays and objects may nest `depth` deep.
 #[cycle(read)]
-pub fn read<'a>(
-    alloc: Global,
-    reader: &mut Reader<'a>,
-    depth: usize,
-) -> Result<Value<'a>, Unread>
+pub fn read<'a>(alloc: Global, reader: &mut Reader<'a>, depth: usize) -> Result<Value<'a>, Unread>
     ensures ok { IfOk result (λ v. value depth reader.old ≡ Some (value_view v, reader.new)) }
     ensures shorter { OnOk result (length reader.new < length reader.old) }
     ensures invalid { result ≡ Err unread.Invalid → value depth reader.old ≡ None }

@@ -8,7 +8,10 @@ ghost use Rattle.cargo_rows.specs.Packages as spec;
 ghost use Rattle.cargo_rows.specs.inner.Views.{text_view, declaration_view, feature_view, package_view, entries_view};
 ghost use Rattle.cargo_documents.specs.declared.fault.Place.TheVariants.{Dependency};
 
-use cargo_documents::{DocumentFault, Place, flag_in, list_in, object_in, optional_text_in, text_in, texts_in, texts_of};
+use cargo_documents::{
+    DocumentFault, Place, flag_in, list_in, object_in, optional_text_in, text_in, texts_in,
+    texts_of,
+};
 use json::Value;
 use std::alloc::{AllocError, Global};
 use std::collections::BTreeMap;

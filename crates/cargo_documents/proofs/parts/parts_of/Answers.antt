@@ -10,6 +10,6 @@ pub returns : goal.returns
 returns c =
     let d = value_view c.args.document in
     IfOk-weaker c.split.result _ _
-      (λ r parts. of_fields d (option_map value_view r.0) (value_view r.1)
-        (subst (λ ms. Parts (object ms) (option_map value_view r.0) (value_view r.1)) c.fields_of.ensures parts))
-      c.split.ensures
+    (λ r parts. of_fields d (option_map value_view r.0) (value_view r.1)
+    (subst (λ ms. Parts (object ms) (option_map value_view r.0) (value_view r.1)) c.fields_of.ensures parts))
+    c.split.ensures
