@@ -1,6 +1,6 @@
 -- The edges of alike keys say the same.
-use Rattle.std.proofs.Common.{◌≡◌, ℕ, zero, suc, ◌⊎◌, inl, inr, ⊎_elim, List, [], ◌∷◌, ◌++◌, ◌+◌, ◌<◌, length, map, take, Bool, cond, Some, refl, ap, sym, ◌∙◌, subst, arith, length-append}
-use Rattle.std.specs.Prelude.{filter, slice_get, IsTrue, Contains, Result, Ok, Err, OnOk}
+use Rattle.std.proofs.Common.{◌≡◌, ℕ, zero, suc, ◌⊎◌, inl, inr, ⊎_elim, List, [], ◌∷◌, ◌++◌, ◌+◌, ◌<◌, length, map, take, Bool, true, Some, refl, ap, sym, ◌∙◌, subst, arith, length-append}
+use Rattle.std.specs.Prelude.{slice_get, IsTrue, Contains}
 use Rattle.std.proofs.lemmas.List.{append_assoc, length-take-le}
 use Rattle.guppy_packages.specs.Rows.{Text, Declared}
 use Rattle.guppy_packages.specs.Tables.{LinkTable, Tables, AreTables}
@@ -8,9 +8,10 @@ use Rattle.feature_labels.specs.Names.LabelName.{base, named, optional}
 use Rattle.feature_labels.specs.declared.link_declarations.LinkDeclarations.{LinkDeclarations}
 use Rattle.feature_labels.specs.declared.link_declarations.LinkDeclarations.TheVariants.{Unsplit, Required, Optional}
 use Rattle.feature_core.specs.Nodes.{NodeAt}
-use Rattle.feature_core.specs.Links.{LinkFacts, IsLink, over_parts}
-use Rattle.feature_core.specs.Candidates.{Edge, dep_colon, slash_full, slash_optional, slash_weak, section, requesting, unsplit_of, by_name}
-use Rattle.feature_core.specs.Edges.{EdgeFacts, facts_of, first_ones}
+use Rattle.feature_links.specs.Links.{LinkFacts, IsLink, over, by_name}
+use Rattle.feature_core.specs.Candidates.{Edge, dep_colon, slash_full, slash_optional, slash_weak, section, requesting, unsplit_of}
+use Rattle.feature_links.specs.Facts.{EdgeFacts}
+use Rattle.feature_core.specs.Edges.{facts_of, first_ones}
 use Rattle.feature_core.specs.inner.Alike.{IsSingle, SharesSubject, one_end, one_link, one_declaration, AreAlike, IsAppended, IsNext}
 use Rattle.feature_core.specs.inner.Made.{IsValueOf, AreValues, AreMade, edge_end}
 use Rattle.feature_core.specs.inner.Parts.{IsOfTables}
@@ -19,7 +20,6 @@ use Rattle.feature_core.specs.declared.edge_table.MadeEdges.{MadeEdges}
 use Rattle.feature_core.specs.declared.key.Key.{Key}
 use Rattle.feature_core.proofs.KeyEdges.{IsTold, told_colon, told_full, told_beside, told_weak, told_section}
 use Rattle.feature_core.proofs.KeySays.{SaysColon, SaysOver, SaysBeside, SaysSection}
-use Rattle.feature_core.proofs.LinkLemmas.{over_of_parts}
 use Rattle.feature_core.proofs.NodeLemmas.{take-next}
 use Rattle.feature_core.proofs.PairLemmas.{names_differ}
 use Rattle.feature_core.proofs.PartLemmas.{NamesDiffer}
@@ -28,14 +28,19 @@ use Rattle.feature_core.proofs.Ranks.{same_home, same_label, same_rank}
 use Rattle.feature_core.proofs.SectionPlaces.{of_link}
 use Rattle.feature_core.proofs.ValueLemmas.{made_next}
 
--- the only declaration of a list passes
-only_passes : (p : Declared → Bool) (ds : List Declared) (j : ℕ) (d : Declared) → length ds ≡ 1 → slice_get ds j ≡ Some d → IsTrue (p d) → filter p ds ≡ ds
-only_passes p [] j d l at h = absurd (omega (arith, l))
-only_passes p (e ∷ f ∷ ds) j d l at h = absurd (omega (arith, l))
-only_passes p (e ∷ []) (suc j) d l at h = cc
-only_passes p (e ∷ []) zero d l at h =
-    let same : e ≡ d = got_same e d at in
-    ap (λ b. cond b (e ∷ []) []) (ap p same ∙ h)
+-- a link whose only declaration passes is over all of them
+over_only : (p : Declared → Bool) (which : LinkDeclarations) (k : ℕ) (link : LinkTable) (j : ℕ) (d : Declared) → length link.declarations ≡ 1 → slice_get link.declarations j ≡ Some d → IsTrue (p d)
+    → over which p ((k, link) ∷ []) ≡ over which (λ x. true) ((k, link) ∷ [])
+over_only p which k link j d long at h = go link.declarations refl long at
+  where
+    go : (ds : List Declared) → link.declarations ≡ ds → length ds ≡ 1 → slice_get ds j ≡ Some d → over which p ((k, link) ∷ []) ≡ over which (λ x. true) ((k, link) ∷ [])
+    go [] e l at = absurd (omega (arith, l))
+    go (c ∷ f ∷ ds) e l at = absurd (omega (arith, l))
+    go (c ∷ []) e l at = rw (e, passes c j at)
+      where
+        passes : (c : Declared) (j : ℕ) → slice_get (c ∷ []) j ≡ Some d → p c ≡ true
+        passes c zero at = ap p (got_same c d at) ∙ h
+        passes c (suc j) at = cc
 
 same_got : {X : Type 0} (xs : List X) (n : ℕ) (a b : X) → slice_get xs n ≡ Some a → slice_get xs n ≡ Some b → a ≡ b
 same_got xs n a b p q = cc
@@ -78,11 +83,10 @@ one_half t n a b v w (inr p) (inl q) = let no = same_label t n v.from w.from (op
 one_half t n a b v w (inr p) (inr q) = p.0 ∙ sym q.0
 
 -- a section over a link of one declaration says that one alone
-section_whole : (t : Tables) → AreTables t → (x : Key) (l : LinkFacts) → IsOfTables t x → x.rank ≡ 7 → IsSingle t x.source → (s : SaysSection t x l) → l ≡ over_parts s.which ((x.source, s.link.declarations) ∷ [])
+section_whole : (t : Tables) → AreTables t → (x : Key) (l : LinkFacts) → IsOfTables t x → x.rank ≡ 7 → IsSingle t x.source → (s : SaysSection t x l) → l ≡ over s.which (λ d. true) ((x.source, s.link) ∷ [])
 section_whole t tables x l h r single s =
     let o = of_link t tables x l s x h r refl refl in
-    let whole : filter (requesting s.asked s.which) s.link.declarations ≡ s.link.declarations = only_passes (requesting s.asked s.which) s.link.declarations x.place o.declared (single s.link s.is_link) o.at o.passes in
-    s.is ∙ sym (over_of_parts s.which (requesting s.asked s.which) ((x.source, s.link) ∷ [])) ∙ ap (λ z. over_parts s.which ((x.source, z) ∷ [])) whole
+    s.is ∙ over_only (requesting s.asked s.which) s.which x.source s.link x.place o.declared (single s.link s.is_link) o.at o.passes
 
 section_alike : (t : Tables) → AreTables t → (x y : Key) (l m : LinkFacts) → IsOfTables t x → IsOfTables t y → x.rank ≡ 7 → y.rank ≡ 7 → x.source ≡ y.source → x.from ≡ y.from → IsSingle t y.source → SaysSection t x l → SaysSection t y m → l ≡ m
 section_alike t tables x y l m hx hy rx ry source from single a b =
@@ -90,9 +94,9 @@ section_alike t tables x y l m hx hy rx ry source from single a b =
     let start = subst (λ z. ((a.which ≡ Required) × NodeAt t z a.link.from base) ⊎ ((a.which ≡ Optional) × NodeAt t z a.link.from (optional a.link.name))) from a.start in
     let which : a.which ≡ b.which = one_half t y.from a.which b.which a.link b.link start b.start in
     section_whole t tables x l hx rx (subst (λ z. IsSingle t z) (sym source) single) a
-    ∙ ap (λ z. over_parts z ((x.source, a.link.declarations) ∷ [])) which
-    ∙ ap (λ z. over_parts b.which ((z, a.link.declarations) ∷ [])) source
-    ∙ ap (λ z. over_parts b.which ((y.source, z.declarations) ∷ [])) link
+    ∙ ap (λ z. over z (λ d. true) ((x.source, a.link) ∷ [])) which
+    ∙ ap (λ z. over b.which (λ d. true) ((z, a.link) ∷ [])) source
+    ∙ ap (λ z. over b.which (λ d. true) ((y.source, z) ∷ [])) link
     ∙ sym (section_whole t tables y m hy ry single b)
 
 module _ (t : Tables) (tables : AreTables t) (weak : List ℕ) (x y : Key) (hx : IsOfTables t x) (hy : IsOfTables t y) (f : EdgeFacts) (v : IsValueOf t weak x f) where
@@ -193,10 +197,6 @@ next_made t done kept ix x old mid new more at links gates grown edges ends n h 
 -- what is said of the key at a place is said of any key there
 pub next_there : (t : Tables) (kept : List Key) (ix : ℕ) (x y : Key) (old new : MadeEdges) → slice_get kept ix ≡ Some x → slice_get kept ix ≡ Some y → IsNext t kept ix x old new → IsNext t kept ix y old new
 next_there t kept ix x y old new a b n = subst (λ z. IsNext t kept ix z old new) (same_got kept ix x y a b) n
-
-pub on_ok : {A E : Type 0} {P Q : Type 0} (r : Result A E) → (P → Q) → OnOk r P → OnOk r Q
-on_ok (Ok a) f h = f h
-on_ok (Err e) f h = h
 
 -- what is noted of the key at a place is noted of any key there
 pub noted_there : (kept : List Key) (ix : ℕ) (x y : Key) (numbers : List ℕ) → slice_get kept ix ≡ Some x → slice_get kept ix ≡ Some y → (x.rank ≡ 6 → Contains numbers x.source) → y.rank ≡ 6 → Contains numbers y.source

@@ -14,7 +14,7 @@ use Rattle.walk_checks.specs.Tables.{Tells}
 use Rattle.walk_checks.specs.declared.table.TableEdge.{TableEdge}
 use Rattle.feature_core.specs.declared.packed.Asking.{Asking}
 use Rattle.feature_core.specs.declared.packed.Asking.TheVariants.{Offers, Chosen}
-use Rattle.feature_core.specs.Edges.{EdgeFacts}
+use Rattle.feature_links.specs.Facts.{EdgeFacts}
 use Rattle.feature_core.specs.Built.{built_edges}
 use Rattle.feature_core.specs.inner.Asking.{ask_in, gate_in, way_in, held, IsTied, IsOrdered, released_place}
 use Rattle.feature_core.specs.inner.OpenWays.{open_way, open_ways}

@@ -9,15 +9,15 @@ use Rattle.guppy_support.specs.declared.digraph.Edge.{Edge as End}
 use Rattle.std.proofs.Math.Logic.{∥∥₁_elim}
 use Rattle.guppy_packages.specs.Rows.{Declared}
 use Rattle.guppy_packages.specs.Tables.{LinkTable, Tables, AreTables}
-use Rattle.feature_core.specs.Links.{LinkFacts}
+use Rattle.feature_links.specs.Links.{LinkFacts}
 use Rattle.feature_core.specs.Built.{pairs_of, ends_of, end_of, built_edges}
-use Rattle.feature_core.specs.inner.Keys.{edge_of as end_of_key}
+use Rattle.feature_core.specs.inner.Keys.{edge_of as end_of_key, AreLeast, IsBefore}
 use Rattle.feature_core.specs.Candidates.{Edge, IsEdge, rank_of, feature_to_base, named_feature, dep_colon, slash_full, slash_optional, slash_weak, section, unsplit_of}
-use Rattle.feature_core.specs.Edges.{EdgeFacts, EdgeBefore, AreBuilt, weak_link, first_ones, facts_of}
+use Rattle.feature_links.specs.Facts.{EdgeFacts}
+use Rattle.feature_core.specs.Edges.{EdgeBefore, AreBuilt, weak_link, first_ones, facts_of}
 use Rattle.feature_core.specs.inner.Made.{AreValues, IsValueOf, IsKept, AreMadeBelow, edge_end}
 use Rattle.feature_core.specs.inner.Weak.{weak_source, weak_sources, AreGates}
 use Rattle.feature_core.specs.declared.key.Key.{Key}
-use Rattle.feature_core.specs.inner.Keys.{AreLeast, IsBefore}
 use Rattle.feature_core.specs.Pairs.{IsPairList}
 use Rattle.feature_core.specs.inner.Parts.{IsOfTables}
 use Rattle.feature_core.proofs.AddsLemmas.{Contains-first, Contains-later, Contains-cases, Contains-none}

@@ -5,10 +5,11 @@ use Rattle.std.proofs.Math.Logic.{∥∥₁_elim, ∥∥₁_map}
 use Rattle.guppy_packages.specs.Tables.{Tables}
 use Rattle.guppy_packages.specs.declared.direction.DependencyDirection.{DependencyDirection}
 use Rattle.guppy_packages.specs.declared.direction.DependencyDirection.TheVariants.{Forward, Reverse}
-use Rattle.feature_core.specs.declared.edge.EdgeChoice.{EdgeChoice}
-use Rattle.feature_core.specs.declared.edge.EdgeChoice.TheVariants.{All, FeatureToBaseAndNamed}
+use Rattle.feature_links.specs.declared.edge.EdgeChoice.{EdgeChoice}
+use Rattle.feature_links.specs.declared.edge.EdgeChoice.TheVariants.{All, FeatureToBaseAndNamed}
 use Rattle.feature_core.specs.Candidates.{Edge, feature_to_base, named_feature, dep_colon, slash_full, slash_optional, slash_weak, section, IsEdge}
-use Rattle.feature_core.specs.Edges.{EdgeFacts, AreBuilt, facts_of}
+use Rattle.feature_links.specs.Facts.{EdgeFacts}
+use Rattle.feature_core.specs.Edges.{AreBuilt, facts_of}
 use Rattle.feature_core.specs.Pairs.{PairLeads, Reach, ReachAlong}
 use Rattle.feature_core.specs.Built.{Built, IsBuilt, ends_of}
 use Rattle.feature_core.specs.Choices.{is_chosen, chosen_pairs, is_chosen_edge, ChosenEdge, ChosenLeads, ChosenReach}

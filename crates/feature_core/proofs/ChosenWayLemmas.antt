@@ -5,10 +5,10 @@ use Rattle.std.proofs.lemmas.Option.{slice_get-map, slice_get-get_or, slice_get_
 use Rattle.std.specs.Option.{option_map}
 use Rattle.guppy_packages.specs.declared.direction.DependencyDirection.{DependencyDirection}
 use Rattle.guppy_packages.specs.declared.direction.DependencyDirection.TheVariants.{Forward, Reverse}
-use Rattle.feature_core.specs.declared.edge.EdgeChoice.{EdgeChoice}
+use Rattle.feature_links.specs.declared.edge.EdgeChoice.{EdgeChoice}
 use Rattle.walk_engine.specs.declared.walks.Half.{Half}
 use Rattle.walk_engine.specs.declared.walks.Ask.TheVariants as asks
-use Rattle.feature_core.specs.Edges.{EdgeFacts}
+use Rattle.feature_links.specs.Facts.{EdgeFacts}
 use Rattle.walk_engine.specs.Walks.{Call, Way, Content, IsWay, GoesAlong, Reach, numbers_where, is_gated, is_of, was_accepted}
 use Rattle.feature_core.specs.Pairs.{PairLeads, Along, ReachAlong}
 use Rattle.feature_core.specs.Pairs.Along.{nowhere, onward}

@@ -9,10 +9,11 @@ use Rattle.guppy_packages.specs.Tables.{Tables}
 use Rattle.guppy_packages.specs.declared.direction.DependencyDirection.TheVariants.{Forward}
 use Rattle.feature_labels.specs.Names.{LabelName}
 use Rattle.feature_labels.specs.Names.LabelName.{base, named}
-use Rattle.feature_core.specs.declared.edge.EdgeChoice.TheVariants.{FeatureToBaseAndNamed}
+use Rattle.feature_links.specs.declared.edge.EdgeChoice.TheVariants.{FeatureToBaseAndNamed}
 use Rattle.feature_core.specs.Nodes.{NodeAt, node_places, node_packages}
 use Rattle.feature_core.specs.Candidates.{Edge, Candidate, to_base, to_feature, to_dependency, over_strong, over_weak, with_dependency, with_feature, of_required, of_optional}
-use Rattle.feature_core.specs.Edges.{EdgeFacts, AreBuilt}
+use Rattle.feature_links.specs.Facts.{EdgeFacts}
+use Rattle.feature_core.specs.Edges.{AreBuilt}
 use Rattle.feature_core.specs.Pairs.{Along, nowhere, onward, PairLeads, ReachAlong}
 use Rattle.feature_core.specs.Choices.{is_chosen_edge, chosen_pairs, ChosenEdge}
 use Rattle.feature_core.specs.Defaults.{IsDefaultFeature, by_name, by_base, IsDefault}

@@ -14,7 +14,8 @@ use Rattle.feature_core.specs.Offers.{content_of}
 use Rattle.feature_core.specs.Ways.{content}
 use Rattle.feature_core.specs.Nodes.{NodeAt, labels_of, first_node}
 use Rattle.feature_core.specs.Candidates.{Edge, feature_to_base, named_feature, dep_colon, slash_full, slash_optional, slash_weak, section}
-use Rattle.feature_core.specs.Edges.{EdgeFacts, EdgeSays, AreBuilt, IsGate, facts_of, weak_link, first_ones}
+use Rattle.feature_links.specs.Facts.{EdgeFacts}
+use Rattle.feature_core.specs.Edges.{EdgeSays, AreBuilt, IsGate, facts_of, weak_link, first_ones}
 use Rattle.feature_core.specs.Defaults.{AreDefaults}
 use Rattle.feature_core.specs.Warnings.{Warning}
 use Rattle.feature_core.proofs.AddsLemmas.{Contains-first, Contains-later, Contains-cases, Contains-none}

@@ -17,7 +17,7 @@ use Rattle.walk_engine.specs.Laws.{every, AreReverse, IsUngated}
 use Rattle.walk_engine.specs.Walks.{Way, Path, EndsAreNodes, is_gated, is_open, Reach as ReachOver}
 use Rattle.feature_core.specs.Built.{Built, IsBuilt}
 use Rattle.feature_core.specs.Candidates.{Edge, Candidate, to_base, to_feature, to_dependency, over_strong, over_weak, with_dependency, with_feature, of_required, of_optional}
-use Rattle.feature_core.specs.Edges.{EdgeFacts, base_edge, feature_edge, colon_edge, strong_edge, weak_edge, section_edge}
+use Rattle.feature_links.specs.Facts.{EdgeFacts, base_edge, feature_edge, colon_edge, strong_edge, weak_edge, section_edge}
 use Rattle.feature_core.specs.Nodes.{NodeAt, labels_of, spread, nodes, node_places, node_packages}
 use Rattle.feature_core.specs.Offers.{content_of}
 use Rattle.feature_core.specs.Pairs.{Along, nowhere, onward, LeadsTo, Reach}

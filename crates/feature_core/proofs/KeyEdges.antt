@@ -1,9 +1,10 @@
 -- What is built of a key's candidate, by the key's rank.
 use Rattle.std.proofs.Common.{◌≡◌, ℕ, ◌≤◌, List, refl, ap, ◌∙◌, subst, arith}
 use Rattle.guppy_packages.specs.Tables.{Tables}
-use Rattle.feature_core.specs.Links.{LinkFacts}
+use Rattle.feature_links.specs.Links.{LinkFacts}
 use Rattle.feature_core.specs.Candidates.{Edge, feature_to_base, named_feature, dep_colon, slash_full, slash_optional, slash_weak, section, rank_of, Candidate}
-use Rattle.feature_core.specs.Edges.{EdgeFacts, base_edge, feature_edge, facts_of}
+use Rattle.feature_links.specs.Facts.{EdgeFacts, base_edge, feature_edge}
+use Rattle.feature_core.specs.Edges.{facts_of}
 use Rattle.feature_core.specs.inner.Made.{IsValueOf}
 use Rattle.feature_core.specs.inner.Parts.{IsOfTables}
 use Rattle.feature_core.specs.declared.key.Key.{Key}

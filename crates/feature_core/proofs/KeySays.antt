@@ -8,8 +8,8 @@ use Rattle.feature_labels.specs.Names.LabelName.{base, named, optional}
 use Rattle.feature_labels.specs.declared.link_declarations.LinkDeclarations.{LinkDeclarations}
 use Rattle.feature_labels.specs.declared.link_declarations.LinkDeclarations.TheVariants.{Unsplit, Required, Optional}
 use Rattle.feature_core.specs.Nodes.{NodeAt}
-use Rattle.feature_core.specs.Links.{LinkFacts, IsLink, over, has_declaration}
-use Rattle.feature_core.specs.Candidates.{Edge, feature_to_base, named_feature, dep_colon, slash_full, slash_optional, slash_weak, section, requesting, unsplit_of, by_name}
+use Rattle.feature_links.specs.Links.{LinkFacts, IsLink, over, has_declaration, by_name}
+use Rattle.feature_core.specs.Candidates.{Edge, feature_to_base, named_feature, dep_colon, slash_full, slash_optional, slash_weak, section, requesting, unsplit_of}
 use Rattle.feature_core.specs.declared.key.Key.{Key}
 
 pub record SaysColon (t : Tables) (x : Key) (l : LinkFacts) : Type 0 where

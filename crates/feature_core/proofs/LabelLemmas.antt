@@ -14,7 +14,7 @@ use Rattle.guppy_packages.specs.Tables.{FeatureTable, PackageTable, Tables, AreT
 use Rattle.feature_labels.specs.Names.{LabelName}
 use Rattle.feature_labels.specs.Names.LabelName.{base, named, optional}
 use Rattle.feature_core.specs.Nodes.{NodeAt, labels_of, first_node, first_nodes, node_places}
-use Rattle.feature_core.specs.Links.{IsPackage}
+use Rattle.feature_links.specs.Links.{IsPackage}
 use Rattle.feature_core.proofs.AddsLemmas.{place_below}
 use Rattle.feature_core.proofs.NodeLemmas.{length_labels}
 use Rattle.feature_core.proofs.Places.{node_there, node_back, get_left, get_right, get_cases, got_map}

@@ -17,9 +17,6 @@ pub mod PackedLemmas
 pub mod ChosenWayLemmas
 pub mod AskingLemmas
 pub mod NameLemmas
-pub mod GroupedLinks
-pub mod RowLemmas
-pub mod NamedEntryLemmas
 pub mod PushLemmas
 pub mod PairLemmas
 pub mod ChoiceLemmas
@@ -27,15 +24,12 @@ pub mod RequestLemmas
 pub mod Ranks
 pub mod EdgeLemmas
 pub mod SourceLemmas
-pub mod SectionLemmas
 pub mod SectionPlaces
 pub mod KeyEdges
 pub mod MaterialLemmas
 pub mod ValueLemmas
 pub mod AlikeLemmas
-pub mod StatusLemmas
 pub mod NodeLabels
-pub mod LinkLemmas
 pub mod WarningLemmas
 pub mod QuietLemmas
 pub mod BuildLemmas

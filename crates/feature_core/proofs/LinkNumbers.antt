@@ -15,10 +15,11 @@ use Rattle.feature_labels.specs.declared.link_declarations.LinkDeclarations.TheV
 use Rattle.walk_engine.specs.declared.walks.Half.{Half}
 use Rattle.walk_engine.specs.declared.walks.Half.TheVariants.{Full, Required, Optional}
 use Rattle.feature_core.specs.Built.{Built, IsBuilt}
-use Rattle.feature_core.specs.Candidates.{Edge, Candidate, IsSection, feature_to_base, named_feature, dep_colon, slash_full, slash_optional, slash_weak, section, to_base, to_feature, to_dependency, over_strong, over_weak, with_dependency, with_feature, of_required, of_optional, unsplit_of, by_name, requesting}
-use Rattle.feature_core.specs.Edges.{facts_of, half_of, half_over}
-use Rattle.feature_core.specs.Links.{LinkFacts, IsLink, over, includes, has_declaration, numbered, links_named}
-use Rattle.feature_core.specs.Offers.{link_at, IsLinkOf}
+use Rattle.feature_core.specs.Candidates.{Edge, Candidate, IsSection, feature_to_base, named_feature, dep_colon, slash_full, slash_optional, slash_weak, section, to_base, to_feature, to_dependency, over_strong, over_weak, with_dependency, with_feature, of_required, of_optional, unsplit_of, requesting}
+use Rattle.feature_links.specs.Links.{by_name, half_of, half_over, LinkFacts, IsLink, over, includes, has_declaration, numbered, links_named}
+use Rattle.feature_core.specs.Edges.{facts_of}
+use Rattle.feature_links.specs.Facts.{link_at}
+use Rattle.feature_core.specs.Offers.{IsLinkOf}
 use Rattle.feature_core.proofs.AddsLemmas.{Contains-cases, Contains-none, element_at_place, place_below}
 use Rattle.feature_core.proofs.OfferLemmas.{numbers, says}
 use Rattle.feature_core.proofs.Places.{got_same}

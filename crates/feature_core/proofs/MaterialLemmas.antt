@@ -8,8 +8,8 @@ use Rattle.guppy_packages.specs.Tables.{LinkTable, Tables}
 use Rattle.feature_labels.specs.Names.{LabelName}
 use Rattle.feature_labels.specs.Names.LabelName.{named, optional}
 use Rattle.feature_core.specs.Nodes.{NodeAt, node_packages, node_places}
-use Rattle.feature_core.specs.Links.{IsLink, LinkFacts}
-use Rattle.feature_core.specs.Edges.{WeakFacts}
+use Rattle.feature_links.specs.Links.{IsLink, LinkFacts}
+use Rattle.feature_links.specs.Facts.{WeakFacts}
 
 package_entry : (t : Tables) (n p : ℕ) (l : LabelName) → NodeAt t n p l → slice_get (node_packages t) n ≡ Some p
 package_entry t n p l h = slice_get-map (λ x. x.0) (node_places t) n ∙ ap (option_map (λ x. x.0)) h

@@ -11,7 +11,7 @@ use Rattle.guppy_packages.specs.Tables.{PackageTable, Tables, AreTables, package
 use Rattle.feature_labels.specs.Names.{LabelName}
 use Rattle.feature_labels.specs.Names.LabelName.{base}
 use Rattle.feature_core.specs.Nodes.{NodeAt, labels_of, first_node}
-use Rattle.feature_core.specs.Links.{IsPackage}
+use Rattle.feature_links.specs.Links.{IsPackage}
 use Rattle.feature_core.specs.Built.{NodeNamed}
 use Rattle.feature_core.proofs.Places.{IsSpread, node_back, there, get_left, get_right, get_cases, got_map, got_same}
 use Rattle.feature_core.proofs.PartLemmas.{base_back}

@@ -9,7 +9,7 @@ use Rattle.guppy_packages.specs.Tables.{FeatureTable, PackageTable, Tables}
 use Rattle.feature_labels.specs.Names.{LabelName}
 use Rattle.feature_labels.specs.Names.LabelName.{named, optional}
 use Rattle.feature_core.specs.Nodes.{NodeAt, labels_of, first_node, node_places, node_packages}
-use Rattle.feature_core.specs.Links.{IsPackage}
+use Rattle.feature_links.specs.Links.{IsPackage}
 use Rattle.feature_core.proofs.AddsLemmas.{place_below}
 use Rattle.feature_core.proofs.LabelLemmas.{named_label, optional_label}
 use Rattle.feature_core.proofs.Places.{node_there, node_back}

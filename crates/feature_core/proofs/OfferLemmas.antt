@@ -16,9 +16,10 @@ use Rattle.walk_engine.specs.Walks.{Way, IsWay, has_half}
 use Rattle.feature_core.specs.Built.{Built, IsBuilt}
 use Rattle.feature_core.specs.BuiltOnce.{facts-set}
 use Rattle.feature_core.specs.Candidates.{Edge, Candidate, IsEdge, feature_to_base, named_feature, dep_colon, slash_full, slash_optional, slash_weak, section, to_base, to_feature, to_dependency, over_strong, over_weak, with_dependency, with_feature, of_required, of_optional, unsplit_of}
-use Rattle.feature_core.specs.Edges.{WeakFacts, EdgeFacts, base_edge, feature_edge, colon_edge, strong_edge, weak_edge, section_edge, EdgeBefore, EdgeSays, facts_of, weak_facts, weak_link, weak_links, first_ones, half_of, half_over}
-use Rattle.feature_core.specs.Links.{LinkFacts, IsLink, has_declaration, over, includes}
-use Rattle.feature_core.specs.Offers.{content_of, link_at, IsOffer, IsLinkOf, IsWeakEdge}
+use Rattle.feature_links.specs.Facts.{WeakFacts, EdgeFacts, base_edge, feature_edge, colon_edge, strong_edge, weak_edge, section_edge, link_at}
+use Rattle.feature_core.specs.Edges.{EdgeBefore, EdgeSays, facts_of, weak_facts, weak_link, weak_links, first_ones}
+use Rattle.feature_links.specs.Links.{half_of, half_over, LinkFacts, IsLink, has_declaration, over, includes}
+use Rattle.feature_core.specs.Offers.{content_of, IsOffer, IsLinkOf, IsWeakEdge}
 use Rattle.feature_core.specs.Ways.{way, asked}
 use Rattle.feature_core.proofs.AddsLemmas.{Contains-first, Contains-later, Contains-cases, Contains-none, element_at_place, place_of_element}
 use Rattle.feature_core.proofs.BuildLemmas.{alone}

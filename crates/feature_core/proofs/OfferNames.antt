@@ -13,10 +13,11 @@ use Rattle.walk_engine.specs.declared.walks.Half.TheVariants.{Full, Required, Op
 use Rattle.walk_engine.specs.Walks.{Way, has_half}
 use Rattle.feature_core.specs.Built.{Built, IsBuilt, NodeNamed, NamesAreLabels}
 use Rattle.feature_core.specs.Candidates.{Edge, feature_to_base, named_feature, dep_colon, slash_full, slash_optional, slash_weak, section}
-use Rattle.feature_core.specs.Edges.{WeakFacts, EdgeFacts, base_edge, feature_edge, colon_edge, strong_edge, weak_edge, section_edge, facts_of, weak_facts}
-use Rattle.feature_core.specs.Links.{LinkFacts}
+use Rattle.feature_links.specs.Facts.{WeakFacts, EdgeFacts, base_edge, feature_edge, colon_edge, strong_edge, weak_edge, section_edge, link_at}
+use Rattle.feature_core.specs.Edges.{facts_of, weak_facts}
+use Rattle.feature_links.specs.Links.{LinkFacts}
 use Rattle.feature_core.specs.Nodes.{NodeAt, labels_of, first_node}
-use Rattle.feature_core.specs.Offers.{content_of, link_at, IsOffer, HaveOneName}
+use Rattle.feature_core.specs.Offers.{content_of, IsOffer, HaveOneName}
 use Rattle.feature_core.specs.Ways.{asked}
 use Rattle.feature_core.proofs.AddsLemmas.{element_at_place, place_of_element}
 use Rattle.feature_core.proofs.Determined.{one_node}

@@ -11,8 +11,9 @@ use Rattle.guppy_packages.specs.Tables.{Tables}
 use Rattle.feature_labels.specs.Names.{LabelName}
 use Rattle.feature_labels.specs.Names.LabelName.{optional}
 use Rattle.feature_core.specs.Nodes.{node_packages, node_places}
-use Rattle.feature_core.specs.Edges.{EdgeFacts, AreBuilt}
-use Rattle.feature_core.specs.Edges.EdgeFacts.{base_edge, feature_edge, colon_edge, strong_edge, weak_edge, section_edge}
+use Rattle.feature_links.specs.Facts.{EdgeFacts}
+use Rattle.feature_core.specs.Edges.{AreBuilt}
+use Rattle.feature_links.specs.Facts.EdgeFacts.{base_edge, feature_edge, colon_edge, strong_edge, weak_edge, section_edge}
 use Rattle.walk_engine.specs.Walks.{numbers_where, releasing, is_gated}
 use Rattle.feature_core.specs.Built.{built_edges}
 use Rattle.feature_core.specs.Ways.{ways, content, asked, gate_of, gate_at, GatesAreNodes}

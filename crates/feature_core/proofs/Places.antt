@@ -7,7 +7,7 @@ use Rattle.std.proofs.lemmas.Option.{slice_get-map}
 use Rattle.guppy_packages.specs.Tables.{PackageTable, Tables}
 use Rattle.feature_labels.specs.Names.{LabelName}
 use Rattle.feature_core.specs.Nodes.{labels_of, spread, NodeAt, first_node}
-use Rattle.feature_core.specs.Links.{IsPackage}
+use Rattle.feature_links.specs.Links.{IsPackage}
 
 pub get_left : {X : Type 0} (a b : List X) (n : ℕ) (y : X) → slice_get a n ≡ Some y → slice_get (a ++ b) n ≡ Some y
 get_left [] b n y h = cc

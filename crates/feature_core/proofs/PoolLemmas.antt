@@ -6,12 +6,12 @@ use Rattle.std.proofs.lemmas.Bool.Decides.{nat_tests}
 use Rattle.std.proofs.lemmas.List.{length-map, map-append}
 use Rattle.std.proofs.lemmas.List.Elements.{All-nil, All-head, All-tail, All-push, All-weaker, All-get_or}
 use Rattle.std.proofs.lemmas.Option.{slice_get-map, slice_get-get_or, slice_get_within, get_or_from_slice_get}
-use Rattle.feature_core.specs.declared.edge.EdgeChoice.TheVariants.{FeatureToBaseAndNamed}
-use Rattle.feature_core.specs.declared.edge.FeatureEdge.{FeatureEdge}
+use Rattle.feature_links.specs.declared.edge.EdgeChoice.TheVariants.{FeatureToBaseAndNamed}
+use Rattle.feature_links.specs.declared.edge.FeatureEdge.{FeatureEdge}
 use Rattle.feature_core.specs.Choices.{is_chosen}
-use Rattle.feature_core.specs.Edges.{EdgeFacts, base_edge, feature_edge, colon_edge, strong_edge, weak_edge, section_edge}
+use Rattle.feature_links.specs.Facts.{EdgeFacts, base_edge, feature_edge, colon_edge, strong_edge, weak_edge, section_edge}
 use Rattle.feature_core.specs.inner.Pools.{AreWithin, IsParted, Keeps, facts_at, fixed_place}
-use Rattle.feature_core.specs.Values.{edge_facts}
+use Rattle.feature_links.specs.Values.{edge_facts}
 use Rattle.feature_core.proofs.Places.{get_left, get_right, get_cases, got_same}
 use Rattle.feature_core.proofs.SameLists.{no}
 

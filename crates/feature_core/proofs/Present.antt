@@ -20,10 +20,10 @@ use Rattle.feature_labels.specs.Names.LabelName.{base, optional}
 use Rattle.feature_labels.specs.declared.link_declarations.LinkDeclarations.{LinkDeclarations}
 use Rattle.feature_labels.specs.declared.link_declarations.LinkDeclarations.TheVariants.{Unsplit, Required, Optional}
 use Rattle.feature_core.specs.Nodes.{NodeAt, labels_of}
-use Rattle.feature_core.specs.Links.{LinkFacts, IsLink, joined, is_kind, includes, status_of, over, numbered, links_named}
-use Rattle.feature_core.specs.Candidates.{Edge, feature_to_base, named_feature, dep_colon, slash_full, slash_optional, slash_weak, section, Candidate, to_base, to_feature, to_dependency, over_strong, over_weak, with_dependency, with_feature, of_required, of_optional, IsSection, requesting, unsplit_of, by_name}
-use Rattle.feature_core.specs.Edges.{EdgeFacts, facts_of, full_link, is_never}
-use Rattle.feature_core.specs.Present.{is_present}
+use Rattle.feature_links.specs.Links.{LinkFacts, IsLink, joined, is_kind, includes, status_of, over, numbered, links_named, by_name}
+use Rattle.feature_core.specs.Candidates.{Edge, feature_to_base, named_feature, dep_colon, slash_full, slash_optional, slash_weak, section, Candidate, to_base, to_feature, to_dependency, over_strong, over_weak, with_dependency, with_feature, of_required, of_optional, IsSection, requesting, unsplit_of}
+use Rattle.feature_links.specs.Facts.{EdgeFacts, full_link, is_never, is_present}
+use Rattle.feature_core.specs.Edges.{facts_of}
 use Rattle.feature_core.specs.Built.{Built, IsBuilt, built_edges}
 use Rattle.feature_core.proofs.AddsLemmas.{Contains-first, Contains-later, Contains-cases, Contains-none, element_at_place}
 use Rattle.feature_core.proofs.BuildLemmas.{built_long}

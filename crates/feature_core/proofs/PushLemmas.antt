@@ -11,8 +11,8 @@ use Rattle.guppy_packages.specs.Items.{Item, feature_item, slash_item, item_of}
 use Rattle.feature_labels.specs.Names.{LabelName}
 use Rattle.feature_labels.specs.Names.LabelName.{named, optional}
 use Rattle.feature_core.specs.inner.Adds.{Adds, Below}
-use Rattle.feature_core.specs.Links.{IsPackage, IsLink, numbered}
-use Rattle.feature_core.specs.inner.NamedLinks.{link_numbers}
+use Rattle.feature_links.specs.Links.{IsPackage, IsLink, numbered}
+use Rattle.feature_links.specs.NamedLinks.{link_numbers}
 use Rattle.feature_core.specs.Nodes.{NodeAt, first_node, labels_of}
 use Rattle.feature_core.specs.declared.key.Key.{Key}
 use Rattle.feature_core.specs.inner.Parts.{key, over_rank, IsToFirst, IsTo, IsOver, IsOverLink, IsBeside, IsOfItem, IsOfItemAt, IsOfFeatureAt, IsOfPackageAt, IsOfLinkAt, IsLinkFrom, IsOfSource}

@@ -9,9 +9,9 @@ use Rattle.guppy_packages.specs.Rows.{Text, Declared}
 use Rattle.guppy_packages.specs.Tables.{FeatureTable, PackageTable, LinkTable, Tables, has_feature, has_name, feature_place, optional_place}
 use Rattle.guppy_packages.specs.Items.{Item, feature_item, optional_item, slash_item, item_of}
 use Rattle.feature_labels.specs.Names.LabelName.{named, optional}
-use Rattle.feature_core.specs.Links.{IsPackage, IsLink}
+use Rattle.feature_links.specs.Links.{IsPackage, IsLink}
 use Rattle.feature_core.specs.Nodes.{NodeAt}
-use Rattle.feature_core.specs.inner.NamedLinks.{link_numbers}
+use Rattle.feature_links.specs.NamedLinks.{link_numbers}
 use Rattle.feature_core.specs.inner.Quiet.{lack_in, lack_by, IsQuietItem, IsQuietFeature, AreQuietFeatures, IsQuietPackage, IsQuietDeclaration, IsQuietLink, AreQuietPackages, AreQuietLinks}
 use Rattle.feature_core.specs.Warnings.{missing_feature, self_loop, lack_of, lack_over, of_item, of_package}
 use Rattle.feature_core.proofs.LabelLemmas.{named_missing, optional_missing}

@@ -10,8 +10,8 @@ use Rattle.feature_labels.specs.Names.LabelName.{base, named, optional}
 use Rattle.feature_labels.specs.declared.link_declarations.LinkDeclarations.{LinkDeclarations}
 use Rattle.feature_labels.specs.declared.link_declarations.LinkDeclarations.TheVariants.{Unsplit, Required, Optional}
 use Rattle.feature_core.specs.Nodes.{NodeAt}
-use Rattle.feature_core.specs.Links.{LinkFacts, IsLink, over}
-use Rattle.feature_core.specs.Candidates.{Edge, feature_to_base, named_feature, dep_colon, slash_full, slash_optional, slash_weak, section, rank_of, by_name, unsplit_of, IsSection, requesting, Candidate, to_base, to_feature, to_dependency, over_strong, over_weak, with_dependency, with_feature, of_required, of_optional, IsEdge}
+use Rattle.feature_links.specs.Links.{LinkFacts, IsLink, over, by_name}
+use Rattle.feature_core.specs.Candidates.{Edge, feature_to_base, named_feature, dep_colon, slash_full, slash_optional, slash_weak, section, rank_of, unsplit_of, IsSection, requesting, Candidate, to_base, to_feature, to_dependency, over_strong, over_weak, with_dependency, with_feature, of_required, of_optional, IsEdge}
 
 same_got : {X : Type 0} (xs : List X) (n : ℕ) (a b : X) → slice_get xs n ≡ Some a → slice_get xs n ≡ Some b → a ≡ b
 same_got xs n a b p q = cc

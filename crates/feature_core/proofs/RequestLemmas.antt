@@ -13,7 +13,7 @@ use Rattle.feature_labels.specs.Names.{LabelName}
 use Rattle.feature_labels.specs.Names.LabelName.{base, named, optional}
 use Rattle.feature_core.specs.inner.Adds.{Adds, Below}
 use Rattle.feature_core.specs.Nodes.{NodeAt, first_node}
-use Rattle.feature_core.specs.Links.{IsLink}
+use Rattle.feature_links.specs.Links.{IsLink}
 use Rattle.feature_core.specs.Candidates.{requests}
 use Rattle.feature_core.specs.declared.key.Key.{Key}
 use Rattle.feature_core.specs.inner.Parts.{key, IsTo, start_of, IsRequest, IsOfDeclarationAt, IsOfLinkAt}

@@ -4,7 +4,7 @@ use Rattle.std.specs.Prelude.{◌↔◌, IsTrue}
 use Rattle.std.specs.List.{zip}
 use Rattle.guppy_support.specs.declared.digraph.Edge.{Edge}
 use Rattle.feature_core.specs.Built.{ends_of, pairs_of, built_edges}
-use Rattle.feature_core.specs.Edges.{EdgeFacts}
+use Rattle.feature_links.specs.Facts.{EdgeFacts}
 use Rattle.feature_core.proofs.BuildLemmas.{built_ends}
 use Rattle.feature_core.proofs.SameLists.{is_not}
 

@@ -1,12 +1,10 @@
 -- The keys of a pair that a link's declarations request are those of the declarations that request it.
-use Rattle.std.proofs.Common.{◌≡◌, ℕ, ◌<◌, ◌≤◌, inl, inr, ⊎_elim, List, [], ◌∷◌, map, length, get_or, Bool, true, false, cond, refl, ap, sym, ◌∙◌, subst, arith, Some}
-use Rattle.std.specs.Prelude.{Contains, AllPairs, ◌↔◌, IsTrue, slice_get, not, ◌&&◌}
+use Rattle.std.proofs.Common.{◌≡◌, ℕ, ◌<◌, ◌≤◌, inl, inr, ⊎_elim, List, [], ◌∷◌, map, length, get_or, Bool, true, false, cond, refl, ap, sym, ◌∙◌, subst, arith, Some, eqb}
+use Rattle.std.specs.Prelude.{Contains, AllPairs, ◌↔◌, IsTrue, slice_get, not, ◌&&◌, All}
 use Rattle.std.specs.List.{dedup, dedup_from}
-use Rattle.std.specs.Prelude.{All}
 use Rattle.std.proofs.lemmas.Bool.Decides.{nat_tests}
-use Rattle.std.proofs.lemmas.List.Elements.{All-cons, All-head, All-tail, All-weaker}
+use Rattle.std.proofs.lemmas.List.Elements.{All-cons, All-head, All-tail, All-weaker, Contains-get_or}
 use Rattle.std.proofs.lemmas.List.Filters.{All-dedup}
-use Rattle.std.proofs.Common.{eqb}
 use Rattle.std.proofs.lemmas.List.Kept.{AllPairs-cons, Contains-from_dedup, Contains-dedup_nat}
 use Rattle.std.proofs.lemmas.List.{get_or-map, length-map}
 use Rattle.guppy_packages.specs.Rows.{Text, Declared}
@@ -19,13 +17,11 @@ use Rattle.feature_labels.specs.declared.link_declarations.LinkDeclarations.TheV
 use Rattle.feature_core.specs.Nodes.{NodeAt, node_packages}
 use Rattle.feature_core.proofs.LeastKeys.{AllPairs-first, AllPairs-later, cond_has}
 use Rattle.feature_core.proofs.MaterialLemmas.{node_within}
-use Rattle.feature_core.proofs.SectionLemmas.{ArePassing}
-use Rattle.feature_core.specs.Links.{LinkFacts, IsLink, includes, has_declaration}
+use Rattle.feature_links.specs.Links.{LinkFacts, IsLink, includes, has_declaration, ArePassing}
 use Rattle.feature_core.specs.Candidates.{requests, requesting}
 use Rattle.feature_core.specs.declared.key.Key.{Key}
 use Rattle.feature_core.specs.inner.Keys.{IsLeast, IsNoLater, IsRun}
 use Rattle.feature_core.specs.inner.Parts.{key, IsOfItem, IsOfPackageAt, IsOfTables, start_of}
-use Rattle.std.proofs.lemmas.List.Elements.{Contains-get_or}
 use Rattle.feature_core.proofs.PushLemmas.{from_map, into_map}
 use Rattle.feature_core.proofs.KeyEdges.{rank_at_most}
 use Rattle.feature_core.proofs.KeySays.{SaysSection}

@@ -8,7 +8,8 @@ use Rattle.guppy_support.specs.declared.digraph.Edge.{Edge as End}
 use Rattle.guppy_packages.specs.Tables.{Tables}
 use Rattle.feature_core.specs.declared.edge_table.MadeEdges.{MadeEdges}
 use Rattle.feature_core.specs.declared.key.Key.{Key}
-use Rattle.feature_core.specs.Edges.{EdgeFacts, first_ones}
+use Rattle.feature_links.specs.Facts.{EdgeFacts}
+use Rattle.feature_core.specs.Edges.{first_ones}
 use Rattle.feature_core.specs.inner.Made.{IsValueOf, AreValues, AreMade, edge_end}
 use Rattle.feature_core.specs.inner.Weak.{AreGates, weak_sources}
 use Rattle.feature_core.proofs.Places.{get_cases}

@@ -11,8 +11,8 @@ use Rattle.std.proofs.lemmas.List.Sums.{prefix_len-le-length}
 use Rattle.guppy_packages.specs.Rows.{Text}
 use Rattle.guppy_packages.specs.Tables.{PackageTable, LinkTable, Tables}
 use Rattle.guppy_packages.proofs.ItemLemmas.{list_any-found, list_any-absent}
-use Rattle.feature_core.specs.Links.{numbered, links_named}
-use Rattle.feature_core.specs.inner.NamedLinks.{link_numbers}
+use Rattle.feature_links.specs.Links.{numbered, links_named}
+use Rattle.feature_links.specs.NamedLinks.{link_numbers}
 use Rattle.feature_core.specs.inner.Quiet.{lack_by}
 use Rattle.feature_core.specs.Warnings.{Warning, missing_feature, lack_of, lack_over, lacks_over}
 use Rattle.feature_core.proofs.NodeLemmas.{append-none, take-next}

@@ -15,7 +15,7 @@ use Rattle.guppy_packages.specs.Items.{Item, feature_item, optional_item, slash_
 use Rattle.feature_labels.specs.Names.LabelName.{optional}
 use Rattle.feature_labels.specs.declared.link_declarations.LinkDeclarations.TheVariants.{Optional}
 use Rattle.feature_core.specs.Nodes.{NodeAt, first_node}
-use Rattle.feature_core.specs.Links.{IsLink, has_declaration}
+use Rattle.feature_links.specs.Links.{IsLink, has_declaration}
 use Rattle.feature_core.specs.Edges.{IsGate, first_ones}
 use Rattle.feature_core.specs.inner.Parts.{key, over_rank, IsOfItem, IsOfPackageAt, IsOfLinkAt, IsOfTables}
 use Rattle.feature_core.specs.inner.Weak.{IsOptionalLink, AreGates, weak_source, weak_sources}

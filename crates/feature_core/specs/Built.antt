@@ -8,7 +8,8 @@ use Rattle.guppy_packages.specs.Tables.{PackageTable, Tables}
 use Rattle.feature_labels.specs.Names.{LabelName}
 use Rattle.feature_core.specs.Nodes.{labels_of, nodes, first_nodes, node_packages}
 pub use Rattle.feature_core.specs.Edges.{ends_of}
-use Rattle.feature_core.specs.Edges.{EdgeFacts, AreBuilt, is_dev_only}
+use Rattle.feature_links.specs.Facts.{EdgeFacts, is_dev_only}
+use Rattle.feature_core.specs.Edges.{AreBuilt}
 use Rattle.feature_core.specs.Defaults.{AreDefaults}
 use Rattle.feature_core.specs.Pairs.{IsPairList}
 use Rattle.feature_core.specs.Warnings.{Warning, warnings}

@@ -4,7 +4,8 @@ use Rattle.std.proofs.Common.{inl, inr, ⊎_elim, ap, subst, arith}
 use Rattle.std.proofs.Props.{props}
 use Rattle.guppy_packages.specs.Tables.{Tables}
 use Rattle.feature_core.specs.Built.{Built, IsBuilt}
-use Rattle.feature_core.specs.Edges.{EdgeFacts, EdgeBefore, EdgeSays, IsGate, AreBuilt, weak_links}
+use Rattle.feature_links.specs.Facts.{EdgeFacts}
+use Rattle.feature_core.specs.Edges.{EdgeBefore, EdgeSays, IsGate, AreBuilt, weak_links}
 use Rattle.feature_core.specs.Pairs.{IsBefore, HasCandidate, IsPairList}
 use Rattle.feature_core.specs.Warnings.{Warning}
 

@@ -10,7 +10,7 @@ use Rattle.feature_labels.specs.Names.LabelName.{base, named, optional}
 use Rattle.feature_labels.specs.declared.link_declarations.LinkDeclarations.{LinkDeclarations}
 use Rattle.feature_labels.specs.declared.link_declarations.LinkDeclarations.TheVariants.{Unsplit, Required, Optional}
 use Rattle.feature_core.specs.Nodes.{NodeAt}
-use Rattle.feature_core.specs.Links.{LinkFacts, IsPackage, IsLink, over, links_named, includes, has_declaration}
+use Rattle.feature_links.specs.Links.{LinkFacts, IsPackage, IsLink, over, includes, has_declaration, by_name}
 
 -- what an edge says; a weak edge also names its package link
 pub data Edge : Type 0 where
@@ -55,10 +55,6 @@ requesting label which d = includes which d && requests d label
 -- all declarations of one link
 abbrev pub unsplit_of : ℕ → LinkTable → LinkFacts
 unsplit_of k link = over Unsplit (λ d. true) ((k, link) ∷ [])
-
--- the covered declarations of all links of package p that have this name
-abbrev pub by_name : Tables → ℕ → LinkDeclarations → Text → LinkFacts
-by_name t p which d = over which (λ x. includes which x) (links_named t p d)
 
 -- an item `d/g`, or `d?/g` where weak, of feature f leads to g of the target of a link named d
 pub record LeadsOver (t : Tables) (u w : ℕ) (weak : Bool) (k : ℕ) (link : LinkTable) : Type 0 where

@@ -3,10 +3,11 @@ use Rattle.std.specs.Prelude.{ℕ, List, Bool, true, false, filter, IsTrue}
 use Rattle.guppy_packages.specs.Tables.{Tables}
 use Rattle.guppy_packages.specs.declared.direction.DependencyDirection.{DependencyDirection}
 use Rattle.guppy_packages.specs.declared.direction.DependencyDirection.TheVariants.{Forward, Reverse}
-use Rattle.feature_core.specs.declared.edge.EdgeChoice.{EdgeChoice}
-use Rattle.feature_core.specs.declared.edge.EdgeChoice.TheVariants.{All, FeatureToBaseAndNamed}
+use Rattle.feature_links.specs.declared.edge.EdgeChoice.{EdgeChoice}
+use Rattle.feature_links.specs.declared.edge.EdgeChoice.TheVariants.{All, FeatureToBaseAndNamed}
 use Rattle.feature_core.specs.Candidates.{Edge, feature_to_base, named_feature, dep_colon, slash_full, slash_optional, slash_weak, section, IsEdge}
-use Rattle.feature_core.specs.Edges.{EdgeFacts, base_edge, feature_edge, colon_edge, strong_edge, weak_edge, section_edge, ends_of}
+use Rattle.feature_links.specs.Facts.{EdgeFacts, base_edge, feature_edge, colon_edge, strong_edge, weak_edge, section_edge}
+use Rattle.feature_core.specs.Edges.{ends_of}
 use Rattle.feature_core.specs.Pairs.{ReachAlong}
 
 -- whether an edge that is built is among the chosen ones

@@ -4,7 +4,7 @@ use Rattle.guppy_support.specs.Bits.{has}
 use Rattle.guppy_packages.specs.Tables.{Tables}
 use Rattle.feature_labels.specs.Names.{LabelName}
 use Rattle.feature_labels.specs.Names.LabelName.{base, named}
-use Rattle.feature_core.specs.declared.edge.EdgeChoice.TheVariants.{FeatureToBaseAndNamed}
+use Rattle.feature_links.specs.declared.edge.EdgeChoice.TheVariants.{FeatureToBaseAndNamed}
 use Rattle.feature_core.specs.Nodes.{NodeAt, node_packages}
 use Rattle.feature_core.specs.Pairs.{Along}
 use Rattle.feature_core.specs.Choices.{ChosenEdge}

@@ -1,29 +1,13 @@
 -- The edges that are built, and the weak links that they name.
-use Rattle.std.specs.Prelude.{◌≡◌, ℕ, ◌⊎◌, ◌<◌, List, [], ◌∷◌, length, Bool, true, false, not, ◌==◌, ◌&&◌, Option, None, Some, map, filter, filter_map, position, slice_get, Contains, AllPairs, ◌↔◌, if◌then◌else◌}
+use Rattle.std.specs.Prelude.{◌≡◌, ℕ, ◌⊎◌, ◌<◌, List, [], ◌∷◌, length, not, ◌==◌, Option, None, Some, map, filter, filter_map, position, slice_get, Contains, AllPairs, ◌↔◌}
 use Rattle.std.specs.Option.{option_map_or}
-use Rattle.guppy_packages.specs.Platform.{Status, never_status, always_status, spec_status}
 use Rattle.guppy_packages.specs.Tables.{LinkTable, Tables}
 use Rattle.feature_labels.specs.Names.LabelName.{optional}
-use Rattle.feature_labels.specs.declared.link_declarations.LinkDeclarations.{LinkDeclarations}
 use Rattle.feature_labels.specs.declared.link_declarations.LinkDeclarations.TheVariants.{Required, Optional}
 use Rattle.feature_core.specs.Nodes.{NodeAt}
-use Rattle.feature_core.specs.Links.{LinkFacts, IsLink, over, includes, has_declaration}
+use Rattle.feature_links.specs.Links.{IsLink, half_of}
 use Rattle.feature_core.specs.Candidates.{Edge, feature_to_base, named_feature, dep_colon, slash_full, slash_optional, slash_weak, section, IsEdge}
-
--- the number of a weak edge's weak link, and its halves
-pub record WeakFacts : Type 0 where
-  pub index : ℕ
-  pub required : Option LinkFacts
-  pub optional : Option LinkFacts
-
--- what a built edge says
-pub data EdgeFacts : Type 0 where
-  base_edge : EdgeFacts
-  feature_edge : EdgeFacts
-  colon_edge : LinkFacts → EdgeFacts
-  strong_edge : LinkFacts → EdgeFacts
-  weak_edge : LinkFacts → WeakFacts → EdgeFacts
-  section_edge : LinkFacts → EdgeFacts
+use Rattle.feature_links.specs.Facts.{WeakFacts, EdgeFacts, base_edge, feature_edge, colon_edge, strong_edge, weak_edge, section_edge}
 
 -- by from, then to
 abbrev pub EdgeBefore : ℕ × ℕ × EdgeFacts → ℕ × ℕ × EdgeFacts → Type 0
@@ -46,13 +30,6 @@ first_ones (x ∷ xs) = x ∷ filter (λ y. not (x == y)) (first_ones xs)
 -- the package links that weak edges name
 abbrev pub weak_links : List (ℕ × ℕ × EdgeFacts) → List ℕ
 weak_links edges = first_ones (filter_map (λ e. weak_link e.2) edges)
-
--- the link over the covered declarations of one package link, where there is one
-abbrev pub half_over : LinkDeclarations → ℕ → LinkTable → Option LinkFacts
-half_over which k link = if has_declaration which link then Some (over which (λ d. includes which d) ((k, link) ∷ [])) else None
-
-abbrev pub half_of : Tables → LinkDeclarations → ℕ → Option LinkFacts
-half_of t which k = option_map_or (half_over which k) (slice_get t.links k) None
 
 -- the weak half of an edge that names package link k, where these are the weak links
 abbrev pub weak_facts : Tables → List ℕ → ℕ → WeakFacts
@@ -91,24 +68,3 @@ pub record AreBuilt (t : Tables) (edges : List (ℕ × ℕ × EdgeFacts)) (weak 
 -- the two nodes of each edge
 abbrev pub ends_of : List (ℕ × ℕ × EdgeFacts) → List (ℕ × ℕ)
 ends_of edges = map (λ e. (e.0, e.1)) edges
-
--- the link of a conditional edge
-abbrev pub full_link : EdgeFacts → Option LinkFacts
-full_link base_edge = None
-full_link feature_edge = None
-full_link (colon_edge l) = Some l
-full_link (strong_edge l) = Some l
-full_link (weak_edge l halves) = Some l
-full_link (section_edge l) = Some l
-
-abbrev pub is_never : Status → Bool
-is_never never_status = true
-is_never always_status = false
-is_never (spec_status specs) = false
-
-abbrev pub is_dev_link : LinkFacts → Bool
-is_dev_link l = is_never l.normal && is_never l.build
-
--- conditional, and its link is neither normal nor for builds
-abbrev pub is_dev_only : EdgeFacts → Bool
-is_dev_only f = option_map_or is_dev_link (full_link f) false

@@ -1,5 +1,4 @@
 pub mod Nodes
-pub mod Links
 pub mod Candidates
 pub mod Edges
 pub mod Present
@@ -10,7 +9,6 @@ pub mod Built
 pub mod BuiltOnce
 pub mod Choices
 pub mod Offers
-pub mod Values
 pub mod Warnings
 pub mod Defaults
 pub mod inner

@@ -1,32 +1,15 @@
 -- The offers of a feature graph, and their links.
-use Rattle.std.specs.Prelude.{◌≡◌, ℕ, ◌∷◌, [], Option, None, Some, IsTrue, length, slice_get}
-use Rattle.std.specs.Option.{option_map_or}
+use Rattle.std.specs.Prelude.{◌≡◌, ℕ, ◌∷◌, [], Some, IsTrue, length, slice_get}
 use Rattle.guppy_packages.specs.Tables.{LinkTable, Tables}
 use Rattle.guppy_packages.specs.declared.direction.DependencyDirection.{DependencyDirection}
 use Rattle.feature_labels.specs.Names.LabelName.{optional}
 use Rattle.walk_engine.specs.declared.walks.Half.{Half}
-use Rattle.walk_engine.specs.declared.walks.Half.TheVariants.{Full, Required, Optional}
 use Rattle.walk_engine.specs.Walks.{Way, Content, IsWay, has_half}
 use Rattle.feature_core.specs.Built.{Built}
-use Rattle.feature_core.specs.Edges.{WeakFacts, EdgeFacts, base_edge, feature_edge, colon_edge, strong_edge, weak_edge, section_edge, full_link}
-use Rattle.feature_core.specs.Links.{LinkFacts, IsLink}
+use Rattle.feature_links.specs.Facts.{WeakFacts, EdgeFacts, link_at}
+use Rattle.feature_links.specs.Links.{LinkFacts, IsLink}
 use Rattle.feature_core.specs.Nodes.{NodeAt}
 use Rattle.feature_core.specs.Ways.{content}
-
--- the halves of a weak edge
-abbrev pub halves_of : EdgeFacts → Option WeakFacts
-halves_of base_edge = None
-halves_of feature_edge = None
-halves_of (colon_edge l) = None
-halves_of (strong_edge l) = None
-halves_of (weak_edge l halves) = Some halves
-halves_of (section_edge l) = None
-
--- the link of an edge: the full link of a conditional one, or a half of a weak one
-abbrev pub link_at : EdgeFacts → Half → Option LinkFacts
-link_at f Full = full_link f
-link_at f Required = option_map_or (λ w. w.required) (halves_of f) None
-link_at f Optional = option_map_or (λ w. w.optional) (halves_of f) None
 
 -- what walks of a feature graph follow, in a direction
 abbrev pub content_of : DependencyDirection → Built → Content

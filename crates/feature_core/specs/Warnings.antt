@@ -7,7 +7,7 @@ use Rattle.std.specs.declared.vec.Vec.{Vec}
 use Rattle.guppy_packages.specs.Rows.{Text}
 use Rattle.guppy_packages.specs.Tables.{PackageTable, LinkTable, Tables, has_feature, has_name}
 use Rattle.guppy_packages.specs.Items.{Item, feature_item, optional_item, slash_item, item_of}
-use Rattle.feature_core.specs.Links.{links_named}
+use Rattle.feature_links.specs.Links.{links_named}
 use Rattle.feature_core.specs.declared.warning.FeatureGraphWarning.{FeatureGraphWarning}
 use Rattle.feature_core.specs.declared.warning.FeatureGraphWarning.TheVariants.{MissingFeature, SelfLoop}
 

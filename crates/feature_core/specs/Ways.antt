@@ -5,8 +5,8 @@ use Rattle.guppy_packages.specs.declared.direction.DependencyDirection.{Dependen
 use Rattle.guppy_packages.specs.declared.direction.DependencyDirection.TheVariants.{Forward, Reverse}
 use Rattle.walk_engine.specs.declared.walks.Ask.{Ask}
 use Rattle.walk_engine.specs.declared.walks.Ask.TheVariants.{Nobody, Full, Weak}
-use Rattle.feature_core.specs.Edges.{EdgeFacts}
-use Rattle.feature_core.specs.Edges.EdgeFacts.{base_edge, feature_edge, colon_edge, strong_edge, weak_edge, section_edge}
+use Rattle.feature_links.specs.Facts.{EdgeFacts}
+use Rattle.feature_links.specs.Facts.EdgeFacts.{base_edge, feature_edge, colon_edge, strong_edge, weak_edge, section_edge}
 use Rattle.walk_engine.specs.Walks.{Way, Content}
 
 -- an optional half waits for its gate forward, and not in reverse

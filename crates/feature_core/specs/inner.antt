@@ -5,9 +5,6 @@ pub mod OpenWays
 pub mod ChosenWays
 pub mod Releases
 pub mod Asking
-pub mod NamedEntries
-pub mod NamedLinks
-pub mod Collected
 pub mod Made
 pub mod Weak
 pub mod Pools

@@ -1,29 +1,23 @@
 //! The candidates for the edges of a package's nodes, as keys, part by part of the tables.
 ghost use Rattle.std.specs.Prelude.{◌≡◌, ◌+◌, ◌<◌, ◌^◌, ◌↔◌, ◌&&◌, if◌then◌else◌, ℕ, AllPairs, Contains, OnOk, IsFalse, IsTrue, IfOk, Some, [], flat_map, length, slice_get};
-ghost use Rattle.std.specs.List.{list_any};
-ghost use Rattle.guppy_packages.specs.Tables.{LinkTable};
 ghost use Rattle.feature_labels.specs.declared.link_declarations.LinkDeclarations.TheVariants.{Optional};
-ghost use Rattle.feature_core.specs.Links.{IsLink, has_declaration};
-ghost use Rattle.guppy_packages.specs.Items.{Item, item_of};
-ghost use Rattle.guppy_packages.specs.Metadata.{package_graph_of, package_table_of, link_graph_of, link_table_of};
+ghost use Rattle.guppy_packages.specs.Items.{item_of};
+ghost use Rattle.guppy_packages.specs.Metadata.{package_graph_of, package_table_of, link_table_of};
 ghost use Rattle.guppy_packages.specs.NamedFeature.{feature_table};
-ghost use Rattle.guppy_packages.specs.Stored.{declared};
 ghost use Rattle.feature_labels.specs.Names.LabelName.{base, named, optional};
 ghost use Rattle.feature_core.specs.declared.key.Key.{Key as KeyValue};
 ghost use Rattle.feature_core.specs.inner.Adds.{Adds, Below};
 ghost use Rattle.feature_core.specs.inner.Keys.{IsNoLater};
-ghost use Rattle.feature_core.specs.Nodes.{NodeAt, first_node, labels_of};
-ghost use Rattle.feature_core.specs.inner.NamedLinks.{AreNamedLinks};
+ghost use Rattle.feature_links.specs.NamedLinks.{AreNamedLinks};
 ghost use Rattle.feature_core.specs.inner.Quiet.{lack_by, IsQuiet, IsQuietItem, IsQuietFeature, AreQuietFeatures, IsQuietPackage};
-ghost use Rattle.feature_core.specs.inner.Parts.{key, over_rank, IsToFirst, IsOverLink, start_of, IsOver, IsBeside, IsOfItem, IsOfItemAt, IsOfFeatureAt, IsOfPackageAt, IsRequest, IsOfDeclarationAt, IsOfLinkAt, IsOfSource};
+ghost use Rattle.feature_core.specs.inner.Parts.{key, over_rank, IsToFirst, IsOverLink, IsBeside, IsOfItem, IsOfItemAt, IsOfFeatureAt, IsOfPackageAt, IsOfSource};
 
 use crate::declarations::push_links;
 use crate::key::{Key, sort_keys, sort_keys_from};
-use crate::link::from_declarations::is_any_included;
-use crate::named_links::{LinkGroups, numbers_of};
 use crate::numbers::Numbers;
 use crate::quiet::{Quiet, note};
 use feature_labels::LinkDeclarations;
+use feature_links::{LinkGroups, is_any_included, numbers_of};
 use guppy_packages::{NamedFeature, NamedFeatureDep, PackageLink, PackageMetadata};
 use std::alloc::{AllocError, Global};
 

@@ -5,9 +5,9 @@ ghost use Rattle.feature_core.specs.Pairs.{PairLeads, ReachAlong};
 ghost use Rattle.feature_core.specs.Built.{built_edges};
 ghost use Rattle.feature_core.specs.Choices.{chosen_pairs};
 
-use crate::edge::EdgeChoice;
 use crate::edge_list::EdgeList;
 use crate::packed::Packed;
+use feature_links::EdgeChoice;
 use guppy_packages::DependencyDirection;
 use guppy_support::{Digraph, IxBitSet};
 use std::alloc::{AllocError, Global};

@@ -4,7 +4,7 @@ ghost use Rattle.guppy_packages.specs.Tables.{LinkTable};
 ghost use Rattle.guppy_packages.specs.Metadata.{package_graph_of, link_graph_of, link_table_of};
 ghost use Rattle.guppy_packages.specs.Stored.{declared};
 ghost use Rattle.feature_core.specs.inner.Adds.{Adds};
-ghost use Rattle.feature_core.specs.Links.{IsLink};
+ghost use Rattle.feature_links.specs.Links.{IsLink};
 ghost use Rattle.feature_core.specs.Nodes.{NodeAt};
 ghost use Rattle.feature_core.specs.inner.Quiet.{lack_in, AreQuietLinks, IsQuietDeclaration, IsQuietLink};
 ghost use Rattle.feature_core.specs.inner.Parts.{start_of, IsRequest, IsOfDeclarationAt, IsOfLinkAt, IsLinkFrom};

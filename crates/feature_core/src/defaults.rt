@@ -9,9 +9,9 @@ ghost use Rattle.feature_core.specs.inner.DefaultNodes.{AreDefaultNodes};
 ghost use Rattle.feature_core.specs.Nodes.{node_packages};
 
 use crate::chosen_reach::reach_chosen;
-use crate::edge::EdgeChoice;
 use crate::edge_table::EdgeTable;
 use crate::numbers::Numbers;
+use feature_links::EdgeChoice;
 use guppy_packages::{DependencyDirection, PackageMetadata};
 use guppy_support::IxBitSet;
 use std::alloc::{AllocError, Global};

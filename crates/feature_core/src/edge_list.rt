@@ -1,17 +1,15 @@
 //! Edges by number, of which those that say the same share one place.
 ghost use Rattle.std.specs.Prelude.{◌≡◌, ◌++◌, ◌∷◌, ◌<◌, ◌↔◌, [], None, Some, IfOk, OnOk, IsTrue, length, map, not, position, slice_get};
 ghost use Rattle.std.specs.Option.{option_map};
-ghost use Rattle.feature_core.specs.declared.edge.EdgeChoice.TheVariants.{FeatureToBaseAndNamed};
+ghost use Rattle.feature_links.specs.declared.edge.EdgeChoice.TheVariants.{FeatureToBaseAndNamed};
 ghost use Rattle.feature_core.specs.Choices.{is_chosen};
 ghost use Rattle.feature_core.specs.inner.Pools.{fixed_place, IsParted, Keeps};
-ghost use Rattle.feature_core.specs.Edges.{EdgeFacts};
-ghost use Rattle.feature_core.specs.Present.{has_present_link};
-ghost use Rattle.feature_core.specs.Values.{edge_facts};
+ghost use Rattle.feature_links.specs.Facts.{EdgeFacts, has_present_link};
+ghost use Rattle.feature_links.specs.Values.{edge_facts};
 
-use crate::edge::{FeatureEdge, SlashForm};
 use crate::equality::same_edge;
-use crate::link::ConditionalLinkImpl;
 use feature_labels::LinkDeclarations;
+use feature_links::{ConditionalLinkImpl, FeatureEdge, SlashForm};
 use std::alloc::{AllocError, Global};
 use std::marker::Model;
 
@@ -27,7 +25,7 @@ pub(crate) struct EdgeList {
 
 impl Model for EdgeList {
     ghost use Rattle.std.specs.Prelude.{◌≡◌, List, length};
-    ghost use Rattle.feature_core.specs.Edges.{EdgeFacts};
+    ghost use Rattle.feature_links.specs.Facts.{EdgeFacts};
     ghost use Rattle.feature_core.specs.inner.Pools.{AreWithin, IsParted, facts_at};
 
     ghost Value = { List EdgeFacts };

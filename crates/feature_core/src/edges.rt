@@ -7,21 +7,21 @@ ghost use Rattle.std.proofs.Common.{eqb};
 ghost use Rattle.guppy_packages.specs.Rows.{Text};
 ghost use Rattle.feature_labels.specs.Names.LabelName.{base, named, optional};
 ghost use Rattle.feature_core.specs.declared.key.Key.{Key as KeyValue};
-ghost use Rattle.feature_core.specs.Candidates.{by_name};
+ghost use Rattle.feature_links.specs.Links.{by_name};
 ghost use Rattle.feature_core.specs.inner.Keys.{IsLeast, IsNoLater, IsRun};
 ghost use Rattle.feature_core.specs.inner.Made.{IsMaterial, IsValueOf};
 ghost use Rattle.feature_core.specs.Nodes.{NodeAt};
 ghost use Rattle.feature_core.specs.inner.Parts.{IsOfTables};
-ghost use Rattle.feature_core.specs.Values.{link_facts, edge_facts};
+ghost use Rattle.feature_links.specs.Values.{link_facts, edge_facts};
 
-use crate::edge::{FeatureEdge, SlashForm, WeakIndex, WeakSlashImpl};
 use crate::edge_list::EdgeList;
 use crate::key::{Key, run_of};
-use crate::link::ConditionalLinkImpl;
-use crate::link::from_declarations::{half_of, link_of, named_link, section_link};
-use crate::named_links::LinkGroups;
 use crate::numbers::{Numbers, label_at};
 use feature_labels::{FeatureLabel, LinkDeclarations};
+use feature_links::{
+    ConditionalLinkImpl, FeatureEdge, LinkGroups, SlashForm, WeakIndex, WeakSlashImpl, half_of,
+    link_of, named_link, section_link,
+};
 use indexmap::IndexMap;
 use smallvec::SmallVec;
 use std::alloc::{AllocError, Global};

@@ -1,9 +1,9 @@
 //! The feature graph as it is built of a package graph.
-ghost use Rattle.std.specs.Prelude.{◌≡◌, ◌+◌, ◌<◌, ◌↔◌, ℕ, Some, IfOk, IfErr, IsTrue, length, map, not, position, slice_get, slice_index};
-ghost use Rattle.guppy_packages.specs.Metadata.{package_graph_of, package_table_of};
+ghost use Rattle.std.specs.Prelude.{◌≡◌, ◌+◌, ◌<◌, ◌↔◌, ℕ, Some, IfOk, IfErr, IsTrue, length, map, not, position, slice_get};
+ghost use Rattle.guppy_packages.specs.Metadata.{package_graph_of};
 ghost use Rattle.guppy_packages.specs.Tables.{Tables};
 ghost use Rattle.feature_labels.specs.Names.{id_of, label_of};
-ghost use Rattle.feature_core.specs.Nodes.{NodeAt, nodes, first_node, first_nodes, node_packages, labels_of};
+ghost use Rattle.feature_core.specs.Nodes.{NodeAt, nodes, first_node, first_nodes, node_packages};
 ghost use Rattle.guppy_support.specs.Bits.{has};
 ghost use Rattle.feature_core.specs.Pairs.{IsPairList, PairLeads, ReachAlong};
 ghost use Rattle.guppy_support.specs.Sequences.{IsOrderOf};
@@ -12,26 +12,25 @@ ghost use Rattle.feature_core.specs.Built.{AreAlike, IsBuilt, NodeNamed, built_e
 ghost use Rattle.feature_core.specs.Choices.{chosen_pairs};
 ghost use Rattle.feature_core.specs.Defaults.{AreDefaults, IsDefault};
 ghost use Rattle.feature_core.specs.Edges.{AreBuilt};
-ghost use Rattle.feature_core.specs.Present.{has_present_link};
-ghost use Rattle.feature_core.specs.Values.{edge_facts};
+ghost use Rattle.feature_links.specs.Facts.{has_present_link};
+ghost use Rattle.feature_links.specs.Values.{edge_facts};
 ghost use Rattle.feature_core.specs.Warnings.{warning_of, warnings, warnings_in};
 ghost use Rattle.feature_core.specs.inner.Releases.{AreReleases};
 ghost use Rattle.feature_core.specs.Ways.{content};
 
 use crate::chosen_reach::reach_chosen;
 use crate::defaults::{default_marks, default_nodes, with_defaults};
-use crate::edge::{EdgeChoice, FeatureEdge};
 use crate::edge_list::{EdgeList, first_absent};
 use crate::edge_table::{EdgeTable, edge_table};
 use crate::equality::{same_edges, same_gates, same_numbers, same_pairs, same_warnings};
 use crate::error::Error;
 use crate::gates::release_table;
-use crate::named_links::named_links;
 use crate::nodes::{NodeTable, node_table};
 use crate::numbers::{Numbers, label_at};
 use crate::packed::Packed;
 use crate::warning::{FeatureGraphWarning, warnings};
 use feature_labels::{FeatureId, FeatureLabel};
+use feature_links::{EdgeChoice, FeatureEdge, named_links};
 use guppy_packages::{DependencyDirection, PackageGraph, PackageMetadata};
 use guppy_support::{Digraph, IxBitSet, Order};
 use indexmap::IndexMap;

@@ -4,10 +4,10 @@ ghost use Rattle.std.specs.Option.{option_map_or};
 ghost use Rattle.feature_core.specs.Pairs.{IsBefore};
 ghost use Rattle.feature_core.specs.Ways.{gate_at, gate_of};
 ghost use Rattle.feature_core.specs.inner.Releases.{AreReleases, releases_from, released_by, Begins, IsUpTo};
-ghost use Rattle.feature_core.specs.Values.{edge_facts};
+ghost use Rattle.feature_links.specs.Values.{edge_facts};
 
-use crate::edge::{FeatureEdge, SlashForm};
 use crate::edge_list::EdgeList;
+use feature_links::{FeatureEdge, SlashForm};
 use indexmap::IndexMap;
 use std::alloc::{AllocError, Global};
 

@@ -6,7 +6,6 @@ mod checks;
 mod chosen_reach;
 mod declarations;
 mod defaults;
-mod edge;
 mod edge_list;
 mod edge_table;
 mod edges;
@@ -18,9 +17,6 @@ mod gates;
 pub mod graph_laws;
 mod key;
 pub mod laws;
-mod link;
-mod named_links;
-mod named_row;
 mod near_keys;
 mod nodes;
 mod numbers;
@@ -31,10 +27,11 @@ mod warning;
 mod weak_links;
 
 pub use checks::{check_exact_steps, check_steps, why};
-pub use edge::{EdgeChoice, FeatureEdge, SlashForm, WeakIndex, WeakSlashImpl};
 pub use error::Error;
 pub use feature_graph_data::FeatureGraphData;
-pub use link::{ConditionalLinkImpl, EnabledLink};
+pub use feature_links::{
+    ConditionalLinkImpl, EdgeChoice, EnabledLink, FeatureEdge, SlashForm, WeakIndex, WeakSlashImpl,
+};
 pub use packed::Packed;
 pub use walks::{walk, walk_all};
 pub use warning::FeatureGraphWarning;

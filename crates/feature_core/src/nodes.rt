@@ -1,8 +1,7 @@
 //! The nodes of a package graph: where those of each package begin, and the number of each label.
-ghost use Rattle.std.specs.Prelude.{◌≡◌, ◌+◌, ◌<◌, ◌++◌, ◌↔◌, ℕ, Some, OnOk, IfOk, length, replicate, slice_get};
-ghost use Rattle.guppy_packages.specs.Metadata.{package_graph_of, package_table_of};
-ghost use Rattle.feature_labels.specs.Names.LabelName.{base, named, optional};
-ghost use Rattle.feature_core.specs.Nodes.{NodeAt, labels_of, first_node, first_nodes, node_packages};
+ghost use Rattle.std.specs.Prelude.{◌≡◌, ◌+◌, ◌<◌, ◌++◌, ◌↔◌, OnOk, IfOk, length, replicate};
+ghost use Rattle.guppy_packages.specs.Metadata.{package_table_of};
+ghost use Rattle.feature_core.specs.Nodes.{labels_of, first_nodes, node_packages};
 
 use guppy_packages::{PackageGraph, PackageMetadata};
 use std::alloc::{AllocError, Global};

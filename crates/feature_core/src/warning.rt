@@ -6,13 +6,13 @@ ghost use Rattle.guppy_packages.specs.Metadata.{package_id_of, package_graph_of,
 ghost use Rattle.guppy_packages.specs.NamedFeature.{feature_table};
 ghost use Rattle.guppy_packages.specs.Stored.{declared};
 ghost use Rattle.guppy_packages.specs.Tables.{LinkTable, has_name};
-ghost use Rattle.feature_core.specs.inner.NamedLinks.{AreNamedLinks, link_numbers};
+ghost use Rattle.feature_links.specs.NamedLinks.{AreNamedLinks, link_numbers};
 ghost use Rattle.feature_core.specs.inner.Quiet.{IsQuiet, IsQuietPackage, IsQuietLink, AreQuietPackages, AreQuietLinks};
-ghost use Rattle.feature_core.specs.Links.{IsLink, links_named};
+ghost use Rattle.feature_links.specs.Links.{IsLink, links_named};
 ghost use Rattle.feature_core.specs.Warnings.{warnings_in, missing_feature, self_loop, lack_of, lack_over, lacks_over, of_item, of_package, of_link, warnings};
 
-use crate::named_links::{LinkGroups, numbers_of};
 use crate::quiet::Quiet;
+use feature_links::{LinkGroups, numbers_of};
 use guppy_packages::{
     Declaration, NamedFeature, NamedFeatureDep, PackageGraph, PackageId, PackageLink,
     PackageMetadata,

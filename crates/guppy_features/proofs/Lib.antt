@@ -1,26 +1,2 @@
-mod OptionLemmas
-mod ListLemmas
-mod BuiltLemmas
-mod NodePackages
-mod Offered
-mod PackageLemmas
-mod SetLemmas
-mod VerifyLemmas
-pub mod MemberNames
-mod Visits
-pub mod WorkspaceLemmas
 pub mod ListedLemmas
-pub mod RangeLemmas
-pub mod SameFeatures
-pub mod PackageListLemmas
-pub mod OrderedLemmas
-pub mod PartLemmas
-pub mod SplitLemmas
-pub mod PackageSetLemmas
-pub mod PackageViewLemmas
-pub mod TiedLemmas
-mod ToldLemmas
-mod NumberedLemmas
-mod Explanations
 mod PlatformLemmas
-mod CheckLemmas

@@ -2,7 +2,7 @@
 use Rattle.std.proofs.Common.{◌≡◌, ◌<◌, ℕ, zero, suc, ◌⊎◌, inl, inr, ⊎_elim, Bool, true, false, ◌||◌, List, [], ◌∷◌, length, map, refl, sym, ◌∙◌, arith}
 use Rattle.std.specs.Prelude.{◌↔◌, IsTrue, Contains, slice_index_or}
 use Rattle.std.specs.List.{list_any}
-use Rattle.guppy_features.specs.Filters.{SameElements}
+use Rattle.guppy_features.specs.Accepted.{SameElements}
 
 or_cases : {A B : Type 0} (b c : Bool) → (IsTrue b ↔ A) → (IsTrue c ↔ B) → (IsTrue (b || c) ↔ A ⊎ B)
 or_cases true c p q = (λ _. inl (p.0 refl), λ _. refl)

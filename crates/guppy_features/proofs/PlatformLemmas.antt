@@ -5,14 +5,18 @@ use Rattle.std.specs.Option.{option_map, option_map_or}
 use Rattle.guppy_packages.specs.Platform.{Status}
 use Rattle.guppy_packages.specs.Rows.{Text}
 use Rattle.guppy_packages.specs.declared.row.DependencyKind.{DependencyKind}
-use Rattle.feature_core.specs.Links.{LinkFacts}
-use Rattle.guppy_features.specs.LinkValues.{Link, facts_of, status_for}
+use Rattle.feature_links.specs.Links.{LinkFacts}
+use Rattle.feature_sets.specs.LinkValues.{Link, facts_of, status_for}
 use Rattle.walk_engine.specs.Laws.{AnswersBy}
 use Rattle.walk_engine.specs.Walks.{Call, GoesAlong}
-use Rattle.guppy_features.specs.Values.{Query}
-use Rattle.guppy_features.specs.Visits.{offered, shown}
+use Rattle.feature_sets.specs.Values.{Query}
+use Rattle.feature_sets.specs.Visits.{offered, shown}
 use Rattle.guppy_features.specs.Platforms.{holds_where, is_for_platform, is_platform_link}
-use Rattle.guppy_features.proofs.OptionLemmas.{mapped_is}
+use Rattle.std.proofs.lemmas.Option.{none-some, same_Some}
+
+mapped_is : {A B : Type 0} (f : A → B) (o : Option A) (b : B) → option_map f o ≡ Some b → (a : A) × (o ≡ Some a) × (f a ≡ b)
+mapped_is f None b h = absurd (none-some b h)
+mapped_is f (Some a) b h = (a, refl, same_Some _ _ h)
 
 pub any_same : {X : Type 0} (p q : X → Bool) (xs : List X) → ((x : X) → p x ≡ q x) → list_any p xs ≡ list_any q xs
 any_same p q [] same = refl

@@ -7,10 +7,10 @@ use Rattle.guppy_packages.specs.Platform.{Status, never_status, always_status, s
 use Rattle.guppy_packages.specs.Rows.{Text}
 use Rattle.guppy_packages.specs.declared.row.DependencyKind.{DependencyKind}
 use Rattle.walk_engine.specs.declared.walks.Half.{Half}
-use Rattle.feature_core.specs.Links.{LinkFacts}
-use Rattle.guppy_features.specs.LinkValues.{Link, facts_of, status_for}
-use Rattle.guppy_features.specs.Values.{Graph}
-use Rattle.guppy_features.specs.Visits.{offered}
+use Rattle.feature_links.specs.Links.{LinkFacts}
+use Rattle.feature_sets.specs.LinkValues.{Link, facts_of, status_for}
+use Rattle.feature_sets.specs.Values.{Graph}
+use Rattle.feature_sets.specs.Visits.{offered}
 
 -- whether a status holds where these specs do: always, or where one of its specs is among them
 abbrev pub holds_where : List Text → Status → Bool

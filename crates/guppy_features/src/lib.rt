@@ -1,61 +1,22 @@
-//! The feature graph: queries and sets of features.
+//! The feature graph: queries and sets of features, filters over a list, and a visitor for a platform.
 #![tactic(auto)]
 
-mod checking;
-mod context;
-mod cycles;
-mod dependencies;
-mod explained;
-mod filter;
-mod graph;
-mod ids;
-pub mod laws;
-mod link;
 mod listed_filters;
-mod listing;
-mod metadata;
-mod numbering;
-mod package_links;
 mod platform_visitor;
-mod query;
-mod resolve_explained;
-mod resolve_with;
-mod same_graph;
-mod set;
-mod standard_features;
-mod telling;
-mod visitor;
-mod workspace;
 
-pub use context::FeatureLinkContext;
-pub use cycles::{AllCycles, Cycles};
-pub use explained::{Explained, Reason};
-pub use feature_core::{
-    ConditionalLinkImpl, EdgeChoice, EnabledLink, Error, FeatureEdge, FeatureGraphData,
-    FeatureGraphWarning, SlashForm, WeakIndex, WeakSlashImpl,
+pub use feature_sets::{
+    AllCycles, ConditionalLink, ConditionalLinkImpl, ConditionalLinks, Cycles, Declaration,
+    DependencyDirection, DependencyKind, DisplayFeatures, EdgeChoice, EnabledLink, Error,
+    Explained, FeatureEdge, FeatureFilter, FeatureFilterFn, FeatureFilterObject, FeatureGraph,
+    FeatureGraphData, FeatureGraphExt, FeatureGraphWarning, FeatureId, FeatureIds, FeatureKind,
+    FeatureLabel, FeatureLinkContext, FeatureLinkObject, FeatureLinkVisitor, FeatureList,
+    FeatureMetadata, FeatureQuery, FeatureSet, Features, IdsByNode, InitialPackages,
+    LinkDeclarations, Links, NamedFeature, NamedFeatureDep, PackageGraph, PackageId, PackageLink,
+    PackageLinks, PackageMetadata, PackageSet, PackagesWithFeatures, PlatformStatus,
+    PlatformStatusImpl, Reason, RootFeatures, RootIds, Row, RowError, RowFault, SlashForm, Spec,
+    StandardFeatures, UnknownPackageId, WeakIndex, WeakSlashImpl, feature_list, laws,
 };
-pub use feature_labels::{
-    DisplayFeatures, FeatureId, FeatureKind, FeatureLabel, FeatureList, LinkDeclarations,
-    feature_list,
-};
-pub use filter::{FeatureFilter, FeatureFilterFn, FeatureFilterObject};
-pub use graph::{FeatureGraph, FeatureGraphExt};
-pub use guppy_packages::{
-    Declaration, DependencyDirection, DependencyKind, NamedFeature, NamedFeatureDep, PackageGraph,
-    PackageId, PackageLink, PackageMetadata, PackageSet, PlatformStatus, PlatformStatusImpl, Row,
-    RowError, RowFault, Spec, UnknownPackageId,
-};
-pub use link::ConditionalLink;
 pub use listed_filters::{
     FeatureIdFilter, NamedFeatureFilter, feature_id_filter, named_feature_filter,
 };
-pub use metadata::FeatureMetadata;
-pub use package_links::PackageLinks;
 pub use platform_visitor::PlatformVisitor;
-pub use query::FeatureQuery;
-pub use set::{
-    ConditionalLinks, FeatureIds, FeatureSet, Features, IdsByNode, InitialPackages, Links,
-    PackagesWithFeatures, RootFeatures, RootIds,
-};
-pub use standard_features::StandardFeatures;
-pub use visitor::{FeatureLinkObject, FeatureLinkVisitor};

@@ -1,15 +1,13 @@
 //! Filters that accept what another accepts, and the features of a list.
-ghost use Rattle.std.specs.Prelude.{◌≡◌, ◌↔◌, ◌⊎◌, Bool, IsTrue, IfOk, IfErr, Contains, map};
+ghost use Rattle.std.specs.Prelude.{◌≡◌, ◌↔◌, ◌⊎◌, IsTrue, IfOk, IfErr, Contains, map};
 ghost use Rattle.std.specs.List.{list_any};
 ghost use Rattle.std.specs.HashSet.{contains};
 ghost use Rattle.feature_labels.specs.Names.{id_of, label_of};
-ghost use Rattle.guppy_features.specs.Filters.{AddsToBase, ListsLabel, SameElements};
+ghost use Rattle.guppy_features.specs.Accepted.{AddsToBase, ListsLabel, SameElements};
 ghost use Rattle.guppy_features.specs.ListedFilters.{base_of_ids, base_of_names, listed_ids, listed_names};
 
-use crate::filter::FeatureFilter;
-use crate::graph::FeatureGraph;
-use feature_core::Error;
 use feature_labels::{FeatureId, FeatureLabel};
+use feature_sets::{Error, FeatureFilter, FeatureGraph};
 use std::alloc::{AllocError, Global};
 use std::collections::HashSet;
 use std::fmt;

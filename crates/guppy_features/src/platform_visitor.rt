@@ -7,18 +7,15 @@ ghost use Rattle.guppy_packages.specs.Platform.{spec_text, status_of};
 ghost use Rattle.walk_engine.specs.Explanations.{IsExplanation, nodes_of};
 ghost use Rattle.walk_engine.specs.Walks.{Least, is_in};
 ghost use Rattle.walk_checks.specs.Exact.{IsExact};
-ghost use Rattle.guppy_features.specs.LinkViews.{link_of};
+ghost use Rattle.feature_sets.specs.LinkViews.{link_of};
 ghost use Rattle.guppy_features.specs.Platforms.{holds_where, is_platform_link, platform_offers};
 ghost use Rattle.guppy_features.specs.PlatformViews.{kinds_of, specs_of};
-ghost use Rattle.guppy_features.specs.Visits.{query_content};
+ghost use Rattle.feature_sets.specs.Visits.{query_content};
 
-use crate::context::FeatureLinkContext;
-use crate::explained::Explained;
-use crate::laws::{resolved_is_exact, visitor_agrees_by_answer};
-use crate::link::ConditionalLink;
-use crate::query::FeatureQuery;
-use crate::visitor::FeatureLinkVisitor;
-use feature_core::Error;
+use feature_sets::laws::{resolved_is_exact, visitor_agrees_by_answer};
+use feature_sets::{
+    ConditionalLink, Error, Explained, FeatureLinkContext, FeatureLinkVisitor, FeatureQuery,
+};
 use guppy_packages::{DependencyKind, PlatformStatus, Spec};
 use std::alloc::Global;
 

@@ -22,17 +22,18 @@ use Rattle.walk_engine.specs.Explanations.{IsExplanation, nodes_of}
 use Rattle.walk_engine.specs.Walks.{Content, Least, is_in}
 use Rattle.feature_core.specs.Built.{Built}
 use Rattle.feature_core.specs.Candidates.{Edge, feature_to_base, named_feature, dep_colon, slash_full, slash_optional, slash_weak, section, IsEdge}
-use Rattle.feature_core.specs.Edges.{EdgeFacts, EdgeSays, facts_of}
-use Rattle.feature_core.specs.Links.{LinkFacts}
+use Rattle.feature_links.specs.Facts.{EdgeFacts, link_at}
+use Rattle.feature_core.specs.Edges.{EdgeSays, facts_of}
+use Rattle.feature_links.specs.Links.{LinkFacts}
 use Rattle.feature_core.specs.Nodes.{nodes}
-use Rattle.feature_core.specs.Offers.{content_of, link_at}
+use Rattle.feature_core.specs.Offers.{content_of}
 use Rattle.feature_core.specs.Ways.{way}
-use Rattle.guppy_features.specs.Explained.{AreTold}
-use Rattle.guppy_features.specs.LinkValues as links
+use Rattle.feature_sets.specs.Explained.{AreTold}
+use Rattle.feature_sets.specs.LinkValues as links
 use Rattle.guppy_features.specs.Platforms.{platform_offers, is_for_platform}
-use Rattle.guppy_features.specs.Told.{ReasonName, edge, link, ends_told, offer_told, reason_told, step_told}
-use Rattle.guppy_features.specs.Values.{Graph, Query}
-use Rattle.guppy_features.specs.Visits.{offered, query_content}
+use Rattle.feature_sets.specs.Told.{ReasonName, edge, link, ends_told, offer_told, reason_told, step_told}
+use Rattle.feature_sets.specs.Values.{Graph, Query}
+use Rattle.feature_sets.specs.Visits.{offered, query_content}
 use Rattle.guppy_tool.specs.Answers.{TellsPlatform}
 use Rattle.guppy_tool.proofs.OneDigraph.{map_alike}
 

@@ -9,7 +9,8 @@ use Rattle.guppy_packages.specs.Tables.{Tables}
 use Rattle.guppy_packages.specs.declared.direction.DependencyDirection.TheVariants.{Forward}
 use Rattle.feature_core.specs.Built.{Built, digraph_of, end_of}
 use Rattle.feature_core.specs.Candidates.{Edge, feature_to_base, named_feature, dep_colon, slash_full, slash_optional, slash_weak, section, IsEdge}
-use Rattle.feature_core.specs.Edges.{EdgeFacts, EdgeSays, facts_of, is_dev_only}
+use Rattle.feature_links.specs.Facts.{EdgeFacts, is_dev_only}
+use Rattle.feature_core.specs.Edges.{EdgeSays, facts_of}
 use Rattle.feature_core.specs.Offers.{content_of}
 use Rattle.feature_core.specs.Ways.{way}
 

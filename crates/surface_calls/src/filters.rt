@@ -1,6 +1,6 @@
 //! Filters that count what they are asked.
-ghost use Rattle.guppy_features.specs.Filters.{MayAskEach, workspace_names};
-ghost use Rattle.guppy_features.specs.Views.{graph_of};
+ghost use Rattle.feature_sets.specs.Filters.{MayAskEach, workspace_names};
+ghost use Rattle.feature_sets.specs.Views.{graph_of};
 
 use guppy_features::{
     FeatureFilter, FeatureFilterObject, FeatureGraph, FeatureId, StandardFeatures,

@@ -13,9 +13,9 @@ use Rattle.feature_labels.specs.declared.feature_id.FeatureId.{FeatureId}
 use Rattle.walk_engine.specs.declared.walks.Half.{Half}
 use Rattle.walk_engine.specs.Explanations.{IsExplanation, nodes_of}
 use Rattle.walk_engine.specs.Walks.{Least, is_in}
-use Rattle.guppy_features.specs.Told.{Explanation}
-use Rattle.guppy_features.specs.Values.{Query}
-use Rattle.guppy_features.specs.Visits.{query_content}
+use Rattle.feature_sets.specs.Told.{Explanation}
+use Rattle.feature_sets.specs.Values.{Query}
+use Rattle.feature_sets.specs.Visits.{query_content}
 use Rattle.uses.specs.Linted.{IsCleared, IsNamed}
 
 pub named_grows : (named : List (Text × LabelName)) (x name : Text × LabelName) → IsNamed named name → IsNamed (named ++ x ∷ []) name

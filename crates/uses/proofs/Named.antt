@@ -8,8 +8,8 @@ use Rattle.guppy_packages.specs.declared.direction.DependencyDirection.{Dependen
 use Rattle.feature_labels.specs.Names.{LabelName}
 use Rattle.feature_core.specs.Built.{NodeNamed}
 use Rattle.feature_core.specs.Pairs.{Along, LeadsTo, Reach}
-use Rattle.guppy_features.specs.Names.{HoldsExactly}
-use Rattle.guppy_features.specs.Values.{Query}
+use Rattle.feature_sets.specs.Names.{HoldsExactly}
+use Rattle.feature_sets.specs.Values.{Query}
 
 -- the only name of a list of one
 only : (name other : Text × LabelName) (k : ℕ) → slice_get (name ∷ []) k ≡ Some other → other ≡ name

@@ -9,11 +9,12 @@ use Rattle.feature_labels.specs.Names.{LabelName}
 use Rattle.feature_labels.specs.Names.LabelName.{base, named, optional}
 use Rattle.guppy_features.specs.ListedFilters.{base_of_names, listed_names}
 use Rattle.guppy_features.specs.declared.listed_filters.NamedFeatureFilter.{NamedFeatureFilter}
-use Rattle.guppy_features.specs.declared.standard_features.StandardFeatures.{StandardFeatures}
-use Rattle.guppy_features.specs.declared.standard_features.StandardFeatures.TheVariants.{Default}
-use Rattle.guppy_features.specs.Filters.{AddsToBase, StandardAccepts, Run, Ran, ListsLabel, SameElements, SelectsByFilter, accepted, workspace_names}
-use Rattle.guppy_features.specs.Names.{TellsDefault}
-use Rattle.guppy_features.specs.Values.{Graph}
+use Rattle.feature_sets.specs.declared.standard_features.StandardFeatures.{StandardFeatures}
+use Rattle.feature_sets.specs.declared.standard_features.StandardFeatures.TheVariants.{Default}
+use Rattle.feature_sets.specs.Filters.{Run, Ran, SelectsByFilter, StandardAccepts, accepted, workspace_names}
+use Rattle.guppy_features.specs.Accepted.{AddsToBase, ListsLabel, SameElements}
+use Rattle.feature_sets.specs.Names.{TellsDefault}
+use Rattle.feature_sets.specs.Values.{Graph}
 use Rattle.uses.specs.Answers.{IsSelected}
 
 -- the name is accepted exactly where it is on by default, or listed

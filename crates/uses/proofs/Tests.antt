@@ -3,9 +3,9 @@ use Rattle.std.proofs.Common.{◌≡◌, Bool, ◌||◌, List, [], ◌∷◌, ma
 use Rattle.std.specs.List.{list_any}
 use Rattle.walk_engine.specs.Laws.{AnswersBy}
 use Rattle.walk_engine.specs.Walks.{Call, GoesAlong}
-use Rattle.guppy_features.specs.LinkValues.{Link}
-use Rattle.guppy_features.specs.Values.{Query}
-use Rattle.guppy_features.specs.Visits.{offered, shown}
+use Rattle.feature_sets.specs.LinkValues.{Link}
+use Rattle.feature_sets.specs.Values.{Query}
+use Rattle.feature_sets.specs.Visits.{offered, shown}
 use Rattle.uses.specs.Answers.{by_links}
 
 -- while P holds, each step answers as the test of links does, and P goes on

@@ -13,12 +13,13 @@ use Rattle.feature_labels.specs.Names.{LabelName}
 use Rattle.walk_engine.specs.declared.walks.Half.{Half}
 use Rattle.feature_core.specs.Built.{NodeNamed}
 use Rattle.feature_core.specs.Defaults.{IsDefault}
-use Rattle.feature_core.specs.Edges.{is_dev_link}
+use Rattle.feature_links.specs.Facts.{is_dev_link}
 use Rattle.feature_core.specs.Pairs.{Along, LeadsTo}
-use Rattle.guppy_features.specs.Filters.{ListsLabel, workspace_names}
-use Rattle.guppy_features.specs.LinkValues.{Link, facts_of, status_for}
-use Rattle.guppy_features.specs.Values.{Graph}
-use Rattle.guppy_features.specs.Visits.{offered}
+use Rattle.feature_sets.specs.Filters.{workspace_names}
+use Rattle.guppy_features.specs.Accepted.{ListsLabel}
+use Rattle.feature_sets.specs.LinkValues.{Link, facts_of, status_for}
+use Rattle.feature_sets.specs.Values.{Graph}
+use Rattle.feature_sets.specs.Visits.{offered}
 
 -- a path of edges, as the direction follows them, leads from the feature of this name to the node; the empty path leads to the
 -- feature itself

@@ -6,8 +6,8 @@ use Rattle.feature_labels.specs.Names.{LabelName, id_of}
 use Rattle.feature_core.specs.Built.{NodeNamed}
 use Rattle.walk_engine.specs.declared.walks.Half.{Half}
 use Rattle.walk_engine.specs.Walks.{Least}
-use Rattle.guppy_features.specs.Values.{Query}
-use Rattle.guppy_features.specs.Visits.{query_content}
+use Rattle.feature_sets.specs.Values.{Query}
+use Rattle.feature_sets.specs.Visits.{query_content}
 use Rattle.uses.specs.declared.linter.Finding.{Finding}
 
 -- the feature that was found to be on

@@ -2,7 +2,7 @@
 ghost use Rattle.std.specs.Prelude.{◌↔◌, ℕ, IsTrue, IfOk};
 ghost use Rattle.guppy_support.specs.Bits.{has};
 ghost use Rattle.feature_labels.specs.Names.{id_of};
-ghost use Rattle.guppy_features.specs.Views.{tables_of_graph};
+ghost use Rattle.feature_sets.specs.Views.{tables_of_graph};
 ghost use Rattle.uses.specs.Answers.{IsLedTo};
 
 use crate::brings_in::brings_in;

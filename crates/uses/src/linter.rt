@@ -10,7 +10,7 @@ ghost use Rattle.walk_engine.specs.Walks.{is_in};
 ghost use Rattle.walk_engine.specs.declared.walks.Half.{Half};
 ghost use Rattle.guppy_features.specs.Platforms.{platform_offers};
 ghost use Rattle.guppy_features.specs.PlatformViews.{kinds_of, specs_of};
-ghost use Rattle.guppy_features.specs.Views.{graph_of};
+ghost use Rattle.feature_sets.specs.Views.{graph_of};
 ghost use Rattle.uses.specs.Linted.{IsCleared, finding_name};
 
 use crate::failure::Failure;

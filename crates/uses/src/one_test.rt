@@ -2,8 +2,8 @@
 ghost use Rattle.std.specs.Prelude.{◌≡◌, ◌↔◌, ℕ, IsTrue, IfOk};
 ghost use Rattle.guppy_support.specs.Bits.{has};
 ghost use Rattle.walk_engine.specs.Walks.{Least};
-ghost use Rattle.guppy_features.specs.LinkViews.{link_of};
-ghost use Rattle.guppy_features.specs.Visits.{query_content};
+ghost use Rattle.feature_sets.specs.LinkViews.{link_of};
+ghost use Rattle.feature_sets.specs.Visits.{query_content};
 ghost use Rattle.uses.specs.Answers.{is_shipped, by_links};
 
 use crate::failure::Failure;

@@ -1,8 +1,8 @@
 -- Keys whose edges say the same, as the keys tell.
 use Rattle.std.specs.Prelude.{◌≡◌, ℕ, ◌<◌, ◌⊎◌, List, [], ◌∷◌, ◌++◌, Some, length, map, slice_get, take}
 use Rattle.guppy_packages.specs.Tables.{LinkTable, Tables}
-use Rattle.feature_core.specs.Links.{IsLink}
-use Rattle.feature_core.specs.Edges.{EdgeFacts}
+use Rattle.feature_links.specs.Links.{IsLink}
+use Rattle.feature_links.specs.Facts.{EdgeFacts}
 use Rattle.feature_core.specs.declared.key.Key.{Key}
 use Rattle.feature_core.specs.declared.edge_table.MadeEdges.{MadeEdges}
 use Rattle.feature_core.specs.inner.Made.{AreValues, IsValueOf, edge_end}

@@ -8,7 +8,7 @@ use Rattle.walk_engine.specs.declared.walks.Ask.{Ask}
 use Rattle.walk_engine.specs.Walks.{Way, Content}
 use Rattle.feature_core.specs.declared.packed.Asking.{Asking}
 use Rattle.feature_core.specs.declared.packed.Asking.TheVariants.{Offers, Chosen}
-use Rattle.feature_core.specs.Edges.{EdgeFacts}
+use Rattle.feature_links.specs.Facts.{EdgeFacts}
 use Rattle.feature_core.specs.Pairs.{IsBefore}
 use Rattle.feature_core.specs.Choices.{is_chosen}
 use Rattle.feature_core.specs.inner.ChosenWays.{ask_where}

@@ -1,10 +1,10 @@
 -- Chosen edges as ways that are open to all, and the other edges as ways that are offered.
 use Rattle.std.specs.Prelude.{ℕ, List, Bool, true, false, map}
 use Rattle.guppy_packages.specs.declared.direction.DependencyDirection.{DependencyDirection}
-use Rattle.feature_core.specs.declared.edge.EdgeChoice.{EdgeChoice}
+use Rattle.feature_links.specs.declared.edge.EdgeChoice.{EdgeChoice}
 use Rattle.walk_engine.specs.declared.walks.Ask.{Ask}
 use Rattle.walk_engine.specs.declared.walks.Ask.TheVariants.{Nobody, Full}
-use Rattle.feature_core.specs.Edges.{EdgeFacts}
+use Rattle.feature_links.specs.Facts.{EdgeFacts}
 use Rattle.feature_core.specs.Choices.{is_chosen}
 use Rattle.walk_engine.specs.Walks.{Way, Content}
 use Rattle.feature_core.specs.Ways.{start_of, far_of}

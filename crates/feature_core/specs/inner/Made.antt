@@ -5,9 +5,10 @@ use Rattle.guppy_support.specs.declared.digraph.Edge.{Edge as End}
 use Rattle.guppy_packages.specs.Tables.{Tables}
 use Rattle.feature_core.specs.Nodes.{node_packages}
 use Rattle.feature_core.specs.Candidates.{Edge, Candidate, rank_of}
-use Rattle.feature_core.specs.Edges.{EdgeFacts, facts_of, first_ones, is_dev_only}
+use Rattle.feature_links.specs.Facts.{EdgeFacts, is_dev_only}
+use Rattle.feature_core.specs.Edges.{facts_of, first_ones}
 use Rattle.feature_core.specs.inner.Keys.{IsNoLater, AreLeast}
-use Rattle.feature_core.specs.inner.NamedLinks.{AreNamedLinks}
+use Rattle.feature_links.specs.NamedLinks.{AreNamedLinks}
 use Rattle.feature_core.specs.inner.Parts.{IsOfSource, IsOfTables}
 use Rattle.feature_core.specs.declared.key.Key.{Key}
 use Rattle.feature_core.specs.inner.Weak.{AreGates, weak_sources}

@@ -7,7 +7,7 @@ use Rattle.feature_labels.specs.Names.{LabelName}
 use Rattle.feature_labels.specs.Names.LabelName.{base, named, optional}
 use Rattle.feature_labels.specs.declared.link_declarations.LinkDeclarations.TheVariants.{Optional}
 use Rattle.feature_core.specs.Nodes.{NodeAt, labels_of, first_node}
-use Rattle.feature_core.specs.Links.{IsPackage, IsLink, has_declaration}
+use Rattle.feature_links.specs.Links.{IsPackage, IsLink, has_declaration}
 use Rattle.feature_core.specs.Candidates.{requests}
 use Rattle.feature_core.specs.declared.key.Key.{Key}
 

@@ -1,8 +1,8 @@
 -- Edges by number, of which those that say the same may share one place.
 use Rattle.std.specs.Prelude.{◌≡◌, ℕ, ◌<◌, ◌≤◌, List, All, Option, None, Some, length, map, slice_get, slice_index_or}
-use Rattle.feature_core.specs.declared.edge.FeatureEdge.{FeatureEdge}
-use Rattle.feature_core.specs.Edges.{EdgeFacts, base_edge, feature_edge, colon_edge, strong_edge, weak_edge, section_edge}
-use Rattle.feature_core.specs.Values.{edge_facts}
+use Rattle.feature_links.specs.declared.edge.FeatureEdge.{FeatureEdge}
+use Rattle.feature_links.specs.Facts.{EdgeFacts, base_edge, feature_edge, colon_edge, strong_edge, weak_edge, section_edge}
+use Rattle.feature_links.specs.Values.{edge_facts}
 
 -- what the edges at the places say
 abbrev pub facts_at : List FeatureEdge → List ℕ → List EdgeFacts

@@ -5,7 +5,7 @@ use Rattle.guppy_support.specs.Bits.{has}
 use Rattle.guppy_packages.specs.Rows.{Text, Declared}
 use Rattle.guppy_packages.specs.Tables.{FeatureTable, PackageTable, LinkTable, Tables}
 use Rattle.guppy_packages.specs.Items.{Item, item_of}
-use Rattle.feature_core.specs.Links.{IsPackage, IsLink}
+use Rattle.feature_links.specs.Links.{IsPackage, IsLink}
 use Rattle.feature_core.specs.Warnings.{Warning, lack_of, lack_over, of_item, of_package, of_link}
 use Rattle.feature_core.specs.declared.quiet.Quiet.{Quiet}
 

@@ -2,7 +2,7 @@
 use Rattle.std.specs.Prelude.{◌≡◌, ℕ, List, ◌==◌, IsTrue, Option, None, Some, filter_map, slice_get, if◌then◌else◌}
 use Rattle.guppy_packages.specs.Tables.{LinkTable, Tables}
 use Rattle.feature_labels.specs.declared.link_declarations.LinkDeclarations.TheVariants.{Optional}
-use Rattle.feature_core.specs.Links.{IsLink, has_declaration}
+use Rattle.feature_links.specs.Links.{IsLink, has_declaration}
 use Rattle.feature_core.specs.Edges.{IsGate}
 use Rattle.feature_core.specs.declared.key.Key.{Key}
 

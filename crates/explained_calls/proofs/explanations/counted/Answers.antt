@@ -1,5 +1,5 @@
 use Rattle.std.proofs.Common.{rules, inl, inr}
-use Rattle.guppy_features.specs.Visits.{offered}
+use Rattle.feature_sets.specs.Visits.{offered}
 use Rattle.explained_calls.proofs.explanations.counted.OwnLists.{own-1}
 use Rattle.explained_calls.proofs.explanations.counted.Goals as goal
 

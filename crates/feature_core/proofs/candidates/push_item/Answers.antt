@@ -1,7 +1,7 @@
 use Rattle.std.proofs.Common.{◌≡◌, ◌∙◌, sym, ap}
 use Rattle.guppy_packages.specs.Items.{feature_item, optional_item, slash_item, item_of}
 use Rattle.feature_labels.specs.Names.LabelName.{named, optional}
-use Rattle.feature_core.specs.inner.NamedLinks.{link_numbers}
+use Rattle.feature_links.specs.NamedLinks.{link_numbers}
 use Rattle.feature_core.proofs.PushLemmas.{pushed_to, over_named, under_within, texts_differ, other_feature, weak_item, strong_item, item_read}
 use Rattle.feature_core.proofs.QuietLemmas.{feature_found, dependency_found, slash_found, quiet_read}
 use Rattle.feature_core.proofs.candidates.push_item.Goals as goal

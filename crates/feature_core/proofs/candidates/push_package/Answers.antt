@@ -1,7 +1,7 @@
 use Rattle.std.proofs.Common.{◌≡◌, subst, Some}
 use Rattle.std.specs.Prelude.{slice_get}
 use Rattle.guppy_packages.specs.Metadata.{package_table_of, package_graph_of}
-use Rattle.feature_core.specs.Links.{IsPackage}
+use Rattle.feature_links.specs.Links.{IsPackage}
 use Rattle.feature_core.proofs.LabelLemmas.{package_there}
 use Rattle.feature_core.proofs.PushLemmas.{package_at}
 use Rattle.feature_core.proofs.QuietLemmas.{package_found}

@@ -1,6 +1,6 @@
 use Rattle.std.proofs.Common.{not, ap, sym, ◌∙◌, arith}
-use Rattle.feature_core.specs.Present.{has_present_link}
-use Rattle.feature_core.specs.Values.{edge_facts}
+use Rattle.feature_links.specs.Facts.{has_present_link}
+use Rattle.feature_links.specs.Values.{edge_facts}
 use Rattle.feature_core.proofs.ListSteps.{sought_first, sought_next, sought_here, sought_none}
 use Rattle.feature_core.proofs.edge_list.first_absent.Goals as goal
 

@@ -1,5 +1,5 @@
 use Rattle.std.specs.Prelude.{not}
-use Rattle.feature_core.specs.Present.{has_present_link}
+use Rattle.feature_links.specs.Facts.{has_present_link}
 use Rattle.feature_core.proofs.ListSteps.{IsSought}
 use Rattle.feature_core.proofs.edge_list.first_absent.Given as goal
 

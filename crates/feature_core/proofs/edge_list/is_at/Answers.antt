@@ -1,6 +1,6 @@
 use Rattle.std.proofs.Common.{arith}
 use Rattle.std.proofs.lemmas.Option.{slice_get_past}
-use Rattle.feature_core.specs.Values.{edge_facts}
+use Rattle.feature_links.specs.Values.{edge_facts}
 use Rattle.feature_core.proofs.PoolLemmas.{at_place, no_place}
 use Rattle.feature_core.proofs.SameLists.{read}
 use Rattle.feature_core.proofs.edge_list.is_at.Goals as goal

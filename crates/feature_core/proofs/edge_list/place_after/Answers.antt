@@ -1,7 +1,7 @@
 use Rattle.std.proofs.Common.{rules, ◌≡◌, map, length, Some, sym, subst}
 use Rattle.std.specs.Prelude.{slice_get}
 use Rattle.feature_core.specs.inner.Pools.{IsParted, Keeps}
-use Rattle.feature_core.specs.Values.{edge_facts}
+use Rattle.feature_links.specs.Values.{edge_facts}
 use Rattle.feature_core.proofs.PoolLemmas.{keeps_more, parted_more, last_place}
 use Rattle.feature_core.proofs.edge_list.place_after.Goals as goal
 

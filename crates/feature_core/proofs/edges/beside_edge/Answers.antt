@@ -1,10 +1,10 @@
 use Rattle.std.proofs.Common.{◌∙◌, sym, refl, []}
 use Rattle.feature_core.specs.Candidates.{slash_optional}
-use Rattle.feature_core.specs.Edges.{strong_edge}
+use Rattle.feature_links.specs.Facts.{strong_edge}
 use Rattle.feature_core.proofs.PairLemmas.{names_differ}
 use Rattle.feature_core.proofs.KeySays.{SaysBeside}
 use Rattle.feature_core.proofs.KeyEdges.{told_beside, value_over}
-use Rattle.feature_core.specs.Values.{link_facts}
+use Rattle.feature_links.specs.Values.{link_facts}
 use Rattle.feature_core.proofs.edges.beside_edge.Goals as goal
 
 pub link_to-requires-clause-named : goal.link_to-requires-clause-named

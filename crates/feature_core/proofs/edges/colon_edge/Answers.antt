@@ -1,10 +1,11 @@
 use Rattle.std.proofs.Common.{◌∙◌, sym, inl, refl, []}
 use Rattle.feature_core.specs.Candidates.{dep_colon}
-use Rattle.feature_core.specs.Edges as edges
+use Rattle.feature_links.specs.Facts as edges
 use Rattle.feature_core.proofs.PairLemmas.{names_differ}
 use Rattle.feature_core.proofs.KeySays.{SaysColon}
 use Rattle.feature_core.proofs.KeyEdges.{told_colon, value_over}
-use Rattle.feature_core.specs.Values.{link_facts}
+use Rattle.feature_links.specs.Values.{link_facts}
+use Rattle.feature_links.specs.Facts.{colon_edge}
 use Rattle.feature_core.proofs.edges.colon_edge.Goals as goal
 
 pub link_to-requires-clause-named : goal.link_to-requires-clause-named

@@ -1,11 +1,11 @@
 use Rattle.std.proofs.Common.{◌∙◌, sym, refl, []}
 use Rattle.feature_core.specs.Candidates.{slash_full}
-use Rattle.feature_core.specs.Edges.{strong_edge}
+use Rattle.feature_links.specs.Facts.{strong_edge}
 use Rattle.feature_core.proofs.PairLemmas.{names_differ}
 use Rattle.feature_core.proofs.KeySays.{SaysOver}
 use Rattle.feature_core.proofs.KeyEdges.{told_full, value_over}
 use Rattle.feature_core.proofs.MaterialLemmas.{link_within}
-use Rattle.feature_core.specs.Values.{link_facts}
+use Rattle.feature_links.specs.Values.{link_facts}
 use Rattle.feature_core.proofs.edges.full_edge.Goals as goal
 
 pub link_of-requires : goal.link_of-requires

@@ -1,14 +1,14 @@
-use Rattle.std.proofs.Common.{◌≡◌, ◌∙◌, ap, sym, refl, []}
+use Rattle.std.proofs.Common.{◌≡◌, ◌∙◌, ◌∷◌, ap, sym, refl, subst, []}
 use Rattle.feature_core.specs.Candidates.{section, requesting}
-use Rattle.feature_core.specs.Links.{over_places}
-use Rattle.feature_core.specs.Edges as edges
+use Rattle.feature_links.specs.Links.{ArePassing, over}
+use Rattle.feature_links.specs.Facts as edges
 use Rattle.feature_core.proofs.PairLemmas.{names_differ}
 use Rattle.feature_core.proofs.KeySays.{SaysSection}
 use Rattle.feature_core.proofs.KeyEdges.{told_section, value_over}
 use Rattle.feature_core.proofs.MaterialLemmas.{link_within}
-use Rattle.feature_core.proofs.SectionLemmas.{passing_over}
 use Rattle.feature_core.proofs.SectionPlaces.{run_requests, places_passing, half_is, start_within}
-use Rattle.feature_core.specs.Values.{link_facts}
+use Rattle.feature_links.specs.Values.{link_facts}
+use Rattle.feature_links.specs.Facts.{section_edge}
 use Rattle.feature_core.proofs.edges.section_edge.Goals as goal
 
 pub half_from-which-requires-clause-node : goal.half_from-which-requires-clause-node
@@ -33,6 +33,7 @@ returns c weak =
     let passing = places_passing t c.facts.ensures x o.link s p.0 (run_requests t c.facts.ensures c.args.material.keys.now p.0 x c.requires.material.of_tables c.requires.material.whole c.requires.least c.requires.rank p.1) in
     let places : c.as_slice.result.now ≡ c.in_ok-places.places.items = c.as_slice.ensures in
     let which = half_is t x o.link s c.half_from-which.result c.half_from-which.ensures.required c.half_from-which.ensures.optional in
-    let made = c.in_ok-link.ensures s.link s.is_link ∙ ap (λ z. over_places z x.source s.link c.as_slice.result.now) which ∙ ap (λ z. over_places s.which x.source s.link z) (places ∙ p.2) in
-    let link : link_facts c.in_ok-link.link ≡ o.link = made ∙ passing_over (requesting s.asked s.which) s.which x.source s.link _ passing ∙ sym s.is in
+    let there : ArePassing (requesting s.asked s.which) s.link.declarations c.as_slice.result.now = subst (ArePassing (requesting s.asked s.which) s.link.declarations) (sym (places ∙ p.2)) passing in
+    let made = c.in_ok-link.ensures s.link (requesting s.asked s.which) s.is_link there in
+    let link : link_facts c.in_ok-link.link ≡ o.link = made ∙ ap (λ z. over z (requesting s.asked s.which) ((x.source, s.link) ∷ [])) which ∙ sym s.is in
     value_over t weak x section edges.section_edge (SaysSection t x) (λ l. refl) o (link_facts c.in_ok-link.link) link

@@ -3,12 +3,13 @@ use Rattle.std.specs.Option.{option_map_or}
 use Rattle.indexmap.specs.IndexMap.{keys}
 use Rattle.feature_core.specs.Candidates.{slash_weak}
 use Rattle.feature_core.specs.Edges.{weak_facts}
-use Rattle.feature_core.specs.Edges as edges
+use Rattle.feature_links.specs.Facts as edges
 use Rattle.feature_core.proofs.PairLemmas.{names_differ}
 use Rattle.feature_core.proofs.KeyEdges.{told_weak}
 use Rattle.feature_core.proofs.WeakLemmas.{place_stays}
 use Rattle.feature_core.proofs.MaterialLemmas.{link_within, same_weak}
-use Rattle.feature_core.specs.Values.{link_facts, weak_facts_of}
+use Rattle.feature_links.specs.Values.{link_facts, weak_facts_of}
+use Rattle.feature_links.specs.Facts.{weak_edge}
 use Rattle.feature_core.proofs.edges.weak_edge.Goals as goal
 
 pub link_of-requires : goal.link_of-requires

@@ -1,5 +1,5 @@
 use Rattle.std.proofs.Common.{arith}
-use Rattle.feature_core.specs.Values.{edge_facts}
+use Rattle.feature_links.specs.Values.{edge_facts}
 use Rattle.feature_core.proofs.SameLists.{yes, no, is_so, is_not, same_next, plain_all, plain_apart}
 use Rattle.feature_core.proofs.equality.same_edges.Goals as goal
 

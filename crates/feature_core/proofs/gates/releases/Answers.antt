@@ -1,5 +1,5 @@
 use Rattle.std.proofs.Common.{arith}
-use Rattle.feature_core.specs.Values.{edge_facts}
+use Rattle.feature_links.specs.Values.{edge_facts}
 use Rattle.feature_core.proofs.ListSteps.{split_more, split_all}
 use Rattle.feature_core.proofs.gates.releases.Goals as goal
 

@@ -1,9 +1,7 @@
-use Rattle.std.proofs.Common.{of_calls, rules}
+use Rattle.std.proofs.Common.{of_calls, rules, take}
 use Rattle.std.proofs.lemmas.Fn.{always_returns_same}
-use Rattle.feature_core.specs.inner.Keys.{is_pair_below, is_pair_up_to}
+use Rattle.feature_core.specs.inner.Keys.{is_pair_below, is_pair_up_to, IsNoLater}
 use Rattle.feature_core.proofs.KeyRuns.{parted_up_to, parted_below, pairs_take, run_between}
-use Rattle.feature_core.specs.inner.Keys.{IsNoLater}
-use Rattle.std.proofs.Common.{take}
 use Rattle.feature_core.proofs.key.run_of.Goals as goal
 
 pub returns : goal.returns

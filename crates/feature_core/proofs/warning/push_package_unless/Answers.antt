@@ -1,7 +1,7 @@
 use Rattle.std.proofs.Common.{◌≡◌, Some, subst}
 use Rattle.std.specs.Prelude.{slice_get}
 use Rattle.guppy_packages.specs.Metadata.{package_graph_of, package_table_of}
-use Rattle.feature_core.specs.Links.{IsPackage}
+use Rattle.feature_links.specs.Links.{IsPackage}
 use Rattle.feature_core.specs.Warnings.{warnings_in, of_package}
 use Rattle.feature_core.proofs.QuietLemmas.{nothing_told}
 use Rattle.feature_core.proofs.warning.push_package_unless.Goals as goal

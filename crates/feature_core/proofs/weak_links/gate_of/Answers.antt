@@ -3,7 +3,7 @@ use Rattle.std.specs.Prelude.{IsTrue}
 use Rattle.guppy_packages.specs.Metadata.{link_table_of}
 use Rattle.feature_labels.specs.Names.LabelName.{optional}
 use Rattle.feature_labels.specs.declared.link_declarations.LinkDeclarations.TheVariants.{Optional}
-use Rattle.feature_core.specs.Links.{has_declaration}
+use Rattle.feature_links.specs.Links.{has_declaration}
 use Rattle.feature_core.specs.Nodes.{NodeAt}
 use Rattle.feature_core.proofs.Places.{got_same}
 use Rattle.feature_core.proofs.WeakLemmas.{optional_node, not_none}

@@ -1,5 +1,5 @@
 use Rattle.std.proofs.Common.{refl, inl, inr}
-use Rattle.guppy_features.specs.Views.{graph_of}
+use Rattle.feature_sets.specs.Views.{graph_of}
 use Rattle.surface_calls.proofs.selections.standard_counted.OwnLists.{own-1}
 use Rattle.surface_calls.proofs.selections.standard_counted.Goals as goal
 

@@ -1,5 +1,5 @@
 use Rattle.std.proofs.Common.{rules, inl, inr}
-use Rattle.guppy_features.specs.Visits.{offered}
+use Rattle.feature_sets.specs.Visits.{offered}
 use Rattle.surface_calls.proofs.visits.counted.OwnLists.{own-1}
 use Rattle.surface_calls.proofs.visits.counted.Goals as goal
 

@@ -2,8 +2,8 @@ use Rattle.std.proofs.Common.{subst}
 use Rattle.std.specs.Prelude.{IsFalse, MatchOption, map}
 use Rattle.walk_engine.specs.Explanations.{nodes_of}
 use Rattle.walk_engine.specs.Walks.{is_in}
-use Rattle.guppy_features.specs.Explained.{ExplainsOne}
-use Rattle.guppy_features.specs.Told.{step_name}
+use Rattle.feature_sets.specs.Explained.{ExplainsOne}
+use Rattle.feature_sets.specs.Told.{step_name}
 use Rattle.uses.proofs.linter.examined.Goals as goal
 
 pub returns-in-None : goal.returns-in-None

@@ -5,7 +5,7 @@ use Rattle.feature_core.specs.Nodes.{nodes}
 use Rattle.feature_labels.specs.Names.{id_of}
 use Rattle.guppy_features.specs.Platforms.{platform_offers}
 use Rattle.guppy_features.specs.PlatformViews.{kinds_of, specs_of}
-use Rattle.guppy_features.specs.Values.{Graph, Set}
+use Rattle.feature_sets.specs.Values.{Graph, Set}
 use Rattle.uses.specs.Linted.{IsCleared, IsNamed, finding_name}
 use Rattle.uses.proofs.Linted.{AreCleared, cleared_more, named_grows, named_last, off}
 use Rattle.uses.proofs.linter.findings.Goals as goal

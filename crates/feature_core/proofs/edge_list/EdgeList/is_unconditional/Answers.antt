@@ -1,7 +1,7 @@
 use Rattle.std.proofs.Common.{rules, ◌≡◌, ◌∙◌, ap, length, vec_len, arith}
 use Rattle.std.specs.Prelude.{slice_get}
 use Rattle.std.specs.Option.{option_map}
-use Rattle.feature_core.specs.declared.edge.EdgeChoice.TheVariants.{FeatureToBaseAndNamed}
+use Rattle.feature_links.specs.declared.edge.EdgeChoice.TheVariants.{FeatureToBaseAndNamed}
 use Rattle.feature_core.specs.Choices.{is_chosen}
 use Rattle.feature_core.proofs.PoolLemmas.{number_within, chosen_there}
 use Rattle.feature_core.proofs.SameLists.{read}

@@ -1,6 +1,6 @@
 use Rattle.std.proofs.Common.{◌∙◌, ◌++◌, ◌∷◌, [], ap, sym, subst}
 use Rattle.feature_core.specs.inner.Pools.{AreWithin}
-use Rattle.feature_core.specs.Values.{edge_facts}
+use Rattle.feature_links.specs.Values.{edge_facts}
 use Rattle.feature_core.proofs.PoolLemmas.{still_within, more_within, more_facts}
 use Rattle.feature_core.proofs.edge_list.EdgeList.push.Goals as goal
 

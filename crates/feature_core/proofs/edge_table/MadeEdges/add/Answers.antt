@@ -3,7 +3,8 @@ use Rattle.std.specs.Prelude.{slice_get}
 use Rattle.std.proofs.lemmas.List.Elements.{Contains-get_or}
 use Rattle.std.proofs.lemmas.Option.{slice_get-get_or}
 use Rattle.feature_core.specs.inner.Parts.{key}
-use Rattle.feature_core.proofs.AlikeLemmas.{on_ok, next_made, noted_there}
+use Rattle.std.proofs.lemmas.Result.{on_ok_weaker}
+use Rattle.feature_core.proofs.AlikeLemmas.{next_made, noted_there}
 use Rattle.feature_core.proofs.edge_table.MadeEdges.add.Goals as goal
 
 pub note_gate-requires : goal.note_gate-requires
@@ -19,7 +20,7 @@ add_noted-requires-clause-noted c x h =
     noted_there kept c.args.ix y x _ (slice_get-get_or kept c.args.ix (key 0 0 0 0 0) c.requires.within) h c.in_ok-note_gate.ensures.noted
 
 pub returns-clause-made : goal.returns-clause-made
-returns-clause-made c = on_ok c.add_noted.result (λ told done h.
+returns-clause-made c = on_ok_weaker c.add_noted.result (λ told done h.
     let t = c.args.material.numbers.graph.now in
     let kept = c.args.kept.now in
     let y = get_or kept c.args.ix (key 0 0 0 0 0) in
@@ -33,7 +34,7 @@ returns-clause-made c = on_ok c.add_noted.result (λ told done h.
     (told y at) h) c.add_noted.ensures
 
 pub returns-clause-long : goal.returns-clause-long
-returns-clause-long c = on_ok c.add_noted.result (λ told.
+returns-clause-long c = on_ok_weaker c.add_noted.result (λ told.
     let kept = c.args.kept.now in
     let y = get_or kept c.args.ix (key 0 0 0 0 0) in
     let n = told y (slice_get-get_or kept c.args.ix (key 0 0 0 0 0) c.requires.within) in

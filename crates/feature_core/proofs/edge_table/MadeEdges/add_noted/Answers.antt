@@ -3,7 +3,8 @@ use Rattle.std.specs.Prelude.{slice_get}
 use Rattle.std.proofs.lemmas.Option.{slice_get-get_or}
 use Rattle.std.proofs.lemmas.List.Elements.{Contains-get_or}
 use Rattle.feature_core.specs.inner.Parts.{key}
-use Rattle.feature_core.proofs.AlikeLemmas.{on_ok, next_repeated, next_there}
+use Rattle.std.proofs.lemmas.Result.{on_ok_weaker}
+use Rattle.feature_core.proofs.AlikeLemmas.{next_repeated, next_there}
 use Rattle.feature_core.proofs.AddsLemmas.{element_at_place}
 use Rattle.feature_core.proofs.SourceLemmas.{is_least}
 use Rattle.feature_core.proofs.edge_table.MadeEdges.add_noted.Goals as goal
@@ -40,7 +41,7 @@ returns-in-Some c =
     let there = Contains-get_or kept c.args.ix (key 0 0 0 0 0) c.requires.within in
     let at : slice_get kept c.args.ix ≡ Some y = slice_get-get_or kept c.args.ix (key 0 0 0 0 0) c.requires.within in
     let near = c.in-Some.ensures in
-    on_ok c.repeat.result
+    on_ok_weaker c.repeat.result
     (λ r z h. next_there t kept c.args.ix y z c.args.self.now c.repeat.new.self at h
     (next_repeated t c.facts.ensures kept c.args.ix c.in-Some.earlier _ near.x y c.args.self.now c.repeat.new.self r.0
     (c.requires.material.of_tables near.x (c.requires.kept.from_keys near.x (element_at_place kept c.in-Some.earlier near.x near.at)))
@@ -54,7 +55,7 @@ returns-in-None c =
     let kept = c.args.kept.now in
     let y = get_or kept c.args.ix (key 0 0 0 0 0) in
     let at : slice_get kept c.args.ix ≡ Some y = slice_get-get_or kept c.args.ix (key 0 0 0 0 0) c.requires.within in
-    on_ok c.make.result
+    on_ok_weaker c.make.result
     (λ r z h. next_there t kept c.args.ix y z c.args.self.now c.make.new.self at h
     (record { says = r.0; appended = r.1; value = λ done weak v. r.2 weak }))
     c.make.ensures

@@ -1,6 +1,6 @@
 use Rattle.std.proofs.Common.{◌∙◌, ◌++◌, ◌∷◌, ◌-◌, [], ap, sym, refl}
 use Rattle.std.specs.Prelude.{slice_get}
-use Rattle.feature_core.specs.Values.{edge_facts}
+use Rattle.feature_links.specs.Values.{edge_facts}
 use Rattle.feature_core.proofs.edge_table.MadeEdges.repeat.Goals as goal
 
 pub returns : goal.returns

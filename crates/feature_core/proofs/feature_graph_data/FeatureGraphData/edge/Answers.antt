@@ -1,7 +1,7 @@
 use Rattle.std.proofs.Common.{◌≡◌, ◌∙◌, ap, sym, length, arith}
 use Rattle.std.specs.Prelude.{slice_get}
 use Rattle.feature_core.specs.Built.{built_edges}
-use Rattle.feature_core.specs.Values.{edge_facts}
+use Rattle.feature_links.specs.Values.{edge_facts}
 use Rattle.feature_core.proofs.BuildLemmas.{built_at, built_long}
 use Rattle.feature_core.proofs.feature_graph_data.FeatureGraphData.edge.Goals as goal
 

@@ -2,7 +2,7 @@ use Rattle.std.proofs.Common.{◌≡◌, sym, subst, arith, Some, refl}
 use Rattle.std.specs.Prelude.{slice_get}
 use Rattle.guppy_packages.specs.Metadata.{package_table_of, package_graph_of}
 use Rattle.feature_labels.specs.Names.LabelName.{base}
-use Rattle.feature_core.specs.Links.{IsPackage}
+use Rattle.feature_links.specs.Links.{IsPackage}
 use Rattle.feature_core.specs.Nodes.{NodeAt}
 use Rattle.feature_core.proofs.LabelLemmas.{package_there, base_place}
 use Rattle.feature_core.proofs.Places.{node_there}

@@ -1,7 +1,7 @@
 use Rattle.std.proofs.Common.{◌≡◌, ◌+◌, subst, arith, Some}
 use Rattle.std.specs.Prelude.{slice_get}
 use Rattle.guppy_packages.specs.Metadata.{package_table_of, package_graph_of}
-use Rattle.feature_core.specs.Links.{IsPackage}
+use Rattle.feature_links.specs.Links.{IsPackage}
 use Rattle.feature_core.proofs.LabelLemmas.{package_there, place_fits, feature_below}
 use Rattle.feature_core.proofs.numbers.Numbers.feature.Goals as goal
 

@@ -4,7 +4,7 @@ use Rattle.std.specs.String.{string_bytes}
 use Rattle.std.proofs.lemmas.List.{length-map}
 use Rattle.guppy_packages.specs.NamedFeature.{feature_table}
 use Rattle.guppy_packages.specs.Metadata.{package_table_of, package_graph_of}
-use Rattle.feature_core.specs.Links.{IsPackage}
+use Rattle.feature_links.specs.Links.{IsPackage}
 use Rattle.feature_core.specs.Nodes.{first_node, labels_of}
 use Rattle.feature_core.proofs.LabelLemmas.{package_there, labels_counted, labels_total}
 use Rattle.feature_core.proofs.numbers.Numbers.node_count.Goals as goal

@@ -1,6 +1,6 @@
 use Rattle.std.proofs.Common.{◌≡◌, ◌∙◌, ◌+◌, ap, arith}
 use Rattle.guppy_packages.specs.Metadata.{package_table_of, package_graph_of}
-use Rattle.feature_core.specs.Links.{IsPackage}
+use Rattle.feature_links.specs.Links.{IsPackage}
 use Rattle.feature_core.specs.Nodes.{first_node}
 use Rattle.feature_core.proofs.LabelLemmas.{package_there, first_within, first_is, number_fits}
 use Rattle.feature_core.proofs.numbers.Numbers.number.Goals as goal

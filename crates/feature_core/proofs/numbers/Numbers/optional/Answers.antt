@@ -3,7 +3,7 @@ use Rattle.std.specs.Prelude.{slice_get}
 use Rattle.std.proofs.lemmas.List.{length-map}
 use Rattle.guppy_packages.specs.NamedFeature.{feature_table}
 use Rattle.guppy_packages.specs.Metadata.{package_table_of, package_graph_of}
-use Rattle.feature_core.specs.Links.{IsPackage}
+use Rattle.feature_links.specs.Links.{IsPackage}
 use Rattle.feature_core.specs.Nodes.{first_node}
 use Rattle.feature_core.proofs.LabelLemmas.{package_there, optional_place_below, place_fits, optional_found, optional_missing}
 use Rattle.feature_core.proofs.numbers.Numbers.optional.Goals as goal

@@ -2,7 +2,7 @@ use Rattle.std.proofs.Common.{◌↔◌, IsTrue, sym, subst, Bor, List, ℕ}
 use Rattle.std.specs.Str.{bytes_eq}
 use Rattle.std.specs.Cmp.Lexicographic.{bytes_decides}
 use Rattle.feature_labels.specs.Names.{label_of}
-use Rattle.guppy_features.specs.Filters.{ListsLabel}
+use Rattle.guppy_features.specs.Accepted.{ListsLabel}
 use Rattle.guppy_features.specs.ListedFilters.{listed_names}
 use Rattle.guppy_features.proofs.ListedLemmas.{listed}
 use Rattle.guppy_features.proofs.listed_filters.NamedFeatureFilter.lists.Goals as goal

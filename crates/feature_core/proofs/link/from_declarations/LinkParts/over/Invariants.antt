@@ -1,7 +1,0 @@
-use Rattle.std.proofs.Common.{[], take}
-use Rattle.feature_core.specs.Links.{links_at}
-use Rattle.feature_core.specs.inner.Collected.{HasParts, wanted_parts}
-use Rattle.feature_core.proofs.link.from_declarations.LinkParts.over.Given as goal
-
-abbrev pub invariant-loop-link_ix : goal.invariant-loop-link_ix
-invariant-loop-link_ix l = HasParts l.initial.self [] → HasParts l.self (wanted_parts l.which l.places (links_at l.graph (take l.link_ix-index l.links)))

@@ -1,0 +1,7 @@
+pub mod ElementLemmas
+pub mod LinkLemmas
+pub mod GroupedLinks
+pub mod NamedEntryLemmas
+pub mod RowLemmas
+pub mod StatusLemmas
+pub mod SectionLemmas

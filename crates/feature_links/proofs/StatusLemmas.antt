@@ -1,0 +1,90 @@
+-- What is collected of platforms, one by one.
+use Rattle.std.proofs.Common.{◌≡◌, ℕ, List, [], ◌∷◌, ◌++◌, ◌+◌, ◌<◌, length, get_or, Bool, true, false, cond, ◌||◌, not, Option, None, Some, map, take, refl, ap, sym, ◌∙◌, if◌then◌else◌, append_assoc, is_some, subst}
+use Rattle.std.specs.Prelude.{filter_map, filter}
+use Rattle.std.specs.Borrow.{Bor}
+use Rattle.std.specs.List.{list_any}
+use Rattle.std.specs.Option.{option_map}
+use Rattle.std.specs.Str.{bytes_eq}
+use Rattle.std.specs.Cmp.Lexicographic.{bytes_decides}
+use Rattle.std.proofs.lemmas.List.{map-append, append-nil, map_more}
+use Rattle.std.proofs.lemmas.List.Folds.{list_any-append}
+use Rattle.std.proofs.lemmas.List.Elements.{filter_map-append, filter-append}
+use Rattle.indexmap.specs.IndexSet.{insert_key}
+use Rattle.guppy_packages.specs.Graph.{firsts}
+use Rattle.guppy_packages.specs.Platform.{spec_text}
+use Rattle.guppy_packages.specs.Rows.{Text, Declared}
+use Rattle.guppy_packages.specs.declared.row.DependencyKind.{DependencyKind}
+use Rattle.guppy_packages.specs.declared.platform.Spec.{Spec}
+use Rattle.guppy_packages.proofs.Firsts.{firsts-push}
+use Rattle.guppy_packages.proofs.Lists.{list_any-map}
+use Rattle.feature_links.specs.declared.link.statuses.StatusCollector.{StatusCollector}
+use Rattle.feature_links.specs.Links.{is_kind, platforms_of}
+use Rattle.feature_links.specs.inner.Collected.{HasPlatforms, texts_in}
+
+text_along : (a b c : Text) → bytes_eq a b ≡ true → bytes_eq b c ≡ true → bytes_eq a c ≡ true
+text_along a b c h k = (bytes_decides a c).1 ((bytes_decides a b).0 h ∙ (bytes_decides b c).0 k)
+
+-- one more text is put into a set of texts
+pub inserted_text : (keys : List (Bor (List ℕ))) (k : Bor (List ℕ)) (xs : List Text) → map (λ t. t.now) keys ≡ firsts bytes_eq xs
+    → map (λ t. t.now) (insert_key (λ (a b : Bor (List ℕ)). bytes_eq a.now b.now) keys k) ≡ firsts bytes_eq (xs ++ k.now ∷ [])
+inserted_text keys k xs h = go (list_any (λ (b : Bor (List ℕ)). bytes_eq k.now b.now) keys) refl ∙ sym (firsts-push bytes_eq text_along xs k.now)
+  where
+    known : list_any (bytes_eq k.now) (firsts bytes_eq xs) ≡ list_any (λ (b : Bor (List ℕ)). bytes_eq k.now b.now) keys
+    known = ap (list_any (bytes_eq k.now)) (sym h) ∙ list_any-map (λ (t : Bor (List ℕ)). t.now) (bytes_eq k.now) keys
+
+    go : (b : Bool) → list_any (λ (b : Bor (List ℕ)). bytes_eq k.now b.now) keys ≡ b
+        → map (λ t. t.now) (if b then keys else keys ++ k ∷ []) ≡ (if list_any (bytes_eq k.now) (firsts bytes_eq xs) then firsts bytes_eq xs else firsts bytes_eq xs ++ k.now ∷ [])
+    go true e = rw (known, e) h
+    go false e = rw (known, e) (map-append (λ (t : Bor (List ℕ)). t.now) keys (k ∷ []) ∙ ap (λ z. z ++ k.now ∷ []) h)
+
+-- the texts of one more spec are put into a set
+pub inserted_spec : (keys new : List (Bor (List ℕ))) (k : Bor (List ℕ)) (before : List Text) (specs : List Spec) (i : ℕ) (s : Spec) → map (λ t. t.now) keys ≡ firsts bytes_eq (before ++ map spec_text (take i specs))
+    → new ≡ insert_key (λ (a b : Bor (List ℕ)). bytes_eq a.now b.now) keys k → k.now ≡ spec_text s → i < length specs → s ≡ get_or specs i s
+    → map (λ t. t.now) new ≡ firsts bytes_eq (before ++ map spec_text (take (i + 1) specs))
+inserted_spec keys new k before specs i s h e f l g =
+    ap (map (λ t. t.now)) e
+    ∙ inserted_text keys k (before ++ map spec_text (take i specs)) h
+    ∙ ap (firsts bytes_eq) (append_assoc before (map spec_text (take i specs)) (k.now ∷ []))
+    ∙ ap (λ z. firsts bytes_eq (before ++ (map spec_text (take i specs) ++ z ∷ []))) (f ∙ ap spec_text g)
+    ∙ ap (λ z. firsts bytes_eq (before ++ z)) (sym (map_more spec_text specs i s l))
+
+or_true : (b : Bool) → true ≡ b || true
+or_true true = refl
+or_true false = refl
+
+or_false : (b : Bool) → b ≡ b || false
+or_false true = refl
+or_false false = refl
+
+-- every platform was added
+pub always_added : (c : StatusCollector) (p : Option Text) (before : List (Option Text)) → None ≡ option_map (λ (spec : Text). spec ∷ []) p → HasPlatforms c before
+    → HasPlatforms (record { always = true; specs = c.specs }) (before ++ p ∷ [])
+always_added c None before e h = record {
+  always = or_true (list_any (λ p. not (is_some p)) before) ∙ sym (list_any-append (λ p. not (is_some p)) before (None ∷ []));
+  specs = h.specs ∙ ap (firsts bytes_eq) (sym (filter_map-append (λ p. p) before (None ∷ []) ∙ append-nil (filter_map (λ p. p) before)));
+}
+always_added c (Some t) before e h = cc
+
+-- one spec was added
+pub spec_added : (c d : StatusCollector) (texts : List Text) (p : Option Text) (before : List (Option Text)) → Some texts ≡ option_map (λ (spec : Text). spec ∷ []) p → d.always ≡ c.always
+    → ((xs : List Text) → texts_in c.specs ≡ firsts bytes_eq xs → texts_in d.specs ≡ firsts bytes_eq (xs ++ texts))
+    → HasPlatforms c before → HasPlatforms d (before ++ p ∷ [])
+spec_added c d texts None before e same more h = cc
+spec_added c d texts (Some t) before e same more h = record {
+  always = same ∙ h.always ∙ or_false (list_any (λ p. not (is_some p)) before) ∙ sym (list_any-append (λ p. not (is_some p)) before (Some t ∷ []));
+  specs = more (filter_map (λ p. p) before) h.specs ∙ ap (λ z. firsts bytes_eq (filter_map (λ p. p) before ++ z)) one ∙ ap (firsts bytes_eq) (sym (filter_map-append (λ p. p) before (Some t ∷ [])));
+}
+  where
+    one : texts ≡ t ∷ []
+    one = cc
+
+-- a declaration of another kind, and one of the kind
+pub kind_kept : (kind : DependencyKind) (d : Declared) (c : StatusCollector) (before : List Declared) → is_kind kind d.kind ≡ false → HasPlatforms c (platforms_of kind before) → HasPlatforms c (platforms_of kind (before ++ d ∷ []))
+kind_kept kind d c before e h =
+    let one : filter (λ x. is_kind kind x.kind) (d ∷ []) ≡ [] = ap (λ b. cond b (d ∷ []) []) e in
+    subst (HasPlatforms c) (ap (map (λ x. x.platform)) (sym (filter-append (λ x. is_kind kind x.kind) before (d ∷ []) ∙ ap (λ z. filter (λ x. is_kind kind x.kind) before ++ z) one ∙ append-nil (filter (λ x. is_kind kind x.kind) before)))) h
+
+pub kind_grown : (kind : DependencyKind) (d : Declared) (c : StatusCollector) (before : List Declared) → is_kind kind d.kind ≡ true → HasPlatforms c (platforms_of kind before ++ d.platform ∷ []) → HasPlatforms c (platforms_of kind (before ++ d ∷ []))
+kind_grown kind d c before e h =
+    let one : filter (λ x. is_kind kind x.kind) (d ∷ []) ≡ d ∷ [] = ap (λ b. cond b (d ∷ []) []) e in
+    subst (HasPlatforms c) (sym (ap (map (λ x. x.platform)) (filter-append (λ x. is_kind kind x.kind) before (d ∷ []) ∙ ap (λ z. filter (λ x. is_kind kind x.kind) before ++ z) one) ∙ map-append (λ x. x.platform) (filter (λ x. is_kind kind x.kind) before) (d ∷ []))) h

@@ -1,0 +1,29 @@
+use Rattle.std.proofs.Common.{◌∙◌, ◌<◌, ◌≤◌, ◌++◌, ◌∷◌, [], ap, subst, length, take, arith}
+use Rattle.std.proofs.lemmas.List.{take_all}
+use Rattle.guppy_packages.specs.Metadata.{link_table_of}
+use Rattle.feature_links.specs.inner.Collected.{HasParts, wanted, wanted_parts}
+use Rattle.feature_links.specs.Links.{links_at, over_parts}
+use Rattle.std.proofs.lemmas.Result.{IfOk-weaker}
+use Rattle.feature_links.proofs.LinkLemmas.{given_next}
+use Rattle.feature_links.proofs.link.from_declarations.LinkParts.over.Goals as goal
+
+pub loop-link_ix-preserved : goal.loop-link_ix-preserved
+loop-link_ix-preserved c none =
+    let t = c.args.graph.now in
+    let i = c.loop-link_ix.link_ix-index in
+    let link = link_table_of c.link.result in
+    let below : i < length c.args.links.now = omega arith in
+    let before = wanted_parts c.args.which c.args.places (links_at t (take i c.args.links.now)) in
+    subst (HasParts c.add.new.self) (given_next t (wanted c.args.which c.args.places) c.args.links.now i link below c.link.ensures.link)
+    (subst (λ k. HasParts c.add.new.self (before ++ (k, wanted c.args.which c.args.places link) ∷ [])) c.link.ensures.number (c.in_ok-add.ensures before (c.loop-link_ix.invariant none)))
+
+pub returns : goal.returns
+returns c =
+    let t = c.args.graph.now in
+    let i = c.loop-link_ix.link_ix-index in
+    let links = c.args.links.now in
+    let which = c.args.which in
+    let end : length links ≤ i = omega arith in
+    IfOk-weaker c.to_link.result _ _ (λ l holds none.
+    holds (wanted_parts which c.args.places (links_at t (take i links))) (c.loop-link_ix.invariant none)
+    ∙ ap (λ z. over_parts which (wanted_parts which c.args.places (links_at t z))) (take_all i links end)) c.to_link.ensures

@@ -1,0 +1,5 @@
+pub mod Links
+pub mod Facts
+pub mod Values
+pub mod NamedLinks
+pub mod inner

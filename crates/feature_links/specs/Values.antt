@@ -1,0 +1,66 @@
+-- Edges and their links, without where they lie in memory.
+use Rattle.std.specs.Prelude.{[], ◌∷◌, Bool, true, false, Option, None, Some}
+use Rattle.std.specs.Option.{option_map}
+use Rattle.guppy_packages.specs.Platform.{Status, always_status, never_status, impl_status}
+use Rattle.feature_links.specs.declared.link.held.HeldLink.{HeldLink}
+use Rattle.feature_links.specs.declared.link.held.HeldLink.TheVariants.{Plain, Full}
+use Rattle.feature_links.specs.declared.link.held.FullLink.{FullLink}
+use Rattle.feature_links.specs.declared.link.ConditionalLinkImpl.{ConditionalLinkImpl}
+use Rattle.feature_links.specs.declared.link.EnabledLink.{EnabledLink}
+use Rattle.feature_links.specs.declared.edge.WeakSlashImpl.{WeakSlashImpl}
+use Rattle.feature_links.specs.declared.edge.SlashForm.{SlashForm}
+use Rattle.feature_links.specs.declared.edge.SlashForm.TheVariants.{Strong, Weak}
+use Rattle.feature_links.specs.declared.edge.FeatureEdge.{FeatureEdge}
+use Rattle.feature_links.specs.declared.edge.FeatureEdge.TheVariants.{FeatureToBase, DependenciesSection, NamedFeature, NamedFeatureDepColon, NamedFeatureWithSlash}
+use Rattle.feature_links.specs.Links.{LinkFacts}
+use Rattle.feature_links.specs.Facts.{WeakFacts, EdgeFacts, base_edge, feature_edge, colon_edge, strong_edge, weak_edge, section_edge}
+
+-- always, or never
+abbrev pub plain_status : Bool → Status
+plain_status true = always_status
+plain_status false = never_status
+
+abbrev pub full_facts : FullLink → LinkFacts
+full_facts l = record {
+  declarations = l.declarations;
+  normal = impl_status l.normal;
+  build = impl_status l.build;
+  dev = impl_status l.dev;
+  package_links = l.package_link_ixs.items;
+}
+
+abbrev pub held_facts : HeldLink → LinkFacts
+held_facts (Plain which normal build dev link) = record {
+  declarations = which;
+  normal = plain_status normal;
+  build = plain_status build;
+  dev = plain_status dev;
+  package_links = link ∷ [];
+}
+held_facts (Full full) = full_facts full.value
+
+abbrev pub link_facts : ConditionalLinkImpl → LinkFacts
+link_facts l = held_facts l.held
+
+abbrev pub half_facts : EnabledLink → Option LinkFacts
+half_facts half = option_map link_facts half.link
+
+abbrev pub weak_facts_of : WeakSlashImpl → WeakFacts
+weak_facts_of weak = record { index = weak.index.0; required = half_facts weak.required; optional = half_facts weak.optional }
+
+-- the halves, where it is weak
+abbrev pub slash_facts : SlashForm → Option WeakFacts
+slash_facts Strong = None
+slash_facts (Weak weak) = Some (weak_facts_of weak.value)
+
+-- an edge over a link, which is strong where it has no halves
+abbrev pub slash_edge : LinkFacts → Option WeakFacts → EdgeFacts
+slash_edge link None = strong_edge link
+slash_edge link (Some weak) = weak_edge link weak
+
+abbrev pub edge_facts : FeatureEdge → EdgeFacts
+edge_facts FeatureToBase = base_edge
+edge_facts (DependenciesSection link) = section_edge (link_facts link)
+edge_facts NamedFeature = feature_edge
+edge_facts (NamedFeatureDepColon link) = colon_edge (link_facts link)
+edge_facts (NamedFeatureWithSlash link slash) = slash_edge (link_facts link) (slash_facts slash)

@@ -1,0 +1,12 @@
+//! Links over declarations of package links, and what an edge over one says.
+#![tactic(auto)]
+
+mod edge;
+mod link;
+mod link_groups;
+mod named_row;
+
+pub use edge::{EdgeChoice, FeatureEdge, SlashForm, WeakIndex, WeakSlashImpl};
+pub use link::from_declarations::{half_of, is_any_included, link_of, named_link, section_link};
+pub use link::{ConditionalLinkImpl, EnabledLink};
+pub use link_groups::{LinkGroups, named_links, numbers_of};

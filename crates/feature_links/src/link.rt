@@ -1,0 +1,142 @@
+//! What a conditional edge says of the package links that it stands for.
+ghost use Rattle.std.specs.Prelude.{◌≡◌, IfOk, option_copied};
+ghost use Rattle.std.specs.Option.{option_map};
+ghost use Rattle.guppy_packages.specs.Platform.{status_of};
+ghost use Rattle.feature_links.specs.Facts.{is_dev_link, is_present};
+ghost use Rattle.feature_links.specs.Values.{link_facts, half_facts};
+
+pub(crate) mod from_declarations;
+mod held;
+mod statuses;
+
+use crate::link::held::{HeldLink, status_where};
+use feature_labels::LinkDeclarations;
+use guppy_packages::PlatformStatus;
+use std::alloc::{AllocError, Global};
+use std::fmt;
+use std::slice::from_ref;
+
+/// The link of a conditional edge: which declarations it covers, on which platforms for each kind of dependency, and
+/// the package links that have one of them.
+#[derive(Drop)]
+pub struct ConditionalLinkImpl {
+    held: HeldLink,
+}
+
+impl ConditionalLinkImpl {
+    /// Which declarations it covers: all, or one half.
+    pub fn declarations(&self) -> LinkDeclarations
+        ensures { result ≡ (link_facts self.now).declarations }
+    {
+        match &self.held {
+            HeldLink::Plain { declarations, .. } => *declarations,
+            HeldLink::Full(full) => full.declarations,
+        }
+    }
+
+    /// Where the covered declarations for normal use apply.
+    pub fn normal(&self) -> PlatformStatus<'_>
+        ensures { status_of result ≡ (link_facts self.now).normal }
+    {
+        match &self.held {
+            HeldLink::Plain { normal, .. } => status_where(*normal),
+            HeldLink::Full(full) => PlatformStatus::new(&full.normal),
+        }
+    }
+
+    /// Where the covered declarations for build scripts apply.
+    pub fn build(&self) -> PlatformStatus<'_>
+        ensures { status_of result ≡ (link_facts self.now).build }
+    {
+        match &self.held {
+            HeldLink::Plain { build, .. } => status_where(*build),
+            HeldLink::Full(full) => PlatformStatus::new(&full.build),
+        }
+    }
+
+    /// Where the covered declarations for development apply.
+    pub fn dev(&self) -> PlatformStatus<'_>
+        ensures { status_of result ≡ (link_facts self.now).dev }
+    {
+        match &self.held {
+            HeldLink::Plain { dev, .. } => status_where(*dev),
+            HeldLink::Full(full) => PlatformStatus::new(&full.dev),
+        }
+    }
+
+    /// The numbers of the package links that have a covered declaration, ascending.
+    pub fn package_link_ixs(&self) -> &[usize]
+        ensures { result.now ≡ (link_facts self.now).package_links }
+    {
+        match &self.held {
+            HeldLink::Plain {
+                package_link_ix,
+                ..
+            } => from_ref(package_link_ix),
+            HeldLink::Full(full) => full.package_link_ixs.as_slice(),
+        }
+    }
+
+    /// Whether no covered declaration is for normal use or for builds.
+    pub fn is_dev_only(&self) -> bool
+        ensures { result ≡ is_dev_link (link_facts self.now) }
+    {
+        self.normal().is_never() && self.build().is_never()
+    }
+
+    /// Whether a covered declaration is for some kind on some platform.
+    pub fn is_present(&self) -> bool
+        ensures { result ≡ is_present (link_facts self.now) }
+    {
+        !(self.is_dev_only() && self.dev().is_never())
+    }
+
+    /// An equal link. It fails only where memory is refused.
+    pub fn try_clone(&self, alloc: Global) -> Result<ConditionalLinkImpl, AllocError>
+        ensures { IfOk result (λ link. link_facts link ≡ link_facts self.now) }
+    {
+        let held = self.held.try_clone(alloc)?;
+        Ok(ConditionalLinkImpl { held })
+    }
+}
+
+// Equal links print the same, however they are held.
+impl fmt::Debug for ConditionalLinkImpl {
+    fn fmt<W: fmt::Write>(&self, f: &mut fmt::Formatter<W>) -> fmt::Result {
+        f.debug_struct("ConditionalLinkImpl")
+            .field("declarations", &self.declarations())
+            .field("normal", &self.normal())
+            .field("build", &self.build())
+            .field("dev", &self.dev())
+            .field("package_link_ixs", &self.package_link_ixs())
+            .finish()
+    }
+}
+
+/// The link of one half of a weak edge, where the half has a declaration.
+#[derive(Debug, Drop)]
+pub struct EnabledLink {
+    link: Option<ConditionalLinkImpl>,
+}
+
+impl EnabledLink {
+    /// The link, or none where the half has no declaration.
+    pub fn get(&self) -> Option<&ConditionalLinkImpl>
+        ensures { option_map link_facts (option_copied result) ≡ half_facts self.now }
+    {
+        self.link.as_ref()
+    }
+
+    /// An equal half. It fails only where memory is refused.
+    pub fn try_clone(&self, alloc: Global) -> Result<EnabledLink, AllocError>
+        ensures { IfOk result (λ half. half_facts half ≡ half_facts self.now) }
+    {
+        match &self.link {
+            Some(link) => {
+                let link = link.try_clone(alloc)?;
+                Ok(EnabledLink { link: Some(link) })
+            }
+            None => Ok(EnabledLink { link: None }),
+        }
+    }
+}

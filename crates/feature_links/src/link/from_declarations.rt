@@ -1,0 +1,387 @@
+//! Links over declarations of package links.
+ghost use Rattle.std.specs.Prelude.{◌≡◌, ◌++◌, ◌∷◌, ◌<◌, [], ℕ, Bool, true, if◌then◌else◌, List, None, Some, IfOk, IfSome, OnOk, length, map, filter, is_some, slice_get};
+ghost use Rattle.std.specs.List.{list_any};
+ghost use Rattle.guppy_packages.specs.Metadata.{link_table_of};
+ghost use Rattle.guppy_packages.specs.Platform.{impl_status};
+ghost use Rattle.guppy_packages.specs.Rows.{Declared};
+ghost use Rattle.guppy_packages.specs.Stored.{declared};
+ghost use Rattle.guppy_packages.specs.Tables.{LinkTable};
+ghost use Rattle.feature_links.specs.Links.{by_name, half_of, IsLink, includes, links_at, at_places, joined, over, over_parts, platforms_of, ArePassing};
+ghost use Rattle.feature_links.specs.inner.Collected.{HasKinds, HasParts, wanted, wanted_parts};
+ghost use Rattle.feature_links.specs.NamedLinks.{AreNamedLinks};
+ghost use Rattle.feature_links.specs.Values.{link_facts, half_facts};
+
+use crate::link::held::{FullLink, HeldLink};
+use crate::link::statuses::KindCollectors;
+use crate::link::{ConditionalLinkImpl, EnabledLink};
+use crate::link_groups::{LinkGroups, numbers_of};
+use feature_labels::LinkDeclarations;
+use guppy_packages::{Declaration, DependencyKind, PackageGraph, PackageLink, PlatformStatusImpl};
+use smallvec::SmallVec;
+use std::alloc::{AllocError, Global};
+use std::slice::from_ref;
+
+/// A link so far: the statuses of its declarations, and the package links that have one of them.
+#[derive(Drop)]
+struct LinkParts<'g> {
+    statuses: KindCollectors<'g>,
+    links: SmallVec<usize, 2>,
+}
+
+/// Whether a declaration is covered.
+fn is_included(which: LinkDeclarations, declaration: &Declaration) -> bool
+    ensures { result ≡ includes which (declared declaration.now) }
+{
+    match which {
+        LinkDeclarations::Unsplit => true,
+        LinkDeclarations::Required => !declaration.optional(),
+        LinkDeclarations::Optional => declaration.optional(),
+    }
+}
+
+/// Whether a declaration is covered by some.
+pub fn is_any_included(which: LinkDeclarations, declarations: &[Declaration]) -> bool
+    ensures { result ≡ list_any (λ d. includes which (declared d)) declarations.now }
+{
+    for declaration in declarations {
+        if is_included(which, declaration) {
+            return true;
+        }
+    }
+    false
+}
+
+/// Adds a declaration if it is covered, and says whether it is.
+fn add_included<'g>(
+    statuses: &mut KindCollectors<'g>,
+    declaration: &'g Declaration,
+    which: LinkDeclarations,
+) -> Result<bool, AllocError>
+    ensures kinds { OnOk result ((before : List Declared) → HasKinds statuses.old before → HasKinds statuses.new (before ++ filter (λ d. includes which d) (map declared (declaration.now ∷ [])))) }
+    ensures added { IfOk result (λ added. added ≡ includes which (declared declaration.now)) }
+{
+    if is_included(which, declaration) {
+        statuses.add(declaration)?;
+        return Ok(true);
+    }
+    Ok(false)
+}
+
+/// Adds the declarations that are covered, and says whether there is one.
+fn add_all_included<'g>(
+    statuses: &mut KindCollectors<'g>,
+    declarations: &'g [Declaration],
+    which: LinkDeclarations,
+) -> Result<bool, AllocError>
+    ensures kinds { OnOk result ((before : List Declared) → HasKinds statuses.old before → HasKinds statuses.new (before ++ filter (λ d. includes which d) (map declared declarations.now))) }
+    ensures added { IfOk result (λ added. added ≡ list_any (λ d. true) (filter (λ d. includes which d) (map declared declarations.now))) }
+{
+    let mut any = false;
+    for declaration in declarations {
+        let added = add_included(statuses, declaration, which)?;
+        any |= added;
+    }
+    Ok(any)
+}
+
+/// Adds the declaration at a place, where there is one, and says whether there is.
+fn add_at<'g>(
+    statuses: &mut KindCollectors<'g>,
+    declarations: &'g [Declaration],
+    place: usize,
+) -> Result<bool, AllocError>
+    ensures kinds { OnOk result ((before : List Declared) → HasKinds statuses.old before → HasKinds statuses.new (before ++ at_places (map declared declarations.now) (place ∷ []))) }
+    ensures added { IfOk result (λ added. added ≡ is_some (slice_get (map declared declarations.now) place)) }
+{
+    if place < declarations.len() {
+        statuses.add(&declarations[place])?;
+        return Ok(true);
+    }
+    Ok(false)
+}
+
+/// Adds the declarations at places, in their order, and says whether there is one.
+fn add_all_at<'g>(
+    statuses: &mut KindCollectors<'g>,
+    declarations: &'g [Declaration],
+    places: &[usize],
+) -> Result<bool, AllocError>
+    ensures kinds { OnOk result ((before : List Declared) → HasKinds statuses.old before → HasKinds statuses.new (before ++ at_places (map declared declarations.now) places.now)) }
+    ensures added { IfOk result (λ added. added ≡ list_any (λ d. true) (at_places (map declared declarations.now) places.now)) }
+{
+    let mut any = false;
+    for place in places {
+        let added = add_at(statuses, declarations, *place)?;
+        any |= added;
+    }
+    Ok(any)
+}
+
+impl<'g> LinkParts<'g> {
+    /// No declaration yet.
+    fn new(alloc: Global) -> Self
+        ensures { HasParts result [] }
+    {
+        LinkParts {
+            statuses: KindCollectors::new(alloc),
+            links: SmallVec::new(alloc),
+        }
+    }
+
+    /// Notes a package link of which a declaration was added.
+    fn note(&mut self, link_ix: usize, added: bool) -> Result<(), AllocError>
+        ensures links { OnOk result (self.new.links.items ≡ (if added then self.old.links.items ++ link_ix ∷ [] else self.old.links.items)) }
+        ensures statuses { self.new.statuses ≡ self.old.statuses }
+    {
+        if added {
+            self.links.push(link_ix)?;
+        }
+        Ok(())
+    }
+
+    /// Adds the covered declarations of a package link.
+    fn add_link(&mut self, link: PackageLink<'g>, which: LinkDeclarations) -> Result<(), AllocError>
+        ensures { OnOk result ((before : List (ℕ × List Declared)) → HasParts self.old before → HasParts self.new (before ++ (link.entry.link_ix, filter (λ d. includes which d) (link_table_of link.entry).declarations) ∷ [])) }
+    {
+        let added = add_all_included(&mut self.statuses, link.declarations(), which)?;
+        self.note(link.link_ix(), added)
+    }
+
+    /// Adds the declarations of a package link at places.
+    fn add_places(&mut self, link: PackageLink<'g>, places: &[usize]) -> Result<(), AllocError>
+        ensures { OnOk result ((before : List (ℕ × List Declared)) → HasParts self.old before → HasParts self.new (before ++ (link.entry.link_ix, at_places (link_table_of link.entry).declarations places.now) ∷ [])) }
+    {
+        let added = add_all_at(&mut self.statuses, link.declarations(), places)?;
+        self.note(link.link_ix(), added)
+    }
+
+    /// The link, as one that covers these.
+    fn to_link(
+        &self,
+        alloc: Global,
+        which: LinkDeclarations,
+    ) -> Result<ConditionalLinkImpl, AllocError>
+        ensures { IfOk result (λ l. (parts : List (ℕ × List Declared)) → HasParts self.now parts → link_facts l ≡ over_parts which parts) }
+    {
+        let normal = self.statuses.normal.status(alloc)?;
+        let build = self.statuses.build.status(alloc)?;
+        let dev = self.statuses.dev.status(alloc)?;
+        let full = FullLink {
+            declarations: which,
+            normal,
+            build,
+            dev,
+            package_link_ixs: SmallVec::from_slice(alloc, self.links.as_slice())?,
+        };
+        let held = HeldLink::new(alloc, full)?;
+        Ok(ConditionalLinkImpl { held })
+    }
+
+    /// Adds the wanted declarations of a package link: those at the places where these are given, and else the covered ones.
+    fn add(
+        &mut self,
+        link: PackageLink<'g>,
+        which: LinkDeclarations,
+        places: Option<&[usize]>,
+    ) -> Result<(), AllocError>
+        ensures { OnOk result ((before : List (ℕ × List Declared)) → HasParts self.old before → HasParts self.new (before ++ (link.entry.link_ix, wanted which places.entry (link_table_of link.entry)) ∷ [])) }
+    {
+        match places {
+            Some(places) => self.add_places(link, places),
+            None => self.add_link(link, which),
+        }
+    }
+
+    /// The link over the wanted declarations of package links, where none is added yet.
+    fn over(
+        &mut self,
+        alloc: Global,
+        graph: &'g PackageGraph,
+        links: &[usize],
+        which: LinkDeclarations,
+        places: Option<&[usize]>,
+    ) -> Result<ConditionalLinkImpl, AllocError>
+        requires { (i k : ℕ) → slice_get links.now i ≡ Some k → k < length graph.now.links }
+        ensures { IfOk result (λ l. HasParts self.old [] → link_facts l ≡ over_parts which (wanted_parts which places.entry (links_at graph.now links.now))) }
+    {
+        for link_ix in links {
+            self.add(graph.link(*link_ix), which, places)?;
+        }
+        self.to_link(alloc, which)
+    }
+}
+
+/// The link over the wanted declarations of package links, all of which are collected.
+fn collected(
+    alloc: Global,
+    graph: &PackageGraph,
+    links: &[usize],
+    which: LinkDeclarations,
+    places: Option<&[usize]>,
+) -> Result<ConditionalLinkImpl, AllocError>
+    requires { (i k : ℕ) → slice_get links.now i ≡ Some k → k < length graph.now.links }
+    ensures { IfOk result (λ l. link_facts l ≡ over_parts which (wanted_parts which places.entry (links_at graph.now links.now))) }
+{
+    let mut parts = LinkParts::new(alloc);
+    parts.over(alloc, graph, links, which, places)
+}
+
+/// The status for a kind, of one declaration: its platform where it's of this kind, and else none.
+fn status_of_one(
+    alloc: Global,
+    declaration: &Declaration,
+    kind: DependencyKind,
+) -> Result<PlatformStatusImpl, AllocError>
+    ensures { IfOk result (λ status. impl_status status ≡ joined (platforms_of kind (declared declaration.now ∷ []))) }
+{
+    if declaration.kind() == kind {
+        let status = declaration.platform().try_clone(alloc)?;
+        return Ok(status);
+    }
+    Ok(PlatformStatusImpl::Specs(Vec::new(alloc)))
+}
+
+/// The link over one declaration of a package link that applies on all platforms.
+fn link_everywhere(
+    link_ix: usize,
+    which: LinkDeclarations,
+    kind: DependencyKind,
+) -> ConditionalLinkImpl
+    ensures { (d : Declared) → d.kind ≡ kind → d.platform ≡ None → link_facts result ≡ over_parts which ((link_ix, d ∷ []) ∷ []) }
+{
+    ConditionalLinkImpl {
+        held: HeldLink::Plain {
+            declarations: which,
+            normal: kind == DependencyKind::Normal,
+            build: kind == DependencyKind::Build,
+            dev: kind == DependencyKind::Development,
+            package_link_ix: link_ix,
+        },
+    }
+}
+
+/// The link over one declaration of a package link.
+fn link_over_one(
+    alloc: Global,
+    link_ix: usize,
+    which: LinkDeclarations,
+    declaration: &Declaration,
+) -> Result<ConditionalLinkImpl, AllocError>
+    ensures { IfOk result (λ l. link_facts l ≡ over_parts which ((link_ix, declared declaration.now ∷ []) ∷ [])) }
+{
+    if let PlatformStatusImpl::Always = declaration.platform() {
+        return Ok(link_everywhere(link_ix, which, declaration.kind()));
+    }
+    let normal = status_of_one(alloc, declaration, DependencyKind::Normal)?;
+    let build = status_of_one(alloc, declaration, DependencyKind::Build)?;
+    let dev = status_of_one(alloc, declaration, DependencyKind::Development)?;
+    let full = FullLink {
+        declarations: which,
+        normal,
+        build,
+        dev,
+        package_link_ixs: SmallVec::from_slice(alloc, from_ref(&link_ix))?,
+    };
+    let held = HeldLink::new(alloc, full)?;
+    Ok(ConditionalLinkImpl { held })
+}
+
+/// The one declaration of these, where there is no other and it's covered.
+fn only_included(which: LinkDeclarations, declarations: &[Declaration]) -> Option<&Declaration>
+    ensures { IfSome result (λ d. filter (λ d. includes which d) (map declared declarations.now) ≡ declared d.now ∷ []) }
+{
+    let [declaration] = declarations else {
+        return None;
+    };
+    if is_included(which, declaration) {
+        return Some(declaration);
+    }
+    None
+}
+
+/// The link over the covered declarations of package links. One declaration is not collected.
+fn links_over(
+    alloc: Global,
+    graph: &PackageGraph,
+    links: &[usize],
+    which: LinkDeclarations,
+) -> Result<ConditionalLinkImpl, AllocError>
+    requires { (i k : ℕ) → slice_get links.now i ≡ Some k → k < length graph.now.links }
+    ensures { IfOk result (λ l. link_facts l ≡ over which (λ d. includes which d) (links_at graph.now links.now)) }
+{
+    if let [link_ix] = links {
+        let declarations = graph.link(*link_ix).declarations();
+        if let Some(declaration) = only_included(which, declarations) {
+            return link_over_one(alloc, *link_ix, which, declaration);
+        }
+    }
+    collected(alloc, graph, links, which, None)
+}
+
+/// The link over the covered declarations of one package link.
+pub fn link_of(
+    alloc: Global,
+    graph: &PackageGraph,
+    link_ix: usize,
+    which: LinkDeclarations,
+) -> Result<ConditionalLinkImpl, AllocError>
+    requires { link_ix < length graph.now.links }
+    ensures { IfOk result (λ l. (link : LinkTable) → IsLink graph.now link_ix link → link_facts l ≡ over which (λ d. includes which d) ((link_ix, link) ∷ [])) }
+{
+    let links = [link_ix];
+    links_over(alloc, graph, &links, which)
+}
+
+/// One half of a weak edge over a package link.
+pub fn half_of(
+    alloc: Global,
+    graph: &PackageGraph,
+    link_ix: usize,
+    which: LinkDeclarations,
+) -> Result<EnabledLink, AllocError>
+    requires { link_ix < length graph.now.links }
+    ensures { IfOk result (λ half. half_facts half ≡ half_of graph.now which link_ix) }
+{
+    if !is_any_included(which, graph.link(link_ix).declarations()) {
+        return Ok(EnabledLink { link: None });
+    }
+    let link = link_of(alloc, graph, link_ix, which)?;
+    Ok(EnabledLink { link: Some(link) })
+}
+
+/// The link over the covered declarations of all links of a package under a name.
+pub fn named_link(
+    alloc: Global,
+    graph: &PackageGraph,
+    groups: &LinkGroups<'_>,
+    package_ix: usize,
+    name: &str,
+    which: LinkDeclarations,
+) -> Result<ConditionalLinkImpl, AllocError>
+    requires { AreNamedLinks graph.now groups.now }
+    ensures { IfOk result (λ l. link_facts l ≡ by_name graph.now package_ix which name.now) }
+{
+    let links = numbers_of(groups, package_ix, name);
+    links_over(alloc, graph, links, which)
+}
+
+/// The link over those declarations of one package link that pass a test, where these are their places. One declaration is not collected.
+pub fn section_link(
+    alloc: Global,
+    graph: &PackageGraph,
+    link_ix: usize,
+    which: LinkDeclarations,
+    places: &[usize],
+) -> Result<ConditionalLinkImpl, AllocError>
+    requires { link_ix < length graph.now.links }
+    ensures { IfOk result (λ l. (link : LinkTable) (passes : Declared → Bool) → IsLink graph.now link_ix link → ArePassing passes link.declarations places.now → link_facts l ≡ over which passes ((link_ix, link) ∷ [])) }
+{
+    let declarations = graph.link(link_ix).declarations();
+    if let [place] = places
+        && *place < declarations.len()
+    {
+        return link_over_one(alloc, link_ix, which, &declarations[*place]);
+    }
+    let links = [link_ix];
+    collected(alloc, graph, &links, which, Some(places))
+}

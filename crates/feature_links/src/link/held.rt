@@ -1,0 +1,131 @@
+//! What a link says, in little room.
+ghost use Rattle.std.specs.Prelude.{◌≡◌, IfOk, IfSome};
+ghost use Rattle.guppy_packages.specs.Platform.{impl_status, status_of};
+ghost use Rattle.feature_links.specs.Values.{full_facts, held_facts, plain_status};
+
+use feature_labels::LinkDeclarations;
+use guppy_packages::{PlatformStatus, PlatformStatusImpl};
+use smallvec::SmallVec;
+use std::alloc::{AllocError, Global};
+
+/// A link: which declarations it covers, its status for each kind, and its package links.
+#[derive(Drop)]
+pub(crate) enum HeldLink {
+    /// Over one package link, where each kind is on all platforms or on none: whether it's on all.
+    Plain {
+        declarations: LinkDeclarations,
+        normal: bool,
+        build: bool,
+        dev: bool,
+        package_link_ix: usize,
+    },
+    /// Any link.
+    Full(Box<FullLink>),
+}
+
+/// A link with its statuses and its package links.
+#[derive(Drop)]
+pub(crate) struct FullLink {
+    pub(crate) declarations: LinkDeclarations,
+    pub(crate) normal: PlatformStatusImpl,
+    pub(crate) build: PlatformStatusImpl,
+    pub(crate) dev: PlatformStatusImpl,
+    pub(crate) package_link_ixs: SmallVec<usize, 2>,
+}
+
+/// The status on all platforms, or on none.
+pub(crate) fn status_where(always: bool) -> PlatformStatus<'static>
+    ensures { status_of result ≡ plain_status always }
+{
+    if always {
+        PlatformStatus::Always
+    } else {
+        PlatformStatus::Never
+    }
+}
+
+/// Whether a status is on all platforms, where it's on all or on none.
+fn plain_of(status: &PlatformStatusImpl) -> Option<bool>
+    ensures { IfSome result (λ always. plain_status always ≡ impl_status status.now) }
+{
+    match PlatformStatus::new(status) {
+        PlatformStatus::Never => Some(false),
+        PlatformStatus::PlatformDependent(_) => None,
+        PlatformStatus::Always => Some(true),
+    }
+}
+
+impl FullLink {
+    /// The link in no allocation, where it's over one package link and each kind is on all platforms or on none.
+    fn plain(&self) -> Option<HeldLink>
+        ensures { IfSome result (λ held. held_facts held ≡ full_facts self.now) }
+    {
+        let [package_link_ix] = self.package_link_ixs.as_slice() else {
+            return None;
+        };
+        let normal = plain_of(&self.normal)?;
+        let build = plain_of(&self.build)?;
+        let dev = plain_of(&self.dev)?;
+        Some(HeldLink::Plain {
+            declarations: self.declarations,
+            normal,
+            build,
+            dev,
+            package_link_ix: *package_link_ix,
+        })
+    }
+
+    /// An equal link. It fails only where memory is refused.
+    fn try_clone(&self, alloc: Global) -> Result<FullLink, AllocError>
+        ensures { IfOk result (λ full. full_facts full ≡ full_facts self.now) }
+    {
+        let normal = self.normal.try_clone(alloc)?;
+        let build = self.build.try_clone(alloc)?;
+        let dev = self.dev.try_clone(alloc)?;
+        let package_link_ixs = SmallVec::from_slice(alloc, self.package_link_ixs.as_slice())?;
+        Ok(FullLink {
+            declarations: self.declarations,
+            normal,
+            build,
+            dev,
+            package_link_ixs,
+        })
+    }
+}
+
+impl HeldLink {
+    /// The link that says this.
+    pub(crate) fn new(alloc: Global, full: FullLink) -> Result<HeldLink, AllocError>
+        ensures { IfOk result (λ held. held_facts held ≡ full_facts full) }
+    {
+        match full.plain() {
+            Some(plain) => Ok(plain),
+            None => Ok(HeldLink::Full(Box::new(alloc, full)?)),
+        }
+    }
+
+    /// An equal link. It fails only where memory is refused.
+    pub(crate) fn try_clone(&self, alloc: Global) -> Result<HeldLink, AllocError>
+        ensures { IfOk result (λ held. held_facts held ≡ held_facts self.now) }
+    {
+        match self {
+            HeldLink::Plain {
+                declarations,
+                normal,
+                build,
+                dev,
+                package_link_ix,
+            } => Ok(HeldLink::Plain {
+                declarations: *declarations,
+                normal: *normal,
+                build: *build,
+                dev: *dev,
+                package_link_ix: *package_link_ix,
+            }),
+            HeldLink::Full(full) => {
+                let full = full.try_clone(alloc)?;
+                Ok(HeldLink::Full(Box::new(alloc, full)?))
+            }
+        }
+    }
+}

@@ -1,0 +1,12 @@
+use Rattle.std.proofs.Common.{◌∙◌, ap}
+use Rattle.feature_sets.specs.Views.{tables_of_graph}
+use Rattle.feature_sets.proofs.PartLemmas.{calls_made}
+use Rattle.feature_sets.proofs.set.FeatureSet.parted.Goals as goal
+
+pub returns-clause-called : goal.returns-clause-called
+returns-clause-called g c =
+    let graph = ap (λ s. s.graph) c.self.view_is in
+    calls_made (goal.F-step g) g.A.Answer.first g.A.Answer.second c.args.direction c.args.self.now (tables_of_graph c.self.inside.graph) c.nodes_in_order-numbers.result c.args.f.now c.call_each.new.f
+    c.call_each.new.one c.call_each.new.other c.new.result c.new-2.result
+    (ap (λ s. s.graph.tables) c.self.view_is) c.nodes_in_order-numbers.ensures.order c.call_each.ensures
+    (c.new.ensures.graph ∙ graph) c.new.ensures.members (c.new-2.ensures.graph ∙ graph) c.new-2.ensures.members

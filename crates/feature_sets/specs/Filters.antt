@@ -1,0 +1,66 @@
+-- Filters over features: what it is to ask one at several places, and what the standard ones accept.
+use Rattle.std.specs.Prelude.{◌≡◌, ◌↔◌, ◌⊎◌, ℕ, Bool, List, IsTrue, Contains, map, filter, length}
+use Rattle.std.specs.List.{FoldsTo}
+use Rattle.guppy_support.specs.Bits.{has}
+use Rattle.guppy_packages.specs.Rows.{Text}
+use Rattle.guppy_packages.specs.Tables.{Tables}
+use Rattle.feature_labels.specs.Names.{LabelName}
+use Rattle.feature_labels.specs.Names.LabelName.{base}
+use Rattle.feature_core.specs.Nodes.{node_packages}
+use Rattle.feature_core.specs.Built.{NodeNamed}
+use Rattle.feature_sets.specs.Names.{HoldsExactly, TellsDefault, names_of_members}
+use Rattle.feature_sets.specs.Values.{Graph}
+use Rattle.feature_sets.specs.declared.filter.FeatureFilterFn.{FeatureFilterFn}
+use Rattle.feature_sets.specs.declared.standard_features.StandardFeatures.{StandardFeatures}
+use Rattle.feature_sets.specs.declared.standard_features.StandardFeatures.TheVariants.{None, Default, All}
+
+-- questions with their answers
+abbrev pub Run : Type 0
+Run = List ((Text × LabelName) × Bool)
+
+-- the questions took the filter's state from s to t, each answer a step
+abbrev pub Ran : {S : Type 0} → (S → Graph → Text × LabelName → Bool → S → Type 0) → Graph → S → Run → S → Type 0
+Ran gives g s run t = FoldsTo (λ p x q. gives p g x.0 x.1 q) s run t
+
+-- it may be asked for each of these names, in every state that such questions lead to
+abbrev pub MayAskEach : {S : Type 0} → (S → Graph → Text × LabelName → Type 0) → (S → Graph → Text × LabelName → Bool → S → Type 0) → Graph → List (Text × LabelName) → S → Type 0
+MayAskEach {S} can gives g names s = (run : Run) (t : S) → Ran gives g s run t → (name : Text × LabelName) → Contains names name → can t g name
+
+-- the names whose answer is true
+abbrev pub accepted : Run → List (Text × LabelName)
+accepted run = map (λ x. x.0) (filter (λ x. x.1) run)
+
+-- for each node, whether its package is of the workspace
+abbrev pub workspace_marks : Tables → List Bool
+workspace_marks t = map (λ p. has (map (λ table. table.in_workspace) t.packages) p) (node_packages t)
+
+-- the names of the features of the workspace's packages, in the order of the nodes
+abbrev pub workspace_names : Tables → List (Text × LabelName)
+workspace_names t = names_of_members t (workspace_marks t)
+
+-- The filter was asked once for each feature of the workspace's packages, in the order of the nodes, and these nodes are
+-- those that it accepted.
+pub record SelectsByFilter {S : Type 0} (gives : S → Graph → Text × LabelName → Bool → S → Type 0) (g : Graph) (s t : S) (initials : List Bool) : Type 0 where
+  pub run : Run
+  pub steps : Ran gives g s run t
+  pub each : map (λ x. x.0) run ≡ workspace_names g.tables
+  pub exact : HoldsExactly g.tables initials (accepted run)
+
+-- The filter was asked for the feature of this node, and the nodes of its name are added where it accepted.
+pub record AsksNode {S : Type 0} (gives : S → Graph → Text × LabelName → Bool → S → Type 0) (g : Graph) (node : ℕ) (s t : S) (old new : List Bool) : Type 0 where
+  pub name : Text × LabelName
+  pub named : NodeNamed g.tables node name
+  pub answer : Bool
+  pub step : gives s g name answer t
+  pub size : length new ≡ length old
+  pub adds : (n : ℕ) → IsTrue (has new n) ↔ (IsTrue (has old n) ⊎ (IsTrue answer × NodeNamed g.tables n name))
+
+-- the closure that the filter calls
+abbrev pub closure_of : {F : Type 0} → FeatureFilterFn F → F
+closure_of f = f.0
+
+-- what is answered for the feature of this name
+abbrev pub StandardAccepts : StandardFeatures → Tables → Text × LabelName → Bool → Type 0
+StandardAccepts None t name answer = IsTrue answer ↔ (name.1 ≡ base)
+StandardAccepts Default t name answer = TellsDefault t name answer
+StandardAccepts All t name answer = IsTrue answer

@@ -1,0 +1,173 @@
+//! What a resolve explains: for each feature of the set why it is there.
+ghost use Rattle.std.specs.Prelude.{◌≡◌, ℕ, Bool, List, Some, IsFalse, IfOk, IfErr, MatchOption, ◌∷◌, [], length, map};
+ghost use Rattle.guppy_support.specs.Bits.{has};
+ghost use Rattle.feature_labels.specs.Names.{id_of};
+ghost use Rattle.feature_core.specs.Built.{NodeNamed};
+ghost use Rattle.feature_core.specs.Errors.{refusal_of};
+ghost use Rattle.feature_core.specs.Nodes.{nodes};
+ghost use Rattle.feature_core.specs.Offers.{content_of};
+ghost use Rattle.walk_engine.specs.Explanations.{IsExplanation, nodes_of};
+ghost use Rattle.walk_engine.specs.Walks.{is_in};
+ghost use Rattle.walk_engine.specs.declared.walks.Half.{Half};
+ghost use Rattle.feature_sets.specs.Explained.{AreTold, ExplainsOne, OffersAreTold};
+ghost use Rattle.feature_sets.specs.Names.{HasFeature, RefusesNames};
+ghost use Rattle.feature_sets.specs.Told.{offer_name, step_name};
+ghost use Rattle.feature_sets.specs.inner.Listings.{AreOffered, IsBacked};
+
+use crate::set::FeatureSet;
+use crate::telling::{told_offers, told_steps};
+use feature_core::graph_laws::{content_of_graph, offers_are_links};
+use feature_core::{Error, why};
+use feature_labels::{FeatureId, LinkDeclarations};
+use guppy_packages::DependencyDirection;
+use std::alloc::{AllocError, Global};
+use std::fmt;
+use std::marker::Model;
+use walk_engine::{Half, Step};
+
+/// Why a feature is in a set.
+#[derive(Clone, Copy, Debug, PartialEq, Eq)]
+pub enum Reason<'g> {
+    /// The query starts from it.
+    Initial,
+    /// An edge that isn't conditional ties it to an earlier feature: the feature that the edge leads from, and the one that it
+    /// leads to. Forward the former is the earlier one, and in reverse the latter.
+    Edge {
+        from: FeatureId<'g>,
+        to: FeatureId<'g>,
+    },
+    /// An accepted link ties it to an earlier feature; the link is told by its two features and by the declarations that it
+    /// covers. Forward, the optional half of a weak edge also rests on the optional dependency that it waits for, which stands
+    /// earlier too.
+    Link {
+        from: FeatureId<'g>,
+        to: FeatureId<'g>,
+        declarations: LinkDeclarations,
+    },
+}
+
+/// A resolved set with the reason of each of its features, and the links that were refused.
+#[derive(Drop)]
+pub struct Explained<'g> {
+    set: FeatureSet<'g>,
+    direction: DependencyDirection,
+    numbers: Vec<Step>,
+    steps: Vec<(FeatureId<'g>, Reason<'g>)>,
+    refused_numbers: Vec<(usize, Half)>,
+    refused: Vec<(FeatureId<'g>, FeatureId<'g>, LinkDeclarations)>,
+}
+
+impl<'g> Model for Explained<'g> {
+    ghost use Rattle.std.specs.Prelude.{map};
+    ghost use Rattle.feature_sets.specs.Told.{Explanation, offer_name, step_name};
+    ghost use Rattle.feature_sets.specs.Explained.{AreTold, OffersAreTold};
+    ghost use Rattle.feature_sets.specs.inner.Listings.{IsBacked};
+
+    ghost Value = { Explanation };
+
+    ghost view = { λ x. record { graph = x.set.graph; direction = x.direction; members = x.set.members; steps = x.numbers.items; refused = x.refused_numbers.items } };
+
+    ghost invariant = { λ x.
+        AreTold x.set.graph x.numbers.items (map step_name x.steps.items)
+        × OffersAreTold x.set.graph x.refused_numbers.items (map offer_name x.refused.items)
+        × IsBacked x.set.graph x.direction x.numbers.items };
+}
+
+impl<'g> Explained<'g> {
+    /// What is explained so, told by ids.
+    pub(crate) fn new(
+        alloc: Global,
+        set: FeatureSet<'g>,
+        direction: DependencyDirection,
+        numbers: Vec<Step>,
+        refused_numbers: Vec<(usize, Half)>,
+    ) -> Result<Explained<'g>, AllocError>
+        requires backed { IsBacked set.graph direction numbers.items }
+        requires offers { AreOffered set.graph refused_numbers.items }
+        ensures { IfOk result (λ x. x ≡ record { graph = set.entry.graph; direction = direction; members = set.entry.members; steps = numbers.items; refused = refused_numbers.items }) }
+    {
+        let graph = *set.graph();
+        content_of_graph(graph.graph);
+        offers_are_links(graph.graph);
+        let steps = told_steps(alloc, graph, &numbers)?;
+        let refused = told_offers(alloc, graph, &refused_numbers)?;
+        Ok(Explained {
+            set,
+            direction,
+            numbers,
+            steps,
+            refused_numbers,
+            refused,
+        })
+    }
+
+    /// The set that was resolved.
+    pub fn set(&self) -> &FeatureSet<'g>
+        ensures { result.now ≡ record { graph = self.now.graph; members = self.now.members } }
+    {
+        &self.set
+    }
+
+    /// Each feature of the set once, with its reason, in the order in which they were reached: what a reason rests on stands
+    /// earlier.
+    pub fn steps(&self) -> &[(FeatureId<'g>, Reason<'g>)]
+        ensures { AreTold self.now.graph self.now.steps (map step_name result.now) }
+    {
+        self.steps.as_slice()
+    }
+
+    /// The links that were refused, in the order of the run, each told by its two features and by the declarations that it
+    /// covers.
+    pub fn refused(&self) -> &[(FeatureId<'g>, FeatureId<'g>, LinkDeclarations)]
+        ensures { OffersAreTold self.now.graph self.now.refused (map offer_name result.now) }
+    {
+        self.refused.as_slice()
+    }
+
+    /// The set alone.
+    pub fn into_set(self) -> FeatureSet<'g>
+        ensures { result ≡ record { graph = self.entry.graph; members = self.entry.members } }
+    {
+        self.set
+    }
+
+    /// Why a feature is on: the steps on which it rests, in order and each once, gates included, its own step the last. They are
+    /// an explanation for the same graph, initial features and direction. None where the set lacks the feature; an error where
+    /// the graph lacks it, or where memory is refused.
+    pub fn why<'a>(
+        &self,
+        alloc: Global,
+        feature_id: FeatureId<'a>,
+    ) -> Result<Option<Vec<(FeatureId<'g>, Reason<'g>)>>, Error<'a>>
+        ensures known { IfOk result (λ _. HasFeature self.now.graph.tables (id_of feature_id.entry)) }
+        ensures told { IfOk result (λ found. (n : ℕ) (initials : List Bool) (A : ℕ → Half → Bool)
+            → NodeNamed self.now.graph.tables n (id_of feature_id.entry) → length initials ≡ length (nodes self.now.graph.tables)
+            → IsExplanation (content_of self.now.direction self.now.graph.built) (has initials) A self.now.steps
+            → MatchOption found (IsFalse (is_in (nodes_of self.now.steps) n))
+            (λ told. ExplainsOne self.now initials A n (map step_name told.items))) }
+        ensures refused { IfErr result (λ e. RefusesNames self.now.graph.tables (id_of feature_id.entry ∷ []) (refusal_of e)) }
+    {
+        let graph = *self.set.graph();
+        content_of_graph(graph.graph);
+        offers_are_links(graph.graph);
+        let Some(node) = graph.node(feature_id) else {
+            return Err(Error::UnknownFeatureId(feature_id));
+        };
+        let Some(kept) = why(alloc, graph.built, self.direction, &self.numbers, node)? else {
+            return Ok(None);
+        };
+        match told_steps(alloc, graph, &kept) {
+            Ok(told) => Ok(Some(told)),
+            Err(_) => Err(Error::Memory),
+        }
+    }
+}
+
+impl fmt::Debug for Explained<'_> {
+    fn fmt<W: fmt::Write>(&self, f: &mut fmt::Formatter<W>) -> fmt::Result {
+        f.debug_struct("Explained")
+            .field("steps", &self.steps)
+            .field("refused", &self.refused)
+            .finish()
+    }
+}

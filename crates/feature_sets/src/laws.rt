@@ -1,0 +1,58 @@
+//! Laws of what the calls of this crate speak of. Each function's contract is the law, and it does nothing; those of the
+//! crates below are handed on.
+ghost use Rattle.std.specs.Prelude.{◌↔◌, ℕ, Bool, List, IsTrue};
+ghost use Rattle.guppy_support.specs.Bits.{has};
+ghost use Rattle.walk_engine.specs.declared.walks.Half.{Half};
+ghost use Rattle.walk_checks.specs.Exact.{IsExact};
+ghost use Rattle.walk_engine.specs.Explanations.{IsExplainedWalk, IsExplanation};
+ghost use Rattle.walk_engine.specs.Laws.{AnswersBy, every};
+ghost use Rattle.walk_engine.specs.declared.walks.Step.{Step};
+ghost use Rattle.walk_engine.specs.Walks.{Call, Agrees, GoesAlong, IsWalk, Least};
+ghost use Rattle.feature_sets.specs.PartLaws.{FilterIsFirst, PartitionIsSplit};
+ghost use Rattle.feature_sets.specs.Values.{Query};
+ghost use Rattle.feature_sets.specs.Visits.{query_content, shown};
+
+use crate::visitor::FeatureLinkVisitor;
+pub use feature_core::laws::{
+    agrees_by_answer, common_cycle_symmetric, exact_is_least, explained_in_least, least_monotone,
+    links_are_present, one_candidate, one_result, order_respects_edges, reach_additive,
+    reach_both_ways, required_half_is_due, reverse_accept_all, run_is_exact, walk_is_exact,
+    warning_equality,
+};
+
+/// Where a visitor answers the links of a query as a test of offers says, whatever it was shown before, the test agrees with
+/// each run of its answers, and the members of a walk are exactly the least set for the test.
+pub fn visitor_agrees_by_answer<'g, V: FeatureLinkVisitor<'g>>()
+    ensures agrees { (q : Query) (A : ℕ → Half → Bool) (s t : V) (run : List Call) → AnswersBy (shown V.visit_gives q) A s
+        → GoesAlong (shown V.visit_gives q) s run t → Agrees A run }
+    ensures least { (q : Query) (A : ℕ → Half → Bool) (s t : V) (M : ℕ → Bool) → AnswersBy (shown V.visit_gives q) A s
+        → IsWalk (query_content q) (has q.initials) (shown V.visit_gives q) s t M
+        → (n : ℕ) → IsTrue (M n) ↔ Least (query_content q) (has q.initials) A n }
+{}
+
+/// What `resolve_explained` gives satisfies both checks: its steps are an explanation, by offers that the visitor accepted, and with
+/// the refused offers an exact one. Where the visitor answers as a test of offers says, they name offers of the test alone.
+pub fn resolved_is_exact<'g, V: FeatureLinkVisitor<'g>>()
+    ensures explained { (q : Query) (s t : V) (M : ℕ → Bool) (steps : List Step) (refused : List (ℕ × Half))
+        → IsExplainedWalk (query_content q) (has q.initials) (shown V.visit_gives q) s t M steps refused
+        → IsExplanation (query_content q) (has q.initials) every steps }
+    ensures exact { (q : Query) (s t : V) (M : ℕ → Bool) (steps : List Step) (refused : List (ℕ × Half))
+        → IsExplainedWalk (query_content q) (has q.initials) (shown V.visit_gives q) s t M steps refused
+        → IsExact (query_content q) (has q.initials) refused steps }
+    ensures by_answer { (q : Query) (A : ℕ → Half → Bool) (s t : V) (M : ℕ → Bool) (steps : List Step) (refused : List (ℕ × Half))
+        → AnswersBy (shown V.visit_gives q) A s
+        → IsExplainedWalk (query_content q) (has q.initials) (shown V.visit_gives q) s t M steps refused
+        → IsExplanation (query_content q) (has q.initials) A steps }
+{
+    run_is_exact();
+}
+
+/// Where a callback answered yes or no once for each feature of a set, the features with yes and those with no have none in
+/// common, and are the set together. The same answers make the same part, by `filter` and by `partition`.
+pub fn partition_is_split()
+    ensures split { PartitionIsSplit }
+    ensures first { FilterIsFirst }
+{
+    guppy_support::laws::order_lists_each();
+    order_views::laws::members_come_once();
+}

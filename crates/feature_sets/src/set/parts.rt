@@ -1,0 +1,179 @@
+//! Parts of a set, by the answers of a callback.
+ghost use Rattle.std.specs.Prelude.{◌≡◌, ◌<◌, [], IfOk, IfErr, length, not, replicate, false, All};
+ghost use Rattle.feature_core.specs.Nodes.{nodes};
+ghost use Rattle.feature_sets.specs.Parts.{Calls, IsPart, is_yes, says_first, says_second};
+ghost use Rattle.feature_sets.specs.Views.{tables_of_graph};
+ghost use Rattle.feature_sets.specs.inner.Sorting.{HasCalled, IsPut};
+
+use crate::graph::FeatureGraph;
+use crate::link::feature_at;
+use crate::metadata::FeatureMetadata;
+use crate::set::FeatureSet;
+use feature_core::Error;
+use guppy_packages::DependencyDirection;
+use guppy_support::IxBitSet;
+use order_views::InOrder;
+use std::alloc::Global;
+
+/// An answer of a callback: it says which of two parts a feature goes to.
+trait Answer {
+    ghost use Rattle.std.specs.Prelude.{Bool};
+
+    ghost first: { Self → Bool };
+
+    ghost second: { Self → Bool };
+
+    /// Whether the feature goes to the first part.
+    fn is_first(&self) -> bool
+        ensures { result ≡ first self.now };
+
+    /// Whether the feature goes to the second part.
+    fn is_second(&self) -> bool
+        ensures { result ≡ second self.now };
+}
+
+impl Answer for bool {
+    ghost first = { is_yes };
+
+    ghost second = { not };
+
+    fn is_first(&self) -> bool {
+        *self
+    }
+
+    fn is_second(&self) -> bool {
+        !*self
+    }
+}
+
+impl Answer for Option<bool> {
+    ghost first = { says_first };
+
+    ghost second = { says_second };
+
+    fn is_first(&self) -> bool {
+        match self {
+            Some(answer) => *answer,
+            None => false,
+        }
+    }
+
+    fn is_second(&self) -> bool {
+        match self {
+            Some(answer) => !*answer,
+            None => false,
+        }
+    }
+}
+
+/// Puts the node into the set, where it is to be.
+pub(crate) fn put(members: &mut IxBitSet, node: usize, say: bool)
+    requires { node < length members.old }
+    ensures { IsPut say node members.old members.new }
+{
+    if say {
+        members.insert(node);
+    }
+}
+
+/// Calls the callback for the feature of each of these nodes, and puts the nodes into the two sets by its answers.
+fn call_each<'g, A: Answer + Drop, F: FnMut(FeatureMetadata<'g>) -> A>(
+    graph: FeatureGraph<'g>,
+    mut numbers: InOrder<'_>,
+    f: &mut F,
+    one: &mut IxBitSet,
+    other: &mut IxBitSet,
+)
+    requires callable { F.IsAlwaysCallable f.old }
+    requires within { All (λ n. n < length (nodes (tables_of_graph graph))) numbers }
+    requires one { one.old ≡ replicate (length (nodes (tables_of_graph graph))) false }
+    requires other { other.old ≡ replicate (length (nodes (tables_of_graph graph))) false }
+    ensures { HasCalled F.step A.first A.second (tables_of_graph graph.entry) numbers.entry [] f.old f.new one.new other.new }
+{
+    while let Some(node) = numbers.next() {
+        let answer = f(feature_at(graph, node));
+        put(one, node, answer.is_first());
+        put(other, node, answer.is_second());
+    }
+}
+
+impl<'g> FeatureSet<'g> {
+    /// A set of no feature, over the graph of this one.
+    fn empty_part(&self, alloc: Global) -> Result<IxBitSet, Error<'static>>
+        ensures empty { IfOk result (λ part. part ≡ replicate (length (nodes self.now.graph.tables)) false) }
+        ensures refused { IfErr result (λ e. e ≡ Error.Memory) }
+    {
+        let part = IxBitSet::empty(alloc, self.members.size())?;
+        Ok(part)
+    }
+
+    /// The features of the first part and those of the second, by the callback's answers. It is called as by `filter`.
+    fn parted<A: Answer + Drop, F: FnMut(FeatureMetadata<'g>) -> A>(
+        &self,
+        alloc: Global,
+        direction: DependencyDirection,
+        f: &mut F,
+    ) -> Result<(FeatureSet<'g>, FeatureSet<'g>), Error<'g>>
+        requires { F.IsAlwaysCallable f.old }
+        ensures called { IfOk result (λ parts. Calls F.step direction self.now f.old f.new (λ calls. IsPart A.first calls self.now parts.0 × IsPart A.second calls self.now parts.1)) }
+        ensures refused { IfErr result (λ e. e ≡ Error.Memory) }
+        ensures untouched { IfErr result (λ _. f.new ≡ f.old) }
+    {
+        let mut one = self.empty_part(alloc)?;
+        let mut other = self.empty_part(alloc)?;
+        let numbers = self.nodes_in_order(direction);
+        call_each(self.graph, numbers, f, &mut one, &mut other);
+        Ok((
+            FeatureSet::new(self.graph, one),
+            FeatureSet::new(self.graph, other),
+        ))
+    }
+
+    /// The features for which the callback answers true. It is called once for each feature of the set, in the order of
+    /// `features`, after all memory was taken. The only error is want of memory, and the callback wasn't called then.
+    pub fn filter<F: FnMut(FeatureMetadata<'g>) -> bool>(
+        &self,
+        alloc: Global,
+        direction: DependencyDirection,
+        f: &mut F,
+    ) -> Result<FeatureSet<'g>, Error<'g>>
+        requires { F.IsAlwaysCallable f.old }
+        ensures called { IfOk result (λ set. Calls F.step direction self.now f.old f.new (λ calls. IsPart is_yes calls self.now set)) }
+        ensures refused { IfErr result (λ e. e ≡ Error.Memory) }
+        ensures untouched { IfErr result (λ _. f.new ≡ f.old) }
+    {
+        let (kept, _) = self.partition(alloc, direction, f)?;
+        Ok(kept)
+    }
+
+    /// The features for which the callback answers true, and those for which it answers false. It is called as by `filter`.
+    pub fn partition<F: FnMut(FeatureMetadata<'g>) -> bool>(
+        &self,
+        alloc: Global,
+        direction: DependencyDirection,
+        f: &mut F,
+    ) -> Result<(FeatureSet<'g>, FeatureSet<'g>), Error<'g>>
+        requires { F.IsAlwaysCallable f.old }
+        ensures called { IfOk result (λ parts. Calls F.step direction self.now f.old f.new (λ calls. IsPart is_yes calls self.now parts.0 × IsPart not calls self.now parts.1)) }
+        ensures refused { IfErr result (λ e. e ≡ Error.Memory) }
+        ensures untouched { IfErr result (λ _. f.new ≡ f.old) }
+    {
+        self.parted(alloc, direction, f)
+    }
+
+    /// The features for which the callback answers that they are of the first part, and those for which it answers that they
+    /// aren't; those for which it answers nothing are in neither. It is called as by `filter`.
+    pub fn filter_partition<F: FnMut(FeatureMetadata<'g>) -> Option<bool>>(
+        &self,
+        alloc: Global,
+        direction: DependencyDirection,
+        f: &mut F,
+    ) -> Result<(FeatureSet<'g>, FeatureSet<'g>), Error<'g>>
+        requires { F.IsAlwaysCallable f.old }
+        ensures called { IfOk result (λ parts. Calls F.step direction self.now f.old f.new (λ calls. IsPart says_first calls self.now parts.0 × IsPart says_second calls self.now parts.1)) }
+        ensures refused { IfErr result (λ e. e ≡ Error.Memory) }
+        ensures untouched { IfErr result (λ _. f.new ≡ f.old) }
+    {
+        self.parted(alloc, direction, f)
+    }
+}

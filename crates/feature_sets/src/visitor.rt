@@ -1,0 +1,79 @@
+//! Visitors: who says which links a query follows.
+ghost use Rattle.std.specs.Prelude.{◌≡◌, Bool};
+ghost use Rattle.feature_sets.specs.Boxed.{leaves};
+ghost use Rattle.feature_sets.specs.ByClosure.{closure_can, closure_gives};
+ghost use Rattle.feature_sets.specs.LinkValues.{Link};
+ghost use Rattle.feature_sets.specs.LinkViews.{link_of};
+ghost use Rattle.feature_sets.specs.Values.{Query};
+
+use crate::context::FeatureLinkContext;
+use crate::link::ConditionalLink;
+
+/// Who says which links a query follows.
+///
+/// A walk shows a visitor each link at most once. A weak edge of a dependency with required and optional declarations
+/// has two, one for each half, with the same ends: `declarations` tells them apart, and the edge is followed where one of
+/// the two is accepted.
+pub trait FeatureLinkVisitor<'g> {
+    /// It may be shown the link, in the context of the query.
+    ghost can_visit: { Self → Query → Link → Type 0 };
+
+    /// The answer that it may give to the link, in the context of the query, and the state after it.
+    ghost visit_gives: { Self → Query → Link → Bool → Self → Type 0 };
+
+    /// Whether the link is followed.
+    fn visit_link(&mut self, cx: &FeatureLinkContext<'g>, link: ConditionalLink<'g>) -> bool
+        requires { can_visit self.old cx.now (link_of link) }
+        ensures { visit_gives self.old cx.now (link_of link.entry) result self.new };
+}
+
+impl<'g, T: FeatureLinkVisitor<'g>> FeatureLinkVisitor<'g> for &mut T {
+    ghost can_visit = { λ s q l. T.can_visit s.now q l };
+
+    ghost visit_gives = { λ s q l answer t. T.visit_gives s.now q l answer t.now };
+
+    fn visit_link(&mut self, cx: &FeatureLinkContext<'g>, link: ConditionalLink<'g>) -> bool {
+        (**self).visit_link(cx, link)
+    }
+}
+
+/// A visitor that can be boxed. It owns what it holds.
+pub trait FeatureLinkObject: Drop {
+    /// It may be shown the link, in the context of the query.
+    ghost can_visit_any: { Self → Query → Link → Type 0 };
+
+    /// The answer that it may give to the link, in the context of the query, and the state after it.
+    ghost visit_any_gives: { Self → Query → Link → Bool → Self → Type 0 };
+
+    /// Whether the link is followed.
+    fn visit_any(&mut self, cx: &FeatureLinkContext<'_>, link: ConditionalLink<'_>) -> bool
+        requires { can_visit_any self.old cx.now (link_of link) }
+        ensures { visit_any_gives self.old cx.now (link_of link.entry) result self.new };
+}
+
+impl<'g> FeatureLinkVisitor<'g> for Box<dyn FeatureLinkObject> {
+    ghost can_visit = { λ s q l. (FeatureLinkObject-box s).can_visit_any s.value q l };
+
+    ghost visit_gives = { λ s q l answer t. leaves s t (λ y. (FeatureLinkObject-box s).visit_any_gives s.value q l answer y) };
+
+    fn visit_link(&mut self, cx: &FeatureLinkContext<'g>, link: ConditionalLink<'g>) -> bool {
+        (**self).visit_any(cx, link)
+    }
+}
+
+/// A visitor that calls a closure.
+#[derive(Drop)]
+pub(crate) struct LinkVisitorFn<'f, F> {
+    pub(crate) f: &'f mut F,
+}
+
+impl<'f, 'g, F: FnMut(&FeatureLinkContext<'g>, ConditionalLink<'g>) -> bool> FeatureLinkVisitor<'g>
+    for LinkVisitorFn<'f, F> {
+    ghost can_visit = { λ s q l. closure_can F.pre s.f.now q l };
+
+    ghost visit_gives = { λ s q l answer t. (t.f.ghost_name ≡ s.f.ghost_name) × closure_gives F.step s.f.now q l answer t.f.now };
+
+    fn visit_link(&mut self, cx: &FeatureLinkContext<'g>, link: ConditionalLink<'g>) -> bool {
+        (self.f)(cx, link)
+    }
+}

@@ -1,9 +1,0 @@
-use Rattle.std.proofs.Common.{map, take}
-use Rattle.guppy_packages.specs.declared.direction.DependencyDirection.TheVariants.{Forward}
-use Rattle.guppy_features.specs.Explained.{AreRefused}
-use Rattle.guppy_features.specs.Told.{offer_name}
-use Rattle.guppy_features.specs.Views.{graph_of}
-use Rattle.guppy_features.proofs.numbering.numbered_offers.Given as goal
-
-abbrev pub invariant-loop-from : goal.invariant-loop-from
-invariant-loop-from l = AreRefused (graph_of l.graph) Forward (take l.from-index (map offer_name l.fn.told)) l.offers.items

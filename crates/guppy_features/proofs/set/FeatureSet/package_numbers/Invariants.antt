@@ -1,5 +1,0 @@
-use Rattle.guppy_features.proofs.PackageSetLemmas.{MarkedBelow}
-use Rattle.guppy_features.proofs.set.FeatureSet.package_numbers.Given as goal
-
-abbrev pub invariant-packages : goal.invariant-packages
-invariant-packages l = MarkedBelow l.self.graph.tables l.self.members l.package_ix l.packages
