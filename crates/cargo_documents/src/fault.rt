@@ -110,6 +110,14 @@ pub enum DocumentFault {
     Control {
         text: String,
     },
+    /// The text `*` as a platform, which in a row file is every platform.
+    #[error("{place}target: \"*\" is no platform")]
+    EveryPlatform {
+        place: Place,
+    },
+    /// A document that says of no package what it uses.
+    #[error("resolve: null; the document was made with --no-deps")]
+    NoDeps,
     #[error("out of memory")]
     Memory,
 }
