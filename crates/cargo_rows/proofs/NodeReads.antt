@@ -1,4 +1,4 @@
--- The features that a node says are on, and the node of a package.
+-- The enabled features of a node, and the node of a package.
 use Rattle.std.proofs.Common.{◌≡◌, ◌∙◌, sym, ap, refl, List, [], Bor}
 use Rattle.std.specs.Prelude.{Option, Some, None, Ok, Err, codes, option_map, option_and_then}
 use Rattle.std.specs.Map.{lookup}

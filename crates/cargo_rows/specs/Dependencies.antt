@@ -27,8 +27,8 @@ abbrev pub called : Option Text → PackageText → Text
 called (Some rename) p = rename
 called None p = elim p.library as (λ _. Text) [ Some library ↦ library | None ↦ p.name ]
 
--- The new name that a used package has in the code of the package with this id. Where a package uses itself, the name of its
--- library stays, whatever the declaration says.
+-- The new name that a used package has in the code of the package with this id, if it has one. Cargo ignores the rename of a
+-- package that depends on itself.
 abbrev pub rename_of : Text → DeclarationText → DepText → Option Text
 rename_of id d dep = if bytes_eq dep.target.id id then None else d.rename
 

@@ -46,20 +46,20 @@ dep_in packages n i d =
     each (λ k. use_in (place.DepKind n i k)) 0 kinds >>= λ uses.
     Ok (record { extern_name = extern_name; target = target; uses = uses })
 
--- what a node says of its package: the features that are on, and the packages that it uses
+-- what Cargo resolved for a package: the enabled features, and the used packages
 pub record NodeText : Type 0 where
   pub features : List Text
   pub deps : List DepText
 
--- what is said of a package without a node
+-- the node that stands for a missing one
 abbrev pub no_node : NodeText
 no_node = record { features = []; deps = [] }
 
--- the features of a node that are on; none where it has no list of texts
+-- the enabled features of a node, or none if it has no list of texts
 unfoldable pub features_on : Json → List Text
 features_on d = unwrap_or (option_and_then all_texts (option_and_then as_array (get (codes "features") d))) []
 
--- the id of the node at place n, and what it says
+-- the node at place n, with its package's id
 unfoldable pub node_in : ById PackageText → ℕ → Json → Result (Text × NodeText) Refusal
 node_in packages n d =
     text_in (place.Node n) (codes "id") d >>= λ id.
@@ -68,7 +68,7 @@ node_in packages n d =
     each (dep_in packages n) 0 objects >>= λ deps.
     Ok (id, record { features = features_on d; deps = deps })
 
--- `resolve` is null where the document was made without dependencies
+-- `resolve` is null if the document was made with --no-deps
 abbrev pub with_deps : Json → Result ⊤ Refusal
 with_deps null = Err no_deps
 with_deps (boolean b) = Ok tt
@@ -77,7 +77,7 @@ with_deps (string s) = Ok tt
 with_deps (array ds) = Ok tt
 with_deps (object ms) = Ok tt
 
--- what the nodes of the document say, by their packages' ids
+-- the nodes of the document, by their packages' ids
 unfoldable pub nodes_in : ById PackageText → Json → Result (ById NodeText) Refusal
 nodes_in packages d =
     wanted place.Document (codes "resolve") (get (codes "resolve") d) >>= λ resolve.

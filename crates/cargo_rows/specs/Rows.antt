@@ -84,7 +84,7 @@ package_rows is_member deps p =
     dependency_rows es >>= λ dependencies.
     Ok ((first ++ features) ++ dependencies)
 
--- what is said of the package with this id; one without a node uses nothing
+-- the node of the package with this id
 abbrev pub node_of : Text → ById NodeText → NodeText
 node_of id nodes = unwrap_or (at_id id nodes) no_node
 

@@ -1,4 +1,4 @@
--- The declarations of the workspace's packages that lead to no package, where that is told.
+-- The declarations of workspace packages that lead to no package, but should.
 use Rattle.std.specs.Prelude.{◌&&◌, ◌||◌, List, [], map, filter, flat_map, take, drop, length, codes, Bool, true, false, not, is_some, Option, Some, None, Result, Ok, if◌then◌else◌}
 use Rattle.std.specs.List.{list_any}
 use Rattle.std.specs.Str.{bytes_eq}
@@ -16,7 +16,7 @@ use Rattle.cargo_rows.specs.Rows.{node_of}
 abbrev pub rest_after : Text → Text → Option Text
 rest_after front text = if bytes_eq (take (length front) text) front then Some (drop (length front) text) else None
 
--- whether a name ends there: before `/`, or before `?/`
+-- whether it begins with `/` or `?/`
 abbrev pub is_cut : Option Text → Bool
 is_cut None = false
 is_cut (Some rest) = is_some (rest_after (codes "/") rest) || is_some (rest_after (codes "?/") rest)
@@ -37,12 +37,12 @@ feature_names name f = list_any (names name) f.items
 abbrev pub is_named : Text → List FeatureText → Bool
 is_named name features = list_any (feature_names name) features
 
--- whether an item of one that is on does
+-- whether an item of an enabled one does
 abbrev pub is_turned_on : List Text → Text → List FeatureText → Bool
 is_turned_on on name features = list_any (λ f. feature_names name f && list_any (bytes_eq f.name) on) features
 
--- Whether a declaration should lead to a package. A required one should, and so should an optional one that a feature which is
--- on names, unless no package of its name has a library; of the other optional ones those that a feature names should.
+-- Whether a declaration should lead to a package. If it is required, or an enabled feature names it, it should if a package of its
+-- name has a library. Otherwise it should if any feature names it.
 unfoldable pub is_expected : List Text → PackageText → NodeText → DeclarationText → Bool
 is_expected libraries p node d =
     if not d.is_optional || is_turned_on node.features (name_of d) p.features
@@ -54,7 +54,7 @@ is_nothing nothing = true
 is_nothing (one p) = false
 is_nothing several = false
 
--- whether a declaration leads to no package, and should
+-- whether a declaration leads to no package, but should
 unfoldable pub is_lost : List Text → PackageText → NodeText → DeclarationText → Bool
 is_lost libraries p node d = is_nothing (choice p.id d node.deps) && is_expected libraries p node d
 

@@ -32,7 +32,7 @@ impl<'p, 'v> Dependency<'p, 'v> {
     }
 }
 
-/// The name by which a declaration's package calls the dependency.
+/// Returns the name by which a declaration's package calls the dependency.
 pub(crate) fn name_of<'v>(declaration: &Declaration<'v>) -> &'v str
     ensures { result.now ≡ spec.name_of (declaration_view declaration.now) }
 {
@@ -76,8 +76,8 @@ fn called<'v>(rename: Option<&'v str>, package: &Package<'v>) -> &'v str
     }
 }
 
-/// The new name that a used package has in the code of the package with the id `owner`. Where a package uses itself, the name
-/// of its library stays, whatever the declaration says.
+/// Returns the new name that `dep` has in the code of the package `owner`, if it has one. Cargo ignores the rename of a package that
+/// depends on itself.
 fn rename_of<'v>(owner: &str, declaration: &Declaration<'v>, dep: &Dep<'_, '_>) -> Option<&'v str>
     ensures { option_map text_view result ≡ spec.rename_of owner.now (declaration_view declaration.now) (dep_view dep.now) }
 {
@@ -88,7 +88,7 @@ fn rename_of<'v>(owner: &str, declaration: &Declaration<'v>, dep: &Dep<'_, '_>) 
     }
 }
 
-/// Whether the used package may be the one that the package with the id `owner` declares, by its names.
+/// Returns whether `dep` may be the package that `owner` declares, by its names.
 fn fits(owner: &str, declaration: &Declaration<'_>, dep: &Dep<'_, '_>) -> bool
     ensures { result ≡ spec.fits owner.now (declaration_view declaration.now) (dep_view dep.now) }
 {
@@ -241,7 +241,7 @@ fn pick<'p, 'v>(
     Ok(found)
 }
 
-/// What the declaration of the package with the id `owner` leads to: the package that is used for it. Where several are, the
+/// What the declaration of the package `owner` leads to: the package that is used for it. Where several are, the
 /// requirement decides; where none is, it decides for an optional dependency alone.
 pub(crate) fn choice<'p, 'v>(
     alloc: Global,

@@ -10,8 +10,8 @@ use byte_devices::{ByteInput, ByteOutput, Failed, read_all, write_all};
 use cargo_documents::Fault;
 use std::alloc::Global;
 
-/// Reads all there is, and writes the rows of it and nothing else. Returns the declarations of the workspace's packages that
-/// lead to no package.
+/// Reads all there is, and writes the rows of it and nothing else. Returns the declarations of workspace packages that lead
+/// to no package.
 ///
 /// Nothing is written before the whole answer is known. The first read or write that fails ends the run.
 pub fn run<R: ByteInput, W: ByteOutput>(

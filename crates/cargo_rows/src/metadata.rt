@@ -60,12 +60,12 @@ fn rows_of_packages<'p, 'v>(
     Ok(rows)
 }
 
-/// What a document gives.
+/// The rows and the warnings of a document.
 #[derive(Drop)]
 pub(crate) struct Rows {
     /// The text of its rows.
     pub(crate) text: String,
-    /// The declarations of its members that lead nowhere.
+    /// The declarations of workspace packages that lead to no package.
     pub(crate) warnings: Vec<Warning>,
 }
 

@@ -32,10 +32,10 @@ pub(crate) struct Dep<'p, 'v> {
     pub(crate) uses: Vec<Use<'v>>,
 }
 
-/// What a node says of its package.
+/// What Cargo resolved for one package.
 #[derive(Drop)]
 pub(crate) struct Node<'p, 'v> {
-    /// The features that are on.
+    /// The enabled features.
     pub(crate) features: Vec<&'v str>,
     /// The packages that it uses.
     pub(crate) deps: Vec<Dep<'p, 'v>>,
@@ -45,7 +45,7 @@ impl Node<'_, '_> {
     ghost use Rattle.cargo_rows.specs.Nodes.{no_node};
     ghost use Rattle.cargo_rows.specs.inner.Views.{node_view};
 
-    /// What is said of a package without a node: nothing.
+    /// Returns a node with no enabled feature and no used package, for a package that has no node.
     pub(crate) fn new(alloc: Global) -> Self
         ensures { node_view result ≡ no_node }
     {
@@ -155,7 +155,7 @@ fn deps_of<'p, 'v>(
     Ok(deps)
 }
 
-/// The features of a node that are on; none where it has no list of texts.
+/// Returns the enabled features of a node, or none if it has no list of texts. The only error is out of memory.
 #[tactic(auto, using(crate::proofs::NodeReads::features_read, crate::proofs::NodeReads::features_unread))]
 fn features_on<'v>(
     alloc: Global,
@@ -190,7 +190,7 @@ fn node_of<'p, 'v>(
     Ok((id, Node { features, deps }))
 }
 
-/// Refuses a document that was made without dependencies, of which `resolve` is null.
+/// Refuses a document that was made with `--no-deps`, in which `resolve` is null.
 fn check_deps(resolve: &Value<'_>) -> Result<(), DocumentFault>
     ensures { Gives (λ _. tt) result (spec.with_deps (value_view resolve.now)) }
 {
@@ -253,7 +253,7 @@ fn check_members(alloc: Global, packages: &Packages<'_>, ids: &[&str]) -> Result
     Ok(())
 }
 
-/// The node of the package with this id, or the absent one.
+/// Returns the node of the package `id`, or `absent` if it has none.
 pub(crate) fn node_at<'a, 'p, 'v>(
     nodes: &'a Nodes<'p, 'v>,
     absent: &'a Node<'p, 'v>,

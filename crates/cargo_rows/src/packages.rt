@@ -85,7 +85,7 @@ pub(crate) fn kind_in(object: &Value<'_>, place: Place) -> Result<Kind, Document
     }
 }
 
-/// The platform that a text names, in the object of this place. The text `*` is refused, since in a row it is every platform.
+/// Returns the platform `text`. The text `*` is refused, because a row uses it for every platform.
 fn platform_named<'v>(text: &'v str, place: Place) -> Result<Option<&'v str>, DocumentFault>
     ensures { Gives (λ o. option_map text_view o) result (spec.platform_of place (Some text.now)) }
 {
@@ -96,7 +96,7 @@ fn platform_named<'v>(text: &'v str, place: Place) -> Result<Option<&'v str>, Do
     }
 }
 
-/// The field `target` of a declaration or of a way in which a dependency is used; None for every platform.
+/// Reads the field `target` of a declaration or of a use. None means every platform.
 pub(crate) fn platform_in<'v>(
     object: &Value<'v>,
     place: Place,

@@ -1,4 +1,4 @@
-//! The declarations of the workspace's packages that lead to no package.
+//! Warnings: declarations of workspace packages that lead to no package.
 ghost use Rattle.std.specs.Prelude.{◌≡◌, ◌++◌, List, IfOk, OnOk, map, option_map};
 ghost use Rattle.std.specs.List.{list_any};
 ghost use Rattle.std.specs.Str.{bytes_eq};
@@ -13,7 +13,7 @@ use std::alloc::{AllocError, Global};
 use std::collections::BTreeSet;
 use std::fmt;
 
-/// A dependency that a package of the workspace declares, and that leads to no package. Its Display is the line for standard error.
+/// A declaration of a workspace package that leads to no package. `Display` prints the line for standard error.
 #[derive(Debug, Drop)]
 pub struct Warning {
     /// The id of the package.
@@ -32,14 +32,14 @@ impl fmt::Display for Warning {
     }
 }
 
-/// What follows `front`, where the text begins with it.
+/// Returns what follows `front` in `text`, or None if `text` doesn't begin with `front`.
 fn rest_after<'t>(front: &[u8], text: &'t [u8]) -> Option<&'t [u8]>
     ensures { option_map text_view result ≡ spec.rest_after front.now text.now }
 {
     text.strip_prefix(front)
 }
 
-/// Whether a name ends before `rest`: before `/`, or before `?/`.
+/// Returns whether `rest` begins with `/` or `?/`.
 fn is_cut(rest: Option<&[u8]>) -> bool
     ensures { result ≡ spec.is_cut (option_map text_view rest.entry) }
 {
@@ -49,7 +49,7 @@ fn is_cut(rest: Option<&[u8]>) -> bool
     }
 }
 
-/// Whether `rest` is the name.
+/// Returns whether `rest` equals `name`.
 fn is_text(name: &[u8], rest: Option<&[u8]>) -> bool
     ensures { result ≡ spec.is_text name.now (option_map text_view rest.entry) }
 {
@@ -59,7 +59,7 @@ fn is_text(name: &[u8], rest: Option<&[u8]>) -> bool
     }
 }
 
-/// Whether an item of a feature names the dependency `d`: `dep:d`, `d/f` or `d?/f`.
+/// Returns whether `item` names the dependency `name`: `dep:name`, `name/feature` or `name?/feature`.
 #[tactic(auto, unfolding(crate::specs::Warnings::names))]
 fn names(name: &str, item: &str) -> bool
     ensures { result ≡ spec.names name.now item.now }
@@ -68,7 +68,7 @@ fn names(name: &str, item: &str) -> bool
     is_cut(rest_after(name, item)) || is_text(name, rest_after(b"dep:", item))
 }
 
-/// Whether an item of the feature names the dependency.
+/// Returns whether an item of `feature` names the dependency `name`.
 fn feature_names(name: &str, feature: &Feature<'_>) -> bool
     ensures { result ≡ spec.feature_names name.now (feature_view feature.now) }
 {
@@ -80,7 +80,7 @@ fn feature_names(name: &str, feature: &Feature<'_>) -> bool
     false
 }
 
-/// Whether an item of one of the features names the dependency.
+/// Returns whether an item of one of `features` names the dependency `name`.
 fn is_named(name: &str, features: &[Feature<'_>]) -> bool
     ensures { result ≡ spec.is_named name.now (map feature_view features.now) }
 {
@@ -92,7 +92,7 @@ fn is_named(name: &str, features: &[Feature<'_>]) -> bool
     false
 }
 
-/// Whether the text is one of these.
+/// Returns whether `text` is one of `texts`.
 fn is_among(text: &str, texts: &[&str]) -> bool
     ensures { result ≡ list_any (bytes_eq text.now) (map text_view texts.now) }
 {
@@ -104,7 +104,7 @@ fn is_among(text: &str, texts: &[&str]) -> bool
     false
 }
 
-/// Whether an item of one of the features that are on names the dependency.
+/// Returns whether an enabled feature, one whose name is in `on`, has an item that names the dependency `name`.
 fn is_turned_on(on: &[&str], name: &str, features: &[Feature<'_>]) -> bool
     ensures { result ≡ spec.is_turned_on (map text_view on.now) name.now (map feature_view features.now) }
 {
@@ -116,8 +116,10 @@ fn is_turned_on(on: &[&str], name: &str, features: &[Feature<'_>]) -> bool
     false
 }
 
-/// Whether a declaration should lead to a package. A required one should, and so should an optional one that a feature which is
-/// on names, unless no package of its name has a library; of the other optional ones those that a feature names should.
+/// Returns whether `declaration` should lead to a package.
+///
+/// If it is required, or an enabled feature names it, it should if a package of its name has a library. Otherwise it should if
+/// any feature names it. `libraries` has the names of the packages with a library.
 #[tactic(auto, unfolding(crate::specs::Warnings::is_expected))]
 fn is_expected(
     libraries: &BTreeSet<&str>,
@@ -135,7 +137,7 @@ fn is_expected(
     }
 }
 
-/// Whether the declaration leads to no package, and should.
+/// Returns whether `declaration` leads to no package, but should. The only error is out of memory.
 #[tactic(auto, unfolding(crate::specs::Warnings::is_lost))]
 fn is_lost(
     alloc: Global,
@@ -152,7 +154,7 @@ fn is_lost(
     }
 }
 
-/// The warning of a declaration of the package.
+/// Returns the warning for a declaration of `package`. The only error is out of memory.
 fn warning_of(
     alloc: Global,
     package: &Package<'_>,
@@ -166,7 +168,7 @@ fn warning_of(
     })
 }
 
-/// Adds the warnings of a package, in the order of its declarations.
+/// Appends the warnings for `package`, in the order of its declarations.
 fn push_warnings(
     alloc: Global,
     warnings: &mut Vec<Warning>,
@@ -184,7 +186,7 @@ fn push_warnings(
     Ok(())
 }
 
-/// The names of the packages that have a library.
+/// Returns the names of the packages that have a library.
 fn libraries_of<'v>(alloc: Global, packages: &Packages<'v>) -> Result<Vec<&'v str>, AllocError>
     ensures { IfOk result (λ names. map text_view names.items ≡ spec.libraries_of (map (λ e. e.1) (entries_view package_view packages.now.entries))) }
 {
@@ -197,7 +199,7 @@ fn libraries_of<'v>(alloc: Global, packages: &Packages<'v>) -> Result<Vec<&'v st
     Ok(names)
 }
 
-/// The warnings of the packages of the workspace, in the order of their ids.
+/// Returns the warnings for the packages whose ids are in `members`, in the order of the ids.
 pub(crate) fn warnings_of_packages<'p, 'v>(
     alloc: Global,
     packages: &'p Packages<'v>,
