@@ -1,40 +1,12 @@
-# What ./features and ./rows share: finding the proved program, and building it where that is due. Each sets `top`, the
-# repository's folder, and calls `launch`.
+# What ./features and ./rows share. Each sets `top`, the repository's folder, and calls `launch`.
+#
+# A program that ./build proved and built is run. Where there is none, or where a source file is newer than it, the answer comes from `rt try`:
+# the same program with checks while it runs in place of proofs. What it prints, its faults and its exit status are the same.
 
-# Prints a source file of these crates that is newer than the program, if there is one.
-newer() {
-  local program=$1 crate
-  shift
-  for crate in "$@"; do
-    find "$top/crates/$crate"/{src,specs,proofs} -type f -newer "$program" -print -quit 2>/dev/null || true
-  done
-}
+# The exit status where no answer can be given: `rt` is missing, or a limit of `rt try` is met.
+NO_ANSWER=70
 
-# Proves, compiles and links a program: its crate, what it is first run with, and how long the first time takes. The run
-# reads this function's standard input, writes nothing, and ends with status 0, so any other status is that of a build
-# that failed.
-build() {
-  local name=$1 word=$2 takes=$3 begun status=0
-  if ! command -v rt >/dev/null; then
-    echo "$name: the command rt of the kit must be in PATH to build the program" >&2
-    return 1
-  fi
-  echo "$name: building the proved program. The first time its crates are proved, one after the other: $takes." >&2
-  echo "$name: below, rt says for each crate how many of its functions are checked." >&2
-  begun=$(mktemp)
-  (cd -- "$top/crates/$name" && exec rt run -- $word) >&2 || status=$?
-  if [ "$status" -eq 0 ]; then
-    # What was edited while this built is newer than the program.
-    touch -r "$begun" -- "$top/crates/$name/out/$name"
-    echo "$name: built in $(($(date +%s) - $(date -r "$begun" +%s))) seconds" >&2
-  else
-    echo "$name: the program was not built" >&2
-  fi
-  rm -f -- "$begun"
-  [ "$status" -eq 0 ]
-}
-
-# The crates on which a crate of the repository stands, and itself.
+# Prints the crates on which a crate of the repository stands, and the crate itself.
 crates_of() {
   awk -v name="$1" '
     /^#/ { next }
@@ -50,14 +22,82 @@ crates_of() {
   ' "$top/crates.txt"
 }
 
-# Runs a program on words, after it was built where it isn't there or a source file is newer than it. The arguments are its
-# crate, the words and the standard input of its first run, how long the first time takes, and then its own words.
-launch() {
-  local name=$1 word=$2 input=$3 takes=$4 program=$top/crates/$1/out/$1 crates
-  shift 4
-  mapfile -t crates < <(crates_of "$name")
-  if [ ! -x "$program" ] || [ "$top/crates.txt" -nt "$program" ] || [ -n "$(newer "$program" "${crates[@]}")" ]; then
-    build "$name" "$word" "$takes" <<<"$input" || exit 1
+# Prints why the proved program of a crate can't be run, or nothing where it can.
+why_not_current() {
+  local name=$1 program=$top/crates/$1/out/$1 crate file
+  if [ ! -x "$program" ]; then
+    echo "no proved program is built"
+    return
   fi
-  exec "$program" "$@"
+  if [ "$top/crates.txt" -nt "$program" ]; then
+    echo "crates.txt is newer than the proved program"
+    return
+  fi
+  for crate in $(crates_of "$name"); do
+    file=$(find "$top/crates/$crate"/{src,specs,proofs} -type f -newer "$program" -print -quit 2>/dev/null || true)
+    if [ -n "$file" ]; then
+      echo "${file#"$top/"} is newer than the proved program"
+      return
+    fi
+  done
+}
+
+# Says on standard error why there is no answer, and ends.
+no_answer() {
+  echo "$1: $2" >&2
+  exit "$NO_ANSWER"
+}
+
+# Answers by `rt try`. The arguments are the program's crate and its words, the first of which names the input: a file, or - for standard input.
+try_unproved() {
+  local name=$1 input=$2 given=() status=0 last
+  shift 2
+  command -v rt >/dev/null || no_answer "$name" "the command rt of the kit is not in PATH"
+  room=$(mktemp -d)
+  trap 'rm -rf -- "$room"' EXIT
+  # The program runs in a folder of its own, so its input is copied there. Input that can't be read stays a name without a file.
+  if [ "$input" = - ]; then
+    cat >"$room/input" 2>/dev/null && given=(--data "input=$room/input")
+  elif [ -n "$input" ]; then
+    cat -- "$input" >"$room/input" 2>/dev/null </dev/null && given=(--data "input=$room/input")
+  fi
+  (cd -- "$top/crates/$name" && exec rt try --seconds 1000000 "${given[@]}" -- "$@") </dev/null >"$room/output" 2>"$room/faults" || status=$?
+  last=$(tail -n 1 -- "$room/faults")
+  case $last in
+    "run=ended status=$status "*) ;;
+    *) no_answer "$name" "the unproved build met a limit of rt try ($(limit_of "$room/faults")); ./build makes the proved program, which has none" ;;
+  esac
+  # The last two lines are those of rt try.
+  head -n -2 -- "$room/faults" >&2
+  if [ -s "$room/output" ] && ! cat -- "$room/output" 2>/dev/null; then
+    echo "cannot write" >&2
+    exit 1
+  fi
+  exit "$status"
+}
+
+# Prints in short which limit of rt try was met: the last line of what it said that isn't empty.
+limit_of() {
+  grep -v '^$' -- "$1" | tail -n 1 | cut -c 1-200
+}
+
+# Runs a program on its words: its crate, how many words it needs to read its input, and the words.
+launch() {
+  local name=$1 needs=$2 why
+  shift 2
+  why=$(why_not_current "$name")
+  if [ -z "$why" ]; then
+    exec "$top/crates/$name/out/$name" "$@"
+  fi
+  echo "$name: $why: this answer comes from a build that is checked while it runs and is not proved; ./build proves it, in some 15 minutes on four cores" >&2
+  if ! printf '%s\n' "$@" | iconv -f UTF-8 -t UTF-8 >/dev/null 2>&1; then
+    # rt try takes no words that aren't UTF-8. The programs refuse these as they refuse two unknown words.
+    try_unproved "$name" "" bad words
+  elif [ $# -lt "$needs" ]; then
+    try_unproved "$name" "" "$@"
+  else
+    local input=${1--}
+    [ $# -eq 0 ] || shift
+    try_unproved "$name" "$input" input "$@"
+  fi
 }
