@@ -2,7 +2,8 @@
 use crate::failure::Failure;
 use crate::out::Out;
 use crate::words::{cut, number};
-use guppy_support::{Digraph, DigraphError, Edge, Order};
+use digraph_orders::Order;
+use guppy_support::{Digraph, DigraphError, Edge};
 use std::alloc::Global;
 
 /// The edge between two numbers.
