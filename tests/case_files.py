@@ -16,7 +16,8 @@ A file of cases has, line by line:
     with WHAT          closed stdin, empty stdin, closed stdout, or full stdout
     > LINE             a line that must be printed, in order; none: nothing is printed
     > of PATH          (as the only one) what must be printed is the file of this path
-    !N LINE            what must stand on standard error, and the exit status N; else nothing and 0
+    !N LINE            what must stand on standard error, and the exit status N; else nothing and 0. Several such lines are all
+                       printed there, in order
     !N                 the exit status N, and whatever stands on standard error
     steps NODES        (of `build`) what is printed explains these nodes, with spaces between, in steps that judge_build.py finds
                        right, whichever they are
@@ -168,7 +169,7 @@ class Case:
         elif word == '>':
             self.printed[-1].append(rest)
         elif word.startswith('!'):
-            self.status, self.line = int(word[1:]), rest + '\n' if ' ' in line else None
+            self.status, self.line = int(word[1:]), self.line + rest + '\n' if ' ' in line else None
         else:
             return False
         return True

@@ -34,6 +34,8 @@ pub data Refusal : Type 0 where
   ambiguous : Text → Text → Refusal
   two_names : Text → Text → Text → Text → Refusal
   control : Text → Refusal
+  every_platform : Place → Refusal
+  no_deps : Refusal
   out_of_memory : Refusal
 
 abbrev pub refusal_of : DocumentFault → Refusal
@@ -43,6 +45,8 @@ refusal_of (refused.NoPackage place name id) = no_package place name.now (string
 refusal_of (refused.Ambiguous owner name) = ambiguous (string_bytes owner) (string_bytes name)
 refusal_of (refused.TwoNames owner target first second) = two_names (string_bytes owner) (string_bytes target) (string_bytes first) (string_bytes second)
 refusal_of (refused.Control text) = control (string_bytes text)
+refusal_of (refused.EveryPlatform place) = every_platform place
+refusal_of refused.NoDeps = no_deps
 refusal_of refused.Memory = out_of_memory
 
 -- why not all bytes were read

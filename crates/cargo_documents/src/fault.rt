@@ -110,6 +110,14 @@ pub enum DocumentFault {
     Control {
         text: String,
     },
+    /// The text `*` as a platform. A row uses it for every platform.
+    #[error("{place}target: \"*\" is no platform")]
+    EveryPlatform {
+        place: Place,
+    },
+    /// A document that was made with `--no-deps`, in which `resolve` is null.
+    #[error("resolve: null; the document was made with --no-deps")]
+    NoDeps,
     #[error("out of memory")]
     Memory,
 }

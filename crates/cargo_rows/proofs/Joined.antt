@@ -1,21 +1,15 @@
 -- The rows of packages, one package after the other.
-use Rattle.std.proofs.Common.{◌≡◌, ◌∙◌, sym, ap, refl, List, [], ◌∷◌, ◌++◌, map, Bool, append_assoc, Bor}
-use Rattle.std.specs.Prelude.{Result, Ok, Err, option_map, Vec}
+use Rattle.std.proofs.Common.{◌≡◌, ◌∙◌, sym, ap, refl, List, ◌∷◌, ◌++◌, Bool, append_assoc, Bor}
+use Rattle.std.specs.Prelude.{Result, Ok, Err}
 use Rattle.std.specs.List.{list_any}
-use Rattle.std.specs.Map.{lookup}
-use Rattle.std.specs.Option.{unwrap_or}
-use Rattle.std.specs.Ordering.{is_eq}
 use Rattle.std.specs.Str.{bytes_eq}
-use Rattle.std.specs.declared.alloc.Global.{Global}
 use Rattle.cargo_rows.specs.declared.packages.Package.{Package}
-use Rattle.cargo_rows.specs.declared.nodes.Dep.{Dep}
 use Rattle.cargo_documents.specs.Faults.{Text, Refusal, IfNotMemory, ◌>>=◌}
-use Rattle.cargo_rows.specs.Lists.{id_cmp, at_id}
-use Rattle.cargo_rows.specs.Nodes.{DepText}
-use Rattle.cargo_rows.specs.Rows.{package_rows, all_rows}
-use Rattle.cargo_rows.specs.inner.Views.{dep_view, package_view, entries_view, after}
+use Rattle.cargo_rows.specs.Lists.{ById}
+use Rattle.cargo_rows.specs.Nodes.{DepText, NodeText}
+use Rattle.cargo_rows.specs.Rows.{node_of, package_rows, all_rows}
+use Rattle.cargo_rows.specs.inner.Views.{package_view, entries_view, after}
 use Rattle.cargo_rows.proofs.Lists.{if_not_memory}
-use Rattle.cargo_rows.proofs.Entries.{at_id-entries}
 
 after_first : (first rest : Result Text Refusal) (old new : Text) → after old first ≡ Ok new → after old (first >>= λ a. rest >>= λ b. Ok (a ++ b)) ≡ after new rest
 after_first (Ok a) (Ok b) old new e =
@@ -28,18 +22,12 @@ after_refused : (first rest : Result Text Refusal) (old : Text) (r : Refusal) �
 after_refused (Ok a) rest old r e = cc
 after_refused (Err q) rest old r e = e
 
-abbrev deps_view : Vec Dep Global → List DepText
-deps_view ds = map dep_view ds.items
-
-module _ (members : List Text) (nodes : List (Bor Text × Vec Dep Global)) (left rest : List (Bor Text × Package)) (id : Bor Text) (p : Package) (is_member : Bool) (uses : List DepText) (whole : Result Text Refusal) (old : Text) (is : left ≡ (id, p) ∷ rest) (member : is_member ≡ list_any (bytes_eq id.now) members) (used : unwrap_or (option_map deps_view (lookup (λ k. is_eq (id_cmp id.now k.now)) nodes)) [] ≡ uses) (so : whole ≡ after old (all_rows members (entries_view deps_view nodes) (entries_view package_view left))) where
+module _ (members : List Text) (nodes : ById NodeText) (left rest : List (Bor Text × Package)) (id : Bor Text) (p : Package) (is_member : Bool) (uses : List DepText) (whole : Result Text Refusal) (old : Text) (is : left ≡ (id, p) ∷ rest) (member : is_member ≡ list_any (bytes_eq id.now) members) (used : uses ≡ (node_of id.now nodes).deps) (so : whole ≡ after old (all_rows members nodes (entries_view package_view left))) where
   abbrev others : Result Text Refusal
-  others = all_rows members (entries_view deps_view nodes) (entries_view package_view rest)
-
-  known : unwrap_or (at_id id.now (entries_view deps_view nodes)) [] ≡ uses
-  known = ap (λ o. unwrap_or o []) (at_id-entries deps_view id.now nodes) ∙ used
+  others = all_rows members nodes (entries_view package_view rest)
 
   told : whole ≡ after old (package_rows is_member uses (package_view p) >>= λ a. others >>= λ b. Ok (a ++ b))
-  told = so ∙ rw (is, sym member, known) refl
+  told = so ∙ rw (is, sym member, sym used) refl
 
   pub rows_more : (new : Text) → after old (package_rows is_member uses (package_view p)) ≡ Ok new → whole ≡ after new others
   rows_more new e = told ∙ after_first (package_rows is_member uses (package_view p)) others old new e

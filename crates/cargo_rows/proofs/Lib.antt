@@ -5,4 +5,6 @@ pub mod Lists
 pub mod Entries
 pub mod Members
 pub mod Joined
+pub mod NodeReads
+pub mod WarningLists
 pub mod Whole

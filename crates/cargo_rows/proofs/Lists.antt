@@ -7,7 +7,7 @@ use Rattle.json.specs.Find.{as_array}
 use Rattle.json.specs.Value.{value_view, items_view}
 use Rattle.json.specs.declared.value.Value.{Value}
 use Rattle.cargo_documents.specs.declared.fault.Place.{Place}
-use Rattle.cargo_documents.specs.Faults.{Text, Refusal, bad_field, repeated, no_package, ambiguous, two_names, control, out_of_memory, IfNotMemory, ◌>>=◌}
+use Rattle.cargo_documents.specs.Faults.{Text, Refusal, bad_field, repeated, no_package, ambiguous, two_names, control, every_platform, no_deps, out_of_memory, IfNotMemory, ◌>>=◌}
 use Rattle.cargo_documents.specs.Fields.{wanted, all_texts}
 use Rattle.cargo_rows.specs.Lists.{each}
 use Rattle.cargo_rows.specs.Packages.{FeatureText, features_of}
@@ -20,6 +20,8 @@ if_not_memory (no_package at name id) f h = f h
 if_not_memory (ambiguous owner name) f h = f h
 if_not_memory (two_names owner target first second) f h = f h
 if_not_memory (control text) f h = f h
+if_not_memory (every_platform at) f h = f h
+if_not_memory no_deps f h = f h
 if_not_memory out_of_memory f h = tt
 
 -- those so far, and then the others

@@ -26,16 +26,16 @@ tested : (t : DepText → Bool) (ds : List DepText) (z : DepText) (b : Bool) →
 tested t ds z true e = rw (filter-append t ds (z ∷ []), e, map-append target (filter t ds) (z ∷ [])) (found_of-more _ _)
 tested t ds z false e = rw (filter-append t ds (z ∷ []), e, map-append target (filter t ds) []) (ap found_of (append-nil _))
 
-pub pick_none : (ask : Asked) (d : DeclarationText) → pick (answers ask) d [] ≡ nothing
+pub pick_none : (ask : Asked) (id : Text) (d : DeclarationText) → pick (answers ask) id d [] ≡ nothing
 unfolding pick
-pick_none ask d = refl
+pick_none ask id d = refl
 
-pub pick_step : (ask : Asked) (d : DeclarationText) (ds : List Dep) (i : ℕ) (z : Dep) → i < length ds → z ≡ get_or ds i z → and_one (meets ask d (dep_view z)) (pick (answers ask) d (map dep_view (take i ds))) (package_view z.target.now) ≡ pick (answers ask) d (map dep_view (take (i + 1) ds))
+pub pick_step : (ask : Asked) (id : Text) (d : DeclarationText) (ds : List Dep) (i : ℕ) (z : Dep) → i < length ds → z ≡ get_or ds i z → and_one (meets ask id d (dep_view z)) (pick (answers ask) id d (map dep_view (take i ds))) (package_view z.target.now) ≡ pick (answers ask) id d (map dep_view (take (i + 1) ds))
 unfolding pick meets
-pick_step ask d ds i z h e =
+pick_step ask id d ds i z h e =
     let more : take (i + 1) ds ≡ take i ds ++ z ∷ [] = take_more ds i z h ∙ ap (λ x. take i ds ++ x ∷ []) (sym e) in
     let seen : map dep_view (take (i + 1) ds) ≡ map dep_view (take i ds) ++ dep_view z ∷ [] = ap (map dep_view) more ∙ map-append dep_view (take i ds) (z ∷ []) in
-    sym (ap (λ xs. found_of (map target (filter (meets ask d) xs))) seen ∙ tested (meets ask d) (map dep_view (take i ds)) (dep_view z) (meets ask d (dep_view z)) refl)
+    sym (ap (λ xs. found_of (map target (filter (meets ask id d) xs))) seen ∙ tested (meets ask id d) (map dep_view (take i ds)) (dep_view z) (meets ask id d (dep_view z)) refl)
 
 same_rest : {X : Type 0} (rest : Result (List X) Refusal) → (rest >>= λ xs. Ok xs) ≡ rest
 same_rest (Ok xs) = refl

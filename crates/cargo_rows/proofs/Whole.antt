@@ -1,13 +1,14 @@
 -- The rows of a document, by its packages and its other fields.
-use Rattle.std.proofs.Common.{◌≡◌, ◌∙◌, sym, ap, refl, List}
+use Rattle.std.proofs.Common.{◌≡◌, ◌∙◌, sym, ap, refl, List, map}
 use Rattle.std.specs.Prelude.{Ok, Err, Option, codes}
 use Rattle.json.specs.Json.{Json}
 use Rattle.json.specs.Find.{get}
 use Rattle.cargo_documents.specs.Faults.{Text, Refusal, IfNotMemory}
 use Rattle.cargo_rows.specs.Lists.{ById}
 use Rattle.cargo_rows.specs.Packages.{PackageText, packages_at, packages_in}
-use Rattle.cargo_rows.specs.Nodes.{DepText, members_in, nodes_in}
+use Rattle.cargo_rows.specs.Nodes.{NodeText, members_in, nodes_in}
 use Rattle.cargo_rows.specs.Rows.{all_rows, rows_of}
+use Rattle.cargo_rows.specs.Warnings.{libraries_of, all_warnings, warnings_of}
 use Rattle.cargo_documents.specs.Parts.{Parts}
 use Rattle.cargo_rows.proofs.Lists.{if_not_memory}
 
@@ -39,6 +40,10 @@ module _ (d : Json) (found : Option Json) (rest : Json) (parts : Parts d found r
     unfolding rows_of
     nodes_refused e h = if_not_memory e (λ (q : nodes_in packages rest ≡ Err e). rw (listed, of_members, were_members, of_nodes, q) refl) h
 
-    pub rows_are : (nodes : ById (List DepText)) → nodes_in packages rest ≡ Ok nodes → rows_of d ≡ all_rows members nodes packages
+    pub rows_are : (nodes : ById NodeText) → nodes_in packages rest ≡ Ok nodes → rows_of d ≡ all_rows members nodes packages
     unfolding rows_of
     rows_are nodes q = rw (listed, of_members, were_members, of_nodes, q) refl
+
+    pub warnings_are : (nodes : ById NodeText) → nodes_in packages rest ≡ Ok nodes → warnings_of d ≡ Ok (all_warnings (libraries_of (map (λ e. e.1) packages)) members nodes packages)
+    unfolding warnings_of
+    warnings_are nodes q = rw (listed, of_members, were_members, of_nodes, q) refl

@@ -27,9 +27,14 @@ abbrev pub called : Option Text → PackageText → Text
 called (Some rename) p = rename
 called None p = elim p.library as (λ _. Text) [ Some library ↦ library | None ↦ p.name ]
 
--- whether the used package may be the declared one, by its names
-abbrev pub fits : DeclarationText → DepText → Bool
-fits d dep = bytes_eq dep.target.name d.name && is_in_code dep.extern_name (called d.rename dep.target)
+-- The new name that a used package has in the code of the package with this id, if it has one. Cargo ignores the rename of a
+-- package that depends on itself.
+abbrev pub rename_of : Text → DeclarationText → DepText → Option Text
+rename_of id d dep = if bytes_eq dep.target.id id then None else d.rename
+
+-- whether the used package may be the one that the package with this id declares, by its names
+abbrev pub fits : Text → DeclarationText → DepText → Bool
+fits id d dep = bytes_eq dep.target.name d.name && is_in_code dep.extern_name (called (rename_of id d dep) dep.target)
 
 abbrev pub same_kind : Kind → Kind → Bool
 same_kind kind.Normal kind.Normal = true
@@ -62,8 +67,8 @@ found_of (p ∷ []) = one p
 found_of (p ∷ q ∷ ps) = several
 
 -- what is found among the used packages that fit the declaration and pass a test
-unfoldable pub pick : (DeclarationText → DepText → Bool) → DeclarationText → List DepText → FoundPackage
-pick test d deps = found_of (map (λ dep. dep.target) (filter (λ dep. fits d dep && test d dep) deps))
+unfoldable pub pick : (DeclarationText → DepText → Bool) → Text → DeclarationText → List DepText → FoundPackage
+pick test id d deps = found_of (map (λ dep. dep.target) (filter (λ dep. fits id d dep && test d dep) deps))
 
 abbrev pub if_nothing : FoundPackage → FoundPackage → FoundPackage
 if_nothing nothing other = other
@@ -76,10 +81,10 @@ choice_of true nothing by_version by_both = by_version
 choice_of false nothing by_version by_both = nothing
 choice_of optional several by_version by_both = if_nothing by_both several
 
--- What a declaration leads to: the package that is used for it. Where several are, the requirement decides; where none is,
--- it decides for an optional dependency alone.
-abbrev pub choice : DeclarationText → List DepText → FoundPackage
-choice d deps = choice_of d.is_optional (pick is_used d deps) (pick is_admitted d deps) (pick (λ e dep. is_used e dep && is_admitted e dep) d deps)
+-- What a declaration of the package with this id leads to: the package that is used for it. Where several are, the
+-- requirement decides; where none is, it decides for an optional dependency alone.
+abbrev pub choice : Text → DeclarationText → List DepText → FoundPackage
+choice id d deps = choice_of d.is_optional (pick is_used id d deps) (pick is_admitted id d deps) (pick (λ e dep. is_used e dep && is_admitted e dep) id d deps)
 
 -- the same as a package, or nothing, or the fault that the declaration of the package with this id is ambiguous
 abbrev pub led_to : Text → Text → FoundPackage → Result (Option PackageText) Refusal
@@ -88,7 +93,7 @@ led_to id name (one p) = Ok (Some p)
 led_to id name several = Err (ambiguous id name)
 
 unfoldable pub target_of : Text → DeclarationText → List DepText → Result (Option PackageText) Refusal
-target_of id d deps = led_to id d.name (choice d deps)
+target_of id d deps = led_to id d.name (choice id d deps)
 
 -- a declaration, and the package that it leads to
 pub record DependencyText : Type 0 where

@@ -5,5 +5,6 @@ pub mod Nodes
 pub mod Requirements
 pub mod Dependencies
 pub mod Rows
+pub mod Warnings
 pub mod Run
 pub mod inner

@@ -1,14 +1,15 @@
 -- The members of the workspace, and what each package uses.
-use Rattle.std.specs.Prelude.{ℕ, List, [], ◌∷◌, codes, Option, Some, None, Result, Ok, Err, ⊤}
-use Rattle.json.specs.Json.{Json}
-use Rattle.json.specs.Find.{get}
+use Rattle.std.specs.Prelude.{ℕ, List, [], ◌∷◌, codes, Option, Some, None, Result, Ok, Err, option_and_then, ⊤}
+use Rattle.std.specs.Option.{unwrap_or}
+use Rattle.json.specs.Json.{Json, null, boolean, number, string, array, object}
+use Rattle.json.specs.Find.{get, as_array}
 use Rattle.cargo_documents.specs.declared.fault.Place.{Place}
 use Rattle.cargo_documents.specs.declared.fault.Place.TheVariants as place
 use Rattle.cargo_rows.specs.declared.packages.Kind.{Kind}
-use Rattle.cargo_documents.specs.Faults.{Text, Refusal, no_package, ◌>>=◌}
-use Rattle.cargo_documents.specs.Fields.{wanted, text_in, optional_text_in, list_in, texts_in}
+use Rattle.cargo_documents.specs.Faults.{Text, Refusal, no_package, no_deps, ◌>>=◌}
+use Rattle.cargo_documents.specs.Fields.{wanted, all_texts, text_in, list_in, texts_in}
 use Rattle.cargo_rows.specs.Lists.{each, ById, at_id, each_by_id}
-use Rattle.cargo_rows.specs.Packages.{kind_in, PackageText}
+use Rattle.cargo_rows.specs.Packages.{kind_in, platform_in, PackageText}
 
 -- the package of this id, or the fault that there is none, of the field that has the id
 abbrev pub found_or : {X : Type 0} → Place → Text → Text → Option X → Result X Refusal
@@ -26,7 +27,7 @@ pub record UseText : Type 0 where
 unfoldable pub use_in : Place → Json → Result UseText Refusal
 use_in at d =
     kind_in at d >>= λ kind.
-    optional_text_in at (codes "target") d >>= λ platform.
+    platform_in at d >>= λ platform.
     Ok (record { kind = kind; platform = platform })
 
 -- a used package, the name by which code calls it, and its uses
@@ -45,19 +46,42 @@ dep_in packages n i d =
     each (λ k. use_in (place.DepKind n i k)) 0 kinds >>= λ uses.
     Ok (record { extern_name = extern_name; target = target; uses = uses })
 
--- the id of the node at place n, and the packages that it uses
-unfoldable pub node_in : ById PackageText → ℕ → Json → Result (Text × List DepText) Refusal
+-- what Cargo resolved for a package: the enabled features, and the used packages
+pub record NodeText : Type 0 where
+  pub features : List Text
+  pub deps : List DepText
+
+-- the node that stands for a missing one
+abbrev pub no_node : NodeText
+no_node = record { features = []; deps = [] }
+
+-- the enabled features of a node, or none if it has no list of texts
+unfoldable pub features_on : Json → List Text
+features_on d = unwrap_or (option_and_then all_texts (option_and_then as_array (get (codes "features") d))) []
+
+-- the node at place n, with its package's id
+unfoldable pub node_in : ById PackageText → ℕ → Json → Result (Text × NodeText) Refusal
 node_in packages n d =
     text_in (place.Node n) (codes "id") d >>= λ id.
     package_at packages (place.Node n) (codes "id") id >>= λ _.
     list_in (place.Node n) (codes "deps") d >>= λ objects.
     each (dep_in packages n) 0 objects >>= λ deps.
-    Ok (id, deps)
+    Ok (id, record { features = features_on d; deps = deps })
 
--- what each package of the document uses, by its id
-unfoldable pub nodes_in : ById PackageText → Json → Result (ById (List DepText)) Refusal
+-- `resolve` is null if the document was made with --no-deps
+abbrev pub with_deps : Json → Result ⊤ Refusal
+with_deps null = Err no_deps
+with_deps (boolean b) = Ok tt
+with_deps (number n) = Ok tt
+with_deps (string s) = Ok tt
+with_deps (array ds) = Ok tt
+with_deps (object ms) = Ok tt
+
+-- the nodes of the document, by their packages' ids
+unfoldable pub nodes_in : ById PackageText → Json → Result (ById NodeText) Refusal
 nodes_in packages d =
     wanted place.Document (codes "resolve") (get (codes "resolve") d) >>= λ resolve.
+    with_deps resolve >>= λ _.
     list_in place.Resolve (codes "nodes") resolve >>=
     each_by_id (node_in packages) place.Node 0 []
 

@@ -9,7 +9,7 @@ use Rattle.cargo_documents.specs.declared.fault.Place.{Place}
 use Rattle.cargo_documents.specs.declared.fault.Place.TheVariants as place
 use Rattle.cargo_rows.specs.declared.packages.Kind.{Kind}
 use Rattle.cargo_rows.specs.declared.packages.Kind.TheVariants as kind
-use Rattle.cargo_documents.specs.Faults.{Text, Refusal, bad_field, ◌>>=◌}
+use Rattle.cargo_documents.specs.Faults.{Text, Refusal, bad_field, every_platform, ◌>>=◌}
 use Rattle.cargo_documents.specs.Fields.{wanted, all_texts, text_in, optional_text_in, flag_in, list_in, object_in, texts_in}
 use Rattle.cargo_rows.specs.Lists.{each, first_some, ById, id_cmp, each_by_id}
 
@@ -20,6 +20,14 @@ kind_of at (Some s) = if bytes_eq s (codes "build") then Ok kind.Build else (if 
 
 abbrev pub kind_in : Place → Json → Result Kind Refusal
 kind_in at d = optional_text_in at (codes "kind") d >>= kind_of at
+
+-- The platform that a text names; null is every one. The text `*` is refused, since in a row it is every platform.
+abbrev pub platform_of : Place → Option Text → Result (Option Text) Refusal
+platform_of at None = Ok None
+platform_of at (Some s) = if bytes_eq s (codes "*") then Err (every_platform at) else Ok (Some s)
+
+abbrev pub platform_in : Place → Json → Result (Option Text) Refusal
+platform_in at d = optional_text_in at (codes "target") d >>= platform_of at
 
 -- a dependency that a package declares
 pub record DeclarationText : Type 0 where
@@ -39,7 +47,7 @@ declaration_in at d =
     optional_text_in at (codes "rename") d >>= λ rename.
     text_in at (codes "req") d >>= λ requirement.
     kind_in at d >>= λ kind.
-    optional_text_in at (codes "target") d >>= λ platform.
+    platform_in at d >>= λ platform.
     flag_in at (codes "optional") d >>= λ is_optional.
     flag_in at (codes "uses_default_features") d >>= λ has_default_features.
     texts_in at (codes "features") d >>= λ features.

@@ -10,7 +10,7 @@ use Rattle.cargo_rows.specs.declared.packages.Kind.TheVariants as kind
 use Rattle.cargo_documents.specs.Faults.{Text, Refusal, control, ◌>>=◌}
 use Rattle.cargo_rows.specs.Lists.{joined, ById, at_id}
 use Rattle.cargo_rows.specs.Packages.{FeatureText, PackageText, packages_in}
-use Rattle.cargo_rows.specs.Nodes.{DepText, members_in, nodes_in}
+use Rattle.cargo_rows.specs.Nodes.{DepText, NodeText, no_node, members_in, nodes_in}
 use Rattle.cargo_rows.specs.Dependencies.{DependencyText, name_of, dependencies_of, agree}
 
 -- whether a text has a control character, so that it can't stand in a row
@@ -84,9 +84,13 @@ package_rows is_member deps p =
     dependency_rows es >>= λ dependencies.
     Ok ((first ++ features) ++ dependencies)
 
--- the rows of each package; one without a node uses nothing
-abbrev pub all_rows : List Text → ById (List DepText) → ById PackageText → Result Text Refusal
-all_rows members nodes packages = joined (λ e. package_rows (list_any (bytes_eq e.0) members) (unwrap_or (at_id e.0 nodes) []) e.1) packages
+-- the node of the package with this id
+abbrev pub node_of : Text → ById NodeText → NodeText
+node_of id nodes = unwrap_or (at_id id nodes) no_node
+
+-- the rows of each package
+abbrev pub all_rows : List Text → ById NodeText → ById PackageText → Result Text Refusal
+all_rows members nodes packages = joined (λ e. package_rows (list_any (bytes_eq e.0) members) (node_of e.0 nodes).deps e.1) packages
 
 -- the rows of a document, or its first fault
 unfoldable pub rows_of : Json → Result Text Refusal

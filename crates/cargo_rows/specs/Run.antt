@@ -1,5 +1,5 @@
 -- How a run ends, and what it has written.
-use Rattle.std.specs.Prelude.{◌≡◌, ◌++◌, Bool, true, false, Option, None, Ok, Err, IfSome, IsSomeAnd}
+use Rattle.std.specs.Prelude.{◌≡◌, ◌++◌, List, Bool, true, false, Option, None, Ok, Err, IfSome, IsSomeAnd}
 use Rattle.std.specs.Str.{IsUtf8}
 use Rattle.std.specs.Io.KnownBytes.{Keeps, Appends}
 use Rattle.cargo_documents.specs.declared.fault.Fault.{Fault}
@@ -7,10 +7,15 @@ use Rattle.cargo_documents.specs.declared.fault.Fault.TheVariants as fault
 use Rattle.cargo_rows.specs.Document.{document}
 use Rattle.cargo_documents.specs.Faults.{Text, refusal_of}
 use Rattle.cargo_rows.specs.Rows.{rows_of}
+use Rattle.cargo_rows.specs.Warnings.{WarningText, warnings_of}
 
 -- the bytes are a document, and the text is its rows
 abbrev pub AreRows : Text → Text → Type 0
 AreRows bytes text = IsUtf8 bytes × IsSomeAnd (document bytes) (λ d. rows_of d ≡ Ok text)
+
+-- the bytes are a document, and these are its warnings
+abbrev pub AreWarnings : Text → List WarningText → Type 0
+AreWarnings bytes warnings = IsUtf8 bytes × IsSomeAnd (document bytes) (λ d. warnings_of d ≡ Ok warnings)
 
 -- Why these bytes have no rows: they aren't text, or not JSON, or are a document whose first fault is this one.
 abbrev pub Refuses : Text → Fault → Type 0

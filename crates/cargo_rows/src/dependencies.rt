@@ -28,10 +28,17 @@ impl<'p, 'v> Dependency<'p, 'v> {
     pub(crate) fn name(&self) -> &'v str
         ensures { result.now ≡ name_of (declaration_view self.now.declaration.now) }
     {
-        match self.declaration.rename {
-            Some(name) => name,
-            None => self.declaration.name,
-        }
+        name_of(self.declaration)
+    }
+}
+
+/// Returns the name by which a declaration's package calls the dependency.
+pub(crate) fn name_of<'v>(declaration: &Declaration<'v>) -> &'v str
+    ensures { result.now ≡ spec.name_of (declaration_view declaration.now) }
+{
+    match declaration.rename {
+        Some(name) => name,
+        None => declaration.name,
     }
 }
 
@@ -69,14 +76,26 @@ fn called<'v>(rename: Option<&'v str>, package: &Package<'v>) -> &'v str
     }
 }
 
-/// Whether the used package may be the declared one, by its names.
-fn fits(declaration: &Declaration<'_>, dep: &Dep<'_, '_>) -> bool
-    ensures { result ≡ spec.fits (declaration_view declaration.now) (dep_view dep.now) }
+/// Returns the new name that `dep` has in the code of the package `owner`, if it has one. Cargo ignores the rename of a package that
+/// depends on itself.
+fn rename_of<'v>(owner: &str, declaration: &Declaration<'v>, dep: &Dep<'_, '_>) -> Option<&'v str>
+    ensures { option_map text_view result ≡ spec.rename_of owner.now (declaration_view declaration.now) (dep_view dep.now) }
+{
+    if dep.target.id == owner {
+        None
+    } else {
+        declaration.rename
+    }
+}
+
+/// Returns whether `dep` may be the package that `owner` declares, by its names.
+fn fits(owner: &str, declaration: &Declaration<'_>, dep: &Dep<'_, '_>) -> bool
+    ensures { result ≡ spec.fits owner.now (declaration_view declaration.now) (dep_view dep.now) }
 {
     dep.target.name == declaration.name
         && is_in_code(
             dep.extern_name.as_bytes(),
-            called(declaration.rename, dep.target).as_bytes(),
+            called(rename_of(owner, declaration, dep), dep.target).as_bytes(),
         )
 }
 
@@ -153,12 +172,13 @@ fn answers(
 fn meets(
     alloc: Global,
     asked: Asked,
+    owner: &str,
     declaration: &Declaration<'_>,
     dep: &Dep<'_, '_>,
 ) -> Result<bool, AllocError>
-    ensures { IfOk result (λ b. b ≡ picks.meets asked (declaration_view declaration.now) (dep_view dep.now)) }
+    ensures { IfOk result (λ b. b ≡ picks.meets asked owner.now (declaration_view declaration.now) (dep_view dep.now)) }
 {
-    if fits(declaration, dep) {
+    if fits(owner, declaration, dep) {
         answers(alloc, asked, declaration, dep)
     } else {
         Ok(false)
@@ -189,13 +209,14 @@ impl<'p, 'v> Found<'p, 'v> {
 fn and_one<'p, 'v>(
     alloc: Global,
     asked: Asked,
+    owner: &str,
     declaration: &Declaration<'_>,
     dep: &Dep<'p, 'v>,
     found: Found<'p, 'v>,
 ) -> Result<Found<'p, 'v>, AllocError>
-    ensures { IfOk result (λ new. picks.found_view new ≡ picks.and_one (picks.meets asked (declaration_view declaration.now) (dep_view dep.now)) (picks.found_view found.entry) (package_view dep.now.target.now)) }
+    ensures { IfOk result (λ new. picks.found_view new ≡ picks.and_one (picks.meets asked owner.now (declaration_view declaration.now) (dep_view dep.now)) (picks.found_view found.entry) (package_view dep.now.target.now)) }
 {
-    if meets(alloc, asked, declaration, dep)? {
+    if meets(alloc, asked, owner, declaration, dep)? {
         Ok(found.with(dep.target))
     } else {
         Ok(found)
@@ -207,37 +228,39 @@ fn and_one<'p, 'v>(
 fn pick<'p, 'v>(
     alloc: Global,
     asked: Asked,
+    owner: &str,
     declaration: &Declaration<'_>,
     deps: &[Dep<'p, 'v>],
 ) -> Result<Found<'p, 'v>, AllocError>
-    ensures { IfOk result (λ found. picks.found_view found ≡ spec.pick (picks.answers asked) (declaration_view declaration.now) (map dep_view deps.now)) }
+    ensures { IfOk result (λ found. picks.found_view found ≡ spec.pick (picks.answers asked) owner.now (declaration_view declaration.now) (map dep_view deps.now)) }
 {
     let mut found = Found::Nothing;
     for dep in deps {
-        found = and_one(alloc, asked, declaration, dep, found)?;
+        found = and_one(alloc, asked, owner, declaration, dep, found)?;
     }
     Ok(found)
 }
 
-/// What the declaration leads to: the package that is used for it. Where several are, the requirement decides; where
-/// none is, it decides for an optional dependency alone.
-fn choice<'p, 'v>(
+/// What the declaration of the package `owner` leads to: the package that is used for it. Where several are, the
+/// requirement decides; where none is, it decides for an optional dependency alone.
+pub(crate) fn choice<'p, 'v>(
     alloc: Global,
+    owner: &str,
     declaration: &Declaration<'_>,
     deps: &[Dep<'p, 'v>],
 ) -> Result<Found<'p, 'v>, AllocError>
-    ensures { IfOk result (λ found. picks.found_view found ≡ spec.choice (declaration_view declaration.now) (map dep_view deps.now)) }
+    ensures { IfOk result (λ found. picks.found_view found ≡ spec.choice owner.now (declaration_view declaration.now) (map dep_view deps.now)) }
 {
-    match pick(alloc, Asked::Use, declaration, deps)? {
+    match pick(alloc, Asked::Use, owner, declaration, deps)? {
         Found::One(package) => Ok(Found::One(package)),
         Found::Nothing => {
             if declaration.is_optional {
-                pick(alloc, Asked::Version, declaration, deps)
+                pick(alloc, Asked::Version, owner, declaration, deps)
             } else {
                 Ok(Found::Nothing)
             }
         }
-        Found::Several => match pick(alloc, Asked::Both, declaration, deps)? {
+        Found::Several => match pick(alloc, Asked::Both, owner, declaration, deps)? {
             Found::Nothing => Ok(Found::Several),
             narrowed => Ok(narrowed),
         },
@@ -264,7 +287,7 @@ fn target_of<'p, 'v>(
 ) -> Result<Option<&'p Package<'v>>, DocumentFault>
     ensures { Gives (λ o. option_map (λ p. package_view p.now) o) result (spec.target_of id.now (declaration_view declaration.now) (map dep_view deps.now)) }
 {
-    match choice(alloc, declaration, deps)? {
+    match choice(alloc, id, declaration, deps)? {
         Found::Nothing => Ok(None),
         Found::One(target) => Ok(Some(target)),
         Found::Several => Err(ambiguous(alloc, id, declaration.name)?),

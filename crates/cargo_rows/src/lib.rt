@@ -8,7 +8,9 @@ mod nodes;
 mod packages;
 mod requirements;
 mod rows;
+mod warnings;
 
 pub use byte_devices::{ByteInput, ByteOutput, Failed, FromReader, ToWriter};
 pub use cargo_documents::{DocumentFault, Fault, Place};
 pub use engine::run;
+pub use warnings::Warning;

@@ -1,17 +1,19 @@
 //! The rows of a document.
-ghost use Rattle.std.specs.Prelude.{◌≡◌, ℕ, List, Some, None, OnOk, IfOk, IfErr, map, string_bytes};
+ghost use Rattle.std.specs.Prelude.{◌≡◌, ℕ, List, Some, None, Ok, IfOk, IfErr, map, string_bytes};
 ghost use Rattle.std.specs.Str.{IsUtf8};
 ghost use Rattle.json.specs.Value.{value_view};
 ghost use Rattle.cargo_rows.specs.Document.{document};
 ghost use Rattle.cargo_documents.specs.Faults.{Gives};
 ghost use Rattle.cargo_rows.specs.Rows.{package_rows, all_rows, rows_of};
-ghost use Rattle.cargo_rows.specs.Run.{AreRows, Refuses};
-ghost use Rattle.cargo_rows.specs.inner.Views.{text_view, dep_view, package_view, entries_view, after};
+ghost use Rattle.cargo_rows.specs.Run.{AreRows, AreWarnings, Refuses};
+ghost use Rattle.cargo_rows.specs.Warnings.{warnings_of, warning_view};
+ghost use Rattle.cargo_rows.specs.inner.Views.{text_view, dep_view, node_view, package_view, entries_view, after};
 
 use crate::dependencies::{check_names, dependencies_of};
-use crate::nodes::{Dep, Nodes, members_in, nodes_in, set_of};
+use crate::nodes::{Dep, Node, Nodes, members_in, node_at, nodes_in, set_of};
 use crate::packages::{Package, Packages, packages_of};
 use crate::rows::{push_dependencies, push_features, push_package};
+use crate::warnings::{Warning, warnings_of_packages};
 use cargo_documents::{DocumentFault, Fault, Unread, parts_of, read};
 use json::{Reader, Scratch, Value};
 use std::alloc::Global;
@@ -45,31 +47,42 @@ fn rows_of_packages<'p, 'v>(
     members: &[&'v str],
     nodes: &Nodes<'p, 'v>,
 ) -> Result<String, DocumentFault>
-    ensures { Gives (λ text. string_bytes text) result (all_rows (map text_view members.now) (entries_view (λ ds. map dep_view ds.items) nodes.now.entries) (entries_view package_view packages.now.entries)) }
+    ensures { Gives (λ text. string_bytes text) result (all_rows (map text_view members.now) (entries_view node_view nodes.now.entries) (entries_view package_view packages.now.entries)) }
 {
     let members = set_of(alloc, members)?;
+    let absent = Node::new(alloc);
     let mut rows = String::new(alloc);
     for (id, package) in packages {
         let is_member = members.contains(*id);
-        match nodes.get(*id) {
-            Some(deps) => push_rows(alloc, &mut rows, package, is_member, deps)?,
-            None => push_rows(alloc, &mut rows, package, is_member, &[])?,
-        }
+        let node = node_at(&*nodes, &absent, *id);
+        push_rows(alloc, &mut rows, package, is_member, &node.deps)?;
     }
     Ok(rows)
 }
 
-/// The rows of a document, as text. What was read of it is dropped before more is read.
+/// The rows and the warnings of a document.
+#[derive(Drop)]
+pub(crate) struct Rows {
+    /// The text of its rows.
+    pub(crate) text: String,
+    /// The declarations of workspace packages that lead to no package.
+    pub(crate) warnings: Vec<Warning>,
+}
+
+/// The rows of a document. What was read of it is dropped before more is read.
 #[tactic(auto, unfolding(crate::specs::Rows::rows_of, crate::specs::Packages::packages_in))]
-fn rows_of_document(alloc: Global, document: Value<'_>) -> Result<String, DocumentFault>
-    ensures { Gives (λ text. string_bytes text) result (rows_of (value_view document.entry)) }
+fn rows_of_document(alloc: Global, document: Value<'_>) -> Result<Rows, DocumentFault>
+    ensures rows { Gives (λ rows. string_bytes rows.text) result (rows_of (value_view document.entry)) }
+    ensures warnings { IfOk result (λ rows. warnings_of (value_view document.entry) ≡ Ok (map warning_view rows.warnings.items)) }
 {
     let (listed, rest) = parts_of(alloc, document)?;
     let packages = packages_of(alloc, listed)?;
     let members = members_in(alloc, &packages, &rest)?;
     let nodes = nodes_in(alloc, &packages, &rest)?;
     drop(rest);
-    rows_of_packages(alloc, &packages, &members, &nodes)
+    let text = rows_of_packages(alloc, &packages, &members, &nodes)?;
+    let warnings = warnings_of_packages(alloc, &packages, &members, &nodes)?;
+    Ok(Rows { text, warnings })
 }
 
 /// The fault that the text is no document; the place is where its reader stopped.
@@ -117,9 +130,10 @@ fn document_of<'t>(
     }
 }
 
-/// The rows of the document that the bytes are, as text.
-pub(crate) fn rows_of_bytes(alloc: Global, bytes: Vec<u8>) -> Result<String, Fault>
-    ensures ok { IfOk result (λ rows. AreRows bytes.items (string_bytes rows)) }
+/// The rows of the document that the bytes are.
+pub(crate) fn rows_of_bytes(alloc: Global, bytes: Vec<u8>) -> Result<Rows, Fault>
+    ensures ok { IfOk result (λ rows. AreRows bytes.items (string_bytes rows.text)) }
+    ensures warnings { IfOk result (λ rows. AreWarnings bytes.items (map warning_view rows.warnings.items)) }
     ensures fault { IfErr result (λ fault. Refuses bytes.items fault) }
 {
     let Ok(text) = str::from_utf8(&bytes) else {

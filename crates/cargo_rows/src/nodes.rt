@@ -7,11 +7,12 @@ ghost use Rattle.cargo_documents.specs.Faults.{Text, Gives, refusal_of};
 ghost use Rattle.cargo_documents.specs.Faults as fault;
 ghost use Rattle.cargo_rows.specs.Lists.{each};
 ghost use Rattle.cargo_rows.specs.Nodes as spec;
-ghost use Rattle.cargo_rows.specs.inner.Views.{HasTexts, text_view, use_view, dep_view, package_view, entries_view};
+ghost use Rattle.cargo_rows.specs.Rows.{node_of};
+ghost use Rattle.cargo_rows.specs.inner.Views.{HasTexts, text_view, use_view, dep_view, node_view, package_view, entries_view};
 ghost use Rattle.cargo_documents.specs.declared.fault.Place.TheVariants as at;
 
-use crate::packages::{Kind, Package, Packages, kind_in};
-use cargo_documents::{DocumentFault, Place, list_in, optional_text_in, text_in, texts_in};
+use crate::packages::{Kind, Package, Packages, kind_in, platform_in};
+use cargo_documents::{DocumentFault, Place, list_in, text_in, texts_in};
 use json::Value;
 use std::alloc::{AllocError, Global};
 use std::collections::{BTreeMap, BTreeSet};
@@ -31,8 +32,32 @@ pub(crate) struct Dep<'p, 'v> {
     pub(crate) uses: Vec<Use<'v>>,
 }
 
-/// What each package uses, by its id.
-pub(crate) type Nodes<'p, 'v> = BTreeMap<&'v str, Vec<Dep<'p, 'v>>>;
+/// What Cargo resolved for one package.
+#[derive(Drop)]
+pub(crate) struct Node<'p, 'v> {
+    /// The enabled features.
+    pub(crate) features: Vec<&'v str>,
+    /// The packages that it uses.
+    pub(crate) deps: Vec<Dep<'p, 'v>>,
+}
+
+impl Node<'_, '_> {
+    ghost use Rattle.cargo_rows.specs.Nodes.{no_node};
+    ghost use Rattle.cargo_rows.specs.inner.Views.{node_view};
+
+    /// Returns a node with no enabled feature and no used package, for a package that has no node.
+    pub(crate) fn new(alloc: Global) -> Self
+        ensures { node_view result ≡ no_node }
+    {
+        Node {
+            features: Vec::new(alloc),
+            deps: Vec::new(alloc),
+        }
+    }
+}
+
+/// Nodes, by the ids of their packages.
+pub(crate) type Nodes<'p, 'v> = BTreeMap<&'v str, Node<'p, 'v>>;
 
 /// The fault that no package has this id.
 fn no_package(
@@ -70,7 +95,7 @@ fn use_of<'v>(object: &Value<'v>, place: Place) -> Result<Use<'v>, DocumentFault
 {
     Ok(Use {
         kind: kind_in(object, place)?,
-        platform: optional_text_in(object, place, "target")?,
+        platform: platform_in(object, place)?,
     })
 }
 
@@ -130,31 +155,59 @@ fn deps_of<'p, 'v>(
     Ok(deps)
 }
 
-/// The id of the node of this place, and the packages that it uses.
+/// Returns the enabled features of a node, or none if it has no list of texts. The only error is out of memory.
+#[tactic(auto, using(crate::proofs::NodeReads::features_read, crate::proofs::NodeReads::features_unread))]
+fn features_on<'v>(
+    alloc: Global,
+    object: &Value<'v>,
+    place: Place,
+) -> Result<Vec<&'v str>, AllocError>
+    ensures { IfOk result (λ features. map text_view features.items ≡ spec.features_on (value_view object.now)) }
+{
+    match texts_in(alloc, object, place, "features") {
+        Ok(features) => Ok(features),
+        Err(DocumentFault::Memory) => Err(AllocError),
+        Err(_) => Ok(Vec::new(alloc)),
+    }
+}
+
+/// The id of the node of this place, and what it says of its package.
 #[tactic(auto, unfolding(crate::specs::Nodes::node_in))]
 fn node_of<'p, 'v>(
     alloc: Global,
     packages: &'p Packages<'v>,
     object: &Value<'v>,
     node: usize,
-) -> Result<(&'v str, Vec<Dep<'p, 'v>>), DocumentFault>
-    ensures { Gives (λ e. (e.0.now, map dep_view e.1.items)) result (spec.node_in (entries_view package_view packages.now.entries) node (value_view object.now)) }
+) -> Result<(&'v str, Node<'p, 'v>), DocumentFault>
+    ensures { Gives (λ e. (e.0.now, node_view e.1)) result (spec.node_in (entries_view package_view packages.now.entries) node (value_view object.now)) }
 {
     let place = Place::Node { node };
     let id = text_in(object, place, "id")?;
     let _known = package_at(alloc, packages, place, "id", id)?;
     let objects = list_in(object, place, "deps")?;
-    Ok((id, deps_of(alloc, packages, objects, node)?))
+    let deps = deps_of(alloc, packages, objects, node)?;
+    let features = features_on(alloc, object, place)?;
+    Ok((id, Node { features, deps }))
 }
 
-/// What each package of the document uses.
+/// Refuses a document that was made with `--no-deps`, in which `resolve` is null.
+fn check_deps(resolve: &Value<'_>) -> Result<(), DocumentFault>
+    ensures { Gives (λ _. tt) result (spec.with_deps (value_view resolve.now)) }
+{
+    match resolve {
+        Value::Null => Err(DocumentFault::NoDeps),
+        _ => Ok(()),
+    }
+}
+
+/// What the nodes of the document say.
 #[tactic(auto, unfolding(crate::specs::Nodes::nodes_in))]
 pub(crate) fn nodes_in<'p, 'v>(
     alloc: Global,
     packages: &'p Packages<'v>,
     document: &Value<'v>,
 ) -> Result<Nodes<'p, 'v>, DocumentFault>
-    ensures { Gives (λ m. entries_view (λ ds. map dep_view ds.items) m.entries) result (spec.nodes_in (entries_view package_view packages.now.entries) (value_view document.now)) }
+    ensures { Gives (λ m. entries_view node_view m.entries) result (spec.nodes_in (entries_view package_view packages.now.entries) (value_view document.now)) }
 {
     let Some(resolve) = document.get("resolve") else {
         return Err(DocumentFault::Field {
@@ -162,11 +215,12 @@ pub(crate) fn nodes_in<'p, 'v>(
             name: "resolve",
         });
     };
+    check_deps(resolve)?;
     let objects = list_in(resolve, Place::Resolve, "nodes")?;
     let mut nodes = BTreeMap::new(alloc);
     for (node, object) in objects.iter().enumerate() {
-        let (id, deps) = node_of(alloc, packages, object, node)?;
-        if nodes.insert(id, deps)?.is_some() {
+        let (id, said) = node_of(alloc, packages, object, node)?;
+        if nodes.insert(id, said)?.is_some() {
             return Err(DocumentFault::Repeated {
                 place: Place::Node { node },
             });
@@ -197,6 +251,18 @@ fn check_members(alloc: Global, packages: &Packages<'_>, ids: &[&str]) -> Result
         let _known = package_at(alloc, packages, Place::Document, "workspace_members", id)?;
     }
     Ok(())
+}
+
+/// Returns the node of the package `id`, or `absent` if it has none.
+pub(crate) fn node_at<'a, 'p, 'v>(
+    nodes: &'a Nodes<'p, 'v>,
+    absent: &'a Node<'p, 'v>,
+    id: &str,
+) -> &'a Node<'p, 'v>
+    requires { node_view absent.now ≡ spec.no_node }
+    ensures { node_view result.now ≡ node_of id.now (entries_view node_view nodes.now.entries) }
+{
+    nodes.get(id).unwrap_or(absent)
 }
 
 /// The ids as a set.

@@ -85,6 +85,30 @@ pub(crate) fn kind_in(object: &Value<'_>, place: Place) -> Result<Kind, Document
     }
 }
 
+/// Returns the platform `text`. The text `*` is refused, because a row uses it for every platform.
+fn platform_named<'v>(text: &'v str, place: Place) -> Result<Option<&'v str>, DocumentFault>
+    ensures { Gives (λ o. option_map text_view o) result (spec.platform_of place (Some text.now)) }
+{
+    if text == "*" {
+        Err(DocumentFault::EveryPlatform { place })
+    } else {
+        Ok(Some(text))
+    }
+}
+
+/// Reads the field `target` of a declaration or of a use. None means every platform.
+pub(crate) fn platform_in<'v>(
+    object: &Value<'v>,
+    place: Place,
+) -> Result<Option<&'v str>, DocumentFault>
+    ensures { Gives (λ o. option_map text_view o) result (spec.platform_in place (value_view object.now)) }
+{
+    match optional_text_in(object, place, "target")? {
+        None => Ok(None),
+        Some(text) => platform_named(text, place),
+    }
+}
+
 /// One declaration.
 #[tactic(auto, unfolding(crate::specs::Packages::declaration_in))]
 fn declaration_of<'v>(
@@ -99,7 +123,7 @@ fn declaration_of<'v>(
         rename: optional_text_in(object, place, "rename")?,
         requirement: text_in(object, place, "req")?,
         kind: kind_in(object, place)?,
-        platform: optional_text_in(object, place, "target")?,
+        platform: platform_in(object, place)?,
         is_optional: flag_in(object, place, "optional")?,
         has_default_features: flag_in(object, place, "uses_default_features")?,
         features: texts_in(alloc, object, place, "features")?,

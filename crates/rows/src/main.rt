@@ -1,18 +1,18 @@
 //! The program `rows [FILE]`.
 //!
 //! FILE is what `cargo metadata --format-version 1` wrote; without it, or where it is `-`, that is read from standard
-//! input. The rows go to standard output; a fault is one line on standard error, and the exit status is 1, or 2 where the words
-//! were at fault.
+//! input. The rows go to standard output, and each warning is a line on standard error. A fault is one line on standard error,
+//! and the exit status is 1, or 2 where the words were at fault.
 #![tactic(auto)]
 
-use cargo_rows::{Fault, FromReader, ToWriter, run};
+use cargo_rows::{Fault, FromReader, ToWriter, Warning, run};
 use std::fs::File;
 use std::io::ErrorKind;
 use std::process::ExitCode;
 use std::{env, io};
 
-/// Writes the rows that the program's words ask for.
-fn answer(rt: &HostRuntime) -> Result<(), Fault> {
+/// Writes the rows that the program's words ask for, and returns the warnings.
+fn answer(rt: &HostRuntime) -> Result<Vec<Warning>, Fault> {
     let mut words = match env::args(rt) {
         Ok(words) => words.skip(1),
         Err(error) if error.kind() == ErrorKind::InvalidData => return Err(Fault::Usage),
@@ -32,8 +32,8 @@ fn answer(rt: &HostRuntime) -> Result<(), Fault> {
     }
 }
 
-/// Writes the rows of the file of this path.
-fn answer_file(rt: &HostRuntime, path: &str) -> Result<(), Fault> {
+/// Writes the rows of the file of this path, and returns the warnings.
+fn answer_file(rt: &HostRuntime, path: &str) -> Result<Vec<Warning>, Fault> {
     let Ok(opened) = File::open(rt, path) else {
         return Err(Fault::CannotRead);
     };
@@ -44,7 +44,12 @@ fn answer_file(rt: &HostRuntime, path: &str) -> Result<(), Fault> {
 
 fn main(rt: HostRuntime) -> ExitCode {
     match answer(&rt) {
-        Ok(()) => ExitCode::SUCCESS,
+        Ok(warnings) => {
+            for warning in &warnings {
+                let _ = eprintln!(rt; "{warning}");
+            }
+            ExitCode::SUCCESS
+        }
         Err(fault) => {
             let _ = eprintln!(rt; "{fault}");
             ExitCode::from(fault.status())

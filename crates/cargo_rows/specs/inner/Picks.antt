@@ -4,6 +4,7 @@ use Rattle.cargo_rows.specs.declared.dependencies.Found.{Found}
 use Rattle.cargo_rows.specs.declared.dependencies.Found.TheVariants as found
 use Rattle.cargo_rows.specs.declared.dependencies.Asked.{Asked}
 use Rattle.cargo_rows.specs.declared.dependencies.Asked.TheVariants as asked
+use Rattle.cargo_documents.specs.Faults.{Text}
 use Rattle.cargo_rows.specs.Packages.{DeclarationText, PackageText}
 use Rattle.cargo_rows.specs.Nodes.{DepText}
 use Rattle.cargo_rows.specs.Dependencies.{FoundPackage, nothing, one, several, fits, is_used, is_admitted}
@@ -15,9 +16,9 @@ answers asked.Use d dep = is_used d dep
 answers asked.Version d dep = is_admitted d dep
 answers asked.Both d dep = is_used d dep && is_admitted d dep
 
--- whether the used package fits the declaration, and what is asked besides holds
-unfoldable pub meets : Asked → DeclarationText → DepText → Bool
-meets ask d dep = fits d dep && answers ask d dep
+-- whether the used package fits the declaration of the package with this id, and what is asked besides holds
+unfoldable pub meets : Asked → Text → DeclarationText → DepText → Bool
+meets ask id d dep = fits id d dep && answers ask d dep
 
 abbrev pub found_view : Found → FoundPackage
 found_view found.Nothing = nothing

@@ -10,11 +10,12 @@ use Rattle.cargo_rows.specs.declared.packages.Feature.{Feature}
 use Rattle.cargo_rows.specs.declared.packages.Package.{Package}
 use Rattle.cargo_rows.specs.declared.nodes.Use.{Use}
 use Rattle.cargo_rows.specs.declared.nodes.Dep.{Dep}
+use Rattle.cargo_rows.specs.declared.nodes.Node.{Node}
 use Rattle.cargo_rows.specs.declared.dependencies.Dependency.{Dependency}
 use Rattle.cargo_documents.specs.Faults.{Text, Refusal, ◌>>=◌}
 use Rattle.cargo_rows.specs.Lists.{ById, id_cmp}
 use Rattle.cargo_rows.specs.Packages.{DeclarationText, FeatureText, PackageText}
-use Rattle.cargo_rows.specs.Nodes.{UseText, DepText}
+use Rattle.cargo_rows.specs.Nodes.{UseText, DepText, NodeText}
 use Rattle.cargo_rows.specs.Dependencies.{DependencyText}
 
 abbrev pub text_view : Bor Text → Text
@@ -50,6 +51,9 @@ use_view u = record { kind = u.kind; platform = option_map text_view u.platform 
 
 abbrev pub dep_view : Dep → DepText
 dep_view d = record { extern_name = d.extern_name.now; target = package_view d.target.now; uses = map use_view d.uses.items }
+
+abbrev pub node_view : Node → NodeText
+node_view n = record { features = map text_view n.features.items; deps = map dep_view n.deps.items }
 
 abbrev pub dependency_view : Dependency → DependencyText
 dependency_view d = record { declaration = declaration_view d.declaration.now; target = package_view d.target.now }

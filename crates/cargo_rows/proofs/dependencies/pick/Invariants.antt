@@ -5,4 +5,4 @@ use Rattle.cargo_rows.specs.inner.Views.{declaration_view, dep_view}
 use Rattle.cargo_rows.proofs.dependencies.pick.Given as goal
 
 abbrev pub invariant-loop-dep : goal.invariant-loop-dep
-invariant-loop-dep l = found_view l.found ≡ pick (answers l.asked) (declaration_view l.declaration) (map dep_view (take l.dep-index l.deps))
+invariant-loop-dep l = found_view l.found ≡ pick (answers l.asked) l.owner (declaration_view l.declaration) (map dep_view (take l.dep-index l.deps))
