@@ -38,6 +38,12 @@ listed_before {n = n} {list = list} o i j l h =
 pub order_below : {es : List Edge} {n : ℕ} {list : List ℕ} → IsOrder es n list → (i : ℕ) → i < n → get_or list i 0 < n
 order_below o i h = (o.next i h).available.node
 
+-- what an order lists is below a length that is the number of nodes
+pub order_within : {es : List Edge} {n : ℕ} {list : List ℕ} → IsOrder es n list → (long : ℕ) → long ≡ n → (i : ℕ) → i < length list → get_or list i 0 < long
+order_within {n = n} o long e i h =
+    let below = order_below o i (omega (arith, h, o.long)) in
+    omega (arith, below, e)
+
 pub order_apart : {es : List Edge} {n : ℕ} {list : List ℕ} → IsOrder es n list → (i j : ℕ) → i < j → j < length list → get_or list i 0 ≢ get_or list j 0
 order_apart {n = n} {list = list} o i j l h =
     λ e.

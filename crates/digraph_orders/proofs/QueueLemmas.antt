@@ -2,6 +2,7 @@
 use Rattle.std.proofs.Common.{◌≡◌, ◌≢◌, ℕ, ◌+◌, ◌-◌, ◌/◌, ◌<◌, ◌≤◌, inl, inr, Bool, true, false, List, [], ◌∷◌, length, get_or, set, replicate, refl, ap, sym, ◌∙◌, arith, cond, get_or-set_same, get_or-set_other}
 use Rattle.std.proofs.Math.ListN.{length-set}
 use Rattle.std.proofs.lemmas.Bool.{cases_eq}
+use Rattle.std.proofs.lemmas.List.{length-replicate}
 use Rattle.std.proofs.lemmas.List.Sums.{sum_by-set}
 use mathlib.Core.Bool.{true≢false}
 use Rattle.guppy_support.specs.Bits.{has, members}
@@ -75,6 +76,14 @@ members_none s none = empty (members s) (λ i h. none (get_or (members s) i 0) (
 
 pub members_empty : (n : ℕ) → members (replicate n false) ≡ []
 members_empty n = members_none (replicate n false) (λ j h. true≢false (sym h ∙ has-empty n j))
+
+-- an empty set of words is above an empty set
+pub above_empty : (n m : ℕ) → m ≡ n / 64 + 1 → IsAbove (replicate n false) (replicate m false)
+above_empty n m e =
+    record {
+      room = length-replicate m false ∙ e ∙ ap (λ k. k / 64 + 1) (sym (length-replicate n false));
+      covers = λ k h. absurd (true≢false (sym h ∙ has-empty n k));
+    }
 
 -- ---- the first of a list of members
 

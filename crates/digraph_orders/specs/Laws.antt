@@ -1,10 +1,9 @@
 -- What holds of every order of a digraph.
-use Rattle.std.specs.Prelude.{◌≡◌, ◌≢◌, ◌↔◌, ℕ, ◌<◌, Bool, List, slice_index}
+use Rattle.std.specs.Prelude.{◌≡◌, ◌≢◌, ◌↔◌, ℕ, ◌<◌, List, slice_index}
 use Rattle.guppy_support.specs.declared.digraph.Edge.{Edge}
 use Rattle.guppy_support.specs.Graph.{Graph, IsDigraph}
 use Rattle.guppy_support.specs.Paths.{HasEdge, HasFirmEdge, SameComponent, OnCycle}
 use Rattle.digraph_orders.specs.Orders.{IsOrder, ListsEach}
-use Rattle.guppy_support.specs.Bits.{has, members}
 use Rattle.digraph_orders.specs.Sequences.{Sequence, IsOrderOf}
 
 -- a path, not empty, over edges that aren't dev-only

@@ -1,5 +1,5 @@
 //! The edges are counted before the first node of an order: those that enter each component, and those that hold each node.
-ghost use Rattle.std.specs.Prelude.{◌≡◌, ◌≢◌, ℕ, [], ◌+◌, ◌<◌, ◌≤◌, length, slice_index, IfOk, OnOk, false};
+ghost use Rattle.std.specs.Prelude.{◌≡◌, ◌≢◌, ℕ, [], ◌+◌, ◌<◌, ◌≤◌, length, slice_index, IfOk, OnOk, false, replicate};
 ghost use Rattle.guppy_support.specs.Graph.{IsDigraph};
 ghost use Rattle.guppy_support.specs.Rows.{places};
 ghost use Rattle.digraph_orders.specs.inner.Groups.{AreGroups};
@@ -118,6 +118,16 @@ fn first_starts(
     Ok(starts)
 }
 
+/// An empty list with room for `nodes`, and the empty set of numbers below `nodes`.
+fn nothing_listed(alloc: Global, nodes: usize) -> Result<(Vec<usize>, IxBitSet), AllocError>
+    ensures list { IfOk result (λ nothing. nothing.0.items ≡ []) }
+    ensures set { IfOk result (λ nothing. nothing.1 ≡ replicate nodes false) }
+{
+    let list = Vec::with_capacity(alloc, nodes)?;
+    let done = IxBitSet::empty(alloc, nodes)?;
+    Ok((list, done))
+}
+
 /// The plan in which no node is listed.
 pub(crate) fn first_plan(
     alloc: Global,
@@ -130,16 +140,15 @@ pub(crate) fn first_plan(
     ensures { IfOk result (λ plan. IsPauseIn graph.now ranks.now plan) }
 {
     let nodes = graph.node_count();
-    let (outside, held) = count_edges(alloc, graph, ranks)?;
-    let starts = first_starts(alloc, nodes, ranks, groups, &outside, &held)?;
-    let done = IxBitSet::empty(alloc, nodes)?;
+    let counts = count_edges(alloc, graph, ranks)?;
+    let starts = first_starts(alloc, nodes, ranks, groups, &counts.0, &counts.1)?;
     let ready = Queue::empty(alloc, nodes)?;
-    let listed = Vec::with_capacity(alloc, nodes)?;
+    let (listed, done) = nothing_listed(alloc, nodes)?;
     Ok(Plan {
         listed,
         done,
-        outside,
-        held,
+        outside: counts.0,
+        held: counts.1,
         starts,
         ready,
         next: 0,

@@ -344,6 +344,25 @@ impl Plan {
         }
         Ok(())
     }
+
+    /// Lists every node that isn't listed.
+    fn complete(
+        &mut self,
+        graph: &Digraph,
+        ranks: &[u32],
+        groups: &Groups,
+    ) -> Result<(), AllocError>
+        requires setup { IsSetup graph.now ranks.now }
+        requires groups { AreGroups graph.now.nodes ranks.now groups.now }
+        requires pause { IsPauseIn graph.now ranks.now self.old }
+        ensures { OnOk result (IsOrder graph.now.edges graph.now.nodes self.new.listed.items) }
+    {
+        while let Some(start) = self.begin(graph, ranks, groups)? {
+            self.list(graph, ranks, groups, start)?;
+            self.finish(graph, ranks, groups, ranks[start] as usize)?;
+        }
+        Ok(())
+    }
 }
 
 /// A node with no hold is ready, but for the start.
@@ -407,9 +426,6 @@ pub(crate) fn order_from(
     ensures { IfOk result (λ list. IsOrder graph.now.edges graph.now.nodes list.items) }
 {
     let mut plan = first;
-    while let Some(start) = plan.begin(graph, ranks, groups)? {
-        plan.list(graph, ranks, groups, start)?;
-        plan.finish(graph, ranks, groups, ranks[start] as usize)?;
-    }
+    plan.complete(graph, ranks, groups)?;
     Ok(plan.listed)
 }
