@@ -1,17 +1,17 @@
-//! Why a call gave no answer.
+//! Why a call has no result.
 use byte_devices::ReadError;
 use guppy_packages::{RowError, RowFault};
 use row_files::RowFileError;
 use std::alloc::{AllocError, AllocFailed};
 
-/// Why a call gave no answer.
+/// Why a call has no result.
 #[derive(Clone, Copy)]
 pub enum Failure {
-    /// There is no such call, its words are none of it, or a file can't be read.
+    /// There is no such call, its words don't fit it, or a file can't be read.
     Words,
-    /// The rows have this first fault.
+    /// The first fault of the rows.
     Row(RowError),
-    /// Memory was refused.
+    /// An allocation failed.
     Memory,
 }
 
