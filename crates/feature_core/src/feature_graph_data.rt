@@ -6,7 +6,7 @@ ghost use Rattle.feature_labels.specs.Names.{id_of, label_of};
 ghost use Rattle.feature_core.specs.Nodes.{NodeAt, nodes, first_node, first_nodes, node_packages};
 ghost use Rattle.guppy_support.specs.Bits.{has};
 ghost use Rattle.feature_core.specs.Pairs.{IsPairList, PairLeads, ReachAlong};
-ghost use Rattle.guppy_support.specs.Sequences.{IsOrderOf};
+ghost use Rattle.digraph_orders.specs.Sequences.{IsOrderOf};
 ghost use Rattle.order_views.specs.Cycles.{cyclic_components};
 ghost use Rattle.feature_core.specs.Built.{AreAlike, IsBuilt, NodeNamed, built_edges, digraph_of, end_of, pairs_of};
 ghost use Rattle.feature_core.specs.Choices.{chosen_pairs};
@@ -29,10 +29,11 @@ use crate::nodes::{NodeTable, node_table};
 use crate::numbers::{Numbers, label_at};
 use crate::packed::Packed;
 use crate::warning::{FeatureGraphWarning, warnings};
+use digraph_orders::Order;
 use feature_labels::{FeatureId, FeatureLabel};
 use feature_links::{EdgeChoice, FeatureEdge, named_links};
 use guppy_packages::{DependencyDirection, PackageGraph, PackageMetadata};
-use guppy_support::{Digraph, IxBitSet, Order};
+use guppy_support::{Digraph, IxBitSet};
 use indexmap::IndexMap;
 use order_views::cyclic_components;
 use std::alloc::{AllocError, Global};
@@ -56,7 +57,7 @@ pub struct FeatureGraphData {
 
 impl Model for FeatureGraphData {
     ghost use Rattle.std.specs.Prelude.{◌≡◌, length, map};
-    ghost use Rattle.guppy_support.specs.Sequences.{IsOrderOf};
+    ghost use Rattle.digraph_orders.specs.Sequences.{IsOrderOf};
     ghost use Rattle.order_views.specs.Cycles.{cyclic_components};
     ghost use Rattle.feature_core.specs.Built.{Built, built_edges, end_of};
     ghost use Rattle.feature_core.specs.inner.Releases.{AreTied};

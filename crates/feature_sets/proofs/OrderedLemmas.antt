@@ -6,7 +6,7 @@ use Rattle.std.specs.List.{cons_option, filter_map}
 use Rattle.std.proofs.lemmas.List.{length-map, take_more}
 use Rattle.std.proofs.lemmas.List.Elements.{filter_map-append, recursion_from_All}
 use Rattle.guppy_support.specs.Graph.{Graph as Digraph}
-use Rattle.guppy_support.specs.Sequences.{Sequence, IsOrderOf}
+use Rattle.digraph_orders.specs.Sequences.{Sequence, IsOrderOf}
 use Rattle.guppy_packages.specs.Rows.{Text}
 use Rattle.guppy_packages.specs.Tables.{Tables}
 use Rattle.feature_core.specs.Built.{Built, IsBuilt, digraph_of, end_of}

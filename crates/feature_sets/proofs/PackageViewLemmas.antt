@@ -3,7 +3,7 @@ use Rattle.std.proofs.Common.{◌≡◌, ℕ, ◌<◌, ◌∙◌, cond, List, �
 use Rattle.std.specs.Prelude.{All, IsFalse, reverse}
 use Rattle.std.proofs.lemmas.List.Elements.{All-from_get_or}
 use Rattle.std.proofs.lemmas.List.Sorted.{All-permutation, IsPermutation-reverse}
-use Rattle.guppy_support.specs.Sequences.{Sequence, IsSequence, IsOrderOf}
+use Rattle.digraph_orders.specs.Sequences.{Sequence, IsSequence, IsOrderOf}
 use Rattle.guppy_packages.specs.PackageOrder.{digraph_of_packages}
 use Rattle.guppy_packages.specs.Tables.{Tables}
 use Rattle.guppy_packages.specs.declared.direction.DependencyDirection.{DependencyDirection}

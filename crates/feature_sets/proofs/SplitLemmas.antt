@@ -4,9 +4,9 @@ use Rattle.std.specs.Prelude.{IsTrue, Contains, not, slice_index, slice_index_or
 use Rattle.std.proofs.lemmas.List.{length-map, get_or-map, get_or_default}
 use Rattle.guppy_support.specs.Bits.{has}
 use Rattle.guppy_support.specs.Graph.{Graph}
-use Rattle.guppy_support.specs.Laws.{OrderListsEach}
-use Rattle.guppy_support.specs.Orders.{ListsEach}
-use Rattle.guppy_support.specs.Sequences.{Sequence, IsOrderOf, IsSequence}
+use Rattle.digraph_orders.specs.Laws.{OrderListsEach}
+use Rattle.digraph_orders.specs.Orders.{ListsEach}
+use Rattle.digraph_orders.specs.Sequences.{Sequence, IsOrderOf, IsSequence}
 use Rattle.order_views.specs.Laws.{ListsOnce, MembersComeOnce}
 use Rattle.guppy_packages.specs.declared.direction.DependencyDirection.{DependencyDirection}
 use Rattle.feature_core.specs.Built.{digraph_of}

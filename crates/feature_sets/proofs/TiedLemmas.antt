@@ -7,7 +7,7 @@ use Rattle.std.proofs.lemmas.List.Elements.{All-from_recursion, All-from_get_or,
 use Rattle.guppy_support.specs.declared.digraph.Edge.{Edge}
 use Rattle.guppy_support.specs.Graph.{IsEdgeAt, source_of, target_of}
 use Rattle.guppy_support.specs.Paths.{HasEdge}
-use Rattle.guppy_support.specs.Sequences.{Sequence, IsSequence}
+use Rattle.digraph_orders.specs.Sequences.{Sequence, IsSequence}
 use Rattle.guppy_packages.specs.Rows.{Text}
 use Rattle.guppy_packages.specs.Tables.{Tables}
 use Rattle.feature_labels.specs.Names.{LabelName}

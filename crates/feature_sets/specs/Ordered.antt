@@ -4,7 +4,7 @@ use Rattle.std.specs.List.{filter_map}
 use Rattle.std.specs.Borrow.{Bor}
 use Rattle.std.specs.Option.{option_map, option_map_or}
 use Rattle.guppy_support.specs.declared.digraph.Edge.{Edge}
-use Rattle.guppy_support.specs.Sequences.{Sequence, IsOrderOf}
+use Rattle.digraph_orders.specs.Sequences.{Sequence, IsOrderOf}
 use Rattle.order_views.specs.Views.{in_order, links_in_order, roots_in_order}
 use Rattle.order_views.specs.declared.reading.Reading.{Reading}
 use Rattle.order_views.specs.declared.reading.Reading.TheVariants as reading

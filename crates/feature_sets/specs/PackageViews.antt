@@ -1,6 +1,6 @@
 -- The features of a set package by package, in the order of packages.
 use Rattle.std.specs.Prelude.{◌≡◌, ℕ, List, filter, map, reverse}
-use Rattle.guppy_support.specs.Orders.{IsOrder}
+use Rattle.digraph_orders.specs.Orders.{IsOrder}
 use Rattle.guppy_packages.specs.PackageOrder.{digraph_of_packages}
 use Rattle.guppy_packages.specs.declared.direction.DependencyDirection.{DependencyDirection}
 use Rattle.guppy_packages.specs.declared.direction.DependencyDirection.TheVariants.{Forward, Reverse}

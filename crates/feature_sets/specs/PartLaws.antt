@@ -1,7 +1,7 @@
 -- What holds of the parts that a callback's answers make of a set.
 use Rattle.std.specs.Prelude.{◌≡◌, ◌||◌, ℕ, Bool, List, IsTrue, map, not, length}
 use Rattle.guppy_support.specs.Bits.{has}
-use Rattle.guppy_support.specs.Sequences.{Sequence, IsOrderOf}
+use Rattle.digraph_orders.specs.Sequences.{Sequence, IsOrderOf}
 use Rattle.guppy_packages.specs.declared.direction.DependencyDirection.{DependencyDirection}
 use Rattle.feature_core.specs.Built.{digraph_of}
 use Rattle.feature_sets.specs.Ordered.{ordered_nodes}

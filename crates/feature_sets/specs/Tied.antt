@@ -1,6 +1,6 @@
 -- How two features of a graph are tied, and the cycles of the graph.
 use Rattle.std.specs.Prelude.{◌≡◌, ◌↔◌, ℕ, Bool, List, [], ◌∷◌, IsTrue, map}
-use Rattle.guppy_support.specs.Sequences.{Sequence}
+use Rattle.digraph_orders.specs.Sequences.{Sequence}
 use Rattle.order_views.specs.Cycles.{cyclic_components, nodes_of}
 use Rattle.guppy_packages.specs.Rows.{Text}
 use Rattle.guppy_packages.specs.Tables.{Tables}

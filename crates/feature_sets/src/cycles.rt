@@ -12,9 +12,9 @@ ghost use Rattle.feature_sets.specs.Tied.{RefusesTwo, TellsTied, cycle_names, cy
 ghost use Rattle.feature_sets.specs.Views.{graph_of, tables_of_graph};
 
 use crate::graph::FeatureGraph;
+use digraph_orders::Order;
 use feature_core::Error;
 use feature_labels::FeatureId;
-use guppy_support::Order;
 use order_views::is_cyclic;
 use order_views::laws::views_stay_within;
 use std::alloc::{AllocError, Global};

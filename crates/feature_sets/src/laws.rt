@@ -53,6 +53,6 @@ pub fn partition_is_split()
     ensures split { PartitionIsSplit }
     ensures first { FilterIsFirst }
 {
-    guppy_support::laws::order_lists_each();
+    digraph_orders::laws::order_lists_each();
     order_views::laws::members_come_once();
 }

@@ -2,73 +2,55 @@
 ghost use Rattle.feature_core.specs.Built.{IsBuilt};
 
 use crate::checks::{check, check_exact, check_walk, tell_why};
-use crate::edges::{Told, edges};
-use crate::failure::Failure;
-use crate::nodes::{built_from, figures, nodes};
-use crate::out::Out;
+use crate::edges::{built_from, edges, figures, nodes};
 use crate::walks::{reach, walk_from};
-use crate::words::cut;
 use feature_core::FeatureGraphData;
 use guppy_packages::PackageGraph;
+use guppy_vectors::{Failure, Out, cut};
 use std::alloc::Global;
 
 /// The stamp of the graph.
 const STAMP: u64 = 7;
 
-/// Makes a call that has to do with packages.
-fn package_call(
-    out: &mut Out,
+/// Makes the call of a line.
+fn make_call(
+    out: Out,
     alloc: Global,
     graph: &PackageGraph,
     built: &FeatureGraphData,
+    other: &PackageGraph,
     line: &str,
 ) -> Result<(), Failure>
     requires { IsBuilt graph.now built.now }
 {
     let (name, words) = cut(line);
     match name {
-        "edges" => edges(out, alloc, graph, built, Told::Built)?,
-        "copies" => edges(out, alloc, graph, built, Told::Copied)?,
-        "nodes" => nodes(out, alloc, graph, built, words)?,
-        "walk" => walk_from(out, alloc, built, words)?,
-        "reach" => reach(out, alloc, built, words)?,
-        "check" => check(out, alloc, built, words)?,
-        "check-exact" => check_exact(out, alloc, built, words)?,
-        "check-walk" => check_walk(out, alloc, built, words)?,
-        "why" => tell_why(out, alloc, built, words)?,
-        _ => return Err(Failure::Words),
-    }
-    Ok(())
-}
-
-/// Makes the call of a line.
-fn make_call(
-    out: &mut Out,
-    alloc: Global,
-    graph: &PackageGraph,
-    built: &FeatureGraphData,
-    other: &PackageGraph,
-    line: &str,
-) -> Result<(), Failure>
-    requires { IsBuilt graph.now built.now }
-{
-    match line {
         "figures" => figures(out, built),
-        "built-from" => built_from(out, alloc, built, other)?,
-        _ => package_call(out, alloc, graph, built, line)?,
+        "built-from" => built_from(out, alloc, built, other),
+        "edges" => edges(out, alloc, graph, built, false),
+        "copies" => edges(out, alloc, graph, built, true),
+        "nodes" => nodes(out, alloc, graph, built, words),
+        "walk" => walk_from(out, alloc, built, words),
+        "reach" => reach(out, alloc, built, words),
+        "check" => check(out, alloc, built, words),
+        "check-exact" => check_exact(out, alloc, built, words),
+        "check-walk" => check_walk(out, alloc, built, words),
+        "why" => tell_why(out, alloc, built, words),
+        _ => Err(Failure::Words),
     }
-    Ok(())
 }
 
 /// Makes the calls of a script, in order.
 pub fn make_calls(
-    out: &mut Out,
+    out: Out,
     alloc: Global,
     graph: &PackageGraph,
     other: &PackageGraph,
     script: &str,
 ) -> Result<(), Failure> {
-    let built = FeatureGraphData::build(alloc, graph, STAMP)?;
+    let Ok(built) = FeatureGraphData::build(alloc, graph, STAMP) else {
+        return Err(Failure::Memory);
+    };
     for line in script.lines() {
         out.text("< ", line);
         out.line("");

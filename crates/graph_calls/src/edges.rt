@@ -2,119 +2,133 @@
 ghost use Rattle.std.specs.Prelude.{◌<◌, length};
 ghost use Rattle.feature_core.specs.Built.{IsBuilt};
 
-use crate::copies::copied;
-use crate::edge::{Ends, tell_edge};
-use crate::out::Out;
+use crate::edge::{copied, tell_edge};
 use feature_core::laws::warning_equality;
-use feature_core::{FeatureEdge, FeatureGraphData, FeatureGraphWarning};
-use guppy_packages::PackageGraph;
+use feature_core::{FeatureGraphData, FeatureGraphWarning};
+use feature_labels::FeatureId;
+use guppy_packages::{PackageGraph, PackageId};
+use guppy_vectors::{Failure, Out, label_of, parts};
 use std::alloc::{AllocError, Global};
 
-/// Whether edges are told, or equal ones.
-#[derive(Clone, Copy)]
-pub enum Told {
-    /// The edges that were built.
-    Built,
-    /// Equal edges.
-    Copied,
-}
-
-/// Tells the id of a node, with `?` where it doesn't lead back to the node.
-fn tell_node(out: &mut Out, graph: &PackageGraph, built: &FeatureGraphData, ix: usize)
-    requires built { IsBuilt graph.now built.now }
-    requires node { ix < length built.now.packages }
-{
-    let id = built.id(graph, ix);
-    out.part(" ");
-    out.part(id);
-    out.part_if(built.node(graph, id) != Some(ix), "?");
-}
-
-/// Tells the ids of the nodes in one line.
-fn tell_nodes(out: &mut Out, graph: &PackageGraph, built: &FeatureGraphData)
-    requires { IsBuilt graph.now built.now }
-{
-    out.part("nodes");
-    for ix in 0..built.node_count() {
-        tell_node(out, graph, built, ix);
+/// Tells a place or `none`, after a text.
+fn tell_place(out: Out, before: &str, place: Option<usize>) {
+    match place {
+        Some(place) => out.number(before, place),
+        None => out.text(before, "none"),
     }
     out.line("");
 }
 
-/// The ends of an edge.
-fn ends_of(built: &FeatureGraphData, number: usize) -> Ends
+/// Tells the stamp, how many nodes and edges there are, and the first edge whose link is present for no kind.
+pub fn figures(out: Out, built: &FeatureGraphData) -> Result<(), Failure> {
+    out.part("stamp ");
+    out.shown(built.stamp());
+    out.number(", nodes ", built.node_count());
+    out.number(", edges ", built.edge_count());
+    tell_place(out, ", absent ", built.first_absent_link());
+    Ok(())
+}
+
+/// Tells whether the graph is built from other packages.
+pub fn built_from(
+    out: Out,
+    alloc: Global,
+    built: &FeatureGraphData,
+    other: &PackageGraph,
+) -> Result<(), Failure> {
+    match built.is_built_from(alloc, other) {
+        Ok(answer) => {
+            out.answer("", answer);
+            out.line("");
+            Ok(())
+        }
+        Err(_) => Err(Failure::Memory),
+    }
+}
+
+/// Tells the nodes of features.
+pub fn nodes(
+    out: Out,
+    alloc: Global,
+    graph: &PackageGraph,
+    built: &FeatureGraphData,
+    words: &str,
+) -> Result<(), Failure>
+    requires { IsBuilt graph.now built.now }
+{
+    for word in words.split_whitespace() {
+        let (package, label) = parts(word);
+        let package = PackageId::new(alloc, package)?;
+        let id = FeatureId::new(&package, label_of(label));
+        tell_place(out, "", built.node(graph, id));
+    }
+    Ok(())
+}
+
+/// Tells the ids of the nodes in one line, or of those alone that are on by default, with `?` where an id doesn't lead back to
+/// its node.
+fn tell_nodes(out: Out, graph: &PackageGraph, built: &FeatureGraphData, defaults: bool)
+    requires { IsBuilt graph.now built.now }
+{
+    out.part(if defaults { "defaults" } else { "nodes" });
+    for ix in 0..built.node_count() {
+        if !defaults || built.is_default(ix) {
+            let id = built.id(graph, ix);
+            out.id(id);
+            out.part_if(built.node(graph, id) != Some(ix), "?");
+        }
+    }
+    out.line("");
+}
+
+/// Tells the ends of an edge, with `?` where the digraph has others.
+fn tell_ends(out: Out, built: &FeatureGraphData, number: usize)
     requires { number < length built.now.edges }
 {
     let (from, to, _) = built.edge(number);
     let ends = built.digraph().edge(number);
-    Ends {
-        from,
-        to,
-        differ: ends.from != from || ends.to != to,
-    }
+    out.number("", from);
+    out.number("-", to);
+    out.part_if(ends.from != from || ends.to != to, " ?");
+    out.part(" ");
 }
 
-/// Tells an edge, or an equal one.
-fn tell_told(
-    out: &mut Out,
-    alloc: Global,
-    ends: Ends,
-    edge: &FeatureEdge,
-    told: Told,
-) -> Result<(), AllocError> {
-    match told {
-        Told::Built => tell_edge(out, alloc, ends, edge),
-        Told::Copied => tell_edge(out, alloc, ends, &copied(alloc, edge)?),
-    }
-}
-
-/// Tells an edge in a line, with `dev-only` where the digraph marks it so.
+/// Tells an edge in a line, or an equal one, with `dev-only` where the digraph marks it so.
 fn tell_line(
-    out: &mut Out,
+    out: Out,
     alloc: Global,
     built: &FeatureGraphData,
     number: usize,
-    told: Told,
+    copies: bool,
 ) -> Result<(), AllocError>
     requires { number < length built.now.edges }
 {
     let (_, _, edge) = built.edge(number);
-    tell_told(out, alloc, ends_of(built, number), edge, told)?;
+    if copies {
+        let edge = copied(alloc, edge)?;
+        tell_ends(out, built, number);
+        tell_edge(out, &edge);
+    } else {
+        tell_ends(out, built, number);
+        tell_edge(out, edge);
+    }
     out.part_if(!built.digraph().edge(number).non_dev, " dev-only");
     out.line("");
     Ok(())
 }
 
-/// Tells the edges, one a line.
-fn tell_edges(
-    out: &mut Out,
-    alloc: Global,
-    built: &FeatureGraphData,
-    told: Told,
-) -> Result<(), AllocError> {
-    for number in 0..built.edge_count() {
-        tell_line(out, alloc, built, number, told)?;
-    }
-    Ok(())
-}
-
-/// Tells a weak link.
-fn tell_weak_link(out: &mut Out, number: usize, link: usize, gate: usize) {
-    out.number("weak(", number);
-    out.number(") link=", link);
-    out.number(" gate=", gate);
-    out.line("");
-}
-
 /// Tells the weak links, one a line.
-fn tell_weak_links(out: &mut Out, built: &FeatureGraphData) {
+fn tell_weak_links(out: Out, built: &FeatureGraphData) {
     for (number, (link, gate)) in built.weak_links().iter().enumerate() {
-        tell_weak_link(out, number, *link, *gate);
+        out.number("weak(", number);
+        out.number(") link=", *link);
+        out.number(" gate=", *gate);
+        out.line("");
     }
 }
 
 /// Tells a warning.
-fn tell_warning(out: &mut Out, warning: &FeatureGraphWarning) {
+fn tell_warning(out: Out, warning: &FeatureGraphWarning) {
     let (word, package_id, feature_name) = match warning {
         FeatureGraphWarning::MissingFeature {
             package_id,
@@ -130,42 +144,33 @@ fn tell_warning(out: &mut Out, warning: &FeatureGraphWarning) {
 }
 
 /// Tells the warnings, one a line, with `again` where an earlier one is equal.
-fn tell_warnings(out: &mut Out, warnings: &[FeatureGraphWarning]) {
+fn tell_warnings(out: Out, warnings: &[FeatureGraphWarning]) {
     for (place, warning) in warnings.iter().enumerate() {
         tell_warning(out, warning);
-        let mut earlier = warnings.iter().take(place);
-        let is_again = earlier.any(|other| warning_equality(warning, other));
+        let mut is_again = false;
+        for other in warnings.iter().take(place) {
+            is_again = is_again || warning_equality(warning, other);
+        }
         out.line(if is_again { " again" } else { "" });
     }
 }
 
-/// Tells the ids of the nodes that are on by default in one line.
-fn tell_defaults(out: &mut Out, graph: &PackageGraph, built: &FeatureGraphData)
-    requires { IsBuilt graph.now built.now }
-{
-    out.part("defaults");
-    for ix in 0..built.node_count() {
-        if built.is_default(ix) {
-            tell_node(out, graph, built, ix);
-        }
-    }
-    out.line("");
-}
-
-/// Tells the nodes, edges, weak links, warnings and defaults that are built of the package graph.
+/// Tells the nodes, edges, weak links, warnings and defaults that are built of the package graph, or equal edges.
 pub fn edges(
-    out: &mut Out,
+    out: Out,
     alloc: Global,
     graph: &PackageGraph,
     built: &FeatureGraphData,
-    told: Told,
-) -> Result<(), AllocError>
+    copies: bool,
+) -> Result<(), Failure>
     requires { IsBuilt graph.now built.now }
 {
-    tell_nodes(out, graph, built);
-    tell_edges(out, alloc, built, told)?;
+    tell_nodes(out, graph, built, false);
+    for number in 0..built.edge_count() {
+        tell_line(out, alloc, built, number, copies)?;
+    }
     tell_weak_links(out, built);
     tell_warnings(out, built.warnings());
-    tell_defaults(out, graph, built);
+    tell_nodes(out, graph, built, true);
     Ok(())
 }

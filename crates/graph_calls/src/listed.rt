@@ -3,13 +3,12 @@ ghost use Rattle.std.specs.Prelude.{◌≡◌, ◌&&◌, ◌==◌, ◌<◌, IsTr
 ghost use Rattle.walk_engine.specs.Walks.{is_gated};
 ghost use Rattle.graph_calls.specs.ListedWays.{way_of, AreWithin};
 
-use crate::ways::{Way, ways_of};
-use feature_core::FeatureGraphData;
 use feature_core::engine::{Ask, EdgeSource, Taken};
+use feature_core::{FeatureEdge, FeatureGraphData, SlashForm};
 use guppy_packages::DependencyDirection;
 use std::alloc::{AllocError, Global};
 
-/// A start, a far end, what is asked, and a gate.
+/// A start, a far end, what is asked, and a gate. The gate counts where the ask is gated, and is 0 elsewhere.
 type ListedWay = (usize, usize, Ask, usize);
 
 /// A source that scans a list of edges for each read.
@@ -38,32 +37,46 @@ fn are_within(nodes: usize, ways: &[ListedWay]) -> bool
         .all(|way| way.0 < nodes && way.1 < nodes && way.3 < nodes)
 }
 
-impl Listed {
-    /// The edges of a graph as a source that was not read yet, unless an end of one is no node.
-    pub fn new(alloc: Global, nodes: usize, listed: &[Way]) -> Result<Option<Self>, AllocError>
-        ensures nodes { IfOk result (λ found. IfSome found (λ source. source.nodes ≡ nodes)) }
-        ensures reads { IfOk result (λ found. IfSome found (λ source. source.reads ≡ 0)) }
-    {
-        let mut ways = Vec::new(alloc);
-        for way in listed {
-            ways.push((way.start, way.far, way.ask, way.gate))?;
+/// What is asked of an edge, and its gate. No half waits in reverse.
+fn ask_of(built: &FeatureGraphData, edge: &FeatureEdge, forward: bool) -> (Ask, usize) {
+    match edge {
+        FeatureEdge::FeatureToBase | FeatureEdge::NamedFeature => (Ask::Nobody, 0),
+        FeatureEdge::NamedFeatureWithSlash {
+            link: _,
+            slash: SlashForm::Weak(weak),
+        } => {
+            let required = weak.required().get().is_some();
+            let ask = Ask::Weak {
+                required,
+                gated: forward,
+            };
+            match built.weak_links().get_index(weak.index().index()) {
+                Some((_, gate)) if forward => (ask, *gate),
+                _ => (ask, 0),
+            }
         }
-        if !are_within(nodes, &ways) {
-            return Ok(None);
-        }
-        let reads = 0;
-        Ok(Some(Listed { nodes, ways, reads }))
+        _ => (Ask::Full, 0),
     }
 }
 
-impl Listed {
-    /// How many reads there were.
-    pub fn reads(&self) -> u128 {
-        self.reads
+/// The edges of a feature graph by number, as the direction follows them.
+fn ways_of(
+    alloc: Global,
+    built: &FeatureGraphData,
+    direction: DependencyDirection,
+) -> Result<Vec<ListedWay>, AllocError> {
+    let forward = direction == DependencyDirection::Forward;
+    let mut ways = Vec::new(alloc);
+    for number in 0..built.edge_count() {
+        let (from, to, edge) = built.edge(number);
+        let (ask, gate) = ask_of(built, edge, forward);
+        let (start, far) = if forward { (from, to) } else { (to, from) };
+        ways.push((start, far, ask, gate))?;
     }
+    Ok(ways)
 }
 
-/// The edges of a feature graph in a list, unless an end of one is no node.
+/// The edges of a feature graph in a list, as a source that was not read yet, unless an end of one is no node.
 pub fn edges_listed(
     alloc: Global,
     built: &FeatureGraphData,
@@ -72,8 +85,20 @@ pub fn edges_listed(
     ensures nodes { IfOk result (λ found. IfSome found (λ source. source.nodes ≡ length built.now.packages)) }
     ensures reads { IfOk result (λ found. IfSome found (λ source. source.reads ≡ 0)) }
 {
+    let nodes = built.node_count();
     let ways = ways_of(alloc, built, direction)?;
-    Listed::new(alloc, built.node_count(), &ways)
+    if !are_within(nodes, &ways) {
+        return Ok(None);
+    }
+    let reads = 0;
+    Ok(Some(Listed { nodes, ways, reads }))
+}
+
+impl Listed {
+    /// How many reads there were.
+    pub fn reads(&self) -> u128 {
+        self.reads
+    }
 }
 
 impl EdgeSource for Listed {

@@ -1,7 +1,6 @@
 //! An offerer that answers by a rule and writes down what it is asked.
-use crate::out::Out;
-use crate::words::cut;
 use feature_core::engine::{Half, Offerer};
+use guppy_vectors::{Out, cut};
 
 /// How an offerer answers.
 #[derive(Clone, Copy)]
@@ -27,12 +26,16 @@ pub fn letter(half: Half) -> &'static str {
     }
 }
 
-/// Whether a word is the offer: the number of the edge, and the letter.
-fn is_offer(word: &str, edge: usize, half: Half) -> bool {
-    match word.strip_suffix(letter(half)) {
-        Some(number) => number.parse::<usize>() == Ok(edge),
-        None => false,
+/// Whether one of the words, with commas between them, is the offer: the number of the edge, and the letter.
+fn lists(offers: &str, edge: usize, half: Half) -> bool {
+    for word in offers.split(',') {
+        if let Some(number) = word.strip_suffix(letter(half)) {
+            if number.parse::<usize>() == Ok(edge) {
+                return true;
+            }
+        }
     }
+    false
 }
 
 impl<'a> Rule<'a> {
@@ -55,7 +58,7 @@ impl<'a> Rule<'a> {
             Rule::Nothing => false,
             Rule::First(count) => before < count,
             Rule::Alternate => before % 2 == 0,
-            Rule::These(offers) => offers.split(',').any(|word| is_offer(word, edge, half)),
+            Rule::These(offers) => lists(offers, edge, half),
         }
     }
 }

@@ -1,6 +1,6 @@
 //! A source that writes down its reads.
-use crate::out::Out;
 use feature_core::engine::{EdgeSource, Taken};
+use guppy_vectors::Out;
 
 /// The edges of another source. It writes down of which node each read is.
 #[derive(Drop)]

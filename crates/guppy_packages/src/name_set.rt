@@ -68,6 +68,21 @@ fn grown<T: Eq + Hash + Drop>(alloc: Global, items: Vec<T>, item: T) -> Result<H
     Ok(Held::Many(many))
 }
 
+/// Adds `item` at the end, unless an equal one is there, and returns whether it did. If an allocation fails, `items` stays as it was.
+#[inline]
+fn insert_few<T: Eq + Hash + Drop>(items: &mut Vec<T>, item: T) -> Result<bool, AllocError>
+    ensures added { IfOk result (λ added. added ≡ not (list_any (T.eq item) items.old.items)) }
+    ensures items { IfOk result (λ _. items.new.items ≡ insert_key T.eq items.old.items item) }
+    ensures kept { OnErr result (items.new.items ≡ items.old.items) }
+{
+    if has(items, &item) {
+        return Ok(false);
+    }
+    items.reserve_exact(FEW.saturating_sub(items.len()))?;
+    push_to(items, item)?;
+    Ok(true)
+}
+
 /// Adds an item at the end, unless an equal one is there, and tells whether it did. Where memory is refused, items may be lost.
 #[inline]
 fn insert_into<T: Eq + Hash + Drop>(
@@ -83,16 +98,14 @@ fn insert_into<T: Eq + Hash + Drop>(
     match held {
         Held::Many(items) => Ok(items.insert(item)?),
         Held::Few(items) => {
+            if items.len() < FEW {
+                return insert_few(items, item);
+            }
             if has(items, &item) {
                 return Ok(false);
             }
-            if items.len() < FEW {
-                items.reserve_exact(FEW - items.len())?;
-                push_to(items, item)?;
-            } else {
-                let all = mem::replace(items, Vec::new(alloc));
-                *held = grown(alloc, all, item)?;
-            }
+            let all = mem::replace(items, Vec::new(alloc));
+            *held = grown(alloc, all, item)?;
             Ok(true)
         }
     }

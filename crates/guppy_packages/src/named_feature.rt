@@ -1,5 +1,5 @@
 //! A named feature of a package, in one text.
-ghost use Rattle.std.specs.Prelude.{◌≡◌, ◌∷◌, ◌++◌, [], ◌<◌, ◌≤◌, ◌==◌, Some, IfOk, length, not, slice_get, slice_index};
+ghost use Rattle.std.specs.Prelude.{◌≡◌, ◌∷◌, ◌++◌, [], ◌<◌, ◌≤◌, ◌==◌, Some, IfOk, OnOk, length, not, slice_get, slice_index};
 ghost use Rattle.std.specs.String.{string_bytes};
 ghost use Rattle.guppy_packages.specs.Parts.{AreEnds, AreEnds-prop, item_ends};
 ghost use Rattle.guppy_packages.specs.Rows.{texts};
@@ -35,16 +35,16 @@ fn room_for(name: &str, items: &[&str]) -> usize {
     room
 }
 
-/// Adds each item, and tells where it ends.
-fn push_each(alloc: Global, text: &mut String, items: &[&str]) -> Result<Vec<u32>, AllocError>
-    ensures { IfOk result (λ ends. IsPushed (string_bytes text.old) (texts items.now) (string_bytes text.new) ends.items) }
+/// Appends each of `items` to `text`, and the place where it ends to `ends`.
+fn push_each(text: &mut String, ends: &mut Vec<u32>, items: &[&str]) -> Result<(), AllocError>
+    requires none { ends.old.items ≡ [] }
+    ensures { OnOk result (IsPushed (string_bytes text.old) (texts items.now) (string_bytes text.new) ends.new.items) }
 {
-    let mut ends = Vec::with_capacity(alloc, items.len())?;
     for item in items {
         text.push_str(item)?;
-        push_to(&mut ends, narrow(text.as_str().len())?)?;
+        push_to(ends, narrow(text.as_str().len())?)?;
     }
-    Ok(ends)
+    Ok(())
 }
 
 /// Adds the items of a feature to its name, and tells where each but the last ends.
@@ -54,7 +54,8 @@ fn push_items(alloc: Global, text: &mut String, items: &[&str]) -> Result<Vec<u3
     let Some((last, before)) = items.split_last() else {
         return Ok(Vec::new(alloc));
     };
-    let ends = push_each(alloc, text, before)?;
+    let mut ends = Vec::with_capacity(alloc, before.len())?;
+    push_each(text, &mut ends, before)?;
     text.push_str(last)?;
     Ok(ends)
 }
@@ -66,9 +67,9 @@ impl NamedFeature {
     pub(crate) fn new(alloc: Global, name: &str, items: &[&str]) -> Result<NamedFeature, AllocError>
         ensures { IfOk result (λ f. feature_table f ≡ record { name = name.now; items = texts items.now }) }
     {
+        let name_end = narrow(name.len())?;
         let mut text = String::with_capacity(alloc, room_for(name, items))?;
         text.push_str(name)?;
-        let name_end = narrow(name.len())?;
         let ends = push_items(alloc, &mut text, items)?;
         Ok(NamedFeature {
             text,

@@ -7,7 +7,7 @@ use Rattle.std.proofs.lemmas.List.FromFn.{length-range_with_len, get_or-range_wi
 use Rattle.guppy_support.specs.declared.digraph.Edge.{Edge}
 use Rattle.guppy_support.specs.Graph.{Graph, IsDigraph, sources}
 use Rattle.guppy_support.specs.Rows.{places_from, places}
-use Rattle.guppy_support.specs.inner.PackedRows.{below, AreBegun, AreAllBegun}
+use Rattle.guppy_support.specs.PackedRows.{below, AreBegun, AreAllBegun}
 use Rattle.guppy_support.proofs.FaultLemmas.{ascends}
 use Rattle.guppy_support.proofs.PackedLemmas.{below_more, below-le-length}
 

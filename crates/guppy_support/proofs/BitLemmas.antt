@@ -15,7 +15,8 @@ use Rattle.std.proofs.lemmas.Simd.{mask_l-lt, bit_mask_l, ones-mask_l}
 use Rattle.std.proofs.lemmas.List.Sums.{sum_by-cons, sum_by-append, length-filter, count_by-le-length}
 use Rattle.std.proofs.lemmas.Slice.Zip.{get_or-zip, length-zip}
 use Rattle.guppy_support.specs.Bits.{has, one_alone}
-use Rattle.guppy_support.specs.inner.Words.{word_bit, bits_of, members_from, AreWords, IsFirstIn}
+use Rattle.guppy_support.specs.NextMembers.{members_from, IsFirstIn}
+use Rattle.guppy_support.specs.inner.Words.{word_bit, bits_of, AreWords}
 
 pub length-bits_of : (n : ℕ) (words : List ℕ) → length (bits_of n words) ≡ n
 length-bits_of n words = length-map-range_with_len (λ k. word_bit words k == 1) 0 n

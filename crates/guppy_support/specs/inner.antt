@@ -1,14 +1,2 @@
-pub mod Apart
-pub mod ComponentWalk
-pub mod Counts
 pub mod EdgeColumns
-pub mod Groups
-pub mod Heads
-pub mod NodeEdges
-pub mod Numbering
-pub mod PackedRows
-pub mod Plans
-pub mod Queues
-pub mod Ranks
-pub mod Widths
 pub mod Words

@@ -7,7 +7,8 @@ ghost use Rattle.std.specs.Cmp.Lexicographic.{pointwise};
 ghost use Rattle.std.specs.Ordering.{on};
 ghost use Rattle.std.proofs.lemmas.Cmp.{on_equiv, nat_list_eq_equiv};
 ghost use Rattle.guppy_support.specs.Bits.{has, members, one_alone};
-ghost use Rattle.guppy_support.specs.inner.Words.{members_from, Fit, IsFirstIn};
+ghost use Rattle.guppy_support.specs.NextMembers.{members_from, IsFirstIn};
+ghost use Rattle.guppy_support.specs.inner.Words.{Fit};
 
 use std::alloc::{AllocError, Global};
 use std::marker::Model;
@@ -83,7 +84,7 @@ impl IxBitSet {
     }
 
     /// Takes the number out of the set.
-    pub(crate) fn remove(&mut self, number: usize)
+    pub fn remove(&mut self, number: usize)
         requires { number < length self.old }
         ensures { self.new ≡ slice_set self.old number false }
     {
@@ -175,8 +176,8 @@ impl IxBitSet {
         self.size == other.size && same_words(&self.words, &other.words)
     }
 
-    /// The least number of the set among the 64 of that word.
-    pub(crate) fn first_in(&self, place: usize) -> Option<usize>
+    /// Returns the least number of the set from `64 * place` up to the next multiple of 64.
+    pub fn first_in(&self, place: usize) -> Option<usize>
         requires { place * 64 ≤ length self.now }
         ensures none { IfNone result ((j : ℕ) → j / 64 ≡ place → has self.now j ≡ false) }
         ensures some { IfSome result (IsFirstIn self.now place) }
@@ -189,7 +190,7 @@ impl IxBitSet {
     }
 
     /// The least number of the set from `from` on.
-    pub(crate) fn next_from(&self, from: usize) -> Option<usize>
+    pub fn next_from(&self, from: usize) -> Option<usize>
         requires { from ≤ length self.now }
         ensures fits { length self.now < 2 ^ 64 }
         ensures least { MatchOption result (members_from self.now from ≡ []) (λ k. (from ≤ k) × (k < length self.now) × (members_from self.now from ≡ k ∷ members_from self.now (k + 1))) }
@@ -302,7 +303,7 @@ pub struct Ones<'a> {
 
 impl<'a> Model for Ones<'a> {
     ghost use Rattle.std.specs.Prelude.{List, ℕ, ◌≡◌, ◌≤◌, length};
-    ghost use Rattle.guppy_support.specs.inner.Words.{members_from};
+    ghost use Rattle.guppy_support.specs.NextMembers.{members_from};
 
     ghost Value = { List ℕ };
 

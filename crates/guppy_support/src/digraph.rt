@@ -4,7 +4,7 @@ ghost use Rattle.std.specs.Prelude.{◌≡◌, ℕ, ◌+◌, ◌-◌, ◌<◌, �
 ghost use Rattle.guppy_support.specs.Graph.{IsDigraph, IsRefused, IsEdgeAt, IsBefore, sources, targets};
 ghost use Rattle.guppy_support.specs.Paths.{HasEdge};
 ghost use Rattle.guppy_support.specs.Rows.{places};
-ghost use Rattle.guppy_support.specs.inner.PackedRows.{IsPacked};
+ghost use Rattle.guppy_support.specs.PackedRows.{IsPacked};
 
 mod begins;
 mod columns;
@@ -50,7 +50,7 @@ pub struct Digraph {
 
 impl Model for Digraph {
     ghost use Rattle.guppy_support.specs.Graph.{Graph, IsDigraph, sources, targets};
-    ghost use Rattle.guppy_support.specs.inner.PackedRows.{AreAllBegun, IsPacked};
+    ghost use Rattle.guppy_support.specs.PackedRows.{AreAllBegun, IsPacked};
 
     ghost Value = { Graph };
 

@@ -1,15 +1,13 @@
-//! Digraphs, sets of numbers, and the order and components of a digraph.
+//! Sets of numbers, digraphs, and the places of each number in a list.
 #![tactic(auto)]
 
 mod bit_set;
 mod collecting;
-mod components;
 mod digraph;
 pub mod laws;
-mod order;
 mod rows;
 
 pub use bit_set::{IxBitSet, Ones};
 pub use collecting::collect_exactly;
 pub use digraph::{Digraph, DigraphError, Edge, EdgeColumns};
-pub use order::Order;
+pub use rows::{Keys, Rows, pack_rows, zeroes};

@@ -3,8 +3,8 @@ use Rattle.std.proofs.Common.{◌≡◌, ℕ, ◌<◌, ◌⊎◌, inl, inr, List
 use Rattle.std.specs.Prelude.{IsFalse, IsTrue, slice_get}
 use Rattle.std.specs.List.{enumerate_from}
 use Rattle.guppy_support.specs.Bits.{has}
-use Rattle.guppy_support.specs.Laws.{OneOrder, OrderListsEach}
-use Rattle.guppy_support.specs.Sequences.{Sequence}
+use Rattle.digraph_orders.specs.Laws.{OneOrder, OrderListsEach}
+use Rattle.digraph_orders.specs.Sequences.{Sequence}
 use Rattle.guppy_packages.specs.Rows.{Text}
 use Rattle.guppy_packages.specs.Tables.{Tables}
 use Rattle.guppy_packages.specs.declared.direction.DependencyDirection.{DependencyDirection}

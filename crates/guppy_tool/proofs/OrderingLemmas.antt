@@ -2,9 +2,9 @@
 use Rattle.std.proofs.Common.{◌≡◌, ℕ, List, [], ◌∷◌, ◌++◌, true, length, map, replicate, append_assoc, append-nil, refl, ap, sym, ◌∙◌, subst}
 use Rattle.std.specs.Prelude.{flat_map}
 use Rattle.guppy_support.specs.declared.digraph.Edge.{Edge}
-use Rattle.guppy_support.specs.Laws.{OrderListsEach}
-use Rattle.guppy_support.specs.Orders.{ListsEach}
-use Rattle.guppy_support.specs.Sequences.{Sequence, IsOrderOf}
+use Rattle.digraph_orders.specs.Laws.{OrderListsEach}
+use Rattle.digraph_orders.specs.Orders.{ListsEach}
+use Rattle.digraph_orders.specs.Sequences.{Sequence, IsOrderOf}
 use Rattle.order_views.specs.Cycles.{cyclic_components, nodes_of}
 use Rattle.order_views.specs.Views.{in_order}
 use Rattle.guppy_packages.specs.Rows.{Text}

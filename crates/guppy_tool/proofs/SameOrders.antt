@@ -3,9 +3,9 @@ use Rattle.std.proofs.Common.{◌≡◌, ℕ, zero, suc, ◌<◌, ◌≤◌, ◌
 use Rattle.std.specs.Prelude.{slice_index}
 use Rattle.std.proofs.lemmas.List.{get_or_default}
 use Rattle.guppy_support.specs.Graph.{Graph}
-use Rattle.guppy_support.specs.Laws.{OneOrder, OrderListsEach}
-use Rattle.guppy_support.specs.Orders.{ListsEach}
-use Rattle.guppy_support.specs.Sequences.{Sequence, IsOrderOf, component_of}
+use Rattle.digraph_orders.specs.Laws.{OneOrder, OrderListsEach}
+use Rattle.digraph_orders.specs.Orders.{ListsEach}
+use Rattle.digraph_orders.specs.Sequences.{Sequence, IsOrderOf, component_of}
 
 -- numbers that rise along n places, and are exactly those below m
 record IsNumbering (n m : ℕ) (at : ℕ → ℕ) : Type 0 where

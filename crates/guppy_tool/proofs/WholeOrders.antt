@@ -2,7 +2,7 @@
 use Rattle.std.proofs.Common.{◌≡◌, ℕ, zero, suc, ◌<◌, Bool, true, List, [], ◌∷◌, length, filter, replicate, cond, refl, ap, ◌∙◌, arith}
 use Rattle.std.specs.Prelude.{slice_index, reverse}
 use Rattle.guppy_support.specs.Bits.{has}
-use Rattle.guppy_support.specs.Orders.{ListsEach}
+use Rattle.digraph_orders.specs.Orders.{ListsEach}
 use Rattle.order_views.specs.Views.{in_order}
 use Rattle.order_views.specs.declared.reading.Reading.TheVariants as reading
 

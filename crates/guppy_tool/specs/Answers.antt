@@ -12,7 +12,7 @@ use Rattle.feature_labels.specs.Lists.{Ascends, SameLabels, joined}
 use Rattle.feature_core.specs.Nodes.{nodes, labels_of}
 use Rattle.feature_core.specs.Errors as graph
 use Rattle.guppy_support.specs.Bits.{has}
-use Rattle.guppy_support.specs.Sequences.{Sequence, IsOrderOf}
+use Rattle.digraph_orders.specs.Sequences.{Sequence, IsOrderOf}
 use Rattle.feature_sets.specs.Names.{AreKnown, HasPackage, IsFirstUnknown, HoldsExactly, at_places, names_of_nodes}
 use Rattle.feature_sets.specs.Explained.{AreTold}
 use Rattle.guppy_features.specs.Platforms.{platform_offers}

@@ -12,10 +12,10 @@ ghost use Rattle.guppy_tool.specs.Words.CommandText.{all_cycles, ordered as orde
 
 use crate::fault::Fault;
 use crate::listing::push_line;
+use digraph_orders::laws::order_lists_each;
 use feature_core::graph_laws::{content_of_graph, edges_say, one_content};
 use guppy_features::{FeatureGraph, FeatureGraphData, FeatureGraphExt, FeatureId, FeatureSet};
 use guppy_packages::{DependencyDirection, PackageGraph};
-use guppy_support::laws::order_lists_each;
 use std::alloc::{AllocError, Global};
 
 // Does nothing: two builds of one package graph have one digraph.

@@ -1,10 +1,8 @@
 //! Calls on ids of features.
-use crate::failure::Failure;
 use crate::names::sign;
-use crate::out::Out;
-use crate::words::{label_of, parts};
 use feature_labels::{FeatureId, FeatureLabel, LinkDeclarations};
 use guppy_packages::PackageId;
+use guppy_vectors::{Failure, Out, label_of, parts};
 use std::alloc::Global;
 use std::hash::{DefaultHasher, Hash, Hasher};
 
@@ -18,9 +16,9 @@ fn constructed<'g>(package: &'g PackageId, label: FeatureLabel<'g>) -> FeatureId
 }
 
 /// An id and its kinds, and whether its parts make it again.
-fn tell_id(out: &mut Out, id: FeatureId<'_>) {
+fn tell_id(out: Out, id: FeatureId<'_>) {
     let package = id.package_id();
-    out.part(id);
+    out.shown(id);
     out.part_if(id.is_base(), ", base");
     out.part_if(id.is_named(), ", named");
     out.part_if(id.is_optional_dependency(), ", optional");
@@ -30,7 +28,7 @@ fn tell_id(out: &mut Out, id: FeatureId<'_>) {
 }
 
 /// The id of a package and a label.
-pub fn id(out: &mut Out, alloc: Global, word: &str) -> Result<(), Failure> {
+pub fn id(out: Out, alloc: Global, word: &str) -> Result<(), Failure> {
     let (package, label) = parts(word);
     let package = PackageId::new(alloc, package)?;
     tell_id(out, FeatureId::new(&package, label_of(label)));
@@ -45,40 +43,41 @@ fn hash_of(id: FeatureId<'_>) -> u64 {
 }
 
 /// How two ids compare, and whether they are equal and hash alike.
-fn tell_compared(out: &mut Out, id: FeatureId<'_>, other: FeatureId<'_>) {
-    out.part(id);
+fn tell_compared(out: Out, id: FeatureId<'_>, other: FeatureId<'_>) {
+    out.shown(id);
     out.text(sign(id.cmp(&other)), " ");
-    out.part(other);
+    out.shown(other);
     out.answer(", equal ", id == other);
     out.answer(", alike ", hash_of(id) == hash_of(other));
     out.line("");
 }
 
 /// How two ids compare.
-pub fn compare(out: &mut Out, alloc: Global, words: &str) -> Result<(), Failure> {
+pub fn compare(out: Out, alloc: Global, words: &str) -> Result<(), Failure> {
     let (word, other) = words.split_once(' ').unwrap_or((words, words));
-    let package = PackageId::new(alloc, parts(word).0)?;
-    let other_package = PackageId::new(alloc, parts(other).0)?;
-    let id = FeatureId::new(&package, label_of(parts(word).1));
+    let (id, label) = parts(word);
+    let (other_id, other_label) = parts(other);
+    let id = PackageId::new(alloc, id)?;
+    let other_id = PackageId::new(alloc, other_id)?;
     tell_compared(
         out,
-        id,
-        FeatureId::new(&other_package, label_of(parts(other).1)),
+        FeatureId::new(&id, label_of(label)),
+        FeatureId::new(&other_id, label_of(other_label)),
     );
     Ok(())
 }
 
-/// Which declarations a link covers.
-fn tell_covered(out: &mut Out, link: LinkDeclarations) {
-    out.debug(link);
-    out.answer(": required ", link.includes_required());
-    out.answer(", optional ", link.includes_optional());
-    out.line("");
-}
-
 /// Which declarations each kind of link covers.
-pub fn covered(out: &mut Out) {
-    tell_covered(out, LinkDeclarations::Unsplit);
-    tell_covered(out, LinkDeclarations::Required);
-    tell_covered(out, LinkDeclarations::Optional);
+pub fn covered(out: Out) -> Result<(), Failure> {
+    for link in [
+        LinkDeclarations::Unsplit,
+        LinkDeclarations::Required,
+        LinkDeclarations::Optional,
+    ] {
+        out.debug(link);
+        out.answer(": required ", link.includes_required());
+        out.answer(", optional ", link.includes_optional());
+        out.line("");
+    }
+    Ok(())
 }

@@ -1,9 +1,9 @@
 //! Calls on lists of features.
-use crate::failure::Failure;
-use crate::out::Out;
-use crate::words::{cut, halves, label_of};
+ghost use Rattle.std.specs.Iterator.{IsFinite};
+
 use feature_labels::{FeatureLabel, FeatureList};
 use guppy_packages::{PackageGraph, PackageMetadata, Row};
+use guppy_vectors::{Failure, Out, cut, halves, label_of};
 use std::alloc::Global;
 
 /// The package of this id.
@@ -17,11 +17,13 @@ fn package_of<'g>(graph: &'g PackageGraph, id: &str) -> Result<PackageMetadata<'
     Err(Failure::Words)
 }
 
-fn push_labels<'t>(labels: &mut Vec<FeatureLabel<'t>>, words: &'t str) -> Result<(), Failure> {
+/// The labels of a text.
+fn labels_of(alloc: Global, words: &str) -> Result<Vec<FeatureLabel<'_>>, Failure> {
+    let mut labels = Vec::new(alloc);
     for word in words.split_whitespace() {
         labels.push(label_of(word))?;
     }
-    Ok(())
+    Ok(labels)
 }
 
 /// The list of a text, which has the package's id and labels.
@@ -30,64 +32,46 @@ fn list_of<'g>(
     graph: &'g PackageGraph,
     words: &'g str,
 ) -> Result<FeatureList<'g>, Failure> {
-    let (id, labels_listed) = cut(words);
+    let (id, labels) = cut(words);
     let package = package_of(graph, id)?;
-    let mut labels = Vec::new(alloc);
-    push_labels(&mut labels, labels_listed)?;
+    let labels = labels_of(alloc, labels)?;
     Ok(FeatureList::new(alloc, package, &labels)?)
 }
 
-/// What a list prints.
-fn tell_printed(out: &mut Out, list: &FeatureList<'_>) {
+/// What a list prints, the names of its named features and of its optional dependencies, and its ids.
+fn tell_list(out: Out, list: &FeatureList<'_>) {
     let package = list.package();
     out.number("package ", package.package_ix());
     out.text(" ", package.id().repr());
     out.line("");
-    out.line(list.display_features());
+    out.shown(list.display_features());
+    out.line("");
     out.debug_line(list.display_features());
     out.debug_line(list);
-}
-
-/// How many items are left of an iterator, by its bounds.
-fn tell_bounds(out: &mut Out, bounds: (usize, Option<usize>)) {
-    out.part(" ");
-    out.debug(bounds);
-}
-
-/// The names of a list's named features.
-fn tell_named(out: &mut Out, list: &FeatureList<'_>) {
-    let names = list.named_features();
-    out.part("named");
-    tell_bounds(out, names.size_hint());
-    for name in names {
-        out.text(" ", name);
-    }
-    out.line("");
-}
-
-/// The names of a list's optional dependencies.
-fn tell_optional(out: &mut Out, list: &FeatureList<'_>) {
-    let names = list.optional_deps();
-    out.part("optional");
-    tell_bounds(out, names.size_hint());
-    for name in names {
-        out.text(" ", name);
-    }
-    out.line("");
-}
-
-/// The ids of a list.
-fn tell_ids(out: &mut Out, list: &FeatureList<'_>) {
+    tell_names(out, "named ", list.named_features());
+    tell_names(out, "optional ", list.optional_deps());
     out.number("ids ", list.iter().len());
     for id in list {
-        out.part(" ");
-        out.part(id);
+        out.id(id);
+    }
+    out.line("");
+}
+
+/// How many names are left of an iterator, by its bounds, and the names.
+fn tell_names<'a, I: Iterator<Item = &'a str>>(out: Out, before: &str, names: I)
+    requires can { I.can_next names }
+    requires ends { IsFinite (I.remaining names) }
+{
+    out.part(before);
+    out.debug(names.size_hint());
+    for name in names {
+        out.text(" ", name);
     }
     out.line("");
 }
 
 /// A list's copy.
-fn tell_copy(out: &mut Out, alloc: Global, list: &FeatureList<'_>) -> Result<(), Failure> {
+fn tell_copy(out: Out, alloc: Global, list: &FeatureList<'_>) -> Result<(), Failure> {
     let copy = list.try_clone(alloc)?;
     out.answer("copy ", copy == *list);
     out.number(", labels ", copy.into_labels().len());
@@ -96,30 +80,23 @@ fn tell_copy(out: &mut Out, alloc: Global, list: &FeatureList<'_>) -> Result<(),
 }
 
 /// What is left of a list that is given up, id by id.
-fn tell_rest(out: &mut Out, list: FeatureList<'_>) {
+fn tell_rest(out: Out, list: FeatureList<'_>) {
     let mut ids = list.into_iter();
     out.number("left ", ids.len());
-    tell_bounds(out, ids.size_hint());
+    out.part(" ");
+    out.debug(ids.size_hint());
     while let Some(id) = ids.next() {
+        out.id(id);
         out.part(" ");
-        out.part(id);
-        tell_bounds(out, ids.size_hint());
+        out.debug(ids.size_hint());
     }
     out.line("");
 }
 
 /// All that a list says.
-pub fn list(
-    out: &mut Out,
-    alloc: Global,
-    graph: &PackageGraph,
-    words: &str,
-) -> Result<(), Failure> {
+pub fn list(out: Out, alloc: Global, graph: &PackageGraph, words: &str) -> Result<(), Failure> {
     let list = list_of(alloc, graph, words)?;
-    tell_printed(out, &list);
-    tell_named(out, &list);
-    tell_optional(out, &list);
-    tell_ids(out, &list);
+    tell_list(out, &list);
     tell_copy(out, alloc, &list)?;
     tell_rest(out, list);
     Ok(())
@@ -134,50 +111,35 @@ fn has(list: &FeatureList<'_>, label: FeatureLabel<'_>) -> bool {
     }
 }
 
-/// Whether a list holds a label, asked in two ways.
-fn tell_held(out: &mut Out, list: &FeatureList<'_>, word: &str) {
-    let label = label_of(word);
-    out.part(label);
-    out.answer(" ", list.contains(label));
-    out.answer(" ", has(list, label));
-    out.line("");
-}
-
-/// Whether a list holds each of some labels.
-pub fn held(
-    out: &mut Out,
-    alloc: Global,
-    graph: &PackageGraph,
-    words: &str,
-) -> Result<(), Failure> {
-    let (words, asked) = halves(words)?;
+/// Whether a list holds each of some labels, asked in two ways.
+pub fn held(out: Out, alloc: Global, graph: &PackageGraph, words: &str) -> Result<(), Failure> {
+    let (words, asked) = halves(words, ": ")?;
     let list = list_of(alloc, graph, words)?;
     for word in asked.split_whitespace() {
-        tell_held(out, &list, word);
+        let label = label_of(word);
+        out.shown(label);
+        out.answer(" ", list.contains(label));
+        out.answer(" ", has(&list, label));
+        out.line("");
     }
     Ok(())
 }
 
-fn push_turned<'g>(rows: &mut Vec<Row<'g>>, graph: &'g PackageGraph) -> Result<(), Failure> {
+/// The rows of the packages of a graph, in the order from the last to the first.
+fn turned_rows(alloc: Global, graph: &PackageGraph) -> Result<Vec<Row<'_>>, Failure> {
+    let mut rows = Vec::new(alloc);
     for ix in (0..graph.package_count()).rev() {
         rows.push(Row::Package {
             id: graph.package(ix).id().repr(),
             in_workspace: true,
         })?;
     }
-    Ok(())
-}
-
-/// The packages of a graph, in the order from the last to the first.
-fn turned(alloc: Global, graph: &PackageGraph) -> Result<PackageGraph, Failure> {
-    let mut rows = Vec::new(alloc);
-    push_turned(&mut rows, graph)?;
-    Ok(PackageGraph::from_rows(alloc, &rows)?)
+    Ok(rows)
 }
 
 /// Whether a list is equal to that of a text, which may be over another graph.
 fn tell_equal(
-    out: &mut Out,
+    out: Out,
     alloc: Global,
     list: &FeatureList<'_>,
     graph: &PackageGraph,
@@ -190,15 +152,10 @@ fn tell_equal(
 }
 
 /// Whether two lists are equal, over one graph, and where the second is over another graph with the same packages.
-pub fn equal(
-    out: &mut Out,
-    alloc: Global,
-    graph: &PackageGraph,
-    words: &str,
-) -> Result<(), Failure> {
-    let (words, other) = halves(words)?;
+pub fn equal(out: Out, alloc: Global, graph: &PackageGraph, words: &str) -> Result<(), Failure> {
+    let (words, other) = halves(words, ": ")?;
     let list = list_of(alloc, graph, words)?;
     tell_equal(out, alloc, &list, graph, other)?;
-    let turned = turned(alloc, graph)?;
+    let turned = PackageGraph::from_rows(alloc, &turned_rows(alloc, graph)?)?;
     tell_equal(out, alloc, &list, &turned, other)
 }

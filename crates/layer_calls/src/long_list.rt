@@ -1,35 +1,30 @@
 //! Lists too long for a script.
-use crate::failure::Failure;
-use crate::out::Out;
-use crate::words::number;
 use feature_labels::{FeatureLabel, FeatureList};
 use guppy_packages::PackageGraph;
+use guppy_vectors::{Failure, Out, number};
 use std::alloc::Global;
 
-fn push_name(names: &mut Vec<String>, alloc: Global, number: usize) -> Result<(), Failure> {
-    names.push(format!(in alloc; "{number:05}")?)?;
-    Ok(())
-}
-
 /// The numbers below a bound, each as a name of five digits at least.
-fn push_names(names: &mut Vec<String>, alloc: Global, bound: usize) -> Result<(), Failure> {
+fn names_below(alloc: Global, bound: usize) -> Result<Vec<String>, Failure> {
+    let mut names = Vec::new(alloc);
     for number in 0..bound {
-        push_name(names, alloc, number)?;
+        names.push(format!(in alloc; "{number:05}")?)?;
     }
-    Ok(())
+    Ok(names)
 }
 
 /// The named features of these names, from the last to the first.
-fn push_labels<'t>(labels: &mut Vec<FeatureLabel<'t>>, names: &'t [String]) -> Result<(), Failure> {
+fn labels_of(alloc: Global, names: &[String]) -> Result<Vec<FeatureLabel<'_>>, Failure> {
+    let mut labels = Vec::new(alloc);
     for name in names.iter().rev() {
         labels.push(FeatureLabel::Named(name.as_str()))?;
     }
-    Ok(())
+    Ok(labels)
 }
 
 /// How many labels a list has, and the first of the names that doesn't stand in their order, isn't found in the list as a
 /// feature or is found as an optional dependency.
-fn tell_found(out: &mut Out, list: &FeatureList<'_>, names: &[String]) {
+fn tell_found(out: Out, list: &FeatureList<'_>, names: &[String]) {
     out.number("", list.labels().len());
     for (name, label) in names.iter().zip(list.labels()) {
         if *label != FeatureLabel::Named(name.as_str())
@@ -43,31 +38,18 @@ fn tell_found(out: &mut Out, list: &FeatureList<'_>, names: &[String]) {
 }
 
 /// The list of these names, handed over from the last to the first.
-fn tell(
-    out: &mut Out,
-    alloc: Global,
-    graph: &PackageGraph,
-    names: &[String],
-) -> Result<(), Failure> {
+fn tell(out: Out, alloc: Global, graph: &PackageGraph, names: &[String]) -> Result<(), Failure> {
     if graph.package_count() == 0 {
         return Err(Failure::Words);
     }
-    let mut labels = Vec::new(alloc);
-    push_labels(&mut labels, names)?;
+    let labels = labels_of(alloc, names)?;
     let list = FeatureList::new(alloc, graph.package(0), &labels)?;
     tell_found(out, &list, names);
     Ok(())
 }
 
 /// The list of the first package with as many features as a number says.
-pub fn long_list(
-    out: &mut Out,
-    alloc: Global,
-    graph: &PackageGraph,
-    word: &str,
-) -> Result<(), Failure> {
-    let bound = number(word)?;
-    let mut names = Vec::new(alloc);
-    push_names(&mut names, alloc, bound)?;
+pub fn long_list(out: Out, alloc: Global, graph: &PackageGraph, word: &str) -> Result<(), Failure> {
+    let names = names_below(alloc, number(word)?)?;
     tell(out, alloc, graph, &names)
 }

@@ -6,89 +6,40 @@
 
 mod calls;
 mod digraphs;
-mod failure;
 mod ids;
 mod lists;
 mod long_list;
 mod names;
-mod out;
 mod packages;
-mod platforms;
 mod sets;
-mod words;
 
 use crate::calls::make_calls;
-use crate::failure::Failure;
-use crate::out::Out;
-use byte_devices::{FromReader, read_all};
 use guppy_packages::PackageGraph;
+use guppy_vectors::{Failure, Out, bytes_of, script};
 use row_files::{LineRows, Lines};
 use std::alloc::Global;
-use std::env;
-use std::fs::File;
 use std::process::ExitCode;
 
-/// All bytes of a file.
-fn read_file(rt: &HostRuntime, path: &str) -> Result<Vec<u8>, Failure> {
-    let Ok(file) = File::open(rt, path) else {
+/// The package graph of a row file's bytes, or its first fault.
+fn graph_of(alloc: Global, bytes: &[u8]) -> Result<PackageGraph, Failure> {
+    let Ok(text) = str::from_utf8(bytes) else {
         return Err(Failure::Words);
     };
-    let mut reader = FromReader::new(file);
-    Ok(read_all(rt.alloc(), &mut reader)?)
-}
-
-/// All bytes of the row file that the first word names; without a word, none.
-fn row_file(rt: &HostRuntime) -> Result<Vec<u8>, Failure> {
-    let Ok(mut words) = env::args(rt) else {
-        return Err(Failure::Memory);
-    };
-    match words.nth(1) {
-        Some(path) => read_file(rt, path.as_str()),
-        None => Ok(Vec::new(rt.alloc())),
-    }
-}
-
-/// The package graph of a row file's text, or its first fault.
-fn graph_of(alloc: Global, text: &str) -> Result<PackageGraph, Failure> {
     let lines = Lines::of(alloc, text)?;
     let rows = LineRows::of(&lines)?;
     Ok(PackageGraph::from_source(alloc, &rows)?)
 }
 
-/// The package graph of a row file's bytes, or its first fault.
-fn package_graph(rt: &HostRuntime) -> Result<PackageGraph, Failure> {
-    let bytes = row_file(rt)?;
-    match str::from_utf8(&bytes) {
-        Ok(text) => graph_of(rt.alloc(), text),
-        Err(_) => Err(Failure::Words),
-    }
-}
-
-/// All bytes of standard input.
-fn script(rt: &HostRuntime) -> Result<Vec<u8>, Failure> {
-    let mut reader = FromReader::new(rt.stdin());
-    Ok(read_all(rt.alloc(), &mut reader)?)
-}
-
 /// Makes the calls of standard input.
-fn answer(rt: &HostRuntime, out: &mut Out) -> Result<(), Failure> {
-    let graph = package_graph(rt)?;
-    let bytes = script(rt)?;
-    let Ok(text) = str::from_utf8(&bytes) else {
-        return Err(Failure::Words);
-    };
-    make_calls(out, rt.alloc(), &graph, text);
+fn answer(rt: &HostRuntime, out: Out) -> Result<(), Failure> {
+    let graph = graph_of(rt.alloc(), &bytes_of(rt, 1)?)?;
+    let script = script(rt)?;
+    make_calls(out, rt.alloc(), &graph, script.as_str());
     Ok(())
 }
 
 fn main(rt: HostRuntime) -> ExitCode {
-    let mut out = Out::new(rt.stdout());
-    if let Err(failure) = answer(&rt, &mut out) {
-        out.failure(failure);
-    }
-    if out.has_failed() {
-        ExitCode::FAILURE
-    } else {
-        ExitCode::SUCCESS
-    }
+    let out = Out::new(rt.stdout());
+    let made = answer(&rt, out);
+    out.ended(made)
 }

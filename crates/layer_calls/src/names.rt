@@ -1,13 +1,11 @@
 //! Calls on the texts of items and on package ids.
-use crate::failure::Failure;
-use crate::out::Out;
-use crate::words::plain;
 use guppy_packages::{NamedFeatureDep, PackageId};
+use guppy_vectors::{Failure, Out};
 use std::alloc::Global;
 use std::cmp::Ordering;
 
 /// What the text of an item means. Names stand in brackets.
-pub fn item(out: &mut Out, text: &str) {
+pub fn item(out: Out, text: &str) -> Result<(), Failure> {
     match NamedFeatureDep::from_cargo_string(text) {
         NamedFeatureDep::NamedFeature(name) => out.text("feature [", name),
         NamedFeatureDep::OptionalDependency(name) => out.text("dependency [", name),
@@ -22,6 +20,7 @@ pub fn item(out: &mut Out, text: &str) {
         }
     }
     out.line("]");
+    Ok(())
 }
 
 /// How two values compare, as a sign.
@@ -33,24 +32,22 @@ pub fn sign(order: Ordering) -> &'static str {
     }
 }
 
-fn push_ids(ids: &mut Vec<PackageId>, alloc: Global, words: &str) -> Result<(), Failure> {
+/// The package ids of a text; two quotes stand for no text.
+fn ids_of(alloc: Global, words: &str) -> Result<Vec<PackageId>, Failure> {
+    let mut ids = Vec::new(alloc);
     for word in words.split(' ') {
-        ids.push(PackageId::new(alloc, plain(word))?)?;
+        ids.push(PackageId::new(alloc, if word == "''" { "" } else { word })?)?;
     }
-    Ok(())
+    Ok(ids)
 }
 
-/// How an id compares with each.
-fn tell_compared(out: &mut Out, id: &PackageId, ids: &[PackageId]) {
+/// How an id compares with each, and whether its copy is equal to it.
+fn tell_id(out: Out, alloc: Global, id: &PackageId, ids: &[PackageId]) {
     out.text(id.repr(), ":");
     for other in ids {
         out.part(sign(id.cmp(other)));
     }
     out.line("");
-}
-
-/// Whether an id's copy is equal to it.
-fn tell_copy(out: &mut Out, alloc: Global, id: &PackageId) {
     match id.try_clone(alloc) {
         Ok(copy) => out.answer("copy ", copy == *id),
         Err(_) => out.part("out of memory"),
@@ -59,12 +56,10 @@ fn tell_copy(out: &mut Out, alloc: Global, id: &PackageId) {
 }
 
 /// How each of some package ids compares with each, and whether its copy is equal to it.
-pub fn package_ids(out: &mut Out, alloc: Global, words: &str) -> Result<(), Failure> {
-    let mut ids = Vec::new(alloc);
-    push_ids(&mut ids, alloc, words)?;
+pub fn package_ids(out: Out, alloc: Global, words: &str) -> Result<(), Failure> {
+    let ids = ids_of(alloc, words)?;
     for id in &ids {
-        tell_compared(out, id, &ids);
-        tell_copy(out, alloc, id);
+        tell_id(out, alloc, id, &ids);
     }
     Ok(())
 }

@@ -1,16 +1,13 @@
-//! Calls on package graphs.
-use crate::failure::Failure;
-use crate::out::Out;
-use crate::platforms::tell_status;
-use crate::words::cut;
+//! Calls on package graphs and platform statuses.
 use guppy_packages::{
     Declaration, NamedFeature, PackageGraph, PackageId, PackageLink, PackageMetadata,
-    PlatformStatus,
+    PlatformStatus, PlatformStatusImpl, Spec,
 };
+use guppy_vectors::{Failure, Out, cut};
 use std::alloc::Global;
 
 /// A text that stands before a place, and the place or `none`.
-fn tell_place(out: &mut Out, before: &str, place: Option<usize>) {
+fn tell_place(out: Out, before: &str, place: Option<usize>) {
     match place {
         Some(place) => out.number(before, place),
         None => out.text(before, "none"),
@@ -18,7 +15,7 @@ fn tell_place(out: &mut Out, before: &str, place: Option<usize>) {
 }
 
 /// A named feature and its items.
-fn tell_feature(out: &mut Out, package: PackageMetadata<'_>, feature: &NamedFeature) {
+fn tell_feature(out: Out, package: PackageMetadata<'_>, feature: &NamedFeature) {
     out.text("feature ", feature.name());
     tell_place(out, " at ", package.feature_place(feature.name()));
     out.part(":");
@@ -28,15 +25,8 @@ fn tell_feature(out: &mut Out, package: PackageMetadata<'_>, feature: &NamedFeat
     out.line("");
 }
 
-/// A name that an optional dependency has.
-fn tell_optional(out: &mut Out, package: PackageMetadata<'_>, name: &str) {
-    out.text("optional ", name);
-    tell_place(out, " at ", package.optional_place(name));
-    out.line("");
-}
-
 /// What a package says of itself.
-fn tell_facts(out: &mut Out, package: PackageMetadata<'_>) {
+fn tell_facts(out: Out, package: PackageMetadata<'_>) {
     out.number("package ", package.package_ix());
     out.text(" ", package.id().repr());
     out.part(if package.in_workspace() {
@@ -52,18 +42,37 @@ fn tell_facts(out: &mut Out, package: PackageMetadata<'_>) {
 }
 
 /// A package, its features and its optional names.
-fn tell_package(out: &mut Out, package: PackageMetadata<'_>) {
+fn tell_package(out: Out, package: PackageMetadata<'_>) {
     tell_facts(out, package);
     for feature in package.named_features() {
         tell_feature(out, package, feature);
     }
     for name in package.optional_deps() {
-        tell_optional(out, package, name.as_str());
+        out.text("optional ", name.as_str());
+        tell_place(out, " at ", package.optional_place(name.as_str()));
+        out.line("");
     }
 }
 
+/// A status, with the answers to its three questions.
+fn tell_status(out: Out, status: PlatformStatus<'_>) {
+    match status {
+        PlatformStatus::Never => out.part("nowhere"),
+        PlatformStatus::Always => out.part("everywhere"),
+        PlatformStatus::PlatformDependent(specs) => {
+            out.part("on");
+            for spec in specs {
+                out.text(" ", spec.text());
+            }
+        }
+    }
+    out.part_if(status.is_never(), ", never");
+    out.part_if(status.is_always(), ", always");
+    out.part_if(status.is_present(), ", present");
+}
+
 /// A declaration of a link.
-fn tell_declaration(out: &mut Out, declaration: &Declaration) {
+fn tell_declaration(out: Out, declaration: &Declaration) {
     out.debug(declaration.kind());
     out.part(if declaration.optional() {
         ", optional, "
@@ -79,7 +88,7 @@ fn tell_declaration(out: &mut Out, declaration: &Declaration) {
 }
 
 /// A link and its declarations.
-fn tell_link(out: &mut Out, link: PackageLink<'_>) {
+fn tell_link(out: Out, link: PackageLink<'_>) {
     let (from, to) = (link.from(), link.to());
     out.number("link ", link.link_ix());
     out.number(" ", from.package_ix());
@@ -94,36 +103,60 @@ fn tell_link(out: &mut Out, link: PackageLink<'_>) {
 }
 
 /// All that a graph says, a line for each package, feature, optional name, link and declaration.
-pub fn graph(out: &mut Out, graph: &PackageGraph) {
+pub fn graph(out: Out, graph: &PackageGraph) -> Result<(), Failure> {
     for ix in 0..graph.package_count() {
         tell_package(out, graph.package(ix));
     }
     for ix in 0..graph.link_count() {
         tell_link(out, graph.link(ix));
     }
+    Ok(())
 }
 
-/// Where a package has a name: the places among its features and among its optional names.
-fn tell_places(out: &mut Out, package: PackageMetadata<'_>, name: &str) {
-    out.part(package.id());
-    out.number(" is package ", package.package_ix());
-    tell_place(out, ", ", package.feature_place(name));
-    tell_place(out, " among its features, ", package.optional_place(name));
-    out.line(" among its optional names");
-}
-
-/// Looks a package up, and a name in it.
-pub fn place(
-    out: &mut Out,
-    alloc: Global,
-    graph: &PackageGraph,
-    words: &str,
-) -> Result<(), Failure> {
+/// Looks a package up, and a name in it: its places among the features and among the optional names.
+pub fn place(out: Out, alloc: Global, graph: &PackageGraph, words: &str) -> Result<(), Failure> {
     let (id, name) = cut(words);
     let id = PackageId::new(alloc, id)?;
     match graph.metadata(&id) {
-        Ok(package) => tell_places(out, package, name),
+        Ok(package) => {
+            out.shown(package.id());
+            out.number(" is package ", package.package_ix());
+            tell_place(out, ", ", package.feature_place(name));
+            tell_place(out, " among its features, ", package.optional_place(name));
+            out.line(" among its optional names");
+        }
         Err(error) => out.debug_line(error),
     }
     Ok(())
+}
+
+/// A status that owns its specs, and its copy.
+fn tell_owned(out: Out, alloc: Global, status: &PlatformStatusImpl) -> Result<(), Failure> {
+    tell_status(out, PlatformStatus::new(status));
+    out.line("");
+    let copy = status.try_clone(alloc)?;
+    out.part("copy ");
+    tell_status(out, PlatformStatus::new(&copy));
+    out.line("");
+    Ok(())
+}
+
+/// The specs of a text.
+fn specs_of(alloc: Global, words: &str) -> Result<Vec<Spec>, Failure> {
+    let mut specs = Vec::new(alloc);
+    for word in words.split_whitespace() {
+        specs.push(Spec::new(alloc, word)?)?;
+    }
+    Ok(specs)
+}
+
+/// The status everywhere.
+pub fn always(out: Out, alloc: Global) -> Result<(), Failure> {
+    tell_owned(out, alloc, &PlatformStatusImpl::Always)
+}
+
+/// The status on the platforms of some specs.
+pub fn specs(out: Out, alloc: Global, words: &str) -> Result<(), Failure> {
+    let specs = specs_of(alloc, words)?;
+    tell_owned(out, alloc, &PlatformStatusImpl::Specs(specs))
 }

@@ -1,21 +1,7 @@
 //! Calls on sets of numbers.
-use crate::failure::Failure;
-use crate::out::Out;
-use crate::words::{cut, halves, number};
 use guppy_support::IxBitSet;
+use guppy_vectors::{Failure, Out, cut, halves, insert, number};
 use std::alloc::{AllocError, Global};
-
-/// Puts the numbers of a text into a set, in that order.
-fn insert(set: &mut IxBitSet, words: &str) -> Result<(), Failure> {
-    for word in words.split_whitespace() {
-        let number = number(word)?;
-        if number >= set.size() {
-            return Err(Failure::Words);
-        }
-        set.insert(number);
-    }
-    Ok(())
-}
 
 /// The set of a text, which has the set's bound and its numbers.
 fn set_of(alloc: Global, words: &str) -> Result<IxBitSet, Failure> {
@@ -26,7 +12,7 @@ fn set_of(alloc: Global, words: &str) -> Result<IxBitSet, Failure> {
 }
 
 /// A set's numbers, counted twice, and its bound.
-fn tell(out: &mut Out, name: &str, set: &IxBitSet) {
+fn tell(out: Out, name: &str, set: &IxBitSet) {
     out.part(name);
     out.number(": ", set.count());
     out.number(", ", set.ones().len());
@@ -39,7 +25,7 @@ fn tell(out: &mut Out, name: &str, set: &IxBitSet) {
 }
 
 /// A set that a call made.
-fn tell_made(out: &mut Out, name: &str, set: Result<IxBitSet, AllocError>) {
+fn tell_made(out: Out, name: &str, set: Result<IxBitSet, AllocError>) {
     match set {
         Ok(set) => tell(out, name, &set),
         Err(_) => out.failure(Failure::Memory),
@@ -47,7 +33,7 @@ fn tell_made(out: &mut Out, name: &str, set: Result<IxBitSet, AllocError>) {
 }
 
 /// What the operations give of two sets.
-fn tell_operations(out: &mut Out, alloc: Global, low: &IxBitSet, high: &IxBitSet) {
+fn tell_operations(out: Out, alloc: Global, low: &IxBitSet, high: &IxBitSet) {
     if low.size() == high.size() {
         tell_made(out, "union", low.union(alloc, high));
         tell_made(out, "intersection", low.intersection(alloc, high));
@@ -58,8 +44,8 @@ fn tell_operations(out: &mut Out, alloc: Global, low: &IxBitSet, high: &IxBitSet
 }
 
 /// Two sets, after the operations on them.
-pub fn sets(out: &mut Out, alloc: Global, words: &str) -> Result<(), Failure> {
-    let (low, high) = halves(words)?;
+pub fn sets(out: Out, alloc: Global, words: &str) -> Result<(), Failure> {
+    let (low, high) = halves(words, ": ")?;
     let low = set_of(alloc, low)?;
     let high = set_of(alloc, high)?;
     tell_operations(out, alloc, &low, &high);
@@ -69,33 +55,24 @@ pub fn sets(out: &mut Out, alloc: Global, words: &str) -> Result<(), Failure> {
 }
 
 /// How two sets compare.
-fn tell_equal(out: &mut Out, one: &IxBitSet, other: &IxBitSet) {
+fn tell_equal(out: Out, one: &IxBitSet, other: &IxBitSet) {
     out.answer("equal ", one == other);
     out.answer(", unequal ", one != other);
     out.answer(", identical ", one.is_identical(other));
     out.line("");
 }
 
-/// How a set's copy compares with it.
-fn tell_copy(out: &mut Out, alloc: Global, set: &IxBitSet) {
-    match set.try_clone(alloc) {
-        Ok(copy) => tell_equal(out, &copy, set),
-        Err(_) => out.failure(Failure::Memory),
-    }
-}
-
 /// How two sets compare, and then the first one's copy with it.
-pub fn equal(out: &mut Out, alloc: Global, words: &str) -> Result<(), Failure> {
-    let (one, other) = halves(words)?;
+pub fn equal(out: Out, alloc: Global, words: &str) -> Result<(), Failure> {
+    let (one, other) = halves(words, ": ")?;
     let one = set_of(alloc, one)?;
-    let other = set_of(alloc, other)?;
-    tell_equal(out, &one, &other);
-    tell_copy(out, alloc, &one);
+    tell_equal(out, &one, &set_of(alloc, other)?);
+    tell_equal(out, &one.try_clone(alloc)?, &one);
     Ok(())
 }
 
 /// The count of a set of all numbers below a bound, and whether it has the last.
-pub fn full(out: &mut Out, alloc: Global, words: &str) -> Result<(), Failure> {
+pub fn full(out: Out, alloc: Global, words: &str) -> Result<(), Failure> {
     let size = number(words)?;
     let set = IxBitSet::full(alloc, size)?;
     out.number("", set.count());

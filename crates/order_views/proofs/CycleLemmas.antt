@@ -9,10 +9,10 @@ use Rattle.std.proofs.lemmas.List.Folds.{Any-from_list_any, list_any_at, list_an
 use Rattle.std.proofs.lemmas.Map.Keys.{apart_from_distinct}
 use Rattle.guppy_support.specs.declared.digraph.Edge.{Edge}
 use Rattle.guppy_support.specs.Graph.{Graph, IsDigraph, IsEdgeAt, target_of}
-use Rattle.guppy_support.specs.Laws.{CyclesAreComponents}
-use Rattle.guppy_support.specs.Orders.{ListsEach}
+use Rattle.digraph_orders.specs.Laws.{CyclesAreComponents}
+use Rattle.digraph_orders.specs.Orders.{ListsEach}
 use Rattle.guppy_support.specs.Paths.{HasEdge, Path, nowhere, onward, SameComponent, OnCycle}
-use Rattle.guppy_support.specs.Sequences.{Sequence, IsOrderOf, component_of}
+use Rattle.digraph_orders.specs.Sequences.{Sequence, IsOrderOf, component_of}
 use Rattle.order_views.specs.Cycles.{nodes_of, is_loop, has_loop, has_cycle}
 use Rattle.order_views.proofs.Distinct.{distinct_filter, distinct_from_apart, to_filter, from_filter}
 

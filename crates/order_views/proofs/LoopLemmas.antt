@@ -7,8 +7,8 @@ use Rattle.std.proofs.lemmas.List.{get_or-set_same, get_or-set_other, get_or_def
 use Rattle.std.proofs.lemmas.List.Folds.{Any-from_list_any, list_any-from_Any}
 use Rattle.guppy_support.specs.declared.digraph.Edge.{Edge}
 use Rattle.guppy_support.specs.Bits.{has}
-use Rattle.guppy_support.specs.Orders.{ListsEach}
-use Rattle.guppy_support.specs.Sequences.{Sequence, component_of}
+use Rattle.digraph_orders.specs.Orders.{ListsEach}
+use Rattle.digraph_orders.specs.Sequences.{Sequence, component_of}
 use Rattle.order_views.specs.Cycles.{nodes_of, is_loop, has_loop, descending}
 use Rattle.order_views.proofs.CycleLemmas.{in_nodes}
 use Rattle.order_views.proofs.Distinct.{from_filter}

@@ -11,7 +11,7 @@ use Rattle.guppy_support.specs.declared.digraph.Edge.{Edge}
 use Rattle.guppy_support.specs.Graph.{sources, targets, source_of, target_of}
 use Rattle.guppy_support.specs.Bits.{has}
 use Rattle.guppy_support.specs.Rows.{places, places_from}
-use Rattle.guppy_support.specs.Sequences.{Sequence, IsSequence}
+use Rattle.digraph_orders.specs.Sequences.{Sequence, IsSequence}
 use Rattle.order_views.specs.declared.reading.Reading.{Reading}
 use Rattle.order_views.specs.declared.reading.Reading.TheVariants.{Forward, Backward}
 use Rattle.order_views.specs.Views.{in_order, links_of, links_in_order, starting, start_of, end_of}

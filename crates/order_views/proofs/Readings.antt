@@ -7,7 +7,7 @@ use Rattle.std.proofs.lemmas.List.Folds.{fold-map}
 use Rattle.std.proofs.lemmas.List.FromFn.{fill_by_all}
 use Rattle.std.proofs.lemmas.List.Sums.{length-filter}
 use Rattle.guppy_support.specs.Bits.{has}
-use Rattle.guppy_support.specs.Orders.{ListsEach}
+use Rattle.digraph_orders.specs.Orders.{ListsEach}
 use Rattle.order_views.specs.declared.reading.Reading.{Reading}
 use Rattle.order_views.specs.declared.reading.Reading.TheVariants.{Forward, Backward}
 use Rattle.order_views.specs.Views.{in_order}

@@ -7,7 +7,7 @@ use Rattle.std.proofs.lemmas.List.{get_or-set_same, get_or-set_other, get_or-rep
 use Rattle.std.proofs.lemmas.List.Elements.{All-append, All-filter, All-nil}
 use Rattle.guppy_support.specs.declared.digraph.Edge.{Edge}
 use Rattle.guppy_support.specs.Bits.{has}
-use Rattle.guppy_support.specs.Sequences.{Sequence, component_of}
+use Rattle.digraph_orders.specs.Sequences.{Sequence, component_of}
 use Rattle.order_views.specs.declared.reading.Reading.{Reading}
 use Rattle.order_views.specs.Views.{in_order, links_of, links_in_order, starting, end_of, start_of, leaves}
 use Rattle.order_views.proofs.Places.{starting_within}

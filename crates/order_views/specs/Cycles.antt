@@ -2,7 +2,7 @@
 use Rattle.std.specs.Prelude.{◌==◌, ◌&&◌, ◌||◌, ℕ, zero, suc, Bool, List, [], ◌∷◌, filter, length, nat_lt}
 use Rattle.std.specs.List.{list_any}
 use Rattle.guppy_support.specs.declared.digraph.Edge.{Edge}
-use Rattle.guppy_support.specs.Sequences.{Sequence, component_of}
+use Rattle.digraph_orders.specs.Sequences.{Sequence, component_of}
 
 -- the nodes of component c, in order
 abbrev pub nodes_of : Sequence → ℕ → List ℕ

@@ -4,7 +4,7 @@ use Rattle.guppy_support.specs.declared.digraph.Edge.{Edge}
 use Rattle.guppy_support.specs.Graph.{Graph, IsDigraph, source_of, target_of}
 use Rattle.guppy_support.specs.Paths.{OnCycle}
 use Rattle.guppy_support.specs.Bits.{has}
-use Rattle.guppy_support.specs.Sequences.{Sequence, IsSequence, IsOrderOf, component_of}
+use Rattle.digraph_orders.specs.Sequences.{Sequence, IsSequence, IsOrderOf, component_of}
 use Rattle.order_views.specs.declared.reading.Reading.{Reading}
 use Rattle.order_views.specs.Views.{in_order, links_in_order, roots_in_order}
 use Rattle.order_views.specs.Cycles.{has_cycle, cyclic_components}

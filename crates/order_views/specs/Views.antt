@@ -5,7 +5,7 @@ use Rattle.guppy_support.specs.declared.digraph.Edge.{Edge}
 use Rattle.guppy_support.specs.Graph.{sources, targets, source_of, target_of}
 use Rattle.guppy_support.specs.Rows.{places}
 use Rattle.guppy_support.specs.Bits.{has}
-use Rattle.guppy_support.specs.Sequences.{Sequence, component_of}
+use Rattle.digraph_orders.specs.Sequences.{Sequence, component_of}
 use Rattle.order_views.specs.declared.reading.Reading.{Reading}
 use Rattle.order_views.specs.declared.reading.Reading.TheVariants.{Forward, Backward}
 

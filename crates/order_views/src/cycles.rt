@@ -5,10 +5,11 @@ ghost use Rattle.std.specs.Iterator.{YieldsFirst, UpTo, item_count};
 ghost use Rattle.std.specs.Iterator.SizeHint.{IsWithinCount};
 ghost use Rattle.guppy_support.specs.Bits.{has};
 ghost use Rattle.guppy_support.specs.Paths.{OnCycle};
-ghost use Rattle.guppy_support.specs.Sequences.{IsOrderOf};
+ghost use Rattle.digraph_orders.specs.Sequences.{IsOrderOf};
 ghost use Rattle.order_views.specs.Cycles.{has_cycle, is_loop, has_loop, nodes_of, cyclic_components};
 
-use guppy_support::{Digraph, Edge, IxBitSet, Order, laws};
+use digraph_orders::{Order, laws};
+use guppy_support::{Digraph, Edge, IxBitSet};
 use std::alloc::{AllocError, Global};
 use std::iter::FusedIterator;
 use std::marker::Model;

@@ -6,7 +6,8 @@ ghost use Rattle.order_views.specs.Views.{in_order};
 ghost use Rattle.order_views.specs.inner.Cursors.{as_read, members_left};
 
 use crate::reading::Reading;
-use guppy_support::{IxBitSet, Order};
+use digraph_orders::Order;
+use guppy_support::IxBitSet;
 use std::iter::FusedIterator;
 use std::marker::Model;
 

@@ -23,13 +23,13 @@ pub fn views_stay_within()
 pub fn one_list()
     ensures { OneList }
 {
-    guppy_support::laws::one_order();
+    digraph_orders::laws::one_order();
 }
 
 /// A node's component has a cycle exactly if the node lies on one.
 pub fn cyclic_by_cycles()
     ensures { CyclicByCycles }
 {
-    guppy_support::laws::cycles_are_components();
-    guppy_support::laws::order_lists_each();
+    digraph_orders::laws::cycles_are_components();
+    digraph_orders::laws::order_lists_each();
 }

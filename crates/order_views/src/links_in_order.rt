@@ -6,7 +6,8 @@ ghost use Rattle.order_views.specs.inner.Cursors.{links_after};
 
 use crate::in_order::InOrder;
 use crate::reading::Reading;
-use guppy_support::{Digraph, IxBitSet, Order};
+use digraph_orders::Order;
+use guppy_support::{Digraph, IxBitSet};
 use std::iter::FusedIterator;
 use std::marker::Model;
 

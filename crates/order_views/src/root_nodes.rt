@@ -7,7 +7,8 @@ ghost use Rattle.order_views.specs.Views.{links_in_order, leaves, roots_in_order
 use crate::in_order::InOrder;
 use crate::links_in_order::{LinksInOrder, ends_of};
 use crate::reading::Reading;
-use guppy_support::{Digraph, IxBitSet, Order};
+use digraph_orders::Order;
+use guppy_support::{Digraph, IxBitSet};
 use std::alloc::{AllocError, Global};
 
 // Notes the component that the edge leaves, if it leads to another.

@@ -1,6 +1,6 @@
 -- The cycles that an iterator has left.
 use Rattle.std.specs.Prelude.{◌≡◌, ◌<◌, ◌≤◌, ℕ, List, All, length, map}
-use Rattle.guppy_support.specs.Sequences.{Sequence, IsSequence}
+use Rattle.digraph_orders.specs.Sequences.{Sequence, IsSequence}
 use Rattle.order_views.specs.Cycles.{nodes_of}
 use Rattle.guppy_packages.specs.Rows.{Text}
 use Rattle.guppy_packages.specs.Tables.{Tables}

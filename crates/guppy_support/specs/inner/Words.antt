@@ -1,12 +1,7 @@
 -- A set of numbers as words of 64 bits.
-use Rattle.std.specs.Prelude.{◌≡◌, ℕ, ◌+◌, ◌-◌, ◌<◌, ◌≤◌, ◌/◌, ◌%◌, ◌^◌, ◌==◌, Bool, true, List, length, map, filter, slice_index}
+use Rattle.std.specs.Prelude.{◌≡◌, ℕ, ◌+◌, ◌<◌, ◌≤◌, ◌/◌, ◌%◌, ◌^◌, ◌==◌, Bool, List, length, map, slice_index}
 use Rattle.std.specs.List.{range_with_len}
 use Rattle.std.specs.Int.{bit_at}
-use Rattle.guppy_support.specs.Bits.{has}
-
--- the numbers in the set from n on, ascending
-abbrev pub members_from : List Bool → ℕ → List ℕ
-members_from set n = filter (λ k. has set k) (range_with_len n (length set - n))
 
 -- bit k of the words, 64 to a word, the lowest first
 abbrev pub word_bit : List ℕ → ℕ → ℕ
@@ -25,9 +20,3 @@ pub record AreWords (n : ℕ) (words : List ℕ) : Type 0 where
 -- each word is one of 64 bits
 abbrev pub Fit : List ℕ → Type 0
 Fit words = (i : ℕ) → slice_index words i < 2 ^ 64
-
--- k is the least number of the set among the 64 of that word
-pub record IsFirstIn (set : List Bool) (place k : ℕ) : Type 0 where
-  pub word : k / 64 ≡ place
-  pub is : has set k ≡ true
-  pub least : (j : ℕ) → j / 64 ≡ place → has set j ≡ true → k ≤ j

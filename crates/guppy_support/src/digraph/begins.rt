@@ -1,7 +1,7 @@
 //! Where the edges of each source begin: the edges ascend by source.
 ghost use Rattle.std.specs.Prelude.{◌≡◌, ℕ, ◌+◌, ◌<◌, ◌≤◌, length, slice_index, max, IfOk, OnOk};
 ghost use Rattle.guppy_support.specs.Graph.{IsDigraph, sources};
-ghost use Rattle.guppy_support.specs.inner.PackedRows.{AreAllBegun};
+ghost use Rattle.guppy_support.specs.PackedRows.{AreAllBegun};
 
 use crate::digraph::columns::EdgeColumns;
 use std::alloc::{AllocError, Global};

@@ -2,7 +2,7 @@
 use Rattle.std.specs.Prelude.{ℕ, Bool, List, [], ◌++◌, Option, Some, None, filter, drop, reverse, flat_map}
 use Rattle.guppy_support.specs.declared.digraph.Edge.{Edge}
 use Rattle.guppy_support.specs.Bits.{has}
-use Rattle.guppy_support.specs.Sequences.{Sequence}
+use Rattle.digraph_orders.specs.Sequences.{Sequence}
 use Rattle.order_views.specs.declared.reading.Reading.{Reading}
 use Rattle.order_views.specs.declared.reading.Reading.TheVariants.{Forward, Backward}
 use Rattle.order_views.specs.Views.{starting, end_of, links_of}

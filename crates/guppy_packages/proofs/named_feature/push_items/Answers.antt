@@ -16,6 +16,7 @@ returns c =
     let all : texts items ≡ texts before ++ last.now ∷ [] = ap texts parted.0 ∙ map-append (λ t. t.now) before (last ∷ []) in
     let some : (length items == 0) ≡ false = ne_eqb (length items) 0 (λ e. omega (arith, parted.1, e)) in
     let mid = c.push_each.new.text in
+    let ends = c.push_each.new.ends.items in
     let new = c.push_str.new.self in
     rw (some, all)
-    (pushed_more (string_bytes c.args.text.now) (texts before) (string_bytes mid) c.in_ok-ends.ends.items last.now (string_bytes new) c.in_ok-ends.ensures c.in_ok-push_str.ensures.bytes (IsUtf8-string_bytes mid) (IsUtf8-string_bytes new))
+    (pushed_more (string_bytes c.args.text.now) (texts before) (string_bytes mid) ends last.now (string_bytes new) c.in_ok-push_each.ensures c.in_ok-push_str.ensures.bytes (IsUtf8-string_bytes mid) (IsUtf8-string_bytes new))

@@ -1,5 +1,5 @@
 use Rattle.std.proofs.Common.{◌≡◌, subst}
-use Rattle.guppy_support.specs.Sequences.{IsOrderOf}
+use Rattle.digraph_orders.specs.Sequences.{IsOrderOf}
 use Rattle.guppy_packages.specs.Tables.{Tables}
 use Rattle.feature_core.specs.Built.{Built, digraph_of}
 use Rattle.feature_sets.specs.Tied.{cycle_names}

@@ -1,5 +1,5 @@
 use Rattle.std.proofs.Common.{◌≡◌, ◌∙◌, ap, subst, length, replicate, true}
-use Rattle.guppy_support.specs.Sequences.{IsOrderOf}
+use Rattle.digraph_orders.specs.Sequences.{IsOrderOf}
 use Rattle.guppy_packages.specs.Tables.{Tables}
 use Rattle.feature_core.specs.Built.{Built, digraph_of}
 use Rattle.feature_core.specs.Nodes.{nodes}

@@ -1,7 +1,7 @@
 use Rattle.std.proofs.Common.{◌≡◌, ◌∙◌, ap, sym, subst}
-use Rattle.guppy_support.specs.Orders.{ListsEach}
+use Rattle.digraph_orders.specs.Orders.{ListsEach}
 use Rattle.guppy_support.specs.Paths.{OnCycle}
-use Rattle.guppy_support.specs.Sequences.{component_of}
+use Rattle.digraph_orders.specs.Sequences.{component_of}
 use Rattle.order_views.specs.Cycles.{has_cycle}
 use Rattle.order_views.proofs.CycleLemmas.{cyclic_by_cycles}
 use Rattle.order_views.proofs.cycles.is_cyclic.Goals as goal

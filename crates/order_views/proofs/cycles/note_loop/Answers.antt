@@ -1,6 +1,6 @@
 use Rattle.std.proofs.Common.{◌≡◌, ◌<◌, ◌∙◌, ℕ, true, Bool, List, length, set, ap, arith}
 use Rattle.guppy_support.specs.Bits.{has}
-use Rattle.guppy_support.specs.Sequences.{component_of}
+use Rattle.digraph_orders.specs.Sequences.{component_of}
 use Rattle.order_views.proofs.LoopLemmas.{noted_loop, noted_apart, noted_outside}
 use Rattle.order_views.proofs.cycles.note_loop.Goals as goal
 use Rattle.order_views.proofs.cycles.note_loop.Goals.{else-edge-via-then-edge+else-edge-list, else-edge-via-else-edge}

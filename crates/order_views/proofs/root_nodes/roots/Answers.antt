@@ -2,7 +2,7 @@ use Rattle.std.proofs.Common.{◌≡◌, ◌<◌, ◌∙◌, ◌∷◌, ◌++◌
 use Rattle.std.specs.Prelude.{filter, not}
 use Rattle.std.proofs.lemmas.List.Elements.{All-head, All-rest, All-same}
 use Rattle.guppy_support.specs.Bits.{has}
-use Rattle.guppy_support.specs.Sequences.{component_of}
+use Rattle.digraph_orders.specs.Sequences.{component_of}
 use Rattle.order_views.specs.Views.{in_order, is_root, roots_in_order}
 use Rattle.order_views.proofs.LinkSteps.{members_below}
 use Rattle.order_views.proofs.RootLemmas.{kept_more, passed_more, kept_all}

@@ -1,6 +1,6 @@
 use Rattle.std.proofs.Common.{ℕ, ◌<◌, ◌==◌, length, subst}
 use Rattle.std.specs.Prelude.{All, filter, slice_index}
-use Rattle.guppy_support.specs.Sequences.{component_of}
+use Rattle.digraph_orders.specs.Sequences.{component_of}
 use Rattle.std.proofs.lemmas.List.Elements.{All-same}
 use Rattle.feature_core.specs.Nodes.{nodes}
 use Rattle.feature_sets.specs.Views.{tables_of_graph}

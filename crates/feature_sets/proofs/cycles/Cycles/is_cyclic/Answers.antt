@@ -1,5 +1,5 @@
 use Rattle.std.proofs.Common.{arith, subst, sym}
-use Rattle.guppy_support.specs.Sequences.{IsOrderOf}
+use Rattle.digraph_orders.specs.Sequences.{IsOrderOf}
 use Rattle.feature_sets.specs.Views.{tables_of_graph, built_of}
 use Rattle.feature_sets.proofs.BuiltLemmas.{built_count}
 use Rattle.feature_sets.proofs.OrderedLemmas.{same_digraph}

@@ -1,7 +1,7 @@
 use Rattle.std.proofs.Common.{◌≡◌, ◌<◌, ◌∙◌, length, ap, subst}
 use Rattle.std.proofs.lemmas.List.Elements.{All-same}
 use Rattle.guppy_packages.specs.PackageOrder.{digraph_of_packages}
-use Rattle.guppy_support.specs.Sequences.{IsOrderOf}
+use Rattle.digraph_orders.specs.Sequences.{IsOrderOf}
 use Rattle.feature_sets.specs.PackageViews.{as_read}
 use Rattle.feature_sets.proofs.PackageViewLemmas.{order_within}
 use Rattle.feature_sets.proofs.set.FeatureSet.packages_with_features.Goals as goal

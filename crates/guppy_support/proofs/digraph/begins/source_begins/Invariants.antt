@@ -1,6 +1,6 @@
 use Rattle.std.proofs.Common.{ℕ, ◌<◌, ◌≤◌, length}
 use Rattle.guppy_support.specs.Graph.{sources, source_of}
-use Rattle.guppy_support.specs.inner.PackedRows.{AreBegun}
+use Rattle.guppy_support.specs.PackedRows.{AreBegun}
 use Rattle.guppy_support.proofs.digraph.begins.source_begins.Given as goal
 
 abbrev pub invariant-loop-place : goal.invariant-loop-place

@@ -1,5 +1,5 @@
 use Rattle.std.proofs.Common.{◌≡◌, ◌∙◌, length, sym, ap, subst, arith}
-use Rattle.guppy_support.specs.Orders.{ListsEach}
+use Rattle.digraph_orders.specs.Orders.{ListsEach}
 use Rattle.order_views.specs.Views.{in_order}
 use Rattle.order_views.proofs.Readings.{left_count, left_start}
 use Rattle.order_views.proofs.in_order.InOrder.new.Goals as goal

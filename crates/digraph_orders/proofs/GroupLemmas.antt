@@ -1,0 +1,102 @@
+-- The head of a component, by its row.
+use Rattle.std.proofs.Common.{◌≡◌, ℕ, zero, suc, ◌<◌, ◌≤◌, inl, inr, Bool, true, false, List, [], ◌∷◌, length, get_or, refl, sym, ◌∙◌, arith}
+use Rattle.std.proofs.lemmas.Bool.{cases_eq, cases_lt}
+use Rattle.std.proofs.lemmas.Bool.Decides.{eqb_tells}
+use Rattle.guppy_support.specs.Rows.{places_from, places}
+use Rattle.digraph_orders.proofs.PlaceLemmas.{places_within}
+use Rattle.digraph_orders.specs.inner.Heads.{IsDone, IsHead}
+use Rattle.digraph_orders.specs.inner.Plans.{is_in, IsFirst}
+use Rattle.digraph_orders.proofs.RowLemmas.{has_place}
+
+at_least : (v s : ℕ) (xs : List ℕ) (k : ℕ) → k < length (places_from v s xs) → s ≤ get_or (places_from v s xs) k 0
+at_least v s [] k h = absurd (omega arith)
+at_least v s (x ∷ xs) k h =
+    elim (eqb_tells x v) [
+      | inl t ↦ let h' : k < length (s ∷ places_from v (suc s) xs) = rw t.0 at h in rw t.0 (first s (places_from v (suc s) xs) (at_least v (suc s) xs) k h')
+      | inr t ↦ let h' : k < length (places_from v (suc s) xs) = rw t.0 at h in rw t.0 (omega (arith, at_least v (suc s) xs k h'))
+    ]
+  where
+    first : (s : ℕ) (rest : List ℕ) → ((k : ℕ) → k < length rest → suc s ≤ get_or rest k 0) → (k : ℕ) → k < length (s ∷ rest) → s ≤ get_or (s ∷ rest) k 0
+    first s rest f zero h = omega arith
+    first s rest f (suc k) h = omega (arith, f k (omega arith))
+
+rising_first : (s : ℕ) (rest : List ℕ) → ((k : ℕ) → k < length rest → suc s ≤ get_or rest k 0) → ((i j : ℕ) → i < j → j < length rest → get_or rest i 0 < get_or rest j 0)
+    → (i j : ℕ) → i < j → j < length (s ∷ rest) → get_or (s ∷ rest) i 0 < get_or (s ∷ rest) j 0
+rising_first s rest f r i zero l h = absurd (omega arith)
+rising_first s rest f r zero (suc j) l h = omega (arith, f j (omega arith))
+rising_first s rest f r (suc i) (suc j) l h = r i j (omega arith) (omega arith)
+
+pub rising : (v s : ℕ) (xs : List ℕ) (i j : ℕ) → i < j → j < length (places_from v s xs) → get_or (places_from v s xs) i 0 < get_or (places_from v s xs) j 0
+rising v s [] i j l h = absurd (omega arith)
+rising v s (x ∷ xs) i j l h =
+    elim (eqb_tells x v) [
+      | inl t ↦
+          let h' : j < length (s ∷ places_from v (suc s) xs) = rw t.0 at h in
+          rw t.0 (rising_first s (places_from v (suc s) xs) (at_least v (suc s) xs) (rising v (suc s) xs) i j l h')
+      | inr t ↦ let h' : j < length (places_from v (suc s) xs) = rw t.0 at h in rw t.0 (rising v (suc s) xs i j l h')
+    ]
+
+has_at : (row : List ℕ) (x : ℕ) → is_in x row ≡ true → (k : ℕ) × (k < length row) × (get_or row k 0 ≡ x)
+has_at [] x h = absurd (let c : true ≡ false = sym h in cc)
+has_at (y ∷ ys) x h =
+    elim (eqb_tells y x) [
+      | inl t ↦ (0, omega arith, t.1)
+      | inr t ↦ let h' : is_in x ys ≡ true = rw t.0 at h in let f = has_at ys x h' in (suc f.0, omega (arith, f.1), f.2)
+    ]
+
+-- each node of rank c stands in the row of c
+pub row_complete : (ranks : List ℕ) (c u : ℕ) → u < length ranks → get_or ranks u 0 ≡ c → (k : ℕ) × (k < length (places c ranks)) × (get_or (places c ranks) k 0 ≡ u)
+row_complete ranks c u h e = has_at (places c ranks) u (has_place c 0 ranks u u h e (omega arith))
+
+-- in a component of one node, its row has that one
+pub row_alone : (ranks : List ℕ) (c u : ℕ) → u < length ranks → get_or ranks u 0 ≡ c → length (places c ranks) ≡ 1 → (j : ℕ) → j < length (places c ranks) → get_or (places c ranks) j 0 ≡ u
+row_alone ranks c u h e one j l =
+    let r = row_complete ranks c u h e in
+    let same : r.0 ≡ j = omega (arith, r.1, one, l) in
+    rw same at r.2
+
+-- and that one is its first
+pub first_alone : (ranks held : List ℕ) (c u : ℕ) → u < length ranks → get_or ranks u 0 ≡ c → length (places c ranks) ≡ 1 → IsFirst (places c ranks) held u
+first_alone ranks held c u h e one =
+    record {
+      place = 0;
+      within = omega (arith, one);
+      is = row_alone ranks c u h e one 0 (omega (arith, one));
+      first = elim (cases_eq (get_or held u 0) 0) [
+        | inl free ↦ inl (free, λ j l. absurd (omega arith))
+        | inr stuck ↦ inr (refl, λ j l z. stuck (rw (row_alone ranks c u h e one j l) at z))
+      ];
+    }
+
+-- in a component with no node done, the first of its row with no hold, or else the first, is the head
+pub first_head : (n : ℕ) (ranks held : List ℕ) (done : List Bool) (c x : ℕ) → length ranks ≡ n → ((u : ℕ) → get_or ranks u 0 ≡ c → ¬ IsDone done u) → IsFirst (places c ranks) held x → (get_or ranks x 0 ≡ c) × IsHead n ranks held done x
+first_head n ranks held done c x long fresh f =
+    let w = places_within c ranks f.place f.within in
+    let rank : get_or ranks x 0 ≡ c = rw f.is at w.1 in
+    let lx : x < n = let l = w.0 in omega (arith, l, f.is, long) in
+    -- a lesser node of the component stands earlier
+    let earlier : (u : ℕ) → u < x → get_or ranks u 0 ≡ c → (j : ℕ) × (j < f.place) × (get_or (places c ranks) j 0 ≡ u) =
+    λ u less e.
+    let q = row_complete ranks c u (omega (arith, less, lx, long)) e in
+    elim (cases_lt q.0 f.place) [
+      | inl l ↦ (q.0, l, q.2)
+      | inr ge ↦
+          absurd (elim (cases_eq f.place q.0) [
+            | inl same ↦ let e' : get_or (places c ranks) q.0 0 ≡ x = rw same at f.is in omega (arith, e', q.2, less)
+            | inr ne ↦ let up = rising c 0 ranks f.place q.0 (omega (arith, ge, ne)) q.1 in omega (arith, up, f.is, q.2, less)
+          ])
+    ]
+    in (
+      rank,
+      record {
+        node = lx;
+        fresh = fresh x rank;
+        first = elim f.first [
+          | inl free ↦ inl (free.0, λ u less fu e z. let q = earlier u less (e ∙ rank) in free.1 q.0 q.1 (rw (sym q.2) at z))
+          | inr stuck ↦ inr (
+            λ u lu fu e z. let q = row_complete ranks c u (omega (arith, long)) (e ∙ rank) in stuck.1 q.0 q.1 (rw (sym q.2) at z),
+            λ u less fu e. let q = earlier u less (e ∙ rank) in omega (arith, q.1, stuck.0),
+          )
+        ];
+      },
+    )

@@ -1,0 +1,13 @@
+use Rattle.std.proofs.Common.{◌-◌, length, arith}
+use Rattle.digraph_orders.proofs.PathLemmas.{join, one_edge}
+use Rattle.digraph_orders.proofs.ComponentLemmas.{all_to_top}
+use Rattle.digraph_orders.proofs.components.walk.Walk.step.Goals as goal
+
+pub enter-requires-clause-led : goal.enter-requires-clause-led
+enter-requires-clause-led c =
+    λ j h.
+    let s = c.args.self.now in
+    join
+    (all_to_top c.args.graph.now s.marks.items s.pending.items s.bounds.items s.opened.items s.left.items s.rank c.requires.walk
+    c.last-top.result (length s.opened.items - 1) (omega (arith, c.requires.opened)) c.last-top.ensures.value j h)
+    (one_edge c.next-node.ensures.edge)

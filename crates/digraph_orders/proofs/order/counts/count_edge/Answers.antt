@@ -1,0 +1,42 @@
+use Rattle.std.proofs.Common.{rules, get_or, arith, sym, inl}
+use Rattle.std.proofs.lemmas.List.{get_or_read}
+use Rattle.digraph_orders.proofs.FirstLemmas.{room, entering_add, entering_skip, room_held, holding_add, holding_skip}
+use Rattle.digraph_orders.proofs.order.counts.count_edge.Goals as goal
+
+pub overflow_add-index_mut : goal.overflow_add-index_mut
+overflow_add-index_mut c =
+    let e = c.edge_at-edge.ensures in
+    let d = get_or c.args.ranks.now c.edge_at-edge.result.to 0 in
+    let read = get_or_read c.args.outside.now.items d c.index_mut.result.now (omega (arith, c.requires.setup.small _ e.node_to, c.requires.entering.long)) c.index_mut.ensures.value 0 in
+    let r = room c.args.graph.now c.args.ranks.now c.requires.setup c.args.number _ _ _ e c.args.outside.now.items c.requires.entering in
+    omega (arith, read, r, c.requires.setup.narrow.edges)
+
+pub returns-then-ranks-edge-clause-entering : goal.returns-then-ranks-edge-clause-entering
+returns-then-ranks-edge-clause-entering c =
+    let e = c.edge_at-edge.ensures in
+    let d = get_or c.args.ranks.now c.edge_at-edge.result.to 0 in
+    let read = get_or_read c.args.outside.now.items d c.index_mut.result.now (omega (arith, c.requires.setup.small _ e.node_to, c.requires.entering.long)) c.index_mut.ensures.value 0 in
+    rw (sym read) at
+    (entering_add c.args.graph.now c.args.ranks.now c.requires.setup c.args.number _ _ _ e c.args.outside.now.items c.requires.entering (search rules))
+
+pub returns-then-ranks-edge-clause-holding : goal.returns-then-ranks-edge-clause-holding
+returns-then-ranks-edge-clause-holding c =
+    holding_skip c.args.graph.now c.args.ranks.now c.requires.setup c.args.number _ _ _ c.edge_at-edge.ensures c.args.held.now.items c.requires.holding (inl (search rules))
+
+pub overflow_add-index_mut-2 : goal.overflow_add-index_mut-2
+overflow_add-index_mut-2 c =
+    let e = c.edge_at-edge.ensures in
+    let read = get_or_read c.args.held.now.items c.edge_at-edge.result.to c.index_mut-2.result.now (omega (arith, e.node_to, c.requires.holding.long)) c.index_mut-2.ensures.value 0 in
+    let r = room_held c.args.graph.now c.args.ranks.now c.requires.setup c.args.number _ _ _ e c.args.held.now.items c.requires.holding in
+    omega (arith, read, r, c.requires.setup.narrow.edges)
+
+pub returns-clause-entering : goal.returns-clause-entering
+returns-clause-entering c =
+    entering_skip c.args.graph.now c.args.ranks.now c.requires.setup c.args.number _ _ _ c.edge_at-edge.ensures c.args.outside.now.items c.requires.entering (search rules)
+
+pub returns-clause-holding : goal.returns-clause-holding
+returns-clause-holding c =
+    let e = c.edge_at-edge.ensures in
+    let read = get_or_read c.args.held.now.items c.edge_at-edge.result.to c.index_mut-2.result.now (omega (arith, e.node_to, c.requires.holding.long)) c.index_mut-2.ensures.value 0 in
+    rw (sym read) at
+    (holding_add c.args.graph.now c.args.ranks.now c.requires.setup c.args.number _ _ _ e c.args.held.now.items c.requires.holding (search rules) (search rules) (search rules))

@@ -1,0 +1,5 @@
+use Rattle.digraph_orders.specs.inner.Plans.{AreFirsts}
+use Rattle.digraph_orders.proofs.order.counts.first_starts.Given as goal
+
+abbrev pub invariant-loop-rank : goal.invariant-loop-rank
+invariant-loop-rank l = AreFirsts l.ranks l.outside l.held l.rank l.starts

@@ -1,0 +1,11 @@
+pub mod Apart
+pub mod ComponentWalk
+pub mod Counts
+pub mod Groups
+pub mod Heads
+pub mod NodeEdges
+pub mod Numbering
+pub mod Plans
+pub mod Queues
+pub mod Ranks
+pub mod Widths

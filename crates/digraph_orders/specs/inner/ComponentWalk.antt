@@ -1,0 +1,68 @@
+-- What the walk along the edges knows on the way.
+use Rattle.std.specs.Prelude.{◌≡◌, ◌≢◌, ℕ, ◌+◌, ◌-◌, ◌*◌, ◌<◌, ◌≤◌, ◌==◌, List, length, sum_by, slice_index}
+use Rattle.guppy_support.specs.Paths.{HasEdge, Path, SameComponent}
+use Rattle.guppy_support.specs.Graph.{Graph, sources}
+use Rattle.guppy_support.specs.Rows.{places}
+use Rattle.digraph_orders.specs.inner.Counts.{count_below}
+use Rattle.digraph_orders.specs.inner.NodeEdges.{target_at}
+use Rattle.digraph_orders.specs.declared.components.walk.Walk.{Walk}
+
+-- how many of the first n nodes weren't entered
+abbrev pub unentered : ℕ → List ℕ → ℕ
+unentered n marks = count_below (λ v. slice_index marks v == 0) n
+
+-- the mark of a node is 0 before it is entered; its place among the pending nodes and one more; and then the rank of its component,
+-- above the number of nodes. From each bound to the next, pending nodes are of one component, and lead to all later ones
+pub record IsWalking (g : Graph) (marks pending bounds opened left : List ℕ) (rank : ℕ) : Type 0 where
+  pub marks_long : length marks ≡ g.nodes
+  pub left_long : length left ≡ length opened
+  pub room : g.nodes + length pending + unentered g.nodes marks ≤ rank
+  pub rank_high : rank ≤ 2 * g.nodes
+  pub placed : (i : ℕ) → i < length pending → (slice_index pending i < g.nodes) × (slice_index marks (slice_index pending i) ≡ i + 1)
+  pub known : (v : ℕ) → 0 < slice_index marks v → slice_index marks v ≤ g.nodes
+      → (slice_index marks v ≤ length pending) × (slice_index pending (slice_index marks v - 1) ≡ v)
+  pub opened_pending : (i : ℕ) → i < length opened → (0 < slice_index marks (slice_index opened i)) × (slice_index marks (slice_index opened i) ≤ length pending)
+  pub opened_rise : (i j : ℕ) → i < j → j < length opened → slice_index marks (slice_index opened i) < slice_index marks (slice_index opened j)
+  pub few_left : (i : ℕ) → i < length opened → slice_index left i ≤ length (places (slice_index opened i) (sources g.edges))
+  pub first : 0 < length pending → (0 < length bounds) × (slice_index bounds 0 ≡ 0)
+  pub bounds_rise : (i j : ℕ) → i < j → j < length bounds → slice_index bounds i < slice_index bounds j
+  pub bounds_open : (i : ℕ) → i < length bounds
+      → (slice_index bounds i < length pending) × ((k : ℕ) × (k < length opened) × (slice_index opened k ≡ slice_index pending (slice_index bounds i)))
+  pub ahead : (i j : ℕ) → i < length bounds → slice_index bounds i ≤ j → j < length pending
+      → Path g.edges (slice_index pending (slice_index bounds i)) (slice_index pending j)
+  pub behind : (i j : ℕ) → i < length bounds → j < length pending → (i + 1 < length bounds → j < slice_index bounds (i + 1))
+      → Path g.edges (slice_index pending j) (slice_index pending (slice_index bounds i))
+  -- an edge that was passed doesn't lead behind a bound
+  pub passed : (i k b : ℕ) → i < length opened → k + slice_index left i < length (places (slice_index opened i) (sources g.edges))
+      → b < length bounds → slice_index bounds b < slice_index marks (slice_index opened i)
+      → slice_index bounds b < slice_index marks (target_at g.edges (slice_index opened i) k)
+  pub closed : (v x b : ℕ) → 0 < slice_index marks v → slice_index marks v ≤ g.nodes → ((i : ℕ) → i < length opened → slice_index opened i ≢ v)
+      → HasEdge g.edges v x → b < length bounds → slice_index bounds b < slice_index marks v → slice_index bounds b < slice_index marks x
+  pub below : (v : ℕ) → g.nodes < slice_index marks v → rank < slice_index marks v
+  pub high : (v : ℕ) → slice_index marks v ≤ 2 * g.nodes
+  pub ascends : (a b : ℕ) → g.nodes < slice_index marks a → HasEdge g.edges a b → slice_index marks a ≤ slice_index marks b
+  pub same : (a b : ℕ) → g.nodes < slice_index marks a → slice_index marks a ≡ slice_index marks b → SameComponent g.edges a b
+
+abbrev pub IsWalk : Graph → Walk → Type 0
+IsWalk g w = IsWalking g w.marks.items w.pending.items w.bounds.items w.opened.items w.left.items w.rank
+
+-- how many steps may still come
+abbrev pub steps_left : Graph → Walk → ℕ
+steps_left g w = unentered g.nodes w.marks.items * (length g.edges + 2) + (sum_by (λ k. k) w.left.items + length w.opened.items)
+
+-- the marks of the pending nodes from a place on are a rank, and the other marks stay
+pub record AreGiven (old new : List ℕ) (from to rank : ℕ) : Type 0 where
+  pub given : (v : ℕ) → from < slice_index old v → slice_index old v ≤ to → slice_index new v ≡ rank
+  pub low : (v : ℕ) → slice_index old v ≤ from → slice_index new v ≡ slice_index old v
+  pub high : (v : ℕ) → to < slice_index old v → slice_index new v ≡ slice_index old v
+
+-- a list and one number more
+pub record IsMore (old new : List ℕ) (x : ℕ) : Type 0 where
+  pub long : length new ≡ length old + 1
+  pub kept : (i : ℕ) → i < length old → slice_index new i ≡ slice_index old i
+  pub last : slice_index new (length old) ≡ x
+
+-- the front of a list
+pub record IsFrontOf (old new : List ℕ) : Type 0 where
+  pub shorter : length new ≤ length old
+  pub kept : (i : ℕ) → i < length new → slice_index new i ≡ slice_index old i

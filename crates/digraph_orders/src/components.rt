@@ -1,0 +1,38 @@
+//! Components, by one walk.
+ghost use Rattle.std.specs.Prelude.{ℕ, ◌<◌, IfOk, slice_index};
+ghost use Rattle.digraph_orders.specs.inner.Ranks.{IsRanking};
+ghost use Rattle.digraph_orders.specs.inner.Widths.{IsNarrow};
+
+mod walk;
+
+use guppy_support::Digraph;
+use std::alloc::{AllocError, Global};
+use walk::{lowered, walked};
+
+/// Twice as many nodes have numbers that fit in 32 bits.
+const MOST_NODES: usize = 2147483647;
+
+/// The rank of each node's component.
+#[derive(Drop)]
+pub(crate) struct Ranked {
+    pub(crate) ranks: Vec<u32>,
+    /// How many ranks there are.
+    pub(crate) count: usize,
+}
+
+/// The rank of each node's component: ranks never fall along an edge. Too many nodes are answered as want of memory.
+pub(crate) fn component_ranks(alloc: Global, graph: &Digraph) -> Result<Ranked, AllocError>
+    requires narrow { IsNarrow graph.now }
+    ensures ranking { IfOk result (λ r. IsRanking graph.now r.ranks.items) }
+    ensures small { IfOk result (λ r. (v : ℕ) → v < graph.now.nodes → slice_index r.ranks.items v < graph.now.nodes) }
+{
+    graph.facts();
+    let nodes = graph.node_count();
+    if nodes > MOST_NODES {
+        return Err(AllocError);
+    }
+    let walk = walked(alloc, graph)?;
+    let count = 2 * nodes - walk.rank as usize;
+    let ranks = lowered(walk.marks, nodes as u32 + 1);
+    Ok(Ranked { ranks, count })
+}

@@ -1,0 +1,239 @@
+//! Components, by one walk along the edges.
+ghost use Rattle.std.specs.Prelude.{◌≡◌, ◌≢◌, ℕ, ◌+◌, ◌-◌, ◌*◌, ◌^◌, ◌<◌, ◌≤◌, length, IfOk, OnOk, slice_index};
+ghost use Rattle.guppy_support.specs.Graph.{sources};
+ghost use Rattle.guppy_support.specs.Paths.{HasEdge, Path};
+ghost use Rattle.guppy_support.specs.Rows.{places};
+ghost use Rattle.digraph_orders.specs.inner.NodeEdges.{target_at};
+ghost use Rattle.digraph_orders.specs.inner.ComponentWalk.{IsWalk, IsFrontOf, AreGiven, steps_left};
+
+use guppy_support::{Digraph, zeroes};
+use std::alloc::{AllocError, Global};
+
+/// A walk along the edges of a digraph.
+#[derive(Drop)]
+pub(crate) struct Walk {
+    /// Of each node: 0 before it is entered; its place among the pending nodes and one more; and then its component's rank.
+    pub(crate) marks: Vec<u32>,
+    /// The nodes that were entered and whose component isn't known, in that order.
+    pub(crate) pending: Vec<u32>,
+    /// The places at which components of pending nodes begin, as far as is known.
+    pub(crate) bounds: Vec<u32>,
+    /// The open nodes, each of which leads to the next.
+    pub(crate) opened: Vec<u32>,
+    /// How many edges of each open node are left.
+    pub(crate) left: Vec<u32>,
+    /// The rank of the next component.
+    pub(crate) rank: u32,
+}
+
+/// Gives the pending nodes from that place on the rank.
+fn give(marks: &mut Vec<u32>, pending: &[u32], from: usize, rank: u32)
+    requires from { from ≤ length pending.now }
+    requires placed { (i : ℕ) → i < length pending.now → (slice_index pending.now i < length marks.old.items) × (slice_index marks.old.items (slice_index pending.now i) ≡ i + 1) }
+    requires known { (v : ℕ) → 0 < slice_index marks.old.items v → slice_index marks.old.items v ≤ length pending.now → slice_index pending.now (slice_index marks.old.items v - 1) ≡ v }
+    ensures long { length marks.new.items ≡ length marks.old.items }
+    ensures given { AreGiven marks.old.items marks.new.items from (length pending.now) rank }
+{
+    for place in from..pending.len() {
+        marks[pending[place] as usize] = rank;
+    }
+}
+
+/// Lets go of the last bounds, as far as they aren't below the mark.
+fn fold(bounds: &mut Vec<u32>, mark: u32)
+    requires mark { 0 < mark }
+    requires first { (0 < length bounds.old.items) × (slice_index bounds.old.items 0 ≡ 0) }
+    ensures some { 0 < length bounds.new.items }
+    ensures front { IsFrontOf bounds.old.items bounds.new.items }
+    ensures low { slice_index bounds.new.items (length bounds.new.items - 1) < mark }
+    ensures dropped { (i : ℕ) → length bounds.new.items ≤ i → i < length bounds.old.items → mark ≤ slice_index bounds.old.items i }
+{
+    while bounds[bounds.len() - 1] >= mark {
+        let _ = bounds.pop();
+    }
+}
+
+impl Walk {
+    /// Enters a node to which each pending node leads.
+    fn enter(&mut self, graph: &Digraph, node: usize) -> Result<(), AllocError>
+        requires narrow { (2 * graph.now.nodes < 2 ^ 32) × (length graph.now.edges < 2 ^ 32) }
+        requires walk { IsWalk graph.now self.old }
+        requires node { node < graph.now.nodes }
+        requires new { slice_index self.old.marks.items node ≡ 0 }
+        requires led { (j : ℕ) → j < length self.old.pending.items → Path graph.now.edges (slice_index self.old.pending.items j) node }
+        ensures walk { OnOk result (IsWalk graph.now self.new) }
+        ensures steps { OnOk result (steps_left graph.now self.new < steps_left graph.now self.old) }
+        ensures kept { OnOk result ((v : ℕ) → slice_index self.old.marks.items v ≢ 0 → slice_index self.new.marks.items v ≢ 0) }
+        ensures entered { OnOk result (slice_index self.new.marks.items node ≢ 0) }
+    {
+        graph.facts();
+        let edges = graph.out_edges(node);
+        let place = self.pending.len() as u32;
+        self.pending.push(node as u32)?;
+        self.bounds.push(place)?;
+        self.opened.push(node as u32)?;
+        self.left.push((edges.end - edges.start) as u32)?;
+        self.marks[node] = place + 1;
+        Ok(())
+    }
+
+    /// Closes the last open node, none of whose edges is left. A component that begins with it is known.
+    fn close(&mut self, graph: &Digraph, top: usize)
+        requires narrow { 2 * graph.now.nodes < 2 ^ 32 }
+        requires walk { IsWalk graph.now self.old }
+        requires opened { 0 < length self.old.opened.items }
+        requires top { slice_index self.old.opened.items (length self.old.opened.items - 1) ≡ top }
+        requires none { slice_index self.old.left.items (length self.old.left.items - 1) ≡ 0 }
+        ensures walk { IsWalk graph.now self.new }
+        ensures steps { steps_left graph.now self.new < steps_left graph.now self.old }
+        ensures kept { (v : ℕ) → slice_index self.old.marks.items v ≢ 0 → slice_index self.new.marks.items v ≢ 0 }
+    {
+        graph.facts();
+        let place = self.marks[top] - 1;
+        let _ = self.opened.pop();
+        let _ = self.left.pop();
+        if self.bounds[self.bounds.len() - 1] < place {
+            return;
+        }
+        let _ = self.bounds.pop();
+        give(&mut self.marks, &self.pending, place as usize, self.rank);
+        self.pending.truncate(place as usize);
+        self.rank -= 1;
+    }
+
+    /// Passes an edge that leads to a node that was entered.
+    fn pass(&mut self, graph: &Digraph, top: usize, node: usize)
+        requires walk { IsWalk graph.now self.old }
+        requires opened { 0 < length self.old.opened.items }
+        requires top { slice_index self.old.opened.items (length self.old.opened.items - 1) ≡ top }
+        requires some { 0 < slice_index self.old.left.items (length self.old.left.items - 1) }
+        requires next { node ≡ target_at graph.now.edges top (length (places top (sources graph.now.edges)) - slice_index self.old.left.items (length self.old.left.items - 1)) }
+        requires node { node < graph.now.nodes }
+        requires edge { HasEdge graph.now.edges top node }
+        requires entered { 0 < slice_index self.old.marks.items node }
+        ensures walk { IsWalk graph.now self.new }
+        ensures steps { steps_left graph.now self.new < steps_left graph.now self.old }
+        ensures kept { self.new.marks ≡ self.old.marks }
+    {
+        graph.facts();
+        fold(&mut self.bounds, self.marks[node]);
+        let last = self.left.len() - 1;
+        self.left[last] -= 1;
+    }
+
+    /// The end of the next edge of the last open node.
+    fn next(&self, graph: &Digraph, top: usize) -> usize
+        requires walk { IsWalk graph.now self.now }
+        requires opened { 0 < length self.now.opened.items }
+        requires top { slice_index self.now.opened.items (length self.now.opened.items - 1) ≡ top }
+        requires node { top < graph.now.nodes }
+        requires some { 0 < slice_index self.now.left.items (length self.now.left.items - 1) }
+        ensures value { result ≡ target_at graph.now.edges top (length (places top (sources graph.now.edges)) - slice_index self.now.left.items (length self.now.left.items - 1)) }
+        ensures node { result < graph.now.nodes }
+        ensures edge { HasEdge graph.now.edges top result }
+    {
+        graph.facts();
+        let edges = graph.out_edges(top);
+        graph
+            .edge(edges.end - self.left[self.left.len() - 1] as usize)
+            .to
+    }
+
+    /// The node that was opened last.
+    fn last(&self, graph: &Digraph) -> usize
+        requires walk { IsWalk graph.now self.now }
+        requires opened { 0 < length self.now.opened.items }
+        ensures value { slice_index self.now.opened.items (length self.now.opened.items - 1) ≡ result }
+        ensures node { result < graph.now.nodes }
+    {
+        graph.facts();
+        self.opened[self.opened.len() - 1] as usize
+    }
+
+    /// Looks at the next edge of the last open node: enters the node at its end, or passes it. With no edge left, closes the node.
+    fn step(&mut self, graph: &Digraph) -> Result<(), AllocError>
+        requires narrow { (2 * graph.now.nodes < 2 ^ 32) × (length graph.now.edges < 2 ^ 32) }
+        requires walk { IsWalk graph.now self.old }
+        requires opened { 0 < length self.old.opened.items }
+        ensures walk { OnOk result (IsWalk graph.now self.new) }
+        ensures steps { OnOk result (steps_left graph.now self.new < steps_left graph.now self.old) }
+        ensures kept { OnOk result ((v : ℕ) → slice_index self.old.marks.items v ≢ 0 → slice_index self.new.marks.items v ≢ 0) }
+    {
+        let top = self.last(graph);
+        if self.left[self.left.len() - 1] == 0 {
+            self.close(graph, top);
+            return Ok(());
+        }
+        let node = self.next(graph, top);
+        if self.marks[node] == 0 {
+            return self.enter(graph, node);
+        }
+        self.pass(graph, top, node);
+        Ok(())
+    }
+
+    /// Enters `root` if it wasn't entered, and walks until no node is open.
+    fn visit(&mut self, graph: &Digraph, root: usize) -> Result<(), AllocError>
+        requires narrow { (2 * graph.now.nodes < 2 ^ 32) × (length graph.now.edges < 2 ^ 32) }
+        requires walk { IsWalk graph.now self.old }
+        requires none { length self.old.opened.items ≡ 0 }
+        requires root { root < graph.now.nodes }
+        ensures walk { OnOk result (IsWalk graph.now self.new) }
+        ensures none { OnOk result (length self.new.opened.items ≡ 0) }
+        ensures kept { OnOk result ((v : ℕ) → slice_index self.old.marks.items v ≢ 0 → slice_index self.new.marks.items v ≢ 0) }
+        ensures entered { OnOk result (slice_index self.new.marks.items root ≢ 0) }
+    {
+        if self.marks[root] != 0 {
+            return Ok(());
+        }
+        self.enter(graph, root)?;
+        while self.opened.len() > 0 {
+            self.step(graph)?;
+        }
+        Ok(())
+    }
+}
+
+/// Returns a walk that has entered no node.
+fn fresh(alloc: Global, graph: &Digraph) -> Result<Walk, AllocError>
+    requires narrow { 2 * graph.now.nodes < 2 ^ 32 }
+    ensures walk { IfOk result (λ w. IsWalk graph.now w) }
+    ensures none { IfOk result (λ w. length w.opened.items ≡ 0) }
+{
+    let nodes = graph.node_count();
+    let marks = zeroes(alloc, nodes)?;
+    Ok(Walk {
+        marks,
+        pending: Vec::new(alloc),
+        bounds: Vec::new(alloc),
+        opened: Vec::new(alloc),
+        left: Vec::new(alloc),
+        rank: (2 * nodes) as u32,
+    })
+}
+
+/// The walk from each node, at its end: no node is pending.
+pub(crate) fn walked(alloc: Global, graph: &Digraph) -> Result<Walk, AllocError>
+    requires narrow { (2 * graph.now.nodes < 2 ^ 32) × (length graph.now.edges < 2 ^ 32) }
+    ensures walk { IfOk result (λ w. IsWalk graph.now w) }
+    ensures whole { IfOk result (λ w. (v : ℕ) → v < graph.now.nodes → graph.now.nodes < slice_index w.marks.items v) }
+{
+    let mut walk = fresh(alloc, graph)?;
+    for root in 0..graph.node_count() {
+        walk.visit(graph, root)?;
+    }
+    Ok(walk)
+}
+
+/// Numbers less the base.
+pub(crate) fn lowered(numbers: Vec<u32>, base: u32) -> Vec<u32>
+    requires { (i : ℕ) → i < length numbers.items → base ≤ slice_index numbers.items i }
+    ensures long { length result.items ≡ length numbers.items }
+    ensures each { (i : ℕ) → i < length numbers.items → slice_index result.items i + base ≡ slice_index numbers.items i }
+{
+    let mut less = numbers;
+    for place in 0..less.len() {
+        less[place] -= base;
+    }
+    less
+}

@@ -1,0 +1,143 @@
+//! The order of the nodes, and their components.
+ghost use Rattle.std.specs.Prelude.{◌≡◌, ◌≢◌, ℕ, [], ◌∷◌, ◌++◌, ◌+◌, ◌-◌, ◌<◌, ◌≤◌, ◌==◌, ◌↔◌, length, slice_index, slice_get, Some, filter, IfOk, OnOk, IsTrue};
+ghost use Rattle.guppy_support.specs.Graph.{Graph, IsDigraph};
+ghost use Rattle.guppy_support.specs.Paths.{SameComponent};
+ghost use Rattle.digraph_orders.specs.Orders.{IsOrder};
+ghost use Rattle.digraph_orders.specs.inner.Plans.{IsSetup};
+ghost use Rattle.digraph_orders.specs.inner.Apart.{AreApart};
+ghost use Rattle.guppy_support.specs.PackedRows.{AreBegun};
+ghost use Rattle.digraph_orders.specs.Sequences.{IsOrderOf, IsSequence, component_of};
+ghost use Rattle.digraph_orders.specs.inner.Numbering.{AreNumbered, rank_at};
+
+mod counts;
+mod groups;
+mod listing;
+mod numbering;
+mod queue;
+
+use crate::components::component_ranks;
+use counts::first_plan;
+use groups::Groups;
+use guppy_support::Digraph;
+use listing::order_from;
+use numbering::{numbered, placed, scattered};
+use std::alloc::{AllocError, Global};
+use std::marker::Model;
+
+/// All nodes of a digraph in an order in which sources come before targets as far as cycles allow, and their components.
+/// Two nodes are in one component if paths lead both ways.
+#[derive(Debug, Drop)]
+pub struct Order {
+    list: Vec<usize>,
+    components: Vec<u32>,
+    count: usize,
+    begins: Vec<u32>,
+    places: Vec<u32>,
+}
+
+impl Model for Order {
+    ghost use Rattle.digraph_orders.specs.Sequences.{Sequence, IsSequence};
+    ghost use Rattle.digraph_orders.specs.inner.Numbering.{AreGrouped, ArePlaces};
+
+    ghost Value = { Sequence };
+
+    ghost view = { λ o. record { list = o.list.items; component = o.components.items; count = o.count } };
+
+    ghost invariant = { λ o.
+        IsSequence (record { list = o.list.items; component = o.components.items; count = o.count })
+        × AreGrouped o.count o.list.items o.components.items o.begins.items
+        × ArePlaces o.list.items o.places.items };
+}
+
+impl Order {
+    /// The order and the components of the digraph. Each next node is the least-numbered one that may come next.
+    /// More nodes than 2147483647, or edges than 4294967295, are refused as want of memory.
+    pub fn new(alloc: Global, graph: &Digraph) -> Result<Order, AllocError>
+        ensures { IfOk result (IsOrderOf graph.now) }
+    {
+        let most = u32::MAX as usize;
+        if graph.node_count() > most || graph.edge_count() > most {
+            return Err(AllocError);
+        }
+        graph.facts();
+        let ranked = component_ranks(alloc, graph)?;
+        let ranks = ranked.ranks;
+        let list = listed(alloc, graph, &ranks)?;
+        let (numbers, begins) = numbered(alloc, &list, &ranks, ranked.count)?;
+        let components = scattered(ranks, &list, &numbers);
+        let places = placed(numbers, &list);
+        let count = begins.len() - 1;
+        Ok(Order {
+            list,
+            components,
+            count,
+            begins,
+            places,
+        })
+    }
+
+    /// Does nothing: its contract is what is true of each order by itself.
+    pub fn facts(&self)
+        ensures { IsSequence self.now }
+    {
+        let _count = self.count;
+    }
+
+    /// All nodes, in order.
+    pub fn list(&self) -> &[usize]
+        ensures { result.now ≡ self.now.list }
+    {
+        &self.list
+    }
+
+    /// The place of the node in the list.
+    pub fn place(&self, node: usize) -> usize
+        requires { node < length self.now.list }
+        ensures { slice_get self.now.list result ≡ Some node }
+    {
+        self.places[node] as usize
+    }
+
+    /// How many components there are.
+    pub fn component_count(&self) -> usize
+        ensures { result ≡ self.now.count }
+    {
+        self.count
+    }
+
+    /// The number of the node's component. Components are numbered by their first place in the order.
+    pub fn component(&self, node: usize) -> usize
+        requires { node < length self.now.component }
+        ensures { result ≡ component_of self.now node }
+    {
+        self.components[node] as usize
+    }
+
+    /// Whether two nodes are in one component: paths lead both ways.
+    pub fn is_same(&self, a: usize, b: usize) -> bool
+        requires a { a < length self.now.component }
+        requires b { b < length self.now.component }
+        ensures component { result ≡ (component_of self.now a == component_of self.now b) }
+        ensures reach { (g : Graph) → IsOrderOf g self.now → IsTrue result ↔ SameComponent g.edges a b }
+    {
+        self.components[a] == self.components[b]
+    }
+
+    /// The nodes of the component of that number, in order.
+    pub fn component_nodes(&self, component: usize) -> &[usize]
+        requires { component < self.now.count }
+        ensures { result.now ≡ filter (λ v. component_of self.now v == component) self.now.list }
+    {
+        &self.list[self.begins[component] as usize..self.begins[component + 1] as usize]
+    }
+}
+
+// The order of the nodes, from the ranks of their components.
+fn listed(alloc: Global, graph: &Digraph, ranks: &[u32]) -> Result<Vec<usize>, AllocError>
+    requires setup { IsSetup graph.now ranks.now }
+    ensures { IfOk result (λ list. IsOrder graph.now.edges graph.now.nodes list.items) }
+{
+    let groups = Groups::new(alloc, ranks, graph.node_count())?;
+    let plan = first_plan(alloc, graph, ranks, &groups)?;
+    order_from(graph, ranks, &groups, plan)
+}

@@ -1,0 +1,156 @@
+//! The edges are counted before the first node of an order: those that enter each component, and those that hold each node.
+ghost use Rattle.std.specs.Prelude.{◌≡◌, ◌≢◌, ℕ, [], ◌+◌, ◌<◌, ◌≤◌, length, slice_index, IfOk, OnOk, false, replicate};
+ghost use Rattle.guppy_support.specs.Graph.{IsDigraph};
+ghost use Rattle.guppy_support.specs.Rows.{places};
+ghost use Rattle.digraph_orders.specs.inner.Groups.{AreGroups};
+ghost use Rattle.digraph_orders.specs.inner.Plans.{IsSetup, IsPauseIn, IsEdge, AreEntering, AreHolding, AreFirsts};
+
+use crate::order::groups::Groups;
+use crate::order::listing::{Plan, first_of};
+use crate::order::queue::Queue;
+use guppy_support::{Digraph, Edge, IxBitSet, zeroes};
+use std::alloc::{AllocError, Global};
+
+/// The edge of that number.
+fn edge_at(graph: &Digraph, number: usize) -> Edge
+    requires { number < length graph.now.edges }
+    ensures { IsEdge graph.now number result.from result.to result.non_dev }
+{
+    graph.facts();
+    graph.edge(number)
+}
+
+/// Counts an edge for the component that it enters, or for the node that it holds.
+fn count_edge(
+    outside: &mut Vec<u32>,
+    held: &mut Vec<u32>,
+    graph: &Digraph,
+    ranks: &[u32],
+    number: usize,
+)
+    requires setup { IsSetup graph.now ranks.now }
+    requires number { number < length graph.now.edges }
+    requires entering { AreEntering graph.now ranks.now number outside.old.items }
+    requires holding { AreHolding graph.now ranks.now number held.old.items }
+    ensures entering { AreEntering graph.now ranks.now (number + 1) outside.new.items }
+    ensures holding { AreHolding graph.now ranks.now (number + 1) held.new.items }
+{
+    let _edges = graph.edge_count();
+    let edge = edge_at(graph, number);
+    let rank = ranks[edge.to];
+    if ranks[edge.from] != rank {
+        outside[rank as usize] += 1;
+        return;
+    }
+    if !edge.non_dev {
+        return;
+    }
+    if edge.from == edge.to {
+        return;
+    }
+    held[edge.to] += 1;
+}
+
+/// Adds the first node of the component of that rank, if there is one and no edge enters it.
+fn add_start(
+    starts: &mut Queue,
+    members: &[u32],
+    ranks: &[u32],
+    outside: &[u32],
+    held: &[u32],
+    rank: usize,
+) -> Result<(), AllocError>
+    requires rank { rank < length outside.now }
+    requires members { members.now ≡ places rank ranks.now }
+    requires nodes { (j : ℕ) → j < length members.now → slice_index members.now j < length held.now }
+    requires firsts { AreFirsts ranks.now outside.now held.now rank starts.old }
+    ensures { OnOk result (AreFirsts ranks.now outside.now held.now (rank + 1) starts.new) }
+{
+    let _ranks = ranks.len();
+    if outside[rank] != 0 {
+        return Ok(());
+    }
+    if members.is_empty() {
+        return Ok(());
+    }
+    starts.push(first_of(members, held))?;
+    Ok(())
+}
+
+/// How many edges enter each component, and how many hold each node.
+fn count_edges(
+    alloc: Global,
+    graph: &Digraph,
+    ranks: &[u32],
+) -> Result<(Vec<u32>, Vec<u32>), AllocError>
+    requires setup { IsSetup graph.now ranks.now }
+    ensures entering { IfOk result (λ counts. AreEntering graph.now ranks.now (length graph.now.edges) counts.0.items) }
+    ensures holding { IfOk result (λ counts. AreHolding graph.now ranks.now (length graph.now.edges) counts.1.items) }
+{
+    let mut outside = zeroes(alloc, graph.node_count())?;
+    let mut held = zeroes(alloc, graph.node_count())?;
+    for number in 0..graph.edge_count() {
+        count_edge(&mut outside, &mut held, graph, ranks, number);
+    }
+    Ok((outside, held))
+}
+
+/// The first nodes of the components that no edge enters.
+fn first_starts(
+    alloc: Global,
+    nodes: usize,
+    ranks: &[u32],
+    groups: &Groups,
+    outside: &[u32],
+    held: &[u32],
+) -> Result<Queue, AllocError>
+    requires ranks { length ranks.now ≡ nodes }
+    requires outside { length outside.now ≡ nodes }
+    requires held { length held.now ≡ nodes }
+    requires groups { AreGroups nodes ranks.now groups.now }
+    ensures { IfOk result (λ starts. AreFirsts ranks.now outside.now held.now nodes starts) }
+{
+    let mut starts = Queue::empty(alloc, nodes)?;
+    for rank in 0..nodes {
+        let members = groups.row(ranks, rank, nodes);
+        add_start(&mut starts, members, ranks, outside, held, rank)?;
+    }
+    Ok(starts)
+}
+
+/// An empty list with room for `nodes`, and the empty set of numbers below `nodes`.
+fn nothing_listed(alloc: Global, nodes: usize) -> Result<(Vec<usize>, IxBitSet), AllocError>
+    ensures list { IfOk result (λ nothing. nothing.0.items ≡ []) }
+    ensures set { IfOk result (λ nothing. nothing.1 ≡ replicate nodes false) }
+{
+    let list = Vec::with_capacity(alloc, nodes)?;
+    let done = IxBitSet::empty(alloc, nodes)?;
+    Ok((list, done))
+}
+
+/// The plan in which no node is listed.
+pub(crate) fn first_plan(
+    alloc: Global,
+    graph: &Digraph,
+    ranks: &[u32],
+    groups: &Groups,
+) -> Result<Plan, AllocError>
+    requires setup { IsSetup graph.now ranks.now }
+    requires groups { AreGroups graph.now.nodes ranks.now groups.now }
+    ensures { IfOk result (λ plan. IsPauseIn graph.now ranks.now plan) }
+{
+    let nodes = graph.node_count();
+    let counts = count_edges(alloc, graph, ranks)?;
+    let starts = first_starts(alloc, nodes, ranks, groups, &counts.0, &counts.1)?;
+    let ready = Queue::empty(alloc, nodes)?;
+    let (listed, done) = nothing_listed(alloc, nodes)?;
+    Ok(Plan {
+        listed,
+        done,
+        outside: counts.0,
+        held: counts.1,
+        starts,
+        ready,
+        next: 0,
+    })
+}

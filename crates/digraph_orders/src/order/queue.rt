@@ -1,0 +1,80 @@
+//! Numbers, of which the least comes first.
+ghost use Rattle.std.specs.Prelude.{◌≡◌, [], IfSome, IfNone, IfOk, OnOk};
+ghost use Rattle.digraph_orders.specs.inner.Queues.{Joins, Leaves};
+
+use guppy_support::IxBitSet;
+use std::alloc::{AllocError, Global};
+use std::marker::Model;
+
+/// Numbers below a bound, of which the least comes first. A number that joins twice stands there once.
+#[derive(Drop)]
+pub(crate) struct Queue {
+    numbers: IxBitSet,
+    /// Each word of `numbers` that has a bit, and words that had one.
+    words: IxBitSet,
+    /// Each word of `words` that has a bit, and words that had one.
+    blocks: IxBitSet,
+}
+
+impl Model for Queue {
+    ghost use Rattle.std.specs.Prelude.{ℕ, List};
+    ghost use Rattle.guppy_support.specs.Bits.{members};
+    ghost use Rattle.digraph_orders.specs.inner.Queues.{IsAbove};
+
+    ghost Value = { List ℕ };
+
+    ghost view = { λ q. members q.numbers };
+
+    ghost invariant = { λ q. IsAbove q.numbers q.words × IsAbove q.words q.blocks };
+}
+
+impl Queue {
+    /// An empty queue of numbers below the bound.
+    pub(crate) fn empty(alloc: Global, bound: usize) -> Result<Queue, AllocError>
+        ensures { IfOk result (λ queue. queue ≡ []) }
+    {
+        let word_count = bound / 64 + 1;
+        let numbers = IxBitSet::empty(alloc, bound)?;
+        let words = IxBitSet::empty(alloc, word_count)?;
+        let blocks = IxBitSet::empty(alloc, word_count / 64 + 1)?;
+        Ok(Queue {
+            numbers,
+            words,
+            blocks,
+        })
+    }
+
+    /// A number joins. For one that isn't below the bound there is no room.
+    pub(crate) fn push(&mut self, number: usize) -> Result<(), AllocError>
+        ensures { OnOk result (Joins self.old number self.new) }
+    {
+        if number >= self.numbers.size() {
+            return Err(AllocError);
+        }
+        let word = number / 64;
+        self.numbers.insert(number);
+        self.words.insert(word);
+        self.blocks.insert(word / 64);
+        Ok(())
+    }
+
+    /// Takes the least number. On the way, words that have no bit are forgotten.
+    pub(crate) fn pop(&mut self) -> Option<usize>
+        ensures none { IfNone result (self.old ≡ []) }
+        ensures empty { IfNone result (self.new ≡ []) }
+        ensures some { IfSome result (λ x. Leaves self.old x self.new) }
+    {
+        while let Some(block) = self.blocks.next_from(0) {
+            if let Some(word) = self.words.first_in(block) {
+                if let Some(number) = self.numbers.first_in(word) {
+                    self.numbers.remove(number);
+                    return Some(number);
+                }
+                self.words.remove(word);
+            } else {
+                self.blocks.remove(block);
+            }
+        }
+        None
+    }
+}

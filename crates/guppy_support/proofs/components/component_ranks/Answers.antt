@@ -1,8 +1,0 @@
-use Rattle.guppy_support.proofs.ComponentLemmas.{ranked}
-use Rattle.guppy_support.proofs.components.component_ranks.Goals as goal
-
-pub returns-clause-ranking : goal.returns-clause-ranking
-returns-clause-ranking c =
-    let w = c.in_ok-walk.walk in
-    ranked c.args.graph.now w.marks.items w.pending.items w.bounds.items w.opened.items w.left.items w.rank c.lowered-ranks.result.items c.facts.ensures
-    c.in_ok-walk.ensures.walk c.in_ok-walk.ensures.whole c.lowered-ranks.ensures.long (rw c.node_count-nodes.ensures at c.lowered-ranks.ensures.each)

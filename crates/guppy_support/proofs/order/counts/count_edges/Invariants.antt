@@ -1,5 +1,0 @@
-use Rattle.guppy_support.specs.inner.Plans.{AreEntering, AreHolding}
-use Rattle.guppy_support.proofs.order.counts.count_edges.Given as goal
-
-abbrev pub invariant-loop-number : goal.invariant-loop-number
-invariant-loop-number l = record { entering : AreEntering l.graph l.ranks l.number l.outside.items; holding : AreHolding l.graph l.ranks l.number l.held.items }

@@ -1,5 +1,0 @@
-use Rattle.guppy_support.proofs.FirstLemmas.{edge_is}
-use Rattle.guppy_support.proofs.order.counts.edge_at.Goals as goal
-
-pub returns : goal.returns
-returns c = edge_is c.args.graph.now c.args.number c.edge.result c.facts.ensures c.requires c.edge.ensures

@@ -1,9 +1,0 @@
-use Rattle.std.proofs.Common.{get_or}
-use Rattle.guppy_support.specs.inner.Plans.{rest_of}
-use Rattle.guppy_support.proofs.AtLemmas.{at_begin}
-use Rattle.guppy_support.proofs.order.listing.Plan.mark.Goals as goal
-
-pub returns-clause-at : goal.returns-clause-at
-returns-clause-at c =
-    rw (c.in_ok-push.ensures.items, c.insert.ensures)
-    (at_begin c.args.graph.now c.args.ranks.now c.args.node c.args.self.now.listed.items c.args.self.now.done c.args.self.now.outside.items c.args.self.now.held.items c.args.self.now.starts c.args.self.now.ready (rest_of c.args.ranks.now (get_or c.args.ranks.now c.args.node 0) c.args.self.now) c.requires.chosen)

@@ -1,9 +1,0 @@
-use Rattle.std.proofs.Common.{◌≡◌, ◌≢◌, ◌<◌, ℕ, slice_index, Contains}
-use Rattle.guppy_support.proofs.order.listing.add_ready.Given as goal
-
-abbrev pub invariant-loop-place : goal.invariant-loop-place
-invariant-loop-place l =
-    record {
-      ready_all : (j : ℕ) → j < l.place → slice_index l.held (slice_index l.row j) ≡ 0 → slice_index l.row j ≢ l.start → Contains l.ready (slice_index l.row j);
-      ready_only : (y : ℕ) → Contains l.ready y → Contains l.row y × (slice_index l.held y ≡ 0);
-    }

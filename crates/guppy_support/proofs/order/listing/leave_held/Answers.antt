@@ -1,9 +1,0 @@
-use Rattle.std.proofs.Common.{arith}
-use Rattle.std.proofs.lemmas.List.{get_or_read}
-use Rattle.guppy_support.proofs.AtLemmas.{ready_joins}
-use Rattle.guppy_support.proofs.order.listing.leave_held.Goals as goal
-
-pub returns-in_ok-push-clause-ready : goal.returns-in_ok-push-clause-ready
-returns-in_ok-push-clause-ready c =
-    let read = get_or_read c.args.held.now.items c.args.node c.index.result.now c.requires.node c.index.ensures 0 in
-    ready_joins _ _ _ _ (omega (arith, read, c.if-left-eq0.true)) c.in_ok-push.ensures

@@ -1,5 +1,0 @@
-use Rattle.guppy_support.proofs.QueueLemmas.{members_empty}
-use Rattle.guppy_support.proofs.order.queue.Queue.empty.Goals as goal
-
-pub returns : goal.returns
-returns c = rw c.in_ok-numbers.ensures (members_empty c.args.bound)

@@ -1,9 +1,0 @@
-use Rattle.std.proofs.Common.{◌<◌, length, arith}
-use Rattle.guppy_support.proofs.QueueLemmas.{joins}
-use Rattle.guppy_support.proofs.order.queue.Queue.push.Goals as goal
-
-pub returns : goal.returns
-returns c =
-    let numbers = c.self.inside.numbers in
-    let inside : c.args.number < length numbers = omega (arith, c.size.ensures, c.if-number-size.false) in
-    rw c.insert.ensures (rw c.self.view_is at (joins numbers c.args.number inside))

@@ -1,0 +1,55 @@
+//! Why a call has no result.
+use byte_devices::ReadError;
+use guppy_packages::{RowError, RowFault};
+use row_files::RowFileError;
+use std::alloc::{AllocError, AllocFailed};
+
+/// Why a call has no result.
+#[derive(Clone, Copy)]
+pub enum Failure {
+    /// There is no such call, its words don't fit it, or a file can't be read.
+    Words,
+    /// The first fault of the rows.
+    Row(RowError),
+    /// An allocation failed.
+    Memory,
+}
+
+impl From<AllocError> for Failure {
+    fn from(_: AllocError) -> Failure {
+        Failure::Memory
+    }
+}
+
+impl<T: Drop> From<AllocFailed<T>> for Failure {
+    fn from(_: AllocFailed<T>) -> Failure {
+        Failure::Memory
+    }
+}
+
+impl From<ReadError> for Failure {
+    fn from(error: ReadError) -> Failure {
+        match error {
+            ReadError::Failed => Failure::Words,
+            ReadError::Memory => Failure::Memory,
+        }
+    }
+}
+
+impl From<RowFileError> for Failure {
+    fn from(error: RowFileError) -> Failure {
+        match error {
+            RowFileError::Memory => Failure::Memory,
+            _ => Failure::Words,
+        }
+    }
+}
+
+impl From<RowError> for Failure {
+    fn from(error: RowError) -> Failure {
+        match error.fault {
+            RowFault::Memory => Failure::Memory,
+            _ => Failure::Row(error),
+        }
+    }
+}
