@@ -1,0 +1,10 @@
+pub mod Runs
+pub mod FactRuns
+pub mod FactSound
+pub mod ReadRuns
+pub mod ReadSound
+pub mod Completes
+pub mod Places
+pub mod SpecTexts
+pub mod Lines
+pub mod Walks

@@ -1,0 +1,10 @@
+use Rattle.std.proofs.Common.{◌≡◌, ◌≤◌, true, drop}
+use Rattle.platform_specs.specs.Walk.{walk_over, walking}
+use Rattle.platform_specs.proofs.walk.walk_over.Given as goal
+
+-- the walk over what is left ends where the walk over all ends
+abbrev pub invariant-loop-part : goal.invariant-loop-part
+invariant-loop-part l = record {
+  rest : walk_over l.target.facts (drop l.part-index l.parts) l.walk ≡ walk_over l.target.facts l.parts (walking true);
+  depth : l.walk.skipped ≤ l.part-index;
+}
