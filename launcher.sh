@@ -89,7 +89,7 @@ launch() {
   if [ -z "$why" ]; then
     exec "$top/crates/$name/out/$name" "$@"
   fi
-  echo "$name: $why: this answer comes from a build that is checked while it runs and is not proved; ./build proves it, in about half an hour on four cores" >&2
+  echo "$name: $why: this answer comes from a build that is checked while it runs and is not proved; ./build proves it, in some 70 processor minutes" >&2
   if ! printf '%s\n' "$@" | iconv -f UTF-8 -t UTF-8 >/dev/null 2>&1; then
     # rt try takes no words that aren't UTF-8. The programs refuse these as they refuse two unknown words.
     try_unproved "$name" "" bad words
