@@ -167,7 +167,7 @@ fn answers(
     }
 }
 
-/// Whether the used package fits the declaration, and what is asked besides holds.
+/// Returns whether the used package fits the declaration and the further condition holds.
 #[tactic(auto, unfolding(crate::specs::inner::Picks::meets))]
 fn meets(
     alloc: Global,

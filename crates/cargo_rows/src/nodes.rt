@@ -171,7 +171,7 @@ fn features_on<'v>(
     }
 }
 
-/// The id of the node of this place, and what it says of its package.
+/// Returns the id of the node at this place, and its facts about its package.
 #[tactic(auto, unfolding(crate::specs::Nodes::node_in))]
 fn node_of<'p, 'v>(
     alloc: Global,

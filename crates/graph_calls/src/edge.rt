@@ -73,7 +73,7 @@ fn copied_weak(alloc: Global, weak: &WeakSlashImpl) -> Result<WeakSlashImpl, All
     Ok(WeakSlashImpl::new(required, optional, weak.index()))
 }
 
-/// An equal form, of which a weak one is copied as a whole and by its halves.
+/// Returns an equal form. A weak form is copied as a whole and by its halves.
 fn copied_form(alloc: Global, slash: &SlashForm) -> Result<SlashForm, AllocError> {
     match slash.try_clone(alloc)? {
         SlashForm::Strong => Ok(SlashForm::Strong),

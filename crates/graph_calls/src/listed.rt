@@ -8,7 +8,7 @@ use feature_core::{FeatureEdge, FeatureGraphData, SlashForm};
 use guppy_packages::DependencyDirection;
 use std::alloc::{AllocError, Global};
 
-/// A start, a far end, what is asked, and a gate. The gate counts where the ask is gated, and is 0 elsewhere.
+/// A way: its start, far end, `Ask` and gate. The gate counts if the ask is gated, else it is 0.
 type ListedWay = (usize, usize, Ask, usize);
 
 /// A source that scans a list of edges for each read.

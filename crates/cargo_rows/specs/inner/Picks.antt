@@ -16,7 +16,7 @@ answers asked.Use d dep = is_used d dep
 answers asked.Version d dep = is_admitted d dep
 answers asked.Both d dep = is_used d dep && is_admitted d dep
 
--- whether the used package fits the declaration of the package with this id, and what is asked besides holds
+-- whether the used package fits the declaration of the package with this id, and the further condition holds
 unfoldable pub meets : Asked → Text → DeclarationText → DepText → Bool
 meets ask id d dep = fits id d dep && answers ask d dep
 
