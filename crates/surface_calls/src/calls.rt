@@ -1,7 +1,7 @@
 //! Which call a line asks for.
 use crate::checks::{Start, check, check_exact};
 use crate::explanations::platform;
-use crate::filters::select;
+use crate::filters::{select_ids, select_names, select_plain};
 use crate::in_set::in_set;
 use crate::look_ups::{figures, look_ups, verify, warnings};
 use crate::pairs::{cycles, pair, tied};
@@ -32,7 +32,9 @@ fn plain_call(
         "none" => tell_set(out, "", features.resolve_none(alloc)),
         "in-all" => return in_set(out, alloc, features.resolve_all(alloc), options),
         "cycles" => cycles(out, alloc, features),
-        _ => return select(out, alloc, features, name, options, &[]),
+        "select-names" => return select_names(out, alloc, features, name, options),
+        "select" | "standard" => select_plain(out, alloc, features, name, options),
+        _ => out.line("no such call"),
     }
     Ok(())
 }
@@ -53,7 +55,7 @@ fn call(
         "pair" => pair(out, alloc, features, options, ids),
         "tied" => tied(out, alloc, features, ids),
         "in-set" => return in_set(out, alloc, features.resolve_ids(alloc, ids), options),
-        "select-ids" => return select(out, alloc, features, name, options, ids),
+        "select-ids" => select_ids(out, alloc, features, name, options, ids),
         "forward" | "reverse" | "directed" | "packages" | "of-package" | "copy" | "items" => {
             of_query(out, alloc, features, name, options, ids);
         }

@@ -25,7 +25,7 @@ pub fn tell_steps(out: &Out, steps: &[Step<'_>]) {
                 to,
                 declarations,
             } => {
-                out.part(" link");
+                out.part(" link ");
                 tell_ends(out, from, to, declarations);
             }
         }
@@ -38,7 +38,7 @@ fn tell_explained(out: &Out, explained: &Explained<'_>) {
     tell_counted(out, ":", explained.set().ids_by_node());
     tell_steps(out, explained.steps());
     for (from, to, declarations) in explained.refused() {
-        out.part("refused");
+        out.part("refused ");
         tell_ends(out, *from, *to, *declarations);
         out.line("");
     }

@@ -185,34 +185,67 @@ fn tell_selected(out: &Out, from: Selection<'_, '_>, form: &str, choice: Choice)
     out.line("");
 }
 
-/// Selects the features of the workspace that a choice or, of `standard`, a standard filter accepts, and of `select-names` and
-/// `select-ids` those of a list.
-pub fn select(
-    out: &Out,
-    alloc: Global,
-    features: FeatureGraph<'_>,
-    name: &str,
-    options: &str,
-    ids: &[FeatureId<'_>],
-) -> Result<(), Failure> {
-    let (form, options) = cut(options);
-    let (word, listed) = cut(options);
+/// Selects by a choice or, of `standard`, by a standard filter: what the name of the call, the form and a word say.
+fn select_from(out: &Out, from: Selection<'_, '_>, name: &str, form: &str, word: &str) {
     let choice = if name == "standard" {
         Choice::standard(word)
     } else {
         Choice::of(word)
     };
-    let names = all_of::<&str>(alloc, listed)?;
-    let listed = match name {
-        "select-names" => Listed::Names(&names),
-        "select-ids" => Listed::Ids(ids),
-        _ => Listed::Nothing,
-    };
+    tell_selected(out, from, form, choice);
+}
+
+/// Selects the features of the workspace that a filter accepts, and the named features of the names after it.
+pub fn select_names<'g>(
+    out: &Out,
+    alloc: Global,
+    features: FeatureGraph<'g>,
+    name: &str,
+    options: &'g str,
+) -> Result<(), Failure> {
+    let (form, options) = cut(options);
+    let (word, listed) = cut(options);
+    let names = all_of::<&'g str>(alloc, listed)?;
     let from = Selection {
         alloc,
         features,
-        listed,
+        listed: Listed::Names(&names),
     };
-    tell_selected(out, from, form, choice);
+    select_from(out, from, name, form, word);
     Ok(())
+}
+
+/// Selects the features of the workspace that a filter accepts, and those of these ids.
+pub fn select_ids<'g>(
+    out: &Out,
+    alloc: Global,
+    features: FeatureGraph<'g>,
+    name: &str,
+    options: &str,
+    ids: &[FeatureId<'g>],
+) {
+    let (form, word) = cut(options);
+    let from = Selection {
+        alloc,
+        features,
+        listed: Listed::Ids(ids),
+    };
+    select_from(out, from, name, form, word);
+}
+
+/// Selects the features of the workspace that a filter accepts.
+pub fn select_plain(
+    out: &Out,
+    alloc: Global,
+    features: FeatureGraph<'_>,
+    name: &str,
+    options: &str,
+) {
+    let (form, word) = cut(options);
+    let from = Selection {
+        alloc,
+        features,
+        listed: Listed::Nothing,
+    };
+    select_from(out, from, name, form, word);
 }

@@ -96,8 +96,8 @@ fn link_ends(out: &Out, set: &FeatureSet<'_>, direction: DependencyDirection) {
 
 /// Writes what iterators over a set yield that are asked again after their end, and the set after them.
 fn ends(out: &Out, alloc: Global, set: &FeatureSet<'_>, direction: DependencyDirection) {
-    tell_end(out, "ids ", ", left ", set.feature_ids(direction));
-    tell_end(out, "features ", ", left ", set.features(direction));
+    tell_end(out, "ids ", ", left ", " ", set.feature_ids(direction));
+    tell_end(out, "features ", ", left ", " ", set.features(direction));
     link_ends(out, set, direction);
     tell_ends(out, "root ids ", set.root_ids(alloc, direction));
     tell_ends(out, "roots ", set.root_features(alloc, direction));

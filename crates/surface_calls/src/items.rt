@@ -79,6 +79,7 @@ pub fn tell_end<T: Named, I: ExactSizeIterator<Item = T>>(
     out: &Out,
     before: &str,
     between: &str,
+    after: &str,
     mut items: I,
 )
     requires { (items : _) → I.can_next items }
@@ -89,7 +90,7 @@ pub fn tell_end<T: Named, I: ExactSizeIterator<Item = T>>(
     }
     out.number(before, count);
     out.number(between, items.len());
-    out.answer_line(" ", items.next().is_none());
+    out.answer_line(after, items.next().is_none());
 }
 
 /// Writes whether there is none after the last item, or the error.
@@ -101,7 +102,7 @@ pub fn tell_ends<T: Named, I: ExactSizeIterator<Item = T> + Drop>(
     requires { (items : _) → I.can_next items }
 {
     match items {
-        Ok(items) => tell_end(out, before, ", left ", items),
+        Ok(items) => tell_end(out, before, ", left ", " ", items),
         Err(error) => tell_error(out, error),
     }
 }

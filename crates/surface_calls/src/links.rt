@@ -26,7 +26,7 @@ pub fn tell_ends(
     to: FeatureId<'_>,
     declarations: LinkDeclarations,
 ) {
-    out.id(from);
+    out.shown(from);
     out.id(to);
     out.part(match declarations {
         LinkDeclarations::Unsplit => " unsplit",

@@ -24,9 +24,15 @@ pub fn tell(out: &Out, alloc: Global, query: Result<FeatureQuery<'_>, Error<'_>>
 /// Writes what iterators yield that are left after their first item, and that are asked again after their end.
 fn items(out: &Out, query: &FeatureQuery<'_>) {
     tell_first(out, query.initials().ids_by_node());
-    tell_end(out, "then ", " and ", query.initials().ids_by_node());
+    tell_end(
+        out,
+        "then ",
+        " and ",
+        " left ",
+        query.initials().ids_by_node(),
+    );
     tell_first(out, query.initial_packages());
-    tell_end(out, "then ", " and ", query.initial_packages());
+    tell_end(out, "then ", " and ", " left ", query.initial_packages());
     tell_members(out, query.initials());
 }
 
@@ -61,10 +67,10 @@ fn query_call(
 
 /// Returns all features but the first.
 fn others<'i, 'a>(ids: &'i [FeatureId<'a>]) -> &'i [FeatureId<'a>] {
-    match ids.split_first() {
-        Some((_, others)) => others,
-        None => ids,
+    if ids.is_empty() {
+        return ids;
     }
+    &ids[1..]
 }
 
 /// Makes a call on the query of the features. `directed` and `copy` take its direction, `reverse` is in reverse, and the others

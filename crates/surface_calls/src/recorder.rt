@@ -75,7 +75,7 @@ pub fn answer(
     let accepted = manner.rule.accepts(calls, link);
     log.calls.set(calls.saturating_add(1));
     let (from, to) = link.endpoints();
-    log.out.part("-");
+    log.out.part("- ");
     tell_ends(
         &log.out,
         from.feature_id(),
