@@ -33,7 +33,13 @@ impl<'t> Lines<'t> {
         let form = form_of(fields);
         let start = self.kept.len();
         keep(&mut self.kept, form, fields)?;
-        let line = Line::new(number, start, self.kept.len(), form)?;
+        let end = self.kept.len();
+        let line = Line {
+            number,
+            start,
+            end,
+            form,
+        };
         match self.lines.push(line) {
             Ok(()) => Ok(()),
             Err(_) => Err(AllocError),
@@ -115,6 +121,6 @@ impl<'t> Lines<'t> {
         requires { at < length (lines_of self.now) }
         ensures { result ≡ line_of (lines_of self.now) at }
     {
-        self.lines[at].number as usize
+        self.lines[at].number
     }
 }
