@@ -74,7 +74,7 @@ first_head n ranks held done c x long fresh f =
     let w = places_within c ranks f.place f.within in
     let rank : get_or ranks x 0 ≡ c = rw f.is at w.1 in
     let lx : x < n = let l = w.0 in omega (arith, l, f.is, long) in
-    -- a lesser node of the component has an earlier place
+    -- A lesser node of the component has an earlier place.
     let earlier : (u : ℕ) → u < x → get_or ranks u 0 ≡ c → (j : ℕ) × (j < f.place) × (get_or (places c ranks) j 0 ≡ u) =
     λ u less e.
     let q = row_complete ranks c u (omega (arith, less, lx, long)) e in

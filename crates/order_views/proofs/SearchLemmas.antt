@@ -45,7 +45,7 @@ finds_none found waiting = record {
   same = refl;
 }
 
--- `Finds` depends only on which nodes are of the kind.
+-- `Finds` depends only on the set of nodes that are meant.
 pub finds_alike : {P Q : ℕ → Type 0} {old found : List Bool} {was waiting : List ℕ} → ((v : ℕ) → P v → Q v) → ((v : ℕ) → Q v → P v) → Finds P old was found waiting → Finds Q old was found waiting
 finds_alike to back h = record {
   size = h.size;

@@ -145,8 +145,8 @@ fn is_complete<T: EdgeTable>(
 
 /// Returns true if `steps` are an explanation that names no refused offer, and list a set that is closed for
 /// all other offers. Closed means that the set has the initial nodes, and the far end of each unconditional
-/// edge that starts in it. It also has the far end of each offer that isn't refused, if its start is in the
-/// set, and its gate too if it waits for one.
+/// edge that starts in it. The far end of an offer that isn't refused is in the set if its start is, and its
+/// gate too where it waits for one.
 ///
 /// The steps aren't trusted. An entry of `refused` that is no offer refuses nothing. The time is linear in the
 /// steps, the refused entries and the edges of the listed nodes. Allocates one bit per node and three bits per

@@ -1,4 +1,4 @@
--- Walks over edges, some of which are offered before they are followed.
+-- Walks over edges. A conditional edge is offered before it is followed.
 use Rattle.std.specs.Prelude.{◌≡◌, ℕ, suc, if◌then◌else◌, Bool, true, false, List, [], ◌∷◌, Option, Some, None, slice_get, IsTrue, IsFalse, ◌&&◌, ◌||◌, ◌==◌, ◌+◌, ◌*◌, ◌<◌, ◌≤◌, ◌↔◌, count_by}
 use Rattle.guppy_support.specs.Bits.{has}
 use Rattle.walk_engine.specs.declared.walks.Half.{Half}

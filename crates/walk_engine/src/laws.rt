@@ -8,8 +8,8 @@ ghost use Rattle.walk_engine.specs.declared.walks.Half.TheVariants.{Required};
 
 use crate::walks::Offerer;
 
-/// A path over all edges leads from `a` to `b` exactly if `b` is in the reach of `a`, and exactly if `a` is in
-/// the reach of `b` over the reverse edges.
+/// A path over all edges leads from `a` to `b` exactly if `b` is in the reach of `a`. It does so exactly if `a`
+/// is in the reach of `b` over the reverse edges.
 pub fn reach_both_ways()
     ensures forward { (c : Content) (a b : ℕ) → Leads c a b ↔ Reach c (only a) every b }
     ensures reverse { (c d : Content) → AreReverse c d → (a b : ℕ)

@@ -116,9 +116,8 @@ pub struct Step {
 
 /// Walks from `initials`, and explains the members. The offers make a complete legal run.
 ///
-/// Returns the walk, a step for each member in the order in which they were reached, and the refused offers in
-/// the order of the run. `AllocError` is returned when an allocation fails; the offers made until then are a
-/// legal run.
+/// Returns the walk, a step for each member in the order of reaching them, and the refused offers in the order
+/// of the run. `AllocError` is returned when an allocation fails; the offers made until then are a legal run.
 pub fn walk_explained<S: EdgeSource, O: Offerer>(
     alloc: Global,
     source: &mut S,

@@ -12,7 +12,7 @@ abbrev pub unentered : ℕ → List ℕ → ℕ
 unentered n marks = count_below (λ v. slice_index marks v == 0) n
 
 -- The invariant of the walk. A mark is 0 before its node is entered, then one plus its place in `pending`, and
--- then the rank of its component, which is above the number of nodes. Pending nodes from one bound up to the
+-- then the rank of its component. Ranks are above the number of nodes. Pending nodes from one bound up to the
 -- next are in one component, and lead to all later ones.
 pub record IsWalking (g : Graph) (marks pending bounds opened left : List ℕ) (rank : ℕ) : Type 0 where
   pub marks_long : length marks ≡ g.nodes
