@@ -127,12 +127,12 @@ later_place x a b (f, g, h, i) (p, q, r, o) (inr (e, inl k)) = absurd (omega (ar
 later_place x a b (f, g, h, i) (p, q, r, o) (inr (e, inr (k, inl n))) = absurd (omega (arith, n, i, o))
 later_place x a b (f, g, h, i) (p, q, r, o) (inr (e, inr (k, inr n))) = n.1
 
--- `run` has exactly the keys of the tables for the pair of `x`, in order, and all are of declarations
+-- `run` has exactly the keys of the tables for the pair of `x`, in order, and all are keys of declarations
 pub record AreRequests (t : Tables) (x : Key) (run : List Key) : Type 0 where
   pub ordered : AllPairs IsNoLater run
   pub exact : (y : Key) → Contains run y ↔ (IsOfTables t y × (y.rank ≡ 7) × (y.from ≡ x.from) × (y.to ≡ x.to))
 
--- if the least key of a pair is of a declaration, all keys of the pair are
+-- if the least key of a pair is a declaration's, all keys of the pair are
 pub run_requests : (t : Tables) → AreTables t → (keys run : List Key) (x : Key) → ((y : Key) → Contains keys y → IsOfTables t y) → ((x y : Key) → Contains keys x → IsOfTables t y → y.from ≡ x.from → Contains keys y)
     → IsLeast keys x → x.rank ≡ 7 → IsRun keys x.from x.to run → AreRequests t x run
 run_requests t tables keys run x of whole least last is = record {
@@ -166,7 +166,7 @@ module _ (t : Tables) (tables : AreTables t) (x : Key) (l : LinkFacts) (s : Says
       (λ o. subst (λ z. NodeAt t x.from s.link.from z) (sym (of_optional s.link d (subst (λ z. IsTrue (includes z d)) o.0 i))) o.1)
       s.start
 
-  -- another key of the pair is of the same link
+  -- another key of the pair has the same package link
   pub record IsOfLink (y : Key) : Type 0 where
     pub source : y.source ≡ x.source
     pub declared : Declared

@@ -14,8 +14,8 @@ use Rattle.feature_core.specs.Defaults.{AreDefaults}
 use Rattle.feature_core.specs.Pairs.{IsPairList}
 use Rattle.feature_core.specs.Warnings.{Warning, warnings}
 
--- The caller's stamp, the first node of each package, the package of each node, the edges sorted by source and then by target,
--- the package link and the gate of each weak link, the warnings, and whether each node is on by default.
+-- The caller's stamp, the first node of each package, and the package of each node. The edges are sorted by source and then by
+-- target. `weak` has the package link and the gate of each weak link, `defaults` whether each node is on by default.
 pub record Built : Type 0 where
   pub stamp : ℕ
   pub firsts : List ℕ

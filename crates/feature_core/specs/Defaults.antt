@@ -14,8 +14,7 @@ pub data IsDefaultFeature (t : Tables) (p n : ℕ) : Type 0 where
   by_name : NodeAt t n p (named (codes "default")) → IsDefaultFeature t p n
   by_base : ((m : ℕ) → ¬ NodeAt t m p (named (codes "default"))) → NodeAt t n p base → IsDefaultFeature t p n
 
--- Node `n` of package `p` ends a path from the default feature of `p`, over edges to the base and edges between the named
--- features of `p`.
+-- A path leads from the default feature of package `p` to its node `n`, over edges to the base and edges between named features.
 pub record IsDefaultIn (t : Tables) (p n : ℕ) : Type 0 where
   pub label : LabelName
   pub node : NodeAt t n p label

@@ -41,8 +41,8 @@ pub record HaveOneName (b : Built) (d : ℕ) (g : Half) (e : ℕ) (h : Half) : T
   pub is_other_link : link_at other.2 h ≡ Some other_link
   pub declarations : link.declarations ≡ other_link.declarations
 
--- A weak edge: its index is that of its package link, whose gate is the optional dependency of the link's name in its source, and
--- its optional half has a link.
+-- A weak edge. Its index is that of its package link, whose gate is the optional dependency of the link's name in its source. Its
+-- optional half has a link.
 pub record IsWeakEdge (t : Tables) (b : Built) (l : LinkFacts) (halves : WeakFacts) : Type 0 where
   pub number : ℕ
   pub gate : ℕ

@@ -1,4 +1,4 @@
-//! Edges by number, where equal edges share storage.
+//! Edges by number. Equal edges may share storage.
 ghost use Rattle.std.specs.Prelude.{◌≡◌, ◌++◌, ◌∷◌, ◌<◌, ◌↔◌, [], None, Some, IfOk, OnOk, IsTrue, length, map, not, position, slice_get};
 ghost use Rattle.std.specs.Option.{option_map};
 ghost use Rattle.feature_links.specs.declared.edge.EdgeChoice.TheVariants.{FeatureToBaseAndNamed};
@@ -67,8 +67,8 @@ fn first_link(link: &ConditionalLinkImpl) -> usize {
     }
 }
 
-/// Returns the slot of an edge of `kind` over `link`, by the link's first package link and whether the link is over optional
-/// declarations only.
+/// Returns the slot of an edge of `kind` over `link`. It depends on the first package link, and on whether the link covers
+/// optional declarations only.
 fn link_slot(link: &ConditionalLinkImpl, kind: usize) -> usize
     requires { kind < 8 }
     ensures { result < 4096 }

@@ -250,7 +250,7 @@ impl MadeEdges {
     }
 }
 
-/// Returns no edges, with capacity for one edge per node and four per link, two of these with a pool entry each. Most graphs need
+/// Returns no edges, with capacity for one edge per node and four per link, and for two distinct edges per link. Most graphs need
 /// no more, and unused capacity is never touched.
 fn no_edges(alloc: Global, nodes: usize, links: usize) -> Result<MadeEdges, AllocError>
     ensures edges { IfOk result (λ made. made.edges ≡ []) }

@@ -40,7 +40,7 @@ use std::alloc::{AllocError, Global};
 use std::marker::Model;
 
 /// The nodes and edges of a package graph's features. A contract sees the stamp, the node table, the edges, the weak links with
-/// their gates, the warnings, and the features that are on by default.
+/// their gates, the warnings, and the default features.
 #[derive(Drop)]
 pub struct FeatureGraphData {
     stamp: u64,

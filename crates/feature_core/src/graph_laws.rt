@@ -39,8 +39,8 @@ pub fn offers_are_links(graph: &PackageGraph)
     graph.facts();
 }
 
-/// States that two nodes and the declarations that a link covers name one offer, and that a package's id and a label name one
-/// node.
+/// States that an offer is determined by its two nodes and by the declarations that its link covers, and a node by its package's
+/// id and its label.
 pub fn link_names_offer(graph: &PackageGraph)
     ensures offers { (b : Built) (direction : DependencyDirection) (d : ℕ) (g : Half) (e : ℕ) (h : Half) → IsBuilt graph.now b
         → IsOffer (content_of direction b) d g → IsOffer (content_of direction b) e h → HaveOneName b d g e h

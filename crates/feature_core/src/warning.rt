@@ -207,7 +207,7 @@ fn push_package(
     Ok(())
 }
 
-/// Appends the warnings for a package's feature items, unless `quiet` says that there are none.
+/// Appends the warnings for a package's feature items. If `quiet` is true, there are none.
 fn push_package_unless(
     alloc: Global,
     found: &mut Vec<FeatureGraphWarning>,
@@ -275,7 +275,7 @@ fn push_link(
     Ok(())
 }
 
-/// Appends the warnings of the names that the declarations of link `ix` list, unless `quiet` says that there are none.
+/// Appends the warnings of the names that the declarations of link `ix` list. If `quiet` is true, there are none.
 fn push_link_unless(
     alloc: Global,
     found: &mut Vec<FeatureGraphWarning>,

@@ -23,7 +23,7 @@ fn gate_of(numbers: Numbers<'_>, ix: usize) -> usize
     }
 }
 
-/// Inserts the weak link of `key` and its gate into `table`, if the key is of a weak edge.
+/// Inserts the weak link of `key` and its gate into `table`, if the edge of `key` is weak.
 pub(crate) fn note_gate(
     table: &mut IndexMap<usize, usize>,
     numbers: Numbers<'_>,

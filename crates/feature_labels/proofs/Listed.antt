@@ -13,7 +13,7 @@ use Rattle.std.proofs.lemmas.List.{get_or-map, length-map}
 use Rattle.std.proofs.lemmas.Map.Keys.{Less-from_sorted}
 use Rattle.std.proofs.lemmas.List.Sorted.{searchable_from_sorted}
 
--- repeats are dropped before or after `f`, where `same` and `like` are one test
+-- repeats may be dropped before or after `f`, if `same` and `like` are one test
 dedup_from-map : {X Y : Type 0} (f : X → Y) (same : X → X → Bool) (like : Y → Y → Bool) → ((a b : X) → same a b ≡ like (f a) (f b)) → (k : X) (xs : List X) → map f (dedup_from same k xs) ≡ dedup_from like (f k) (map f xs)
 dedup_from-map f same like e k [] = refl
 dedup_from-map f same like e k (x ∷ xs) =

@@ -90,7 +90,7 @@ impl WeakSlashImpl {
 pub enum SlashForm {
     /// The item requests the dependency.
     Strong,
-    /// The item's optional half waits until another edge requests the dependency.
+    /// The item's optional half waits until its optional dependency is reached.
     Weak(Box<WeakSlashImpl>),
 }
 

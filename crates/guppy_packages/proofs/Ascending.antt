@@ -114,7 +114,7 @@ module _ {X : Type 0} (R : X → X → Type 0) where
       (All-of (R x) (xs ++ ys) (λ y c. ⊎_elim (λ i. later_is x xs a y i) (λ i. h x y (Contains-first x xs) i) (Contains-append_cases xs ys y c)))
       (AllPairs-append xs ys (AllPairs-later x xs a) b (λ u v c d. h u v (Contains-later x xs u c) d))
 
-  -- lists that follow one another, each of which ascends
+  -- consecutive lists, each ascending
   pub lists_ascend : (f : ℕ → List X) → ((i : ℕ) → AllPairs R (f i)) → ((i j : ℕ) (x y : X) → i < j → Contains (f i) x → Contains (f j) y → R x y)
       → (a n : ℕ) → AllPairs R (flat_map f (range_with_len a n))
   lists_ascend f each apart a zero = AllPairs-none

@@ -1,4 +1,4 @@
--- The links that leave a package, by where the links of each package begin.
+-- The links that leave a package, by the first link of each package.
 use Rattle.std.proofs.Common.{◌≡◌, ℕ, ◌+◌, ◌<◌, ◌≤◌, List, [], ◌∷◌, Bool, true, false, Some, inl, inr, length, get_or, max, refl, sym, subst, arith}
 use Rattle.std.specs.Prelude.{nat_le, nat_lt, slice_get}
 use Rattle.std.proofs.lemmas.Bool.{cases_lt, leb-false, ltb-false}

@@ -82,7 +82,7 @@ joins_ends from to l h = go (from == l.from) refl (to == l.to) refl h
     go true p false q h = cc
     go false p c q h = cc
 
--- the link at a number, where it passes
+-- the link at a number, which passes
 pub link_there : (p : LinkTable → Bool) (es : List ((ℕ × ℕ) × LinkData)) (at : ℕ) (e : (ℕ × ℕ) × LinkData) → option_map_or p (slice_get (map link_table es) at) false ≡ true → e ≡ get_or es at e
     → (slice_get (map link_table es) at ≡ Some (link_table e)) × (p (link_table e) ≡ true)
 link_there p es at e h is = go (slice_get (map link_table es) at) refl h

@@ -84,7 +84,7 @@ pub length-parts : (from : ℕ) (ends : List ℕ) (text : Text) → length (part
 length-parts from [] text = refl
 length-parts from (end ∷ ends) text = ap suc (length-parts end ends text)
 
--- the items of a feature, by where they end
+-- the items of a feature, by their ends
 module _ (has : Bool) (name : ℕ) (ends : List ℕ) (text : Text) (ix : ℕ) (within : ix < length (parts name (item_ends has ends text) text)) where
   pub item_within : ix ≤ length ends
   item_within = go has (subst (λ n. ix < n) (length-parts name (item_ends has ends text) text) within)

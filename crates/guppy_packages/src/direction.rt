@@ -14,7 +14,7 @@ pub enum DependencyDirection {
 }
 
 impl DependencyDirection {
-    /// Returns how the direction reads the order of packages, where dependents precede their dependencies as far as cycles allow.
+    /// Returns how the direction reads the order of packages. Dependents precede their dependencies there as far as cycles allow.
     pub fn reading(self) -> Reading
         ensures { result ≡ reading_of self }
     {

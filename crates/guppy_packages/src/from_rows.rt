@@ -145,7 +145,7 @@ fn end_package(packages: &mut TextMap<PackageId, PackageData>)
     }
 }
 
-/// Reads a row in the first pass.
+/// Reads a row in the first pass, or returns its fault.
 fn take_row(
     alloc: Global,
     packages: &mut TextMap<PackageId, PackageData>,
@@ -462,7 +462,8 @@ fn begins_and_order(
 }
 
 impl PackageGraph {
-    /// Returns the graph of `rows`, or the first fault. Faults of rows by themselves precede those among all packages.
+    /// Returns the graph of `rows`, or the first fault. Faults of rows by themselves precede those among all packages. `Memory`
+    /// is returned when an allocation fails.
     pub fn from_rows(alloc: Global, rows: &[Row]) -> Result<PackageGraph, RowError>
         ensures tables { Reads (λ graph. graph) result (tables_of (map row_text rows.now)) }
         ensures row { IfErr result (NamesRow rows.now) }
@@ -470,7 +471,7 @@ impl PackageGraph {
         PackageGraph::from_source(alloc, &RowSlice { rows })
     }
 
-    /// Returns the graph of the rows of `source`, or the first fault, as `from_rows` does. Each row is read twice.
+    /// Returns the graph of the rows of `source`, or the first fault, as `from_rows` does. Each row is requested twice.
     pub fn from_source<S: RowSource>(alloc: Global, source: &S) -> Result<PackageGraph, RowError>
         ensures tables { Reads (λ graph. graph) result (tables_of (S.rows source.now)) }
         ensures row { IfErr result (NamesRow (S.rows source.now)) }

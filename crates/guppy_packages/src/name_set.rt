@@ -26,7 +26,7 @@ pub(crate) enum Held<T: Eq + Hash> {
     Many(Box<TextSet<T>>),
 }
 
-/// A set in insertion order. A contract sees it as the list of its items, no two of which are equal.
+/// A set in insertion order. A contract sees it as the list of its items, which are pairwise different.
 #[derive(Drop)]
 pub(crate) struct NameSet<T: Eq + Hash> {
     held: Held<T>,

@@ -12,7 +12,7 @@ pub struct Spec {
 }
 
 impl Spec {
-    /// Returns the spec with the text `text`.
+    /// Returns the spec with the text `text`. `AllocError` is the only error.
     pub fn new(alloc: Global, text: &str) -> Result<Spec, AllocError>
         ensures { IfOk result (λ spec. spec_text spec ≡ text.now) }
     {
@@ -74,7 +74,7 @@ impl PlatformStatusImpl {
 pub enum PlatformStatus<'g> {
     /// On no platform.
     Never,
-    /// On the platforms of these specs, of which there is at least one.
+    /// On the platforms of these specs. The slice isn't empty.
     PlatformDependent(&'g [Spec]),
     /// On all platforms.
     Always,

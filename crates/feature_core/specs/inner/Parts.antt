@@ -14,7 +14,7 @@ use Rattle.feature_core.specs.declared.key.Key.{Key}
 abbrev pub key : ℕ → ℕ → ℕ → ℕ → ℕ → Key
 key from to rank source place = record { from = from; to = to; rank = rank; source = source; place = place }
 
--- A key from node `k` of a package to its first node, where `k` is not the first.
+-- A key from node `k` of a package, which isn't its first, to its first node.
 abbrev pub IsToFirst : ℕ → ℕ → Key → Type 0
 IsToFirst first k x = (0 < k) × (x ≡ key (first + k) first 1 0 0)
 
@@ -34,7 +34,7 @@ IsOver t u p d g weak k x = (link : LinkTable) × IsLink t k link × (link.from 
 abbrev pub IsBeside : Tables → ℕ → ℕ → Text → Text → Key → Type 0
 IsBeside t u p f d x = IsTo t u p (optional d) 5 0 0 x ⊎ ((d ≢ f) × ((n : ℕ) × NodeAt t n p (optional d)) × IsTo t u p (named d) 5 0 0 x)
 
--- A key of an item of feature `f` of package `p`, where `f` is node `u`.
+-- A key of an item of feature `f` of package `p`; node `u` is that feature.
 abbrev pub IsOfItem : Tables → ℕ → ℕ → Text → Item → Key → Type 0
 IsOfItem t u p f (feature_item g) x = (g ≢ f) × IsTo t u p (named g) 2 0 0 x
 IsOfItem t u p f (optional_item d) x = IsTo t u p (optional d) 3 0 0 x

@@ -1,4 +1,4 @@
--- Edges by number, where equal edges may share storage.
+-- Edges by number. Equal edges may share storage.
 use Rattle.std.specs.Prelude.{◌≡◌, ℕ, ◌<◌, ◌≤◌, List, All, Option, None, Some, length, map, slice_get, slice_index_or}
 use Rattle.feature_links.specs.declared.edge.FeatureEdge.{FeatureEdge}
 use Rattle.feature_links.specs.Facts.{EdgeFacts, base_edge, feature_edge, colon_edge, strong_edge, weak_edge, section_edge}

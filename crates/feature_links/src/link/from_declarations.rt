@@ -226,7 +226,7 @@ fn collected(
     parts.over(alloc, graph, links, which, places)
 }
 
-/// Returns the status of `kind` over one declaration: its platform if it is of that kind, and otherwise never.
+/// Returns the status of `kind` over one declaration: its platforms if its kind is `kind`, and otherwise never.
 fn status_of_one(
     alloc: Global,
     declaration: &Declaration,
@@ -241,7 +241,7 @@ fn status_of_one(
     Ok(PlatformStatusImpl::Specs(Vec::new(alloc)))
 }
 
-/// Returns the link over one declaration of package link `link_ix` that is of `kind` and applies on all platforms.
+/// Returns the link over one declaration of package link `link_ix`, with the kind `kind`, that applies on all platforms.
 fn link_everywhere(
     link_ix: usize,
     which: LinkDeclarations,
@@ -332,7 +332,8 @@ pub fn link_of(
     links_over(alloc, graph, &links, which)
 }
 
-/// Returns one half of a weak edge over package link `link_ix`. `AllocError` is the only error.
+/// Returns the half of a weak edge over the declarations of package link `link_ix` that `which` covers. `AllocError` is the only
+/// error.
 pub fn half_of(
     alloc: Global,
     graph: &PackageGraph,
