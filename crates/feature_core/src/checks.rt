@@ -18,9 +18,9 @@ use std::alloc::Global;
 use walk_engine::{Half, Step};
 
 /// Returns whether `steps` is an explanation for `initials`, by edges and offers in `direction`. No node may be repeated, and
-/// each needs a reason that the steps before it support.
+/// each needs a reason that the steps before it support. `Memory` is the only error.
+///
 /// Returns false for a number that is no node or edge, and for a half that the edge lacks. Linear in the steps and the nodes.
-/// `Memory` is the only error.
 pub fn check_steps(
     alloc: Global,
     built: &FeatureGraphData,
@@ -38,8 +38,9 @@ pub fn check_steps(
 }
 
 /// Returns whether `steps` is an explanation that uses no offer in `refused`, and whose nodes are closed under all other offers.
-/// An entry of `refused` that is no offer has no effect. Linear in the steps, in `refused`, and in the edges of the listed nodes.
 /// `Memory` is the only error.
+///
+/// An entry of `refused` that is no offer has no effect. Linear in the steps, in `refused`, and in the edges of the listed nodes.
 pub fn check_exact_steps(
     alloc: Global,
     built: &FeatureGraphData,
@@ -58,8 +59,9 @@ pub fn check_exact_steps(
 }
 
 /// Returns the steps of an explanation that support `node`, in order, each once, ending with its own step; `None` if `node` isn't
-/// listed.
-/// If `steps` is not an explanation, the result is unspecified. Linear in the steps and the nodes. `Memory` is the only error.
+/// listed. `Memory` is the only error.
+///
+/// If `steps` is not an explanation, the result is unspecified. Linear in the steps and the nodes.
 pub fn why(
     alloc: Global,
     built: &FeatureGraphData,

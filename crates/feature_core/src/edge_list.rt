@@ -14,8 +14,7 @@ use std::alloc::{AllocError, Global};
 use std::marker::Model;
 
 /// Edges by number, each with an index into a pool. Indices 0 and 1 are the unconditional edges; a conditional edge shares the
-/// index of an equal recent one.
-/// A contract sees the list of edges as plain values.
+/// index of an equal recent one. A contract sees the list of edges as plain values.
 #[derive(Drop)]
 pub(crate) struct EdgeList {
     pool: Vec<FeatureEdge>,

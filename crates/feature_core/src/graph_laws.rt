@@ -39,8 +39,8 @@ pub fn offers_are_links(graph: &PackageGraph)
     graph.facts();
 }
 
-/// States that an offer is determined by its two nodes and by the declarations that its link covers, and a node by its package's
-/// id and its label.
+/// States that its two nodes and the declarations that its link covers determine an offer. A package's id and a label determine a
+/// node.
 pub fn link_names_offer(graph: &PackageGraph)
     ensures offers { (b : Built) (direction : DependencyDirection) (d : ℕ) (g : Half) (e : ℕ) (h : Half) → IsBuilt graph.now b
         → IsOffer (content_of direction b) d g → IsOffer (content_of direction b) e h → HaveOneName b d g e h
@@ -70,8 +70,7 @@ pub fn weak_edges(graph: &PackageGraph)
 }
 
 /// States properties of the ways of a built graph. Their ends and gates are nodes, the two directions are each other's reverse,
-/// and in reverse no half waits for a gate.
-/// The reach over all offers is the reach over the candidates of the tables.
+/// and in reverse no half waits for a gate. The reach over all offers is the reach over the candidates of the tables.
 pub fn content_of_graph(graph: &PackageGraph)
     ensures count { (b : Built) → IsBuilt graph.now b → length b.packages ≡ length (nodes graph.now) }
     ensures ends { (b : Built) (direction : DependencyDirection) → IsBuilt graph.now b → EndsAreNodes (content_of direction b) }

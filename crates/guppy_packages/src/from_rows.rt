@@ -290,8 +290,8 @@ fn begin_link(
     Ok(())
 }
 
-/// Adds the declaration of a Dep row to the link of its pair, or appends a link.
-/// All links that leave `from` are at the end of `links`, so only the last link that leads to `to` can be the pair's.
+/// Adds the declaration of a Dep row to the link of its pair, or appends a link. All links that leave `from` are at the end of
+/// `links`, so only the last link that leads to `to` can be the pair's.
 fn push_link(
     alloc: Global,
     links: &mut Vec<Link>,
