@@ -15,7 +15,7 @@ pub enum Error<'a> {
         from: FeatureId<'a>,
         to: FeatureId<'a>,
     },
-    /// An allocation failed.
+    /// An allocation failed, or a number of nodes, edges or links doesn't fit in 32 bits.
     Memory,
 }
 

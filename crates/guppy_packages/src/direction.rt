@@ -9,7 +9,7 @@ use order_views::Reading;
 pub enum DependencyDirection {
     /// From a package to its dependencies.
     Forward,
-    /// From a package to what depends on it.
+    /// From a package to its dependents.
     Reverse,
 }
 

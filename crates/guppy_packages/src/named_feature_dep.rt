@@ -9,7 +9,7 @@ pub enum NamedFeatureDep<'a> {
     NamedFeature(&'a str),
     /// An optional dependency of the same package.
     OptionalDependency(&'a str),
-    /// A named feature of a dependency.
+    /// The feature `feature` of the dependency `dep_name`. A weak item doesn't request the dependency itself.
     DependencyNamedFeature {
         dep_name: &'a str,
         feature: &'a str,
