@@ -63,7 +63,8 @@ fn push_items(alloc: Global, text: &mut String, items: &[&str]) -> Result<Vec<u3
 impl NamedFeature {
     ghost use Rattle.guppy_packages.specs.NamedFeature.{feature_table};
 
-    /// Returns the feature `name` with `items`. Returns `AllocError` if the text is over four gigabytes.
+    /// Returns the feature `name` with `items`. Returns `AllocError` if an allocation fails, or if the end of `name` or of an
+    /// item before the last doesn't fit in 32 bits.
     pub(crate) fn new(alloc: Global, name: &str, items: &[&str]) -> Result<NamedFeature, AllocError>
         ensures { IfOk result (λ f. feature_table f ≡ record { name = name.now; items = texts items.now }) }
     {
