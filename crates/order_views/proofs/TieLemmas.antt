@@ -18,7 +18,7 @@ use Rattle.order_views.proofs.Distinct.{from_filter}
 use Rattle.order_views.proofs.OnceLemmas.{place_of, from_flat_map, members_distinct}
 use Rattle.order_views.proofs.Places.{place_from, starts_at}
 
--- ---- lists whose elements have R to those after them
+-- ---- lists in which each element has R to those after it
 
 abbrev pub Rises : (ℕ → ℕ → Type 0) → List ℕ → Type 0
 Rises R [] = Unit {0}

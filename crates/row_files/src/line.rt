@@ -1,26 +1,27 @@
-//! What is kept of a line.
+//! A line and its kept fields.
 ghost use Rattle.std.specs.Prelude.{◌≡◌};
 
 use guppy_packages::DependencyKind;
 
-/// What the kept fields of a line are.
+/// The form of a line. It says which fields are kept, and stores the others.
 #[derive(Clone, Copy)]
 pub enum Form {
-    /// All fields of a line that is no row.
+    /// A line that is no row. All its fields are kept.
     Malformed,
-    /// A package's id.
+    /// A package. Its id is kept.
     Package {
         in_workspace: bool,
     },
-    /// A feature's name and its items.
+    /// A feature. Its name and its items are kept.
     Feature,
-    /// The name of a dependency on every platform, its target, and the features that it asks for.
+    /// A dependency on every platform. Its name, its target and its listed features are kept.
     Dep {
         kind: DependencyKind,
         optional: bool,
         default_features: bool,
     },
-    /// The name of a dependency on some platforms, its target, which platforms, and the features that it asks for.
+    /// A dependency on some platforms. Its name, its target, the platforms and its listed features
+    /// are kept.
     PlatformDep {
         kind: DependencyKind,
         optional: bool,
@@ -31,7 +32,7 @@ pub enum Form {
 impl Form {
     ghost use Rattle.row_files.specs.inner.KeptFields.{is_malformed};
 
-    /// Whether the line is no row.
+    /// Returns true if the line is no row.
     pub(crate) fn is_malformed(self) -> bool
         ensures { result ≡ is_malformed self }
     {
@@ -39,7 +40,7 @@ impl Form {
     }
 }
 
-/// A line that is not skipped: its number, and where its kept fields stand among those of all lines.
+/// A line that isn't skipped: its number, and the range of its kept fields in the list for all lines.
 #[derive(Clone, Copy)]
 pub struct Line {
     pub(crate) number: usize,

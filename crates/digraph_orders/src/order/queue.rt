@@ -1,4 +1,4 @@
-//! Numbers, of which the least comes first.
+//! A queue of numbers from which the least is removed first.
 ghost use Rattle.std.specs.Prelude.{◌≡◌, ◌<◌, [], false, length, replicate, IfSome, IfNone, IfOk};
 ghost use Rattle.guppy_support.specs.Bits.{members};
 ghost use Rattle.digraph_orders.specs.inner.Queues.{Joins, Leaves};
@@ -7,13 +7,14 @@ use guppy_support::IxBitSet;
 use std::alloc::{AllocError, Global};
 use std::marker::Model;
 
-/// Numbers below a bound, of which the least comes first. A number that joins twice stands there once.
+/// Numbers below a bound, from which the least is removed first. A number that is pushed twice is in the queue
+/// once.
 #[derive(Drop)]
 pub(crate) struct Queue {
     numbers: IxBitSet,
-    /// Each word of `numbers` that has a bit, and words that had one.
+    /// Each word of `numbers` that isn't 0. Words that became 0 may be included.
     words: IxBitSet,
-    /// Each word of `words` that has a bit, and words that had one.
+    /// Each word of `words` that isn't 0. Words that became 0 may be included.
     blocks: IxBitSet,
 }
 
@@ -29,7 +30,7 @@ impl Model for Queue {
 }
 
 impl Queue {
-    /// Returns an empty queue for numbers below `bound`. The only error is that an allocation fails.
+    /// Returns an empty queue for numbers below `bound`.
     pub(crate) fn empty(alloc: Global, bound: usize) -> Result<Queue, AllocError>
         ensures { IfOk result (λ queue. queue ≡ replicate bound false) }
     {
@@ -56,7 +57,8 @@ impl Queue {
         self.blocks.insert(word / 64);
     }
 
-    /// Takes the least number. On the way, words that have no bit are forgotten.
+    /// Removes the least number and returns it. On the way, words that became 0 are removed from the upper
+    /// sets.
     pub(crate) fn pop(&mut self) -> Option<usize>
         ensures none { IfNone result (members self.old ≡ []) }
         ensures empty { IfNone result (members self.new ≡ []) }
