@@ -26,8 +26,7 @@ impl<'t> Lines<'t> {
     ghost use Rattle.row_files.specs.RowFile.{line_of, lines_of};
     ghost use Rattle.row_files.specs.inner.CutLines.{kept_line};
 
-    /// Appends a line. Returns `AllocError` if an allocation fails or a number doesn't fit in 32
-    /// bits.
+    /// Appends a line, or returns `AllocError` if an allocation fails.
     fn push(&mut self, number: usize, fields: &[&'t str]) -> Result<(), AllocError>
         ensures { OnOk result (lines_of self.new ≡ lines_of self.old ++ (number, texts fields.now) ∷ []) }
     {
