@@ -6,10 +6,11 @@ ghost use Rattle.std.specs.Io.KnownBytes.{ReadConsumes, WriteAppends};
 use crate::interfaces::{ByteInput, ByteOutput, Failed};
 use std::io::{ErrorKind, Read, Write};
 
-/// How often a call is made before it counts as failed, where each was interrupted.
+/// The number of times that an interrupted call is made before it counts as failed.
 const ATTEMPTS: usize = 1_000;
 
-/// A read, made again where it was interrupted.
+/// Reads once, and tries again while the read is interrupted. Returns `Failed` after `ATTEMPTS`
+/// interruptions, or if the reader returns any other error.
 fn read_once<R: Read>(reader: &mut R, buf: &mut [u8]) -> Result<usize, Failed>
     ensures bound { ReadsAtMost result buf.new }
     ensures bytes { ReadConsumes (R.remaining reader.old) (R.remaining reader.new) result buf.new }
@@ -24,7 +25,8 @@ fn read_once<R: Read>(reader: &mut R, buf: &mut [u8]) -> Result<usize, Failed>
     Err(Failed)
 }
 
-/// A write, made again where it was interrupted. One that takes nothing of a nonempty slice has failed.
+/// Writes once, and tries again while the write is interrupted. Returns `Failed` after `ATTEMPTS`
+/// interruptions, if the writer returns any other error, or if it takes no byte of a nonempty slice.
 fn write_once<W: Write>(writer: &mut W, buf: &[u8]) -> Result<usize, Failed>
     ensures bound { WritesAtMost result buf.now }
     ensures some { IfOk result (λ n. 0 < length buf.now → 0 < n) }
@@ -40,7 +42,7 @@ fn write_once<W: Write>(writer: &mut W, buf: &[u8]) -> Result<usize, Failed>
     Err(Failed)
 }
 
-/// Any reader of std.
+/// A `ByteInput` over any reader of std.
 #[derive(Drop)]
 pub struct FromReader<R> {
     reader: R,
@@ -48,10 +50,12 @@ pub struct FromReader<R> {
 }
 
 impl<R: Read> FromReader<R> {
-    /// The reader, of which no read has failed yet.
+    ghost use Rattle.byte_devices.specs.StdDevices.{reader_of, read_failed};
+
+    /// Wraps `reader`. No read counts as failed yet.
     pub fn new(reader: R) -> Self
-        ensures reader { result.reader ≡ reader }
-        ensures fresh { result.has_failed ≡ false }
+        ensures reader { reader_of result ≡ reader }
+        ensures fresh { read_failed result ≡ false }
     {
         FromReader {
             reader,
@@ -61,9 +65,11 @@ impl<R: Read> FromReader<R> {
 }
 
 impl<R: Read> ByteInput for FromReader<R> {
-    ghost left = { λ s. R.remaining s.reader };
+    ghost use Rattle.byte_devices.specs.StdDevices.{reader_of, read_failed};
 
-    ghost failed = { λ s. s.has_failed };
+    ghost left = { λ s. R.remaining (reader_of s) };
+
+    ghost failed = { λ s. read_failed s };
 
     fn read(&mut self, buf: &mut [u8]) -> Result<usize, Failed> {
         let read = read_once(&mut self.reader, buf);
@@ -74,7 +80,7 @@ impl<R: Read> ByteInput for FromReader<R> {
     }
 }
 
-/// Any writer of std.
+/// A `ByteOutput` over any writer of std.
 #[derive(Drop)]
 pub struct ToWriter<W> {
     writer: W,
@@ -82,10 +88,12 @@ pub struct ToWriter<W> {
 }
 
 impl<W: Write> ToWriter<W> {
-    /// The writer, of which no write has failed yet.
+    ghost use Rattle.byte_devices.specs.StdDevices.{writer_of, write_failed};
+
+    /// Wraps `writer`. No write counts as failed yet.
     pub fn new(writer: W) -> Self
-        ensures writer { result.writer ≡ writer }
-        ensures fresh { result.has_failed ≡ false }
+        ensures writer { writer_of result ≡ writer }
+        ensures fresh { write_failed result ≡ false }
     {
         ToWriter {
             writer,
@@ -95,9 +103,11 @@ impl<W: Write> ToWriter<W> {
 }
 
 impl<W: Write> ByteOutput for ToWriter<W> {
-    ghost held = { λ s. W.contents s.writer };
+    ghost use Rattle.byte_devices.specs.StdDevices.{writer_of, write_failed};
 
-    ghost failed = { λ s. s.has_failed };
+    ghost held = { λ s. W.contents (writer_of s) };
+
+    ghost failed = { λ s. write_failed s };
 
     fn write(&mut self, buf: &[u8]) -> Result<usize, Failed> {
         let written = write_once(&mut self.writer, buf);

@@ -1,9 +1,11 @@
-//! The edges are counted before the first node of an order: those that enter each component, and those that hold each node.
-ghost use Rattle.std.specs.Prelude.{◌≡◌, ◌≢◌, ℕ, [], ◌+◌, ◌<◌, ◌≤◌, length, slice_index, IfOk, OnOk, false, replicate};
+//! Counts made before the first node is listed: the edges that enter each component, and those that hold each
+//! node.
+ghost use Rattle.std.specs.Prelude.{◌≡◌, ◌≢◌, ℕ, [], ◌+◌, ◌<◌, ◌≤◌, length, slice_index, IfOk, false, replicate};
+ghost use Rattle.guppy_support.specs.Bits.{members};
 ghost use Rattle.guppy_support.specs.Graph.{IsDigraph};
 ghost use Rattle.guppy_support.specs.Rows.{places};
 ghost use Rattle.digraph_orders.specs.inner.Groups.{AreGroups};
-ghost use Rattle.digraph_orders.specs.inner.Plans.{IsSetup, IsPauseIn, IsEdge, AreEntering, AreHolding, AreFirsts};
+ghost use Rattle.digraph_orders.specs.inner.Plans.{IsSetup, IsPauseIn, IsEdge, AreEntering, AreHolding, AreFirsts, HasRoom};
 
 use crate::order::groups::Groups;
 use crate::order::listing::{Plan, first_of};
@@ -11,7 +13,7 @@ use crate::order::queue::Queue;
 use guppy_support::{Digraph, Edge, IxBitSet, zeroes};
 use std::alloc::{AllocError, Global};
 
-/// The edge of that number.
+/// Returns the edge with this number.
 fn edge_at(graph: &Digraph, number: usize) -> Edge
     requires { number < length graph.now.edges }
     ensures { IsEdge graph.now number result.from result.to result.non_dev }
@@ -20,7 +22,7 @@ fn edge_at(graph: &Digraph, number: usize) -> Edge
     graph.edge(number)
 }
 
-/// Counts an edge for the component that it enters, or for the node that it holds.
+/// Counts edge `number` in `outside` if it enters another component, or in `held` if it holds its target.
 fn count_edge(
     outside: &mut Vec<u32>,
     held: &mut Vec<u32>,
@@ -51,33 +53,34 @@ fn count_edge(
     held[edge.to] += 1;
 }
 
-/// Adds the first node of the component of that rank, if there is one and no edge enters it.
+/// Adds the first node of component `rank` to `starts`, if the component isn't empty and no edge enters it.
 fn add_start(
     starts: &mut Queue,
-    members: &[u32],
+    row: &[u32],
     ranks: &[u32],
     outside: &[u32],
     held: &[u32],
     rank: usize,
-) -> Result<(), AllocError>
+)
     requires rank { rank < length outside.now }
-    requires members { members.now ≡ places rank ranks.now }
-    requires nodes { (j : ℕ) → j < length members.now → slice_index members.now j < length held.now }
-    requires firsts { AreFirsts ranks.now outside.now held.now rank starts.old }
-    ensures { OnOk result (AreFirsts ranks.now outside.now held.now (rank + 1) starts.new) }
+    requires row { row.now ≡ places rank ranks.now }
+    requires nodes { (j : ℕ) → j < length row.now → slice_index row.now j < length held.now }
+    requires firsts { AreFirsts ranks.now outside.now held.now rank (members starts.old) }
+    requires room { length held.now ≤ length starts.old }
+    ensures firsts { AreFirsts ranks.now outside.now held.now (rank + 1) (members starts.new) }
+    ensures room { length starts.new ≡ length starts.old }
 {
     let _ranks = ranks.len();
     if outside[rank] != 0 {
-        return Ok(());
+        return;
     }
-    if members.is_empty() {
-        return Ok(());
+    if row.is_empty() {
+        return;
     }
-    starts.push(first_of(members, held))?;
-    Ok(())
+    starts.push(first_of(row, held));
 }
 
-/// How many edges enter each component, and how many hold each node.
+/// Returns the number of edges that enter each component, and the number that hold each node.
 fn count_edges(
     alloc: Global,
     graph: &Digraph,
@@ -95,7 +98,7 @@ fn count_edges(
     Ok((outside, held))
 }
 
-/// The first nodes of the components that no edge enters.
+/// Returns the first nodes of the components that no edge enters.
 fn first_starts(
     alloc: Global,
     nodes: usize,
@@ -108,17 +111,18 @@ fn first_starts(
     requires outside { length outside.now ≡ nodes }
     requires held { length held.now ≡ nodes }
     requires groups { AreGroups nodes ranks.now groups.now }
-    ensures { IfOk result (λ starts. AreFirsts ranks.now outside.now held.now nodes starts) }
+    ensures firsts { IfOk result (λ starts. AreFirsts ranks.now outside.now held.now nodes (members starts)) }
+    ensures room { IfOk result (λ starts. length starts ≡ nodes) }
 {
     let mut starts = Queue::empty(alloc, nodes)?;
     for rank in 0..nodes {
-        let members = groups.row(ranks, rank, nodes);
-        add_start(&mut starts, members, ranks, outside, held, rank)?;
+        let row = groups.row(ranks, rank, nodes);
+        add_start(&mut starts, row, ranks, outside, held, rank);
     }
     Ok(starts)
 }
 
-/// An empty list with room for `nodes`, and the empty set of numbers below `nodes`.
+/// Returns an empty list with room for `nodes` nodes, and the empty set of bound `nodes`.
 fn nothing_listed(alloc: Global, nodes: usize) -> Result<(Vec<usize>, IxBitSet), AllocError>
     ensures list { IfOk result (λ nothing. nothing.0.items ≡ []) }
     ensures set { IfOk result (λ nothing. nothing.1 ≡ replicate nodes false) }
@@ -128,7 +132,7 @@ fn nothing_listed(alloc: Global, nodes: usize) -> Result<(Vec<usize>, IxBitSet),
     Ok((list, done))
 }
 
-/// The plan in which no node is listed.
+/// Returns the plan in which no node is listed.
 pub(crate) fn first_plan(
     alloc: Global,
     graph: &Digraph,
@@ -137,7 +141,8 @@ pub(crate) fn first_plan(
 ) -> Result<Plan, AllocError>
     requires setup { IsSetup graph.now ranks.now }
     requires groups { AreGroups graph.now.nodes ranks.now groups.now }
-    ensures { IfOk result (λ plan. IsPauseIn graph.now ranks.now plan) }
+    ensures pause { IfOk result (λ plan. IsPauseIn graph.now ranks.now plan) }
+    ensures room { IfOk result (λ plan. HasRoom plan) }
 {
     let nodes = graph.node_count();
     let counts = count_edges(alloc, graph, ranks)?;
