@@ -115,7 +115,9 @@ class Case:
         return self.program == 'surface_calls' and any(call.split(':')[0].split(' ')[0] in EXPLAINED for call in self.calls)
 
     def outs(self):
-        """The texts that may be printed."""
+        """The texts that may be printed: none if standard output takes nothing."""
+        if self.given in ('closed stdout', 'full stdout'):
+            return [b'']
         if self.of_file:
             return [content(self.of_file)]
         return [''.join(f'{line}\n' for line in lines).encode() for lines in self.printed]
