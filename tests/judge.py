@@ -280,7 +280,7 @@ def run_of(graph, direction, initials, lines):
 
 
 def told_runs(lines):
-    """Returns the runs that a call prints, each with the line that ends it, and the number of the visitor's calls that it prints or None."""
+    """Returns the runs that a call prints, each with the line that ends it, and the printed number of the visitor's calls; or None."""
     runs, shown = [], []
     for line in lines:
         if line.startswith('- '):

@@ -23,7 +23,8 @@ use std::collections::BTreeSet;
 /// The depth to which arrays and objects may nest.
 const MAX_DEPTH: usize = 127;
 
-/// Appends the `dep` rows of `package` to `rows`; `deps` are the packages that it uses.
+/// Appends the `dep` rows of `package` to `rows`; `deps` are the packages that it uses. Returns `Ambiguous`, `TwoNames` or `Control`
+/// for the first fault.
 #[tactic(auto, unfolding(crate::specs::Rows::led_rows))]
 fn push_led<'p, 'v>(
     alloc: Global,
@@ -40,6 +41,7 @@ fn push_led<'p, 'v>(
 }
 
 /// Appends the rows of `package` to `rows`: its own, its features' and its dependencies'. `deps` are the packages that it uses.
+/// Returns `Ambiguous`, `TwoNames` or `Control` for the first fault.
 #[tactic(auto, unfolding(crate::specs::Rows::package_rows))]
 fn push_rows<'p, 'v>(
     alloc: Global,
@@ -56,7 +58,8 @@ fn push_rows<'p, 'v>(
     Ok(())
 }
 
-/// Returns the rows of `packages`, in the order of their ids. `absent` is the empty node, for a package that has none.
+/// Returns the rows of `packages`, in the order of their ids, or the first fault. `absent` is the empty node, for a package that
+/// has none.
 fn rows_of_packages<'p, 'v>(
     alloc: Global,
     packages: &'p Packages<'v>,
@@ -85,7 +88,7 @@ pub(crate) struct Rows {
     pub(crate) warnings: Vec<Warning>,
 }
 
-/// Returns the rows and the warnings of `packages`, from the members and the nodes in `resolved`.
+/// Returns the rows and the warnings of `packages`, from the members and the nodes in `resolved`, or the first fault.
 fn rows_over<'p, 'v>(
     alloc: Global,
     packages: &'p Packages<'v>,

@@ -11,7 +11,8 @@ use std::io::ErrorKind;
 use std::process::ExitCode;
 use std::{env, io};
 
-/// Writes the rows for the program's arguments and returns the warnings, or the fault. More than one argument is `Usage`.
+/// Writes the rows for the program's arguments and returns the warnings. Returns `Usage` for two arguments or one that isn't UTF-8,
+/// and the faults of `answer_file` and `run`.
 fn answer(rt: &HostRuntime) -> Result<Vec<Warning>, Fault> {
     let mut words = match env::args(rt) {
         Ok(words) => words.skip(1),
