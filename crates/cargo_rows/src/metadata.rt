@@ -23,8 +23,8 @@ use std::collections::BTreeSet;
 /// The depth to which arrays and objects may nest.
 const MAX_DEPTH: usize = 127;
 
-/// Appends the `dep` rows of `package` to `rows`; `deps` are the packages that it uses. Returns `Ambiguous`, `TwoNames` or `Control`
-/// for the first fault.
+/// Appends the `dep` rows of `package` to `rows`; `deps` are the packages that it uses. Returns `Ambiguous`, `TwoNames` or
+/// `Control` for the first fault.
 #[tactic(auto, unfolding(crate::specs::Rows::led_rows))]
 fn push_led<'p, 'v>(
     alloc: Global,
