@@ -1,4 +1,4 @@
--- Edges in a list as a source.
+-- Lemmas about a list of ways as an edge source.
 use Rattle.std.proofs.Common.{◌≡◌, ℕ, zero, suc, ◌<◌, Bool, List, [], ◌∷◌, Option, Some, length, drop, get_or, map, refl, sym, ◌∙◌, ap, subst}
 use Rattle.std.specs.Prelude.{IsTrue, slice_get}
 use Rattle.std.proofs.Math.Seq.{drop-cons}
@@ -22,7 +22,7 @@ ends_at nodes (v ∷ vs) h (suc e) w q = ends_at nodes vs (All-tail (IsWithin no
 pub listed_content : (nodes : ℕ) (ways : List ListedWay) → AreWithin nodes ways → EndsAreNodes (record { nodes = nodes; ways = map way_of ways })
 listed_content nodes ways h e w is = let r = ends_at nodes ways h e w is in (r.0, r.1, λ _. r.2)
 
--- the scan stands at a way that passes, with none left to skip
+-- If the scan is at a way that passes, with none left to skip, the edge at `i` is the one that the source returns.
 pub found_at : (p : Way → Bool) (nodes : ℕ) (ways : List ListedWay) (i place : ℕ) (d : ListedWay) → i < length ways → IsTrue (p (way_of (get_or ways i d))) → slice_get (numbers_where p i (map way_of (drop i ways))) 0 ≡ slice_get (numbers_where p 0 (map way_of ways)) place → ◌≡◌ {A = Option Taken} (Some (record { edge = i; far = (get_or ways i d).1; ask = (get_or ways i d).2 })) (told (record { nodes = nodes; ways = map way_of ways }) (slice_get (numbers_where p 0 (map way_of ways)) place))
 found_at p nodes ways i place d h t q =
     let rest : map way_of (drop i ways) ≡ way_of (get_or ways i d) ∷ map way_of (drop (suc i) ways) = ap (map way_of) (drop-cons ways i d h) in

@@ -1,9 +1,9 @@
--- A source whose edges stand in a list, for tests.
+-- An edge source that scans a list, for tests.
 use Rattle.std.specs.Prelude.{ℕ, ◌<◌, List, All}
 use Rattle.walk_engine.specs.declared.walks.Ask.{Ask}
 use Rattle.walk_engine.specs.Walks.{Way}
 
--- a start, a far end, what is asked, and a gate
+-- A way as a tuple: its start, far end, ask and gate.
 abbrev pub ListedWay : Type 0
 ListedWay = ℕ × ℕ × Ask × ℕ
 
