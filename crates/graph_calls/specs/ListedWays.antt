@@ -7,8 +7,10 @@ use Rattle.walk_engine.specs.Walks.{Way}
 abbrev pub ListedWay : Type 0
 ListedWay = ℕ × ℕ × Ask × ℕ
 
+-- The way that a tuple describes.
 abbrev pub way_of : ListedWay → Way
 way_of w = record { start = w.0; far = w.1; ask = w.2; gate = w.3 }
 
+-- The start, far end and gate of each way are below `nodes`.
 abbrev pub AreWithin : ℕ → List ListedWay → Type 0
 AreWithin nodes ways = All (λ w. (w.0 < nodes) × (w.1 < nodes) × (w.3 < nodes)) ways

@@ -20,6 +20,7 @@ pub struct Listed {
     ghost within: { AreWithin nodes ways.items },
 }
 
+/// Returns whether the ask of `way` is gated and its gate is `gate`.
 fn is_gated_by(way: ListedWay, gate: usize) -> bool
     ensures { result ≡ (is_gated (way_of way).ask && ((way_of way).gate == gate)) }
 {
@@ -30,6 +31,7 @@ fn is_gated_by(way: ListedWay, gate: usize) -> bool
     }
 }
 
+/// Returns true only if each start, far end and gate of `ways` is below `nodes`.
 fn are_within(nodes: usize, ways: &[ListedWay]) -> bool
     ensures { IsTrue result → AreWithin nodes ways.now }
 {

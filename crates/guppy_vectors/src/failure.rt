@@ -7,7 +7,7 @@ use std::alloc::{AllocError, AllocFailed};
 /// The reason why a call has no result.
 #[derive(Clone, Copy)]
 pub enum Failure {
-    /// No call has this name, its words don't fit it, or a file can't be read.
+    /// No call has this name, its words don't fit it, or a file can't be read or parsed.
     Words,
     /// The rows have a fault; this is the first.
     Row(RowError),
