@@ -1,12 +1,12 @@
 //! Checks of explanations, and the steps on which one feature rests.
-use crate::given::{Words, cut, ids_of, next_id};
-use crate::out::Out;
+use crate::explanations::tell_steps;
 use crate::steps::{Link, Step, links_of, steps_of};
-use crate::told::{tell_answer, tell_error, tell_steps};
+use crate::told::{tell_answer, tell_error};
 use guppy_features::{
-    DependencyDirection, Error, Explained, FeatureGraph, FeatureId, FeatureQuery,
+    DependencyDirection, Error, Explained, FeatureGraph, FeatureId, FeatureQuery, FeatureSet,
 };
-use std::alloc::{AllocError, Global};
+use guppy_vectors::{Failure, Out, Words, next_id};
+use std::alloc::Global;
 
 /// A graph, the direction in which its edges are followed, and the features from which they are.
 #[derive(Clone, Copy)]
@@ -18,36 +18,36 @@ pub struct Start<'s, 'g> {
 }
 
 impl<'s, 'g> Start<'s, 'g> {
-    /// The query.
+    /// Returns the query.
     pub fn query(self) -> Result<FeatureQuery<'g>, Error<'s>> {
         self.features
             .query_directed(self.alloc, self.initials, self.direction)
     }
 
-    /// Tells whether the steps are an explanation.
-    fn tell_check(self, out: &mut Out, steps: &[Step<'_>]) {
+    /// Writes whether the steps are an explanation.
+    fn tell_check(self, out: &Out, steps: &[Step<'_>]) {
         let answer = self
             .features
             .check_explanation(self.alloc, self.direction, self.initials, steps);
         tell_answer(out, "explained ", answer);
     }
 
-    /// Tells whether they are an exact one.
-    fn tell_exact(self, out: &mut Out, steps: &[Step<'_>], refused: &[Link<'_>]) {
+    /// Writes whether they are an exact one.
+    fn tell_exact(self, out: &Out, steps: &[Step<'_>], refused: &[Link<'_>]) {
         let answer = self
             .features
             .check_exact(self.alloc, self.direction, self.initials, steps, refused);
         tell_answer(out, "exact ", answer);
     }
 
-    /// Tells whether an explanation is one by both checks.
-    pub fn tell_checks(self, out: &mut Out, explained: &Explained<'_>) {
+    /// Writes whether an explanation is one by both checks.
+    pub fn tell_checks(self, out: &Out, explained: &Explained<'_>) {
         self.tell_check(out, explained.steps());
         self.tell_exact(out, explained.steps(), explained.refused());
     }
 
-    /// Tells the steps on which a feature rests, and whether they are an explanation.
-    fn tell_why(self, out: &mut Out, explained: &Explained<'_>, id: FeatureId<'_>) {
+    /// Writes the steps on which a feature rests, and whether they are an explanation.
+    fn tell_why(self, out: &Out, explained: &Explained<'_>, id: FeatureId<'_>) {
         match explained.why(self.alloc, id) {
             Ok(Some(steps)) => {
                 out.part("why");
@@ -65,16 +65,26 @@ impl<'s, 'g> Start<'s, 'g> {
         }
     }
 
-    /// Tells so of each feature of the graph, and then of others.
-    pub fn tell_whys(self, out: &mut Out, explained: &Explained<'_>, others: &mut Words<'_>) {
-        match self.features.resolve_all(self.alloc) {
-            Ok(all) => {
-                for id in all.ids_by_node() {
+    /// Writes so of each feature of a set, or the error.
+    fn tell_each(
+        self,
+        out: &Out,
+        explained: &Explained<'_>,
+        set: Result<FeatureSet<'_>, Error<'_>>,
+    ) {
+        match set {
+            Ok(set) => {
+                for id in set.ids_by_node() {
                     self.tell_why(out, explained, id);
                 }
             }
             Err(error) => tell_error(out, error),
         }
+    }
+
+    /// Writes so of each feature of the graph, and then of others.
+    pub fn tell_whys(self, out: &Out, explained: &Explained<'_>, others: &mut Words<'_>) {
+        self.tell_each(out, explained, self.features.resolve_all(self.alloc));
         for _ in 0..others.len() {
             let Some(id) = next_id(others) else { break };
             self.tell_why(out, explained, id);
@@ -83,18 +93,14 @@ impl<'s, 'g> Start<'s, 'g> {
 }
 
 /// Checks steps.
-pub fn check(out: &mut Out, start: Start<'_, '_>, words: &mut Words<'_>) -> Result<(), AllocError> {
+pub fn check(out: &Out, start: Start<'_, '_>, words: &mut Words<'_>) -> Result<(), Failure> {
     let steps = steps_of(start.alloc, words)?;
     start.tell_check(out, &steps);
     Ok(())
 }
 
 /// Checks steps and refused links.
-pub fn check_exact(
-    out: &mut Out,
-    start: Start<'_, '_>,
-    words: &mut Words<'_>,
-) -> Result<(), AllocError> {
+pub fn check_exact(out: &Out, start: Start<'_, '_>, words: &mut Words<'_>) -> Result<(), Failure> {
     let steps = steps_of(start.alloc, words)?;
     let refused = links_of(start.alloc, words)?;
     start.tell_exact(out, &steps, &refused);

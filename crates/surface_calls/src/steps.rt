@@ -1,7 +1,7 @@
 //! Steps and refused links as words. A step is an id and `initial`, `edge` and two ids, or `link`, two ids and a word for the
 //! declarations; a refused link is as the last, without `link`.
-use crate::given::{Words, next_id};
 use guppy_features::{FeatureId, LinkDeclarations, Reason};
+use guppy_vectors::{Words, next_id};
 use std::alloc::{AllocError, Global};
 
 /// A feature and why it is there.
