@@ -13,6 +13,7 @@ ghost use Rattle.feature_sets.specs.Values.{Query};
 ghost use Rattle.feature_sets.specs.Visits.{query_content, shown};
 
 use crate::visitor::FeatureLinkVisitor;
+pub use feature_core::graph_laws;
 pub use feature_core::laws::{
     agrees_by_answer, common_cycle_symmetric, exact_is_least, explained_in_least, least_monotone,
     links_are_present, one_candidate, one_result, order_respects_edges, reach_additive,
