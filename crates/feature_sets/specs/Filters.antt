@@ -1,5 +1,5 @@
 -- Filters over features: what it is to ask one at several places, and what the standard ones accept.
-use Rattle.std.specs.Prelude.{◌≡◌, ◌↔◌, ◌⊎◌, ℕ, Bool, List, IsTrue, Contains, map, filter, length}
+use Rattle.std.specs.Prelude.{◌≡◌, ◌↔◌, ◌⊎◌, ◌++◌, ◌∷◌, ℕ, Bool, List, IsTrue, map, filter, length}
 use Rattle.std.specs.List.{FoldsTo}
 use Rattle.guppy_support.specs.Bits.{has}
 use Rattle.guppy_packages.specs.Rows.{Text}
@@ -22,9 +22,9 @@ Run = List ((Text × LabelName) × Bool)
 abbrev pub Ran : {S : Type 0} → (S → Graph → Text × LabelName → Bool → S → Type 0) → Graph → S → Run → S → Type 0
 Ran gives g s run t = FoldsTo (λ p x q. gives p g x.0 x.1 q) s run t
 
--- it may be asked for each of these names, in every state that such questions lead to
+-- it may be asked for each of these names, in their order, in every state that its answers before lead to
 abbrev pub MayAskEach : {S : Type 0} → (S → Graph → Text × LabelName → Type 0) → (S → Graph → Text × LabelName → Bool → S → Type 0) → Graph → List (Text × LabelName) → S → Type 0
-MayAskEach {S} can gives g names s = (run : Run) (t : S) → Ran gives g s run t → (name : Text × LabelName) → Contains names name → can t g name
+MayAskEach {S} can gives g names s = (run : Run) (t : S) (name : Text × LabelName) (later : List (Text × LabelName)) → Ran gives g s run t → map (λ x. x.0) run ++ name ∷ later ≡ names → can t g name
 
 -- the names whose answer is true
 abbrev pub accepted : Run → List (Text × LabelName)

@@ -2,6 +2,7 @@
 ghost use Rattle.std.specs.Prelude.{◌≡◌, Bool};
 ghost use Rattle.feature_sets.specs.Boxed.{leaves};
 ghost use Rattle.feature_sets.specs.ByClosure.{closure_can, closure_gives};
+ghost use Rattle.feature_sets.specs.Lent.{lent_visit};
 ghost use Rattle.feature_sets.specs.LinkValues.{Link};
 ghost use Rattle.feature_sets.specs.LinkViews.{link_of};
 ghost use Rattle.feature_sets.specs.Values.{Query};
@@ -21,16 +22,18 @@ pub trait FeatureLinkVisitor<'g> {
     /// The answer that it may give to the link, in the context of the query, and the state after it.
     ghost visit_gives: { Self → Query → Link → Bool → Self → Type 0 };
 
-    /// Whether the link is followed.
+    /// Whether the link, which is one of the query's graph, is followed.
     fn visit_link(&mut self, cx: &FeatureLinkContext<'g>, link: ConditionalLink<'g>) -> bool
-        requires { can_visit self.old cx.now (link_of link) }
+        requires of_graph { (link_of link).graph ≡ cx.now.graph }
+        requires allowed { can_visit self.old cx.now (link_of link) }
         ensures { visit_gives self.old cx.now (link_of link.entry) result self.new };
 }
 
+// a visitor that is lent: it stays the same reference
 impl<'g, T: FeatureLinkVisitor<'g>> FeatureLinkVisitor<'g> for &mut T {
     ghost can_visit = { λ s q l. T.can_visit s.now q l };
 
-    ghost visit_gives = { λ s q l answer t. T.visit_gives s.now q l answer t.now };
+    ghost visit_gives = { lent_visit T.visit_gives };
 
     fn visit_link(&mut self, cx: &FeatureLinkContext<'g>, link: ConditionalLink<'g>) -> bool {
         (**self).visit_link(cx, link)
@@ -45,9 +48,10 @@ pub trait FeatureLinkObject: Drop {
     /// The answer that it may give to the link, in the context of the query, and the state after it.
     ghost visit_any_gives: { Self → Query → Link → Bool → Self → Type 0 };
 
-    /// Whether the link is followed.
+    /// Whether the link, which is one of the query's graph, is followed.
     fn visit_any(&mut self, cx: &FeatureLinkContext<'_>, link: ConditionalLink<'_>) -> bool
-        requires { can_visit_any self.old cx.now (link_of link) }
+        requires of_graph { (link_of link).graph ≡ cx.now.graph }
+        requires allowed { can_visit_any self.old cx.now (link_of link) }
         ensures { visit_any_gives self.old cx.now (link_of link.entry) result self.new };
 }
 

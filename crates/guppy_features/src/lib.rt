@@ -1,9 +1,12 @@
-//! The feature graph: queries and sets of features, filters over a list, and a visitor for a platform.
+//! The feature graph: queries and sets of features, filters over a list, and a visitor for a platform. The root has every type that
+//! a call takes or returns, and the module `specs` every definition that a contract names, so a caller lists this crate alone.
 #![tactic(auto)]
 
 mod listed_filters;
 mod platform_visitor;
 
+pub use digraph_orders::Order;
+pub use feature_labels::feature_list::{IntoIter, Iter, NamedFeatures, OptionalDeps};
 pub use feature_sets::{
     AllCycles, ConditionalLink, ConditionalLinkImpl, ConditionalLinks, Cycles, Declaration,
     DependencyDirection, DependencyKind, DisplayFeatures, EdgeChoice, EnabledLink, Error,
@@ -16,7 +19,10 @@ pub use feature_sets::{
     PlatformStatusImpl, Reason, RootFeatures, RootIds, Row, RowError, RowFault, SlashForm, Spec,
     StandardFeatures, UnknownPackageId, WeakIndex, WeakSlashImpl, feature_list, laws,
 };
+pub use guppy_packages::{Packages, RowSource};
+pub use guppy_support::{Digraph, IxBitSet};
 pub use listed_filters::{
     FeatureIdFilter, NamedFeatureFilter, feature_id_filter, named_feature_filter,
 };
 pub use platform_visitor::PlatformVisitor;
+pub use walk_engine::Half;

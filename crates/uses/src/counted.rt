@@ -1,4 +1,8 @@
 //! A filter that counts what it is asked, under the filters over lists.
+ghost use Rattle.std.specs.Prelude.{◌≡◌, ◌+◌, ◌-◌, ◌^◌, min, IfOk};
+ghost use Rattle.guppy_features.specs.feature_sets.Views.{graph_of};
+ghost use Rattle.uses.specs.Answers.{CountsWorkspace};
+
 use crate::failure::Failure;
 use crate::out::Out;
 use guppy_features::{
@@ -15,10 +19,10 @@ pub struct Counted<B> {
 }
 
 impl<'g, B: FeatureFilter<'g>> FeatureFilter<'g> for Counted<B> {
-    // it may be asked what its base may be asked, and answers as its base does
+    // it may be asked what its base may be asked, answers as its base does, and counts one more
     ghost can_accept = { λ s g i. B.can_accept s.base g i };
 
-    ghost accept_gives = { λ s g i r t. B.accept_gives s.base g i r t.base };
+    ghost accept_gives = { λ s g i r t. (t.asked ≡ min (s.asked + 1) (2 ^ 64 - 1)) × B.accept_gives s.base g i r t.base };
 
     fn accept(&mut self, graph: &FeatureGraph<'g>, feature_id: FeatureId<'g>) -> bool {
         self.asked = self.asked.saturating_add(1);
@@ -29,24 +33,28 @@ impl<'g, B: FeatureFilter<'g>> FeatureFilter<'g> for Counted<B> {
 /// A counting filter that accepts the base of each package.
 type CountedBases = Counted<StandardFeatures>;
 
-/// The query of the workspace's bases and of the named features of these names.
+/// The query of the workspace's bases and of the named features of these names. The filter that is lent counts each question.
 fn by_names<'g>(
     alloc: Global,
     graph: FeatureGraph<'g>,
     names: &[&'g str],
     base: &mut CountedBases,
-) -> Result<FeatureQuery<'g>, Error<'g>> {
+) -> Result<FeatureQuery<'g>, Error<'g>>
+    ensures { IfOk result (λ _. CountsWorkspace (graph_of graph.entry) base.old.asked base.new.asked) }
+{
     let mut filter = named_feature_filter(alloc, base, names)?;
     graph.query_workspace(alloc, &mut filter)
 }
 
-/// The query of the workspace's bases and of the features of these ids.
+/// The query of the workspace's bases and of the features of these ids. The filter that is lent counts each question.
 fn by_ids<'g>(
     alloc: Global,
     graph: FeatureGraph<'g>,
     ids: &[FeatureId<'g>],
     base: &mut CountedBases,
-) -> Result<FeatureQuery<'g>, Error<'g>> {
+) -> Result<FeatureQuery<'g>, Error<'g>>
+    ensures { IfOk result (λ _. CountsWorkspace (graph_of graph.entry) base.old.asked base.new.asked) }
+{
     let mut filter = feature_id_filter(alloc, base, ids)?;
     graph.query_workspace(alloc, &mut filter)
 }

@@ -1,7 +1,7 @@
 //! Parts of a set, by the answers of a callback.
 ghost use Rattle.std.specs.Prelude.{◌≡◌, ◌<◌, [], IfOk, IfErr, length, not, replicate, false, All};
 ghost use Rattle.feature_core.specs.Nodes.{nodes};
-ghost use Rattle.feature_sets.specs.Parts.{Calls, IsPart, is_yes, says_first, says_second};
+ghost use Rattle.feature_sets.specs.Parts.{Calls, IsPart, MayCall, MayCallEach, is_yes, says_first, says_second};
 ghost use Rattle.feature_sets.specs.Views.{tables_of_graph};
 ghost use Rattle.feature_sets.specs.inner.Sorting.{HasCalled, IsPut};
 
@@ -84,7 +84,7 @@ fn call_each<'g, A: Answer + Drop, F: FnMut(FeatureMetadata<'g>) -> A>(
     one: &mut IxBitSet,
     other: &mut IxBitSet,
 )
-    requires callable { F.IsAlwaysCallable f.old }
+    requires callable { MayCallEach F.pre F.step (tables_of_graph graph) numbers f.old }
     requires within { All (λ n. n < length (nodes (tables_of_graph graph))) numbers }
     requires one { one.old ≡ replicate (length (nodes (tables_of_graph graph))) false }
     requires other { other.old ≡ replicate (length (nodes (tables_of_graph graph))) false }
@@ -114,7 +114,7 @@ impl<'g> FeatureSet<'g> {
         direction: DependencyDirection,
         f: &mut F,
     ) -> Result<(FeatureSet<'g>, FeatureSet<'g>), Error<'g>>
-        requires { F.IsAlwaysCallable f.old }
+        requires { MayCall F.pre F.step direction self.now f.old }
         ensures called { IfOk result (λ parts. Calls F.step direction self.now f.old f.new (λ calls. IsPart A.first calls self.now parts.0 × IsPart A.second calls self.now parts.1)) }
         ensures refused { IfErr result (λ e. e ≡ Error.Memory) }
         ensures untouched { IfErr result (λ _. f.new ≡ f.old) }
@@ -130,14 +130,15 @@ impl<'g> FeatureSet<'g> {
     }
 
     /// The features for which the callback answers true. It is called once for each feature of the set, in the order of
-    /// `features`, after all memory was taken. The only error is want of memory, and the callback wasn't called then.
+    /// `features`, after all memory was taken; it need not be callable for others. The only error is want of memory, and the
+    /// callback wasn't called then.
     pub fn filter<F: FnMut(FeatureMetadata<'g>) -> bool>(
         &self,
         alloc: Global,
         direction: DependencyDirection,
         f: &mut F,
     ) -> Result<FeatureSet<'g>, Error<'g>>
-        requires { F.IsAlwaysCallable f.old }
+        requires { MayCall F.pre F.step direction self.now f.old }
         ensures called { IfOk result (λ set. Calls F.step direction self.now f.old f.new (λ calls. IsPart is_yes calls self.now set)) }
         ensures refused { IfErr result (λ e. e ≡ Error.Memory) }
         ensures untouched { IfErr result (λ _. f.new ≡ f.old) }
@@ -153,7 +154,7 @@ impl<'g> FeatureSet<'g> {
         direction: DependencyDirection,
         f: &mut F,
     ) -> Result<(FeatureSet<'g>, FeatureSet<'g>), Error<'g>>
-        requires { F.IsAlwaysCallable f.old }
+        requires { MayCall F.pre F.step direction self.now f.old }
         ensures called { IfOk result (λ parts. Calls F.step direction self.now f.old f.new (λ calls. IsPart is_yes calls self.now parts.0 × IsPart not calls self.now parts.1)) }
         ensures refused { IfErr result (λ e. e ≡ Error.Memory) }
         ensures untouched { IfErr result (λ _. f.new ≡ f.old) }
@@ -169,7 +170,7 @@ impl<'g> FeatureSet<'g> {
         direction: DependencyDirection,
         f: &mut F,
     ) -> Result<(FeatureSet<'g>, FeatureSet<'g>), Error<'g>>
-        requires { F.IsAlwaysCallable f.old }
+        requires { MayCall F.pre F.step direction self.now f.old }
         ensures called { IfOk result (λ parts. Calls F.step direction self.now f.old f.new (λ calls. IsPart says_first calls self.now parts.0 × IsPart says_second calls self.now parts.1)) }
         ensures refused { IfErr result (λ e. e ≡ Error.Memory) }
         ensures untouched { IfErr result (λ _. f.new ≡ f.old) }
