@@ -1,4 +1,4 @@
--- Checks of explanations that are told by names.
+-- Checks of named explanations.
 use Rattle.std.proofs.Common.{◌≡◌, ◌∙◌, ◌++◌, ◌∷◌, [], refl, sym, subst, inl, inr, ℕ, Bool, true, false, cond, ◌||◌, List, Option, Some, None, filter, length}
 use Rattle.std.specs.Prelude.{◌↔◌, ◌==◌, IsTrue, IsFalse, MatchOption, slice_get}
 use Rattle.std.proofs.lemmas.Bool.{eq-eqb}
@@ -35,7 +35,7 @@ possible_reason g d I A before n (Offer e h) (w, is, half, a, far, start, gate) 
 possible_steps : (g : Graph) (d : DependencyDirection) (I : ℕ → Bool) (A : ℕ → Half → Bool) (steps : List Step) → IsExplanation (content_of d g.built) I A steps → (k : ℕ) (step : Step) → slice_get steps k ≡ Some step → IsPossible g step.reason
 possible_steps g d I A steps x k step at = possible_reason g d I A _ step.node step.reason (x.reasons k step at)
 
--- the names of the initial nodes tell which they are
+-- the names of the initial nodes determine them
 same_initials : (g : Graph) (names : List Name) (a b : List Bool) → HoldsExactly g.tables a names → HoldsExactly g.tables b names → (n : ℕ) → IsTrue (has a n) ↔ IsTrue (has b n)
 same_initials g names a b first second n = ((λ h. (second.exact n).1 ((first.exact n).0 h)), (λ h. (first.exact n).1 ((second.exact n).0 h)))
 
@@ -70,7 +70,7 @@ module _ (g : Graph) (d : DependencyDirection) (names : List Name) (told : List 
           here)),
     )
 
--- a node that some of the steps list is listed by all
+-- a node in a part of the steps is in all of them
 kept_listed : (p : Step → Bool) (steps : List Step) (n : ℕ) → IsTrue (is_in (nodes_of (filter p steps)) n) → IsTrue (is_in (nodes_of steps) n)
 kept_listed p [] n h = h
 kept_listed p (step ∷ steps) n h =
@@ -84,25 +84,25 @@ last_listed : (before : List Step) (step : Step) → IsTrue (is_in (nodes_of (be
 last_listed [] step = (or_cases (step.node == step.node) false).1 (inl (eq-eqb step.node step.node refl))
 last_listed (x ∷ before) step = (or_cases (x.node == step.node) (is_in (nodes_of (before ++ step ∷ [])) step.node)).1 (inr (last_listed before step))
 
--- a node with steps on which it rests is listed
+-- a node with a reason chain is in the explanation
 why_lists : (c : Content) (I : ℕ → Bool) (A : ℕ → Half → Bool) (steps : List Step) (node : ℕ) (kept : List Step) → IsWhy c I A steps node kept → IsTrue (is_in (nodes_of steps) node)
 why_lists c I A steps node kept w =
     let last = w.last in
     let there : IsTrue (is_in (nodes_of kept) last.1.node) = subst (λ l. IsTrue (is_in (nodes_of l) last.1.node)) (sym last.2) (last_listed last.0 last.1) in
     kept_listed (λ step. w.rests step.node) steps node (subst (λ n. IsTrue (is_in (nodes_of (filter (λ step. w.rests step.node) steps)) n)) last.3 (subst (λ l. IsTrue (is_in (nodes_of l) last.1.node)) w.part there))
 
--- the node is a member, and these of the explanation's steps are those on which it rests
+-- the node is a member, and these steps are its reason chain
 pub record KeptWhy (x : Explanation) (node : ℕ) (kept : List Step) : Type 0 where
   pub member : IsTrue (has x.members node)
   pub why : (initials : List Bool) (A : ℕ → Half → Bool) → length initials ≡ length (nodes x.graph.tables) → IsExplanation (content_of x.direction x.graph.built) (has initials) A x.steps → IsWhy (content_of x.direction x.graph.built) (has initials) A x.steps node kept
 
--- why a node is listed, of an explanation that is told by its parts
+-- the reason chain of a node, in an explanation given by its parts
 module _ {K : Type 0} (items : K → List Step) where
   abbrev pub TellsWhy : Explanation → Name → Option K → Type 0
   TellsWhy x name found = (n : ℕ) → NodeNamed x.graph.tables n name → MatchOption found (IsFalse (has x.members n)) (λ kept. KeptWhy x n (items kept))
 
   module _ (x : Explanation) (node : ℕ) (found : Option K) (count : length x.graph.built.packages ≡ length (nodes x.graph.tables)) (why : (initials : List Bool) (A : ℕ → Half → Bool) → length initials ≡ length x.graph.built.packages → IsExplanation (content_of x.direction x.graph.built) (has initials) A x.steps → MatchOption found (IsFalse (is_in (nodes_of x.steps) node)) (λ kept. IsWhy (content_of x.direction x.graph.built) (has initials) A x.steps node (items kept))) (backed : IsBacked x.graph x.direction x.steps) where
-    -- what is told of it where it is found so, by one explanation
+    -- the clause of `why` for one explanation and one result
     why_at : (o : Option K) → found ≡ o → (initials : List Bool) (A : ℕ → Half → Bool) → length initials ≡ length (nodes x.graph.tables) → IsExplanation (content_of x.direction x.graph.built) (has initials) A x.steps
         → MatchOption o (IsFalse (is_in (nodes_of x.steps) node)) (λ kept. IsWhy (content_of x.direction x.graph.built) (has initials) A x.steps node (items kept))
     why_at o is initials A long explained =
@@ -120,6 +120,6 @@ module _ {K : Type 0} (items : K → List Step) where
         subst (λ z. TellsWhy z name found) is
         (λ n at. subst (λ k. MatchOption found (IsFalse (has x.members k)) (λ kept. KeptWhy x k (items kept))) (same_Some node n ((named n).1 at)) (member_why listed found refl))
 
-    -- the kept steps are themselves an explanation
+    -- the kept steps are an explanation themselves
     pub kept_backed : (kept : K) → found ≡ Some kept → IsBacked x.graph x.direction (items kept)
     kept_backed kept is = (backed.0, backed.1, backed.2, (why_at (Some kept) is backed.0 backed.1 backed.2 backed.3).explanation)

@@ -1,4 +1,4 @@
--- What is lent stays the same reference along a run, and its states are those of what is behind it.
+-- Runs of a `&mut` of a visitor or of a filter, as runs of what is behind it.
 use Rattle.std.proofs.Common.{◌≡◌, ◌∙◌, refl, sym, ap, Bool, List, [], ◌∷◌}
 use Rattle.std.specs.Borrow.{MutBor}
 use Rattle.guppy_packages.specs.Rows.{Text}

@@ -80,7 +80,7 @@ module _ {F A : Type 0} (step : F → FeatureMetadata → A → F → Type 0) (f
     other_filled = filled_more second before.calls (length (nodes t)) node answer other other_more before.other_filled put_other;
   }
 
--- where it may be called for these nodes, it may be called for the first, and then for the others
+-- a callback that may be called for a list of nodes may be called for the first, and then for the others
 module _ {F A : Type 0} (pre : F → FeatureMetadata → Type 0) (step : F → FeatureMetadata → A → F → Type 0) (t : Tables) (numbers rest : List ℕ) (node : ℕ) (f : F) (may : MayCallEach pre step t numbers f) (is : numbers ≡ node ∷ rest) where
   pub may_call : (m : FeatureMetadata) → feature_tables_of m ≡ t → NodeNamed t node (feature_name_of m) → pre f m
   may_call m of named = may [] f node rest m refl (sym is) of named
@@ -88,7 +88,7 @@ module _ {F A : Type 0} (pre : F → FeatureMetadata → Type 0) (step : F → F
   pub may_rest : (answer : A) (g : F) → CallsAt step t f (node, answer) g → MayCallEach pre step t rest g
   may_rest answer g call calls h n later m folds same of named = may ((node, answer) ∷ calls) h n later m (g, (call, folds)) (ap (λ l. node ∷ l) same ∙ sym is) of named
 
--- all were called
+-- at the end the callback was called for all features
 pub calls_made : {F A : Type 0} (step : F → FeatureMetadata → A → F → Type 0) (first second : A → Bool) (direction : DependencyDirection) (s : Set) (t : Tables) (numbers : List ℕ) (f g : F) (one other : List Bool) (a b : Set)
     → t ≡ s.graph.tables → AtOrder s.graph (λ o. numbers ≡ ordered_nodes direction s o) → HasCalled step first second t numbers [] f g one other
     → a.graph ≡ s.graph → a.members ≡ one → b.graph ≡ s.graph → b.members ≡ other

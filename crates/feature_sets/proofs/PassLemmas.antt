@@ -1,4 +1,4 @@
--- What a walk gave passes both checks, in whatever names it is told.
+-- The explanation of a walk passes both checks.
 use Rattle.std.proofs.Common.{◌≡◌, ◌∙◌, ◌++◌, ◌∷◌, ◌⊎◌, [], ap, refl, sym, subst, inl, inr, ⊎_elim, ℕ, zero, suc, Bool, true, false, cond, ◌&&◌, List, Option, Some}
 use Rattle.std.specs.Prelude.{◌↔◌, ◌==◌, IsTrue, map, slice_get}
 use Rattle.std.specs.Option.{option_map_or}
@@ -45,7 +45,7 @@ module _ (g : Graph) (names : (d : ℕ) (i : Half) (e : ℕ) (j : Half) → IsOf
   abbrev IsOfGraph : ℕ → Half → Type 0
   IsOfGraph e h = IsOffer (content_of direction g.built) e h
 
-  -- two offers that are told alike are one
+  -- two offers with one name are the same
   one_offer : (d : ℕ) (i : Half) (e : ℕ) (j : Half) (told : Name × Name × LinkDeclarations) → IsOfGraph d i → IsOfGraph e j → offer_told g (d, i) ≡ Some told → offer_told g (e, j) ≡ Some told → (d ≡ e) × (i ≡ j)
   one_offer d i e j told first second a b =
       let x = offer_there g d i told.0 told.1 told.2 a in
@@ -64,12 +64,12 @@ module _ (g : Graph) (names : (d : ℕ) (i : Half) (e : ℕ) (j : Half) → IsOf
         declarations = x.over ∙ sym y.over;
       })
 
-  -- what is listed is told by the first entry, or listed among the others
+  -- a listed offer has the name of the first entry, or is listed among the others
   at_entry : (x : Name × Name × LinkDeclarations) (entries : List (Name × Name × LinkDeclarations)) (e : ℕ) (h : Half) → IsListed g (x ∷ entries) e h → (offer_told g (e, h) ≡ Some x) ⊎ IsListed g entries e h
   at_entry x entries e h (zero, entry, at, is) = inl (is ∙ sym at)
   at_entry x entries e h (suc k, entry, at, is) = inr (k, entry, at, is)
 
-  -- the refused offers are those that the entries tell
+  -- the refused offers are those that the entries name
   are_refused : (offers : List (ℕ × Half)) (entries : List (Name × Name × LinkDeclarations)) → AreOffersOf (content_of direction g.built) offers → OffersAreTold g offers entries
       → (e : ℕ) (h : Half) → IsOfGraph e h → IsTrue (is_refused offers e h) ↔ IsListed g entries e h
   are_refused [] [] of told e h offer = ((λ t. absurd (false_true t)), (λ l. absurd (none_listed g e h l)))

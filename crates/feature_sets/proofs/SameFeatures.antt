@@ -1,4 +1,4 @@
--- Lists that have the same elements at the same places, and when two sets are equal.
+-- Lists with the same elements at the same indices, equality of sets, and look-ups of names.
 use Rattle.std.proofs.Common.{◌≡◌, ℕ, zero, suc, ◌<◌, ◌≤◌, Bool, true, false, ◌||◌, List, [], ◌∷◌, length, Option, Some, refl, sym, ap, arith, nat_eq}
 use Rattle.std.specs.Prelude.{IsTrue, slice_get}
 use Rattle.std.specs.List.{list_any}
@@ -16,7 +16,7 @@ use Rattle.feature_sets.specs.Names.{HasFeature, has_feature}
 use Rattle.feature_sets.specs.SetValues.{AreEqualSets, name_eq, graph_eq, set_eq}
 use Rattle.feature_sets.specs.Values.{Set}
 
--- lists of one length with the same elements are the same
+-- lists of one length with the same elements are equal
 pub same_list : {X : Type 0} (xs ys : List X) → length xs ≡ length ys → ((k : ℕ) → k < length xs → slice_get xs k ≡ slice_get ys k) → xs ≡ ys
 same_list [] [] long same = refl
 same_list [] (y ∷ ys) long same = absurd (omega (arith, long))
@@ -27,7 +27,7 @@ same_list {X} (x ∷ xs) (y ∷ ys) long same =
     let rest : xs ≡ ys = same_list xs ys (omega (arith, long)) (λ k within. same (suc k) (omega arith)) in
     (λ i. first i ∷ rest i)
 
--- the features before this node are the same
+-- the features below this node are the same
 abbrev pub SameBelow : List (Text × LabelName) → List (Text × LabelName) → ℕ → Type 0
 SameBelow xs ys n = (k : ℕ) → k < n → slice_get xs k ≡ slice_get ys k
 
@@ -35,13 +35,13 @@ module _ (xs ys : List (Text × LabelName)) where
   pub below_all : (n : ℕ) → length xs ≡ length ys → length xs ≤ n → SameBelow xs ys n → xs ≡ ys
   below_all n long past before = same_list xs ys long (λ k within. before k (omega arith))
 
--- the tests of graphs and sets say what they mean
+-- the tests for equal names, graphs and sets decide equality
 name_eq-Decides : (a b : Text × LabelName) → Decides (name_eq a b) (a ≡ b)
 name_eq-Decides a b =
     let both = Decides-and (pointwise nat_eq a.0 b.0) (label_eq a.1 b.1) (bytes_decides a.0 b.0) (label_eq-Decides a.1 b.1) in
     (λ e. (λ i. ((both.0 e).0 i, (both.0 e).1 i)), λ e. both.1 (ap (λ id. id.0) e, ap (λ id. id.1) e))
 
--- a name that is tested for is there
+-- a name passes the test exactly if it is in the list
 name_there : (name : Text × LabelName) (xs : List (Text × LabelName)) → IsTrue (list_any (name_eq name) xs) → (n : ℕ) × (slice_get xs n ≡ Some name)
 name_there name [] h = cc
 name_there name (x ∷ xs) h = at (name_eq name x) refl h

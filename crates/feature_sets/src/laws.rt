@@ -1,5 +1,5 @@
-//! Laws of what the calls of this crate speak of. Each function's contract is the law, and it does nothing; those of the
-//! crates below are handed on.
+//! Laws of visitors, explanations and parts. Each function does nothing: its contract is the law. The laws of the
+//! crates below are re-exported.
 ghost use Rattle.std.specs.Borrow.{MutBor};
 ghost use Rattle.std.specs.Prelude.{◌≡◌, ◌↔◌, ℕ, Bool, List, IsTrue};
 ghost use Rattle.guppy_support.specs.Bits.{has};
@@ -28,8 +28,8 @@ pub use feature_core::laws::{
     warning_equality,
 };
 
-/// Where a visitor answers the links of a query as a test of offers says, whatever it was shown before, the test agrees with
-/// each run of its answers, and the members of a walk are exactly the least set for the test.
+/// If a visitor decides by a fixed test of offers, the test agrees with each run of its answers. Then the members of a
+/// walk are exactly the least set for the test.
 pub fn visitor_agrees_by_answer<'g, V: FeatureLinkVisitor<'g>>()
     ensures agrees { (q : Query) (A : ℕ → Half → Bool) (s t : V) (run : List Call) → AnswersBy (shown V.visit_gives q) A s
         → GoesAlong (shown V.visit_gives q) s run t → Agrees A run }
@@ -38,8 +38,8 @@ pub fn visitor_agrees_by_answer<'g, V: FeatureLinkVisitor<'g>>()
         → (n : ℕ) → IsTrue (M n) ↔ Least (query_content q) (has q.initials) A n }
 {}
 
-/// What `resolve_explained` gives satisfies both checks: its steps are an explanation, by offers that the visitor accepted, and with
-/// the refused offers an exact one. Where the visitor answers as a test of offers says, they name offers of the test alone.
+/// The result of `resolve_explained` passes both checks: its steps are an explanation, and an exact one with the
+/// refused offers. If the visitor decides by a fixed test of offers, the steps use offers of the test alone.
 pub fn resolved_is_exact<'g, V: FeatureLinkVisitor<'g>>()
     ensures explained { (q : Query) (s t : V) (M : ℕ → Bool) (steps : List Step) (refused : List (ℕ × Half))
         → IsExplainedWalk (query_content q) (has q.initials) (shown V.visit_gives q) s t M steps refused
@@ -55,8 +55,8 @@ pub fn resolved_is_exact<'g, V: FeatureLinkVisitor<'g>>()
     run_is_exact();
 }
 
-/// What `resolve_explained` gives over this graph passes both of its checks: told by names, its steps explain (`Explains`), and with its
-/// refused links they leave nothing out (`ExplainsAll`).
+/// The result of `resolve_explained` over `graph` passes both checks of `graph`: its named steps are an explanation
+/// (`Explains`), and with its named refused links a complete one (`ExplainsAll`).
 pub fn resolved_passes_checks<'g, V: FeatureLinkVisitor<'g>>(graph: FeatureGraph<'g>)
     ensures { (q : Query) (s t : V) (M : ℕ → Bool) (steps : List Step) (refused : List (ℕ × Half)) → q.graph ≡ graph_of graph.entry
         → IsExplainedWalk (query_content q) (has q.initials) (shown V.visit_gives q) s t M steps refused
@@ -66,20 +66,20 @@ pub fn resolved_passes_checks<'g, V: FeatureLinkVisitor<'g>>(graph: FeatureGraph
     run_is_exact();
 }
 
-/// A visitor that is lent stays the same reference along each run, and its states are those of the visitor behind it.
+/// A visitor that is a `&mut` stays the same reference in each run, and its states are those of the visitor behind it.
 pub fn lent_visitor_stays<'g, V: FeatureLinkVisitor<'g>>()
     ensures { (q : Query) (s t : MutBor V) (run : List Call) → GoesAlong (shown (lent_visit V.visit_gives) q) s run t
         → (t.ghost_name ≡ s.ghost_name) × GoesAlong (shown V.visit_gives q) s.now run t.now }
 {}
 
-/// A filter that is lent stays the same reference along its questions, and its states are those of the filter behind it.
+/// A filter that is a `&mut` stays the same reference in each run, and its states are those of the filter behind it.
 pub fn lent_filter_stays<'g, F: FeatureFilter<'g>>()
     ensures { (g : Graph) (s t : MutBor F) (run : Run) → Ran (lent_accept F.accept_gives) g s run t
         → (t.ghost_name ≡ s.ghost_name) × Ran F.accept_gives g s.now run t.now }
 {}
 
-/// Where a callback answered yes or no once for each feature of a set, the features with yes and those with no have none in
-/// common, and are the set together. The same answers make the same part, by `filter` and by `partition`.
+/// If a callback returned true or false once for each feature of a set, the two parts are disjoint and their union is
+/// the set. The same results make the same part, in `filter` and in `partition`.
 pub fn partition_is_split()
     ensures split { PartitionIsSplit }
     ensures first { FilterIsFirst }

@@ -1,4 +1,4 @@
-//! Features of a graph, with what is known of them.
+//! Features of a graph, with their packages.
 ghost use Rattle.std.specs.Prelude.{◌≡◌, ◌↔◌, IsSome, IsTrue, IfSome, Contains};
 ghost use Rattle.guppy_packages.specs.Metadata.{package_graph_of, package_id_of, package_table_of};
 ghost use Rattle.feature_labels.specs.Names.{id_of, label_of};
@@ -20,7 +20,7 @@ pub struct FeatureMetadata<'g> {
 impl<'g> FeatureMetadata<'g> {
     ghost use Rattle.feature_sets.specs.Views.{feature_name_of, feature_tables_of};
 
-    /// The id of the feature, which the graph has.
+    /// Returns the id of the feature. The graph has the feature.
     pub fn feature_id(&self) -> FeatureId<'g>
         ensures name { id_of result ≡ feature_name_of self.now }
         ensures known { HasFeature (feature_tables_of self.now) (feature_name_of self.now) }
@@ -28,14 +28,14 @@ impl<'g> FeatureMetadata<'g> {
         FeatureId::new(self.package.id(), self.label)
     }
 
-    /// The id of the feature's package.
+    /// Returns the id of the feature's package.
     pub fn package_id(&self) -> &'g PackageId
         ensures { result.now ≡ (feature_name_of self.now).0 }
     {
         self.package.id()
     }
 
-    /// The feature's package.
+    /// Returns the feature's package.
     pub fn package(&self) -> PackageMetadata<'g>
         ensures graph { package_graph_of result ≡ feature_tables_of self.now }
         ensures id { package_id_of result ≡ (feature_name_of self.now).0 }
@@ -43,7 +43,7 @@ impl<'g> FeatureMetadata<'g> {
         self.package
     }
 
-    /// The feature's label.
+    /// Returns the feature's label.
     pub fn label(&self) -> FeatureLabel<'g>
         ensures { label_of result ≡ (feature_name_of self.now).1 }
     {
@@ -60,7 +60,8 @@ impl fmt::Debug for FeatureMetadata<'_> {
     }
 }
 
-/// The label as the package's tables hold it, where the package has it.
+/// Returns the label of the package that is equal to `label`, borrowed from the package; `None` if the package lacks
+/// it.
 pub(crate) fn label_in<'g>(
     package: PackageMetadata<'g>,
     label: FeatureLabel<'_>,

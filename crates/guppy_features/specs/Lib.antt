@@ -3,7 +3,7 @@ pub mod ListedFilters
 pub mod Platforms
 pub mod PlatformViews
 
--- the definitions that the contracts name, each crate's under its name
+-- the definitions in the contracts, by crate
 pub use Rattle.guppy_support.specs as guppy_support
 pub use Rattle.digraph_orders.specs as digraph_orders
 pub use Rattle.order_views.specs as order_views

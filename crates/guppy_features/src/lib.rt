@@ -1,5 +1,5 @@
-//! The feature graph: queries and sets of features, filters over a list, and a visitor for a platform. The root has every type that
-//! a call takes or returns, and the module `specs` every definition that a contract names, so a caller lists this crate alone.
+//! The feature graph: queries over it and sets of its features, filters with a list of names or ids, and a
+//! visitor for a platform. The crate re-exports every type in its API, and `specs` every definition in its contracts.
 #![tactic(auto)]
 
 mod listed_filters;

@@ -2,7 +2,7 @@ use Rattle.std.proofs.Common.{◌≡◌, ◌≤◌}
 use Rattle.order_views.specs.inner.Cursors.{cyclic_below}
 use Rattle.order_views.proofs.cycles.CyclicComponentsIterator.next.Given as goal
 
--- no component with a cycle was passed
+-- No component with a cycle was passed.
 abbrev pub invariant-loop-self : goal.invariant-loop-self
 invariant-loop-self l = record {
   within : l.self-inside.end ≤ l.self-inside.order.now.count;
