@@ -21,4 +21,4 @@ pub lent_ran : {F : Type 0} (gives : F → Graph → Text × LabelName → Bool 
 lent_ran gives g s t [] same = (ap (λ p. p.ghost_name) (sym same), ap (λ p. p.now) same)
 lent_ran gives g s t (x ∷ run) (m, step, ran) =
     let rest = lent_ran gives g m t run ran in
-    (rest.0 ∙ step.0, (m.now, (step.1, rest.1)))
+    (rest.0 ∙ step.0, (m.now, step.1, rest.1))

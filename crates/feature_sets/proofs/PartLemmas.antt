@@ -86,7 +86,7 @@ module _ {F A : Type 0} (pre : F → FeatureMetadata → Type 0) (step : F → F
   may_call m of named = may [] f node rest m refl (sym is) of named
 
   pub may_rest : (answer : A) (g : F) → CallsAt step t f (node, answer) g → MayCallEach pre step t rest g
-  may_rest answer g call calls h n later m folds same of named = may ((node, answer) ∷ calls) h n later m (g, (call, folds)) (ap (λ l. node ∷ l) same ∙ sym is) of named
+  may_rest answer g call calls h n later m folds same of named = may ((node, answer) ∷ calls) h n later m (g, call, folds) (ap (λ l. node ∷ l) same ∙ sym is) of named
 
 -- at the end the callback was called for all features
 pub calls_made : {F A : Type 0} (step : F → FeatureMetadata → A → F → Type 0) (first second : A → Bool) (direction : DependencyDirection) (s : Set) (t : Tables) (numbers : List ℕ) (f g : F) (one other : List Bool) (a b : Set)

@@ -1,5 +1,5 @@
 -- The explanation of a walk passes both checks.
-use Rattle.std.proofs.Common.{◌≡◌, ◌∙◌, ◌++◌, ◌∷◌, ◌⊎◌, [], ap, refl, sym, subst, inl, inr, ⊎_elim, ℕ, zero, suc, Bool, true, false, cond, ◌&&◌, List, Option, Some}
+use Rattle.std.proofs.Common.{◌≡◌, ◌∙◌, ◌++◌, ◌∷◌, ◌⊎◌, [], ap, refl, sym, subst, inl, inr, ⊎_elim, ℕ, zero, suc, Bool, true, false, cond, ◌&&◌, List, Option, Some, None}
 use Rattle.std.specs.Prelude.{◌↔◌, ◌==◌, IsTrue, map, slice_get}
 use Rattle.std.specs.Option.{option_map_or}
 use Rattle.std.proofs.lemmas.Option.{none-some, same_Some}
@@ -30,7 +30,7 @@ AreOffersOf c offers = (k : ℕ) (o : ℕ × Half) → slice_get offers k ≡ So
 
 -- the refused offers of a legal run are offers
 refused_offers : (c : Content) (I : ℕ → Bool) (run : List Call) → IsLegal c I run → AreOffersOf c (refused_of run)
-refused_offers c I [] legal k o at = absurd (none-some o at)
+refused_offers c I [] legal = λ k o at. absurd (none-some o at)
 refused_offers c I (call ∷ before) (due, legal) =
     elim call.answer as (λ b. AreOffersOf c (cond b (refused_of before) (refused_of before ++ (call.edge, call.half) ∷ []))) [
       | true ↦ refused_offers c I before legal
@@ -85,10 +85,10 @@ module _ (g : Graph) (names : (d : ℕ) (i : Half) (e : ℕ) (j : Half) → IsOf
             (λ later. let more = rest.0 later in (suc more.0, more.1, more.2, more.3))
             (split.0 t)),
         (λ l. split.1
-        (⊎_elim
-        (λ now. inl (last.1 (one_offer o.0 o.1 e h x (of 0 o refl) offer here now)))
-        (λ later. inr (rest.1 later))
-        (at_entry x entries e h l))),
+            (⊎_elim
+            (λ now. inl (last.1 (one_offer o.0 o.1 e h x (of 0 o refl) offer here now)))
+            (λ later. inr (rest.1 later))
+            (at_entry x entries e h l))),
       )
 
   -- a walk that is explained passes both checks

@@ -44,11 +44,11 @@ name_eq-Decides a b =
 -- a name passes the test exactly if it is in the list
 name_there : (name : Text × LabelName) (xs : List (Text × LabelName)) → IsTrue (list_any (name_eq name) xs) → (n : ℕ) × (slice_get xs n ≡ Some name)
 name_there name [] h = cc
-name_there name (x ∷ xs) h = at (name_eq name x) refl h
+name_there name (x ∷ xs) h = at (name_eq name x) refl h (λ k. name_there name xs k)
   where
-    at : (b : Bool) → name_eq name x ≡ b → IsTrue (b || list_any (name_eq name) xs) → (n : ℕ) × (slice_get (x ∷ xs) n ≡ Some name)
-    at true same k = (0, ap Some (sym ((name_eq-Decides name x).0 same)))
-    at false same k = let rest = name_there name xs k in (suc rest.0, rest.1)
+    at : (b : Bool) → name_eq name x ≡ b → IsTrue (b || list_any (name_eq name) xs) → (IsTrue (list_any (name_eq name) xs) → (n : ℕ) × (slice_get xs n ≡ Some name)) → (n : ℕ) × (slice_get (x ∷ xs) n ≡ Some name)
+    at true same k later = (0, ap Some (sym ((name_eq-Decides name x).0 same)))
+    at false same k later = let rest = later k in (suc rest.0, rest.1)
 
 name_passes : (name : Text × LabelName) (xs : List (Text × LabelName)) (n : ℕ) → slice_get xs n ≡ Some name → IsTrue (list_any (name_eq name) xs)
 name_passes name [] n at = cc

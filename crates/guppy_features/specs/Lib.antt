@@ -2,7 +2,6 @@ pub mod Accepted
 pub mod ListedFilters
 pub mod Platforms
 pub mod PlatformViews
-
 -- the definitions in the contracts, by crate
 pub use Rattle.guppy_support.specs as guppy_support
 pub use Rattle.digraph_orders.specs as digraph_orders

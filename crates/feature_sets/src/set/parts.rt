@@ -76,6 +76,14 @@ pub(crate) fn put(members: &mut IxBitSet, node: usize, say: bool)
     }
 }
 
+/// Calls `f` for one feature.
+fn call<'g, A, F: FnMut(FeatureMetadata<'g>) -> A>(f: &mut F, feature: FeatureMetadata<'g>) -> A
+    requires { F.pre f.old feature }
+    ensures { F.step f.old feature.entry result f.new }
+{
+    f(feature)
+}
+
 /// Calls `f` for the feature of each of the nodes `numbers`, and inserts the nodes into `one` and `other` by the
 /// results.
 fn call_each<'g, A: Answer + Drop, F: FnMut(FeatureMetadata<'g>) -> A>(
@@ -92,7 +100,7 @@ fn call_each<'g, A: Answer + Drop, F: FnMut(FeatureMetadata<'g>) -> A>(
     ensures { HasCalled F.step A.first A.second (tables_of_graph graph.entry) numbers.entry [] f.old f.new one.new other.new }
 {
     while let Some(node) = numbers.next() {
-        let answer = f(feature_at(graph, node));
+        let answer = call(f, feature_at(graph, node));
         put(one, node, answer.is_first());
         put(other, node, answer.is_second());
     }

@@ -41,5 +41,5 @@ returns-in-Ok-clause-told c n at =
     let listed : ListMembers x.members x.steps = subst (λ l. ListMembers x.members l) (sym c.deref.ensures.value) c.self.invariant.3 in
     let told : AreTold c.args.self.now.graph c.in-Some-2.kept.items _ = subst (λ z. AreTold z c.in-Some-2.kept.items (map step_name c.in-Ok.told.items)) (ap (λ z. z.graph) same) (subst (λ l. AreTold (graph_of g) l (map step_name c.in-Ok.told.items)) c.deref-2.ensures.value c.in-Ok.ensures) in
     let why : KeptWhy c.args.self.now n c.in-Some-2.kept.items = subst (λ o. MatchOption o (IsFalse (has c.args.self.now.members n)) (λ kept. KeptWhy c.args.self.now n kept.items)) c.in-Some-2.is
-        (tells_why (λ v. v.items) x c.in-Some.node c.in_ok-kept.field-0 (c.content_of_graph.ensures.count b g.is_built) c.in_ok-kept.ensures.told backed listed c.args.self.now (id_of c.args.feature_id) same c.in-Some.ensures.named n at) in
+    (tells_why (λ v. v.items) x c.in-Some.node c.in_ok-kept.field-0 (c.content_of_graph.ensures.count b g.is_built) c.in_ok-kept.ensures.told backed listed c.args.self.now (id_of c.args.feature_id) same c.in-Some.ensures.named n at) in
     record { member = why.member; why = λ initials A long explained. record { steps = c.in-Some-2.kept.items; are_steps = told; why = why.why initials A long explained } }
