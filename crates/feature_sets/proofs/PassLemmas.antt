@@ -2,7 +2,7 @@
 use Rattle.std.proofs.Common.{◌≡◌, ◌∙◌, ◌++◌, ◌∷◌, ◌⊎◌, [], ap, refl, sym, subst, inl, inr, ⊎_elim, ℕ, zero, suc, Bool, true, false, cond, ◌&&◌, List, Option, Some, None}
 use Rattle.std.specs.Prelude.{◌↔◌, ◌==◌, IsTrue, map, slice_get}
 use Rattle.std.specs.Option.{option_map_or}
-use Rattle.std.proofs.lemmas.Option.{none-some, same_Some}
+use Rattle.std.proofs.lemmas.Option.{none-some}
 use Rattle.guppy_support.specs.Bits.{has}
 use Rattle.guppy_packages.specs.declared.direction.DependencyDirection.{DependencyDirection}
 use Rattle.guppy_packages.specs.declared.direction.DependencyDirection.TheVariants.{Forward}

@@ -5,7 +5,6 @@ use Rattle.feature_core.specs.Built.{NodeNamed}
 use Rattle.feature_core.specs.Offers.{content_of, HaveOneName, IsOffer}
 use Rattle.walk_engine.specs.declared.walks.Half.{Half}
 use Rattle.feature_sets.specs.Values.{Graph}
-use Rattle.feature_sets.specs.Views.{graph_of}
 use Rattle.feature_sets.specs.Visits.{query_content, shown}
 use Rattle.feature_sets.proofs.Explanations.{explained_run}
 use Rattle.feature_sets.proofs.PassLemmas.{run_passes}
