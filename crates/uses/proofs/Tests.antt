@@ -1,6 +1,6 @@
 -- Visitors whose answer is a test of the link.
 use Rattle.std.proofs.Common.{◌≡◌, ◌∙◌, ◌+◌, ◌-◌, ◌^◌, ◌<◌, ◌≤◌, ℕ, Bool, ◌||◌, List, [], ◌∷◌, length, map, refl, sym, ap, subst, arith}
-use Rattle.std.specs.Prelude.{min}
+use Rattle.std.specs.Prelude.{min, IfOk, OnErr, Result, Ok, Err}
 use Rattle.std.proofs.Math.Nat.{min-eq_left}
 use Rattle.std.specs.List.{list_any}
 use Rattle.guppy_features.specs.guppy_support.Bits.{has}
@@ -45,3 +45,8 @@ module _ {V : Type 0} (gives : V → Query → Link → Bool → V → Type 0) (
   counts_run q s t run along legal complete =
       let counted = counts_along q s run t along in
       record { run = run; legal = legal; complete = complete; answers = counted.0; count = counted.1 }
+
+-- a fact that holds at both outcomes
+pub at_both_ends : {A E X : Type 0} (P : A → Type 0) (Q : Type 0) (r : Result A E) → IfOk r P → OnErr r Q → ((a : A) → P a → X) → (Q → X) → X
+at_both_ends P Q (Ok a) ok err f g = f a ok
+at_both_ends P Q (Err e) ok err f g = g err

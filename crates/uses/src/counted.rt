@@ -1,13 +1,14 @@
 //! A filter that counts what it is asked, under the filters over lists.
 ghost use Rattle.std.specs.Prelude.{◌≡◌, ◌+◌, ◌-◌, ◌^◌, min, IfOk};
+ghost use Rattle.guppy_features.specs.ListedFilters.{base_of_ids, base_of_names};
 ghost use Rattle.guppy_features.specs.feature_sets.Views.{graph_of};
 ghost use Rattle.uses.specs.Answers.{CountsWorkspace};
 
 use crate::failure::Failure;
 use crate::out::Out;
 use guppy_features::{
-    Error, FeatureFilter, FeatureGraph, FeatureId, FeatureLabel, FeatureQuery, PackageId,
-    StandardFeatures, feature_id_filter, named_feature_filter,
+    Error, FeatureFilter, FeatureGraph, FeatureId, FeatureIdFilter, FeatureLabel, FeatureQuery,
+    NamedFeatureFilter, PackageId, StandardFeatures, feature_id_filter, named_feature_filter,
 };
 use std::alloc::Global;
 
@@ -33,30 +34,50 @@ impl<'g, B: FeatureFilter<'g>> FeatureFilter<'g> for Counted<B> {
 /// A counting filter that accepts the base of each package.
 type CountedBases = Counted<StandardFeatures>;
 
-/// The query of the workspace's bases and of the named features of these names. The filter that is lent counts each question.
+/// The query of the workspace's bases and of the named features of these names.
 fn by_names<'g>(
     alloc: Global,
     graph: FeatureGraph<'g>,
     names: &[&'g str],
     base: &mut CountedBases,
-) -> Result<FeatureQuery<'g>, Error<'g>>
-    ensures { IfOk result (λ _. CountsWorkspace (graph_of graph.entry) base.old.asked base.new.asked) }
-{
+) -> Result<FeatureQuery<'g>, Error<'g>> {
     let mut filter = named_feature_filter(alloc, base, names)?;
-    graph.query_workspace(alloc, &mut filter)
+    select_by_names(alloc, graph, &mut filter)
 }
 
-/// The query of the workspace's bases and of the features of these ids. The filter that is lent counts each question.
+/// Selects by `filter`, whose base stays the same reference.
+fn select_by_names<'g, 'a>(
+    alloc: Global,
+    graph: FeatureGraph<'g>,
+    filter: &mut NamedFeatureFilter<'a, &mut CountedBases>,
+) -> Result<FeatureQuery<'g>, Error<'g>>
+    ensures same_reference { (base_of_names filter.new).ghost_name ≡ (base_of_names filter.old).ghost_name }
+    ensures counted { IfOk result (λ _. CountsWorkspace (graph_of graph.entry) (base_of_names filter.old).now.asked (base_of_names filter.new).now.asked) }
+{
+    graph.query_workspace(alloc, filter)
+}
+
+/// The query of the workspace's bases and of the features of these ids.
 fn by_ids<'g>(
     alloc: Global,
     graph: FeatureGraph<'g>,
     ids: &[FeatureId<'g>],
     base: &mut CountedBases,
-) -> Result<FeatureQuery<'g>, Error<'g>>
-    ensures { IfOk result (λ _. CountsWorkspace (graph_of graph.entry) base.old.asked base.new.asked) }
-{
+) -> Result<FeatureQuery<'g>, Error<'g>> {
     let mut filter = feature_id_filter(alloc, base, ids)?;
-    graph.query_workspace(alloc, &mut filter)
+    select_by_ids(alloc, graph, &mut filter)
+}
+
+/// Selects by `filter`, whose base stays the same reference.
+fn select_by_ids<'g, 'a>(
+    alloc: Global,
+    graph: FeatureGraph<'g>,
+    filter: &mut FeatureIdFilter<'a, &mut CountedBases>,
+) -> Result<FeatureQuery<'g>, Error<'g>>
+    ensures same_reference { (base_of_ids filter.new).ghost_name ≡ (base_of_ids filter.old).ghost_name }
+    ensures counted { IfOk result (λ _. CountsWorkspace (graph_of graph.entry) (base_of_ids filter.old).now.asked (base_of_ids filter.new).now.asked) }
+{
+    graph.query_workspace(alloc, filter)
 }
 
 /// What is selected by names.

@@ -93,10 +93,24 @@ pub fn by_loan<'g>(
         ↔ Least (query_content query.entry) (has query.entry.initials) (by_links is_shipped query.entry.graph) n) }
     ensures counted { IfOk result (λ _. CountsRun is_shipped query.entry visitor.old.calls visitor.new.calls) }
 {
+    let mut lent = visitor;
+    resolve_lent(alloc, query, &mut lent)
+}
+
+/// Resolves `query` with `lent`, which stays the same reference.
+fn resolve_lent<'g>(
+    alloc: Global,
+    query: FeatureQuery<'g>,
+    lent: &mut &mut Shipped,
+) -> Result<FeatureSet<'g>, Error<'g>>
+    ensures same_reference { lent.new.ghost_name ≡ lent.old.ghost_name }
+    ensures least { IfOk result (λ set. (n : ℕ) → IsTrue (has set.members n)
+        ↔ Least (query_content query.entry) (has query.entry.initials) (by_links is_shipped query.entry.graph) n) }
+    ensures counted { IfOk result (λ _. CountsRun is_shipped query.entry lent.old.now.calls lent.new.now.calls) }
+{
     laws::visitor_agrees_by_answer::<&mut Shipped>();
     laws::lent_visitor_stays::<Shipped>();
-    let mut lent = visitor;
-    query.resolve_with(alloc, &mut lent)
+    query.resolve_with(alloc, lent)
 }
 
 /// The same by a closure, which is a visitor without a name.
