@@ -22,27 +22,27 @@ A file of cases has, line by line:
     steps NODES        (of `build`) what is printed explains these nodes, with spaces between, in steps that judge_build.py finds
                        right, whichever they are
 
-For a program of calls (surface_calls, layer_calls, graph_calls, explained_calls) the word FILE stands for the path alone, and LAST for that of the
+For a program of calls (surface_calls, layer_calls, graph_calls) the word FILE stands for the path alone, and LAST for that of the
 row file before. Such a case has also:
 
     < CALL             a line of standard input, which the program repeats. The word FORM in it stands for each of the four
                        forms of visitors and filters, and BY, EDGES, OVER and ANY for each of the words below: the case runs as
                        often, and must print the same
     or                 other lines may be printed after the last call, in place of those above: they follow
-    each DIRECTION     (of graph_calls and explained_calls, with no other call) walks in this direction from each two nodes, by
+    each DIRECTION     (of graph_calls and surface_calls, with no other call) walks in this direction from each two nodes, by
                        each of four rules
     answers N DIRECTION NODES
                        (the same) a walk from these nodes for each set of accepted offers; there are N complete runs of offers
                        with these answers in all, of which what was offered is one, and all have the result of the walk
     edits DIRECTION IDS
-                       (of explained_calls, with no other call) checks of explanations from these features, and of each small
+                       (of surface_calls, with no other call) checks of explanations from these features, and of each small
                        change of them: a step left out, repeated, in another place, or by another reason; another refused link
     platforms DIRECTION SPECS
                        (the same) what each platform has of these specs, from each two features
 
 Lines that begin with '- ' are what a visitor was asked. Those that stand together may come in any order; in the order in
 which they came they must be a run of offers by the rules (judge.py). What a walk read, and what is printed after a call of
-`each`, `answers`, `edits` and `platforms`, is left to the judge alone; so are, where a case of explained_calls has none of
+`each`, `answers`, `edits` and `platforms`, is left to the judge alone; so are, where a case explains and has none of
 them, the lines that begin with `step ` or `refused ` (judge_explained.py). The programs of the names `judge` and
 `judge_build` are judge.py and judge_build.py, whose standard input is the row file.
 """
@@ -67,7 +67,8 @@ FORMS = {b'FORM': ('generic', 'lent', 'boxed', 'closure'), b'BY': ('generic', 'l
 RULES = ('all', 'none', 'alternate', 'first 2')
 # The same rules, by places of calls.
 PLACES = ('all', 'none', f'only {0x5555555555555555}', 'only 3')
-# What begins lines of explained_calls that may be left to the judge.
+# The calls that explain or check explanations, and what begins lines that may be left to the judge.
+EXPLAINED = ('check', 'check-exact', 'platform', 'explain', 'checked', 'shown', 'same')
 STEPS = (b'step ', b'refused ')
 SECONDS = 60
 
@@ -109,8 +110,14 @@ class Case:
     def has_calls(self):
         return self.program.endswith('_calls')
 
+    def is_explained(self):
+        """Whether it explains or checks explanations."""
+        return self.program == 'surface_calls' and any(call.split(':')[0].split(' ')[0] in EXPLAINED for call in self.calls)
+
     def outs(self):
-        """The texts that may be printed."""
+        """The texts that may be printed: none if standard output takes nothing."""
+        if self.given in ('closed stdout', 'full stdout'):
+            return [b'']
         if self.of_file:
             return [content(self.of_file)]
         return [''.join(f'{line}\n' for line in lines).encode() for lines in self.printed]
@@ -125,7 +132,7 @@ class Case:
         self.is_judged = True
         graph = judge.Graph(self.rows)
         nodes = range(len(graph.nodes))
-        if self.program == 'explained_calls':
+        if self.program == 'surface_calls':
             for rule, node, other in itertools.product(PLACES, map(graph.text, nodes), map(graph.text, nodes)):
                 self.add_call(f'checked {direction} BY {rule}: {node} {other}')
                 self.add_call(f'same {direction} BY {rule}: {node} {other}')
@@ -267,17 +274,17 @@ class Run:
         if not self.case.has_calls():
             return printed
         unseen = (b'read ', b'reads ') if self.case.program == 'graph_calls' else ()
-        if self.case.program == 'explained_calls' and not any(it.startswith(STEPS) for it in wanted.split(b'\n')):
+        if self.case.is_explained() and not any(it.startswith(STEPS) for it in wanted.split(b'\n')):
             unseen = STEPS
         lines = [it for it in printed.split(b'\n') if not it.startswith(unseen) and (it[:2] == b'< ' or not self.case.is_judged)]
         return sorted_runs(b'\n'.join(lines))
 
     def fault_of_offers(self, lines):
         """Why what a visitor was asked isn't a run by the rules, or None."""
+        if self.case.is_explained():
+            return judge_explained.fault_of(self.case.rows, lines)
         if self.case.program == 'surface_calls':
             return judge.fault_of(self.case.rows, lines)
-        if self.case.program == 'explained_calls':
-            return judge_explained.fault_of(self.case.rows, lines)
         if self.case.program != 'graph_calls':
             return None
         fault = judge.fault_of_walks(self.case.rows, lines)

@@ -1,7 +1,7 @@
 #!/usr/bin/env python3
 """What the rules say of a run of offers, by plain functions over paths.
 
-`fault_of(rows, printed)` looks at what surface_calls printed over a row file, and judges each run of offers in it: each
+`fault_of(rows, printed)` looks at what the other calls of surface_calls printed over a row file, and judges each run of offers in it: each
 line that begins with '- ' is an offer with its answer, in the order in which the visitor was asked. `fault_of_walks` does so
 with graph_calls, where an offer is the number of an edge and a letter: F for its full link, R and O for the halves of a weak
 edge.

@@ -1,6 +1,6 @@
 """What the rules say of explanations by ids, by plain functions over steps.
 
-`fault_of(rows, printed)` looks at what explained_calls printed over a row file: the runs of offers (judge.py), the steps, the
+`fault_of(rows, printed)` looks at what the calls of surface_calls that explain printed over a row file: the runs of offers (judge.py), the steps, the
 refused links, and the answers of checks. A step is a node and a reason, as a text: `initial`, `edge FROM TO`, or
 `link FROM TO DECLARATIONS`; a refused link is a text, `FROM TO DECLARATIONS`.
 """

@@ -21,7 +21,7 @@ pub struct Start<'s> {
 }
 
 /// Tells whether the steps are an explanation.
-fn tell_check(out: Out, start: Start<'_>, steps: &[Step]) -> Result<(), Failure>
+fn tell_check(out: &Out, start: Start<'_>, steps: &[Step]) -> Result<(), Failure>
     requires { length start.initials.now ≡ length start.built.now.packages }
 {
     match check_steps(
@@ -40,7 +40,7 @@ fn tell_check(out: Out, start: Start<'_>, steps: &[Step]) -> Result<(), Failure>
 
 /// Tells whether the steps are an exact explanation.
 fn tell_exact(
-    out: Out,
+    out: &Out,
     start: Start<'_>,
     steps: &[Step],
     refused: &[(usize, Half)],
@@ -62,28 +62,16 @@ fn tell_exact(
     Ok(())
 }
 
-/// Checks steps: the direction and the initial nodes, and the steps.
-pub fn check(
-    out: Out,
-    alloc: Global,
-    built: &FeatureGraphData,
-    words: &str,
-) -> Result<(), Failure> {
-    let (options, steps) = halves(words, ";")?;
-    let (direction, nodes) = cut(options);
-    let initials = initials_of(alloc, built, nodes)?;
-    let steps = steps_of(alloc, steps)?;
-    let start = Start {
-        alloc,
-        built,
-        direction: direction_of(direction),
-        initials: &initials,
-    };
+/// Checks steps.
+fn check_from(out: &Out, start: Start<'_>, words: &str) -> Result<(), Failure>
+    requires { length start.initials.now ≡ length start.built.now.packages }
+{
+    let steps = steps_of(start.alloc, words)?;
     tell_check(out, start, &steps)
 }
 
 /// Checks steps and refused offers.
-fn check_exact_from(out: Out, start: Start<'_>, words: &str) -> Result<(), Failure>
+fn check_exact_from(out: &Out, start: Start<'_>, words: &str) -> Result<(), Failure>
     requires { length start.initials.now ≡ length start.built.now.packages }
 {
     let (steps, refused) = halves(words, ";")?;
@@ -92,28 +80,9 @@ fn check_exact_from(out: Out, start: Start<'_>, words: &str) -> Result<(), Failu
     tell_exact(out, start, &steps, &refused)
 }
 
-/// Checks steps for exactness: the direction and the initial nodes, the steps, and the refused offers.
-pub fn check_exact(
-    out: Out,
-    alloc: Global,
-    built: &FeatureGraphData,
-    words: &str,
-) -> Result<(), Failure> {
-    let (options, rest) = halves(words, ";")?;
-    let (direction, nodes) = cut(options);
-    let initials = initials_of(alloc, built, nodes)?;
-    let start = Start {
-        alloc,
-        built,
-        direction: direction_of(direction),
-        initials: &initials,
-    };
-    check_exact_from(out, start, rest)
-}
-
 /// Tells the steps on which a node rests: the direction and the node, and the steps.
 pub fn tell_why(
-    out: Out,
+    out: &Out,
     alloc: Global,
     built: &FeatureGraphData,
     words: &str,
@@ -154,35 +123,66 @@ fn is_why(start: Start<'_>, steps: &[Step], node: usize) -> Result<bool, Failure
     }
 }
 
-/// Walks, and checks what explains the walk, and of each node of its steps whether those on which it rests explain it.
-fn check_walk_from(out: Out, start: Start<'_>, offerer: &mut Asked<'_>) -> Result<(), Failure>
+/// Tells whether the steps on which a node rests explain it.
+fn tell_is_why(out: &Out, start: Start<'_>, steps: &[Step], node: usize) -> Result<(), Failure>
     requires { length start.initials.now ≡ length start.built.now.packages }
 {
-    let mut source = Packed::new(start.built, start.direction);
-    let Ok((_, steps, refused)) = walk_explained(start.alloc, &mut source, start.initials, offerer)
-    else {
-        return Err(Failure::Memory);
-    };
-    tell_check(out, start, &steps)?;
-    tell_exact(out, start, &steps, &refused)?;
-    for step in &steps {
-        let explained = is_why(start, &steps, step.node)?;
-        out.number("- why ", step.node);
-        out.answer(" ", explained);
-        out.line("");
+    let explained = is_why(start, steps, node)?;
+    out.number("- why ", node);
+    out.answer_line(" ", explained);
+    Ok(())
+}
+
+/// Checks what explains a walk, and of each node of its steps whether those on which it rests explain it.
+fn tell_walked(
+    out: &Out,
+    start: Start<'_>,
+    steps: &[Step],
+    refused: &[(usize, Half)],
+) -> Result<(), Failure>
+    requires { length start.initials.now ≡ length start.built.now.packages }
+{
+    tell_check(out, start, steps)?;
+    tell_exact(out, start, steps, refused)?;
+    for step in steps {
+        tell_is_why(out, start, steps, step.node)?;
     }
     Ok(())
 }
 
-/// Walks from nodes, and checks what explains the walk: the direction and the rule of its answers, and the nodes.
-pub fn check_walk(
-    out: Out,
+/// Walks by a rule, and checks what explains the walk.
+fn check_walk_from(out: &Out, start: Start<'_>, rule: &str) -> Result<(), Failure>
+    requires { length start.initials.now ≡ length start.built.now.packages }
+{
+    let mut offerer = Asked {
+        rule: Rule::of(rule),
+        count: 0,
+        out,
+    };
+    let mut source = Packed::new(start.built, start.direction);
+    match walk_explained(start.alloc, &mut source, start.initials, &mut offerer) {
+        Ok((_, steps, refused)) => tell_walked(out, start, &steps, &refused),
+        Err(_) => Err(Failure::Memory),
+    }
+}
+
+/// Checks steps, for exactness too, or what explains a walk, by the name of the call. The words are the direction, then the
+/// initial nodes and the steps, or the rule of the walk and the initial nodes.
+pub fn check(
+    out: &Out,
     alloc: Global,
     built: &FeatureGraphData,
+    name: &str,
     words: &str,
 ) -> Result<(), Failure> {
-    let (options, nodes) = halves(words, ";")?;
-    let (direction, rule) = cut(options);
+    let (options, rest) = halves(words, ";")?;
+    let (direction, others) = cut(options);
+    let is_walk = name == "check-walk";
+    let (nodes, words) = if is_walk {
+        (rest, others)
+    } else {
+        (others, rest)
+    };
     let initials = initials_of(alloc, built, nodes)?;
     let start = Start {
         alloc,
@@ -190,10 +190,9 @@ pub fn check_walk(
         direction: direction_of(direction),
         initials: &initials,
     };
-    let mut offerer = Asked {
-        rule: Rule::of(rule),
-        count: 0,
-        out,
-    };
-    check_walk_from(out, start, &mut offerer)
+    match name {
+        "check" => check_from(out, start, words),
+        "check-exact" => check_exact_from(out, start, words),
+        _ => check_walk_from(out, start, words),
+    }
 }

@@ -6,7 +6,7 @@ use guppy_vectors::Out;
 use std::alloc::{AllocError, Global};
 
 /// Tells a status after a text: `always`, `never`, or the specs.
-fn tell_status(out: Out, before: &str, status: PlatformStatus<'_>) {
+fn tell_status(out: &Out, before: &str, status: PlatformStatus<'_>) {
     out.part(before);
     match status {
         PlatformStatus::Never => out.part("never"),
@@ -22,7 +22,7 @@ fn tell_status(out: Out, before: &str, status: PlatformStatus<'_>) {
 }
 
 /// Tells which declarations a link covers, where for each kind, and the numbers of its package links.
-fn tell_link(out: Out, before: &str, link: &ConditionalLinkImpl) {
+fn tell_link(out: &Out, before: &str, link: &ConditionalLinkImpl) {
     out.part(before);
     out.part(match link.declarations() {
         LinkDeclarations::Unsplit => "unsplit",
@@ -40,7 +40,7 @@ fn tell_link(out: Out, before: &str, link: &ConditionalLinkImpl) {
 }
 
 /// Tells the link of a half, or `none`.
-fn tell_half(out: Out, half: &EnabledLink) {
+fn tell_half(out: &Out, half: &EnabledLink) {
     match half.get() {
         Some(link) => tell_link(out, "; ", link),
         None => out.part("; none"),
@@ -48,7 +48,7 @@ fn tell_half(out: Out, half: &EnabledLink) {
 }
 
 /// Tells what an edge says. Of a weak one this is its index, its full link and the halves.
-pub fn tell_edge(out: Out, edge: &FeatureEdge) {
+pub fn tell_edge(out: &Out, edge: &FeatureEdge) {
     match edge {
         FeatureEdge::FeatureToBase => out.part("base"),
         FeatureEdge::NamedFeature => out.part("feature"),

@@ -11,7 +11,7 @@ use guppy_vectors::{Failure, Out, label_of, parts};
 use std::alloc::{AllocError, Global};
 
 /// Tells a place or `none`, after a text.
-fn tell_place(out: Out, before: &str, place: Option<usize>) {
+fn tell_place(out: &Out, before: &str, place: Option<usize>) {
     match place {
         Some(place) => out.number(before, place),
         None => out.text(before, "none"),
@@ -20,7 +20,7 @@ fn tell_place(out: Out, before: &str, place: Option<usize>) {
 }
 
 /// Tells the stamp, how many nodes and edges there are, and the first edge whose link is present for no kind.
-pub fn figures(out: Out, built: &FeatureGraphData) -> Result<(), Failure> {
+pub fn figures(out: &Out, built: &FeatureGraphData) -> Result<(), Failure> {
     out.part("stamp ");
     out.shown(built.stamp());
     out.number(", nodes ", built.node_count());
@@ -31,24 +31,43 @@ pub fn figures(out: Out, built: &FeatureGraphData) -> Result<(), Failure> {
 
 /// Tells whether the graph is built from other packages.
 pub fn built_from(
-    out: Out,
+    out: &Out,
     alloc: Global,
     built: &FeatureGraphData,
     other: &PackageGraph,
 ) -> Result<(), Failure> {
     match built.is_built_from(alloc, other) {
         Ok(answer) => {
-            out.answer("", answer);
-            out.line("");
+            out.answer_line("", answer);
             Ok(())
         }
         Err(_) => Err(Failure::Memory),
     }
 }
 
+/// Tells the node of a feature.
+fn tell_node(
+    out: &Out,
+    alloc: Global,
+    graph: &PackageGraph,
+    built: &FeatureGraphData,
+    word: &str,
+) -> Result<(), Failure>
+    requires { IsBuilt graph.now built.now }
+{
+    let (package, label) = parts(word);
+    let package = PackageId::new(alloc, package)?;
+    tell_place(
+        out,
+        "",
+        built.node(graph, FeatureId::new(&package, label_of(label))),
+    );
+    Ok(())
+}
+
 /// Tells the nodes of features.
 pub fn nodes(
-    out: Out,
+    out: &Out,
     alloc: Global,
     graph: &PackageGraph,
     built: &FeatureGraphData,
@@ -57,17 +76,14 @@ pub fn nodes(
     requires { IsBuilt graph.now built.now }
 {
     for word in words.split_whitespace() {
-        let (package, label) = parts(word);
-        let package = PackageId::new(alloc, package)?;
-        let id = FeatureId::new(&package, label_of(label));
-        tell_place(out, "", built.node(graph, id));
+        tell_node(out, alloc, graph, built, word)?;
     }
     Ok(())
 }
 
 /// Tells the ids of the nodes in one line, or of those alone that are on by default, with `?` where an id doesn't lead back to
 /// its node.
-fn tell_nodes(out: Out, graph: &PackageGraph, built: &FeatureGraphData, defaults: bool)
+fn tell_nodes(out: &Out, graph: &PackageGraph, built: &FeatureGraphData, defaults: bool)
     requires { IsBuilt graph.now built.now }
 {
     out.part(if defaults { "defaults" } else { "nodes" });
@@ -82,7 +98,7 @@ fn tell_nodes(out: Out, graph: &PackageGraph, built: &FeatureGraphData, defaults
 }
 
 /// Tells the ends of an edge, with `?` where the digraph has others.
-fn tell_ends(out: Out, built: &FeatureGraphData, number: usize)
+fn tell_ends(out: &Out, built: &FeatureGraphData, number: usize)
     requires { number < length built.now.edges }
 {
     let (from, to, _) = built.edge(number);
@@ -95,7 +111,7 @@ fn tell_ends(out: Out, built: &FeatureGraphData, number: usize)
 
 /// Tells an edge in a line, or an equal one, with `dev-only` where the digraph marks it so.
 fn tell_line(
-    out: Out,
+    out: &Out,
     alloc: Global,
     built: &FeatureGraphData,
     number: usize,
@@ -118,7 +134,7 @@ fn tell_line(
 }
 
 /// Tells the weak links, one a line.
-fn tell_weak_links(out: Out, built: &FeatureGraphData) {
+fn tell_weak_links(out: &Out, built: &FeatureGraphData) {
     for (number, (link, gate)) in built.weak_links().iter().enumerate() {
         out.number("weak(", number);
         out.number(") link=", *link);
@@ -128,7 +144,7 @@ fn tell_weak_links(out: Out, built: &FeatureGraphData) {
 }
 
 /// Tells a warning.
-fn tell_warning(out: Out, warning: &FeatureGraphWarning) {
+fn tell_warning(out: &Out, warning: &FeatureGraphWarning) {
     let (word, package_id, feature_name) = match warning {
         FeatureGraphWarning::MissingFeature {
             package_id,
@@ -144,7 +160,7 @@ fn tell_warning(out: Out, warning: &FeatureGraphWarning) {
 }
 
 /// Tells the warnings, one a line, with `again` where an earlier one is equal.
-fn tell_warnings(out: Out, warnings: &[FeatureGraphWarning]) {
+fn tell_warnings(out: &Out, warnings: &[FeatureGraphWarning]) {
     for (place, warning) in warnings.iter().enumerate() {
         tell_warning(out, warning);
         let mut is_again = false;
@@ -157,7 +173,7 @@ fn tell_warnings(out: Out, warnings: &[FeatureGraphWarning]) {
 
 /// Tells the nodes, edges, weak links, warnings and defaults that are built of the package graph, or equal edges.
 pub fn edges(
-    out: Out,
+    out: &Out,
     alloc: Global,
     graph: &PackageGraph,
     built: &FeatureGraphData,

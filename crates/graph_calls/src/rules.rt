@@ -68,7 +68,7 @@ impl<'a> Rule<'a> {
 pub struct Asked<'a> {
     pub rule: Rule<'a>,
     pub count: usize,
-    pub out: Out,
+    pub out: &'a Out,
 }
 
 impl Offerer for Asked<'_> {

@@ -52,7 +52,7 @@ pub fn offers_of(alloc: Global, words: &str) -> Result<Vec<(usize, Half)>, Failu
 }
 
 /// Tells steps in a line, as a script has them.
-pub fn tell_script(out: Out, steps: &[Step]) {
+pub fn tell_script(out: &Out, steps: &[Step]) {
     let mut between = "";
     for step in steps {
         out.number(between, step.node);
@@ -70,7 +70,7 @@ pub fn tell_script(out: Out, steps: &[Step]) {
 }
 
 /// Tells why each member is one, and the offers that were refused, a line each.
-pub fn tell_steps(out: Out, steps: &[Step], refused: &[(usize, Half)]) {
+pub fn tell_steps(out: &Out, steps: &[Step], refused: &[(usize, Half)]) {
     for step in steps {
         out.number("- ", step.node);
         match step.reason {

@@ -6,11 +6,14 @@ use crate::listed::edges_listed;
 use crate::rules::{Asked, Rule};
 use crate::steps::tell_steps;
 use crate::watched::Watched;
-use feature_core::engine::{walk_explained, walk_over};
-use feature_core::{EdgeChoice, FeatureGraphData, Packed, walk, walk_all};
+use feature_core::engine::{Half, Step, Walk, walk_explained, walk_over};
+use feature_core::{EdgeChoice, Error, FeatureGraphData, Packed, walk, walk_all};
 use guppy_support::IxBitSet;
 use guppy_vectors::{Failure, Out, cut, direction_of, halves, insert};
 use std::alloc::Global;
+
+/// A walk, why each member is one, and the offers that were refused.
+type Explained = (Walk, Vec<Step>, Vec<(usize, Half)>);
 
 /// The set of the nodes of a text.
 pub fn initials_of(
@@ -30,7 +33,7 @@ pub fn initials_of(
 }
 
 /// Tells the numbers of a set.
-fn tell_members(out: Out, set: &IxBitSet) {
+fn tell_members(out: &Out, set: &IxBitSet) {
     out.part("members");
     for node in set.ones() {
         out.number(" ", node);
@@ -39,86 +42,105 @@ fn tell_members(out: Out, set: &IxBitSet) {
 }
 
 /// Tells how many reads there were.
-fn tell_reads(out: Out, reads: u128) {
+fn tell_reads(out: &Out, reads: u128) {
     out.part("reads ");
     out.shown(reads);
     out.line("");
 }
 
+/// Tells a walk.
+fn tell_walk(out: &Out, walk: Result<Walk, Error<'_>>) -> Result<(), Failure> {
+    match walk {
+        Ok(walk) => {
+            tell_members(out, &walk.members);
+            Ok(())
+        }
+        Err(_) => Err(Failure::Memory),
+    }
+}
+
 /// Walks over the graph.
-fn over_graph(out: Out, start: Start<'_>, offerer: &mut Asked<'_>) -> Result<(), Failure>
+fn over_graph(out: &Out, start: Start<'_>, offerer: &mut Asked<'_>) -> Result<(), Failure>
     requires { length start.initials.now ≡ length start.built.now.packages }
 {
-    let Ok(walk) = walk(
-        start.alloc,
-        start.built,
-        start.direction,
-        start.initials,
-        offerer,
-    ) else {
-        return Err(Failure::Memory);
-    };
-    tell_members(out, &walk.members);
-    Ok(())
+    tell_walk(
+        out,
+        walk(
+            start.alloc,
+            start.built,
+            start.direction,
+            start.initials,
+            offerer,
+        ),
+    )
 }
 
 /// Walks over the graph as a source that writes down its reads.
-fn over_source(out: Out, start: Start<'_>, offerer: &mut Asked<'_>) -> Result<(), Failure>
+fn over_source(out: &Out, start: Start<'_>, offerer: &mut Asked<'_>) -> Result<(), Failure>
     requires { length start.initials.now ≡ length start.built.now.packages }
 {
     let mut source = Watched {
         source: Packed::new(start.built, start.direction),
-        out,
+        out: out.another(),
     };
-    let Ok(walk) = walk_over(start.alloc, &mut source, start.initials, offerer) else {
-        return Err(Failure::Memory);
-    };
-    tell_members(out, &walk.members);
+    let walk = walk_over(start.alloc, &mut source, start.initials, offerer);
+    out.join(&source.out);
+    tell_walk(out, walk)?;
     tell_reads(out, source.source.reads());
     Ok(())
 }
 
 /// Walks over a list of the edges, as a source that writes down its reads.
-fn over_list(out: Out, start: Start<'_>, offerer: &mut Asked<'_>) -> Result<(), Failure>
+fn over_list(out: &Out, start: Start<'_>, offerer: &mut Asked<'_>) -> Result<(), Failure>
     requires { length start.initials.now ≡ length start.built.now.packages }
 {
     let Some(source) = edges_listed(start.alloc, start.built, start.direction)? else {
         return Err(Failure::Words);
     };
-    let mut source = Watched { source, out };
-    let Ok(walk) = walk_over(start.alloc, &mut source, start.initials, offerer) else {
-        return Err(Failure::Memory);
+    let mut source = Watched {
+        source,
+        out: out.another(),
     };
-    tell_members(out, &walk.members);
+    let walk = walk_over(start.alloc, &mut source, start.initials, offerer);
+    out.join(&source.out);
+    tell_walk(out, walk)?;
     tell_reads(out, source.source.reads());
     Ok(())
 }
 
+/// Tells an explained walk, with the number of its reads.
+fn tell_explained(
+    out: &Out,
+    walk: Result<Explained, Error<'_>>,
+    reads: u128,
+) -> Result<(), Failure> {
+    match walk {
+        Ok((walk, steps, refused)) => {
+            tell_members(out, &walk.members);
+            tell_steps(out, &steps, &refused);
+            tell_reads(out, reads);
+            Ok(())
+        }
+        Err(_) => Err(Failure::Memory),
+    }
+}
+
 /// Walks over the graph as a source that writes down its reads, and tells why each member is one, and the offers that were refused.
-fn explained(out: Out, start: Start<'_>, offerer: &mut Asked<'_>) -> Result<(), Failure>
+fn explained(out: &Out, start: Start<'_>, offerer: &mut Asked<'_>) -> Result<(), Failure>
     requires { length start.initials.now ≡ length start.built.now.packages }
 {
     let mut source = Watched {
         source: Packed::new(start.built, start.direction),
-        out,
+        out: out.another(),
     };
-    let Ok((walk, steps, refused)) = walk_explained(
-        start.alloc,
-        &mut source,
-        start.initials,
-        offerer,
-    ) else {
-        return Err(Failure::Memory);
-    };
-    tell_members(out, &walk.members);
-    tell_steps(out, &steps, &refused);
-    tell_reads(out, source.source.reads());
-    Ok(())
+    let walk = walk_explained(start.alloc, &mut source, start.initials, offerer);
+    out.join(&source.out);
+    tell_explained(out, walk, source.source.reads())
 }
 
 /// Makes a walk from nodes: how, its direction, and the rule of its answers.
 pub fn walk_from(
-    out: Out,
+    out: &Out,
     alloc: Global,
     built: &FeatureGraphData,
     words: &str,
@@ -147,9 +169,25 @@ pub fn walk_from(
     }
 }
 
+/// Tells a set, or how many nodes it has.
+fn tell_reached(out: &Out, told: &str, set: Result<IxBitSet, Error<'_>>) -> Result<(), Failure> {
+    match set {
+        Ok(set) if told == "count" => {
+            out.number("", set.count());
+            out.line("");
+            Ok(())
+        }
+        Ok(set) => {
+            tell_members(out, &set);
+            Ok(())
+        }
+        Err(_) => Err(Failure::Memory),
+    }
+}
+
 /// Tells what is reached from nodes, or how many nodes are: what is told, the direction, and the edges.
 pub fn reach(
-    out: Out,
+    out: &Out,
     alloc: Global,
     built: &FeatureGraphData,
     words: &str,
@@ -157,19 +195,12 @@ pub fn reach(
     let (options, nodes) = halves(words, ": ")?;
     let (told, options) = cut(options);
     let (direction, which) = cut(options);
-    let initials = initials_of(alloc, built, nodes)?;
     let choice = if which == "inside" {
         EdgeChoice::FeatureToBaseAndNamed
     } else {
         EdgeChoice::All
     };
-    match walk_all(alloc, built, direction_of(direction), &initials, choice) {
-        Ok(set) if told == "count" => {
-            out.number("", set.count());
-            out.line("");
-        }
-        Ok(set) => tell_members(out, &set),
-        Err(_) => return Err(Failure::Memory),
-    }
-    Ok(())
+    let initials = initials_of(alloc, built, nodes)?;
+    let set = walk_all(alloc, built, direction_of(direction), &initials, choice);
+    tell_reached(out, told, set)
 }

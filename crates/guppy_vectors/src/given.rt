@@ -1,5 +1,6 @@
 //! The features that words name.
-use crate::words::{label_of, parts};
+use crate::failure::Failure;
+use crate::words::{FromWord, label_of, parts};
 use feature_labels::{FeatureId, FeatureLabel};
 use guppy_packages::PackageId;
 use std::alloc::{AllocError, Global};
@@ -16,23 +17,17 @@ pub struct Given<'a> {
 /// The words that are left of a call.
 pub type Words<'a> = slice::Iter<'a, Given<'a>>;
 
-/// Returns a word with its feature.
-fn given_of(alloc: Global, word: &str) -> Result<Given<'_>, AllocError> {
-    let (package, label) = parts(word);
-    Ok(Given {
-        word,
-        package_id: PackageId::new(alloc, package)?,
-        label: label_of(label),
-    })
-}
-
-/// Returns the words of `text`, without a comma at their ends.
-pub fn given_in(alloc: Global, text: &str) -> Result<Vec<Given<'_>>, AllocError> {
-    let mut given = Vec::new(alloc);
-    for word in text.split_whitespace() {
-        given.push(given_of(alloc, word.strip_suffix(',').unwrap_or(word))?)?;
+impl<'a> FromWord<'a> for Given<'a> {
+    /// A comma at the end of a word is no part of it.
+    fn from_word(alloc: Global, word: &'a str) -> Result<Given<'a>, Failure> {
+        let word = word.strip_suffix(',').unwrap_or(word);
+        let (package, label) = parts(word);
+        Ok(Given {
+            word,
+            package_id: PackageId::new(alloc, package)?,
+            label: label_of(label),
+        })
     }
-    Ok(given)
 }
 
 /// Returns the id that the next word names; none at the end and at a semicolon.

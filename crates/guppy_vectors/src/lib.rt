@@ -5,13 +5,13 @@
 mod failure;
 mod files;
 mod given;
-mod items;
+mod numbers;
 mod out;
 mod words;
 
 pub use failure::Failure;
 pub use files::{bytes_of, package_graph, script};
-pub use given::{Given, Words, given_in, ids_of, next_id};
-pub use items::{insert, tell_end};
+pub use given::{Given, Words, ids_of, next_id};
+pub use numbers::insert;
 pub use out::Out;
-pub use words::{cut, direction_of, halves, label_of, number, parts, words_of};
+pub use words::{FromWord, all_of, cut, direction_of, halves, label_of, number, parts};

@@ -5,7 +5,7 @@ use guppy_vectors::{Failure, Out, cut};
 use std::alloc::Global;
 
 /// Makes the call of a line.
-fn make_call(out: Out, alloc: Global, graph: &PackageGraph, line: &str) -> Result<(), Failure> {
+fn make_call(out: &Out, alloc: Global, graph: &PackageGraph, line: &str) -> Result<(), Failure> {
     let (name, words) = cut(line);
     match name {
         "graph" => packages::graph(out, graph),
@@ -31,7 +31,7 @@ fn make_call(out: Out, alloc: Global, graph: &PackageGraph, line: &str) -> Resul
 }
 
 /// Makes the calls of a script, in order.
-pub fn make_calls(out: Out, alloc: Global, graph: &PackageGraph, script: &str) {
+pub fn make_calls(out: &Out, alloc: Global, graph: &PackageGraph, script: &str) {
     for line in script.lines() {
         out.text("< ", line);
         out.line("");

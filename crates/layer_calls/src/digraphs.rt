@@ -1,37 +1,17 @@
 //! Calls on digraphs and their orders.
 use digraph_orders::Order;
 use guppy_support::{Digraph, DigraphError, Edge};
-use guppy_vectors::{Failure, Out, cut, halves, number};
+use guppy_vectors::{Failure, Out, all_of, cut, number};
 use std::alloc::Global;
 
-/// The edge of a word: `1>0`, or `1~0` where it is dev-only.
-fn edge_of(word: &str) -> Result<Edge, Failure> {
-    let non_dev = word.contains('>');
-    let (from, to) = halves(word, if non_dev { ">" } else { "~" })?;
-    Ok(Edge {
-        from: number(from)?,
-        to: number(to)?,
-        non_dev,
-    })
-}
-
-/// The edges of a text.
-fn edges_of(alloc: Global, words: &str) -> Result<Vec<Edge>, Failure> {
-    let mut edges = Vec::new(alloc);
-    for word in words.split_whitespace() {
-        edges.push(edge_of(word)?)?;
-    }
-    Ok(edges)
-}
-
 /// The edge as a word.
-fn tell_edge(out: Out, edge: Edge) {
+fn tell_edge(out: &Out, edge: Edge) {
     out.number(" ", edge.from);
     out.number(if edge.non_dev { ">" } else { "~" }, edge.to);
 }
 
 /// What a digraph holds.
-fn tell_digraph(out: Out, graph: &Digraph) {
+fn tell_digraph(out: &Out, graph: &Digraph) {
     out.number("", graph.node_count());
     out.number(" nodes, ", graph.edge_count());
     out.part(" edges:");
@@ -42,14 +22,14 @@ fn tell_digraph(out: Out, graph: &Digraph) {
 }
 
 /// How many nodes an order has, and how many components.
-fn tell_counts(out: Out, order: &Order) {
+fn tell_counts(out: &Out, order: &Order) {
     out.number("", order.list().len());
     out.number(" in ", order.component_count());
     out.part(" components");
 }
 
 /// The nodes in order, each with its component.
-fn tell_order(out: Out, order: &Order) {
+fn tell_order(out: &Out, order: &Order) {
     order.facts();
     tell_counts(out, order);
     out.part(":");
@@ -63,7 +43,7 @@ fn tell_order(out: Out, order: &Order) {
 }
 
 /// The numbers of a node's edges, out of it and into it.
-fn tell_edges_at(out: Out, graph: &Digraph, node: usize) {
+fn tell_edges_at(out: &Out, graph: &Digraph, node: usize) {
     if node < graph.node_count() {
         out.number("", node);
         out.part(": out");
@@ -78,7 +58,7 @@ fn tell_edges_at(out: Out, graph: &Digraph, node: usize) {
 }
 
 /// A node's place, and the nodes of its component.
-fn tell_place(out: Out, order: &Order, node: usize) {
+fn tell_place(out: &Out, order: &Order, node: usize) {
     order.facts();
     if node < order.list().len() {
         out.number(", at ", order.place(node));
@@ -91,7 +71,7 @@ fn tell_place(out: Out, order: &Order, node: usize) {
 }
 
 /// The edge between two nodes, with its number.
-fn tell_between(out: Out, graph: &Digraph, from: usize, to: usize) {
+fn tell_between(out: &Out, graph: &Digraph, from: usize, to: usize) {
     if let Some(number) = graph.edge_between(from, to) {
         tell_edge(out, graph.edge(number));
         out.number("=", number);
@@ -99,7 +79,7 @@ fn tell_between(out: Out, graph: &Digraph, from: usize, to: usize) {
 }
 
 /// Two nodes that are in one component.
-fn tell_same(out: Out, order: &Order, one: usize, other: usize) {
+fn tell_same(out: &Out, order: &Order, one: usize, other: usize) {
     order.facts();
     if one < order.list().len() && other < order.list().len() && order.is_same(one, other) {
         out.number(" ", one);
@@ -108,7 +88,7 @@ fn tell_same(out: Out, order: &Order, one: usize, other: usize) {
 }
 
 /// The edges between each node and each other, and the pairs that are in one component.
-fn tell_pairs(out: Out, graph: &Digraph, order: &Order) {
+fn tell_pairs(out: &Out, graph: &Digraph, order: &Order) {
     let nodes = graph.node_count();
     out.part("edges:");
     for from in 0..nodes {
@@ -126,7 +106,7 @@ fn tell_pairs(out: Out, graph: &Digraph, order: &Order) {
 }
 
 /// What a digraph and its order say, by the name of the call.
-fn tell(out: Out, name: &str, graph: &Digraph, order: &Order) {
+fn tell(out: &Out, name: &str, graph: &Digraph, order: &Order) {
     match name {
         "nodes" => {
             for node in 0..graph.node_count() {
@@ -145,7 +125,7 @@ fn tell(out: Out, name: &str, graph: &Digraph, order: &Order) {
 }
 
 /// What the digraph of so many nodes and these edges and its order say, or why there is no digraph.
-fn tell_given(out: Out, alloc: Global, name: &str, nodes: usize, edges: &[Edge]) {
+fn tell_given(out: &Out, alloc: Global, name: &str, nodes: usize, edges: &[Edge]) {
     match Digraph::new(alloc, nodes, edges) {
         Ok(graph) => {
             match Order::new(alloc, &graph) {
@@ -162,10 +142,10 @@ fn tell_given(out: Out, alloc: Global, name: &str, nodes: usize, edges: &[Edge])
 }
 
 /// Makes a call on the digraph of so many nodes and these edges.
-pub fn given(out: Out, alloc: Global, name: &str, words: &str) -> Result<(), Failure> {
+pub fn given(out: &Out, alloc: Global, name: &str, words: &str) -> Result<(), Failure> {
     let (nodes, listed) = cut(words);
     let nodes = number(nodes)?;
-    let edges = edges_of(alloc, listed)?;
+    let edges = all_of(alloc, listed)?;
     tell_given(out, alloc, name, nodes, &edges);
     Ok(())
 }
@@ -201,7 +181,7 @@ fn push_shape(edges: &mut Vec<Edge>, shape: &str, nodes: usize) -> Result<(), Fa
 }
 
 /// The counts of an order, and the last node's component.
-fn tell_last(out: Out, order: &Order) {
+fn tell_last(out: &Out, order: &Order) {
     order.facts();
     tell_counts(out, order);
     let nodes = order.list().len();
@@ -212,7 +192,7 @@ fn tell_last(out: Out, order: &Order) {
 }
 
 /// Makes a call on a digraph that is too large for a script, of a shape and so many nodes.
-pub fn large(out: Out, alloc: Global, words: &str) -> Result<(), Failure> {
+pub fn large(out: &Out, alloc: Global, words: &str) -> Result<(), Failure> {
     let (shape, nodes) = cut(words);
     let nodes = number(nodes)?;
     let mut edges = Vec::new(alloc);

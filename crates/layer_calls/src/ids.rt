@@ -16,19 +16,18 @@ fn constructed<'g>(package: &'g PackageId, label: FeatureLabel<'g>) -> FeatureId
 }
 
 /// An id and its kinds, and whether its parts make it again.
-fn tell_id(out: Out, id: FeatureId<'_>) {
+fn tell_id(out: &Out, id: FeatureId<'_>) {
     let package = id.package_id();
     out.shown(id);
     out.part_if(id.is_base(), ", base");
     out.part_if(id.is_named(), ", named");
     out.part_if(id.is_optional_dependency(), ", optional");
     out.answer(", again ", constructed(package, id.label()) == id);
-    out.answer(" ", FeatureId::from((package, id.label())) == id);
-    out.line("");
+    out.answer_line(" ", FeatureId::from((package, id.label())) == id);
 }
 
 /// The id of a package and a label.
-pub fn id(out: Out, alloc: Global, word: &str) -> Result<(), Failure> {
+pub fn id(out: &Out, alloc: Global, word: &str) -> Result<(), Failure> {
     let (package, label) = parts(word);
     let package = PackageId::new(alloc, package)?;
     tell_id(out, FeatureId::new(&package, label_of(label)));
@@ -43,17 +42,16 @@ fn hash_of(id: FeatureId<'_>) -> u64 {
 }
 
 /// How two ids compare, and whether they are equal and hash alike.
-fn tell_compared(out: Out, id: FeatureId<'_>, other: FeatureId<'_>) {
+fn tell_compared(out: &Out, id: FeatureId<'_>, other: FeatureId<'_>) {
     out.shown(id);
     out.text(sign(id.cmp(&other)), " ");
     out.shown(other);
     out.answer(", equal ", id == other);
-    out.answer(", alike ", hash_of(id) == hash_of(other));
-    out.line("");
+    out.answer_line(", alike ", hash_of(id) == hash_of(other));
 }
 
 /// How two ids compare.
-pub fn compare(out: Out, alloc: Global, words: &str) -> Result<(), Failure> {
+pub fn compare(out: &Out, alloc: Global, words: &str) -> Result<(), Failure> {
     let (word, other) = words.split_once(' ').unwrap_or((words, words));
     let (id, label) = parts(word);
     let (other_id, other_label) = parts(other);
@@ -68,7 +66,7 @@ pub fn compare(out: Out, alloc: Global, words: &str) -> Result<(), Failure> {
 }
 
 /// Which declarations each kind of link covers.
-pub fn covered(out: Out) -> Result<(), Failure> {
+pub fn covered(out: &Out) -> Result<(), Failure> {
     for link in [
         LinkDeclarations::Unsplit,
         LinkDeclarations::Required,
@@ -76,8 +74,7 @@ pub fn covered(out: Out) -> Result<(), Failure> {
     ] {
         out.debug(link);
         out.answer(": required ", link.includes_required());
-        out.answer(", optional ", link.includes_optional());
-        out.line("");
+        out.answer_line(", optional ", link.includes_optional());
     }
     Ok(())
 }

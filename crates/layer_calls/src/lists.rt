@@ -3,7 +3,7 @@ ghost use Rattle.std.specs.Iterator.{IsFinite};
 
 use feature_labels::{FeatureLabel, FeatureList};
 use guppy_packages::{PackageGraph, PackageMetadata, Row};
-use guppy_vectors::{Failure, Out, cut, halves, label_of};
+use guppy_vectors::{Failure, Out, all_of, cut, halves, label_of};
 use std::alloc::Global;
 
 /// The package of this id.
@@ -17,15 +17,6 @@ fn package_of<'g>(graph: &'g PackageGraph, id: &str) -> Result<PackageMetadata<'
     Err(Failure::Words)
 }
 
-/// The labels of a text.
-fn labels_of(alloc: Global, words: &str) -> Result<Vec<FeatureLabel<'_>>, Failure> {
-    let mut labels = Vec::new(alloc);
-    for word in words.split_whitespace() {
-        labels.push(label_of(word))?;
-    }
-    Ok(labels)
-}
-
 /// The list of a text, which has the package's id and labels.
 fn list_of<'g>(
     alloc: Global,
@@ -34,12 +25,12 @@ fn list_of<'g>(
 ) -> Result<FeatureList<'g>, Failure> {
     let (id, labels) = cut(words);
     let package = package_of(graph, id)?;
-    let labels = labels_of(alloc, labels)?;
+    let labels = all_of::<FeatureLabel<'g>>(alloc, labels)?;
     Ok(FeatureList::new(alloc, package, &labels)?)
 }
 
 /// What a list prints, the names of its named features and of its optional dependencies, and its ids.
-fn tell_list(out: Out, list: &FeatureList<'_>) {
+fn tell_list(out: &Out, list: &FeatureList<'_>) {
     let package = list.package();
     out.number("package ", package.package_ix());
     out.text(" ", package.id().repr());
@@ -58,7 +49,7 @@ fn tell_list(out: Out, list: &FeatureList<'_>) {
 }
 
 /// How many names are left of an iterator, by its bounds, and the names.
-fn tell_names<'a, I: Iterator<Item = &'a str>>(out: Out, before: &str, names: I)
+fn tell_names<'a, I: Iterator<Item = &'a str>>(out: &Out, before: &str, names: I)
     requires can { I.can_next names }
     requires ends { IsFinite (I.remaining names) }
 {
@@ -71,7 +62,7 @@ fn tell_names<'a, I: Iterator<Item = &'a str>>(out: Out, before: &str, names: I)
 }
 
 /// A list's copy.
-fn tell_copy(out: Out, alloc: Global, list: &FeatureList<'_>) -> Result<(), Failure> {
+fn tell_copy(out: &Out, alloc: Global, list: &FeatureList<'_>) -> Result<(), Failure> {
     let copy = list.try_clone(alloc)?;
     out.answer("copy ", copy == *list);
     out.number(", labels ", copy.into_labels().len());
@@ -80,7 +71,7 @@ fn tell_copy(out: Out, alloc: Global, list: &FeatureList<'_>) -> Result<(), Fail
 }
 
 /// What is left of a list that is given up, id by id.
-fn tell_rest(out: Out, list: FeatureList<'_>) {
+fn tell_rest(out: &Out, list: FeatureList<'_>) {
     let mut ids = list.into_iter();
     out.number("left ", ids.len());
     out.part(" ");
@@ -94,7 +85,7 @@ fn tell_rest(out: Out, list: FeatureList<'_>) {
 }
 
 /// All that a list says.
-pub fn list(out: Out, alloc: Global, graph: &PackageGraph, words: &str) -> Result<(), Failure> {
+pub fn list(out: &Out, alloc: Global, graph: &PackageGraph, words: &str) -> Result<(), Failure> {
     let list = list_of(alloc, graph, words)?;
     tell_list(out, &list);
     tell_copy(out, alloc, &list)?;
@@ -112,16 +103,20 @@ fn has(list: &FeatureList<'_>, label: FeatureLabel<'_>) -> bool {
 }
 
 /// Whether a list holds each of some labels, asked in two ways.
-pub fn held(out: Out, alloc: Global, graph: &PackageGraph, words: &str) -> Result<(), Failure> {
-    let (words, asked) = halves(words, ": ")?;
-    let list = list_of(alloc, graph, words)?;
+fn tell_held(out: &Out, list: &FeatureList<'_>, asked: &str) {
     for word in asked.split_whitespace() {
         let label = label_of(word);
         out.shown(label);
         out.answer(" ", list.contains(label));
-        out.answer(" ", has(&list, label));
-        out.line("");
+        out.answer_line(" ", has(list, label));
     }
+}
+
+/// Whether a list holds each of some labels.
+pub fn held(out: &Out, alloc: Global, graph: &PackageGraph, words: &str) -> Result<(), Failure> {
+    let (words, asked) = halves(words, ": ")?;
+    let list = list_of(alloc, graph, words)?;
+    tell_held(out, &list, asked);
     Ok(())
 }
 
@@ -139,23 +134,34 @@ fn turned_rows(alloc: Global, graph: &PackageGraph) -> Result<Vec<Row<'_>>, Fail
 
 /// Whether a list is equal to that of a text, which may be over another graph.
 fn tell_equal(
-    out: Out,
+    out: &Out,
     alloc: Global,
     list: &FeatureList<'_>,
     graph: &PackageGraph,
     words: &str,
 ) -> Result<(), Failure> {
     let other = list_of(alloc, graph, words)?;
-    out.answer("", *list == other);
-    out.line("");
+    out.answer_line("", *list == other);
     Ok(())
 }
 
+/// Whether a list is equal to that of a text over a graph with the same packages in another order.
+fn tell_turned(
+    out: &Out,
+    alloc: Global,
+    list: &FeatureList<'_>,
+    graph: &PackageGraph,
+    words: &str,
+) -> Result<(), Failure> {
+    let rows = turned_rows(alloc, graph)?;
+    let turned = PackageGraph::from_rows(alloc, &rows)?;
+    tell_equal(out, alloc, list, &turned, words)
+}
+
 /// Whether two lists are equal, over one graph, and where the second is over another graph with the same packages.
-pub fn equal(out: Out, alloc: Global, graph: &PackageGraph, words: &str) -> Result<(), Failure> {
+pub fn equal(out: &Out, alloc: Global, graph: &PackageGraph, words: &str) -> Result<(), Failure> {
     let (words, other) = halves(words, ": ")?;
     let list = list_of(alloc, graph, words)?;
     tell_equal(out, alloc, &list, graph, other)?;
-    let turned = PackageGraph::from_rows(alloc, &turned_rows(alloc, graph)?)?;
-    tell_equal(out, alloc, &list, &turned, other)
+    tell_turned(out, alloc, &list, graph, other)
 }

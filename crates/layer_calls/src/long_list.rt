@@ -24,7 +24,7 @@ fn labels_of(alloc: Global, names: &[String]) -> Result<Vec<FeatureLabel<'_>>, F
 
 /// How many labels a list has, and the first of the names that doesn't stand in their order, isn't found in the list as a
 /// feature or is found as an optional dependency.
-fn tell_found(out: Out, list: &FeatureList<'_>, names: &[String]) {
+fn tell_found(out: &Out, list: &FeatureList<'_>, names: &[String]) {
     out.number("", list.labels().len());
     for (name, label) in names.iter().zip(list.labels()) {
         if *label != FeatureLabel::Named(name.as_str())
@@ -38,7 +38,7 @@ fn tell_found(out: Out, list: &FeatureList<'_>, names: &[String]) {
 }
 
 /// The list of these names, handed over from the last to the first.
-fn tell(out: Out, alloc: Global, graph: &PackageGraph, names: &[String]) -> Result<(), Failure> {
+fn tell(out: &Out, alloc: Global, graph: &PackageGraph, names: &[String]) -> Result<(), Failure> {
     if graph.package_count() == 0 {
         return Err(Failure::Words);
     }
@@ -49,7 +49,12 @@ fn tell(out: Out, alloc: Global, graph: &PackageGraph, names: &[String]) -> Resu
 }
 
 /// The list of the first package with as many features as a number says.
-pub fn long_list(out: Out, alloc: Global, graph: &PackageGraph, word: &str) -> Result<(), Failure> {
+pub fn long_list(
+    out: &Out,
+    alloc: Global,
+    graph: &PackageGraph,
+    word: &str,
+) -> Result<(), Failure> {
     let names = names_below(alloc, number(word)?)?;
     tell(out, alloc, graph, &names)
 }

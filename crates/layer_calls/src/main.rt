@@ -30,16 +30,22 @@ fn graph_of(alloc: Global, bytes: &[u8]) -> Result<PackageGraph, Failure> {
     Ok(PackageGraph::from_source(alloc, &rows)?)
 }
 
-/// Makes the calls of standard input.
-fn answer(rt: &HostRuntime, out: Out) -> Result<(), Failure> {
-    let graph = graph_of(rt.alloc(), &bytes_of(rt, 1)?)?;
-    let script = script(rt)?;
-    make_calls(out, rt.alloc(), &graph, script.as_str());
+/// Makes the calls of a script over a row file's bytes.
+fn answer_over(out: &Out, alloc: Global, bytes: &[u8], script: &str) -> Result<(), Failure> {
+    let graph = graph_of(alloc, bytes)?;
+    make_calls(out, alloc, &graph, script);
     Ok(())
+}
+
+/// Makes the calls of standard input.
+fn answer(rt: &HostRuntime, out: &Out) -> Result<(), Failure> {
+    let script = script(rt)?;
+    let bytes = bytes_of(rt, 1)?;
+    answer_over(out, rt.alloc(), &bytes, script.as_str())
 }
 
 fn main(rt: HostRuntime) -> ExitCode {
     let out = Out::new(rt.stdout());
-    let made = answer(&rt, out);
+    let made = answer(&rt, &out);
     out.ended(made)
 }

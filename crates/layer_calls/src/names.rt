@@ -1,11 +1,11 @@
 //! Calls on the texts of items and on package ids.
 use guppy_packages::{NamedFeatureDep, PackageId};
-use guppy_vectors::{Failure, Out};
+use guppy_vectors::{Failure, Out, all_of};
 use std::alloc::Global;
 use std::cmp::Ordering;
 
 /// What the text of an item means. Names stand in brackets.
-pub fn item(out: Out, text: &str) -> Result<(), Failure> {
+pub fn item(out: &Out, text: &str) -> Result<(), Failure> {
     match NamedFeatureDep::from_cargo_string(text) {
         NamedFeatureDep::NamedFeature(name) => out.text("feature [", name),
         NamedFeatureDep::OptionalDependency(name) => out.text("dependency [", name),
@@ -32,17 +32,8 @@ pub fn sign(order: Ordering) -> &'static str {
     }
 }
 
-/// The package ids of a text; two quotes stand for no text.
-fn ids_of(alloc: Global, words: &str) -> Result<Vec<PackageId>, Failure> {
-    let mut ids = Vec::new(alloc);
-    for word in words.split(' ') {
-        ids.push(PackageId::new(alloc, if word == "''" { "" } else { word })?)?;
-    }
-    Ok(ids)
-}
-
 /// How an id compares with each, and whether its copy is equal to it.
-fn tell_id(out: Out, alloc: Global, id: &PackageId, ids: &[PackageId]) {
+fn tell_id(out: &Out, alloc: Global, id: &PackageId, ids: &[PackageId]) {
     out.text(id.repr(), ":");
     for other in ids {
         out.part(sign(id.cmp(other)));
@@ -56,8 +47,8 @@ fn tell_id(out: Out, alloc: Global, id: &PackageId, ids: &[PackageId]) {
 }
 
 /// How each of some package ids compares with each, and whether its copy is equal to it.
-pub fn package_ids(out: Out, alloc: Global, words: &str) -> Result<(), Failure> {
-    let ids = ids_of(alloc, words)?;
+pub fn package_ids(out: &Out, alloc: Global, words: &str) -> Result<(), Failure> {
+    let ids = all_of::<PackageId>(alloc, words)?;
     for id in &ids {
         tell_id(out, alloc, id, &ids);
     }

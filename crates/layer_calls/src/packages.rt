@@ -1,13 +1,13 @@
 //! Calls on package graphs and platform statuses.
 use guppy_packages::{
     Declaration, NamedFeature, PackageGraph, PackageId, PackageLink, PackageMetadata,
-    PlatformStatus, PlatformStatusImpl, Spec,
+    PlatformStatus, PlatformStatusImpl,
 };
-use guppy_vectors::{Failure, Out, cut};
+use guppy_vectors::{Failure, Out, all_of, cut};
 use std::alloc::Global;
 
 /// A text that stands before a place, and the place or `none`.
-fn tell_place(out: Out, before: &str, place: Option<usize>) {
+fn tell_place(out: &Out, before: &str, place: Option<usize>) {
     match place {
         Some(place) => out.number(before, place),
         None => out.text(before, "none"),
@@ -15,7 +15,7 @@ fn tell_place(out: Out, before: &str, place: Option<usize>) {
 }
 
 /// A named feature and its items.
-fn tell_feature(out: Out, package: PackageMetadata<'_>, feature: &NamedFeature) {
+fn tell_feature(out: &Out, package: PackageMetadata<'_>, feature: &NamedFeature) {
     out.text("feature ", feature.name());
     tell_place(out, " at ", package.feature_place(feature.name()));
     out.part(":");
@@ -26,7 +26,7 @@ fn tell_feature(out: Out, package: PackageMetadata<'_>, feature: &NamedFeature) 
 }
 
 /// What a package says of itself.
-fn tell_facts(out: Out, package: PackageMetadata<'_>) {
+fn tell_facts(out: &Out, package: PackageMetadata<'_>) {
     out.number("package ", package.package_ix());
     out.text(" ", package.id().repr());
     out.part(if package.in_workspace() {
@@ -42,7 +42,7 @@ fn tell_facts(out: Out, package: PackageMetadata<'_>) {
 }
 
 /// A package, its features and its optional names.
-fn tell_package(out: Out, package: PackageMetadata<'_>) {
+fn tell_package(out: &Out, package: PackageMetadata<'_>) {
     tell_facts(out, package);
     for feature in package.named_features() {
         tell_feature(out, package, feature);
@@ -55,7 +55,7 @@ fn tell_package(out: Out, package: PackageMetadata<'_>) {
 }
 
 /// A status, with the answers to its three questions.
-fn tell_status(out: Out, status: PlatformStatus<'_>) {
+fn tell_status(out: &Out, status: PlatformStatus<'_>) {
     match status {
         PlatformStatus::Never => out.part("nowhere"),
         PlatformStatus::Always => out.part("everywhere"),
@@ -72,7 +72,7 @@ fn tell_status(out: Out, status: PlatformStatus<'_>) {
 }
 
 /// A declaration of a link.
-fn tell_declaration(out: Out, declaration: &Declaration) {
+fn tell_declaration(out: &Out, declaration: &Declaration) {
     out.debug(declaration.kind());
     out.part(if declaration.optional() {
         ", optional, "
@@ -88,7 +88,7 @@ fn tell_declaration(out: Out, declaration: &Declaration) {
 }
 
 /// A link and its declarations.
-fn tell_link(out: Out, link: PackageLink<'_>) {
+fn tell_link(out: &Out, link: PackageLink<'_>) {
     let (from, to) = (link.from(), link.to());
     out.number("link ", link.link_ix());
     out.number(" ", from.package_ix());
@@ -103,7 +103,7 @@ fn tell_link(out: Out, link: PackageLink<'_>) {
 }
 
 /// All that a graph says, a line for each package, feature, optional name, link and declaration.
-pub fn graph(out: Out, graph: &PackageGraph) -> Result<(), Failure> {
+pub fn graph(out: &Out, graph: &PackageGraph) -> Result<(), Failure> {
     for ix in 0..graph.package_count() {
         tell_package(out, graph.package(ix));
     }
@@ -114,7 +114,7 @@ pub fn graph(out: Out, graph: &PackageGraph) -> Result<(), Failure> {
 }
 
 /// Looks a package up, and a name in it: its places among the features and among the optional names.
-pub fn place(out: Out, alloc: Global, graph: &PackageGraph, words: &str) -> Result<(), Failure> {
+pub fn place(out: &Out, alloc: Global, graph: &PackageGraph, words: &str) -> Result<(), Failure> {
     let (id, name) = cut(words);
     let id = PackageId::new(alloc, id)?;
     match graph.metadata(&id) {
@@ -131,7 +131,7 @@ pub fn place(out: Out, alloc: Global, graph: &PackageGraph, words: &str) -> Resu
 }
 
 /// A status that owns its specs, and its copy.
-fn tell_owned(out: Out, alloc: Global, status: &PlatformStatusImpl) -> Result<(), Failure> {
+fn tell_owned(out: &Out, alloc: Global, status: &PlatformStatusImpl) -> Result<(), Failure> {
     tell_status(out, PlatformStatus::new(status));
     out.line("");
     let copy = status.try_clone(alloc)?;
@@ -141,22 +141,16 @@ fn tell_owned(out: Out, alloc: Global, status: &PlatformStatusImpl) -> Result<()
     Ok(())
 }
 
-/// The specs of a text.
-fn specs_of(alloc: Global, words: &str) -> Result<Vec<Spec>, Failure> {
-    let mut specs = Vec::new(alloc);
-    for word in words.split_whitespace() {
-        specs.push(Spec::new(alloc, word)?)?;
-    }
-    Ok(specs)
-}
-
 /// The status everywhere.
-pub fn always(out: Out, alloc: Global) -> Result<(), Failure> {
+pub fn always(out: &Out, alloc: Global) -> Result<(), Failure> {
     tell_owned(out, alloc, &PlatformStatusImpl::Always)
 }
 
 /// The status on the platforms of some specs.
-pub fn specs(out: Out, alloc: Global, words: &str) -> Result<(), Failure> {
-    let specs = specs_of(alloc, words)?;
-    tell_owned(out, alloc, &PlatformStatusImpl::Specs(specs))
+pub fn specs(out: &Out, alloc: Global, words: &str) -> Result<(), Failure> {
+    tell_owned(
+        out,
+        alloc,
+        &PlatformStatusImpl::Specs(all_of(alloc, words)?),
+    )
 }

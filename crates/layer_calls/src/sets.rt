@@ -12,7 +12,7 @@ fn set_of(alloc: Global, words: &str) -> Result<IxBitSet, Failure> {
 }
 
 /// A set's numbers, counted twice, and its bound.
-fn tell(out: Out, name: &str, set: &IxBitSet) {
+fn tell(out: &Out, name: &str, set: &IxBitSet) {
     out.part(name);
     out.number(": ", set.count());
     out.number(", ", set.ones().len());
@@ -25,7 +25,7 @@ fn tell(out: Out, name: &str, set: &IxBitSet) {
 }
 
 /// A set that a call made.
-fn tell_made(out: Out, name: &str, set: Result<IxBitSet, AllocError>) {
+fn tell_made(out: &Out, name: &str, set: Result<IxBitSet, AllocError>) {
     match set {
         Ok(set) => tell(out, name, &set),
         Err(_) => out.failure(Failure::Memory),
@@ -33,7 +33,7 @@ fn tell_made(out: Out, name: &str, set: Result<IxBitSet, AllocError>) {
 }
 
 /// What the operations give of two sets.
-fn tell_operations(out: Out, alloc: Global, low: &IxBitSet, high: &IxBitSet) {
+fn tell_operations(out: &Out, alloc: Global, low: &IxBitSet, high: &IxBitSet) {
     if low.size() == high.size() {
         tell_made(out, "union", low.union(alloc, high));
         tell_made(out, "intersection", low.intersection(alloc, high));
@@ -44,7 +44,7 @@ fn tell_operations(out: Out, alloc: Global, low: &IxBitSet, high: &IxBitSet) {
 }
 
 /// Two sets, after the operations on them.
-pub fn sets(out: Out, alloc: Global, words: &str) -> Result<(), Failure> {
+pub fn sets(out: &Out, alloc: Global, words: &str) -> Result<(), Failure> {
     let (low, high) = halves(words, ": ")?;
     let low = set_of(alloc, low)?;
     let high = set_of(alloc, high)?;
@@ -55,15 +55,14 @@ pub fn sets(out: Out, alloc: Global, words: &str) -> Result<(), Failure> {
 }
 
 /// How two sets compare.
-fn tell_equal(out: Out, one: &IxBitSet, other: &IxBitSet) {
+fn tell_equal(out: &Out, one: &IxBitSet, other: &IxBitSet) {
     out.answer("equal ", one == other);
     out.answer(", unequal ", one != other);
-    out.answer(", identical ", one.is_identical(other));
-    out.line("");
+    out.answer_line(", identical ", one.is_identical(other));
 }
 
 /// How two sets compare, and then the first one's copy with it.
-pub fn equal(out: Out, alloc: Global, words: &str) -> Result<(), Failure> {
+pub fn equal(out: &Out, alloc: Global, words: &str) -> Result<(), Failure> {
     let (one, other) = halves(words, ": ")?;
     let one = set_of(alloc, one)?;
     tell_equal(out, &one, &set_of(alloc, other)?);
@@ -72,7 +71,7 @@ pub fn equal(out: Out, alloc: Global, words: &str) -> Result<(), Failure> {
 }
 
 /// The count of a set of all numbers below a bound, and whether it has the last.
-pub fn full(out: Out, alloc: Global, words: &str) -> Result<(), Failure> {
+pub fn full(out: &Out, alloc: Global, words: &str) -> Result<(), Failure> {
     let size = number(words)?;
     let set = IxBitSet::full(alloc, size)?;
     out.number("", set.count());
