@@ -1,5 +1,5 @@
 -- Filters that count: a run of questions, and the count behind a reference.
-use Rattle.std.proofs.Common.{◌≡◌, ◌∙◌, ◌+◌, ◌-◌, ◌^◌, ◌<◌, ◌≤◌, ℕ, suc, Bool, List, [], ◌∷◌, length, map, sym, ap, subst, arith}
+use Rattle.std.proofs.Common.{◌≡◌, ◌∙◌, ◌+◌, ◌-◌, ◌^◌, ◌≤◌, ℕ, suc, Bool, List, [], ◌∷◌, length, sym, ap, subst, arith}
 use Rattle.std.specs.Prelude.{min, IfOk, IfErr, Result, Ok, Err}
 use Rattle.std.proofs.Math.Nat.{min-eq_left}
 use Rattle.std.proofs.lemmas.List.{length-map}

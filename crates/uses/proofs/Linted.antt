@@ -1,6 +1,6 @@
 -- Features that a linter names, and those that are off.
-use Rattle.std.proofs.Common.{◌≡◌, ◌+◌, ◌<◌, ◌++◌, ◌∷◌, [], ℕ, zero, suc, Bool, List, Some, length, take, get_or, refl, sym, subst, inl, inr}
-use Rattle.std.specs.Prelude.{◌↔◌, All, IsTrue, IsFalse, slice_get}
+use Rattle.std.proofs.Common.{◌≡◌, ◌+◌, ◌<◌, ◌++◌, ◌∷◌, [], ℕ, zero, suc, Bool, List, length, take, get_or, refl, sym, subst, inl, inr}
+use Rattle.std.specs.Prelude.{◌↔◌, All, IsTrue, IsFalse}
 use Rattle.std.proofs.lemmas.List.Elements.{All-more}
 use Rattle.std.proofs.lemmas.Option.{none-some}
 use Rattle.guppy_features.specs.guppy_support.Bits.{has}

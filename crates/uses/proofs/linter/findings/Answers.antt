@@ -1,10 +1,10 @@
-use Rattle.std.proofs.Common.{◌≡◌, ◌∙◌, ◌+◌, ◌++◌, ◌∷◌, [], ap, map, take, length, get_or, refl, sym, subst, inl, inr, arith}
+use Rattle.std.proofs.Common.{◌≡◌, ◌∙◌, ◌+◌, ◌++◌, ◌∷◌, [], ap, map, take, sym, subst, inl, inr, arith}
 use Rattle.std.proofs.lemmas.List.{map-append, take_all}
 use Rattle.std.proofs.lemmas.Option.{MatchOption-at_none, MatchOption-at_some}
 use Rattle.guppy_features.specs.feature_labels.Names.{id_of}
 use Rattle.guppy_features.specs.Platforms.{platform_offers}
 use Rattle.guppy_features.specs.PlatformViews.{kinds_of, specs_of}
-use Rattle.guppy_features.specs.feature_sets.Values.{Graph, Set}
+use Rattle.guppy_features.specs.feature_sets.Values.{Set}
 use Rattle.uses.specs.Linted.{IsCleared, IsNamed, finding_name}
 use Rattle.uses.proofs.Linted.{AreCleared, cleared_more, named_grows, named_last, off}
 use Rattle.uses.proofs.linter.findings.Goals as goal
