@@ -1,6 +1,6 @@
 //! Reads the text of an expression to its end.
 ghost use Rattle.std.specs.Prelude.{◌≡◌, IfOk, ◌≤◌, IfErr, IfSome, MatchOption, length};
-ghost use Rattle.platform_specs.specs.Positions.{Stopped, ReadAll, SpelledBy, IsUnread, platform_step};
+ghost use Rattle.platform_specs.specs.inner.Positions.{Stopped, ReadAll, SpelledBy, IsUnread, platform_step};
 ghost use Rattle.platform_specs.specs.Grammar.{is_in_platform};
 
 use crate::expression_reader::{ExpressionReader, Stage, Unread};
