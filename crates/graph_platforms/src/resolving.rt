@@ -10,7 +10,7 @@ ghost use Rattle.graph_platforms.specs.PlatformLinks.{IsOnFor};
 ghost use Rattle.graph_platforms.specs.SpecFaults.{IsFaultOf};
 
 use crate::fault::PlatformFault;
-use crate::held_specs::held_specs;
+use crate::held_texts::held_specs;
 use guppy_features::{DependencyKind, Explained, FeatureQuery, PlatformVisitor};
 use platform_specs::TargetCfg;
 use std::alloc::Global;

@@ -8,8 +8,8 @@ ghost use Rattle.graph_platforms.specs.DeclaredSpecs.{spec_texts};
 ghost use Rattle.graph_platforms.specs.HeldSpecs.{AreHeld};
 ghost use Rattle.graph_platforms.specs.SpecFaults.{IsFaultAt, IsFaultOf};
 
-use crate::declared_specs::declared_specs;
 use crate::fault::PlatformFault;
+use crate::spec_texts::declared_specs;
 use guppy_packages::PackageGraph;
 use platform_specs::{PlatformSpec, SpecFault, TargetCfg};
 use std::alloc::Global;

@@ -5,7 +5,7 @@ use Rattle.guppy_packages.specs.Graph.{firsts}
 use Rattle.guppy_packages.specs.Rows.{Text}
 use Rattle.guppy_packages.specs.Stored.{declared}
 use Rattle.graph_platforms.specs.inner.TextSets.{texts_in}
-use Rattle.graph_platforms.proofs.declared_specs.insert_link.Given as goal
+use Rattle.graph_platforms.proofs.spec_texts.insert_link.Given as goal
 
 abbrev pub invariant-loop-declaration : goal.invariant-loop-declaration
 invariant-loop-declaration l = (before : List Text) → texts_in l.initial.set ≡ firsts bytes_eq before

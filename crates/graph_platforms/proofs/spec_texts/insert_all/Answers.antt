@@ -1,6 +1,6 @@
 use Rattle.std.proofs.Common.{◌<◌, length, arith}
 use Rattle.feature_links.proofs.StatusLemmas.{inserted_spec}
-use Rattle.graph_platforms.proofs.declared_specs.insert_all.Goals as goal
+use Rattle.graph_platforms.proofs.spec_texts.insert_all.Goals as goal
 
 pub loop-spec-preserved : goal.loop-spec-preserved
 loop-spec-preserved c before h =
