@@ -20,7 +20,8 @@ one_more (x ∷ xs) p b done all l is closes h =
 pub parts-preserved : goal.parts-preserved
 parts-preserved g c = λ plain.
     let (done, whole, wrote) = c.parts.invariant plain in
-    let one = c.in_ok-write_part.ensures wrote.plain (refl {a = true}) in
-    (done ++ part_text c.part-item.result c.is_closed.result,
-    one_more c.parts.rest.now c.part-item.result c.is_closed.result done _ c.in-len1-up.len_at_least c.part-item.is c.is_closed.ensures whole,
-    has_written_append _ _ _ _ _ _ wrote one)
+    let one = c.in_ok-write_part.ensures wrote.plain (refl {a = true}) in (
+      done ++ part_text c.part-item.result c.is_closed.result,
+      one_more c.parts.rest.now c.part-item.result c.is_closed.result done _ c.in-len1-up.len_at_least c.part-item.is c.is_closed.ensures whole,
+      has_written_append _ _ _ _ _ _ wrote one,
+    )
