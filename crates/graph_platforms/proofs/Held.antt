@@ -1,11 +1,12 @@
 -- The texts that hold, one by one, and as members.
-use Rattle.std.proofs.Common.{◌≡◌, ℕ, zero, suc, ◌+◌, ◌⊎◌, ⊎_elim, List, [], ◌∷◌, ◌++◌, Bool, true, false, map, take, drop, Some, refl, ap, sym, ◌∙◌, subst, if◌then◌else◌}
-use Rattle.std.specs.Prelude.{Contains, IsTrue, slice_get}
+use Rattle.std.proofs.Common.{◌≡◌, ℕ, zero, suc, ⊎_elim, List, [], ◌∷◌, ◌++◌, Bool, true, false, map, take, drop, Some, refl, ap, sym, ◌∙◌, subst, if◌then◌else◌}
+use Rattle.std.specs.Prelude.{Contains, slice_get}
 use Rattle.std.specs.Borrow.{Bor}
 use Rattle.std.specs.Str.{chars}
 use Rattle.std.proofs.lemmas.List.{map-append}
 use Rattle.guppy_packages.specs.Rows.{Text}
 use Rattle.platform_specs.specs.Expressions.{Spec, Target}
+use Rattle.platform_specs.specs.Faults.{IsMalformedAt}
 use Rattle.platform_specs.specs.Grammar.{IsSpecText}
 use Rattle.platform_specs.specs.Truth.{truth_of}
 use Rattle.platform_specs.proofs.SpecTexts.{one_spec}
@@ -50,24 +51,23 @@ fault_at target texts held i text (Malformed spec at) e h (same, malformed) = re
       ∙ map-append (λ (t : Bor (List ℕ)). t.now) (take i texts) (text ∷ drop (suc i) texts)
       ∙ ap (λ z. map (λ (t : Bor (List ℕ)). t.now) (take i texts) ++ z ∷ map (λ (t : Bor (List ℕ)). t.now) (drop (suc i) texts)) (sym same);
   spelled = held_spell target (map (λ t. t.now) (take i texts)) held h;
-  malformed = subst (λ z. _) (sym same) malformed;
+  malformed = subst (λ z. IsMalformedAt z at) (sym same) malformed;
 }
 fault_at target texts held i text Memory e h f = tt
 
 -- a text that is listed is one of the texts, and holds
 pub held_from : (target : Target) (texts held : List Text) → AreHeld target texts held → (x : Text) → Contains held x → Contains texts x × Holds target x
 held_from target [] held h x i = absurd (Contains-none x (subst (λ z. Contains z x) h i))
-held_from target (first ∷ others) held (m, rest, q, more, is) x i = go (truth_of target m) refl is
+held_from target (first ∷ others) held (m, rest, q, more, is) x i =
+    go (truth_of target m) refl is (λ j. let r = held_from target others rest more x j in (Contains-later first others x r.0, r.1))
   where
-    later : Contains rest x → Contains (first ∷ others) x × Holds target x
-    later j = let r = held_from target others rest more x j in (Contains-later first others x r.0, r.1)
-
-    go : (b : Bool) → truth_of target m ≡ b → held ≡ (if b then first ∷ rest else rest) → Contains (first ∷ others) x × Holds target x
-    go true e k = ⊎_elim
+    go : (b : Bool) → truth_of target m ≡ b → held ≡ (if b then first ∷ rest else rest) → (Contains rest x → Contains (first ∷ others) x × Holds target x)
+        → Contains (first ∷ others) x × Holds target x
+    go true e k later = ⊎_elim
         (λ s. (subst (λ z. Contains (first ∷ others) z) s (Contains-first first others), subst (λ z. Holds target z) s (m, q, e)))
         later
         (Contains-cases first rest x (subst (λ z. Contains z x) k i))
-    go false e k = later (subst (λ z. Contains z x) k i)
+    go false e k later = later (subst (λ z. Contains z x) k i)
 
 -- one of the texts that holds is listed
 pub held_into : (target : Target) (texts held : List Text) → AreHeld target texts held → (x : Text) → Contains texts x → Holds target x → Contains held x

@@ -1,29 +1,34 @@
 -- The offers of the texts that hold are those of the platform.
-use Rattle.std.proofs.Common.{◌≡◌, ℕ, List, [], ◌∷◌, Bool, true, false, Option, None, Some, refl, ap, sym, ◌∙◌, subst}
-use Rattle.std.specs.Prelude.{slice_get, Contains, IsTrue}
+use Rattle.std.proofs.Common.{◌≡◌, ℕ, List, Bool, false, Option, None, Some, refl, ap, sym, ◌∙◌, subst}
+use Rattle.std.specs.Prelude.{◌↔◌, Contains, IsTrue}
+use Rattle.guppy_support.specs.Bits.{has}
 use Rattle.std.specs.List.{list_any}
 use Rattle.std.specs.Option.{option_map_or}
 use Rattle.std.specs.Str.{bytes_eq}
 use Rattle.guppy_packages.specs.Platform.{Status, never_status, always_status, spec_status}
 use Rattle.guppy_packages.specs.Rows.{Text}
-use Rattle.guppy_packages.specs.Tables.{has_name}
 use Rattle.guppy_packages.specs.declared.row.DependencyKind.{DependencyKind}
-use Rattle.walk_engine.specs.declared.walks.Half.{Half}
+use Rattle.walk_engine.specs.Explanations.{IsExplanation}
+use Rattle.walk_engine.specs.Walks.{Least}
 use Rattle.feature_links.specs.Facts.{EdgeFacts, link_at}
 use Rattle.feature_links.specs.Links.{LinkFacts}
 use Rattle.feature_core.specs.Built.{IsBuilt}
 use Rattle.feature_sets.specs.LinkValues.{Link, edge_of, facts_of, status_for}
-use Rattle.feature_sets.specs.Values.{Graph}
-use Rattle.feature_sets.specs.Visits.{offered}
-use Rattle.feature_sets.proofs.OptionLemmas.{bound_is}
+use Rattle.feature_sets.specs.Told.{Explanation}
+use Rattle.feature_sets.specs.Values.{Graph, Query}
+use Rattle.feature_sets.specs.Visits.{offered, query_content}
 use Rattle.guppy_features.specs.Platforms.{holds_where, is_for_platform, is_platform_link, platform_offers}
 use Rattle.platform_specs.specs.Expressions.{Target}
 use Rattle.graph_platforms.specs.DeclaredSpecs.{declared_specs, spec_texts}
-use Rattle.graph_platforms.specs.HeldSpecs.{Holds, AreHeld}
-use Rattle.graph_platforms.specs.PlatformLinks.{HoldsFor, IsLinkFor, AreOffersFor}
+use Rattle.graph_platforms.specs.HeldSpecs.{AreHeld}
+use Rattle.graph_platforms.specs.PlatformLinks.{HoldsFor, IsLinkFor, AreOffersFor, IsOnFor}
 use Rattle.graph_platforms.proofs.Held.{held_from, held_into}
 use Rattle.graph_platforms.proofs.LinkSpecs.{status_specs, built_declared}
-use Rattle.graph_platforms.proofs.Members.{IsMember, any_member, member_any, text_any, any_text, firsts_any}
+use Rattle.graph_platforms.proofs.Members.{any_member, member_any, text_any, any_text, firsts_any}
+
+bound_is : {A B : Type 0} (f : A → Option B) (o : Option A) (b : B) → option_map_or f o None ≡ Some b → (a : A) × (o ≡ Some a) × (f a ≡ Some b)
+bound_is f None b h = cc
+bound_is f (Some a) b h = (a, refl, h)
 
 tested : {A : Type 0} (test : A → Bool) (o : Option A) → IsTrue (option_map_or test o false) → (a : A) × (o ≡ Some a) × IsTrue (test a)
 tested test None h = cc
@@ -70,3 +75,19 @@ offers_for kinds target g held built are e h = (there, back)
         test_of (is_for_platform kinds held) (facts_of link) facts is
         (any_member (λ kind. holds_where held (status_for kind facts)) kinds kind member
         (holds_back target (spec_texts g.tables) held are (status_for kind facts) (declared facts is kind) holds))
+
+-- what the visitor of the texts that hold resolves
+pub on_for : (kinds own : List DependencyKind) (target : Target) (held texts : List Text) (q : Query) (x : Explanation) → own ≡ kinds → texts ≡ held
+    → IsBuilt q.graph.tables q.graph.built → AreHeld target (spec_texts q.graph.tables) held
+    → ((n : ℕ) → IsTrue (has x.members n) ↔ Least (query_content q) (has q.initials) (platform_offers own texts q.graph) n)
+    → IsExplanation (query_content q) (has q.initials) (platform_offers own texts q.graph) x.steps → IsOnFor kinds target q x
+on_for kinds own target held texts q x same_kinds same_texts built are least explanation =
+    let by_held : AreOffersFor kinds target q.graph (platform_offers kinds held q.graph) = offers_for kinds target q.graph held built are in
+    let by_texts : AreOffersFor kinds target q.graph (platform_offers kinds texts q.graph) =
+    subst (λ z. AreOffersFor kinds target q.graph (platform_offers kinds z q.graph)) (sym same_texts) by_held in
+    record {
+      accepted = platform_offers own texts q.graph;
+      offers = subst (λ z. AreOffersFor kinds target q.graph (platform_offers z texts q.graph)) (sym same_kinds) by_texts;
+      least = least;
+      explanation = explanation;
+    }

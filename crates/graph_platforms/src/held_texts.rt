@@ -54,7 +54,9 @@ fn held_among<'g>(
 {
     let mut held = Vec::new(alloc);
     for &text in texts {
-        push_held(alloc, &mut held, text, target)?;
+        if let Err(fault) = push_held(alloc, &mut held, text, target) {
+            return Err(fault);
+        }
     }
     Ok(held)
 }

@@ -45,7 +45,7 @@ fn insert_platform<'g>(
 /// Inserts the specs of the declarations of `link`.
 fn insert_link<'g>(set: &mut TextSet<'g>, link: PackageLink<'g>) -> Result<(), AllocError>
     ensures { OnOk result ((before : List Text) → texts_in set.old ≡ firsts bytes_eq before
-        → texts_in set.new ≡ firsts bytes_eq (before ++ link_specs (link_table_of link))) }
+        → texts_in set.new ≡ firsts bytes_eq (before ++ link_specs (link_table_of link.entry))) }
 {
     let declarations = link.declarations();
     for declaration in declarations {
