@@ -22,7 +22,7 @@ A file of cases has these lines:
     steps NODES        (of `build`) the output explains these nodes, which are separated by spaces. Any steps are right that
                        judge_build.py accepts
 
-In a program of calls (surface_calls, layer_calls, graph_calls) the word FILE is the path alone, and LAST is the path of the
+In a program of calls (surface_calls, layer_calls, graph_calls, platform_calls) the word FILE is the path alone, and LAST is the path of the
 row file before. Such a case also has these lines:
 
     < CALL             a line of standard input, which the program repeats. The word FORM in it is replaced by each of the
@@ -39,6 +39,16 @@ row file before. Such a case also has these lines:
                        of them: a step left out, repeated, moved, or with another reason; another refused link
     platforms DIRECTION SPECS
                        (the same) the features on each platform, described by some of these specs, from each two features
+
+A case of platform_calls has a triple as its first word, and a cfg text as its second, FILE or LAST. These lines add calls, with what
+platform_model.py says of them:
+
+    specs of PATH      each spec of this table, whose lines are a spec and the triples for which cargo uses it
+    random N SEED      N random specs, about half of which are damaged
+    changes of SPEC    the spec cut at each character and changed there
+    deep N OPERATOR    N operators in one another
+    specs held         the spec texts of the row file that hold
+    on KINDS: IDS      what is on from these features
 
 Lines that begin with '- ' are the questions to a visitor. Consecutive ones may be printed in any order, but the printed order
 must be a run of offers by the rules (judge.py). Only the judge checks the reads of a walk, and the output of `each`, `answers`,
@@ -59,6 +69,7 @@ import tempfile
 import judge
 import judge_build
 import judge_explained
+import platform_model
 
 TOP = os.path.dirname(os.path.dirname(os.path.abspath(__file__)))
 # The replacements for words of calls.
@@ -152,6 +163,42 @@ class Case:
         for call in calls:
             self.add_call(call)
 
+    def target(self):
+        """The target of a case of platform_calls."""
+        text = self.rows if self.words[1] == b'FILE' else self.last
+        return platform_model.Target(self.words[0].decode(), text.decode())
+
+    def add_spec(self, spec, answer):
+        self.add_call(f'spec {spec}')
+        self.printed[-1].append(answer)
+
+    def add_platform(self, word, rest):
+        """Calls of platform_calls, with the answers of the model."""
+        target = self.target()
+        if word == 'specs' and rest == 'held':
+            self.add_call('held')
+            self.printed[-1] += judge_build.specs_held(self.rows, target)
+        elif word == 'specs':
+            for spec, triples in platform_model.table_of(f'{TOP}/{rest[3:]}').items():
+                answer = 'true' if target.triple in triples else 'false'
+                self.add_spec(spec, f'{answer} {platform_model.spec_shown(platform_model.parse(spec))}'.rstrip())
+        elif word == 'random':
+            for spec in platform_model.random_specs(*map(int, rest.split())):
+                self.add_spec(spec, target.answer(spec))
+        elif word == 'changes':
+            for spec in platform_model.changes_of(rest[3:]):
+                self.add_spec(spec, target.answer(spec))
+        elif word == 'deep':
+            self.add_deep(*rest.split())
+        else:
+            self.add_call(f'on {rest}')
+            self.printed[-1].append(judge_build.on_for(self.rows, target, *rest.split(': ')))
+
+    def add_deep(self, count, operator):
+        """Operators in one another over a fact that doesn't hold."""
+        spec = f'cfg({f"{operator}(" * int(count)}no_fact{")" * int(count)})'
+        self.add_spec(spec, f'{"true" if operator == "not" and int(count) % 2 else "false"} {spec}')
+
     def add_other(self):
         """Adds an alternative that begins with the lines up to the last call."""
         lines = self.printed[-1]
@@ -167,6 +214,8 @@ class Case:
             self.add_call(rest)
         elif word in ('each', 'answers', 'edits', 'platforms'):
             self.add_directive(word, rest)
+        elif word in ('specs', 'random', 'changes', 'deep', 'on') and self.program == 'platform_calls':
+            self.add_platform(word, rest)
         elif word == 'steps':
             self.nodes = [int(it) for it in rest.split()]
         elif word == 'or':

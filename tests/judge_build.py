@@ -27,6 +27,20 @@ def least(graph, initials, offers):
     return judge.least(initials, judge.ways_of(graph, 'forward', True), accepted)
 
 
+def specs_held(rows, target):
+    """The spec texts of a row file that hold for a target, each once, in the order of the links and their declarations."""
+    texts = [it.platform for link in judge.Graph(rows).links for it in link.declarations if it.platform is not None]
+    return [text for text in dict.fromkeys(texts) if target.holds(text)]
+
+
+def on_for(rows, target, kinds, ids):
+    """What is on for a target from these features: how many, and their ids in the order of nodes."""
+    graph = judge.Graph(rows)
+    initials = {node for node in range(len(graph.nodes)) if graph.text(node) in ids.split()}
+    members = sorted(least(graph, initials, platform_offers(graph, kinds.split(','), specs_held(rows, target))))
+    return ' '.join([f'{len(members)}:', *map(graph.text, members)])
+
+
 def is_reason(graph, nodes, initials, offers, node, words, before):
     """Returns whether `words` are a right reason for `node`, if the nodes `before` are listed before it."""
     if words == ['initial']:
