@@ -1,4 +1,4 @@
--- The rows of a document, by its packages and its other fields.
+-- The rows and warnings of a document, from its packages and its other fields.
 use Rattle.std.proofs.Common.{◌≡◌, ◌∙◌, sym, ap, refl, map}
 use Rattle.std.specs.Prelude.{Result, Ok, Err, IfOk, Option, codes}
 use Rattle.json.specs.Json.{Json}

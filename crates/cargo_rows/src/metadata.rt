@@ -1,4 +1,4 @@
-//! The rows of a document.
+//! Parses a document and builds the text of its rows.
 ghost use Rattle.std.specs.Prelude.{◌≡◌, ℕ, List, Some, None, Ok, IfOk, IfErr, map, string_bytes};
 ghost use Rattle.std.specs.Str.{IsUtf8};
 ghost use Rattle.json.specs.Value.{value_view};
@@ -20,10 +20,11 @@ use json::{Reader, Scratch, Value};
 use std::alloc::Global;
 use std::collections::BTreeSet;
 
-/// How deep arrays and objects may nest.
+/// The depth to which arrays and objects may nest.
 const MAX_DEPTH: usize = 127;
 
-/// Adds the rows of the declarations of a package that uses these.
+/// Appends the `dep` rows of `package` to `rows`; `deps` are the packages that it uses. Returns `Ambiguous`, `TwoNames` or
+/// `Control` for the first fault.
 #[tactic(auto, unfolding(crate::specs::Rows::led_rows))]
 fn push_led<'p, 'v>(
     alloc: Global,
@@ -39,7 +40,8 @@ fn push_led<'p, 'v>(
     Ok(())
 }
 
-/// Adds the rows of one package that uses these.
+/// Appends the rows of `package` to `rows`: its own, its features' and its dependencies'. `deps` are the packages that it uses.
+/// Returns `Ambiguous`, `TwoNames` or `Control` for the first fault.
 #[tactic(auto, unfolding(crate::specs::Rows::package_rows))]
 fn push_rows<'p, 'v>(
     alloc: Global,
@@ -56,7 +58,8 @@ fn push_rows<'p, 'v>(
     Ok(())
 }
 
-/// The rows of each package; `absent` is a node with nothing.
+/// Returns the rows of `packages`, in the order of their ids, or the first fault. `absent` is the empty node, for a package that
+/// has none.
 fn rows_of_packages<'p, 'v>(
     alloc: Global,
     packages: &'p Packages<'v>,
@@ -79,13 +82,13 @@ fn rows_of_packages<'p, 'v>(
 /// The rows and the warnings of a document.
 #[derive(Drop)]
 pub(crate) struct Rows {
-    /// The text of its rows.
+    /// The text of the rows.
     pub(crate) text: String,
-    /// The declarations of workspace packages that lead to no package.
+    /// The declarations of workspace packages that should lead to a package but don't.
     pub(crate) warnings: Vec<Warning>,
 }
 
-/// The rows and the warnings of packages, by what Cargo resolved.
+/// Returns the rows and the warnings of `packages`, from the members and the nodes in `resolved`, or the first fault.
 fn rows_over<'p, 'v>(
     alloc: Global,
     packages: &'p Packages<'v>,
@@ -101,7 +104,7 @@ fn rows_over<'p, 'v>(
     Ok(Rows { text, warnings })
 }
 
-/// The rows of a document. What was read of it is dropped before more is read.
+/// Returns the rows and the warnings of `document`, or its first fault. Drops each part of the document once it is read.
 #[tactic(auto, unfolding(crate::specs::Rows::rows_of, crate::specs::Packages::packages_in))]
 fn rows_of_document(alloc: Global, document: Value<'_>) -> Result<Rows, DocumentFault>
     ensures rows { Gives (λ rows. string_bytes rows.text) result (rows_of (value_view document.entry)) }
@@ -114,7 +117,7 @@ fn rows_of_document(alloc: Global, document: Value<'_>) -> Result<Rows, Document
     rows_over(alloc, &packages, &resolved)
 }
 
-/// The fault that the text is no document; the place is where its reader stopped.
+/// Returns `NotJson` with the line and the column, in bytes, of `offset`, where the reader of `text` stopped.
 fn not_json(text: &str, offset: usize) -> Fault
     ensures { (bytes : List ℕ) → IsUtf8 bytes → document bytes ≡ None → Refuses bytes result }
 {
@@ -134,7 +137,8 @@ fn not_json(text: &str, offset: usize) -> Fault
     Fault::NotJson { line, column }
 }
 
-/// The document that the text is.
+/// Parses `text` as one document. Returns `NotJson` if it isn't one or nests deeper than `MAX_DEPTH`, and `Memory` if an
+/// allocation fails.
 fn document_of<'t>(
     alloc: Global,
     text: &'t str,
@@ -159,7 +163,7 @@ fn document_of<'t>(
     }
 }
 
-/// The rows of the document that the bytes are.
+/// Returns the rows and the warnings of the document in `bytes`, or the first fault.
 pub(crate) fn rows_of_bytes(alloc: Global, bytes: Vec<u8>) -> Result<Rows, Fault>
     ensures ok { IfOk result (λ rows. AreRows bytes.items (string_bytes rows.text)) }
     ensures warnings { IfOk result (λ rows. AreWarnings bytes.items (map warning_view rows.warnings.items)) }

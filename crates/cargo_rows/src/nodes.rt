@@ -1,4 +1,4 @@
-//! Which package each dependency was resolved to.
+//! Reads the workspace members and the packages that each package uses.
 ghost use Rattle.std.specs.Prelude.{◌≡◌, ℕ, [], IfOk, map};
 ghost use Rattle.std.specs.List.{list_any};
 ghost use Rattle.std.specs.Str.{bytes_eq};
@@ -18,7 +18,7 @@ use json::Value;
 use std::alloc::{AllocError, Global};
 use std::collections::{BTreeMap, BTreeSet};
 
-/// A package that another one uses, and the name by which its code calls it.
+/// A package that another one uses.
 #[derive(Drop)]
 pub(crate) struct Dep<'p, 'v> {
     pub(crate) extern_name: &'v str,
@@ -26,7 +26,7 @@ pub(crate) struct Dep<'p, 'v> {
     pub(crate) uses: Vec<Use<'v>>,
 }
 
-/// What Cargo resolved for one package.
+/// The node of one package in Cargo's resolution.
 #[derive(Drop)]
 pub(crate) struct Node<'p, 'v> {
     /// The enabled features.
@@ -50,10 +50,10 @@ impl Node<'_, '_> {
     }
 }
 
-/// Nodes, by the ids of their packages.
+/// The nodes of a document, by the ids of their packages.
 pub(crate) type Nodes<'p, 'v> = BTreeMap<&'v str, Node<'p, 'v>>;
 
-/// What Cargo resolved for a workspace.
+/// The members and the nodes of a workspace.
 #[derive(Drop)]
 pub(crate) struct Resolved<'p, 'v> {
     /// The ids of the workspace's members.
@@ -61,7 +61,7 @@ pub(crate) struct Resolved<'p, 'v> {
     pub(crate) nodes: Nodes<'p, 'v>,
 }
 
-/// The fault that no package has this id.
+/// Returns the fault `NoPackage` for `id`, read from the field `name` at `place`.
 fn no_package(
     alloc: Global,
     place: Place,
@@ -74,7 +74,7 @@ fn no_package(
     Ok(DocumentFault::NoPackage { place, name, id })
 }
 
-/// The package of this id, which the field of this name has.
+/// Returns the package `id`, read from the field `name` at `place`. Returns `NoPackage` if there is none.
 fn package_at<'p, 'v>(
     alloc: Global,
     packages: &'p Packages<'v>,
@@ -90,7 +90,7 @@ fn package_at<'p, 'v>(
     }
 }
 
-/// The kinds and platforms for which a dependency is used.
+/// Reads the kinds and platforms for which the package at place `dep` of `node` is used, or returns the first fault.
 fn uses_of<'v>(
     alloc: Global,
     objects: &Vec<Value<'v>>,
@@ -106,7 +106,8 @@ fn uses_of<'v>(
     Ok(uses)
 }
 
-/// One package that the node of this place uses.
+/// Reads the used package `object` at place `dep` of `node`. Returns its first fault, or `NoPackage` if its id isn't in
+/// `packages`.
 #[tactic(auto, unfolding(crate::specs::Nodes::dep_in))]
 fn dep_of<'p, 'v>(
     alloc: Global,
@@ -130,7 +131,7 @@ fn dep_of<'p, 'v>(
     })
 }
 
-/// The packages that the node of this place uses.
+/// Reads the packages `objects` that the node at place `node` uses, or returns the first fault.
 fn deps_of<'p, 'v>(
     alloc: Global,
     packages: &'p Packages<'v>,
@@ -162,7 +163,7 @@ fn features_on<'v>(
     }
 }
 
-/// Returns the id of the node at this place, and its facts about its package.
+/// Reads the node `object` at place `node`. Returns it with its package's id, or its first fault.
 #[tactic(auto, unfolding(crate::specs::Nodes::node_in))]
 fn node_of<'p, 'v>(
     alloc: Global,
@@ -181,7 +182,7 @@ fn node_of<'p, 'v>(
     Ok((id, Node { features, deps }))
 }
 
-/// Refuses a document that was made with `--no-deps`, in which `resolve` is null.
+/// Returns `NoDeps` if `resolve` is null, as in a document that was made with `--no-deps`.
 fn check_deps(resolve: &Value<'_>) -> Result<(), DocumentFault>
     ensures { Gives (λ _. tt) result (spec.with_deps (value_view resolve.now)) }
 {
@@ -191,7 +192,7 @@ fn check_deps(resolve: &Value<'_>) -> Result<(), DocumentFault>
     }
 }
 
-/// Returns the field `resolve` of a document.
+/// Returns the field `resolve` of `document`. Returns `Field` if it is missing, and `NoDeps` if it is null.
 #[tactic(auto, unfolding(crate::specs::Nodes::resolve_in))]
 fn resolve_in<'d, 'v>(document: &'d Value<'v>) -> Result<&'d Value<'v>, DocumentFault>
     ensures { Gives (λ resolve. value_view resolve.now) result (spec.resolve_in (value_view document.now)) }
@@ -206,7 +207,7 @@ fn resolve_in<'d, 'v>(document: &'d Value<'v>) -> Result<&'d Value<'v>, Document
     Ok(resolve)
 }
 
-/// What the nodes of the document say.
+/// Reads the nodes of `document`, by the ids of their packages, or returns the first fault.
 #[tactic(auto, unfolding(crate::specs::Nodes::nodes_in))]
 fn nodes_in<'p, 'v>(
     alloc: Global,
@@ -220,7 +221,8 @@ fn nodes_in<'p, 'v>(
     nodes_of(alloc, packages, objects)
 }
 
-/// Reads the nodes that these objects are, by the ids of their packages.
+/// Reads the nodes `objects`, by the ids of their packages. Returns the first fault, or `Repeated` for an id that an earlier node
+/// has.
 fn nodes_of<'p, 'v>(
     alloc: Global,
     packages: &'p Packages<'v>,
@@ -240,7 +242,7 @@ fn nodes_of<'p, 'v>(
     Ok(nodes)
 }
 
-/// The ids of the workspace's members, each of them a package's.
+/// Reads the ids of the workspace's members. Returns `NoPackage` for the first that isn't in `packages`.
 #[tactic(auto, unfolding(crate::specs::Nodes::members_in))]
 fn members_in<'v>(
     alloc: Global,
@@ -254,7 +256,7 @@ fn members_in<'v>(
     Ok(ids)
 }
 
-/// Refuses the first id that no package has.
+/// Checks that `packages` has each of `ids`. Returns `NoPackage` for the first that it hasn't.
 fn check_members(alloc: Global, packages: &Packages<'_>, ids: &[&str]) -> Result<(), DocumentFault>
     ensures { Gives (λ _. tt) result (spec.known (entries_view package_view packages.now.entries) (map text_view ids.now)) }
 {
@@ -264,7 +266,7 @@ fn check_members(alloc: Global, packages: &Packages<'_>, ids: &[&str]) -> Result
     Ok(())
 }
 
-/// Reads the members and the nodes of a document.
+/// Reads the members and the nodes of `document`, or returns the first fault.
 #[tactic(auto, unfolding(crate::specs::Nodes::resolved_in))]
 pub(crate) fn resolved_in<'p, 'v>(
     alloc: Global,
@@ -290,7 +292,7 @@ pub(crate) fn node_at<'a, 'p, 'v>(
     nodes.get(id).unwrap_or(absent)
 }
 
-/// The ids as a set.
+/// Returns `ids` as a set. The only error is out of memory.
 pub(crate) fn set_of<'v>(alloc: Global, ids: &[&'v str]) -> Result<BTreeSet<&'v str>, AllocError>
     ensures { IfOk result (λ set. HasTexts set (map text_view ids.now)) }
 {

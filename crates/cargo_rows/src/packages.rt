@@ -1,4 +1,4 @@
-//! The packages of a document, with what they declare.
+//! Reads the packages of a document, with their features and their declarations of dependencies.
 ghost use Rattle.std.specs.Prelude.{◌≡◌, [], Some, IfOk, codes, map, option_map, option_and_then};
 ghost use Rattle.std.specs.List.{list_any};
 ghost use Rattle.json.specs.Find.{as_array};
@@ -18,7 +18,7 @@ use json::Value;
 use std::alloc::{AllocError, Global};
 use std::collections::BTreeMap;
 
-/// Which builds of a package take a dependency.
+/// The kind of a dependency, as Cargo has it.
 #[derive(Clone, Copy, PartialEq, Eq, Debug)]
 pub(crate) enum Kind {
     Normal,
@@ -26,14 +26,14 @@ pub(crate) enum Kind {
     Dev,
 }
 
-/// A kind and a platform, of a declaration or of a use.
+/// The kind and the platform of a declaration or of a used package; None is every platform.
 #[derive(Drop)]
 pub(crate) struct Use<'v> {
     pub(crate) kind: Kind,
     pub(crate) platform: Option<&'v str>,
 }
 
-/// One dependency that a package declares.
+/// A dependency that a package declares.
 #[derive(Drop)]
 pub(crate) struct Declaration<'v> {
     pub(crate) name: &'v str,
@@ -46,29 +46,29 @@ pub(crate) struct Declaration<'v> {
     pub(crate) features: Vec<&'v str>,
 }
 
-/// A named feature, and what it enables.
+/// A named feature and the items that it enables.
 #[derive(Drop)]
 pub(crate) struct Feature<'v> {
     pub(crate) name: &'v str,
     pub(crate) items: Vec<&'v str>,
 }
 
-/// One package.
+/// A package of the document.
 #[derive(Drop)]
 pub(crate) struct Package<'v> {
     pub(crate) id: &'v str,
     pub(crate) name: &'v str,
     pub(crate) version: &'v str,
-    /// The name of its first library target, where it has one.
+    /// The name of its first library target, if it has one.
     pub(crate) library: Option<&'v str>,
     pub(crate) features: Vec<Feature<'v>>,
     pub(crate) declarations: Vec<Declaration<'v>>,
 }
 
-/// Packages by their ids.
+/// The packages of a document, by their ids.
 pub(crate) type Packages<'v> = BTreeMap<&'v str, Package<'v>>;
 
-/// The kind that a text names, in the object of this place.
+/// Returns the kind `build` or `dev` that `text` names. Any other text is a fault of the field `kind` at `place`.
 fn kind_named(text: &str, place: Place) -> Result<Kind, DocumentFault>
     ensures { Gives (λ k. k) result (spec.kind_of place (Some text.now)) }
 {
@@ -84,7 +84,7 @@ fn kind_named(text: &str, place: Place) -> Result<Kind, DocumentFault>
     }
 }
 
-/// The field `kind` of a declaration or of a way in which a dependency is used.
+/// Reads the field `kind` of a declaration or of a use. Null is the normal kind. Returns `Field` if the text is no kind.
 pub(crate) fn kind_in(object: &Value<'_>, place: Place) -> Result<Kind, DocumentFault>
     ensures { Gives (λ k. k) result (spec.kind_in place (value_view object.now)) }
 {
@@ -94,7 +94,7 @@ pub(crate) fn kind_in(object: &Value<'_>, place: Place) -> Result<Kind, Document
     }
 }
 
-/// Returns the platform `text`. The text `*` is refused, because a row uses it for every platform.
+/// Returns the platform `text`. Returns `EveryPlatform` for `*`, since a row writes `*` for every platform.
 fn platform_named<'v>(text: &'v str, place: Place) -> Result<Option<&'v str>, DocumentFault>
     ensures { Gives (λ o. option_map text_view o) result (spec.platform_of place (Some text.now)) }
 {
@@ -105,7 +105,7 @@ fn platform_named<'v>(text: &'v str, place: Place) -> Result<Option<&'v str>, Do
     }
 }
 
-/// Reads the field `target` of a declaration or of a use. None means every platform.
+/// Reads the field `target` of a declaration or of a use. None is every platform. Returns `EveryPlatform` for the text `*`.
 pub(crate) fn platform_in<'v>(
     object: &Value<'v>,
     place: Place,
@@ -118,7 +118,7 @@ pub(crate) fn platform_in<'v>(
     }
 }
 
-/// Reads the kind and the platform of a declaration or of a use.
+/// Reads the kind and the platform of a declaration or of a use, or returns the first fault.
 #[tactic(auto, unfolding(crate::specs::Packages::use_in))]
 pub(crate) fn use_of<'v>(object: &Value<'v>, place: Place) -> Result<Use<'v>, DocumentFault>
     ensures { Gives use_view result (spec.use_in place (value_view object.now)) }
@@ -129,7 +129,7 @@ pub(crate) fn use_of<'v>(object: &Value<'v>, place: Place) -> Result<Use<'v>, Do
     })
 }
 
-/// Reads the name of a declaration, its new name and its requirement.
+/// Reads the name, the new name and the requirement of a declaration, or returns the first fault.
 #[tactic(auto, unfolding(crate::specs::Packages::wanted_in))]
 fn wanted_in<'v>(
     object: &Value<'v>,
@@ -144,7 +144,7 @@ fn wanted_in<'v>(
     ))
 }
 
-/// Reads whether a declaration is optional, and whether it has default features.
+/// Reads whether a declaration is optional and whether it has default features, or returns the first fault.
 #[tactic(auto, unfolding(crate::specs::Packages::flags_in))]
 fn flags_in(object: &Value<'_>, place: Place) -> Result<(bool, bool), DocumentFault>
     ensures { Gives (λ flags. flags) result (spec.flags_in place (value_view object.now)) }
@@ -155,7 +155,7 @@ fn flags_in(object: &Value<'_>, place: Place) -> Result<(bool, bool), DocumentFa
     ))
 }
 
-/// One declaration.
+/// Reads the declaration `object`, or returns its first fault.
 #[tactic(auto, unfolding(crate::specs::Packages::declaration_in))]
 fn declaration_of<'v>(
     alloc: Global,
@@ -180,7 +180,7 @@ fn declaration_of<'v>(
     })
 }
 
-/// The declarations of the package of this place.
+/// Reads the declarations `objects` of the package at place `package`, or returns the first fault.
 fn declarations_of<'v>(
     alloc: Global,
     objects: &Vec<Value<'v>>,
@@ -199,7 +199,7 @@ fn declarations_of<'v>(
     Ok(declarations)
 }
 
-/// The members of an object, in the order of their names; of one name the last one.
+/// Returns `members` in the order of their names. If a name is repeated, its last value is kept. The only error is out of memory.
 fn sorted<'d, 'v>(
     alloc: Global,
     members: &'d Vec<(&'v str, Value<'v>)>,
@@ -213,7 +213,7 @@ fn sorted<'d, 'v>(
     Ok(sorted)
 }
 
-/// Returns the items of a feature.
+/// Reads the items of a feature. Returns `Field` at `place` if `value` isn't an array of texts.
 fn items_of<'v>(
     alloc: Global,
     value: &Value<'v>,
@@ -230,7 +230,7 @@ fn items_of<'v>(
     }
 }
 
-/// The named features of the package of this place, in the order of their names.
+/// Reads the named features of the package at `place`, in the order of their names, or returns the first fault.
 fn features_of<'v>(
     alloc: Global,
     members: &Vec<(&'v str, Value<'v>)>,
@@ -247,7 +247,7 @@ fn features_of<'v>(
     Ok(features)
 }
 
-/// Whether targets of this kind are linked into the packages that depend on theirs.
+/// Returns whether `kind` is the kind of a library target.
 fn is_library_kind(kind: &str) -> bool
     ensures { result ≡ spec.is_library_kind kind.now }
 {
@@ -257,7 +257,7 @@ fn is_library_kind(kind: &str) -> bool
     )
 }
 
-/// Whether one of the kinds is a library's.
+/// Returns whether one of `kinds` is the kind of a library target.
 fn has_library_kind(kinds: &[&str]) -> bool
     ensures { result ≡ list_any spec.is_library_kind (map text_view kinds.now) }
 {
@@ -269,7 +269,7 @@ fn has_library_kind(kinds: &[&str]) -> bool
     false
 }
 
-/// The name of the target, where it is a library.
+/// Returns the name of the target `object` if it is a library, or its first fault.
 #[tactic(auto, unfolding(crate::specs::Packages::library_in))]
 fn library_of<'v>(
     alloc: Global,
@@ -287,7 +287,7 @@ fn library_of<'v>(
     }
 }
 
-/// The name of the first target that is a library, of the package of this place.
+/// Returns the name of the first library among the targets of the package at place `package`, or the first fault of any target.
 #[tactic(auto, unfolding(crate::specs::Packages::first_library))]
 fn first_library<'v>(
     alloc: Global,
@@ -306,7 +306,7 @@ fn first_library<'v>(
     Ok(first)
 }
 
-/// The lists of declarations and of targets of a package, and its features.
+/// The declarations, the targets and the features of a package, not read yet.
 #[derive(Clone, Copy)]
 struct Lists<'d, 'v> {
     declared: &'d Vec<Value<'v>>,
@@ -314,7 +314,7 @@ struct Lists<'d, 'v> {
     features: &'d Vec<(&'v str, Value<'v>)>,
 }
 
-/// Reads the lists of declarations and of targets of a package, and its features.
+/// Finds the declarations, the targets and the features of a package, or returns the first fault.
 #[tactic(auto, unfolding(crate::specs::Packages::lists_in))]
 fn lists_in<'d, 'v>(object: &'d Value<'v>, place: Place) -> Result<Lists<'d, 'v>, DocumentFault>
     ensures { Gives (λ l. (items_view l.declared.now.items, (items_view l.targets.now.items, members_view l.features.now.items))) result (spec.lists_in place (value_view object.now)) }
@@ -326,7 +326,7 @@ fn lists_in<'d, 'v>(object: &'d Value<'v>, place: Place) -> Result<Lists<'d, 'v>
     })
 }
 
-/// Reads the id of a package, its name and its version.
+/// Reads the id, the name and the version of a package, or returns the first fault.
 #[tactic(auto, unfolding(crate::specs::Packages::names_in))]
 fn names_in<'v>(
     object: &Value<'v>,
@@ -341,7 +341,7 @@ fn names_in<'v>(
     ))
 }
 
-/// One package, by its place.
+/// Reads the package `object` at place `package`, or returns its first fault.
 #[tactic(auto, unfolding(crate::specs::Packages::package_in))]
 fn package_of<'v>(
     alloc: Global,
@@ -366,7 +366,7 @@ fn package_of<'v>(
     })
 }
 
-/// One package, of an object that is dropped then.
+/// Reads a package as `package_of` does, and drops `object`.
 fn package_from<'v>(
     alloc: Global,
     object: Value<'v>,
@@ -378,7 +378,8 @@ fn package_from<'v>(
     Ok(read)
 }
 
-/// The packages that a document lists, by their ids. Each is dropped from the document once it is read.
+/// Reads the packages in `listed`, by their ids, and drops each object once it is read. Returns `Field` if `listed` isn't an
+/// array, otherwise the first fault of a package, or `Repeated` for an id that an earlier package has.
 #[tactic(auto, unfolding(crate::specs::Packages::packages_at))]
 pub(crate) fn packages_of<'v>(
     alloc: Global,
@@ -395,7 +396,8 @@ pub(crate) fn packages_of<'v>(
     }
 }
 
-/// Reads the packages that these objects are, by their ids. Each object is dropped once it is read.
+/// Reads the packages `objects`, by their ids, and drops each object once it is read. Returns the first fault, or `Repeated` for
+/// an id that an earlier package has.
 fn packages_from<'v>(
     alloc: Global,
     mut objects: Vec<Value<'v>>,

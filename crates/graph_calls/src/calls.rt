@@ -1,4 +1,4 @@
-//! Which call a line asks for.
+//! The calls of a script, by name.
 ghost use Rattle.feature_core.specs.Built.{IsBuilt};
 
 use crate::checks::{check, tell_why};
@@ -9,10 +9,11 @@ use guppy_packages::PackageGraph;
 use guppy_vectors::{Failure, Out, cut};
 use std::alloc::Global;
 
-/// The stamp of the graph.
+/// The stamp under which the graph is built.
 const STAMP: u64 = 7;
 
-/// Makes the call of a line.
+/// Makes the call of `line` on `built`, the feature graph of `graph`. `Words` if no call has this name, or the failure of the
+/// call.
 fn make_call(
     out: &Out,
     alloc: Global,
@@ -38,7 +39,7 @@ fn make_call(
     }
 }
 
-/// Makes the calls of a script, in order.
+/// Makes the calls of `script`, one for each line, in order. Writes each line after `< `, then the output of its call.
 fn make_each(
     out: &Out,
     alloc: Global,
@@ -58,7 +59,8 @@ fn make_each(
     }
 }
 
-/// Makes the calls of a script on the feature graph of a package graph.
+/// Builds the feature graph of `graph` and makes the calls of `script` on it; `other` is the graph for `built-from`. `Memory`
+/// is the only error.
 pub fn make_calls(
     out: &Out,
     alloc: Global,

@@ -11,7 +11,7 @@ use guppy_support::IxBitSet;
 use guppy_vectors::{Failure, Out, cut, direction_of, halves, number};
 use std::alloc::Global;
 
-/// A graph, the direction in which its edges are followed, and the nodes from which they are.
+/// The arguments of a walk: a graph, the direction in which its edges are followed, and the initial nodes.
 #[derive(Clone, Copy)]
 pub struct Start<'s> {
     pub alloc: Global,
@@ -20,7 +20,7 @@ pub struct Start<'s> {
     pub initials: &'s IxBitSet,
 }
 
-/// Tells whether the steps are an explanation.
+/// Writes whether `steps` are an explanation; `Memory` is the only error.
 fn tell_check(out: &Out, start: Start<'_>, steps: &[Step]) -> Result<(), Failure>
     requires { length start.initials.now ≡ length start.built.now.packages }
 {
@@ -38,7 +38,7 @@ fn tell_check(out: &Out, start: Start<'_>, steps: &[Step]) -> Result<(), Failure
     Ok(())
 }
 
-/// Tells whether the steps are an exact explanation.
+/// Writes whether `steps` and `refused` are an exact explanation; `Memory` is the only error.
 fn tell_exact(
     out: &Out,
     start: Start<'_>,
@@ -62,7 +62,7 @@ fn tell_exact(
     Ok(())
 }
 
-/// Checks steps.
+/// Reads steps from `words` and checks them. `Words` if a word is no step, or `Memory`.
 fn check_from(out: &Out, start: Start<'_>, words: &str) -> Result<(), Failure>
     requires { length start.initials.now ≡ length start.built.now.packages }
 {
@@ -70,7 +70,8 @@ fn check_from(out: &Out, start: Start<'_>, words: &str) -> Result<(), Failure>
     tell_check(out, start, &steps)
 }
 
-/// Checks steps and refused offers.
+/// Reads steps and, after a `;`, refused offers from `words`, and checks them for exactness. `Words` if these can't be read,
+/// or `Memory`.
 fn check_exact_from(out: &Out, start: Start<'_>, words: &str) -> Result<(), Failure>
     requires { length start.initials.now ≡ length start.built.now.packages }
 {
@@ -80,7 +81,8 @@ fn check_exact_from(out: &Out, start: Start<'_>, words: &str) -> Result<(), Fail
     tell_exact(out, start, &steps, &refused)
 }
 
-/// Tells the steps on which a node rests: the direction and the node, and the steps.
+/// Writes the steps that support a node, or `none` if it isn't listed. `words` are the direction and the node, then the steps
+/// after a `;`. `Words` if these can't be read, or `Memory`.
 pub fn tell_why(
     out: &Out,
     alloc: Global,
@@ -98,7 +100,7 @@ pub fn tell_why(
     Ok(())
 }
 
-/// Whether the steps on which a node rests are an explanation, of which the node's own step is the last.
+/// Returns whether the steps that support `node` are an explanation and end with its own step; `Memory` is the only error.
 fn is_why(start: Start<'_>, steps: &[Step], node: usize) -> Result<bool, Failure>
     requires { length start.initials.now ≡ length start.built.now.packages }
 {
@@ -123,7 +125,7 @@ fn is_why(start: Start<'_>, steps: &[Step], node: usize) -> Result<bool, Failure
     }
 }
 
-/// Tells whether the steps on which a node rests explain it.
+/// Writes whether the steps that support `node` explain it; `Memory` is the only error.
 fn tell_is_why(out: &Out, start: Start<'_>, steps: &[Step], node: usize) -> Result<(), Failure>
     requires { length start.initials.now ≡ length start.built.now.packages }
 {
@@ -133,7 +135,8 @@ fn tell_is_why(out: &Out, start: Start<'_>, steps: &[Step], node: usize) -> Resu
     Ok(())
 }
 
-/// Checks what explains a walk, and of each node of its steps whether those on which it rests explain it.
+/// Checks the explanation of a walk by both checks, and then the steps that support each node in it. `Memory` is the only
+/// error.
 fn tell_walked(
     out: &Out,
     start: Start<'_>,
@@ -150,7 +153,7 @@ fn tell_walked(
     Ok(())
 }
 
-/// Walks by a rule, and checks what explains the walk.
+/// Walks by `rule`, and checks the explanation of the walk; `Memory` is the only error.
 fn check_walk_from(out: &Out, start: Start<'_>, rule: &str) -> Result<(), Failure>
     requires { length start.initials.now ≡ length start.built.now.packages }
 {
@@ -166,8 +169,11 @@ fn check_walk_from(out: &Out, start: Start<'_>, rule: &str) -> Result<(), Failur
     }
 }
 
-/// Checks steps, for exactness too, or what explains a walk, by the name of the call. The words are the direction, then the
-/// initial nodes and the steps, or the rule of the walk and the initial nodes.
+/// Makes the call `name`: checks steps (`check`, `check-exact`), or the explanation of a walk (`check-walk`). `Words` if
+/// `words` can't be read, or `Memory`.
+///
+/// For steps, `words` are the direction and initial nodes, then the steps after a `;`, and the refused offers after another.
+/// For a walk, they are the direction and rule, then the initial nodes after a `;`.
 pub fn check(
     out: &Out,
     alloc: Global,

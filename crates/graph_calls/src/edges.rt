@@ -1,4 +1,4 @@
-//! All that is built of a package graph.
+//! Calls that write a built feature graph.
 ghost use Rattle.std.specs.Prelude.{◌<◌, length};
 ghost use Rattle.feature_core.specs.Built.{IsBuilt};
 
@@ -10,7 +10,7 @@ use guppy_packages::{PackageGraph, PackageId};
 use guppy_vectors::{Failure, Out, label_of, parts};
 use std::alloc::{AllocError, Global};
 
-/// Tells a place or `none`, after a text.
+/// Writes `before`, and then `place` or `none`, as a line.
 fn tell_place(out: &Out, before: &str, place: Option<usize>) {
     match place {
         Some(place) => out.number(before, place),
@@ -19,7 +19,7 @@ fn tell_place(out: &Out, before: &str, place: Option<usize>) {
     out.line("");
 }
 
-/// Tells the stamp, how many nodes and edges there are, and the first edge whose link is present for no kind.
+/// Writes the stamp, the counts of nodes and edges, and the first edge whose link is present for no kind. Returns no error.
 pub fn figures(out: &Out, built: &FeatureGraphData) -> Result<(), Failure> {
     out.part("stamp ");
     out.shown(built.stamp());
@@ -29,7 +29,7 @@ pub fn figures(out: &Out, built: &FeatureGraphData) -> Result<(), Failure> {
     Ok(())
 }
 
-/// Tells whether the graph is built from other packages.
+/// Writes whether `built` is a build of `other`; `Memory` is the only error.
 pub fn built_from(
     out: &Out,
     alloc: Global,
@@ -45,7 +45,7 @@ pub fn built_from(
     }
 }
 
-/// Tells the node of a feature.
+/// Writes the node of the feature that `word` names, or `none`; `Memory` is the only error.
 fn tell_node(
     out: &Out,
     alloc: Global,
@@ -65,7 +65,7 @@ fn tell_node(
     Ok(())
 }
 
-/// Tells the nodes of features.
+/// Writes the node of each feature that `words` name, one a line; `Memory` is the only error.
 pub fn nodes(
     out: &Out,
     alloc: Global,
@@ -81,8 +81,8 @@ pub fn nodes(
     Ok(())
 }
 
-/// Tells the ids of the nodes in one line, or of those alone that are on by default, with `?` where an id doesn't lead back to
-/// its node.
+/// Writes the ids of the nodes on one line; if `defaults`, only of those on by default. Marks an id with `?` if looking it up
+/// doesn't return its node.
 fn tell_nodes(out: &Out, graph: &PackageGraph, built: &FeatureGraphData, defaults: bool)
     requires { IsBuilt graph.now built.now }
 {
@@ -97,7 +97,7 @@ fn tell_nodes(out: &Out, graph: &PackageGraph, built: &FeatureGraphData, default
     out.line("");
 }
 
-/// Tells the ends of an edge, with `?` where the digraph has others.
+/// Writes the ends of edge `number`, with `?` if the digraph has other ends.
 fn tell_ends(out: &Out, built: &FeatureGraphData, number: usize)
     requires { number < length built.now.edges }
 {
@@ -109,7 +109,8 @@ fn tell_ends(out: &Out, built: &FeatureGraphData, number: usize)
     out.part(" ");
 }
 
-/// Tells an edge in a line, or an equal one, with `dev-only` where the digraph marks it so.
+/// Writes edge `number` on a line, or its copy if `copies`, with `dev-only` if the digraph marks it so. `AllocError` if an
+/// allocation fails for the copy.
 fn tell_line(
     out: &Out,
     alloc: Global,
@@ -133,7 +134,7 @@ fn tell_line(
     Ok(())
 }
 
-/// Tells the weak links, one a line.
+/// Writes each weak link on a line: its index, its link and its gate.
 fn tell_weak_links(out: &Out, built: &FeatureGraphData) {
     for (number, (link, gate)) in built.weak_links().iter().enumerate() {
         out.number("weak(", number);
@@ -143,7 +144,7 @@ fn tell_weak_links(out: &Out, built: &FeatureGraphData) {
     }
 }
 
-/// Tells a warning.
+/// Writes `warning`, without the end of the line.
 fn tell_warning(out: &Out, warning: &FeatureGraphWarning) {
     let (word, package_id, feature_name) = match warning {
         FeatureGraphWarning::MissingFeature {
@@ -159,7 +160,7 @@ fn tell_warning(out: &Out, warning: &FeatureGraphWarning) {
     out.text(" ", feature_name.as_str());
 }
 
-/// Tells the warnings, one a line, with `again` where an earlier one is equal.
+/// Writes each warning on a line, with `again` if an earlier one is equal.
 fn tell_warnings(out: &Out, warnings: &[FeatureGraphWarning]) {
     for (place, warning) in warnings.iter().enumerate() {
         tell_warning(out, warning);
@@ -171,7 +172,8 @@ fn tell_warnings(out: &Out, warnings: &[FeatureGraphWarning]) {
     }
 }
 
-/// Tells the nodes, edges, weak links, warnings and defaults that are built of the package graph, or equal edges.
+/// Writes the nodes, edges, weak links, warnings and defaults of `built`; if `copies`, copies of the edges. `Memory` is the
+/// only error.
 pub fn edges(
     out: &Out,
     alloc: Global,

@@ -1,7 +1,8 @@
 //! The program `graph_calls FILE [OTHER]`: calls on feature graphs and walks over them, for tests.
 //!
-//! FILE is the path of a row file, of whose package graph the feature graph is built, and OTHER that of another row file.
-//! Standard input has the calls, one a line. Each is repeated with `< ` before it, and what came follows.
+//! FILE is the path of a row file, from which the feature graph is built. OTHER is the path of the row file that the call
+//! `built-from` compares it with; without OTHER, that graph is empty. Standard input contains one call per line. The program
+//! writes each call after `< `, then its result.
 #![tactic(auto)]
 
 mod calls;
@@ -20,7 +21,7 @@ use guppy_vectors::{Failure, Out, package_graph, script};
 use std::alloc::Global;
 use std::process::ExitCode;
 
-/// Makes the calls of a script on a package graph and another one, if both could be read.
+/// Makes the calls of `script` on `graph` and `other`, or returns the failure of `other`.
 fn answer_both(
     out: &Out,
     alloc: Global,
@@ -34,7 +35,8 @@ fn answer_both(
     }
 }
 
-/// Makes the calls of a script on a package graph, if it could be read, and that of the second word.
+/// Makes the calls of `script` on `graph` and the package graph of the program's second argument, or returns the failure of one
+/// of them.
 fn answer_first(
     rt: &HostRuntime,
     out: &Out,
@@ -47,7 +49,7 @@ fn answer_first(
     }
 }
 
-/// Makes the calls of standard input.
+/// Makes the calls of standard input, or returns the first failure to read them or a row file.
 fn answer(rt: &HostRuntime, out: &Out) -> Result<(), Failure> {
     let script = script(rt)?;
     answer_first(rt, out, script.as_str(), package_graph(rt, 1))

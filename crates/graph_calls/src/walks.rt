@@ -12,10 +12,10 @@ use guppy_support::IxBitSet;
 use guppy_vectors::{Failure, Out, cut, direction_of, halves, insert};
 use std::alloc::Global;
 
-/// A walk, why each member is one, and the offers that were refused.
+/// A walk, a step for each member, and the refused offers.
 type Explained = (Walk, Vec<Step>, Vec<(usize, Half)>);
 
-/// The set of the nodes of a text.
+/// Returns the set of the node numbers in `words`. `Words` if one is no node of `built`, or `Memory`.
 pub fn initials_of(
     alloc: Global,
     built: &FeatureGraphData,
@@ -32,7 +32,7 @@ pub fn initials_of(
     }
 }
 
-/// Tells the numbers of a set.
+/// Writes the members of `set` on a line.
 fn tell_members(out: &Out, set: &IxBitSet) {
     out.part("members");
     for node in set.ones() {
@@ -41,14 +41,14 @@ fn tell_members(out: &Out, set: &IxBitSet) {
     out.line("");
 }
 
-/// Tells how many reads there were.
+/// Writes the number of reads on a line.
 fn tell_reads(out: &Out, reads: u128) {
     out.part("reads ");
     out.shown(reads);
     out.line("");
 }
 
-/// Tells a walk.
+/// Writes the members of `walk`, or returns `Memory`.
 fn tell_walk(out: &Out, walk: Result<Walk, Error<'_>>) -> Result<(), Failure> {
     match walk {
         Ok(walk) => {
@@ -59,7 +59,7 @@ fn tell_walk(out: &Out, walk: Result<Walk, Error<'_>>) -> Result<(), Failure> {
     }
 }
 
-/// Walks over the graph.
+/// Walks over the graph and writes the members; `Memory` is the only error.
 fn over_graph(out: &Out, start: Start<'_>, offerer: &mut Asked<'_>) -> Result<(), Failure>
     requires { length start.initials.now ≡ length start.built.now.packages }
 {
@@ -75,7 +75,8 @@ fn over_graph(out: &Out, start: Start<'_>, offerer: &mut Asked<'_>) -> Result<()
     )
 }
 
-/// Walks over the graph as a source that writes down its reads.
+/// Walks over the graph as a source that logs its reads; writes the members and the number of reads. `Memory` is the only
+/// error.
 fn over_source(out: &Out, start: Start<'_>, offerer: &mut Asked<'_>) -> Result<(), Failure>
     requires { length start.initials.now ≡ length start.built.now.packages }
 {
@@ -90,7 +91,8 @@ fn over_source(out: &Out, start: Start<'_>, offerer: &mut Asked<'_>) -> Result<(
     Ok(())
 }
 
-/// Walks over a list of the edges, as a source that writes down its reads.
+/// Walks over a list of the edges, as a source that logs its reads; writes the members and the number of reads. `Words` if an
+/// end or a gate of an edge is no node, or `Memory`.
 fn over_list(out: &Out, start: Start<'_>, offerer: &mut Asked<'_>) -> Result<(), Failure>
     requires { length start.initials.now ≡ length start.built.now.packages }
 {
@@ -108,7 +110,7 @@ fn over_list(out: &Out, start: Start<'_>, offerer: &mut Asked<'_>) -> Result<(),
     Ok(())
 }
 
-/// Tells an explained walk, with the number of its reads.
+/// Writes an explained walk and the number of its reads, or returns `Memory`.
 fn tell_explained(
     out: &Out,
     walk: Result<Explained, Error<'_>>,
@@ -125,7 +127,8 @@ fn tell_explained(
     }
 }
 
-/// Walks over the graph as a source that writes down its reads, and tells why each member is one, and the offers that were refused.
+/// Walks over the graph as a source that logs its reads, and writes the walk, its steps and the refused offers. `Memory` is
+/// the only error.
 fn explained(out: &Out, start: Start<'_>, offerer: &mut Asked<'_>) -> Result<(), Failure>
     requires { length start.initials.now ≡ length start.built.now.packages }
 {
@@ -138,7 +141,8 @@ fn explained(out: &Out, start: Start<'_>, offerer: &mut Asked<'_>) -> Result<(),
     tell_explained(out, walk, source.source.reads())
 }
 
-/// Makes a walk from nodes: how, its direction, and the rule of its answers.
+/// Makes a walk. `words` are its form (`graph`, `list`, `source`, `explained`), the direction and the rule, then the initial
+/// nodes after `: `. `Words` if these can't be read, or `Memory`.
 pub fn walk_from(
     out: &Out,
     alloc: Global,
@@ -169,7 +173,7 @@ pub fn walk_from(
     }
 }
 
-/// Tells a set, or how many nodes it has.
+/// Writes the members of `set`, or their count if `told` is `count`; or returns `Memory`.
 fn tell_reached(out: &Out, told: &str, set: Result<IxBitSet, Error<'_>>) -> Result<(), Failure> {
     match set {
         Ok(set) if told == "count" => {
@@ -185,7 +189,8 @@ fn tell_reached(out: &Out, told: &str, set: Result<IxBitSet, Error<'_>>) -> Resu
     }
 }
 
-/// Tells what is reached from nodes, or how many nodes are: what is told, the direction, and the edges.
+/// Writes the nodes that are reached over all chosen edges, or their count if the first of `words` is `count`. The direction
+/// and the choice of edges follow, then the initial nodes after `: `. `Words` if these can't be read, or `Memory`.
 pub fn reach(
     out: &Out,
     alloc: Global,

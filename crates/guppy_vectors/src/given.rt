@@ -1,4 +1,4 @@
-//! The features that words name.
+//! Words of a call that name features.
 use crate::failure::Failure;
 use crate::words::{FromWord, label_of, parts};
 use feature_labels::{FeatureId, FeatureLabel};
@@ -6,7 +6,7 @@ use guppy_packages::PackageId;
 use std::alloc::{AllocError, Global};
 use std::slice;
 
-/// A word, and the feature that it names.
+/// A word of a call, and the feature that it names.
 #[derive(Drop)]
 pub struct Given<'a> {
     pub word: &'a str,
@@ -14,11 +14,11 @@ pub struct Given<'a> {
     label: FeatureLabel<'a>,
 }
 
-/// The words that are left of a call.
+/// The words of a call that aren't read yet.
 pub type Words<'a> = slice::Iter<'a, Given<'a>>;
 
 impl<'a> FromWord<'a> for Given<'a> {
-    /// A comma at the end of a word is no part of it.
+    /// Reads `word` without a comma at its end; `Memory` is the only error.
     fn from_word(alloc: Global, word: &'a str) -> Result<Given<'a>, Failure> {
         let word = word.strip_suffix(',').unwrap_or(word);
         let (package, label) = parts(word);
@@ -30,7 +30,7 @@ impl<'a> FromWord<'a> for Given<'a> {
     }
 }
 
-/// Returns the id that the next word names; none at the end and at a semicolon.
+/// Reads the next word and returns the id that it names; `None` at the end of `words` or for the word `;`.
 pub fn next_id<'a>(words: &mut Words<'a>) -> Option<FeatureId<'a>> {
     let given = words.next()?;
     if given.word == ";" {
@@ -40,7 +40,8 @@ pub fn next_id<'a>(words: &mut Words<'a>) -> Option<FeatureId<'a>> {
     }
 }
 
-/// Returns the ids up to the end or a semicolon.
+/// Reads and returns the ids up to the next word `;` or the end of `words`, and reads past the `;`.
+/// `AllocError` if an allocation fails.
 pub fn ids_of<'a>(alloc: Global, words: &mut Words<'a>) -> Result<Vec<FeatureId<'a>>, AllocError> {
     let mut ids = Vec::new(alloc);
     for _ in 0..words.len() {

@@ -1,5 +1,5 @@
-//! What the programs of calls share: their row files and scripts, the words of a call, and standard output. Test programs
-//! alone stand on it, and no claim rests on it.
+//! Shared parts of the test programs that make calls: row files and scripts, the words of a call, and standard output.
+//! Only test programs use this library, so no claim rests on it.
 #![tactic(auto)]
 
 mod failure;

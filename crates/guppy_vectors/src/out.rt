@@ -1,4 +1,4 @@
-//! Standard output.
+//! Standard output of the test programs.
 use crate::failure::Failure;
 use feature_labels::FeatureId;
 use std::cell::Cell;
@@ -6,7 +6,7 @@ use std::fmt;
 use std::io::{Stdout, Write};
 use std::process::ExitCode;
 
-/// Standard output, and whether a write to it has failed. It allocates nothing, so that no allocation that fails is its own.
+/// Standard output, with a flag for failed writes. It never allocates, so an allocation that fails is one of the call's.
 #[derive(Drop)]
 pub struct Out {
     stdout: Stdout,
@@ -14,7 +14,7 @@ pub struct Out {
 }
 
 impl Out {
-    /// Returns standard output, to which no write has failed.
+    /// Returns an `Out` for `stdout` without a failed write.
     pub fn new(stdout: Stdout) -> Self {
         Out {
             stdout,
@@ -22,19 +22,19 @@ impl Out {
         }
     }
 
-    /// Returns an `Out` of its own for the same standard output.
+    /// Returns a second `Out` for the same standard output, without a failed write.
     pub fn another(&self) -> Self {
         Out::new(self.stdout)
     }
 
-    /// Counts the failed writes of `other` as failed here too.
+    /// Marks `self` as failed if a write to `other` has failed.
     pub fn join(&self, other: &Out) {
         if other.has_failed.get() {
             self.has_failed.set(true);
         }
     }
 
-    /// Writes a part of a line.
+    /// Writes `text`, without the end of the line.
     pub fn part(&self, text: &str) {
         let mut stdout = self.stdout;
         if stdout.write_all(text.as_bytes()).is_err() {
@@ -42,13 +42,13 @@ impl Out {
         }
     }
 
-    /// Writes a line, or the rest of one.
+    /// Writes `text` and ends the line.
     pub fn line(&self, text: &str) {
         self.part(text);
         self.part("\n");
     }
 
-    /// Writes two texts.
+    /// Writes `before` and then `text`.
     pub fn text(&self, before: &str, text: &str) {
         self.part(before);
         self.part(text);
@@ -61,7 +61,7 @@ impl Out {
         }
     }
 
-    /// Writes what Display prints.
+    /// Writes the `Display` text of `value`.
     pub fn shown<T: fmt::Display + Drop>(&self, value: T) {
         let mut stdout = self.stdout;
         if write!(stdout, "{value}").is_err() {
@@ -69,7 +69,7 @@ impl Out {
         }
     }
 
-    /// Writes what Debug prints.
+    /// Writes the `Debug` text of `value`.
     pub fn debug<T: fmt::Debug + Drop>(&self, value: T) {
         let mut stdout = self.stdout;
         if write!(stdout, "{value:?}").is_err() {
@@ -77,37 +77,37 @@ impl Out {
         }
     }
 
-    /// Writes what Debug prints as a line, or as the rest of one.
+    /// Writes the `Debug` text of `value` and ends the line.
     pub fn debug_line<T: fmt::Debug + Drop>(&self, value: T) {
         self.debug(value);
         self.line("");
     }
 
-    /// Writes a text and a number.
+    /// Writes `before` and then `number`.
     pub fn number(&self, before: &str, number: usize) {
         self.part(before);
         self.shown(number);
     }
 
-    /// Writes a text, and `true` or `false`.
+    /// Writes `before`, and then `answer` as `true` or `false`.
     pub fn answer(&self, before: &str, answer: bool) {
         self.part(before);
         self.part(if answer { "true" } else { "false" });
     }
 
-    /// Writes a text, and `true` or `false` as the rest of a line.
+    /// Writes `before`, then `answer` as `true` or `false`, and ends the line.
     pub fn answer_line(&self, before: &str, answer: bool) {
         self.part(before);
         self.line(if answer { "true" } else { "false" });
     }
 
-    /// Writes a blank and an id.
+    /// Writes a space and then `id`.
     pub fn id(&self, id: FeatureId<'_>) {
         self.part(" ");
         self.shown(id);
     }
 
-    /// Writes why a call has no result.
+    /// Writes `failure` as a line.
     pub fn failure(&self, failure: Failure) {
         match failure {
             Failure::Words => self.line("bad words"),
@@ -120,7 +120,8 @@ impl Out {
         }
     }
 
-    /// Writes why no call was made, if so, and returns the program's exit status: a failure if a write has failed.
+    /// Writes the failure of `made`, if any, and returns the program's exit status: `FAILURE` if a write has failed, and
+    /// `SUCCESS` otherwise.
     pub fn ended(&self, made: Result<(), Failure>) -> ExitCode {
         if let Err(failure) = made {
             self.failure(failure);

@@ -4,13 +4,13 @@ use guppy_support::{Digraph, DigraphError, Edge};
 use guppy_vectors::{Failure, Out, all_of, cut, number};
 use std::alloc::Global;
 
-/// The edge as a word.
+/// Writes `edge` as a word: `>` marks an ordinary edge, and `~` a dev-only one.
 fn tell_edge(out: &Out, edge: Edge) {
     out.number(" ", edge.from);
     out.number(if edge.non_dev { ">" } else { "~" }, edge.to);
 }
 
-/// What a digraph holds.
+/// Writes the counts of nodes and edges, and the edges.
 fn tell_digraph(out: &Out, graph: &Digraph) {
     out.number("", graph.node_count());
     out.number(" nodes, ", graph.edge_count());
@@ -21,14 +21,14 @@ fn tell_digraph(out: &Out, graph: &Digraph) {
     out.line("");
 }
 
-/// How many nodes an order has, and how many components.
+/// Writes the counts of nodes and components of `order`.
 fn tell_counts(out: &Out, order: &Order) {
     out.number("", order.list().len());
     out.number(" in ", order.component_count());
     out.part(" components");
 }
 
-/// The nodes in order, each with its component.
+/// Writes the nodes in order, each with its component.
 fn tell_order(out: &Out, order: &Order) {
     order.facts();
     tell_counts(out, order);
@@ -42,7 +42,7 @@ fn tell_order(out: &Out, order: &Order) {
     out.line("");
 }
 
-/// The numbers of a node's edges, out of it and into it.
+/// Writes the numbers of the edges out of `node` and into it.
 fn tell_edges_at(out: &Out, graph: &Digraph, node: usize) {
     if node < graph.node_count() {
         out.number("", node);
@@ -57,7 +57,7 @@ fn tell_edges_at(out: &Out, graph: &Digraph, node: usize) {
     }
 }
 
-/// A node's place, and the nodes of its component.
+/// Writes the place of `node` in `order`, and the nodes of its component.
 fn tell_place(out: &Out, order: &Order, node: usize) {
     order.facts();
     if node < order.list().len() {
@@ -70,7 +70,7 @@ fn tell_place(out: &Out, order: &Order, node: usize) {
     out.line("");
 }
 
-/// The edge between two nodes, with its number.
+/// Writes the edge from `from` to `to` with its number, if there is one.
 fn tell_between(out: &Out, graph: &Digraph, from: usize, to: usize) {
     if let Some(number) = graph.edge_between(from, to) {
         tell_edge(out, graph.edge(number));
@@ -78,7 +78,7 @@ fn tell_between(out: &Out, graph: &Digraph, from: usize, to: usize) {
     }
 }
 
-/// Two nodes that are in one component.
+/// Writes `one` and `other` if they are in the same component.
 fn tell_same(out: &Out, order: &Order, one: usize, other: usize) {
     order.facts();
     if one < order.list().len() && other < order.list().len() && order.is_same(one, other) {
@@ -87,7 +87,7 @@ fn tell_same(out: &Out, order: &Order, one: usize, other: usize) {
     }
 }
 
-/// The edges between each node and each other, and the pairs that are in one component.
+/// Writes the edge between each pair of nodes, and then the pairs in the same component.
 fn tell_pairs(out: &Out, graph: &Digraph, order: &Order) {
     let nodes = graph.node_count();
     out.part("edges:");
@@ -105,7 +105,7 @@ fn tell_pairs(out: &Out, graph: &Digraph, order: &Order) {
     out.line("");
 }
 
-/// What a digraph and its order say, by the name of the call.
+/// Writes the facts about `graph` and `order` that the call `name` asks for.
 fn tell(out: &Out, name: &str, graph: &Digraph, order: &Order) {
     match name {
         "nodes" => {
@@ -124,7 +124,8 @@ fn tell(out: &Out, name: &str, graph: &Digraph, order: &Order) {
     }
 }
 
-/// What the digraph of so many nodes and these edges and its order say, or why there is no digraph.
+/// Builds the digraph of `nodes` nodes and `edges`, and its order, and writes the facts of the call `name`. Writes the error
+/// if there is no digraph or no order.
 fn tell_given(out: &Out, alloc: Global, name: &str, nodes: usize, edges: &[Edge]) {
     match Digraph::new(alloc, nodes, edges) {
         Ok(graph) => {
@@ -141,7 +142,8 @@ fn tell_given(out: &Out, alloc: Global, name: &str, nodes: usize, edges: &[Edge]
     }
 }
 
-/// Makes a call on the digraph of so many nodes and these edges.
+/// Makes the call `name` on the digraph of `words`: the count of nodes, and the edges. `Words` if these can't be read, or
+/// `Memory`.
 pub fn given(out: &Out, alloc: Global, name: &str, words: &str) -> Result<(), Failure> {
     let (nodes, listed) = cut(words);
     let nodes = number(nodes)?;
@@ -150,8 +152,8 @@ pub fn given(out: &Out, alloc: Global, name: &str, words: &str) -> Result<(), Fa
     Ok(())
 }
 
-/// The edges of the shape of this name with so many nodes: one cycle, one path, or cycles of two. Of these each leads to the
-/// one before it, and its way back is dev-only.
+/// Appends the edges of `shape` with `nodes` nodes: `cycle` for one cycle, `cycles` for cycles of two nodes, or else a path.
+/// In `cycles`, each cycle has an edge to the one before it, and its own edge back is dev-only. `Memory` is the only error.
 fn push_shape(edges: &mut Vec<Edge>, shape: &str, nodes: usize) -> Result<(), Failure> {
     let cycles = shape == "cycles";
     for to in 1..nodes {
@@ -180,7 +182,7 @@ fn push_shape(edges: &mut Vec<Edge>, shape: &str, nodes: usize) -> Result<(), Fa
     Ok(())
 }
 
-/// The counts of an order, and the last node's component.
+/// Writes the counts of `order`, and the component of the last node.
 fn tell_last(out: &Out, order: &Order) {
     order.facts();
     tell_counts(out, order);
@@ -191,7 +193,8 @@ fn tell_last(out: &Out, order: &Order) {
     out.line("");
 }
 
-/// Makes a call on a digraph that is too large for a script, of a shape and so many nodes.
+/// Makes a call on a digraph that is too large to list in a script. `words` are its shape and its count of nodes. `Words` if
+/// the count is no number, or `Memory`.
 pub fn large(out: &Out, alloc: Global, words: &str) -> Result<(), Failure> {
     let (shape, nodes) = cut(words);
     let nodes = number(nodes)?;

@@ -1,10 +1,10 @@
-//! Calls on the texts of items and on package ids.
+//! Calls on feature items and package ids.
 use guppy_packages::{NamedFeatureDep, PackageId};
 use guppy_vectors::{Failure, Out, all_of};
 use std::alloc::Global;
 use std::cmp::Ordering;
 
-/// What the text of an item means. Names stand in brackets.
+/// Writes the parts of the feature item `text`, with names in brackets. Returns no error.
 pub fn item(out: &Out, text: &str) -> Result<(), Failure> {
     match NamedFeatureDep::from_cargo_string(text) {
         NamedFeatureDep::NamedFeature(name) => out.text("feature [", name),
@@ -23,7 +23,7 @@ pub fn item(out: &Out, text: &str) -> Result<(), Failure> {
     Ok(())
 }
 
-/// How two values compare, as a sign.
+/// Returns the sign of `order`, after a space.
 pub fn sign(order: Ordering) -> &'static str {
     match order {
         Ordering::Less => " <",
@@ -32,7 +32,7 @@ pub fn sign(order: Ordering) -> &'static str {
     }
 }
 
-/// How an id compares with each, and whether its copy is equal to it.
+/// Writes the order of `id` and each of `ids`, and whether a copy of `id` is equal to it.
 fn tell_id(out: &Out, alloc: Global, id: &PackageId, ids: &[PackageId]) {
     out.text(id.repr(), ":");
     for other in ids {
@@ -46,7 +46,7 @@ fn tell_id(out: &Out, alloc: Global, id: &PackageId, ids: &[PackageId]) {
     out.line("");
 }
 
-/// How each of some package ids compares with each, and whether its copy is equal to it.
+/// Compares each package id of `words` with each, and with its copy; `Memory` is the only error.
 pub fn package_ids(out: &Out, alloc: Global, words: &str) -> Result<(), Failure> {
     let ids = all_of::<PackageId>(alloc, words)?;
     for id in &ids {

@@ -6,7 +6,7 @@ use guppy_packages::{
 use guppy_vectors::{Failure, Out, all_of, cut};
 use std::alloc::Global;
 
-/// A text that stands before a place, and the place or `none`.
+/// Writes `before`, and then `place` or `none`.
 fn tell_place(out: &Out, before: &str, place: Option<usize>) {
     match place {
         Some(place) => out.number(before, place),
@@ -14,7 +14,7 @@ fn tell_place(out: &Out, before: &str, place: Option<usize>) {
     }
 }
 
-/// A named feature and its items.
+/// Writes a named feature of `package`, its place and its items.
 fn tell_feature(out: &Out, package: PackageMetadata<'_>, feature: &NamedFeature) {
     out.text("feature ", feature.name());
     tell_place(out, " at ", package.feature_place(feature.name()));
@@ -25,7 +25,7 @@ fn tell_feature(out: &Out, package: PackageMetadata<'_>, feature: &NamedFeature)
     out.line("");
 }
 
-/// What a package says of itself.
+/// Writes the number and id of `package`, whether it is in the workspace and has a default feature, and its links.
 fn tell_facts(out: &Out, package: PackageMetadata<'_>) {
     out.number("package ", package.package_ix());
     out.text(" ", package.id().repr());
@@ -41,7 +41,7 @@ fn tell_facts(out: &Out, package: PackageMetadata<'_>) {
     out.line("");
 }
 
-/// A package, its features and its optional names.
+/// Writes `package`, its named features and its optional dependencies.
 fn tell_package(out: &Out, package: PackageMetadata<'_>) {
     tell_facts(out, package);
     for feature in package.named_features() {
@@ -54,7 +54,7 @@ fn tell_package(out: &Out, package: PackageMetadata<'_>) {
     }
 }
 
-/// A status, with the answers to its three questions.
+/// Writes `status` and the results of `is_never`, `is_always` and `is_present`.
 fn tell_status(out: &Out, status: PlatformStatus<'_>) {
     match status {
         PlatformStatus::Never => out.part("nowhere"),
@@ -71,7 +71,7 @@ fn tell_status(out: &Out, status: PlatformStatus<'_>) {
     out.part_if(status.is_present(), ", present");
 }
 
-/// A declaration of a link.
+/// Writes a declaration of a link on a line.
 fn tell_declaration(out: &Out, declaration: &Declaration) {
     out.debug(declaration.kind());
     out.part(if declaration.optional() {
@@ -87,7 +87,7 @@ fn tell_declaration(out: &Out, declaration: &Declaration) {
     out.line("");
 }
 
-/// A link and its declarations.
+/// Writes `link` and its declarations.
 fn tell_link(out: &Out, link: PackageLink<'_>) {
     let (from, to) = (link.from(), link.to());
     out.number("link ", link.link_ix());
@@ -102,7 +102,7 @@ fn tell_link(out: &Out, link: PackageLink<'_>) {
     }
 }
 
-/// All that a graph says, a line for each package, feature, optional name, link and declaration.
+/// Writes a line for each package, feature, optional dependency, link and declaration of `graph`. Returns no error.
 pub fn graph(out: &Out, graph: &PackageGraph) -> Result<(), Failure> {
     for ix in 0..graph.package_count() {
         tell_package(out, graph.package(ix));
@@ -113,7 +113,8 @@ pub fn graph(out: &Out, graph: &PackageGraph) -> Result<(), Failure> {
     Ok(())
 }
 
-/// Looks a package up, and a name in it: its places among the features and among the optional names.
+/// Looks up a package by id, and a name in it, and writes their places. Writes the error if `graph` lacks the package.
+/// Returns `Memory` if an allocation fails.
 pub fn place(out: &Out, alloc: Global, graph: &PackageGraph, words: &str) -> Result<(), Failure> {
     let (id, name) = cut(words);
     let id = PackageId::new(alloc, id)?;
@@ -130,7 +131,7 @@ pub fn place(out: &Out, alloc: Global, graph: &PackageGraph, words: &str) -> Res
     Ok(())
 }
 
-/// A status that owns its specs, and its copy.
+/// Writes an owned status and its copy; `Memory` is the only error.
 fn tell_owned(out: &Out, alloc: Global, status: &PlatformStatusImpl) -> Result<(), Failure> {
     tell_status(out, PlatformStatus::new(status));
     out.line("");
@@ -141,12 +142,12 @@ fn tell_owned(out: &Out, alloc: Global, status: &PlatformStatusImpl) -> Result<(
     Ok(())
 }
 
-/// The status everywhere.
+/// Writes the status `Always` and its copy; `Memory` is the only error.
 pub fn always(out: &Out, alloc: Global) -> Result<(), Failure> {
     tell_owned(out, alloc, &PlatformStatusImpl::Always)
 }
 
-/// The status on the platforms of some specs.
+/// Writes the status of the specs in `words`, and its copy; `Memory` is the only error.
 pub fn specs(out: &Out, alloc: Global, words: &str) -> Result<(), Failure> {
     tell_owned(
         out,

@@ -1,4 +1,4 @@
-//! Which call a line asks for.
+//! The calls of a script, by name.
 use crate::checks::{Start, check, check_exact};
 use crate::explanations::platform;
 use crate::filters::{select_ids, select_names, select_plain};
@@ -13,10 +13,10 @@ use guppy_features::{FeatureGraph, FeatureGraphData, FeatureGraphExt, FeatureId,
 use guppy_vectors::{Failure, Given, Out, Words, all_of, cut, direction_of, ids_of};
 use std::alloc::Global;
 
-/// The stamp of the graph.
+/// The stamp under which the graph is built.
 const STAMP: u64 = 7;
 
-/// Makes a call that takes no features.
+/// Makes the call `name`, which takes no features. `Memory` is the only error.
 fn plain_call(
     out: &Out,
     alloc: Global,
@@ -39,7 +39,7 @@ fn plain_call(
     Ok(())
 }
 
-/// Makes a call that takes features.
+/// Makes the call `name` on the features `ids`. `Memory` is the only error.
 fn call(
     out: &Out,
     alloc: Global,
@@ -64,7 +64,8 @@ fn call(
     Ok(())
 }
 
-/// Makes a call that explains, or checks an explanation: its direction is the first of the options.
+/// Makes a call that checks or writes an explanation from `start`. `options` are the words after the direction, and `words`
+/// those after the initial features. `Memory` is the only error.
 fn explained_call(
     out: &Out,
     start: Start<'_, '_>,
@@ -84,7 +85,8 @@ fn explained_call(
     Ok(())
 }
 
-/// Makes a call that takes features, and maybe further words.
+/// Makes the call of `words`, a name and its options. The features are the ids of `rest` up to the first `;`; the call reads
+/// the words after it. `Memory` is the only error.
 fn call_of(
     out: &Out,
     alloc: Global,
@@ -121,7 +123,7 @@ fn call_of(
     }
 }
 
-/// Makes the call of a line.
+/// Makes the call of `line`. Features and further words follow the first `: `. `Memory` is the only error.
 fn make_call(
     out: &Out,
     alloc: Global,
@@ -140,7 +142,7 @@ fn make_call(
     }
 }
 
-/// Makes the calls of a script, in order.
+/// Makes the calls of `script`, one for each line, in order. Writes each line after `< `, then the output of its call.
 fn make_each(out: &Out, alloc: Global, features: FeatureGraph<'_>, script: &str) {
     for line in script.lines() {
         out.text("< ", line);
@@ -151,7 +153,7 @@ fn make_each(out: &Out, alloc: Global, features: FeatureGraph<'_>, script: &str)
     }
 }
 
-/// Makes the calls of a script on the feature graph of a package graph.
+/// Builds the feature graph of `graph` and makes the calls of `script` on it; `Memory` if the build runs out of memory.
 pub fn make_calls(
     out: &Out,
     alloc: Global,

@@ -1,4 +1,4 @@
-//! Checks of explanations, and the steps on which one feature rests.
+//! Checks of explanations, and the steps that explain one feature.
 use crate::explanations::tell_steps;
 use crate::steps::{Link, Step, links_of, steps_of};
 use crate::told::{tell_answer, tell_error};
@@ -8,7 +8,7 @@ use guppy_features::{
 use guppy_vectors::{Failure, Out, Words, next_id};
 use std::alloc::Global;
 
-/// A graph, the direction in which its edges are followed, and the features from which they are.
+/// The arguments of a query: a graph, the direction in which its edges are followed, and the initial features.
 #[derive(Clone, Copy)]
 pub struct Start<'s, 'g> {
     pub alloc: Global,
@@ -18,13 +18,13 @@ pub struct Start<'s, 'g> {
 }
 
 impl<'s, 'g> Start<'s, 'g> {
-    /// Returns the query.
+    /// Returns the query from `initials` in `direction`, or its error.
     pub fn query(self) -> Result<FeatureQuery<'g>, Error<'s>> {
         self.features
             .query_directed(self.alloc, self.initials, self.direction)
     }
 
-    /// Writes whether the steps are an explanation.
+    /// Writes whether `steps` are an explanation, or the error of the check.
     fn tell_check(self, out: &Out, steps: &[Step<'_>]) {
         let answer = self
             .features
@@ -32,7 +32,7 @@ impl<'s, 'g> Start<'s, 'g> {
         tell_answer(out, "explained ", answer);
     }
 
-    /// Writes whether they are an exact one.
+    /// Writes whether `steps` and `refused` are an exact explanation, or the error of the check.
     fn tell_exact(self, out: &Out, steps: &[Step<'_>], refused: &[Link<'_>]) {
         let answer = self
             .features
@@ -40,13 +40,14 @@ impl<'s, 'g> Start<'s, 'g> {
         tell_answer(out, "exact ", answer);
     }
 
-    /// Writes whether an explanation is one by both checks.
+    /// Writes the results of both checks of `explained`.
     pub fn tell_checks(self, out: &Out, explained: &Explained<'_>) {
         self.tell_check(out, explained.steps());
         self.tell_exact(out, explained.steps(), explained.refused());
     }
 
-    /// Writes the steps on which a feature rests, and whether they are an explanation.
+    /// Writes the steps of `explained` that explain `id`, and whether they are an explanation themselves. Writes `none` if the
+    /// set lacks `id`, or the error.
     fn tell_why(self, out: &Out, explained: &Explained<'_>, id: FeatureId<'_>) {
         match explained.why(self.alloc, id) {
             Ok(Some(steps)) => {
@@ -65,7 +66,7 @@ impl<'s, 'g> Start<'s, 'g> {
         }
     }
 
-    /// Writes so of each feature of a set, or the error.
+    /// Calls `tell_why` for each feature of `set`, or writes the error.
     fn tell_each(
         self,
         out: &Out,
@@ -82,7 +83,7 @@ impl<'s, 'g> Start<'s, 'g> {
         }
     }
 
-    /// Writes so of each feature of the graph, and then of others.
+    /// Calls `tell_why` for each feature of the graph, then for the ids of `others` up to a `;`.
     pub fn tell_whys(self, out: &Out, explained: &Explained<'_>, others: &mut Words<'_>) {
         self.tell_each(out, explained, self.features.resolve_all(self.alloc));
         for _ in 0..others.len() {
@@ -92,14 +93,14 @@ impl<'s, 'g> Start<'s, 'g> {
     }
 }
 
-/// Checks steps.
+/// Reads steps from `words` and checks them; `Memory` is the only error.
 pub fn check(out: &Out, start: Start<'_, '_>, words: &mut Words<'_>) -> Result<(), Failure> {
     let steps = steps_of(start.alloc, words)?;
     start.tell_check(out, &steps);
     Ok(())
 }
 
-/// Checks steps and refused links.
+/// Reads steps and, after a `;`, refused links from `words`, and checks them for exactness; `Memory` is the only error.
 pub fn check_exact(out: &Out, start: Start<'_, '_>, words: &mut Words<'_>) -> Result<(), Failure> {
     let steps = steps_of(start.alloc, words)?;
     let refused = links_of(start.alloc, words)?;

@@ -1,4 +1,4 @@
-//! What explanations say, and what platforms have.
+//! Explanations as text, and calls that resolve for a platform.
 use crate::checks::Start;
 use crate::items::tell_counted;
 use crate::links::tell_ends;
@@ -8,7 +8,7 @@ use guppy_features::{DependencyKind, Error, Explained, PlatformVisitor, Reason};
 use guppy_vectors::{Failure, Out, Words, all_of, cut};
 use std::alloc::{AllocError, Global};
 
-/// Writes steps, a line each.
+/// Writes each step on a line: its feature and its reason.
 pub fn tell_steps(out: &Out, steps: &[Step<'_>]) {
     for (id, reason) in steps {
         out.part("step");
@@ -33,7 +33,7 @@ pub fn tell_steps(out: &Out, steps: &[Step<'_>]) {
     }
 }
 
-/// Writes the set, the steps and the refused links of an explanation.
+/// Writes the set, the steps and the refused links of `explained`.
 fn tell_explained(out: &Out, explained: &Explained<'_>) {
     tell_counted(out, ":", explained.set().ids_by_node());
     tell_steps(out, explained.steps());
@@ -44,7 +44,7 @@ fn tell_explained(out: &Out, explained: &Explained<'_>) {
     }
 }
 
-/// Writes an explanation, and more as the call's name says.
+/// Writes `explained`. The call `checked` adds the checks and the steps of each feature; `shown` adds the `Debug` text.
 pub fn tell_as(
     out: &Out,
     start: Start<'_, '_>,
@@ -63,7 +63,8 @@ pub fn tell_as(
     }
 }
 
-/// Returns the kinds that `words` name, with commas between them; other words name none.
+/// Returns the dependency kinds that `words` name, separated by commas; other words are skipped. `AllocError` if an
+/// allocation fails.
 fn kinds_of(alloc: Global, words: &str) -> Result<Vec<DependencyKind>, AllocError> {
     let mut kinds = Vec::new(alloc);
     for word in words.split(',') {
@@ -77,7 +78,7 @@ fn kinds_of(alloc: Global, words: &str) -> Result<Vec<DependencyKind>, AllocErro
     Ok(kinds)
 }
 
-/// Writes an explanation and whether it is one by both checks, or the error.
+/// Writes an explanation and the results of both checks, or the error.
 fn tell_checked(out: &Out, start: Start<'_, '_>, explained: Result<Explained<'_>, Error<'_>>) {
     match explained {
         Ok(explained) => {
@@ -88,7 +89,8 @@ fn tell_checked(out: &Out, start: Start<'_, '_>, explained: Result<Explained<'_>
     }
 }
 
-/// Writes what a platform has: its kinds, with commas between them, and its specs.
+/// Writes the features that `start` resolves to on one platform, explained. `options` are kinds separated by commas, then
+/// the specs that hold there. `Memory` is the only error.
 pub fn platform(out: &Out, start: Start<'_, '_>, options: &str) -> Result<(), Failure> {
     let (kinds, specs) = cut(options);
     let kinds = kinds_of(start.alloc, kinds)?;

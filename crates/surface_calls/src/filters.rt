@@ -1,4 +1,4 @@
-//! Calls that select features of the workspace by a filter in four forms, alone or below a list.
+//! Calls that select features of the workspace by a filter in four forms, alone or joined with a list.
 ghost use Rattle.feature_sets.specs.Values.{Graph};
 ghost use Rattle.feature_labels.specs.Names.{LabelName};
 ghost use Rattle.guppy_packages.specs.Rows.{Text};
@@ -13,25 +13,25 @@ use std::alloc::Global;
 use std::cell::Cell;
 use std::rc::Rc;
 
-/// Which features are accepted.
+/// The features that a filter accepts.
 #[derive(Clone, Copy)]
 enum Choice {
-    /// None.
+    /// No feature.
     Nothing,
-    /// Those of the first, the third and each other odd question.
+    /// The features of the first, third and every other odd question.
     Odd,
-    /// Bases.
+    /// Package bases.
     Bases,
-    /// Those that are on by default.
+    /// Features that are on by default.
     Defaults,
-    /// All.
+    /// Every feature.
     All,
-    /// Those that a standard filter accepts.
+    /// The features that a standard filter accepts.
     Standard(StandardFeatures),
 }
 
 impl Choice {
-    /// Returns the choice that a word names.
+    /// Returns the choice that `word` names; `Nothing` for any other word.
     fn of(word: &str) -> Self {
         match word {
             "odd" => Choice::Odd,
@@ -42,7 +42,7 @@ impl Choice {
         }
     }
 
-    /// Returns the choice of the standard filter that a word names.
+    /// Returns the choice of the standard filter that `word` names: default, all, or else none.
     fn standard(word: &str) -> Self {
         Choice::Standard(match word {
             "default" => StandardFeatures::Default,
@@ -51,7 +51,7 @@ impl Choice {
         })
     }
 
-    /// Returns the answer to the question of this number, from 1.
+    /// Returns whether `id` is accepted as question `number`, counted from 1.
     fn accepts(self, number: usize, graph: &FeatureGraph<'_>, id: FeatureId<'_>) -> bool {
         match self {
             Choice::Nothing => false,
@@ -64,7 +64,7 @@ impl Choice {
     }
 }
 
-/// Returns the answer of a choice to the next question, and counts it.
+/// Returns whether `choice` accepts `id`, and adds the question to `asked`.
 fn answer(
     choice: Choice,
     asked: &Cell<usize>,
@@ -76,7 +76,7 @@ fn answer(
     choice.accepts(number, graph, id)
 }
 
-/// A filter that chooses, and counts what it is asked.
+/// A filter that accepts by `choice` and counts its questions in `asked`.
 #[derive(Clone, Copy)]
 struct Chooser<'c> {
     choice: Choice,
@@ -93,7 +93,7 @@ impl<'g> FeatureFilter<'g> for Chooser<'_> {
     }
 }
 
-/// The same for a box.
+/// A `Chooser` that shares its counter, for use in a box.
 #[derive(Drop)]
 struct BoxedChooser {
     choice: Choice,
@@ -110,7 +110,7 @@ impl FeatureFilterObject for BoxedChooser {
     }
 }
 
-/// What is accepted besides what a filter accepts.
+/// Features that are accepted in addition to those of a filter.
 #[derive(Clone, Copy)]
 enum Listed<'l, 'g> {
     Nothing,
@@ -118,7 +118,7 @@ enum Listed<'l, 'g> {
     Ids(&'l [FeatureId<'g>]),
 }
 
-/// What to select from: the workspace of a graph, by a list.
+/// A graph whose workspace is selected from, and the features accepted in addition.
 #[derive(Clone, Copy)]
 struct Selection<'l, 'g> {
     alloc: Global,
@@ -126,10 +126,10 @@ struct Selection<'l, 'g> {
     listed: Listed<'l, 'g>,
 }
 
-/// A query, or why there is none.
+/// The query of the selected features, or its error.
 type Selected<'g> = Result<FeatureQuery<'g>, Error<'g>>;
 
-/// Selects what the list has, and what the filter accepts.
+/// Returns the query of the workspace features that are listed in `from` or that `base` accepts.
 fn select_by<'g, B: FeatureFilter<'g> + Drop>(from: Selection<'_, 'g>, mut base: B) -> Selected<'g>
     requires { (s : B) (g : Graph) (i : Text × LabelName) → B.can_accept s g i }
 {
@@ -146,14 +146,14 @@ fn select_by<'g, B: FeatureFilter<'g> + Drop>(from: Selection<'_, 'g>, mut base:
     }
 }
 
-/// Selects by a filter in a box, whose count is kept outside too.
+/// Selects by a boxed filter, which counts its questions in `count`.
 fn boxed<'g>(from: Selection<'_, 'g>, choice: Choice, count: &Rc<Cell<usize>>) -> Selected<'g> {
     let asked = count.clone()?;
     let base: Box<dyn FeatureFilterObject> = Box::new(from.alloc, BoxedChooser { choice, asked })?;
     select_by(from, base)
 }
 
-/// Selects by a filter in a box.
+/// Selects by a boxed filter, and copies its count to `chooser.asked`.
 fn by_box<'g>(from: Selection<'_, 'g>, chooser: Chooser<'_>) -> Selected<'g> {
     let count = Rc::new(from.alloc, Cell::new(0))?;
     let selected = boxed(from, chooser.choice, &count);
@@ -161,13 +161,14 @@ fn by_box<'g>(from: Selection<'_, 'g>, chooser: Chooser<'_>) -> Selected<'g> {
     selected
 }
 
-/// Selects by a closure.
+/// Selects by a closure that accepts as `chooser` does.
 fn by_closure<'g>(from: Selection<'_, 'g>, chooser: Chooser<'_>) -> Selected<'g> {
     let filter = FeatureFilterFn::new(|graph, id| answer(chooser.choice, chooser.asked, graph, id));
     select_by(from, filter)
 }
 
-/// Writes what a filter in the form that a word names selects, what that resolves to, and how often the filter was asked.
+/// Selects by a filter of `choice` in the form `form`: `lent`, `boxed`, `closure`, or else by value. Writes the query, the
+/// set it resolves to and the count of questions.
 fn tell_selected(out: &Out, from: Selection<'_, '_>, form: &str, choice: Choice) {
     let asked = Cell::new(0);
     let mut chooser = Chooser {
@@ -185,7 +186,7 @@ fn tell_selected(out: &Out, from: Selection<'_, '_>, form: &str, choice: Choice)
     out.line("");
 }
 
-/// Selects by a choice or, of `standard`, by a standard filter: what the name of the call, the form and a word say.
+/// Selects by the choice `word` in the form `form`; for the call `standard`, `word` names a standard filter.
 fn select_from(out: &Out, from: Selection<'_, '_>, name: &str, form: &str, word: &str) {
     let choice = if name == "standard" {
         Choice::standard(word)
@@ -195,7 +196,8 @@ fn select_from(out: &Out, from: Selection<'_, '_>, name: &str, form: &str, word:
     tell_selected(out, from, form, choice);
 }
 
-/// Selects the features of the workspace that a filter accepts, and the named features of the names after it.
+/// Selects workspace features by a filter, and the named features listed after it. `options` are the form, the choice and
+/// the names. `Memory` is the only error.
 pub fn select_names<'g>(
     out: &Out,
     alloc: Global,
@@ -215,7 +217,7 @@ pub fn select_names<'g>(
     Ok(())
 }
 
-/// Selects the features of the workspace that a filter accepts, and those of these ids.
+/// Selects workspace features by a filter, and those in `ids`. `options` are the form and the choice.
 pub fn select_ids<'g>(
     out: &Out,
     alloc: Global,
@@ -233,7 +235,7 @@ pub fn select_ids<'g>(
     select_from(out, from, name, form, word);
 }
 
-/// Selects the features of the workspace that a filter accepts.
+/// Selects workspace features by a filter. `options` are the form and the choice.
 pub fn select_plain(
     out: &Out,
     alloc: Global,

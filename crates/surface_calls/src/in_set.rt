@@ -1,4 +1,4 @@
-//! Calls on a set.
+//! Calls on a feature set.
 use crate::items::{tell_counted, tell_end, tell_ends, tell_items};
 use crate::links::{tell_edge, tell_ends as tell_link_ends, tell_rest};
 use crate::look_ups::tell_list;
@@ -9,7 +9,7 @@ use guppy_features::{DependencyDirection, Error, FeatureList, FeatureSet, Packag
 use guppy_vectors::{Failure, Out, cut, direction_of};
 use std::alloc::Global;
 
-/// Writes a copy of the set, and whether it is equal.
+/// Writes whether `copy` is equal to `set`, and its members, or the error.
 fn tell_copy(out: &Out, set: &FeatureSet<'_>, copy: Result<FeatureSet<'_>, Error<'_>>) {
     match copy {
         Ok(copy) => {
@@ -21,7 +21,8 @@ fn tell_copy(out: &Out, set: &FeatureSet<'_>, copy: Result<FeatureSet<'_>, Error
     }
 }
 
-/// Writes the set's features of a package.
+/// Writes the features in `set` of the package `id`, `none` without any, or the error. Returns `Memory` if an allocation
+/// fails for the id.
 fn features_for(out: &Out, alloc: Global, set: &FeatureSet<'_>, id: &str) -> Result<(), Failure> {
     let id = PackageId::new(alloc, id)?;
     match set.features_for(alloc, &id) {
@@ -32,7 +33,7 @@ fn features_for(out: &Out, alloc: Global, set: &FeatureSet<'_>, id: &str) -> Res
     Ok(())
 }
 
-/// Writes the packages of a set, with their count, or the error.
+/// Writes the count of the packages and their ids in `direction`, or the error.
 fn tell_packages(
     out: &Out,
     packages: Result<PackageSet<'_>, Error<'_>>,
@@ -44,7 +45,7 @@ fn tell_packages(
     }
 }
 
-/// Writes the features that a set has of one package, or the error.
+/// Writes the package of `list` and its features, or the error.
 fn tell_of_package(out: &Out, list: Result<FeatureList<'_>, Error<'_>>) {
     match list {
         Ok(list) => {
@@ -56,14 +57,14 @@ fn tell_of_package(out: &Out, list: Result<FeatureList<'_>, Error<'_>>) {
     }
 }
 
-/// Writes the edges between the set's features, a line each.
+/// Writes each edge between features of `set` on a line.
 fn links(out: &Out, set: &FeatureSet<'_>, direction: DependencyDirection) {
     for (from, to, edge) in set.links(direction) {
         tell_edge(out, from, to, edge);
     }
 }
 
-/// Writes the links of the conditional ones among them, a line each.
+/// Writes each conditional link between features of `set` on a line.
 fn conditional_links(out: &Out, set: &FeatureSet<'_>, direction: DependencyDirection) {
     for link in set.conditional_links(direction) {
         let (from, to) = link.endpoints();
@@ -73,14 +74,15 @@ fn conditional_links(out: &Out, set: &FeatureSet<'_>, direction: DependencyDirec
     }
 }
 
-/// Writes the set's features, package by package.
+/// Writes the features of `set`, one line for each package.
 fn by_package(out: &Out, alloc: Global, set: &FeatureSet<'_>, direction: DependencyDirection) {
     for list in set.packages_with_features(alloc, direction) {
         tell_of_package(out, list);
     }
 }
 
-/// Gives up the iterators that take no memory after their first item, and asks others of links again after their end.
+/// Drops each non-allocating iterator after its first item. Then writes whether the iterators over links return `None` again
+/// after their end.
 fn link_ends(out: &Out, set: &FeatureSet<'_>, direction: DependencyDirection) {
     let _id = set.feature_ids(direction).next();
     let _feature = set.features(direction).next();
@@ -94,7 +96,7 @@ fn link_ends(out: &Out, set: &FeatureSet<'_>, direction: DependencyDirection) {
     out.answer_line("conditional links ", links.next().is_none());
 }
 
-/// Writes what iterators over a set yield that are asked again after their end, and the set after them.
+/// Writes whether each iterator over `set` returns `None` after its end, and then the members of `set`.
 fn ends(out: &Out, alloc: Global, set: &FeatureSet<'_>, direction: DependencyDirection) {
     tell_end(out, "ids ", ", left ", " ", set.feature_ids(direction));
     tell_end(out, "features ", ", left ", " ", set.features(direction));
@@ -104,7 +106,7 @@ fn ends(out: &Out, alloc: Global, set: &FeatureSet<'_>, direction: DependencyDir
     tell_members(out, set);
 }
 
-/// Makes a call that takes a direction.
+/// Makes the call `name` on `set` in `direction`; `word` is the option after the direction.
 fn directed_call(
     out: &Out,
     alloc: Global,
@@ -128,7 +130,7 @@ fn directed_call(
     }
 }
 
-/// Makes a call on a set.
+/// Makes the call of `words` on `set`. `Memory` is the only error.
 fn set_call(out: &Out, alloc: Global, set: &FeatureSet<'_>, words: &str) -> Result<(), Failure> {
     let (name, options) = cut(words);
     match name {
@@ -142,7 +144,7 @@ fn set_call(out: &Out, alloc: Global, set: &FeatureSet<'_>, words: &str) -> Resu
     Ok(())
 }
 
-/// Makes a call on a set, or writes why there is none.
+/// Makes the call of `words` on `set`, or writes the error of `set`. Returns `Memory` if an allocation of the call fails.
 pub fn in_set(
     out: &Out,
     alloc: Global,

@@ -1,9 +1,9 @@
-//! Iterators, whatever they are over.
+//! Iterators over features and packages as text.
 use crate::told::tell_error;
 use guppy_features::{Error, FeatureId, FeatureMetadata, PackageMetadata};
 use guppy_vectors::Out;
 
-/// What is written by its id.
+/// An item that is written as its id.
 pub trait Named: Copy {
     /// Writes the id.
     fn write(self, out: &Out);
@@ -27,7 +27,7 @@ impl Named for PackageMetadata<'_> {
     }
 }
 
-/// Writes how many items there are and a text, and the items.
+/// Writes the count of `items`, `between`, and the items, as one line.
 pub fn tell_counted<T: Named, I: ExactSizeIterator<Item = T>>(
     out: &Out,
     between: &str,
@@ -47,7 +47,7 @@ pub fn tell_counted<T: Named, I: ExactSizeIterator<Item = T>>(
     out.line("");
 }
 
-/// Writes items with their count, or the error.
+/// Writes the count of `items` and the items, or the error.
 pub fn tell_items<T: Named, I: ExactSizeIterator<Item = T> + Drop>(
     out: &Out,
     items: Result<I, Error<'_>>,
@@ -60,7 +60,7 @@ pub fn tell_items<T: Named, I: ExactSizeIterator<Item = T> + Drop>(
     }
 }
 
-/// Writes the first item, or that there is none.
+/// Writes the first item, or `no first`.
 pub fn tell_first<T: Named, I: Iterator<Item = T>>(out: &Out, mut items: I)
     requires { (items : _) → I.can_next items }
 {
@@ -74,7 +74,8 @@ pub fn tell_first<T: Named, I: Iterator<Item = T>>(out: &Out, mut items: I)
     }
 }
 
-/// Writes how many items there are, how many are left after them, and whether there is none after the last.
+/// Writes three values: the count of `items`, the count left after reading them all, and whether the next read returns
+/// `None`. The texts `before`, `between` and `after` precede them.
 pub fn tell_end<T: Named, I: ExactSizeIterator<Item = T>>(
     out: &Out,
     before: &str,
@@ -93,7 +94,7 @@ pub fn tell_end<T: Named, I: ExactSizeIterator<Item = T>>(
     out.answer_line(after, items.next().is_none());
 }
 
-/// Writes whether there is none after the last item, or the error.
+/// Reads `items` to their end and writes the values of `tell_end`, or the error.
 pub fn tell_ends<T: Named, I: ExactSizeIterator<Item = T> + Drop>(
     out: &Out,
     before: &str,

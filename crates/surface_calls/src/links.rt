@@ -1,10 +1,10 @@
-//! Links and edges.
+//! Links and edges as text.
 use guppy_features::{
     ConditionalLink, FeatureEdge, FeatureId, LinkDeclarations, PlatformStatus, SlashForm,
 };
 use guppy_vectors::Out;
 
-/// Writes a status: `-` for never, `*` for always, and else the specs.
+/// Writes `status`: `-` for never, `*` for always, and otherwise the specs.
 fn tell_status(out: &Out, status: PlatformStatus<'_>) {
     match status {
         PlatformStatus::Never => out.part(" -"),
@@ -19,7 +19,7 @@ fn tell_status(out: &Out, status: PlatformStatus<'_>) {
     }
 }
 
-/// Writes two features and the declarations that the link between them covers.
+/// Writes the ends `from` and `to` of a link, and the declarations that it covers.
 pub fn tell_ends(
     out: &Out,
     from: FeatureId<'_>,
@@ -35,7 +35,7 @@ pub fn tell_ends(
     });
 }
 
-/// Writes where a link is for normal use, builds and development, its package links, and whether it is for development alone.
+/// Writes the normal, build and dev status of `link`, its package links, and `dev-only` for a dev-only link.
 pub fn tell_rest(out: &Out, link: ConditionalLink<'_>) {
     tell_status(out, link.normal());
     tell_status(out, link.build());
@@ -48,7 +48,7 @@ pub fn tell_rest(out: &Out, link: ConditionalLink<'_>) {
     out.part_if(link.dev_only(), " dev-only");
 }
 
-/// Writes an edge with its two features.
+/// Writes an edge on a line: its ends `from` and `to`, and its kind.
 pub fn tell_edge(out: &Out, from: FeatureId<'_>, to: FeatureId<'_>, edge: &FeatureEdge) {
     out.shown(from);
     out.id(to);

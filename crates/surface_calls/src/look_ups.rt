@@ -1,4 +1,4 @@
-//! Calls that look something up.
+//! Calls that look up facts of the graph or of one feature.
 use crate::told::{tell_answer, tell_error};
 use guppy_features::{
     Error, FeatureGraph, FeatureGraphWarning, FeatureId, FeatureList, FeatureMetadata,
@@ -6,7 +6,7 @@ use guppy_features::{
 use guppy_vectors::Out;
 use std::alloc::Global;
 
-/// Writes the figures of the graph.
+/// Writes the counts of packages, features and links, and the stamp.
 pub fn figures(out: &Out, features: FeatureGraph<'_>) {
     out.number("", features.package_graph().package_count());
     out.number(" packages, ", features.feature_count());
@@ -16,7 +16,7 @@ pub fn figures(out: &Out, features: FeatureGraph<'_>) {
     out.line("");
 }
 
-/// Writes the warnings, with their count.
+/// Writes the count of the build warnings, and each warning on a line.
 pub fn warnings(out: &Out, features: FeatureGraph<'_>) {
     let warnings = features.build_warnings();
     out.number("", warnings.len());
@@ -38,7 +38,7 @@ pub fn warnings(out: &Out, features: FeatureGraph<'_>) {
     }
 }
 
-/// Writes whether each conditional edge has a link for some kind.
+/// Writes `verified` if each conditional link is present for some kind, or the error.
 pub fn verify(out: &Out, features: FeatureGraph<'_>) {
     match features.verify() {
         Ok(()) => out.line("verified"),
@@ -46,7 +46,7 @@ pub fn verify(out: &Out, features: FeatureGraph<'_>) {
     }
 }
 
-/// Writes what the graph says of a feature, or the error.
+/// Writes the id, package and kind of a feature, or the error.
 fn tell_metadata(out: &Out, metadata: Result<FeatureMetadata<'_>, Error<'_>>) {
     match metadata {
         Ok(metadata) => {
@@ -60,7 +60,7 @@ fn tell_metadata(out: &Out, metadata: Result<FeatureMetadata<'_>, Error<'_>>) {
     }
 }
 
-/// Writes the features of a list, or the error.
+/// Writes the features of `list` on a line, or the error.
 pub fn tell_list(out: &Out, list: Result<FeatureList<'_>, Error<'_>>) {
     match list {
         Ok(list) => {
@@ -71,7 +71,7 @@ pub fn tell_list(out: &Out, list: Result<FeatureList<'_>, Error<'_>>) {
     }
 }
 
-/// Makes a call of one feature.
+/// Makes the call `name` on the feature `id`.
 fn look_up(out: &Out, alloc: Global, features: FeatureGraph<'_>, name: &str, id: FeatureId<'_>) {
     match name {
         "contains" => out.answer_line("", features.contains(id)),
@@ -82,7 +82,7 @@ fn look_up(out: &Out, alloc: Global, features: FeatureGraph<'_>, name: &str, id:
     }
 }
 
-/// Makes a call of one feature for each of the features.
+/// Makes the call `name` on each feature of `ids`.
 pub fn look_ups(
     out: &Out,
     alloc: Global,

@@ -1,8 +1,8 @@
 //! The program `surface_calls FILE`: calls on the feature graph of a row file, for tests.
 //!
-//! FILE is the path of a row file. Standard input has the calls, one a line: words, and where the call takes features, `: `
-//! and their ids. Where a call takes steps, ` ; ` and these follow, and where it takes refused links, ` ; ` and these. Each call
-//! is repeated with `< ` before it, and what came follows.
+//! FILE is the path of a row file. Standard input contains one call per line: its words, then `: ` and the ids of its features
+//! if it takes any. Steps follow after ` ; `, and refused links after another ` ; `. The program writes each call after `< `,
+//! then its result.
 #![tactic(auto)]
 
 mod calls;
@@ -29,7 +29,7 @@ use guppy_vectors::{Failure, Out, package_graph, script};
 use std::alloc::Global;
 use std::process::ExitCode;
 
-/// Makes the calls of a script on a package graph, if it could be read.
+/// Makes the calls of `script` on `graph`, or returns the failure of `graph`.
 fn answer_over(
     out: &Out,
     alloc: Global,
@@ -42,7 +42,7 @@ fn answer_over(
     }
 }
 
-/// Makes the calls of standard input.
+/// Makes the calls of standard input on the graph of the program's first argument, or returns the first failure to read.
 fn answer(rt: &HostRuntime, out: &Out) -> Result<(), Failure> {
     let script = script(rt)?;
     answer_over(out, rt.alloc(), script.as_str(), package_graph(rt, 1))

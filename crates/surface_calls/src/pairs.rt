@@ -1,4 +1,4 @@
-//! Calls on two sets, and on two features.
+//! Calls on two sets or two features, and on cycles.
 use crate::told::{tell_answer, tell_error, tell_members, tell_set};
 use guppy_features::{
     Error, FeatureGraph, FeatureGraphData, FeatureGraphExt, FeatureId, FeatureSet,
@@ -6,7 +6,7 @@ use guppy_features::{
 use guppy_vectors::Out;
 use std::alloc::Global;
 
-/// Writes what the operations make of two sets, if their graphs count as one.
+/// Writes the union, intersection and both differences of `one` and `other` if `same_graph` is true for them.
 fn tell_operations<'g>(out: &Out, alloc: Global, one: &FeatureSet<'g>, other: &FeatureSet<'g>) {
     if one.same_graph(other) {
         tell_set(out, "union ", one.union(alloc, other));
@@ -17,7 +17,7 @@ fn tell_operations<'g>(out: &Out, alloc: Global, one: &FeatureSet<'g>, other: &F
     }
 }
 
-/// Writes how two sets compare, what the operations make of them, and the sets after that.
+/// Writes comparisons of `one` and `other`, the results of the set operations, and then the members of both.
 fn tell_pair<'g>(out: &Out, alloc: Global, one: &FeatureSet<'g>, other: &FeatureSet<'g>) {
     out.answer("same graph ", one.same_graph(other));
     out.answer(", equal ", one == other);
@@ -29,7 +29,7 @@ fn tell_pair<'g>(out: &Out, alloc: Global, one: &FeatureSet<'g>, other: &Feature
     tell_members(out, other);
 }
 
-/// Returns the ids before the word `|`, and those after it.
+/// Returns the ids before and after the word `|`; all of `ids` and an empty slice without one.
 fn halves<'i, 'a>(ids: &'i [FeatureId<'a>]) -> (&'i [FeatureId<'a>], &'i [FeatureId<'a>]) {
     for place in 0..ids.len() {
         if ids[place].package_id().repr() == "|" {
@@ -39,7 +39,7 @@ fn halves<'i, 'a>(ids: &'i [FeatureId<'a>]) -> (&'i [FeatureId<'a>], &'i [Featur
     (ids, &[])
 }
 
-/// Compares a set with another, or writes why there is none.
+/// Compares `one` with `other`, or writes the error of `other`.
 fn compare_with<'g>(
     out: &Out,
     alloc: Global,
@@ -52,7 +52,7 @@ fn compare_with<'g>(
     }
 }
 
-/// Compares the set of the features before the word `|`, over one graph, with that of the features after it, over another.
+/// Compares the sets of the ids before `|`, over `features`, and after it, over `others`.
 fn compare<'g>(
     out: &Out,
     alloc: Global,
@@ -67,7 +67,8 @@ fn compare<'g>(
     }
 }
 
-/// Compares two sets over one graph or, if `stamp` is a number, the second over a graph that is built under it.
+/// Compares the sets of the ids before and after `|`. If `stamp` is a number, the second set is over a graph that is built
+/// under that stamp.
 pub fn pair(
     out: &Out,
     alloc: Global,
@@ -85,7 +86,8 @@ pub fn pair(
     }
 }
 
-/// Writes whether the first feature depends on the second directly, whether over a path, and whether both are on a common cycle.
+/// Writes whether the first feature depends on the second directly, whether it does over a path, and whether both are on a
+/// cycle. Writes nothing unless `ids` are two.
 pub fn tied(out: &Out, alloc: Global, features: FeatureGraph<'_>, ids: &[FeatureId<'_>]) {
     if let [a, b] = ids {
         tell_answer(out, "", features.directly_depends_on(*a, *b));
@@ -94,7 +96,7 @@ pub fn tied(out: &Out, alloc: Global, features: FeatureGraph<'_>, ids: &[Feature
     }
 }
 
-/// Writes a cycle, or the error.
+/// Writes the ids of `cycle` on a line, or the error.
 fn tell_cycle(out: &Out, cycle: Result<Vec<FeatureId<'_>>, Error<'_>>) {
     match cycle {
         Ok(ids) => {
@@ -108,7 +110,7 @@ fn tell_cycle(out: &Out, cycle: Result<Vec<FeatureId<'_>>, Error<'_>>) {
     }
 }
 
-/// Writes the cycles, a line each, and whether there is none after the end.
+/// Writes each cycle on a line, and then whether the iterator returns `None` again after its end.
 pub fn cycles(out: &Out, alloc: Global, features: FeatureGraph<'_>) {
     let mut cycles = features.cycles().all_cycles(alloc);
     while let Some(cycle) = cycles.next() {

@@ -1,21 +1,21 @@
-//! Calls that split a set by the answers of a callback, which writes down what it is called with.
+//! Calls that split a set by a callback, which logs its arguments.
 use crate::told::{tell_error, tell_members, tell_set};
 use guppy_features::{DependencyDirection, Error, FeatureKind, FeatureMetadata, FeatureSet};
 use guppy_vectors::Out;
 use std::alloc::Global;
 use std::cell::Cell;
 
-/// Writes down the features that it is called with, each on a line with `? ` before it, and counts them.
+/// A callback that writes each feature it is called with on a line after `? `, and counts its calls.
 #[derive(Drop)]
 struct Asked<'o> {
     out: &'o Out,
-    /// Whether it accepts each other feature, from the first on, and else bases.
+    /// True to accept every other feature from the first on; false to accept bases.
     each_other: bool,
     calls: Cell<usize>,
 }
 
 impl Asked<'_> {
-    /// Writes a call down.
+    /// Counts a call and writes its feature.
     fn write(&self, feature: FeatureMetadata<'_>) {
         self.calls.set(self.calls.get().saturating_add(1));
         self.out.part("?");
@@ -23,7 +23,7 @@ impl Asked<'_> {
         self.out.line("");
     }
 
-    /// Returns whether it accepts the feature.
+    /// Logs the call, and returns whether `feature` is accepted.
     fn accepts(&self, feature: FeatureMetadata<'_>) -> bool {
         self.write(feature);
         if self.each_other {
@@ -33,7 +33,7 @@ impl Asked<'_> {
         }
     }
 
-    /// Returns true for named features, false for optional dependencies, and nothing for bases.
+    /// Logs the call, and returns true for a named feature, false for an optional dependency and `None` for a base.
     fn is_named(&self, feature: FeatureMetadata<'_>) -> Option<bool> {
         self.write(feature);
         match feature.label().kind() {
@@ -44,7 +44,7 @@ impl Asked<'_> {
     }
 }
 
-/// Writes two parts, or the error.
+/// Writes the members of both parts, or the error.
 fn tell_parts(out: &Out, parts: Result<(FeatureSet<'_>, FeatureSet<'_>), Error<'_>>) {
     match parts {
         Ok((one, other)) => {
@@ -55,8 +55,8 @@ fn tell_parts(out: &Out, parts: Result<(FeatureSet<'_>, FeatureSet<'_>), Error<'
     }
 }
 
-/// Splits a set: `filter` and `partition` by what a callback accepts, and `filter-partition` into the named features and the
-/// optional dependencies.
+/// Splits `set` in `direction`: `filter` and `partition` by the features that a callback accepts, and `filter-partition` into
+/// named features and optional dependencies. Then writes the count of calls.
 pub fn parts(
     out: &Out,
     alloc: Global,

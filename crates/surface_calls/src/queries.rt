@@ -1,11 +1,11 @@
-//! Calls on queries.
+//! Calls on feature queries.
 use crate::items::{tell_counted, tell_end, tell_first};
 use crate::told::{tell_answer, tell_error, tell_members, tell_set};
 use guppy_features::{Error, FeatureGraph, FeatureId, FeatureQuery};
 use guppy_vectors::{Out, direction_of};
 use std::alloc::Global;
 
-/// Writes the direction of a query, what it starts from and what it resolves to.
+/// Writes the direction of `query`, its initial features, and the set that it resolves to.
 fn tell_query(out: &Out, alloc: Global, query: FeatureQuery<'_>) {
     out.debug(query.direction());
     out.part(" from ");
@@ -13,7 +13,7 @@ fn tell_query(out: &Out, alloc: Global, query: FeatureQuery<'_>) {
     tell_set(out, "", query.resolve(alloc));
 }
 
-/// Writes a query and what it resolves to, or the error.
+/// Writes `query` and the set that it resolves to, or the error.
 pub fn tell(out: &Out, alloc: Global, query: Result<FeatureQuery<'_>, Error<'_>>) {
     match query {
         Ok(query) => tell_query(out, alloc, query),
@@ -21,7 +21,8 @@ pub fn tell(out: &Out, alloc: Global, query: Result<FeatureQuery<'_>, Error<'_>>
     }
 }
 
-/// Writes what iterators yield that are left after their first item, and that are asked again after their end.
+/// Writes the first initial feature and package, and drops their iterators early. Then writes whether new iterators return
+/// `None` after their end.
 fn items(out: &Out, query: &FeatureQuery<'_>) {
     tell_first(out, query.initials().ids_by_node());
     tell_end(
@@ -36,7 +37,7 @@ fn items(out: &Out, query: &FeatureQuery<'_>) {
     tell_members(out, query.initials());
 }
 
-/// Writes whether a query starts from the package of the first feature, and whether its initial features have one of it.
+/// Writes whether `query` starts from the package of the first id, and whether its initial features contain that package.
 fn of_package(out: &Out, query: &FeatureQuery<'_>, ids: &[FeatureId<'_>]) {
     if let Some(id) = ids.first() {
         let package_id = id.package_id();
@@ -45,7 +46,7 @@ fn of_package(out: &Out, query: &FeatureQuery<'_>, ids: &[FeatureId<'_>]) {
     }
 }
 
-/// Makes a call on a query.
+/// Makes the call `name` on `query`, and writes its result.
 fn query_call(
     out: &Out,
     alloc: Global,
@@ -65,7 +66,7 @@ fn query_call(
     }
 }
 
-/// Returns all features but the first.
+/// Returns `ids` without the first.
 fn others<'i, 'a>(ids: &'i [FeatureId<'a>]) -> &'i [FeatureId<'a>] {
     if ids.is_empty() {
         return ids;
@@ -73,8 +74,8 @@ fn others<'i, 'a>(ids: &'i [FeatureId<'a>]) -> &'i [FeatureId<'a>] {
     &ids[1..]
 }
 
-/// Makes a call on the query of the features. `directed` and `copy` take its direction, `reverse` is in reverse, and the others
-/// are forward. That of `of-package` is of all features but the first.
+/// Makes the call `name` on the query of `ids`, or writes the error. `directed` and `copy` read `direction`; `reverse` is
+/// reverse, and the others are forward. `of-package` leaves the first id out of its query.
 pub fn of_query(
     out: &Out,
     alloc: Global,
@@ -95,7 +96,7 @@ pub fn of_query(
     }
 }
 
-/// Writes whether the set of all features but the first has the first.
+/// Writes whether the set of all `ids` after the first contains the first.
 pub fn has(out: &Out, alloc: Global, features: FeatureGraph<'_>, ids: &[FeatureId<'_>]) {
     if let Some((id, others)) = ids.split_first() {
         match features.resolve_ids(alloc, others) {

@@ -1,4 +1,4 @@
-//! A visitor that writes down what it is shown.
+//! Visitors that log the links they are shown.
 use crate::links::{tell_ends, tell_rest};
 use crate::rules::Rule;
 use crate::told::tell_error;
@@ -8,36 +8,36 @@ use std::alloc::Global;
 use std::cell::Cell;
 use std::rc::Rc;
 
-/// How a visitor answers, and what it writes.
+/// A visitor's rule, and the length of its log lines.
 #[derive(Clone, Copy)]
 pub struct Manner {
     pub rule: Rule,
-    /// Whether it writes the ends and declarations of a link alone.
+    /// Whether only the ends and declarations of a link are logged.
     pub is_brief: bool,
 }
 
-/// Where a visitor writes, and how often it was asked.
+/// The output of a visitor, and the count of its calls.
 #[derive(Drop)]
 pub struct Log {
     pub out: Out,
     pub calls: Cell<usize>,
 }
 
-/// Writes down the links that it is shown, and answers by a rule.
+/// A visitor that logs each link to `log` and accepts it by the rule of `manner`.
 #[derive(Clone, Copy)]
 pub struct Recorder<'l> {
     pub manner: Manner,
     pub log: &'l Log,
 }
 
-/// The same for a box.
+/// A `Recorder` that shares its log, for use in a box.
 #[derive(Drop)]
 pub struct BoxedRecorder {
     pub manner: Manner,
     pub log: Rc<Log>,
 }
 
-/// Writes how a copy of the context answers for a link.
+/// Writes the direction of a copy of `cx` and whether `link` starts from an initial feature by it, or the error.
 fn tell_copy(out: &Out, alloc: Global, cx: &FeatureLinkContext<'_>, link: ConditionalLink<'_>) {
     match cx.try_clone(alloc) {
         Ok(copy) => {
@@ -49,7 +49,7 @@ fn tell_copy(out: &Out, alloc: Global, cx: &FeatureLinkContext<'_>, link: Condit
     }
 }
 
-/// Writes what the rule says beside its answer.
+/// Writes `initial` if `link` starts from an initial feature, and the texts that `rule` adds.
 fn tell_more(out: &Out, rule: Rule, cx: &FeatureLinkContext<'_>, link: ConditionalLink<'_>) {
     out.part_if(cx.starts_from_initial(&link), " initial");
     match rule {
@@ -64,7 +64,7 @@ fn tell_more(out: &Out, rule: Rule, cx: &FeatureLinkContext<'_>, link: Condition
     }
 }
 
-/// Answers for a link, after it was written down.
+/// Logs `link` by `manner`, counts the call, and returns whether the rule accepts the link.
 pub fn answer(
     manner: Manner,
     log: &Log,

@@ -1,16 +1,16 @@
-//! Steps and refused links as words. A step is an id and `initial`, `edge` and two ids, or `link`, two ids and a word for the
-//! declarations; a refused link is as the last, without `link`.
+//! Parsing of steps and refused links. A step is an id and its reason: `initial`, `edge` and two ids, or `link` and a link.
+//! A link is two ids and a word for the declarations.
 use guppy_features::{FeatureId, LinkDeclarations, Reason};
 use guppy_vectors::{Words, next_id};
 use std::alloc::{AllocError, Global};
 
-/// A feature and why it is there.
+/// A feature, and the reason why it is in the set.
 pub type Step<'g> = (FeatureId<'g>, Reason<'g>);
 
-/// A link: its ends, and the declarations that it covers.
+/// A link: its two ends, and the declarations that it covers.
 pub type Link<'g> = (FeatureId<'g>, FeatureId<'g>, LinkDeclarations);
 
-/// The declarations that a word stands for.
+/// Returns the declarations that `word` names, or `None`.
 fn declarations_of(word: &str) -> Option<LinkDeclarations> {
     match word {
         "unsplit" => Some(LinkDeclarations::Unsplit),
@@ -20,7 +20,7 @@ fn declarations_of(word: &str) -> Option<LinkDeclarations> {
     }
 }
 
-/// The next link.
+/// Reads a link from `words`; `None` at their end, for a `;` or for unknown declarations.
 fn next_link<'a>(words: &mut Words<'a>) -> Option<Link<'a>> {
     let from = next_id(words)?;
     let to = next_id(words)?;
@@ -28,7 +28,7 @@ fn next_link<'a>(words: &mut Words<'a>) -> Option<Link<'a>> {
     Some((from, to, declarations))
 }
 
-/// The next reason.
+/// Reads a reason from `words`; `None` if they are no reason.
 fn next_reason<'a>(words: &mut Words<'a>) -> Option<Reason<'a>> {
     match words.next()?.word {
         "initial" => Some(Reason::Initial),
@@ -47,14 +47,14 @@ fn next_reason<'a>(words: &mut Words<'a>) -> Option<Reason<'a>> {
     }
 }
 
-/// The next step.
+/// Reads a step from `words`; `None` at their end, for a `;` or without a reason.
 fn next_step<'a>(words: &mut Words<'a>) -> Option<Step<'a>> {
     let id = next_id(words)?;
     let reason = next_reason(words)?;
     Some((id, reason))
 }
 
-/// The steps up to the end or a semicolon.
+/// Reads the steps up to a `;` or the end of `words`; stops at words that are no step. `AllocError` if an allocation fails.
 pub fn steps_of<'a>(alloc: Global, words: &mut Words<'a>) -> Result<Vec<Step<'a>>, AllocError> {
     let mut steps = Vec::new(alloc);
     for _ in 0..words.len() {
@@ -64,7 +64,8 @@ pub fn steps_of<'a>(alloc: Global, words: &mut Words<'a>) -> Result<Vec<Step<'a>
     Ok(steps)
 }
 
-/// The refused links up to the end or a semicolon.
+/// Reads the refused links up to a `;` or the end of `words`; stops at words that are no link. `AllocError` if an allocation
+/// fails.
 pub fn links_of<'a>(alloc: Global, words: &mut Words<'a>) -> Result<Vec<Link<'a>>, AllocError> {
     let mut links = Vec::new(alloc);
     for _ in 0..words.len() {

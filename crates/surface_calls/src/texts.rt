@@ -1,4 +1,4 @@
-//! Debug texts.
+//! The call that writes `Debug` texts.
 use crate::told::tell_error;
 use guppy_features::{
     Error, FeatureFilterFn, FeatureGraph, FeatureId, StandardFeatures, feature_id_filter,
@@ -8,7 +8,7 @@ use guppy_vectors::Out;
 use std::alloc::Global;
 use std::fmt::Debug;
 
-/// Writes the text of what a call returned, or the error.
+/// Writes the `Debug` text of `made`, or the error.
 fn text<T: Debug + Drop>(out: &Out, made: Result<T, Error<'_>>) {
     match made {
         Ok(made) => out.debug_line(made),
@@ -16,7 +16,7 @@ fn text<T: Debug + Drop>(out: &Out, made: Result<T, Error<'_>>) {
     }
 }
 
-/// Writes the texts of the graph, of the first feature, of the query of the features, and of filters.
+/// Writes the `Debug` texts of the graph, of the first feature and its list, of the query and set of `ids`, and of filters.
 pub fn texts(out: &Out, alloc: Global, features: FeatureGraph<'_>, ids: &[FeatureId<'_>]) {
     out.debug_line(features);
     if let Some(id) = ids.first() {

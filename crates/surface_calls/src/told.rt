@@ -1,9 +1,9 @@
-//! What errors, answers and sets say.
+//! Errors, answers and sets as text.
 use crate::items::tell_counted;
 use guppy_features::{Error, FeatureSet};
 use guppy_vectors::Out;
 
-/// Writes an error.
+/// Writes `error` on a line.
 pub fn tell_error(out: &Out, error: Error<'_>) {
     match error {
         Error::UnknownPackageId(id) => {
@@ -24,7 +24,7 @@ pub fn tell_error(out: &Out, error: Error<'_>) {
     out.line("");
 }
 
-/// Writes an answer after a text, or the error.
+/// Writes `before` and the answer on a line, or the error.
 pub fn tell_answer(out: &Out, before: &str, answer: Result<bool, Error<'_>>) {
     match answer {
         Ok(answer) => out.answer_line(before, answer),
@@ -32,13 +32,13 @@ pub fn tell_answer(out: &Out, before: &str, answer: Result<bool, Error<'_>>) {
     }
 }
 
-/// Writes the count of a set's features, and the features in the order of their nodes.
+/// Writes the count of features in `set`, and the features in the order of their nodes.
 pub fn tell_members(out: &Out, set: &FeatureSet<'_>) {
     let between = if set.is_empty() { " empty:" } else { ":" };
     tell_counted(out, between, set.ids_by_node());
 }
 
-/// Writes a set after a text, or the error.
+/// Writes `before` and the members of `set`, or the error.
 pub fn tell_set(out: &Out, before: &str, set: Result<FeatureSet<'_>, Error<'_>>) {
     match set {
         Ok(set) => {

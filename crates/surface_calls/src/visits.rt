@@ -1,4 +1,4 @@
-//! Calls that resolve a query with a visitor in four forms, explained or not.
+//! Calls that resolve a query with a visitor in one of four forms, with or without an explanation.
 ghost use Rattle.feature_sets.specs.LinkValues.{Link};
 ghost use Rattle.feature_sets.specs.Values.{Query};
 
@@ -16,17 +16,17 @@ use std::alloc::Global;
 use std::cell::Cell;
 use std::rc::Rc;
 
-/// What a query resolves to.
+/// The result of a query: a set, or an explained one.
 #[derive(Drop)]
 enum Found<'g> {
     Set(FeatureSet<'g>),
     Explained(Explained<'g>),
 }
 
-/// What a query resolves to, or why there is nothing.
+/// The result of a query, or its error.
 type Resolved<'g> = Result<Found<'g>, Error<'g>>;
 
-/// Resolves the query, explained if the visitor's texts are brief.
+/// Resolves `query` with `visitor`, with an explanation if `is_explained`; returns the error of the query.
 fn resolve<'g, V: FeatureLinkVisitor<'g>>(
     alloc: Global,
     query: FeatureQuery<'g>,
@@ -48,7 +48,7 @@ fn resolve<'g, V: FeatureLinkVisitor<'g>>(
     }
 }
 
-/// Resolves by a closure.
+/// Resolves `query` with a closure, without an explanation.
 fn by_closure<'g>(
     alloc: Global,
     query: FeatureQuery<'g>,
@@ -61,7 +61,7 @@ fn by_closure<'g>(
     }
 }
 
-/// Resolves by a visitor in a box.
+/// Resolves `query` with a boxed visitor that writes to `shared`.
 fn boxed<'g>(
     alloc: Global,
     query: FeatureQuery<'g>,
@@ -73,7 +73,7 @@ fn boxed<'g>(
     resolve(alloc, query, manner.is_brief, &mut visitor)
 }
 
-/// Resolves by a visitor in a box, whose log is kept outside too.
+/// Resolves `query` with a boxed visitor, and carries its count and failed writes over to `log`.
 fn by_box<'g>(alloc: Global, query: FeatureQuery<'g>, manner: Manner, log: &Log) -> Resolved<'g> {
     let shared = Rc::new(
         alloc,
@@ -88,7 +88,7 @@ fn by_box<'g>(alloc: Global, query: FeatureQuery<'g>, manner: Manner, log: &Log)
     resolved
 }
 
-/// Resolves by a visitor in the form that a word names.
+/// Resolves `query` with a visitor in the form `form`: `lent`, `boxed`, `closure`, or else by value.
 fn in_form<'g>(
     alloc: Global,
     query: FeatureQuery<'g>,
@@ -105,7 +105,7 @@ fn in_form<'g>(
     }
 }
 
-/// Writes what a query resolves to, or the error.
+/// Writes the set or explanation `found`, or the error.
 fn tell_found(
     out: &Out,
     start: Start<'_, '_>,
@@ -120,7 +120,7 @@ fn tell_found(
     }
 }
 
-/// Writes a set and, if there is another one, whether they are equal.
+/// Writes `set` and, if `plain` is present, whether both are equal.
 fn tell_equal<'g>(out: &Out, plain: Option<FeatureSet<'g>>, set: FeatureSet<'g>) {
     tell_counted(out, ":", set.ids_by_node());
     if let Some(plain) = plain {
@@ -128,7 +128,7 @@ fn tell_equal<'g>(out: &Out, plain: Option<FeatureSet<'g>>, set: FeatureSet<'g>)
     }
 }
 
-/// Writes the set of an explanation and, if there is another set, whether it is equal.
+/// Writes the set of `found` and, if `plain` is present, whether both are equal; or the error.
 fn tell_same<'g>(out: &Out, plain: Option<FeatureSet<'g>>, found: Resolved<'g>) {
     match found {
         Ok(Found::Explained(explained)) => tell_equal(out, plain, explained.into_set()),
@@ -137,7 +137,7 @@ fn tell_same<'g>(out: &Out, plain: Option<FeatureSet<'g>>, found: Resolved<'g>) 
     }
 }
 
-/// Writes a set that isn't explained, or the error.
+/// Writes `set`, or the error.
 fn tell_plain(out: &Out, set: &Result<FeatureSet<'_>, Error<'_>>) {
     match set {
         Ok(set) => tell_counted(out, ":", set.ids_by_node()),
@@ -145,7 +145,8 @@ fn tell_plain(out: &Out, set: &Result<FeatureSet<'_>, Error<'_>>) {
     }
 }
 
-/// Resolves a query without an explanation, and an equal one with one, by equal visitors.
+/// Resolves two equal queries with equal visitors: the first without an explanation, the second by `in_form`. Writes both
+/// sets and whether they are equal.
 fn same<'g>(
     alloc: Global,
     queries: (FeatureQuery<'g>, FeatureQuery<'g>),
@@ -176,7 +177,7 @@ fn same<'g>(
     log.out.join(&first.out);
 }
 
-/// Resolves a query by the visitor of a call, once or twice by its name, and writes what it resolves to.
+/// Resolves `query` with the visitor of the call `name` and writes the result. `twice` and `same` resolve a copy too.
 fn run(
     start: Start<'_, '_>,
     name: &str,
@@ -202,7 +203,8 @@ fn run(
     }
 }
 
-/// Makes a call of a visitor, by its form and the rule of its answers, and writes how often the visitor was asked.
+/// Makes the call `name` from `start` with a visitor of `form` and `rule`, then writes how often the visitor was asked.
+/// Without an explanation, the count isn't written if the query fails.
 pub fn visit(
     out: &Out,
     start: Start<'_, '_>,

@@ -7,7 +7,7 @@ use Rattle.cargo_rows.specs.Packages.{package_with_id}
 use Rattle.cargo_rows.specs.inner.Views.{package_view, entries_view}
 use Rattle.cargo_rows.proofs.packages.packages_from.Given as goal
 
--- the objects that are left stand in reverse
+-- the objects that are left are in reverse order
 abbrev pub invariant-objects : goal.invariant-objects
 invariant-objects l = record {
   within : length l.objects.items ≤ l.count;

@@ -3,7 +3,7 @@ use Rattle.std.specs.Prelude.{◌≡◌, ℕ, Bool, true, false, not, ◌&&◌, 
 use Rattle.std.specs.Char.{encode_utf8}
 use Rattle.std.specs.Str.{bytes_eq}
 use Rattle.platform_specs.specs.Facts.{FactText}
-use Rattle.platform_specs.specs.Runs.{run}
+use Rattle.platform_specs.specs.inner.Runs.{run}
 use Rattle.platform_specs.specs.Grammar.{is_space, begins_name, continues_name, is_operator}
 use Rattle.platform_specs.specs.declared.fact_reader.FactReader.{FactReader}
 use Rattle.platform_specs.specs.declared.fact_reader.Stage.{Stage}

@@ -2,9 +2,9 @@
 use Rattle.std.specs.Prelude.{◌≡◌, ℕ, ◌≤◌, ◌⊎◌, List, ◌∷◌, ◌++◌, length, Option, Some, None, codes, if◌then◌else◌}
 use Rattle.std.specs.Str.{chars, encode_utf8_all}
 use Rattle.platform_specs.specs.Grammar.{Spaced, Spells, is_in_platform}
-use Rattle.platform_specs.specs.Parts.{parts_of, expression_of}
-use Rattle.platform_specs.specs.Runs.{run}
-use Rattle.platform_specs.specs.Reading.{Reading, finished, read_step, at_first}
+use Rattle.platform_specs.specs.inner.Parts.{parts_of, expression_of}
+use Rattle.platform_specs.specs.inner.Runs.{run}
+use Rattle.platform_specs.specs.inner.Reading.{Reading, finished, read_step, at_first}
 use Rattle.platform_specs.specs.declared.expression_reader.Unread.{Unread}
 use Rattle.platform_specs.specs.declared.expression_reader.Unread.TheVariants.{Left, Memory}
 use Rattle.platform_specs.specs.declared.parts.Part.{Part}

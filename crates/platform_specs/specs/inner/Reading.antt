@@ -2,9 +2,9 @@
 use Rattle.std.specs.Prelude.{ℕ, Bool, true, false, ◌==◌, ◌||◌, List, [], ◌∷◌, ◌++◌, reverse, Option, Some, None, codes, if◌then◌else◌}
 use Rattle.std.specs.Str.{bytes_eq}
 use Rattle.platform_specs.specs.Facts.{FactText}
-use Rattle.platform_specs.specs.Runs.{run}
+use Rattle.platform_specs.specs.inner.Runs.{run}
 use Rattle.platform_specs.specs.Grammar.{is_space, constant_at}
-use Rattle.platform_specs.specs.FactReading.{FactState, waiting, naming, named, fact_step, fact_end, fact_state}
+use Rattle.platform_specs.specs.inner.FactReading.{FactState, waiting, naming, named, fact_step, fact_end, fact_state}
 use Rattle.platform_specs.specs.declared.parts.Operator.{Operator}
 use Rattle.platform_specs.specs.declared.parts.Operator.TheVariants.{All, Any, Not}
 use Rattle.platform_specs.specs.declared.parts.Part.{Part}
