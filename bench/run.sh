@@ -1,10 +1,10 @@
 #!/usr/bin/env bash
-# bench/run.sh FILE...: times the built program on row files, the smallest first, and prints a line for each:
-# the file, its lines, the least wall time of three runs in milliseconds, the peak of memory in kilobytes, and the ratios
+# bench/run.sh FILE...: times the built program on row files, which are given from the smallest to the largest. It prints a line
+# for each: the file, its lines, the least wall time of three runs in milliseconds, the peak memory in kilobytes, and the ratios
 # of lines, time and memory to those of the file before.
 #
-# A run is `resolve forward` from the base of the file's first package; ID='a/b' in the environment takes another
-# feature. RUNS is the number of runs.
+# A run is `resolve forward` from the base of the file's first package. In the environment, ID='a/b' is another feature to start
+# from, and RUNS another number of runs.
 set -eu
 
 top=$(cd -P -- "$(dirname -- "${BASH_SOURCE[0]}")/.." && pwd)
@@ -16,15 +16,16 @@ if [ $# -eq 0 ]; then
   exit 2
 fi
 if [ ! -x "$program" ]; then
-  "$top/features" - resolve forward </dev/null
+  echo 'bench/run.sh: the proved program is not built; run ./build first' >&2
+  exit 1
 fi
 
-# The id of the file's first package, with its base.
+# Prints the id of the base of the file's first package.
 first_base() {
   awk -F '\t' '$1 == "package" { print $2 "/[base]"; exit }' "$1"
 }
 
-# Runs the program once. Prints the milliseconds, and the peak of memory in kilobytes or 0 where nothing tells it.
+# Runs the program once. Prints the milliseconds and the peak memory in kilobytes, which is 0 without GNU time.
 once() {
   local begun ended memory=0 told
   told=$(mktemp)
@@ -41,7 +42,7 @@ once() {
   echo "$(((ended - begun) / 1000000)) $memory"
 }
 
-# The ratio of two numbers with two decimals, or - where the second is missing or 0.
+# Prints the ratio of two numbers with two decimals, or - if the second is missing or 0.
 ratio() {
   awk -v a="$1" -v b="$2" 'BEGIN { if (b > 0) printf "%.2f", a / b; else printf "-" }'
 }

@@ -1,4 +1,4 @@
--- The ids of members, one after the other, and as a set.
+-- The check of the members' ids, and their set, step by step.
 use Rattle.std.proofs.Common.{◌≡◌, ◌∙◌, sym, ap, refl, ℕ, ◌+◌, ◌<◌, List, [], ◌∷◌, ◌++◌, map, length, take, drop, get_or, Bool, true, false, cond, add-one, drop-cons, Bor}
 use Rattle.std.specs.Prelude.{◌||◌, Result, Ok, Err, codes, ⊤}
 use Rattle.std.specs.List.{list_any}
@@ -47,7 +47,7 @@ or_none : (a : Bool) → (a || false) ≡ a
 or_none true = refl
 or_none false = refl
 
--- one more text, where the set answers for those before
+-- inserting the text at `i` into a set of the first `i` texts
 pub text_more : (ids : List (Bor Text)) (i : ℕ) (z : Bor Text) (q : Text) (old new : Bool) → i < length ids → new ≡ cond (is_eq (id_cmp (get_or ids i z).now q)) true old → old ≡ list_any (bytes_eq q) (map text_view (take i ids)) → new ≡ list_any (bytes_eq q) (map text_view (take (i + 1) ids))
 text_more ids i z q old new within grown was =
     let x = (get_or ids i z).now in

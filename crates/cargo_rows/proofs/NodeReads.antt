@@ -36,7 +36,7 @@ seen : (found : Option (Bor Node)) (absent : Bor Node) → node_view (unwrap_or 
 seen (Some node) absent = refl
 seen None absent = refl
 
--- the node of a package, where that of an absent one is blank
+-- `node_of` is the node that was found, or `absent` if that is empty
 pub node_found : (nodes : List (Bor Text × Node)) (id : Text) (found : Option (Bor Node)) (absent node : Bor Node) → node ≡ unwrap_or found absent → node_view absent.now ≡ no_node → option_copied found ≡ lookup (λ k. is_eq (slice_cmp nat_cmp id k.now)) nodes → node_view node.now ≡ node_of id (entries_view node_view nodes)
 node_found nodes id found absent node is blank value =
     let at = at_id-entries node_view id nodes in

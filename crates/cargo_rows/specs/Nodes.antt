@@ -1,17 +1,16 @@
--- The members of the workspace, and what each package uses.
+-- The members of the workspace, and the packages that each package uses.
 use Rattle.std.specs.Prelude.{ℕ, List, [], ◌∷◌, codes, Option, Some, None, Result, Ok, Err, option_and_then, ⊤}
 use Rattle.std.specs.Option.{unwrap_or}
 use Rattle.json.specs.Json.{Json, null, boolean, number, string, array, object}
 use Rattle.json.specs.Find.{get, as_array}
 use Rattle.cargo_documents.specs.declared.fault.Place.{Place}
 use Rattle.cargo_documents.specs.declared.fault.Place.TheVariants as place
-use Rattle.cargo_rows.specs.declared.packages.Kind.{Kind}
 use Rattle.cargo_documents.specs.Faults.{Text, Refusal, no_package, no_deps, ◌>>=◌}
 use Rattle.cargo_documents.specs.Fields.{wanted, all_texts, text_in, list_in, texts_in}
 use Rattle.cargo_rows.specs.Lists.{each, ById, at_id, each_by_id}
-use Rattle.cargo_rows.specs.Packages.{kind_in, platform_in, PackageText}
+use Rattle.cargo_rows.specs.Packages.{UseText, use_in, PackageText}
 
--- the package of this id, or the fault that there is none, of the field that has the id
+-- the package that was found, or the fault that no package has the `id` in the field `name`
 abbrev pub found_or : {X : Type 0} → Place → Text → Text → Option X → Result X Refusal
 found_or at name id (Some p) = Ok p
 found_or at name id None = Err (no_package at name id)
@@ -19,24 +18,13 @@ found_or at name id None = Err (no_package at name id)
 unfoldable pub package_at : ById PackageText → Place → Text → Text → Result PackageText Refusal
 package_at packages at name id = found_or at name id (at_id id packages)
 
--- a kind and a platform for which a package is used
-pub record UseText : Type 0 where
-  pub kind : Kind
-  pub platform : Option Text
-
-unfoldable pub use_in : Place → Json → Result UseText Refusal
-use_in at d =
-    kind_in at d >>= λ kind.
-    platform_in at d >>= λ platform.
-    Ok (record { kind = kind; platform = platform })
-
--- a used package, the name by which code calls it, and its uses
+-- a used package, its name in code, and its uses
 pub record DepText : Type 0 where
   pub extern_name : Text
   pub target : PackageText
   pub uses : List UseText
 
--- the used package that the object at place i of node n is
+-- the used package at place `i` of node `n`, or its first fault
 unfoldable pub dep_in : ById PackageText → ℕ → ℕ → Json → Result DepText Refusal
 dep_in packages n i d =
     text_in (place.Dep n i) (codes "name") d >>= λ extern_name.
@@ -46,12 +34,12 @@ dep_in packages n i d =
     each (λ k. use_in (place.DepKind n i k)) 0 kinds >>= λ uses.
     Ok (record { extern_name = extern_name; target = target; uses = uses })
 
--- what Cargo resolved for a package: the enabled features, and the used packages
+-- the node of a package: its enabled features and the packages that it uses
 pub record NodeText : Type 0 where
   pub features : List Text
   pub deps : List DepText
 
--- the node that stands for a missing one
+-- the empty node, for a package that has none
 abbrev pub no_node : NodeText
 no_node = record { features = []; deps = [] }
 
@@ -59,7 +47,7 @@ no_node = record { features = []; deps = [] }
 unfoldable pub features_on : Json → List Text
 features_on d = unwrap_or (option_and_then all_texts (option_and_then as_array (get (codes "features") d))) []
 
--- the node at place n, with its package's id
+-- the node at place `n`, with its package's id, or its first fault
 unfoldable pub node_in : ById PackageText → ℕ → Json → Result (Text × NodeText) Refusal
 node_in packages n d =
     text_in (place.Node n) (codes "id") d >>= λ id.
@@ -68,7 +56,7 @@ node_in packages n d =
     each (dep_in packages n) 0 objects >>= λ deps.
     Ok (id, record { features = features_on d; deps = deps })
 
--- `resolve` is null if the document was made with --no-deps
+-- null is a fault: `resolve` is null if the document was made with --no-deps
 abbrev pub with_deps : Json → Result ⊤ Refusal
 with_deps null = Err no_deps
 with_deps (boolean b) = Ok tt
@@ -77,22 +65,39 @@ with_deps (string s) = Ok tt
 with_deps (array ds) = Ok tt
 with_deps (object ms) = Ok tt
 
--- the nodes of the document, by their packages' ids
-unfoldable pub nodes_in : ById PackageText → Json → Result (ById NodeText) Refusal
-nodes_in packages d =
+-- the field `resolve` of the document, or its fault
+unfoldable pub resolve_in : Json → Result Json Refusal
+resolve_in d =
     wanted place.Document (codes "resolve") (get (codes "resolve") d) >>= λ resolve.
     with_deps resolve >>= λ _.
+    Ok resolve
+
+-- the nodes of the document, by their packages' ids, or the first fault
+unfoldable pub nodes_in : ById PackageText → Json → Result (ById NodeText) Refusal
+nodes_in packages d =
+    resolve_in d >>= λ resolve.
     list_in place.Resolve (codes "nodes") resolve >>=
     each_by_id (node_in packages) place.Node 0 []
 
--- each id is a package's, or the first fault
+-- each id is that of a package, or the first fault
 abbrev pub known : ById PackageText → List Text → Result ⊤ Refusal
 known packages [] = Ok tt
 known packages (id ∷ ids) = package_at packages place.Document (codes "workspace_members") id >>= λ _. known packages ids
 
--- the ids of the workspace's members
+-- the ids of the workspace's members, or the first fault
 unfoldable pub members_in : ById PackageText → Json → Result (List Text) Refusal
 members_in packages d =
     texts_in place.Document (codes "workspace_members") d >>= λ ids.
     known packages ids >>= λ _.
     Ok ids
+
+-- the ids of the workspace's members, and the nodes of its packages
+pub record ResolvedText : Type 0 where
+  pub members : List Text
+  pub nodes : ById NodeText
+
+unfoldable pub resolved_in : ById PackageText → Json → Result ResolvedText Refusal
+resolved_in packages d =
+    members_in packages d >>= λ members.
+    nodes_in packages d >>= λ nodes.
+    Ok (record { members = members; nodes = nodes })

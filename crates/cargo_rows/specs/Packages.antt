@@ -13,7 +13,7 @@ use Rattle.cargo_documents.specs.Faults.{Text, Refusal, bad_field, every_platfor
 use Rattle.cargo_documents.specs.Fields.{wanted, all_texts, text_in, optional_text_in, flag_in, list_in, object_in, texts_in}
 use Rattle.cargo_rows.specs.Lists.{each, first_some, ById, id_cmp, each_by_id}
 
--- the kind that a text names; null is the normal one
+-- the kind that a text names; null is the normal kind
 abbrev pub kind_of : Place → Option Text → Result Kind Refusal
 kind_of at None = Ok kind.Normal
 kind_of at (Some s) = if bytes_eq s (codes "build") then Ok kind.Build else (if bytes_eq s (codes "dev") then Ok kind.Dev else Err (bad_field at (codes "kind")))
@@ -21,7 +21,7 @@ kind_of at (Some s) = if bytes_eq s (codes "build") then Ok kind.Build else (if 
 abbrev pub kind_in : Place → Json → Result Kind Refusal
 kind_in at d = optional_text_in at (codes "kind") d >>= kind_of at
 
--- The platform that a text names; null is every one. The text `*` is refused, since in a row it is every platform.
+-- The platform that a text names; null is every platform. The text `*` is a fault, since a row writes it for every platform.
 abbrev pub platform_of : Place → Option Text → Result (Option Text) Refusal
 platform_of at None = Ok None
 platform_of at (Some s) = if bytes_eq s (codes "*") then Err (every_platform at) else Ok (Some s)
@@ -40,25 +40,47 @@ pub record DeclarationText : Type 0 where
   pub has_default_features : Bool
   pub features : List Text
 
--- the declaration that an object is, or the first field at fault
-unfoldable pub declaration_in : Place → Json → Result DeclarationText Refusal
-declaration_in at d =
+-- the kind and the platform of a declaration or of a used package
+pub record UseText : Type 0 where
+  pub kind : Kind
+  pub platform : Option Text
+
+unfoldable pub use_in : Place → Json → Result UseText Refusal
+use_in at d =
+    kind_in at d >>= λ kind.
+    platform_in at d >>= λ platform.
+    Ok (record { kind = kind; platform = platform })
+
+-- the name, the new name and the requirement of a declaration, or the first fault
+unfoldable pub wanted_in : Place → Json → Result (Text × (Option Text × Text)) Refusal
+wanted_in at d =
     text_in at (codes "name") d >>= λ name.
     optional_text_in at (codes "rename") d >>= λ rename.
     text_in at (codes "req") d >>= λ requirement.
-    kind_in at d >>= λ kind.
-    platform_in at d >>= λ platform.
+    Ok (name, (rename, requirement))
+
+-- whether a declaration is optional and whether it has default features, or the first fault
+unfoldable pub flags_in : Place → Json → Result (Bool × Bool) Refusal
+flags_in at d =
     flag_in at (codes "optional") d >>= λ is_optional.
     flag_in at (codes "uses_default_features") d >>= λ has_default_features.
-    texts_in at (codes "features") d >>= λ features.
-    Ok (record { name = name; rename = rename; requirement = requirement; kind = kind; platform = platform; is_optional = is_optional; has_default_features = has_default_features; features = features })
+    Ok (is_optional, has_default_features)
 
--- a named feature, and what it enables
+-- the declaration in an object, or the first fault of its fields
+unfoldable pub declaration_in : Place → Json → Result DeclarationText Refusal
+declaration_in at d =
+    wanted_in at d >>= λ w.
+    use_in at d >>= λ u.
+    flags_in at d >>= λ flags.
+    texts_in at (codes "features") d >>= λ features.
+    Ok (record { name = w.0; rename = w.1.0; requirement = w.1.1; kind = u.kind; platform = u.platform; is_optional = flags.0; has_default_features = flags.1; features = features })
+
+-- a named feature and the items that it enables
 pub record FeatureText : Type 0 where
   pub name : Text
   pub items : List Text
 
--- those so far, and the members, in the order of their names' bytes; of one name the last one
+-- `xs` and the members, in the order of their names' bytes; of a repeated name the last value
 abbrev pub sorted : ById Json → Members → ById Json
 sorted xs no_members = xs
 sorted xs (member name j ms) = sorted (insert_entry id_cmp xs name j) ms
@@ -71,18 +93,18 @@ features_of at (m ∷ ms) =
     features_of at ms >>= λ rest.
     Ok (record { name = m.0; items = items } ∷ rest)
 
--- whether targets of this kind are linked into the packages that depend on theirs
+-- whether this is the kind of a library target
 abbrev pub is_library_kind : Text → Bool
 is_library_kind s = bytes_eq s (codes "lib") || bytes_eq s (codes "rlib") || bytes_eq s (codes "dylib") || bytes_eq s (codes "cdylib") || bytes_eq s (codes "staticlib") || bytes_eq s (codes "proc-macro")
 
--- the name of a target, where one of its kinds is a library's
+-- the name of a target if one of its kinds is a library's, or its first fault
 unfoldable pub library_in : Place → Json → Result (Option Text) Refusal
 library_in at d =
     text_in at (codes "name") d >>= λ name.
     texts_in at (codes "kind") d >>= λ kinds.
     Ok (if list_any is_library_kind kinds then Some name else None)
 
--- the name of the first of a package's targets that is a library, or the first fault of any of them
+-- the name of the first library among the targets of package `n`, or the first fault of any target
 unfoldable pub first_library : ℕ → Items → Result (Option Text) Refusal
 first_library n objects = each (λ i. library_in (place.Target n i)) 0 objects >>= λ names. Ok (first_some names)
 
@@ -95,27 +117,39 @@ pub record PackageText : Type 0 where
   pub features : List FeatureText
   pub declarations : List DeclarationText
 
--- the package that the object at place n is, or its first fault
+-- the declarations, the targets and the features of a package, not read yet; or the first fault
+unfoldable pub lists_in : Place → Json → Result (Items × (Items × Members)) Refusal
+lists_in at d =
+    list_in at (codes "dependencies") d >>= λ declared.
+    list_in at (codes "targets") d >>= λ targets.
+    object_in at (codes "features") d >>= λ members.
+    Ok (declared, (targets, members))
+
+-- the id, the name and the version of a package, or the first fault
+unfoldable pub names_in : Place → Json → Result (Text × (Text × Text)) Refusal
+names_in at d =
+    text_in at (codes "id") d >>= λ id.
+    text_in at (codes "name") d >>= λ name.
+    text_in at (codes "version") d >>= λ version.
+    Ok (id, (name, version))
+
+-- the package in the object at place `n`, or its first fault
 unfoldable pub package_in : ℕ → Json → Result PackageText Refusal
 package_in n d =
-    list_in (place.Package n) (codes "dependencies") d >>= λ declared.
-    list_in (place.Package n) (codes "targets") d >>= λ targets.
-    object_in (place.Package n) (codes "features") d >>= λ members.
-    text_in (place.Package n) (codes "id") d >>= λ id.
-    text_in (place.Package n) (codes "name") d >>= λ name.
-    text_in (place.Package n) (codes "version") d >>= λ version.
-    first_library n targets >>= λ library.
-    features_of (place.Package n) (sorted [] members) >>= λ features.
-    each (λ i. declaration_in (place.Dependency n i)) 0 declared >>= λ declarations.
-    Ok (record { id = id; name = name; version = version; library = library; features = features; declarations = declarations })
+    lists_in (place.Package n) d >>= λ lists.
+    names_in (place.Package n) d >>= λ names.
+    first_library n lists.1.0 >>= λ library.
+    features_of (place.Package n) (sorted [] lists.1.1) >>= λ features.
+    each (λ i. declaration_in (place.Dependency n i)) 0 lists.0 >>= λ declarations.
+    Ok (record { id = names.0; name = names.1.0; version = names.1.1; library = library; features = features; declarations = declarations })
 
 abbrev pub package_with_id : ℕ → Json → Result (Text × PackageText) Refusal
 package_with_id n d = package_in n d >>= λ p. Ok (p.id, p)
 
--- the packages that a value lists, by their ids
+-- the packages in an array, by their ids, or the first fault
 unfoldable pub packages_at : Option Json → Result (ById PackageText) Refusal
 packages_at found = wanted place.Document (codes "packages") (option_and_then as_array found) >>= each_by_id package_with_id place.Package 0 []
 
--- the packages of the document
+-- the packages of the document, by their ids, or the first fault
 unfoldable pub packages_in : Json → Result (ById PackageText) Refusal
 packages_in d = packages_at (get (codes "packages") d)

@@ -10,20 +10,20 @@ use Rattle.cargo_rows.specs.declared.packages.Kind.TheVariants as kind
 use Rattle.cargo_documents.specs.Faults.{Text, Refusal, control, ◌>>=◌}
 use Rattle.cargo_rows.specs.Lists.{joined, ById, at_id}
 use Rattle.cargo_rows.specs.Packages.{FeatureText, PackageText, packages_in}
-use Rattle.cargo_rows.specs.Nodes.{DepText, NodeText, no_node, members_in, nodes_in}
+use Rattle.cargo_rows.specs.Nodes.{DepText, NodeText, no_node, resolved_in}
 use Rattle.cargo_rows.specs.Dependencies.{DependencyText, name_of, dependencies_of, agree}
 
--- whether a text has a control character, so that it can't stand in a row
+-- whether a text has an ASCII control character, so that a row can't contain it
 abbrev pub has_control : Text → Bool
 has_control [] = false
 has_control (b ∷ rest) = is_ascii_control b || has_control rest
 
--- the first text that may not stand in a row is refused
+-- no text has a control character, or the fault of the first that has one
 abbrev pub allowed : List Text → Result ⊤ Refusal
 allowed [] = Ok tt
 allowed (s ∷ rest) = if has_control s then Err (control s) else allowed rest
 
--- fields, a tab before each
+-- the fields, with a tab before each
 abbrev pub fields_text : List Text → Text
 fields_text fields = flat_map (λ s. 9 ∷ s) fields
 
@@ -34,7 +34,7 @@ row_text word fields = (word ++ fields_text fields) ++ 10 ∷ []
 unfoldable pub row : Text → List Text → Result Text Refusal
 row word fields = allowed fields >>= λ _. Ok (row_text word fields)
 
--- the word for a package of the workspace, or for another one
+-- the word for a workspace member, or for any other package
 abbrev pub member_word : Bool → Text
 member_word true = codes "workspace"
 member_word false = codes "external"
@@ -53,7 +53,7 @@ abbrev pub defaults_word : Bool → Text
 defaults_word true = codes "default"
 defaults_word false = codes "nodefault"
 
--- the platform's text; `*` for every one
+-- the platform's text; `*` for every platform
 abbrev pub platform_text : Option Text → Text
 platform_text None = codes "*"
 platform_text (Some platform) = platform
@@ -74,21 +74,26 @@ feature_rows features = joined (λ f. row (codes "feature") (feature_fields f)) 
 abbrev pub dependency_rows : List DependencyText → Result Text Refusal
 dependency_rows es = joined (λ e. row (codes "dep") (dependency_fields e)) es
 
--- the rows of a package that uses these: its own, its features', and its dependencies'
+-- the `dep` rows of a package, given the packages that it uses; or the first fault
+unfoldable pub led_rows : List DepText → PackageText → Result Text Refusal
+led_rows deps p =
+    dependencies_of p deps >>= λ es.
+    agree p.id es es >>= λ _.
+    dependency_rows es
+
+-- the rows of a package, given the packages that it uses: its own, its features' and its dependencies'
 unfoldable pub package_rows : Bool → List DepText → PackageText → Result Text Refusal
 package_rows is_member deps p =
     row (codes "package") (p.id ∷ member_word is_member ∷ []) >>= λ first.
     feature_rows p.features >>= λ features.
-    dependencies_of p deps >>= λ es.
-    agree p.id es es >>= λ _.
-    dependency_rows es >>= λ dependencies.
+    led_rows deps p >>= λ dependencies.
     Ok ((first ++ features) ++ dependencies)
 
--- the node of the package with this id
+-- the node of package `id`, or the empty node
 abbrev pub node_of : Text → ById NodeText → NodeText
 node_of id nodes = unwrap_or (at_id id nodes) no_node
 
--- the rows of each package
+-- the rows of all packages, in the order of their ids, or the first fault
 abbrev pub all_rows : List Text → ById NodeText → ById PackageText → Result Text Refusal
 all_rows members nodes packages = joined (λ e. package_rows (list_any (bytes_eq e.0) members) (node_of e.0 nodes).deps e.1) packages
 
@@ -96,6 +101,5 @@ all_rows members nodes packages = joined (λ e. package_rows (list_any (bytes_eq
 unfoldable pub rows_of : Json → Result Text Refusal
 rows_of d =
     packages_in d >>= λ packages.
-    members_in packages d >>= λ members.
-    nodes_in packages d >>= λ nodes.
-    all_rows members nodes packages
+    resolved_in packages d >>= λ resolved.
+    all_rows resolved.members resolved.nodes packages

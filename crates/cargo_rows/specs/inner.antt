@@ -1,3 +1,3 @@
--- What private functions alone speak of: the texts that their types hold.
+-- Definitions that only contracts of private functions use.
 pub mod Views
 pub mod Picks

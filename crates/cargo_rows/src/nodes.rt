@@ -1,30 +1,24 @@
-//! Which package each dependency was resolved to.
-ghost use Rattle.std.specs.Prelude.{◌≡◌, ℕ, IfOk, map};
+//! Reads the workspace members and the packages that each package uses.
+ghost use Rattle.std.specs.Prelude.{◌≡◌, ℕ, [], IfOk, map};
 ghost use Rattle.std.specs.List.{list_any};
 ghost use Rattle.std.specs.Str.{bytes_eq};
 ghost use Rattle.json.specs.Value.{value_view, items_view};
 ghost use Rattle.cargo_documents.specs.Faults.{Text, Gives, refusal_of};
 ghost use Rattle.cargo_documents.specs.Faults as fault;
-ghost use Rattle.cargo_rows.specs.Lists.{each};
+ghost use Rattle.cargo_rows.specs.Lists.{each, each_by_id};
 ghost use Rattle.cargo_rows.specs.Nodes as spec;
+ghost use Rattle.cargo_rows.specs.Packages.{use_in};
 ghost use Rattle.cargo_rows.specs.Rows.{node_of};
-ghost use Rattle.cargo_rows.specs.inner.Views.{HasTexts, text_view, use_view, dep_view, node_view, package_view, entries_view};
+ghost use Rattle.cargo_rows.specs.inner.Views.{HasTexts, text_view, use_view, dep_view, node_view, resolved_view, package_view, entries_view};
 ghost use Rattle.cargo_documents.specs.declared.fault.Place.TheVariants as at;
 
-use crate::packages::{Kind, Package, Packages, kind_in, platform_in};
+use crate::packages::{Package, Packages, Use, use_of};
 use cargo_documents::{DocumentFault, Place, list_in, text_in, texts_in};
 use json::Value;
 use std::alloc::{AllocError, Global};
 use std::collections::{BTreeMap, BTreeSet};
 
-/// A kind and a platform for which a package is used.
-#[derive(Drop)]
-pub(crate) struct Use<'v> {
-    pub(crate) kind: Kind,
-    pub(crate) platform: Option<&'v str>,
-}
-
-/// A package that another one uses, and the name by which its code calls it.
+/// A package that another one uses.
 #[derive(Drop)]
 pub(crate) struct Dep<'p, 'v> {
     pub(crate) extern_name: &'v str,
@@ -32,7 +26,7 @@ pub(crate) struct Dep<'p, 'v> {
     pub(crate) uses: Vec<Use<'v>>,
 }
 
-/// What Cargo resolved for one package.
+/// The node of one package in Cargo's resolution.
 #[derive(Drop)]
 pub(crate) struct Node<'p, 'v> {
     /// The enabled features.
@@ -56,10 +50,18 @@ impl Node<'_, '_> {
     }
 }
 
-/// Nodes, by the ids of their packages.
+/// The nodes of a document, by the ids of their packages.
 pub(crate) type Nodes<'p, 'v> = BTreeMap<&'v str, Node<'p, 'v>>;
 
-/// The fault that no package has this id.
+/// The members and the nodes of a workspace.
+#[derive(Drop)]
+pub(crate) struct Resolved<'p, 'v> {
+    /// The ids of the workspace's members.
+    pub(crate) members: Vec<&'v str>,
+    pub(crate) nodes: Nodes<'p, 'v>,
+}
+
+/// Returns the fault `NoPackage` for `id`, read from the field `name` at `place`.
 fn no_package(
     alloc: Global,
     place: Place,
@@ -72,7 +74,7 @@ fn no_package(
     Ok(DocumentFault::NoPackage { place, name, id })
 }
 
-/// The package of this id, which the field of this name has.
+/// Returns the package `id`, read from the field `name` at `place`. Returns `NoPackage` if there is none.
 fn package_at<'p, 'v>(
     alloc: Global,
     packages: &'p Packages<'v>,
@@ -88,25 +90,14 @@ fn package_at<'p, 'v>(
     }
 }
 
-/// A kind and a platform for which a dependency is used.
-#[tactic(auto, unfolding(crate::specs::Nodes::use_in))]
-fn use_of<'v>(object: &Value<'v>, place: Place) -> Result<Use<'v>, DocumentFault>
-    ensures { Gives use_view result (spec.use_in place (value_view object.now)) }
-{
-    Ok(Use {
-        kind: kind_in(object, place)?,
-        platform: platform_in(object, place)?,
-    })
-}
-
-/// The kinds and platforms for which a dependency is used.
+/// Reads the kinds and platforms for which the package at place `dep` of `node` is used, or returns the first fault.
 fn uses_of<'v>(
     alloc: Global,
     objects: &Vec<Value<'v>>,
     node: usize,
     dep: usize,
 ) -> Result<Vec<Use<'v>>, DocumentFault>
-    ensures { Gives (λ us. map use_view us.items) result (each (λ k. spec.use_in (at.DepKind node dep k)) 0 (items_view objects.now.items)) }
+    ensures { Gives (λ us. map use_view us.items) result (each (λ k. use_in (at.DepKind node dep k)) 0 (items_view objects.now.items)) }
 {
     let mut uses = Vec::with_capacity(alloc, objects.len())?;
     for (kind, object) in objects.iter().enumerate() {
@@ -115,7 +106,8 @@ fn uses_of<'v>(
     Ok(uses)
 }
 
-/// One package that the node of this place uses.
+/// Reads the used package `object` at place `dep` of `node`. Returns its first fault, or `NoPackage` if its id isn't in
+/// `packages`.
 #[tactic(auto, unfolding(crate::specs::Nodes::dep_in))]
 fn dep_of<'p, 'v>(
     alloc: Global,
@@ -139,7 +131,7 @@ fn dep_of<'p, 'v>(
     })
 }
 
-/// The packages that the node of this place uses.
+/// Reads the packages `objects` that the node at place `node` uses, or returns the first fault.
 fn deps_of<'p, 'v>(
     alloc: Global,
     packages: &'p Packages<'v>,
@@ -171,7 +163,7 @@ fn features_on<'v>(
     }
 }
 
-/// Returns the id of the node at this place, and its facts about its package.
+/// Reads the node `object` at place `node`. Returns it with its package's id, or its first fault.
 #[tactic(auto, unfolding(crate::specs::Nodes::node_in))]
 fn node_of<'p, 'v>(
     alloc: Global,
@@ -190,7 +182,7 @@ fn node_of<'p, 'v>(
     Ok((id, Node { features, deps }))
 }
 
-/// Refuses a document that was made with `--no-deps`, in which `resolve` is null.
+/// Returns `NoDeps` if `resolve` is null, as in a document that was made with `--no-deps`.
 fn check_deps(resolve: &Value<'_>) -> Result<(), DocumentFault>
     ensures { Gives (λ _. tt) result (spec.with_deps (value_view resolve.now)) }
 {
@@ -200,14 +192,10 @@ fn check_deps(resolve: &Value<'_>) -> Result<(), DocumentFault>
     }
 }
 
-/// What the nodes of the document say.
-#[tactic(auto, unfolding(crate::specs::Nodes::nodes_in))]
-pub(crate) fn nodes_in<'p, 'v>(
-    alloc: Global,
-    packages: &'p Packages<'v>,
-    document: &Value<'v>,
-) -> Result<Nodes<'p, 'v>, DocumentFault>
-    ensures { Gives (λ m. entries_view node_view m.entries) result (spec.nodes_in (entries_view package_view packages.now.entries) (value_view document.now)) }
+/// Returns the field `resolve` of `document`. Returns `Field` if it is missing, and `NoDeps` if it is null.
+#[tactic(auto, unfolding(crate::specs::Nodes::resolve_in))]
+fn resolve_in<'d, 'v>(document: &'d Value<'v>) -> Result<&'d Value<'v>, DocumentFault>
+    ensures { Gives (λ resolve. value_view resolve.now) result (spec.resolve_in (value_view document.now)) }
 {
     let Some(resolve) = document.get("resolve") else {
         return Err(DocumentFault::Field {
@@ -216,7 +204,32 @@ pub(crate) fn nodes_in<'p, 'v>(
         });
     };
     check_deps(resolve)?;
+    Ok(resolve)
+}
+
+/// Reads the nodes of `document`, by the ids of their packages, or returns the first fault.
+#[tactic(auto, unfolding(crate::specs::Nodes::nodes_in))]
+fn nodes_in<'p, 'v>(
+    alloc: Global,
+    packages: &'p Packages<'v>,
+    document: &Value<'v>,
+) -> Result<Nodes<'p, 'v>, DocumentFault>
+    ensures { Gives (λ m. entries_view node_view m.entries) result (spec.nodes_in (entries_view package_view packages.now.entries) (value_view document.now)) }
+{
+    let resolve = resolve_in(document)?;
     let objects = list_in(resolve, Place::Resolve, "nodes")?;
+    nodes_of(alloc, packages, objects)
+}
+
+/// Reads the nodes `objects`, by the ids of their packages. Returns the first fault, or `Repeated` for an id that an earlier node
+/// has.
+fn nodes_of<'p, 'v>(
+    alloc: Global,
+    packages: &'p Packages<'v>,
+    objects: &Vec<Value<'v>>,
+) -> Result<Nodes<'p, 'v>, DocumentFault>
+    ensures { Gives (λ m. entries_view node_view m.entries) result (each_by_id (spec.node_in (entries_view package_view packages.now.entries)) at.Node 0 [] (items_view objects.now.items)) }
+{
     let mut nodes = BTreeMap::new(alloc);
     for (node, object) in objects.iter().enumerate() {
         let (id, said) = node_of(alloc, packages, object, node)?;
@@ -229,9 +242,9 @@ pub(crate) fn nodes_in<'p, 'v>(
     Ok(nodes)
 }
 
-/// The ids of the workspace's members, each of them a package's.
+/// Reads the ids of the workspace's members. Returns `NoPackage` for the first that isn't in `packages`.
 #[tactic(auto, unfolding(crate::specs::Nodes::members_in))]
-pub(crate) fn members_in<'v>(
+fn members_in<'v>(
     alloc: Global,
     packages: &Packages<'v>,
     document: &Value<'v>,
@@ -243,7 +256,7 @@ pub(crate) fn members_in<'v>(
     Ok(ids)
 }
 
-/// Refuses the first id that no package has.
+/// Checks that `packages` has each of `ids`. Returns `NoPackage` for the first that it hasn't.
 fn check_members(alloc: Global, packages: &Packages<'_>, ids: &[&str]) -> Result<(), DocumentFault>
     ensures { Gives (λ _. tt) result (spec.known (entries_view package_view packages.now.entries) (map text_view ids.now)) }
 {
@@ -251,6 +264,20 @@ fn check_members(alloc: Global, packages: &Packages<'_>, ids: &[&str]) -> Result
         let _known = package_at(alloc, packages, Place::Document, "workspace_members", id)?;
     }
     Ok(())
+}
+
+/// Reads the members and the nodes of `document`, or returns the first fault.
+#[tactic(auto, unfolding(crate::specs::Nodes::resolved_in))]
+pub(crate) fn resolved_in<'p, 'v>(
+    alloc: Global,
+    packages: &'p Packages<'v>,
+    document: &Value<'v>,
+) -> Result<Resolved<'p, 'v>, DocumentFault>
+    ensures { Gives resolved_view result (spec.resolved_in (entries_view package_view packages.now.entries) (value_view document.now)) }
+{
+    let members = members_in(alloc, packages, document)?;
+    let nodes = nodes_in(alloc, packages, document)?;
+    Ok(Resolved { members, nodes })
 }
 
 /// Returns the node of the package `id`, or `absent` if it has none.
@@ -265,7 +292,7 @@ pub(crate) fn node_at<'a, 'p, 'v>(
     nodes.get(id).unwrap_or(absent)
 }
 
-/// The ids as a set.
+/// Returns `ids` as a set. The only error is out of memory.
 pub(crate) fn set_of<'v>(alloc: Global, ids: &[&'v str]) -> Result<BTreeSet<&'v str>, AllocError>
     ensures { IfOk result (λ set. HasTexts set (map text_view ids.now)) }
 {

@@ -1,12 +1,14 @@
-//! The packages of a document, with what they declare.
-ghost use Rattle.std.specs.Prelude.{◌≡◌, [], Some, IfOk, map, option_map};
+//! Reads the packages of a document, with their features and their declarations of dependencies.
+ghost use Rattle.std.specs.Prelude.{◌≡◌, [], Some, IfOk, codes, map, option_map, option_and_then};
 ghost use Rattle.std.specs.List.{list_any};
+ghost use Rattle.json.specs.Find.{as_array};
 ghost use Rattle.json.specs.Value.{value_view, items_view, members_view};
 ghost use Rattle.cargo_documents.specs.Faults.{Gives};
-ghost use Rattle.cargo_rows.specs.Lists.{each};
+ghost use Rattle.cargo_documents.specs.Fields.{wanted, all_texts};
+ghost use Rattle.cargo_rows.specs.Lists.{each, each_by_id};
 ghost use Rattle.cargo_rows.specs.Packages as spec;
-ghost use Rattle.cargo_rows.specs.inner.Views.{text_view, declaration_view, feature_view, package_view, entries_view};
-ghost use Rattle.cargo_documents.specs.declared.fault.Place.TheVariants.{Dependency};
+ghost use Rattle.cargo_rows.specs.inner.Views.{text_view, use_view, declaration_view, feature_view, package_view, entries_view};
+ghost use Rattle.cargo_documents.specs.declared.fault.Place.TheVariants as at;
 
 use cargo_documents::{
     DocumentFault, Place, flag_in, list_in, object_in, optional_text_in, text_in, texts_in,
@@ -16,7 +18,7 @@ use json::Value;
 use std::alloc::{AllocError, Global};
 use std::collections::BTreeMap;
 
-/// Which builds of a package take a dependency.
+/// The kind of a dependency, as Cargo has it.
 #[derive(Clone, Copy, PartialEq, Eq, Debug)]
 pub(crate) enum Kind {
     Normal,
@@ -24,7 +26,14 @@ pub(crate) enum Kind {
     Dev,
 }
 
-/// One dependency that a package declares.
+/// The kind and the platform of a declaration or of a used package; None is every platform.
+#[derive(Drop)]
+pub(crate) struct Use<'v> {
+    pub(crate) kind: Kind,
+    pub(crate) platform: Option<&'v str>,
+}
+
+/// A dependency that a package declares.
 #[derive(Drop)]
 pub(crate) struct Declaration<'v> {
     pub(crate) name: &'v str,
@@ -37,29 +46,29 @@ pub(crate) struct Declaration<'v> {
     pub(crate) features: Vec<&'v str>,
 }
 
-/// A named feature, and what it enables.
+/// A named feature and the items that it enables.
 #[derive(Drop)]
 pub(crate) struct Feature<'v> {
     pub(crate) name: &'v str,
     pub(crate) items: Vec<&'v str>,
 }
 
-/// One package.
+/// A package of the document.
 #[derive(Drop)]
 pub(crate) struct Package<'v> {
     pub(crate) id: &'v str,
     pub(crate) name: &'v str,
     pub(crate) version: &'v str,
-    /// The name of its first library target, where it has one.
+    /// The name of its first library target, if it has one.
     pub(crate) library: Option<&'v str>,
     pub(crate) features: Vec<Feature<'v>>,
     pub(crate) declarations: Vec<Declaration<'v>>,
 }
 
-/// Packages by their ids.
+/// The packages of a document, by their ids.
 pub(crate) type Packages<'v> = BTreeMap<&'v str, Package<'v>>;
 
-/// The kind that a text names, in the object of this place.
+/// Returns the kind `build` or `dev` that `text` names. Any other text is a fault of the field `kind` at `place`.
 fn kind_named(text: &str, place: Place) -> Result<Kind, DocumentFault>
     ensures { Gives (λ k. k) result (spec.kind_of place (Some text.now)) }
 {
@@ -75,7 +84,7 @@ fn kind_named(text: &str, place: Place) -> Result<Kind, DocumentFault>
     }
 }
 
-/// The field `kind` of a declaration or of a way in which a dependency is used.
+/// Reads the field `kind` of a declaration or of a use. Null is the normal kind. Returns `Field` if the text is no kind.
 pub(crate) fn kind_in(object: &Value<'_>, place: Place) -> Result<Kind, DocumentFault>
     ensures { Gives (λ k. k) result (spec.kind_in place (value_view object.now)) }
 {
@@ -85,7 +94,7 @@ pub(crate) fn kind_in(object: &Value<'_>, place: Place) -> Result<Kind, Document
     }
 }
 
-/// Returns the platform `text`. The text `*` is refused, because a row uses it for every platform.
+/// Returns the platform `text`. Returns `EveryPlatform` for `*`, since a row writes `*` for every platform.
 fn platform_named<'v>(text: &'v str, place: Place) -> Result<Option<&'v str>, DocumentFault>
     ensures { Gives (λ o. option_map text_view o) result (spec.platform_of place (Some text.now)) }
 {
@@ -96,7 +105,7 @@ fn platform_named<'v>(text: &'v str, place: Place) -> Result<Option<&'v str>, Do
     }
 }
 
-/// Reads the field `target` of a declaration or of a use. None means every platform.
+/// Reads the field `target` of a declaration or of a use. None is every platform. Returns `EveryPlatform` for the text `*`.
 pub(crate) fn platform_in<'v>(
     object: &Value<'v>,
     place: Place,
@@ -109,7 +118,44 @@ pub(crate) fn platform_in<'v>(
     }
 }
 
-/// One declaration.
+/// Reads the kind and the platform of a declaration or of a use, or returns the first fault.
+#[tactic(auto, unfolding(crate::specs::Packages::use_in))]
+pub(crate) fn use_of<'v>(object: &Value<'v>, place: Place) -> Result<Use<'v>, DocumentFault>
+    ensures { Gives use_view result (spec.use_in place (value_view object.now)) }
+{
+    Ok(Use {
+        kind: kind_in(object, place)?,
+        platform: platform_in(object, place)?,
+    })
+}
+
+/// Reads the name, the new name and the requirement of a declaration, or returns the first fault.
+#[tactic(auto, unfolding(crate::specs::Packages::wanted_in))]
+fn wanted_in<'v>(
+    object: &Value<'v>,
+    place: Place,
+) -> Result<(&'v str, Option<&'v str>, &'v str), DocumentFault>
+    ensures { Gives (λ w. (w.0.now, (option_map text_view w.1, w.2.now))) result (spec.wanted_in place (value_view object.now)) }
+{
+    Ok((
+        text_in(object, place, "name")?,
+        optional_text_in(object, place, "rename")?,
+        text_in(object, place, "req")?,
+    ))
+}
+
+/// Reads whether a declaration is optional and whether it has default features, or returns the first fault.
+#[tactic(auto, unfolding(crate::specs::Packages::flags_in))]
+fn flags_in(object: &Value<'_>, place: Place) -> Result<(bool, bool), DocumentFault>
+    ensures { Gives (λ flags. flags) result (spec.flags_in place (value_view object.now)) }
+{
+    Ok((
+        flag_in(object, place, "optional")?,
+        flag_in(object, place, "uses_default_features")?,
+    ))
+}
+
+/// Reads the declaration `object`, or returns its first fault.
 #[tactic(auto, unfolding(crate::specs::Packages::declaration_in))]
 fn declaration_of<'v>(
     alloc: Global,
@@ -118,25 +164,29 @@ fn declaration_of<'v>(
 ) -> Result<Declaration<'v>, DocumentFault>
     ensures { Gives declaration_view result (spec.declaration_in place (value_view object.now)) }
 {
+    let (name, rename, requirement) = wanted_in(object, place)?;
+    let Use { kind, platform } = use_of(object, place)?;
+    let (is_optional, has_default_features) = flags_in(object, place)?;
+    let features = texts_in(alloc, object, place, "features")?;
     Ok(Declaration {
-        name: text_in(object, place, "name")?,
-        rename: optional_text_in(object, place, "rename")?,
-        requirement: text_in(object, place, "req")?,
-        kind: kind_in(object, place)?,
-        platform: platform_in(object, place)?,
-        is_optional: flag_in(object, place, "optional")?,
-        has_default_features: flag_in(object, place, "uses_default_features")?,
-        features: texts_in(alloc, object, place, "features")?,
+        name,
+        rename,
+        requirement,
+        kind,
+        platform,
+        is_optional,
+        has_default_features,
+        features,
     })
 }
 
-/// The declarations of the package of this place.
+/// Reads the declarations `objects` of the package at place `package`, or returns the first fault.
 fn declarations_of<'v>(
     alloc: Global,
     objects: &Vec<Value<'v>>,
     package: usize,
 ) -> Result<Vec<Declaration<'v>>, DocumentFault>
-    ensures { Gives (λ ds. map declaration_view ds.items) result (each (λ i. spec.declaration_in (Dependency «package» i)) 0 (items_view objects.now.items)) }
+    ensures { Gives (λ ds. map declaration_view ds.items) result (each (λ i. spec.declaration_in (at.Dependency «package» i)) 0 (items_view objects.now.items)) }
 {
     let mut declarations = Vec::with_capacity(alloc, objects.len())?;
     for (dependency, object) in objects.iter().enumerate() {
@@ -149,7 +199,7 @@ fn declarations_of<'v>(
     Ok(declarations)
 }
 
-/// The members of an object, in the order of their names; of one name the last one.
+/// Returns `members` in the order of their names. If a name is repeated, its last value is kept. The only error is out of memory.
 fn sorted<'d, 'v>(
     alloc: Global,
     members: &'d Vec<(&'v str, Value<'v>)>,
@@ -163,7 +213,24 @@ fn sorted<'d, 'v>(
     Ok(sorted)
 }
 
-/// The named features of the package of this place, in the order of their names.
+/// Reads the items of a feature. Returns `Field` at `place` if `value` isn't an array of texts.
+fn items_of<'v>(
+    alloc: Global,
+    value: &Value<'v>,
+    place: Place,
+) -> Result<Vec<&'v str>, DocumentFault>
+    ensures { Gives (λ items. map text_view items.items) result (wanted place (codes "features") (option_and_then all_texts (as_array (value_view value.now)))) }
+{
+    match value {
+        Value::Array(items) => texts_of(alloc, items, place, "features"),
+        _ => Err(DocumentFault::Field {
+            place,
+            name: "features",
+        }),
+    }
+}
+
+/// Reads the named features of the package at `place`, in the order of their names, or returns the first fault.
 fn features_of<'v>(
     alloc: Global,
     members: &Vec<(&'v str, Value<'v>)>,
@@ -174,19 +241,13 @@ fn features_of<'v>(
     let members = sorted(alloc, members)?;
     let mut features = Vec::with_capacity(alloc, members.len())?;
     for (name, value) in &members {
-        let Value::Array(items) = *value else {
-            return Err(DocumentFault::Field {
-                place,
-                name: "features",
-            });
-        };
-        let items = texts_of(alloc, items, place, "features")?;
+        let items = items_of(alloc, *value, place)?;
         features.push(Feature { name: *name, items })?;
     }
     Ok(features)
 }
 
-/// Whether targets of this kind are linked into the packages that depend on theirs.
+/// Returns whether `kind` is the kind of a library target.
 fn is_library_kind(kind: &str) -> bool
     ensures { result ≡ spec.is_library_kind kind.now }
 {
@@ -196,7 +257,7 @@ fn is_library_kind(kind: &str) -> bool
     )
 }
 
-/// Whether one of the kinds is a library's.
+/// Returns whether one of `kinds` is the kind of a library target.
 fn has_library_kind(kinds: &[&str]) -> bool
     ensures { result ≡ list_any spec.is_library_kind (map text_view kinds.now) }
 {
@@ -208,7 +269,7 @@ fn has_library_kind(kinds: &[&str]) -> bool
     false
 }
 
-/// The name of the target, where it is a library.
+/// Returns the name of the target `object` if it is a library, or its first fault.
 #[tactic(auto, unfolding(crate::specs::Packages::library_in))]
 fn library_of<'v>(
     alloc: Global,
@@ -226,7 +287,7 @@ fn library_of<'v>(
     }
 }
 
-/// The name of the first target that is a library, of the package of this place.
+/// Returns the name of the first library among the targets of the package at place `package`, or the first fault of any target.
 #[tactic(auto, unfolding(crate::specs::Packages::first_library))]
 fn first_library<'v>(
     alloc: Global,
@@ -245,7 +306,42 @@ fn first_library<'v>(
     Ok(first)
 }
 
-/// One package, by its place.
+/// The declarations, the targets and the features of a package, not read yet.
+#[derive(Clone, Copy)]
+struct Lists<'d, 'v> {
+    declared: &'d Vec<Value<'v>>,
+    targets: &'d Vec<Value<'v>>,
+    features: &'d Vec<(&'v str, Value<'v>)>,
+}
+
+/// Finds the declarations, the targets and the features of a package, or returns the first fault.
+#[tactic(auto, unfolding(crate::specs::Packages::lists_in))]
+fn lists_in<'d, 'v>(object: &'d Value<'v>, place: Place) -> Result<Lists<'d, 'v>, DocumentFault>
+    ensures { Gives (λ l. (items_view l.declared.now.items, (items_view l.targets.now.items, members_view l.features.now.items))) result (spec.lists_in place (value_view object.now)) }
+{
+    Ok(Lists {
+        declared: list_in(object, place, "dependencies")?,
+        targets: list_in(object, place, "targets")?,
+        features: object_in(object, place, "features")?,
+    })
+}
+
+/// Reads the id, the name and the version of a package, or returns the first fault.
+#[tactic(auto, unfolding(crate::specs::Packages::names_in))]
+fn names_in<'v>(
+    object: &Value<'v>,
+    place: Place,
+) -> Result<(&'v str, &'v str, &'v str), DocumentFault>
+    ensures { Gives (λ n. (n.0.now, (n.1.now, n.2.now))) result (spec.names_in place (value_view object.now)) }
+{
+    Ok((
+        text_in(object, place, "id")?,
+        text_in(object, place, "name")?,
+        text_in(object, place, "version")?,
+    ))
+}
+
+/// Reads the package `object` at place `package`, or returns its first fault.
 #[tactic(auto, unfolding(crate::specs::Packages::package_in))]
 fn package_of<'v>(
     alloc: Global,
@@ -255,20 +351,22 @@ fn package_of<'v>(
     ensures { Gives package_view result (spec.package_in «package» (value_view object.now)) }
 {
     let place = Place::Package { package };
-    let declared = list_in(object, place, "dependencies")?;
-    let targets = list_in(object, place, "targets")?;
-    let features = object_in(object, place, "features")?;
+    let lists = lists_in(object, place)?;
+    let (id, name, version) = names_in(object, place)?;
+    let library = first_library(alloc, lists.targets, package)?;
+    let features = features_of(alloc, lists.features, place)?;
+    let declarations = declarations_of(alloc, lists.declared, package)?;
     Ok(Package {
-        id: text_in(object, place, "id")?,
-        name: text_in(object, place, "name")?,
-        version: text_in(object, place, "version")?,
-        library: first_library(alloc, targets, package)?,
-        features: features_of(alloc, features, place)?,
-        declarations: declarations_of(alloc, declared, package)?,
+        id,
+        name,
+        version,
+        library,
+        features,
+        declarations,
     })
 }
 
-/// One package, of an object that is dropped then.
+/// Reads a package as `package_of` does, and drops `object`.
 fn package_from<'v>(
     alloc: Global,
     object: Value<'v>,
@@ -280,7 +378,8 @@ fn package_from<'v>(
     Ok(read)
 }
 
-/// The packages that a document lists, by their ids. Each is dropped from the document once it is read.
+/// Reads the packages in `listed`, by their ids, and drops each object once it is read. Returns `Field` if `listed` isn't an
+/// array, otherwise the first fault of a package, or `Repeated` for an id that an earlier package has.
 #[tactic(auto, unfolding(crate::specs::Packages::packages_at))]
 pub(crate) fn packages_of<'v>(
     alloc: Global,
@@ -288,12 +387,23 @@ pub(crate) fn packages_of<'v>(
 ) -> Result<Packages<'v>, DocumentFault>
     ensures { Gives (λ m. entries_view package_view m.entries) result (spec.packages_at (option_map value_view listed.entry)) }
 {
-    let Some(Value::Array(mut objects)) = listed else {
-        return Err(DocumentFault::Field {
+    match listed {
+        Some(Value::Array(objects)) => packages_from(alloc, objects),
+        _ => Err(DocumentFault::Field {
             place: Place::Document,
             name: "packages",
-        });
-    };
+        }),
+    }
+}
+
+/// Reads the packages `objects`, by their ids, and drops each object once it is read. Returns the first fault, or `Repeated` for
+/// an id that an earlier package has.
+fn packages_from<'v>(
+    alloc: Global,
+    mut objects: Vec<Value<'v>>,
+) -> Result<Packages<'v>, DocumentFault>
+    ensures { Gives (λ m. entries_view package_view m.entries) result (each_by_id spec.package_with_id at.Package 0 [] (items_view objects.entry.items)) }
+{
     let count = objects.len();
     objects.reverse();
     let mut packages = BTreeMap::new(alloc);

@@ -1,8 +1,9 @@
-//! Warnings: declarations of workspace packages that lead to no package.
+//! Warnings: declarations of workspace packages that should lead to a package but don't.
 ghost use Rattle.std.specs.Prelude.{◌≡◌, ◌++◌, List, IfOk, OnOk, map, option_map};
 ghost use Rattle.std.specs.List.{list_any};
 ghost use Rattle.std.specs.Str.{bytes_eq};
 ghost use Rattle.cargo_documents.specs.Faults.{Text};
+ghost use Rattle.cargo_rows.specs.Nodes.{no_node};
 ghost use Rattle.cargo_rows.specs.Warnings as spec;
 ghost use Rattle.cargo_rows.specs.inner.Views.{HasTexts, text_view, declaration_view, feature_view, node_view, package_view, entries_view};
 
@@ -13,7 +14,7 @@ use std::alloc::{AllocError, Global};
 use std::collections::BTreeSet;
 use std::fmt;
 
-/// A declaration of a workspace package that leads to no package. `Display` prints the line for standard error.
+/// A declaration of a workspace package that should lead to a package but doesn't. `Display` prints the line for standard error.
 #[derive(Debug, Drop)]
 pub struct Warning {
     /// The id of the package.
@@ -32,7 +33,7 @@ impl fmt::Display for Warning {
     }
 }
 
-/// Returns what follows `front` in `text`, or None if `text` doesn't begin with `front`.
+/// Returns the rest of `text` after `front`, or None if `text` doesn't begin with `front`.
 fn rest_after<'t>(front: &[u8], text: &'t [u8]) -> Option<&'t [u8]>
     ensures { option_map text_view result ≡ spec.rest_after front.now text.now }
 {
@@ -104,7 +105,8 @@ fn is_among(text: &str, texts: &[&str]) -> bool
     false
 }
 
-/// Returns whether an enabled feature, one whose name is in `on`, has an item that names the dependency `name`.
+/// Returns whether one of `features` is enabled and has an item that names the dependency `name`. `on` has the names of the
+/// enabled features.
 fn is_turned_on(on: &[&str], name: &str, features: &[Feature<'_>]) -> bool
     ensures { result ≡ spec.is_turned_on (map text_view on.now) name.now (map feature_view features.now) }
 {
@@ -168,7 +170,7 @@ fn warning_of(
     })
 }
 
-/// Appends the warnings for `package`, in the order of its declarations.
+/// Appends the warnings for `package`, in the order of its declarations. The only error is out of memory.
 fn push_warnings(
     alloc: Global,
     warnings: &mut Vec<Warning>,
@@ -186,7 +188,7 @@ fn push_warnings(
     Ok(())
 }
 
-/// Returns the names of the packages that have a library.
+/// Returns the names of the packages that have a library. The only error is out of memory.
 fn libraries_of<'v>(alloc: Global, packages: &Packages<'v>) -> Result<Vec<&'v str>, AllocError>
     ensures { IfOk result (λ names. map text_view names.items ≡ spec.libraries_of (map (λ e. e.1) (entries_view package_view packages.now.entries))) }
 {
@@ -199,23 +201,32 @@ fn libraries_of<'v>(alloc: Global, packages: &Packages<'v>) -> Result<Vec<&'v st
     Ok(names)
 }
 
-/// Returns the warnings for the packages whose ids are in `members`, in the order of the ids.
+/// Returns the names of the packages that have a library, as a set. The only error is out of memory.
+fn libraries_in<'v>(alloc: Global, packages: &Packages<'v>) -> Result<BTreeSet<&'v str>, AllocError>
+    ensures { IfOk result (λ set. HasTexts set (spec.libraries_of (map (λ e. e.1) (entries_view package_view packages.now.entries)))) }
+{
+    let names = libraries_of(alloc, packages)?;
+    let set = set_of(alloc, &names)?;
+    Ok(set)
+}
+
+/// Returns the warnings for the packages whose ids are in `members`, in the order of the ids. `absent` is
+/// the empty node, for a package that has none. The only error is out of memory.
 pub(crate) fn warnings_of_packages<'p, 'v>(
     alloc: Global,
     packages: &'p Packages<'v>,
-    members: &[&'v str],
+    members: &BTreeSet<&'v str>,
     nodes: &Nodes<'p, 'v>,
+    absent: &Node<'p, 'v>,
 ) -> Result<Vec<Warning>, AllocError>
-    ensures { IfOk result (λ warnings. map spec.warning_view warnings.items ≡ spec.all_warnings (spec.libraries_of (map (λ e. e.1) (entries_view package_view packages.now.entries))) (map text_view members.now) (entries_view node_view nodes.now.entries) (entries_view package_view packages.now.entries)) }
+    requires { node_view absent.now ≡ no_node }
+    ensures { IfOk result (λ warnings. (texts : List Text) → HasTexts members.now texts → map spec.warning_view warnings.items ≡ spec.all_warnings (spec.libraries_of (map (λ e. e.1) (entries_view package_view packages.now.entries))) texts (entries_view node_view nodes.now.entries) (entries_view package_view packages.now.entries)) }
 {
-    let members = set_of(alloc, members)?;
-    let names = libraries_of(alloc, packages)?;
-    let libraries = set_of(alloc, &names)?;
-    let absent = Node::new(alloc);
+    let libraries = libraries_in(alloc, packages)?;
     let mut warnings = Vec::new(alloc);
     for (id, package) in packages {
         if members.contains(*id) {
-            let node = node_at(&*nodes, &absent, *id);
+            let node = node_at(&*nodes, &*absent, *id);
             push_warnings(alloc, &mut warnings, &libraries, package, node)?;
         }
     }

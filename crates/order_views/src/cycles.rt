@@ -1,8 +1,6 @@
 //! Components that have a cycle.
-ghost use Rattle.std.specs.Prelude.{◌≡◌, ◌↔◌, ◌<◌, ◌≤◌, ◌||◌, ℕ, length, nat_lt, IfOk, IfSome, IsTrue};
+ghost use Rattle.std.specs.Prelude.{◌≡◌, ◌↔◌, ◌<◌, ◌||◌, ℕ, length, nat_lt, IfOk, IsTrue};
 ghost use Rattle.std.specs.List.{list_any};
-ghost use Rattle.std.specs.Iterator.{YieldsFirst, UpTo, item_count};
-ghost use Rattle.std.specs.Iterator.SizeHint.{IsWithinCount};
 ghost use Rattle.guppy_support.specs.Bits.{has};
 ghost use Rattle.guppy_support.specs.Paths.{OnCycle};
 ghost use Rattle.digraph_orders.specs.Sequences.{IsOrderOf};
@@ -11,8 +9,6 @@ ghost use Rattle.order_views.specs.Cycles.{has_cycle, is_loop, has_loop, nodes_o
 use digraph_orders::{Order, laws};
 use guppy_support::{Digraph, Edge, IxBitSet};
 use std::alloc::{AllocError, Global};
-use std::iter::FusedIterator;
-use std::marker::Model;
 
 // Returns true if an edge leads from `node` to itself. Takes logarithmic time.
 fn has_edge_to_itself(digraph: &Digraph, node: usize) -> bool
@@ -21,8 +17,8 @@ fn has_edge_to_itself(digraph: &Digraph, node: usize) -> bool
     digraph.edge_between(node, node).is_some()
 }
 
-/// Returns true if `component` has a cycle: it has at least two nodes, or one node with an edge to itself.
-pub fn is_cyclic_component(order: &Order, digraph: &Digraph, component: usize) -> bool
+// Returns true if `component` has a cycle: it has at least two nodes, or one node with an edge to itself.
+fn is_cyclic_component(order: &Order, digraph: &Digraph, component: usize) -> bool
     requires { component < order.now.count }
     ensures { result ≡ has_cycle digraph.now.edges order.now component }
 {
@@ -114,57 +110,3 @@ pub fn cyclic_components(
     }
     Ok(cyclic)
 }
-
-/// An iterator over the components that have a cycle, the last in the order first. `Order::component_nodes`
-/// returns the nodes of each. Its value in contracts is the list of the remaining components.
-#[derive(Debug, Drop)]
-pub struct CyclicComponents<'a> {
-    order: &'a Order,
-    digraph: &'a Digraph,
-    // the components from `end` on are passed
-    end: usize,
-}
-
-impl<'a> Model for CyclicComponents<'a> {
-    ghost use Rattle.std.specs.Prelude.{List, ℕ, ◌≤◌};
-    ghost use Rattle.order_views.specs.inner.Cursors.{cyclic_below};
-
-    ghost Value = { List ℕ };
-
-    ghost view = { λ it. cyclic_below it.digraph.now.edges it.order.now it.end };
-
-    ghost invariant = { λ it. it.end ≤ it.order.now.count };
-}
-
-impl<'a> CyclicComponents<'a> {
-    /// Returns an iterator over the components of `order` that have a cycle in `digraph`.
-    pub fn new(order: &'a Order, digraph: &'a Digraph) -> Self
-        ensures { result ≡ cyclic_components digraph.now.edges order.now }
-    {
-        CyclicComponents {
-            order,
-            digraph,
-            end: order.component_count(),
-        }
-    }
-}
-
-impl<'a> Iterator for CyclicComponents<'a> {
-    type Item = usize;
-
-    ghost next_gives = { YieldsFirst (λ rest. rest) };
-
-    ghost remaining = { item_count (λ rest. rest) };
-
-    fn next(&mut self) -> Option<usize> {
-        while self.end > 0 {
-            self.end -= 1;
-            if is_cyclic_component(self.order, self.digraph, self.end) {
-                return Some(self.end);
-            }
-        }
-        None
-    }
-}
-
-impl<'a> FusedIterator for CyclicComponents<'a> {}

@@ -10,7 +10,7 @@ mod links_in_order;
 mod reading;
 mod root_nodes;
 
-pub use cycles::{CyclicComponents, cyclic_components, is_cyclic, is_cyclic_component};
+pub use cycles::{cyclic_components, is_cyclic};
 pub use depending::depends_on;
 pub use in_order::InOrder;
 pub use links_in_order::LinksInOrder;

@@ -1,8 +1,8 @@
 //! The program `rows [FILE]`.
 //!
-//! FILE is what `cargo metadata --format-version 1` wrote; without it, or where it is `-`, that is read from standard
-//! input. The rows go to standard output, and each warning is a line on standard error. A fault is one line on standard error,
-//! and the exit status is 1, or 2 where the words were at fault.
+//! FILE is the output of `cargo metadata --format-version 1`; without FILE, or if it is `-`, standard input is read. The rows are
+//! written to standard output, and each warning is a line on standard error. A fault is one line on standard error; the exit
+//! status is then 1, or 2 if the arguments are wrong.
 #![tactic(auto)]
 
 use cargo_rows::{Fault, FromReader, ToWriter, Warning, run};
@@ -11,7 +11,8 @@ use std::io::ErrorKind;
 use std::process::ExitCode;
 use std::{env, io};
 
-/// Writes the rows that the program's words ask for, and returns the warnings.
+/// Writes the rows for the program's arguments and returns the warnings. Returns `Usage` for two arguments or one that isn't UTF-8,
+/// and the faults of `answer_file` and `run`.
 fn answer(rt: &HostRuntime) -> Result<Vec<Warning>, Fault> {
     let mut words = match env::args(rt) {
         Ok(words) => words.skip(1),
@@ -32,7 +33,8 @@ fn answer(rt: &HostRuntime) -> Result<Vec<Warning>, Fault> {
     }
 }
 
-/// Writes the rows of the file of this path, and returns the warnings.
+/// Writes the rows of the file at `path` and returns the warnings. Returns `CannotRead` if it can't be opened, and the faults of
+/// `run`.
 fn answer_file(rt: &HostRuntime, path: &str) -> Result<Vec<Warning>, Fault> {
     let Ok(opened) = File::open(rt, path) else {
         return Err(Fault::CannotRead);

@@ -1,4 +1,4 @@
--- The texts that Rust's types hold, and what steps answer and write.
+-- The values that the program's types hold, and the results of functions that append text.
 use Rattle.std.specs.Prelude.{◌≡◌, List, ◌++◌, map, option_map, Result, Ok}
 use Rattle.std.specs.Borrow.{Bor}
 use Rattle.std.specs.List.{list_any}
@@ -7,15 +7,16 @@ use Rattle.std.specs.Ordering.{is_eq}
 use Rattle.std.specs.BTreeSet.{BTreeSet}
 use Rattle.cargo_rows.specs.declared.packages.Declaration.{Declaration}
 use Rattle.cargo_rows.specs.declared.packages.Feature.{Feature}
+use Rattle.cargo_rows.specs.declared.packages.Use.{Use}
 use Rattle.cargo_rows.specs.declared.packages.Package.{Package}
-use Rattle.cargo_rows.specs.declared.nodes.Use.{Use}
 use Rattle.cargo_rows.specs.declared.nodes.Dep.{Dep}
 use Rattle.cargo_rows.specs.declared.nodes.Node.{Node}
+use Rattle.cargo_rows.specs.declared.nodes.Resolved.{Resolved}
 use Rattle.cargo_rows.specs.declared.dependencies.Dependency.{Dependency}
 use Rattle.cargo_documents.specs.Faults.{Text, Refusal, ◌>>=◌}
 use Rattle.cargo_rows.specs.Lists.{ById, id_cmp}
-use Rattle.cargo_rows.specs.Packages.{DeclarationText, FeatureText, PackageText}
-use Rattle.cargo_rows.specs.Nodes.{UseText, DepText, NodeText}
+use Rattle.cargo_rows.specs.Packages.{UseText, DeclarationText, FeatureText, PackageText}
+use Rattle.cargo_rows.specs.Nodes.{DepText, NodeText, ResolvedText}
 use Rattle.cargo_rows.specs.Dependencies.{DependencyText}
 
 abbrev pub text_view : Bor Text → Text
@@ -58,14 +59,17 @@ node_view n = record { features = map text_view n.features.items; deps = map dep
 abbrev pub dependency_view : Dependency → DependencyText
 dependency_view d = record { declaration = declaration_view d.declaration.now; target = package_view d.target.now }
 
--- entries of a map from ids
+-- the entries of a map from ids
 abbrev pub entries_view : {X Y : Type 0} → (X → Y) → List (Bor Text × X) → ById Y
 entries_view view xs = map (λ e. (e.0.now, view e.1)) xs
 
--- a set has these texts and no others
+abbrev pub resolved_view : Resolved → ResolvedText
+resolved_view r = record { members = map text_view r.members.items; nodes = entries_view node_view r.nodes.entries }
+
+-- the set has these texts and no others
 abbrev pub HasTexts : BTreeSet (Bor Text) → List Text → Type 0
 HasTexts set texts = (q : Bor Text) → list_any (λ k. is_eq (id_cmp q.now k.now)) set.keys ≡ list_any (bytes_eq q.now) texts
 
--- what was written, and then what is told
+-- `written` with the new text appended, or the fault
 abbrev pub after : Text → Result Text Refusal → Result Text Refusal
 after written told = told >>= λ text. Ok (written ++ text)
