@@ -86,10 +86,10 @@ pub fn texts_of<'v>(
 {
     let mut texts = Vec::with_capacity(alloc, items.len())?;
     for item in items {
-        match item {
-            Value::String(text) => texts.push(*text)?,
-            _ => return Err(DocumentFault::Field { place, name }),
-        }
+        let Some(text) = item.as_str() else {
+            return Err(DocumentFault::Field { place, name });
+        };
+        texts.push(text)?;
     }
     Ok(texts)
 }

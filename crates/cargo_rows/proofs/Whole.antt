@@ -1,14 +1,16 @@
 -- The rows of a document, by its packages and its other fields.
-use Rattle.std.proofs.Common.{◌≡◌, ◌∙◌, sym, ap, refl, List, map}
-use Rattle.std.specs.Prelude.{Ok, Err, Option, codes}
+use Rattle.std.proofs.Common.{◌≡◌, ◌∙◌, sym, ap, refl, map}
+use Rattle.std.specs.Prelude.{Result, Ok, Err, IfOk, Option, codes}
 use Rattle.json.specs.Json.{Json}
 use Rattle.json.specs.Find.{get}
-use Rattle.cargo_documents.specs.Faults.{Text, Refusal, IfNotMemory}
+use Rattle.cargo_documents.specs.Faults.{Refusal, IfNotMemory}
+use Rattle.cargo_documents.specs.declared.fault.DocumentFault.{DocumentFault}
+use Rattle.cargo_rows.specs.declared.metadata.Rows.{Rows}
 use Rattle.cargo_rows.specs.Lists.{ById}
 use Rattle.cargo_rows.specs.Packages.{PackageText, packages_at, packages_in}
-use Rattle.cargo_rows.specs.Nodes.{NodeText, members_in, nodes_in}
+use Rattle.cargo_rows.specs.Nodes.{ResolvedText, resolve_in, members_in, nodes_in, resolved_in}
 use Rattle.cargo_rows.specs.Rows.{all_rows, rows_of}
-use Rattle.cargo_rows.specs.Warnings.{libraries_of, all_warnings, warnings_of}
+use Rattle.cargo_rows.specs.Warnings.{libraries_of, all_warnings, warnings_of, warning_view}
 use Rattle.cargo_documents.specs.Parts.{Parts}
 use Rattle.cargo_rows.proofs.Lists.{if_not_memory}
 
@@ -17,33 +19,34 @@ unfolding members_in
 same_members packages a b e = rw e refl
 
 same_nodes : (packages : ById PackageText) (a b : Json) → get (codes "resolve") a ≡ get (codes "resolve") b → nodes_in packages a ≡ nodes_in packages b
-unfolding nodes_in
+unfolding nodes_in resolve_in
 same_nodes packages a b e = rw e refl
+
+same_resolved : (packages : ById PackageText) (a b : Json) → members_in packages a ≡ members_in packages b → nodes_in packages a ≡ nodes_in packages b → resolved_in packages a ≡ resolved_in packages b
+unfolding resolved_in
+same_resolved packages a b e f = rw (e, f) refl
 
 module _ (d : Json) (found : Option Json) (rest : Json) (parts : Parts d found rest) (packages : ById PackageText) (were : packages_at found ≡ Ok packages) where
   listed : packages_in d ≡ Ok packages
   unfolding packages_in
   listed = ap packages_at (sym parts.taken) ∙ were
 
-  of_members : members_in packages d ≡ members_in packages rest
-  of_members = same_members packages d rest (sym (parts.others (codes "workspace_members") refl))
+  of_resolved : resolved_in packages d ≡ resolved_in packages rest
+  of_resolved = same_resolved packages d rest (same_members packages d rest (sym (parts.others (codes "workspace_members") refl))) (same_nodes packages d rest (sym (parts.others (codes "resolve") refl)))
 
-  of_nodes : nodes_in packages d ≡ nodes_in packages rest
-  of_nodes = same_nodes packages d rest (sym (parts.others (codes "resolve") refl))
-
-  pub members_refused : (e : Refusal) → IfNotMemory e (members_in packages rest ≡ Err e) → IfNotMemory e (rows_of d ≡ Err e)
+  pub resolved_refused : (e : Refusal) → IfNotMemory e (resolved_in packages rest ≡ Err e) → IfNotMemory e (rows_of d ≡ Err e)
   unfolding rows_of
-  members_refused e h = if_not_memory e (λ (q : members_in packages rest ≡ Err e). rw (listed, of_members, q) refl) h
+  resolved_refused e h = if_not_memory e (λ (q : resolved_in packages rest ≡ Err e). rw (listed, of_resolved, q) refl) h
 
-  module _ (members : List Text) (were_members : members_in packages rest ≡ Ok members) where
-    pub nodes_refused : (e : Refusal) → IfNotMemory e (nodes_in packages rest ≡ Err e) → IfNotMemory e (rows_of d ≡ Err e)
+  module _ (resolved : ResolvedText) (were_resolved : resolved_in packages rest ≡ Ok resolved) where
+    pub rows_are : rows_of d ≡ all_rows resolved.members resolved.nodes packages
     unfolding rows_of
-    nodes_refused e h = if_not_memory e (λ (q : nodes_in packages rest ≡ Err e). rw (listed, of_members, were_members, of_nodes, q) refl) h
+    rows_are = rw (listed, of_resolved, were_resolved) refl
 
-    pub rows_are : (nodes : ById NodeText) → nodes_in packages rest ≡ Ok nodes → rows_of d ≡ all_rows members nodes packages
-    unfolding rows_of
-    rows_are nodes q = rw (listed, of_members, were_members, of_nodes, q) refl
-
-    pub warnings_are : (nodes : ById NodeText) → nodes_in packages rest ≡ Ok nodes → warnings_of d ≡ Ok (all_warnings (libraries_of (map (λ e. e.1) packages)) members nodes packages)
+    warnings_are : warnings_of d ≡ Ok (all_warnings (libraries_of (map (λ e. e.1) packages)) resolved.members resolved.nodes packages)
     unfolding warnings_of
-    warnings_are nodes q = rw (listed, of_members, were_members, of_nodes, q) refl
+    warnings_are = rw (listed, of_resolved, were_resolved) refl
+
+    pub if_warnings : (result : Result Rows DocumentFault) → IfOk result (λ rows. map warning_view rows.warnings.items ≡ all_warnings (libraries_of (map (λ e. e.1) packages)) resolved.members resolved.nodes packages) → IfOk result (λ rows. warnings_of d ≡ Ok (map warning_view rows.warnings.items))
+    if_warnings (Ok rows) e = warnings_are ∙ ap Ok (sym e)
+    if_warnings (Err fault) e = tt

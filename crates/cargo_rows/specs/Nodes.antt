@@ -5,11 +5,10 @@ use Rattle.json.specs.Json.{Json, null, boolean, number, string, array, object}
 use Rattle.json.specs.Find.{get, as_array}
 use Rattle.cargo_documents.specs.declared.fault.Place.{Place}
 use Rattle.cargo_documents.specs.declared.fault.Place.TheVariants as place
-use Rattle.cargo_rows.specs.declared.packages.Kind.{Kind}
 use Rattle.cargo_documents.specs.Faults.{Text, Refusal, no_package, no_deps, ◌>>=◌}
 use Rattle.cargo_documents.specs.Fields.{wanted, all_texts, text_in, list_in, texts_in}
 use Rattle.cargo_rows.specs.Lists.{each, ById, at_id, each_by_id}
-use Rattle.cargo_rows.specs.Packages.{kind_in, platform_in, PackageText}
+use Rattle.cargo_rows.specs.Packages.{UseText, use_in, PackageText}
 
 -- the package of this id, or the fault that there is none, of the field that has the id
 abbrev pub found_or : {X : Type 0} → Place → Text → Text → Option X → Result X Refusal
@@ -18,17 +17,6 @@ found_or at name id None = Err (no_package at name id)
 
 unfoldable pub package_at : ById PackageText → Place → Text → Text → Result PackageText Refusal
 package_at packages at name id = found_or at name id (at_id id packages)
-
--- a kind and a platform for which a package is used
-pub record UseText : Type 0 where
-  pub kind : Kind
-  pub platform : Option Text
-
-unfoldable pub use_in : Place → Json → Result UseText Refusal
-use_in at d =
-    kind_in at d >>= λ kind.
-    platform_in at d >>= λ platform.
-    Ok (record { kind = kind; platform = platform })
 
 -- a used package, the name by which code calls it, and its uses
 pub record DepText : Type 0 where
@@ -77,11 +65,17 @@ with_deps (string s) = Ok tt
 with_deps (array ds) = Ok tt
 with_deps (object ms) = Ok tt
 
+-- the field `resolve` of the document
+unfoldable pub resolve_in : Json → Result Json Refusal
+resolve_in d =
+    wanted place.Document (codes "resolve") (get (codes "resolve") d) >>= λ resolve.
+    with_deps resolve >>= λ _.
+    Ok resolve
+
 -- the nodes of the document, by their packages' ids
 unfoldable pub nodes_in : ById PackageText → Json → Result (ById NodeText) Refusal
 nodes_in packages d =
-    wanted place.Document (codes "resolve") (get (codes "resolve") d) >>= λ resolve.
-    with_deps resolve >>= λ _.
+    resolve_in d >>= λ resolve.
     list_in place.Resolve (codes "nodes") resolve >>=
     each_by_id (node_in packages) place.Node 0 []
 
@@ -96,3 +90,14 @@ members_in packages d =
     texts_in place.Document (codes "workspace_members") d >>= λ ids.
     known packages ids >>= λ _.
     Ok ids
+
+-- the ids of the workspace's members, and the nodes
+pub record ResolvedText : Type 0 where
+  pub members : List Text
+  pub nodes : ById NodeText
+
+unfoldable pub resolved_in : ById PackageText → Json → Result ResolvedText Refusal
+resolved_in packages d =
+    members_in packages d >>= λ members.
+    nodes_in packages d >>= λ nodes.
+    Ok (record { members = members; nodes = nodes })

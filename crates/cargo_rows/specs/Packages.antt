@@ -40,18 +40,40 @@ pub record DeclarationText : Type 0 where
   pub has_default_features : Bool
   pub features : List Text
 
--- the declaration that an object is, or the first field at fault
-unfoldable pub declaration_in : Place → Json → Result DeclarationText Refusal
-declaration_in at d =
+-- a kind and a platform, of a declaration or of a use
+pub record UseText : Type 0 where
+  pub kind : Kind
+  pub platform : Option Text
+
+unfoldable pub use_in : Place → Json → Result UseText Refusal
+use_in at d =
+    kind_in at d >>= λ kind.
+    platform_in at d >>= λ platform.
+    Ok (record { kind = kind; platform = platform })
+
+-- the name of a declaration, its new name and its requirement
+unfoldable pub wanted_in : Place → Json → Result (Text × (Option Text × Text)) Refusal
+wanted_in at d =
     text_in at (codes "name") d >>= λ name.
     optional_text_in at (codes "rename") d >>= λ rename.
     text_in at (codes "req") d >>= λ requirement.
-    kind_in at d >>= λ kind.
-    platform_in at d >>= λ platform.
+    Ok (name, (rename, requirement))
+
+-- whether a declaration is optional, and whether it has default features
+unfoldable pub flags_in : Place → Json → Result (Bool × Bool) Refusal
+flags_in at d =
     flag_in at (codes "optional") d >>= λ is_optional.
     flag_in at (codes "uses_default_features") d >>= λ has_default_features.
+    Ok (is_optional, has_default_features)
+
+-- the declaration that an object is, or the first field at fault
+unfoldable pub declaration_in : Place → Json → Result DeclarationText Refusal
+declaration_in at d =
+    wanted_in at d >>= λ w.
+    use_in at d >>= λ u.
+    flags_in at d >>= λ flags.
     texts_in at (codes "features") d >>= λ features.
-    Ok (record { name = name; rename = rename; requirement = requirement; kind = kind; platform = platform; is_optional = is_optional; has_default_features = has_default_features; features = features })
+    Ok (record { name = w.0; rename = w.1.0; requirement = w.1.1; kind = u.kind; platform = u.platform; is_optional = flags.0; has_default_features = flags.1; features = features })
 
 -- a named feature, and what it enables
 pub record FeatureText : Type 0 where
@@ -95,19 +117,31 @@ pub record PackageText : Type 0 where
   pub features : List FeatureText
   pub declarations : List DeclarationText
 
+-- the lists of declarations and of targets of a package, and its features
+unfoldable pub lists_in : Place → Json → Result (Items × (Items × Members)) Refusal
+lists_in at d =
+    list_in at (codes "dependencies") d >>= λ declared.
+    list_in at (codes "targets") d >>= λ targets.
+    object_in at (codes "features") d >>= λ members.
+    Ok (declared, (targets, members))
+
+-- the id of a package, its name and its version
+unfoldable pub names_in : Place → Json → Result (Text × (Text × Text)) Refusal
+names_in at d =
+    text_in at (codes "id") d >>= λ id.
+    text_in at (codes "name") d >>= λ name.
+    text_in at (codes "version") d >>= λ version.
+    Ok (id, (name, version))
+
 -- the package that the object at place n is, or its first fault
 unfoldable pub package_in : ℕ → Json → Result PackageText Refusal
 package_in n d =
-    list_in (place.Package n) (codes "dependencies") d >>= λ declared.
-    list_in (place.Package n) (codes "targets") d >>= λ targets.
-    object_in (place.Package n) (codes "features") d >>= λ members.
-    text_in (place.Package n) (codes "id") d >>= λ id.
-    text_in (place.Package n) (codes "name") d >>= λ name.
-    text_in (place.Package n) (codes "version") d >>= λ version.
-    first_library n targets >>= λ library.
-    features_of (place.Package n) (sorted [] members) >>= λ features.
-    each (λ i. declaration_in (place.Dependency n i)) 0 declared >>= λ declarations.
-    Ok (record { id = id; name = name; version = version; library = library; features = features; declarations = declarations })
+    lists_in (place.Package n) d >>= λ lists.
+    names_in (place.Package n) d >>= λ names.
+    first_library n lists.1.0 >>= λ library.
+    features_of (place.Package n) (sorted [] lists.1.1) >>= λ features.
+    each (λ i. declaration_in (place.Dependency n i)) 0 lists.0 >>= λ declarations.
+    Ok (record { id = names.0; name = names.1.0; version = names.1.1; library = library; features = features; declarations = declarations })
 
 abbrev pub package_with_id : ℕ → Json → Result (Text × PackageText) Refusal
 package_with_id n d = package_in n d >>= λ p. Ok (p.id, p)

@@ -10,7 +10,7 @@ use Rattle.cargo_rows.specs.declared.packages.Kind.TheVariants as kind
 use Rattle.cargo_documents.specs.Faults.{Text, Refusal, control, ◌>>=◌}
 use Rattle.cargo_rows.specs.Lists.{joined, ById, at_id}
 use Rattle.cargo_rows.specs.Packages.{FeatureText, PackageText, packages_in}
-use Rattle.cargo_rows.specs.Nodes.{DepText, NodeText, no_node, members_in, nodes_in}
+use Rattle.cargo_rows.specs.Nodes.{DepText, NodeText, no_node, resolved_in}
 use Rattle.cargo_rows.specs.Dependencies.{DependencyText, name_of, dependencies_of, agree}
 
 -- whether a text has a control character, so that it can't stand in a row
@@ -74,14 +74,19 @@ feature_rows features = joined (λ f. row (codes "feature") (feature_fields f)) 
 abbrev pub dependency_rows : List DependencyText → Result Text Refusal
 dependency_rows es = joined (λ e. row (codes "dep") (dependency_fields e)) es
 
+-- the rows of the declarations of a package that uses these
+unfoldable pub led_rows : List DepText → PackageText → Result Text Refusal
+led_rows deps p =
+    dependencies_of p deps >>= λ es.
+    agree p.id es es >>= λ _.
+    dependency_rows es
+
 -- the rows of a package that uses these: its own, its features', and its dependencies'
 unfoldable pub package_rows : Bool → List DepText → PackageText → Result Text Refusal
 package_rows is_member deps p =
     row (codes "package") (p.id ∷ member_word is_member ∷ []) >>= λ first.
     feature_rows p.features >>= λ features.
-    dependencies_of p deps >>= λ es.
-    agree p.id es es >>= λ _.
-    dependency_rows es >>= λ dependencies.
+    led_rows deps p >>= λ dependencies.
     Ok ((first ++ features) ++ dependencies)
 
 -- the node of the package with this id
@@ -96,6 +101,5 @@ all_rows members nodes packages = joined (λ e. package_rows (list_any (bytes_eq
 unfoldable pub rows_of : Json → Result Text Refusal
 rows_of d =
     packages_in d >>= λ packages.
-    members_in packages d >>= λ members.
-    nodes_in packages d >>= λ nodes.
-    all_rows members nodes packages
+    resolved_in packages d >>= λ resolved.
+    all_rows resolved.members resolved.nodes packages

@@ -8,7 +8,7 @@ use Rattle.cargo_documents.specs.Faults.{Text, Refusal, ◌>>=◌}
 use Rattle.cargo_rows.specs.declared.warnings.Warning.{Warning}
 use Rattle.cargo_rows.specs.Lists.{ById}
 use Rattle.cargo_rows.specs.Packages.{DeclarationText, FeatureText, PackageText, packages_in}
-use Rattle.cargo_rows.specs.Nodes.{NodeText, members_in, nodes_in}
+use Rattle.cargo_rows.specs.Nodes.{NodeText, resolved_in}
 use Rattle.cargo_rows.specs.Dependencies.{FoundPackage, nothing, one, several, name_of, choice}
 use Rattle.cargo_rows.specs.Rows.{node_of}
 
@@ -86,6 +86,5 @@ all_warnings libraries members nodes packages = flat_map (λ e. if list_any (byt
 unfoldable pub warnings_of : Json → Result (List WarningText) Refusal
 warnings_of d =
     packages_in d >>= λ packages.
-    members_in packages d >>= λ members.
-    nodes_in packages d >>= λ nodes.
-    Ok (all_warnings (libraries_of (map (λ e. e.1) packages)) members nodes packages)
+    resolved_in packages d >>= λ resolved.
+    Ok (all_warnings (libraries_of (map (λ e. e.1) packages)) resolved.members resolved.nodes packages)

@@ -3,23 +3,41 @@ ghost use Rattle.std.specs.Prelude.{◌≡◌, ℕ, List, Some, None, Ok, IfOk, 
 ghost use Rattle.std.specs.Str.{IsUtf8};
 ghost use Rattle.json.specs.Value.{value_view};
 ghost use Rattle.cargo_rows.specs.Document.{document};
-ghost use Rattle.cargo_documents.specs.Faults.{Gives};
-ghost use Rattle.cargo_rows.specs.Rows.{package_rows, all_rows, rows_of};
+ghost use Rattle.cargo_documents.specs.Faults.{Text, Gives};
+ghost use Rattle.cargo_rows.specs.Nodes.{no_node};
+ghost use Rattle.cargo_rows.specs.Rows.{led_rows, package_rows, all_rows, rows_of};
 ghost use Rattle.cargo_rows.specs.Run.{AreRows, AreWarnings, Refuses};
-ghost use Rattle.cargo_rows.specs.Warnings.{warnings_of, warning_view};
-ghost use Rattle.cargo_rows.specs.inner.Views.{text_view, dep_view, node_view, package_view, entries_view, after};
+ghost use Rattle.cargo_rows.specs.Warnings.{libraries_of, all_warnings, warnings_of, warning_view};
+ghost use Rattle.cargo_rows.specs.inner.Views.{HasTexts, text_view, dep_view, node_view, package_view, entries_view, after};
 
 use crate::dependencies::{check_names, dependencies_of};
-use crate::nodes::{Dep, Node, Nodes, members_in, node_at, nodes_in, set_of};
+use crate::nodes::{Dep, Node, Nodes, Resolved, node_at, resolved_in, set_of};
 use crate::packages::{Package, Packages, packages_of};
 use crate::rows::{push_dependencies, push_features, push_package};
 use crate::warnings::{Warning, warnings_of_packages};
 use cargo_documents::{DocumentFault, Fault, Unread, parts_of, read};
 use json::{Reader, Scratch, Value};
 use std::alloc::Global;
+use std::collections::BTreeSet;
 
 /// How deep arrays and objects may nest.
 const MAX_DEPTH: usize = 127;
+
+/// Adds the rows of the declarations of a package that uses these.
+#[tactic(auto, unfolding(crate::specs::Rows::led_rows))]
+fn push_led<'p, 'v>(
+    alloc: Global,
+    rows: &mut String,
+    package: &'p Package<'v>,
+    deps: &[Dep<'p, 'v>],
+) -> Result<(), DocumentFault>
+    ensures { Gives (λ _. string_bytes rows.new) result (after (string_bytes rows.old) (led_rows (map dep_view deps.now) (package_view «package».now))) }
+{
+    let dependencies = dependencies_of(alloc, package, deps)?;
+    check_names(alloc, package, &dependencies)?;
+    push_dependencies(alloc, rows, &dependencies)?;
+    Ok(())
+}
 
 /// Adds the rows of one package that uses these.
 #[tactic(auto, unfolding(crate::specs::Rows::package_rows))]
@@ -34,27 +52,25 @@ fn push_rows<'p, 'v>(
 {
     push_package(alloc, rows, package, is_member)?;
     push_features(alloc, rows, &package.features)?;
-    let dependencies = dependencies_of(alloc, package, deps)?;
-    check_names(alloc, package, &dependencies)?;
-    push_dependencies(alloc, rows, &dependencies)?;
+    push_led(alloc, rows, package, deps)?;
     Ok(())
 }
 
-/// The rows of each package.
+/// The rows of each package; `absent` is a node with nothing.
 fn rows_of_packages<'p, 'v>(
     alloc: Global,
     packages: &'p Packages<'v>,
-    members: &[&'v str],
+    members: &BTreeSet<&'v str>,
     nodes: &Nodes<'p, 'v>,
+    absent: &Node<'p, 'v>,
 ) -> Result<String, DocumentFault>
-    ensures { Gives (λ text. string_bytes text) result (all_rows (map text_view members.now) (entries_view node_view nodes.now.entries) (entries_view package_view packages.now.entries)) }
+    requires { node_view absent.now ≡ no_node }
+    ensures { (texts : List Text) → HasTexts members.now texts → Gives (λ text. string_bytes text) result (all_rows texts (entries_view node_view nodes.now.entries) (entries_view package_view packages.now.entries)) }
 {
-    let members = set_of(alloc, members)?;
-    let absent = Node::new(alloc);
     let mut rows = String::new(alloc);
     for (id, package) in packages {
         let is_member = members.contains(*id);
-        let node = node_at(&*nodes, &absent, *id);
+        let node = node_at(&*nodes, &*absent, *id);
         push_rows(alloc, &mut rows, package, is_member, &node.deps)?;
     }
     Ok(rows)
@@ -69,6 +85,22 @@ pub(crate) struct Rows {
     pub(crate) warnings: Vec<Warning>,
 }
 
+/// The rows and the warnings of packages, by what Cargo resolved.
+fn rows_over<'p, 'v>(
+    alloc: Global,
+    packages: &'p Packages<'v>,
+    resolved: &Resolved<'p, 'v>,
+) -> Result<Rows, DocumentFault>
+    ensures rows { Gives (λ rows. string_bytes rows.text) result (all_rows (map text_view resolved.now.members.items) (entries_view node_view resolved.now.nodes.entries) (entries_view package_view packages.now.entries)) }
+    ensures warnings { IfOk result (λ rows. map warning_view rows.warnings.items ≡ all_warnings (libraries_of (map (λ e. e.1) (entries_view package_view packages.now.entries))) (map text_view resolved.now.members.items) (entries_view node_view resolved.now.nodes.entries) (entries_view package_view packages.now.entries)) }
+{
+    let members = set_of(alloc, &resolved.members)?;
+    let absent = Node::new(alloc);
+    let text = rows_of_packages(alloc, packages, &members, &resolved.nodes, &absent)?;
+    let warnings = warnings_of_packages(alloc, packages, &members, &resolved.nodes, &absent)?;
+    Ok(Rows { text, warnings })
+}
+
 /// The rows of a document. What was read of it is dropped before more is read.
 #[tactic(auto, unfolding(crate::specs::Rows::rows_of, crate::specs::Packages::packages_in))]
 fn rows_of_document(alloc: Global, document: Value<'_>) -> Result<Rows, DocumentFault>
@@ -77,12 +109,9 @@ fn rows_of_document(alloc: Global, document: Value<'_>) -> Result<Rows, Document
 {
     let (listed, rest) = parts_of(alloc, document)?;
     let packages = packages_of(alloc, listed)?;
-    let members = members_in(alloc, &packages, &rest)?;
-    let nodes = nodes_in(alloc, &packages, &rest)?;
+    let resolved = resolved_in(alloc, &packages, &rest)?;
     drop(rest);
-    let text = rows_of_packages(alloc, &packages, &members, &nodes)?;
-    let warnings = warnings_of_packages(alloc, &packages, &members, &nodes)?;
-    Ok(Rows { text, warnings })
+    rows_over(alloc, &packages, &resolved)
 }
 
 /// The fault that the text is no document; the place is where its reader stopped.

@@ -1,28 +1,22 @@
 //! Which package each dependency was resolved to.
-ghost use Rattle.std.specs.Prelude.{◌≡◌, ℕ, IfOk, map};
+ghost use Rattle.std.specs.Prelude.{◌≡◌, ℕ, [], IfOk, map};
 ghost use Rattle.std.specs.List.{list_any};
 ghost use Rattle.std.specs.Str.{bytes_eq};
 ghost use Rattle.json.specs.Value.{value_view, items_view};
 ghost use Rattle.cargo_documents.specs.Faults.{Text, Gives, refusal_of};
 ghost use Rattle.cargo_documents.specs.Faults as fault;
-ghost use Rattle.cargo_rows.specs.Lists.{each};
+ghost use Rattle.cargo_rows.specs.Lists.{each, each_by_id};
 ghost use Rattle.cargo_rows.specs.Nodes as spec;
+ghost use Rattle.cargo_rows.specs.Packages.{use_in};
 ghost use Rattle.cargo_rows.specs.Rows.{node_of};
-ghost use Rattle.cargo_rows.specs.inner.Views.{HasTexts, text_view, use_view, dep_view, node_view, package_view, entries_view};
+ghost use Rattle.cargo_rows.specs.inner.Views.{HasTexts, text_view, use_view, dep_view, node_view, resolved_view, package_view, entries_view};
 ghost use Rattle.cargo_documents.specs.declared.fault.Place.TheVariants as at;
 
-use crate::packages::{Kind, Package, Packages, kind_in, platform_in};
+use crate::packages::{Package, Packages, Use, use_of};
 use cargo_documents::{DocumentFault, Place, list_in, text_in, texts_in};
 use json::Value;
 use std::alloc::{AllocError, Global};
 use std::collections::{BTreeMap, BTreeSet};
-
-/// A kind and a platform for which a package is used.
-#[derive(Drop)]
-pub(crate) struct Use<'v> {
-    pub(crate) kind: Kind,
-    pub(crate) platform: Option<&'v str>,
-}
 
 /// A package that another one uses, and the name by which its code calls it.
 #[derive(Drop)]
@@ -59,6 +53,14 @@ impl Node<'_, '_> {
 /// Nodes, by the ids of their packages.
 pub(crate) type Nodes<'p, 'v> = BTreeMap<&'v str, Node<'p, 'v>>;
 
+/// What Cargo resolved for a workspace.
+#[derive(Drop)]
+pub(crate) struct Resolved<'p, 'v> {
+    /// The ids of the workspace's members.
+    pub(crate) members: Vec<&'v str>,
+    pub(crate) nodes: Nodes<'p, 'v>,
+}
+
 /// The fault that no package has this id.
 fn no_package(
     alloc: Global,
@@ -88,17 +90,6 @@ fn package_at<'p, 'v>(
     }
 }
 
-/// A kind and a platform for which a dependency is used.
-#[tactic(auto, unfolding(crate::specs::Nodes::use_in))]
-fn use_of<'v>(object: &Value<'v>, place: Place) -> Result<Use<'v>, DocumentFault>
-    ensures { Gives use_view result (spec.use_in place (value_view object.now)) }
-{
-    Ok(Use {
-        kind: kind_in(object, place)?,
-        platform: platform_in(object, place)?,
-    })
-}
-
 /// The kinds and platforms for which a dependency is used.
 fn uses_of<'v>(
     alloc: Global,
@@ -106,7 +97,7 @@ fn uses_of<'v>(
     node: usize,
     dep: usize,
 ) -> Result<Vec<Use<'v>>, DocumentFault>
-    ensures { Gives (λ us. map use_view us.items) result (each (λ k. spec.use_in (at.DepKind node dep k)) 0 (items_view objects.now.items)) }
+    ensures { Gives (λ us. map use_view us.items) result (each (λ k. use_in (at.DepKind node dep k)) 0 (items_view objects.now.items)) }
 {
     let mut uses = Vec::with_capacity(alloc, objects.len())?;
     for (kind, object) in objects.iter().enumerate() {
@@ -200,14 +191,10 @@ fn check_deps(resolve: &Value<'_>) -> Result<(), DocumentFault>
     }
 }
 
-/// What the nodes of the document say.
-#[tactic(auto, unfolding(crate::specs::Nodes::nodes_in))]
-pub(crate) fn nodes_in<'p, 'v>(
-    alloc: Global,
-    packages: &'p Packages<'v>,
-    document: &Value<'v>,
-) -> Result<Nodes<'p, 'v>, DocumentFault>
-    ensures { Gives (λ m. entries_view node_view m.entries) result (spec.nodes_in (entries_view package_view packages.now.entries) (value_view document.now)) }
+/// Returns the field `resolve` of a document.
+#[tactic(auto, unfolding(crate::specs::Nodes::resolve_in))]
+fn resolve_in<'d, 'v>(document: &'d Value<'v>) -> Result<&'d Value<'v>, DocumentFault>
+    ensures { Gives (λ resolve. value_view resolve.now) result (spec.resolve_in (value_view document.now)) }
 {
     let Some(resolve) = document.get("resolve") else {
         return Err(DocumentFault::Field {
@@ -216,7 +203,31 @@ pub(crate) fn nodes_in<'p, 'v>(
         });
     };
     check_deps(resolve)?;
+    Ok(resolve)
+}
+
+/// What the nodes of the document say.
+#[tactic(auto, unfolding(crate::specs::Nodes::nodes_in))]
+fn nodes_in<'p, 'v>(
+    alloc: Global,
+    packages: &'p Packages<'v>,
+    document: &Value<'v>,
+) -> Result<Nodes<'p, 'v>, DocumentFault>
+    ensures { Gives (λ m. entries_view node_view m.entries) result (spec.nodes_in (entries_view package_view packages.now.entries) (value_view document.now)) }
+{
+    let resolve = resolve_in(document)?;
     let objects = list_in(resolve, Place::Resolve, "nodes")?;
+    nodes_of(alloc, packages, objects)
+}
+
+/// Reads the nodes that these objects are, by the ids of their packages.
+fn nodes_of<'p, 'v>(
+    alloc: Global,
+    packages: &'p Packages<'v>,
+    objects: &Vec<Value<'v>>,
+) -> Result<Nodes<'p, 'v>, DocumentFault>
+    ensures { Gives (λ m. entries_view node_view m.entries) result (each_by_id (spec.node_in (entries_view package_view packages.now.entries)) at.Node 0 [] (items_view objects.now.items)) }
+{
     let mut nodes = BTreeMap::new(alloc);
     for (node, object) in objects.iter().enumerate() {
         let (id, said) = node_of(alloc, packages, object, node)?;
@@ -231,7 +242,7 @@ pub(crate) fn nodes_in<'p, 'v>(
 
 /// The ids of the workspace's members, each of them a package's.
 #[tactic(auto, unfolding(crate::specs::Nodes::members_in))]
-pub(crate) fn members_in<'v>(
+fn members_in<'v>(
     alloc: Global,
     packages: &Packages<'v>,
     document: &Value<'v>,
@@ -251,6 +262,20 @@ fn check_members(alloc: Global, packages: &Packages<'_>, ids: &[&str]) -> Result
         let _known = package_at(alloc, packages, Place::Document, "workspace_members", id)?;
     }
     Ok(())
+}
+
+/// Reads the members and the nodes of a document.
+#[tactic(auto, unfolding(crate::specs::Nodes::resolved_in))]
+pub(crate) fn resolved_in<'p, 'v>(
+    alloc: Global,
+    packages: &'p Packages<'v>,
+    document: &Value<'v>,
+) -> Result<Resolved<'p, 'v>, DocumentFault>
+    ensures { Gives resolved_view result (spec.resolved_in (entries_view package_view packages.now.entries) (value_view document.now)) }
+{
+    let members = members_in(alloc, packages, document)?;
+    let nodes = nodes_in(alloc, packages, document)?;
+    Ok(Resolved { members, nodes })
 }
 
 /// Returns the node of the package `id`, or `absent` if it has none.

@@ -1,12 +1,14 @@
 //! The packages of a document, with what they declare.
-ghost use Rattle.std.specs.Prelude.{◌≡◌, [], Some, IfOk, map, option_map};
+ghost use Rattle.std.specs.Prelude.{◌≡◌, [], Some, IfOk, codes, map, option_map, option_and_then};
 ghost use Rattle.std.specs.List.{list_any};
+ghost use Rattle.json.specs.Find.{as_array};
 ghost use Rattle.json.specs.Value.{value_view, items_view, members_view};
 ghost use Rattle.cargo_documents.specs.Faults.{Gives};
-ghost use Rattle.cargo_rows.specs.Lists.{each};
+ghost use Rattle.cargo_documents.specs.Fields.{wanted, all_texts};
+ghost use Rattle.cargo_rows.specs.Lists.{each, each_by_id};
 ghost use Rattle.cargo_rows.specs.Packages as spec;
-ghost use Rattle.cargo_rows.specs.inner.Views.{text_view, declaration_view, feature_view, package_view, entries_view};
-ghost use Rattle.cargo_documents.specs.declared.fault.Place.TheVariants.{Dependency};
+ghost use Rattle.cargo_rows.specs.inner.Views.{text_view, use_view, declaration_view, feature_view, package_view, entries_view};
+ghost use Rattle.cargo_documents.specs.declared.fault.Place.TheVariants as at;
 
 use cargo_documents::{
     DocumentFault, Place, flag_in, list_in, object_in, optional_text_in, text_in, texts_in,
@@ -22,6 +24,13 @@ pub(crate) enum Kind {
     Normal,
     Build,
     Dev,
+}
+
+/// A kind and a platform, of a declaration or of a use.
+#[derive(Drop)]
+pub(crate) struct Use<'v> {
+    pub(crate) kind: Kind,
+    pub(crate) platform: Option<&'v str>,
 }
 
 /// One dependency that a package declares.
@@ -109,6 +118,43 @@ pub(crate) fn platform_in<'v>(
     }
 }
 
+/// Reads the kind and the platform of a declaration or of a use.
+#[tactic(auto, unfolding(crate::specs::Packages::use_in))]
+pub(crate) fn use_of<'v>(object: &Value<'v>, place: Place) -> Result<Use<'v>, DocumentFault>
+    ensures { Gives use_view result (spec.use_in place (value_view object.now)) }
+{
+    Ok(Use {
+        kind: kind_in(object, place)?,
+        platform: platform_in(object, place)?,
+    })
+}
+
+/// Reads the name of a declaration, its new name and its requirement.
+#[tactic(auto, unfolding(crate::specs::Packages::wanted_in))]
+fn wanted_in<'v>(
+    object: &Value<'v>,
+    place: Place,
+) -> Result<(&'v str, Option<&'v str>, &'v str), DocumentFault>
+    ensures { Gives (λ w. (w.0.now, (option_map text_view w.1, w.2.now))) result (spec.wanted_in place (value_view object.now)) }
+{
+    Ok((
+        text_in(object, place, "name")?,
+        optional_text_in(object, place, "rename")?,
+        text_in(object, place, "req")?,
+    ))
+}
+
+/// Reads whether a declaration is optional, and whether it has default features.
+#[tactic(auto, unfolding(crate::specs::Packages::flags_in))]
+fn flags_in(object: &Value<'_>, place: Place) -> Result<(bool, bool), DocumentFault>
+    ensures { Gives (λ flags. flags) result (spec.flags_in place (value_view object.now)) }
+{
+    Ok((
+        flag_in(object, place, "optional")?,
+        flag_in(object, place, "uses_default_features")?,
+    ))
+}
+
 /// One declaration.
 #[tactic(auto, unfolding(crate::specs::Packages::declaration_in))]
 fn declaration_of<'v>(
@@ -118,15 +164,19 @@ fn declaration_of<'v>(
 ) -> Result<Declaration<'v>, DocumentFault>
     ensures { Gives declaration_view result (spec.declaration_in place (value_view object.now)) }
 {
+    let (name, rename, requirement) = wanted_in(object, place)?;
+    let Use { kind, platform } = use_of(object, place)?;
+    let (is_optional, has_default_features) = flags_in(object, place)?;
+    let features = texts_in(alloc, object, place, "features")?;
     Ok(Declaration {
-        name: text_in(object, place, "name")?,
-        rename: optional_text_in(object, place, "rename")?,
-        requirement: text_in(object, place, "req")?,
-        kind: kind_in(object, place)?,
-        platform: platform_in(object, place)?,
-        is_optional: flag_in(object, place, "optional")?,
-        has_default_features: flag_in(object, place, "uses_default_features")?,
-        features: texts_in(alloc, object, place, "features")?,
+        name,
+        rename,
+        requirement,
+        kind,
+        platform,
+        is_optional,
+        has_default_features,
+        features,
     })
 }
 
@@ -136,7 +186,7 @@ fn declarations_of<'v>(
     objects: &Vec<Value<'v>>,
     package: usize,
 ) -> Result<Vec<Declaration<'v>>, DocumentFault>
-    ensures { Gives (λ ds. map declaration_view ds.items) result (each (λ i. spec.declaration_in (Dependency «package» i)) 0 (items_view objects.now.items)) }
+    ensures { Gives (λ ds. map declaration_view ds.items) result (each (λ i. spec.declaration_in (at.Dependency «package» i)) 0 (items_view objects.now.items)) }
 {
     let mut declarations = Vec::with_capacity(alloc, objects.len())?;
     for (dependency, object) in objects.iter().enumerate() {
@@ -163,6 +213,23 @@ fn sorted<'d, 'v>(
     Ok(sorted)
 }
 
+/// Returns the items of a feature.
+fn items_of<'v>(
+    alloc: Global,
+    value: &Value<'v>,
+    place: Place,
+) -> Result<Vec<&'v str>, DocumentFault>
+    ensures { Gives (λ items. map text_view items.items) result (wanted place (codes "features") (option_and_then all_texts (as_array (value_view value.now)))) }
+{
+    match value {
+        Value::Array(items) => texts_of(alloc, items, place, "features"),
+        _ => Err(DocumentFault::Field {
+            place,
+            name: "features",
+        }),
+    }
+}
+
 /// The named features of the package of this place, in the order of their names.
 fn features_of<'v>(
     alloc: Global,
@@ -174,13 +241,7 @@ fn features_of<'v>(
     let members = sorted(alloc, members)?;
     let mut features = Vec::with_capacity(alloc, members.len())?;
     for (name, value) in &members {
-        let Value::Array(items) = *value else {
-            return Err(DocumentFault::Field {
-                place,
-                name: "features",
-            });
-        };
-        let items = texts_of(alloc, items, place, "features")?;
+        let items = items_of(alloc, *value, place)?;
         features.push(Feature { name: *name, items })?;
     }
     Ok(features)
@@ -245,6 +306,41 @@ fn first_library<'v>(
     Ok(first)
 }
 
+/// The lists of declarations and of targets of a package, and its features.
+#[derive(Clone, Copy)]
+struct Lists<'d, 'v> {
+    declared: &'d Vec<Value<'v>>,
+    targets: &'d Vec<Value<'v>>,
+    features: &'d Vec<(&'v str, Value<'v>)>,
+}
+
+/// Reads the lists of declarations and of targets of a package, and its features.
+#[tactic(auto, unfolding(crate::specs::Packages::lists_in))]
+fn lists_in<'d, 'v>(object: &'d Value<'v>, place: Place) -> Result<Lists<'d, 'v>, DocumentFault>
+    ensures { Gives (λ l. (items_view l.declared.now.items, (items_view l.targets.now.items, members_view l.features.now.items))) result (spec.lists_in place (value_view object.now)) }
+{
+    Ok(Lists {
+        declared: list_in(object, place, "dependencies")?,
+        targets: list_in(object, place, "targets")?,
+        features: object_in(object, place, "features")?,
+    })
+}
+
+/// Reads the id of a package, its name and its version.
+#[tactic(auto, unfolding(crate::specs::Packages::names_in))]
+fn names_in<'v>(
+    object: &Value<'v>,
+    place: Place,
+) -> Result<(&'v str, &'v str, &'v str), DocumentFault>
+    ensures { Gives (λ n. (n.0.now, (n.1.now, n.2.now))) result (spec.names_in place (value_view object.now)) }
+{
+    Ok((
+        text_in(object, place, "id")?,
+        text_in(object, place, "name")?,
+        text_in(object, place, "version")?,
+    ))
+}
+
 /// One package, by its place.
 #[tactic(auto, unfolding(crate::specs::Packages::package_in))]
 fn package_of<'v>(
@@ -255,16 +351,18 @@ fn package_of<'v>(
     ensures { Gives package_view result (spec.package_in «package» (value_view object.now)) }
 {
     let place = Place::Package { package };
-    let declared = list_in(object, place, "dependencies")?;
-    let targets = list_in(object, place, "targets")?;
-    let features = object_in(object, place, "features")?;
+    let lists = lists_in(object, place)?;
+    let (id, name, version) = names_in(object, place)?;
+    let library = first_library(alloc, lists.targets, package)?;
+    let features = features_of(alloc, lists.features, place)?;
+    let declarations = declarations_of(alloc, lists.declared, package)?;
     Ok(Package {
-        id: text_in(object, place, "id")?,
-        name: text_in(object, place, "name")?,
-        version: text_in(object, place, "version")?,
-        library: first_library(alloc, targets, package)?,
-        features: features_of(alloc, features, place)?,
-        declarations: declarations_of(alloc, declared, package)?,
+        id,
+        name,
+        version,
+        library,
+        features,
+        declarations,
     })
 }
 
@@ -288,12 +386,22 @@ pub(crate) fn packages_of<'v>(
 ) -> Result<Packages<'v>, DocumentFault>
     ensures { Gives (λ m. entries_view package_view m.entries) result (spec.packages_at (option_map value_view listed.entry)) }
 {
-    let Some(Value::Array(mut objects)) = listed else {
-        return Err(DocumentFault::Field {
+    match listed {
+        Some(Value::Array(objects)) => packages_from(alloc, objects),
+        _ => Err(DocumentFault::Field {
             place: Place::Document,
             name: "packages",
-        });
-    };
+        }),
+    }
+}
+
+/// Reads the packages that these objects are, by their ids. Each object is dropped once it is read.
+fn packages_from<'v>(
+    alloc: Global,
+    mut objects: Vec<Value<'v>>,
+) -> Result<Packages<'v>, DocumentFault>
+    ensures { Gives (λ m. entries_view package_view m.entries) result (each_by_id spec.package_with_id at.Package 0 [] (items_view objects.entry.items)) }
+{
     let count = objects.len();
     objects.reverse();
     let mut packages = BTreeMap::new(alloc);

@@ -3,6 +3,7 @@ ghost use Rattle.std.specs.Prelude.{◌≡◌, ◌++◌, List, IfOk, OnOk, map, 
 ghost use Rattle.std.specs.List.{list_any};
 ghost use Rattle.std.specs.Str.{bytes_eq};
 ghost use Rattle.cargo_documents.specs.Faults.{Text};
+ghost use Rattle.cargo_rows.specs.Nodes.{no_node};
 ghost use Rattle.cargo_rows.specs.Warnings as spec;
 ghost use Rattle.cargo_rows.specs.inner.Views.{HasTexts, text_view, declaration_view, feature_view, node_view, package_view, entries_view};
 
@@ -199,23 +200,31 @@ fn libraries_of<'v>(alloc: Global, packages: &Packages<'v>) -> Result<Vec<&'v st
     Ok(names)
 }
 
-/// Returns the warnings for the packages whose ids are in `members`, in the order of the ids.
+/// Returns the names of the packages that have a library, as a set.
+fn libraries_in<'v>(alloc: Global, packages: &Packages<'v>) -> Result<BTreeSet<&'v str>, AllocError>
+    ensures { IfOk result (λ set. HasTexts set (spec.libraries_of (map (λ e. e.1) (entries_view package_view packages.now.entries)))) }
+{
+    let names = libraries_of(alloc, packages)?;
+    let set = set_of(alloc, &names)?;
+    Ok(set)
+}
+
+/// Returns the warnings for the packages whose ids are in `members`, in the order of the ids. `absent` is a node with nothing.
 pub(crate) fn warnings_of_packages<'p, 'v>(
     alloc: Global,
     packages: &'p Packages<'v>,
-    members: &[&'v str],
+    members: &BTreeSet<&'v str>,
     nodes: &Nodes<'p, 'v>,
+    absent: &Node<'p, 'v>,
 ) -> Result<Vec<Warning>, AllocError>
-    ensures { IfOk result (λ warnings. map spec.warning_view warnings.items ≡ spec.all_warnings (spec.libraries_of (map (λ e. e.1) (entries_view package_view packages.now.entries))) (map text_view members.now) (entries_view node_view nodes.now.entries) (entries_view package_view packages.now.entries)) }
+    requires { node_view absent.now ≡ no_node }
+    ensures { IfOk result (λ warnings. (texts : List Text) → HasTexts members.now texts → map spec.warning_view warnings.items ≡ spec.all_warnings (spec.libraries_of (map (λ e. e.1) (entries_view package_view packages.now.entries))) texts (entries_view node_view nodes.now.entries) (entries_view package_view packages.now.entries)) }
 {
-    let members = set_of(alloc, members)?;
-    let names = libraries_of(alloc, packages)?;
-    let libraries = set_of(alloc, &names)?;
-    let absent = Node::new(alloc);
+    let libraries = libraries_in(alloc, packages)?;
     let mut warnings = Vec::new(alloc);
     for (id, package) in packages {
         if members.contains(*id) {
-            let node = node_at(&*nodes, &absent, *id);
+            let node = node_at(&*nodes, &*absent, *id);
             push_warnings(alloc, &mut warnings, &libraries, package, node)?;
         }
     }

@@ -7,15 +7,16 @@ use Rattle.std.specs.Ordering.{is_eq}
 use Rattle.std.specs.BTreeSet.{BTreeSet}
 use Rattle.cargo_rows.specs.declared.packages.Declaration.{Declaration}
 use Rattle.cargo_rows.specs.declared.packages.Feature.{Feature}
+use Rattle.cargo_rows.specs.declared.packages.Use.{Use}
 use Rattle.cargo_rows.specs.declared.packages.Package.{Package}
-use Rattle.cargo_rows.specs.declared.nodes.Use.{Use}
 use Rattle.cargo_rows.specs.declared.nodes.Dep.{Dep}
 use Rattle.cargo_rows.specs.declared.nodes.Node.{Node}
+use Rattle.cargo_rows.specs.declared.nodes.Resolved.{Resolved}
 use Rattle.cargo_rows.specs.declared.dependencies.Dependency.{Dependency}
 use Rattle.cargo_documents.specs.Faults.{Text, Refusal, ◌>>=◌}
 use Rattle.cargo_rows.specs.Lists.{ById, id_cmp}
-use Rattle.cargo_rows.specs.Packages.{DeclarationText, FeatureText, PackageText}
-use Rattle.cargo_rows.specs.Nodes.{UseText, DepText, NodeText}
+use Rattle.cargo_rows.specs.Packages.{UseText, DeclarationText, FeatureText, PackageText}
+use Rattle.cargo_rows.specs.Nodes.{DepText, NodeText, ResolvedText}
 use Rattle.cargo_rows.specs.Dependencies.{DependencyText}
 
 abbrev pub text_view : Bor Text → Text
@@ -61,6 +62,9 @@ dependency_view d = record { declaration = declaration_view d.declaration.now; t
 -- entries of a map from ids
 abbrev pub entries_view : {X Y : Type 0} → (X → Y) → List (Bor Text × X) → ById Y
 entries_view view xs = map (λ e. (e.0.now, view e.1)) xs
+
+abbrev pub resolved_view : Resolved → ResolvedText
+resolved_view r = record { members = map text_view r.members.items; nodes = entries_view node_view r.nodes.entries }
 
 -- a set has these texts and no others
 abbrev pub HasTexts : BTreeSet (Bor Text) → List Text → Type 0

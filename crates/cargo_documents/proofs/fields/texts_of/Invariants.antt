@@ -1,8 +1,9 @@
-use Rattle.std.proofs.Common.{option_map, map, ◌≡◌, ◌++◌, drop}
+use Rattle.std.proofs.Common.{map, ◌≡◌, drop}
 use Rattle.json.specs.Value.{items_view}
 use Rattle.cargo_documents.specs.Fields.{all_texts}
+use Rattle.cargo_documents.proofs.Texts.{after}
 use Rattle.cargo_documents.proofs.fields.texts_of.Given as goal
 
 -- The texts so far and those of the items to come are the texts of all items.
 abbrev pub invariant-loop-item : goal.invariant-loop-item
-invariant-loop-item l = all_texts (items_view l.items.items) ≡ option_map (λ rest. map (λ s. s.now) l.texts.items ++ rest) (all_texts (items_view (drop l.item-index l.items.items)))
+invariant-loop-item l = all_texts (items_view l.items.items) ≡ after (map (λ s. s.now) l.texts.items) (all_texts (items_view (drop l.item-index l.item-items)))

@@ -1,7 +1,7 @@
 use Rattle.std.proofs.Common.{◌≡◌, map, drop}
 use Rattle.std.specs.Prelude.{◌&&◌}
 use Rattle.std.specs.List.{list_any}
-use Rattle.cargo_rows.specs.Nodes.{UseText}
+use Rattle.cargo_rows.specs.Packages.{UseText}
 use Rattle.cargo_rows.specs.Dependencies.{same_kind, same_platform}
 use Rattle.cargo_rows.specs.inner.Views.{declaration_view, use_view}
 use Rattle.cargo_rows.proofs.dependencies.is_used.Given as goal

@@ -1,10 +1,12 @@
-use Rattle.std.proofs.Common.{◌≡◌, map}
+use Rattle.std.proofs.Common.{◌≡◌, List}
 use Rattle.std.specs.String.{string_bytes}
+use Rattle.cargo_documents.specs.Faults.{Text}
 use Rattle.cargo_rows.specs.Rows.{all_rows}
-use Rattle.cargo_rows.specs.inner.Views.{node_view, package_view, entries_view, text_view, after}
+use Rattle.cargo_rows.specs.inner.Views.{HasTexts, node_view, package_view, entries_view, after}
 use Rattle.cargo_rows.proofs.metadata.rows_of_packages.Given as goal
 
 abbrev pub invariant-loop-id : goal.invariant-loop-id
 invariant-loop-id l =
-    let all = all_rows (map text_view l.fn.members) (entries_view node_view l.nodes.entries) in
+    (texts : List Text) → HasTexts l.members texts →
+    let all = all_rows texts (entries_view node_view l.nodes.entries) in
     all (entries_view package_view l.packages.entries) ≡ after (string_bytes l.rows) (all (entries_view package_view l.id-iterator))

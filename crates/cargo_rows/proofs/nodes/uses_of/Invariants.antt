@@ -2,7 +2,7 @@ use Rattle.std.proofs.Common.{◌≡◌, ℕ, map, drop}
 use Rattle.json.specs.Value.{items_view}
 use Rattle.cargo_documents.specs.declared.fault.Place.TheVariants as place
 use Rattle.cargo_rows.specs.Lists.{each}
-use Rattle.cargo_rows.specs.Nodes.{use_in}
+use Rattle.cargo_rows.specs.Packages.{use_in}
 use Rattle.cargo_rows.specs.inner.Views.{use_view}
 use Rattle.cargo_rows.proofs.Lists.{prepend}
 use Rattle.cargo_rows.proofs.nodes.uses_of.Given as goal
@@ -10,4 +10,4 @@ use Rattle.cargo_rows.proofs.nodes.uses_of.Given as goal
 abbrev pub invariant-loop-kind : goal.invariant-loop-kind
 invariant-loop-kind l =
     let read = λ (k : ℕ). use_in (place.DepKind l.node l.dep k) in
-    each read 0 (items_view l.objects.items) ≡ prepend (map use_view l.uses.items) (each read l.kind (items_view (drop l.kind l.objects.items)))
+    each read 0 (items_view l.objects.items) ≡ prepend (map use_view l.uses.items) (each read l.kind (items_view (drop l.kind l.object-items)))

@@ -10,4 +10,4 @@ use Rattle.cargo_rows.proofs.packages.declarations_of.Given as goal
 abbrev pub invariant-loop-dependency : goal.invariant-loop-dependency
 invariant-loop-dependency l =
     let read = λ (i : ℕ). declaration_in (place.Dependency l.package i) in
-    each read 0 (items_view l.objects.items) ≡ prepend (map declaration_view l.declarations.items) (each read l.dependency (items_view (drop l.dependency l.objects.items)))
+    each read 0 (items_view l.objects.items) ≡ prepend (map declaration_view l.declarations.items) (each read l.dependency (items_view (drop l.dependency l.object-items)))

@@ -4,7 +4,7 @@ use Rattle.cargo_rows.specs.Lists.{each_by_id}
 use Rattle.cargo_rows.specs.Nodes.{node_in}
 use Rattle.cargo_rows.specs.inner.Views.{node_view, package_view, entries_view}
 use Rattle.cargo_rows.proofs.Entries.{item_at, next_by_id, again_by_id}
-use Rattle.cargo_rows.proofs.nodes.nodes_in.Goals as goal
+use Rattle.cargo_rows.proofs.nodes.nodes_of.Goals as goal
 
 pub returns-then-is_some : goal.returns-then-is_some
 returns-then-is_some c =

@@ -1,17 +1,17 @@
-use Rattle.std.proofs.Common.{◌≡◌, ◌-◌, ◌≤◌, length, option_map}
+use Rattle.std.proofs.Common.{◌≡◌, ◌-◌, ◌≤◌, [], length}
 use Rattle.std.specs.Prelude.{reverse, vec_len}
-use Rattle.json.specs.Value.{value_view, items_view}
+use Rattle.json.specs.Value.{items_view}
 use Rattle.cargo_documents.specs.declared.fault.Place.TheVariants as place
 use Rattle.cargo_rows.specs.Lists.{each_by_id}
-use Rattle.cargo_rows.specs.Packages.{packages_at, package_with_id}
+use Rattle.cargo_rows.specs.Packages.{package_with_id}
 use Rattle.cargo_rows.specs.inner.Views.{package_view, entries_view}
-use Rattle.cargo_rows.proofs.packages.packages_of.Given as goal
+use Rattle.cargo_rows.proofs.packages.packages_from.Given as goal
 
 -- the objects that are left stand in reverse
 abbrev pub invariant-objects : goal.invariant-objects
 invariant-objects l = record {
   within : length l.objects.items ≤ l.count;
-  so : packages_at (option_map value_view l.fn.listed) ≡ each_by_id package_with_id place.Package (l.count - length l.objects.items) (entries_view package_view l.packages.entries) (items_view (reverse l.objects.items));
+  so : each_by_id package_with_id place.Package 0 [] (items_view l.fn.objects.items) ≡ each_by_id package_with_id place.Package (l.count - length l.objects.items) (entries_view package_view l.packages.entries) (items_view (reverse l.objects.items));
 }
 
 abbrev pub decreases-objects : goal.decreases-objects

@@ -6,7 +6,7 @@ use Rattle.cargo_documents.specs.declared.fault.Place.TheVariants as place
 use Rattle.cargo_rows.specs.Packages.{package_with_id}
 use Rattle.cargo_rows.specs.inner.Views.{package_view}
 use Rattle.cargo_rows.proofs.Entries.{next_by_id, again_by_id, last_by_id, others_by_id, fewer, package_refused}
-use Rattle.cargo_rows.proofs.packages.packages_of.Goals as goal
+use Rattle.cargo_rows.proofs.packages.packages_from.Goals as goal
 
 pub returns-in_err-package : goal.returns-in_err-package
 returns-in_err-package c =
