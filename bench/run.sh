@@ -16,15 +16,16 @@ if [ $# -eq 0 ]; then
   exit 2
 fi
 if [ ! -x "$program" ]; then
-  "$top/features" - resolve forward </dev/null
+  echo 'bench/run.sh: the proved program is not built; run ./build first' >&2
+  exit 1
 fi
 
-# The id of the file's first package, with its base.
+# Prints the id of the file's first package, with its base.
 first_base() {
   awk -F '\t' '$1 == "package" { print $2 "/[base]"; exit }' "$1"
 }
 
-# Runs the program once. Prints the milliseconds, and the peak of memory in kilobytes or 0 where nothing tells it.
+# Runs the program once. Prints the milliseconds, and the peak of memory in kilobytes, or 0 without GNU time.
 once() {
   local begun ended memory=0 told
   told=$(mktemp)
@@ -41,7 +42,7 @@ once() {
   echo "$(((ended - begun) / 1000000)) $memory"
 }
 
-# The ratio of two numbers with two decimals, or - where the second is missing or 0.
+# Prints the ratio of two numbers with two decimals, or - if the second is missing or 0.
 ratio() {
   awk -v a="$1" -v b="$2" 'BEGIN { if (b > 0) printf "%.2f", a / b; else printf "-" }'
 }

@@ -1,5 +1,5 @@
-//! What bytes are read from and written to: interfaces that tell their failures, readers and writers of std as such
-//! devices, and reading all there is and writing a whole text.
+//! Devices for reading and writing bytes: interfaces that mark their failures, adapters for the
+//! readers and writers of std, and functions that read all bytes or write a whole text.
 #![tactic(auto)]
 
 mod interfaces;

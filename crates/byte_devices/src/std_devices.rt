@@ -6,10 +6,11 @@ ghost use Rattle.std.specs.Io.KnownBytes.{ReadConsumes, WriteAppends};
 use crate::interfaces::{ByteInput, ByteOutput, Failed};
 use std::io::{ErrorKind, Read, Write};
 
-/// How often a call is made before it counts as failed, where each was interrupted.
+/// The number of times that an interrupted call is made before it counts as failed.
 const ATTEMPTS: usize = 1_000;
 
-/// A read, made again where it was interrupted.
+/// Reads once, and tries again while the read is interrupted. Returns `Failed` after `ATTEMPTS`
+/// interruptions, or if the reader returns any other error.
 fn read_once<R: Read>(reader: &mut R, buf: &mut [u8]) -> Result<usize, Failed>
     ensures bound { ReadsAtMost result buf.new }
     ensures bytes { ReadConsumes (R.remaining reader.old) (R.remaining reader.new) result buf.new }
@@ -24,7 +25,8 @@ fn read_once<R: Read>(reader: &mut R, buf: &mut [u8]) -> Result<usize, Failed>
     Err(Failed)
 }
 
-/// A write, made again where it was interrupted. One that takes nothing of a nonempty slice has failed.
+/// Writes once, and tries again while the write is interrupted. Returns `Failed` after `ATTEMPTS`
+/// interruptions, if the writer returns any other error, or if it takes no byte of a nonempty slice.
 fn write_once<W: Write>(writer: &mut W, buf: &[u8]) -> Result<usize, Failed>
     ensures bound { WritesAtMost result buf.now }
     ensures some { IfOk result (λ n. 0 < length buf.now → 0 < n) }
@@ -40,7 +42,7 @@ fn write_once<W: Write>(writer: &mut W, buf: &[u8]) -> Result<usize, Failed>
     Err(Failed)
 }
 
-/// Any reader of std.
+/// A `ByteInput` over any reader of std.
 #[derive(Drop)]
 pub struct FromReader<R> {
     reader: R,
@@ -48,7 +50,7 @@ pub struct FromReader<R> {
 }
 
 impl<R: Read> FromReader<R> {
-    /// The reader, of which no read has failed yet.
+    /// Wraps `reader`. No read counts as failed yet.
     pub fn new(reader: R) -> Self
         ensures reader { result.reader ≡ reader }
         ensures fresh { result.has_failed ≡ false }
@@ -74,7 +76,7 @@ impl<R: Read> ByteInput for FromReader<R> {
     }
 }
 
-/// Any writer of std.
+/// A `ByteOutput` over any writer of std.
 #[derive(Drop)]
 pub struct ToWriter<W> {
     writer: W,
@@ -82,7 +84,7 @@ pub struct ToWriter<W> {
 }
 
 impl<W: Write> ToWriter<W> {
-    /// The writer, of which no write has failed yet.
+    /// Wraps `writer`. No write counts as failed yet.
     pub fn new(writer: W) -> Self
         ensures writer { result.writer ≡ writer }
         ensures fresh { result.has_failed ≡ false }

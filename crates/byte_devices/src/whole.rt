@@ -1,4 +1,4 @@
-//! All bytes of a reader, and a whole text to a writer.
+//! Reading all bytes of a reader, and writing a whole text.
 ghost use Rattle.std.specs.Prelude.{◌≡◌, ℕ, List, true, false, IfOk, OnOk, IfErr, OnErr, IfSome, ◌++◌};
 ghost use Rattle.std.specs.Io.KnownBytes.{Appends, Consumes, IsAtEnd};
 ghost use Rattle.byte_devices.specs.Devices.{is_failure};
@@ -6,12 +6,12 @@ ghost use Rattle.byte_devices.specs.Devices.{is_failure};
 use crate::interfaces::{ByteInput, ByteOutput, Failed};
 use std::alloc::{AllocError, Global};
 
-/// Why not all bytes were read.
+/// Reasons why not all bytes were read.
 #[derive(Clone, Copy, PartialEq, Eq, Debug)]
 pub enum ReadError {
     /// A read failed.
     Failed,
-    /// Memory ran out.
+    /// An allocation failed.
     Memory,
 }
 
@@ -25,7 +25,8 @@ impl From<AllocError> for ReadError {
     }
 }
 
-/// All bytes of the reader. The first read that fails ends it.
+/// Reads all bytes that are left and returns them. Returns `Failed` at the first read that fails, and
+/// `Memory` if an allocation fails. After an error some bytes may have been taken.
 pub fn read_all<R: ByteInput>(alloc: Global, reader: &mut R) -> Result<Vec<u8>, ReadError>
     requires fresh { R.failed reader.old ≡ false }
     ensures bytes { IfOk result (λ v. IfSome (R.left reader.old) (λ xs. v.items ≡ xs)) }
@@ -47,7 +48,8 @@ pub fn read_all<R: ByteInput>(alloc: Global, reader: &mut R) -> Result<Vec<u8>, 
     }
 }
 
-/// Writes the whole text. The first write that fails ends it, after a beginning of the text.
+/// Writes the whole `text`. Returns `Failed` at the first write that fails; then only a beginning of
+/// the text was written.
 pub fn write_all<W: ByteOutput>(writer: &mut W, text: &[u8]) -> Result<(), Failed>
     requires fresh { W.failed writer.old ≡ false }
     ensures ok { OnOk result (Appends (W.held writer.old) (W.held writer.new) text.now) }

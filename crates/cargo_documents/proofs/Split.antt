@@ -1,4 +1,4 @@
--- The fields of an object, from the last one on.
+-- The fields of an object, taken from its end.
 use Rattle.std.proofs.Common.{◌≡◌, ◌∙◌, sym, ap, refl, List, [], ◌∷◌, ◌++◌, reverse, Bool, true, false, cond, append_assoc, Bor}
 use Rattle.std.specs.Prelude.{Option, Some, None, codes}
 use Rattle.std.specs.Str.{bytes_eq}
@@ -46,11 +46,11 @@ module _ (xs all : List Field) (m : Field) (is : all ≡ xs ++ m ∷ []) where
   pub taken_before : (name : Text) (p : Option Json) (whole : Option Json) → bytes_eq m.0.now name ≡ false → later_or p (get_member name (members_view all)) ≡ whole → later_or p (get_member name (members_view xs)) ≡ whole
   taken_before name p whole e so = ap (later_or p) (sym (get_member-before name e)) ∙ so
 
-  -- one more that is kept behind
+  -- one more field is kept
   pub kept : (rest new : List Field) → new ≡ rest ++ m ∷ [] → xs ++ reverse new ≡ all ++ reverse rest
   kept rest new e = ap (λ r. xs ++ reverse r) e ∙ ap (λ r. xs ++ r) (reverse-append rest (m ∷ [])) ∙ sym (append_assoc xs (m ∷ []) (reverse rest)) ∙ ap (λ ms. ms ++ reverse rest) (sym is)
 
-  -- one that is not kept, where another name is asked for
+  -- a field that is dropped doesn't matter to the look-up of another name
   pub left_out : (wanted name : Text) (rest : List Field) → bytes_eq m.0.now wanted ≡ true → bytes_eq wanted name ≡ false → get_member name (members_view (xs ++ reverse rest)) ≡ get_member name (members_view (all ++ reverse rest))
   left_out wanted name rest here other =
       let own : m.0.now ≡ wanted = (bytes_eq-Decides m.0.now wanted).0 here in
@@ -65,7 +65,7 @@ get-fields_of name (string s) = refl
 get-fields_of name (array js) = refl
 get-fields_of name (object ms) = refl
 
--- the parts of what a value's fields make are the parts of the value
+-- the parts of the object with a value's fields are the parts of the value
 pub of_fields : (d : Json) (packages : Option Json) (rest : Json) → Parts (object (fields_of d)) packages rest → Parts d packages rest
 of_fields d packages rest parts = record {
   taken = parts.taken ∙ get-fields_of (codes "packages") d;

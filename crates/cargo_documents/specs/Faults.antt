@@ -11,11 +11,11 @@ use Rattle.cargo_documents.specs.declared.fault.DocumentFault.TheVariants as ref
 use Rattle.cargo_documents.specs.declared.fault.Fault.{Fault}
 use Rattle.cargo_documents.specs.declared.fault.Fault.TheVariants as fault
 
--- a text, by its bytes
+-- a text, as its bytes
 abbrev pub Text : Type 0
 Text = List ℕ
 
--- the path of an object, and the dot before its field's name
+-- the path of an object, with a dot before the field's name
 abbrev pub place_text : Place → Text
 place_text at.Document = []
 place_text at.Resolve = codes "resolve."
@@ -26,7 +26,7 @@ place_text (at.Node node) = codes "resolve.nodes[" ++ (decimal node ++ codes "].
 place_text (at.Dep node dep) = codes "resolve.nodes[" ++ (decimal node ++ (codes "].deps[" ++ (decimal dep ++ codes "].")))
 place_text (at.DepKind node dep kind) = codes "resolve.nodes[" ++ (decimal node ++ (codes "].deps[" ++ (decimal dep ++ (codes "].dep_kinds[" ++ (decimal kind ++ codes "].")))))
 
--- why a document has no rows
+-- the reason why a document has no rows
 pub data Refusal : Type 0 where
   bad_field : Place → Text → Refusal
   repeated : Place → Refusal
@@ -49,12 +49,12 @@ refusal_of (refused.EveryPlatform place) = every_platform place
 refusal_of refused.NoDeps = no_deps
 refusal_of refused.Memory = out_of_memory
 
--- why not all bytes were read
+-- the fault for a failed read
 abbrev pub read_fault : ReadError → Fault
 read_fault error.Failed = fault.CannotRead
 read_fault error.Memory = fault.Memory
 
--- the exit status: 2 where the words are at fault, else 1
+-- the exit status: 2 for a fault of the command line, and 1 for every other
 abbrev pub status_of : Fault → ℕ
 status_of fault.Usage = 2
 status_of fault.CannotRead = 1
@@ -64,17 +64,17 @@ status_of (fault.Document refused) = 1
 status_of fault.Memory = 1
 status_of fault.CannotWrite = 1
 
--- want of memory claims nothing
+-- nothing is claimed if an allocation fails
 abbrev pub IfNotMemory : Refusal → Type 0 → Type 0
 IfNotMemory out_of_memory claim = Unit {0}
 IfNotMemory _ claim = claim
 
--- A call answered what is given, its value seen by a view.
+-- A call returned the expected result, with its value seen through `view`.
 abbrev pub Gives : {X Y : Type 0} → (X → Y) → Result X DocumentFault → Result Y Refusal → Type 0
 Gives view (Ok x) given = given ≡ Ok (view x)
 Gives view (Err e) given = IfNotMemory (refusal_of e) (given ≡ Err (refusal_of e))
 
--- the second step, if the first gave a value
+-- the second step, if the first returned a value
 infixl 10 ◌>>=◌
 abbrev pub ◌>>=◌ : {A B : Type 0} → Result A Refusal → (A → Result B Refusal) → Result B Refusal
 (Ok x) >>= f = f x

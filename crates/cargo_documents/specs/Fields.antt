@@ -1,16 +1,16 @@
--- Fields of JSON objects, by their types.
+-- Fields of JSON objects, with their types checked.
 use Rattle.std.specs.Prelude.{List, [], ◌∷◌, Bool, Option, Some, None, Result, Ok, Err, option_map, option_and_then}
 use Rattle.json.specs.Json.{Json, null, boolean, number, string, array, object, Items, no_items, item, Members}
 use Rattle.json.specs.Find.{get, as_str, as_bool, as_array, as_object}
 use Rattle.cargo_documents.specs.declared.fault.Place.{Place}
 use Rattle.cargo_documents.specs.Faults.{Text, Refusal, bad_field}
 
--- what is found at this place under this name, or the fault that it lacks or has another type
+-- the value found under a name in an object, or the refusal that it is missing or of another type
 abbrev pub wanted : {X : Type 0} → Place → Text → Option X → Result X Refusal
 wanted place name (Some x) = Ok x
 wanted place name None = Err (bad_field place name)
 
--- a text, or nothing at null
+-- a text, or `None` for null
 abbrev pub text_or_null : Json → Option (Option Text)
 text_or_null null = Some None
 text_or_null (boolean b) = None
@@ -19,7 +19,7 @@ text_or_null (string s) = Some (Some s)
 text_or_null (array ds) = None
 text_or_null (object ms) = None
 
--- the items, where each is a text
+-- the items, if each is a text
 abbrev pub all_texts : Items → Option (List Text)
 all_texts no_items = Some []
 all_texts (item d ds) = option_and_then (λ s. option_map (λ rest. s ∷ rest) (all_texts ds)) (as_str d)

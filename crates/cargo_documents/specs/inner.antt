@@ -1,2 +1,2 @@
--- What private functions alone speak of.
+-- Definitions that only private functions use.
 pub mod Members

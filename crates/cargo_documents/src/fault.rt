@@ -1,4 +1,4 @@
-//! Why there are no rows.
+//! The faults of a document and of the program `rows`.
 ghost use Rattle.std.specs.Prelude.{◌≡◌, Some};
 ghost use Rattle.cargo_documents.specs.Faults.{place_text, read_fault, status_of};
 
@@ -7,7 +7,7 @@ use std::alloc::{AllocError, AllocFailed};
 use std::fmt;
 use thiserror::Error;
 
-/// An object of the document, by the places of the lists that lead to it, counted from 0.
+/// An object of the document, named by its indices in the enclosing lists, from 0.
 #[derive(Clone, Copy, PartialEq, Eq, Debug)]
 pub enum Place {
     /// The document itself.
@@ -48,7 +48,7 @@ pub enum Place {
 impl fmt::Display for Place {
     ghost output = { λ place. Some (place_text place) };
 
-    /// The path of the object, and the dot before its field's name.
+    /// Writes the path of the object, with a dot before the field's name.
     fn fmt<W: fmt::Write>(&self, f: &mut fmt::Formatter<W>) -> fmt::Result {
         match *self {
             Place::Document => Ok(()),
@@ -70,34 +70,34 @@ impl fmt::Display for Place {
     }
 }
 
-/// Why a document has no rows.
+/// The reason why a document has no rows.
 #[derive(Debug, Drop, Error)]
 pub enum DocumentFault {
-    /// A field that lacks, or has another type than is wanted.
+    /// A field is missing, or has another type than expected.
     #[error("{place}{name}: missing or of another type")]
     Field {
         place: Place,
         name: &'static str,
     },
-    /// The id of a package, or of a node, that an earlier one has.
+    /// The id of a package or of a node is that of an earlier one.
     #[error("{place}id: repeated")]
     Repeated {
         place: Place,
     },
-    /// The id of a package that isn't there.
+    /// The id of a package is unknown.
     #[error("{place}{name}: no package {id:?}")]
     NoPackage {
         place: Place,
         name: &'static str,
         id: String,
     },
-    /// A declaration that more than one package meets.
+    /// A declaration matches more than one package.
     #[error("package {package:?}: dependency {name:?} is ambiguous")]
     Ambiguous {
         package: String,
         name: String,
     },
-    /// Two names of one dependency between two packages.
+    /// One package depends on another under two names.
     #[error("package {package:?}: dependency on {target:?} is named {first:?} and {second:?}")]
     TwoNames {
         package: String,
@@ -105,17 +105,17 @@ pub enum DocumentFault {
         first: String,
         second: String,
     },
-    /// A text that can't stand in a row file.
+    /// A text contains a control character, which a row file can't contain.
     #[error("control character in {text:?}")]
     Control {
         text: String,
     },
-    /// The text `*` as a platform. A row uses it for every platform.
+    /// A platform is the text `*`, which a row uses for every platform.
     #[error("{place}target: \"*\" is no platform")]
     EveryPlatform {
         place: Place,
     },
-    /// A document that was made with `--no-deps`, in which `resolve` is null.
+    /// The document was made with `--no-deps`: `resolve` is null.
     #[error("resolve: null; the document was made with --no-deps")]
     NoDeps,
     #[error("out of memory")]
@@ -142,7 +142,7 @@ impl<T: Drop> From<AllocFailed<T>> for DocumentFault {
     }
 }
 
-/// Why there are no rows; its Display is the line for standard error.
+/// The reason why there are no rows. Its `Display` is the line for standard error.
 #[derive(Debug, Drop, Error)]
 pub enum Fault {
     #[error("usage: rows [FILE]")]
@@ -173,7 +173,7 @@ impl From<ReadError> for Fault {
 }
 
 impl Fault {
-    /// The exit status: 2 where the words are at fault, else 1.
+    /// Returns the exit status: 2 for a fault of the command line, and 1 for every other.
     pub fn status(&self) -> u8
         ensures { result ≡ status_of self.now }
     {

@@ -1,4 +1,4 @@
-//! Fields of JSON objects, by their types.
+//! Fields of JSON objects, with their types checked.
 ghost use Rattle.std.specs.Prelude.{option_map, map};
 ghost use Rattle.json.specs.Value.{value_view, items_view, members_view};
 ghost use Rattle.cargo_documents.specs.Faults.{Gives};
@@ -8,7 +8,7 @@ use crate::fault::{DocumentFault, Place};
 use json::Value;
 use std::alloc::Global;
 
-/// The field that is a text.
+/// Returns the text in the field `name`. The error is `Field` if it is missing or of another type.
 pub fn text_in<'v>(
     object: &Value<'v>,
     place: Place,
@@ -22,7 +22,8 @@ pub fn text_in<'v>(
     }
 }
 
-/// The field that is a text or null.
+/// Returns the text in the field `name`, or `None` if it is null. The error is `Field` if it is missing or of
+/// another type.
 pub fn optional_text_in<'v>(
     object: &Value<'v>,
     place: Place,
@@ -37,7 +38,7 @@ pub fn optional_text_in<'v>(
     }
 }
 
-/// The field that is true or false.
+/// Returns the boolean in the field `name`. The error is `Field` if it is missing or of another type.
 pub fn flag_in(object: &Value<'_>, place: Place, name: &'static str) -> Result<bool, DocumentFault>
     ensures { Gives (λ b. b) result (spec.flag_in place name.now (value_view object.now)) }
 {
@@ -47,7 +48,7 @@ pub fn flag_in(object: &Value<'_>, place: Place, name: &'static str) -> Result<b
     }
 }
 
-/// The field that is a list.
+/// Returns the list in the field `name`. The error is `Field` if it is missing or of another type.
 pub fn list_in<'d, 'v>(
     object: &'d Value<'v>,
     place: Place,
@@ -61,7 +62,7 @@ pub fn list_in<'d, 'v>(
     }
 }
 
-/// The field that is an object.
+/// Returns the object in the field `name`. The error is `Field` if it is missing or of another type.
 pub fn object_in<'d, 'v>(
     object: &'d Value<'v>,
     place: Place,
@@ -75,7 +76,8 @@ pub fn object_in<'d, 'v>(
     }
 }
 
-/// The texts of a list; the fault is of the field that holds it.
+/// Returns the texts of a list. The error is `Field` with the list's field `name` if an item isn't a text, or
+/// `Memory`.
 pub fn texts_of<'v>(
     alloc: Global,
     items: &Vec<Value<'v>>,
@@ -94,7 +96,8 @@ pub fn texts_of<'v>(
     Ok(texts)
 }
 
-/// The field that is a list of texts.
+/// Returns the list of texts in the field `name`. The error is `Field` if it is missing or of another type,
+/// or `Memory`.
 pub fn texts_in<'v>(
     alloc: Global,
     object: &Value<'v>,

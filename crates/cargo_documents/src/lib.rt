@@ -1,4 +1,4 @@
-//! What `cargo metadata` writes, as a tree: reading it, its fields by their types, the places in it, and faults.
+//! The output of `cargo metadata` as a tree: its reader, its fields with their types, its places and faults.
 #![tactic(auto)]
 
 mod fault;

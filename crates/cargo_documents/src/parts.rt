@@ -1,4 +1,4 @@
-//! The packages of a document apart from its other fields, so that they can be dropped one by one.
+//! Splits the packages of a document from its other fields, so that they can be dropped one by one.
 ghost use Rattle.std.specs.Prelude.{◌≡◌, Some, IfOk, codes, option_map};
 ghost use Rattle.std.specs.Str.{bytes_eq};
 ghost use Rattle.json.specs.Find.{later_or};
@@ -10,7 +10,7 @@ ghost use Rattle.cargo_documents.specs.inner.Members.{fields_of};
 use json::Value;
 use std::alloc::{AllocFailed, Global};
 
-/// The fields of a document, which has none where it is no object.
+/// Returns the fields of a document; none if it isn't an object.
 fn fields_of<'v>(alloc: Global, document: Value<'v>) -> Vec<(&'v str, Value<'v>)>
     ensures { members_view result.items ≡ fields_of (value_view document.entry) }
 {
@@ -20,14 +20,14 @@ fn fields_of<'v>(alloc: Global, document: Value<'v>) -> Vec<(&'v str, Value<'v>)
     }
 }
 
-/// Whether this is the name of the field that lists packages.
+/// Returns true if `name` is the name of the field with the packages.
 fn lists_packages(name: &str) -> bool
     ensures { result ≡ bytes_eq name.now (codes "packages") }
 {
     name == "packages"
 }
 
-/// What was found behind, or else this.
+/// Returns the value that was found later in the document, or else `value`.
 fn last<'v>(behind: Option<Value<'v>>, value: Value<'v>) -> Option<Value<'v>>
     ensures { option_map value_view result ≡ later_or (option_map value_view behind.entry) (Some (value_view value.entry)) }
 {
@@ -37,7 +37,7 @@ fn last<'v>(behind: Option<Value<'v>>, value: Value<'v>) -> Option<Value<'v>>
     }
 }
 
-/// The last field `packages`, and an object of the fields of other names.
+/// Returns the last field `packages`, and an object with the fields of other names.
 fn split<'v>(
     alloc: Global,
     mut fields: Vec<(&'v str, Value<'v>)>,
@@ -57,7 +57,8 @@ fn split<'v>(
     Ok((packages, Value::Object(rest)))
 }
 
-/// The packages of a document, and the document without them.
+/// Returns the packages of a document, and the document without them. An allocation that fails is the only
+/// error.
 pub fn parts_of<'v>(
     alloc: Global,
     document: Value<'v>,

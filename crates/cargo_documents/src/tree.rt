@@ -1,4 +1,4 @@
-//! A document as a tree whose lists take no more room than they fill.
+//! A document as a tree whose lists have no spare capacity.
 ghost use Rattle.std.specs.Prelude.{◌≡◌, ◌<◌, length, Some, None, Err, IfOk, OnOk};
 ghost use Rattle.json.specs.Json.{value, items, members};
 ghost use Rattle.json.specs.Value.{value_view, items_view, members_view};
@@ -7,7 +7,7 @@ ghost use Rattle.cargo_documents.specs.declared.tree.Unread.TheVariants as unrea
 use json::{Invalid, Reader, Token, Value};
 use std::alloc::{AllocError, AllocFailed, Global};
 
-/// Why no value was read.
+/// The reason why no value was read.
 #[derive(Clone, Copy, Debug, Drop)]
 pub enum Unread {
     Invalid,
@@ -44,7 +44,7 @@ impl<T: Drop> From<AllocFailed<T>> for Unread {
     }
 }
 
-/// The same list, in no more room than it fills.
+/// Returns the same list without spare capacity.
 fn exact<T: Drop>(alloc: Global, mut found: Vec<T>) -> Result<Vec<T>, AllocError>
     ensures { IfOk result (λ v. v.items ≡ found.items) }
 {
@@ -53,7 +53,8 @@ fn exact<T: Drop>(alloc: Global, mut found: Vec<T>) -> Result<Vec<T>, AllocError
     Ok(exact)
 }
 
-/// The next value of the reader; arrays and objects may nest `depth` deep.
+/// Reads the next value; arrays and objects may nest `depth` deep. The error is `Invalid` if the next tokens
+/// are no such value, or `Memory`.
 #[cycle(read)]
 pub fn read<'a>(alloc: Global, reader: &mut Reader<'a>, depth: usize) -> Result<Value<'a>, Unread>
     ensures ok { IfOk result (λ v. value depth reader.old ≡ Some (value_view v, reader.new)) }
@@ -82,7 +83,7 @@ pub fn read<'a>(alloc: Global, reader: &mut Reader<'a>, depth: usize) -> Result<
     }
 }
 
-/// The items of an array, after its bracket.
+/// Reads the items of an array, after its bracket.
 #[cycle(read)]
 fn read_items<'a>(
     alloc: Global,
@@ -102,7 +103,7 @@ fn read_items<'a>(
     Ok(found)
 }
 
-/// The members of an object, after its brace.
+/// Reads the members of an object, after its brace.
 #[cycle(read)]
 fn read_members<'a>(
     alloc: Global,

@@ -8,7 +8,7 @@ use Rattle.std.proofs.lemmas.Map.Keys.{IsDistinct-from_apart}
 use Rattle.std.proofs.lemmas.Map.Steps.{length-le_from_distinct_below}
 use Rattle.digraph_orders.specs.inner.Apart.{AreApart}
 
--- a place at which v stands, or none
+-- `v` is at some place below `n`, or at none.
 find_at : (xs : List ℕ) (v n : ℕ) → ((k : ℕ) × (k < n) × (get_or xs k 0 ≡ v)) ⊎ ((k : ℕ) → k < n → get_or xs k 0 ≢ v)
 find_at xs v zero = inr (λ k h e. omega (arith, h))
 find_at xs v (suc n) =
@@ -47,7 +47,7 @@ pub more_inside : (x n : ℕ) (xs : List ℕ) → x < n → ((i : ℕ) → i < l
 more_inside x n xs lx inside zero h = lx
 more_inside x n xs lx inside (suc i) h = inside i (omega arith)
 
--- n distinct numbers below n are all of them
+-- `n` distinct numbers below `n` include each of them.
 pub apart_whole : (xs : List ℕ) (n : ℕ) → AreApart xs → ((i : ℕ) → i < length xs → get_or xs i 0 < n) → length xs ≡ n → (v : ℕ) → v < n → (k : ℕ) × (k < length xs) × (get_or xs k 0 ≡ v)
 apart_whole xs n apart inside long v lv =
     elim (find_at xs v (length xs)) [

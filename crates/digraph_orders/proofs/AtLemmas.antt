@@ -1,4 +1,4 @@
--- One edge is passed.
+-- Passing one edge.
 use Rattle.std.proofs.Common.{◌≡◌, ◌≢◌, ℕ, suc, ◌+◌, ◌-◌, ◌<◌, ◌≤◌, ◌⊎◌, inl, inr, Bool, true, false, List, [], ◌∷◌, ◌++◌, length, get_or, set, ap, sym, ◌∙◌, arith, add-one, slice_get, Some}
 use Rattle.std.proofs.lemmas.Option.{slice_get-get_or}
 use Rattle.std.proofs.lemmas.List.{get_or-map}
@@ -24,7 +24,7 @@ module _ (g : Graph) (ranks : List ℕ) (setup : IsSetup g ranks) (node place : 
   steps : Steps (get_or (places node (sources g.edges)) place 0) (length g.edges) (is_left g.edges done (places node (sources g.edges)) place) (is_left g.edges done (places node (sources g.edges)) (suc place))
   steps = left_step g.edges done node place at.marked e.within e.number e.from
 
-  -- no node of a component that some edge still enters is done
+  -- If an edge still enters a component, none of its nodes is done.
   unbegun : 0 < get_or outside (get_or ranks to 0) 0 → (u : ℕ) → get_or ranks u 0 ≡ get_or ranks to 0 → ¬ IsDone done u
   unbegun positive u same d =
       let z : get_or outside (get_or ranks to 0) 0 ≡ 0 = rw same at (at.plan.entered u d) in
@@ -75,7 +75,7 @@ module _ (g : Graph) (ranks : List ℕ) (setup : IsSetup g ranks) (node place : 
       })
 
 module _ (g : Graph) (ranks : List ℕ) (node : ℕ) (listed : List ℕ) (done : List Bool) (outside held starts ready rest : List ℕ) where
-  -- all its edges are passed
+  -- After the last edge of a node, the state is between two nodes.
   pub at_end : (place : ℕ) → length (places node (sources g.edges)) ≤ place → IsAt g ranks node place listed done outside held starts ready rest → IsWithin g ranks (get_or ranks node 0) listed done outside held starts ready rest
   at_end place h at =
       let e = left_end g.edges done (places node (sources g.edges)) place h in
@@ -99,7 +99,7 @@ module _ (g : Graph) (ranks : List ℕ) (node : ℕ) (listed : List ℕ) (done :
         run = at.run;
       }
 
-  -- the chosen node is listed
+  -- Listing the chosen node.
   pub at_begin : IsChosen g ranks node listed done outside held starts ready rest → IsAt g ranks node 0 (listed ++ node ∷ []) (set done node true) outside held starts ready rest
   at_begin c =
       let inside : node < length done = omega (arith, c.plan.done_long, c.next.available.node) in
@@ -110,7 +110,7 @@ module _ (g : Graph) (ranks : List ℕ) (node : ℕ) (listed : List ℕ) (done :
         marked = done_same done node inside;
       }
 
--- the edge that was read
+-- The edge read at a place is the out-edge there.
 pub out_is : (g : Graph) (node place : ℕ) (e : Edge) → IsDigraph g → place < length (places node (sources g.edges)) → slice_get g.edges (get_or (places node (sources g.edges)) place 0) ≡ Some e → IsOutEdge g node place e.to e.non_dev
 out_is g node place e ok h got =
     let i = get_or (places node (sources g.edges)) place 0 in

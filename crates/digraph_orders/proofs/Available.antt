@@ -11,7 +11,7 @@ use Rattle.guppy_support.proofs.FaultLemmas.{nodes_of_edge}
 use Rattle.digraph_orders.specs.inner.Ranks.{IsRanking}
 use Rattle.digraph_orders.proofs.ContainsLemmas.{contains_cases}
 
--- a number below n that passes, or none does
+-- Some number below `n` passes, or none does.
 pub search_below : (P : ℕ → Type 0) → ((k : ℕ) → P k ⊎ ¬ P k) → (n : ℕ) → ((k : ℕ) × (k < n) × P k) ⊎ ((k : ℕ) → k < n → ¬ P k)
 search_below P test zero = inr (λ k h p. omega (arith, h))
 search_below P test (suc n) =
@@ -24,7 +24,7 @@ search_below P test (suc n) =
           ]
     ]
 
--- the same for a test that is known below n alone
+-- The same for a test that is decided only below `m`.
 pub search_nodes : (P : ℕ → Type 0) (m : ℕ) → ((k : ℕ) → k < m → P k ⊎ ¬ P k) → (n : ℕ) → n ≤ m → ((k : ℕ) × (k < n) × P k) ⊎ ((k : ℕ) → k < n → ¬ P k)
 search_nodes P m test zero le = inr (λ k h p. omega (arith, h))
 search_nodes P m test (suc n) le =
@@ -106,12 +106,12 @@ edge_cases es a b =
 pub firm_is_edge : {es : List Edge} {a b : ℕ} → HasFirmEdge es a b → HasEdge es a b
 firm_is_edge e = record { edge = e.edge; listed = e.listed; from = e.from; to = e.to }
 
--- what is true of the nodes listed so far
+-- The invariant of the nodes listed so far.
 pub record IsFront (g : Graph) (ranks listed : List ℕ) : Type 0 where
   pub nodes : (a : ℕ) → Contains listed a → a < g.nodes
-  -- two components that are listed in part are one
+  -- At most one component is listed in part.
   pub one : (a b c d : ℕ) → Contains listed a → b < g.nodes → ¬ Contains listed b → get_or ranks a 0 ≡ get_or ranks b 0 → Contains listed c → d < g.nodes → ¬ Contains listed d → get_or ranks c 0 ≡ get_or ranks d 0 → get_or ranks a 0 ≡ get_or ranks c 0
-  -- each edge into a component that is begun starts at a listed node
+  -- Each edge into a component that has begun starts at a listed node.
   pub entered : (a b c : ℕ) → HasEdge g.edges a b → get_or ranks a 0 ≢ get_or ranks b 0 → Contains listed c → get_or ranks c 0 ≡ get_or ranks b 0 → Contains listed a
 
 module _ (g : Graph) (ok : IsDigraph g) (ranks : List ℕ) (r : IsRanking g ranks) (listed : List ℕ) (f : IsFront g ranks listed) where
@@ -130,7 +130,7 @@ module _ (g : Graph) (ok : IsDigraph g) (ranks : List ℕ) (r : IsRanking g rank
             none h.by (nodes_of_edge g ok (firm_is_edge h.edge)).0 (h.other, (h.fresh, (rank_same g ok ranks r h.same, h.edge))))
       ]
 
-  -- some listed node has the rank of w
+  -- Some listed node has the rank of `w`.
   IsBegun : ℕ → Type 0
   IsBegun w = (a : ℕ) × (a < g.nodes) × (Contains listed a × (get_or ranks a 0 ≡ get_or ranks w 0))
 
@@ -143,7 +143,7 @@ module _ (g : Graph) (ok : IsDigraph g) (ranks : List ℕ) (r : IsRanking g rank
         | inr none ↦ inr (λ h. none h.0 h.1 h.2)
       ]
 
-  -- a component that may come next has an available node
+  -- A component that is free to be next has an available node.
   available_in : (u : ℕ) → u < g.nodes → ¬ Contains listed u
       → ((a b : ℕ) → Contains listed a → b < g.nodes → get_or ranks a 0 ≡ get_or ranks b 0 → get_or ranks a 0 ≢ get_or ranks u 0 → Contains listed b)
       → ((a b : ℕ) → HasEdge g.edges a b → get_or ranks b 0 ≡ get_or ranks u 0 → get_or ranks a 0 ≢ get_or ranks u 0 → Contains listed a)
@@ -181,7 +181,7 @@ module _ (g : Graph) (ok : IsDigraph g) (ranks : List ℕ) (r : IsRanking g rank
         )
       ]
 
-  -- of the nodes that aren't listed, one of least rank
+  -- Some unlisted node has the least rank of all that are unlisted.
   least_rank : (bound u : ℕ) → get_or ranks u 0 < bound → u < g.nodes → ¬ Contains listed u → (v : ℕ) × (v < g.nodes) × (¬ Contains listed v) × ((w : ℕ) → w < g.nodes → ¬ Contains listed w → get_or ranks v 0 ≤ get_or ranks w 0)
   least_rank zero u h lu fresh = absurd (omega arith)
   least_rank (suc bound) u h lu fresh =
@@ -191,7 +191,7 @@ module _ (g : Graph) (ok : IsDigraph g) (ranks : List ℕ) (r : IsRanking g rank
         | inr none ↦ (u, lu, fresh, λ w lw fresh_w. elim (cases_lt (get_or ranks w 0) (get_or ranks u 0)) [ inl less ↦ absurd (none w lw (less, fresh_w)) | inr more ↦ more ])
       ]
 
-  -- where some node isn't listed, some node is available
+  -- If some node isn't listed, some node is available.
   pub some_available : (u : ℕ) → u < g.nodes → ¬ Contains listed u → (v : ℕ) × IsAvailable g.edges g.nodes listed v
   unfolding IsBegun
   some_available u lu fresh =
@@ -233,11 +233,11 @@ front_none g ranks =
       entered = λ a b c e diff hc. absurd (omega (arith, hc.1));
     }
 
--- an available node may be listed next
+-- Listing an available node keeps the invariant.
 pub front_more : (g : Graph) (ok : IsDigraph g) (ranks : List ℕ) (r : IsRanking g ranks) (listed : List ℕ) (f : IsFront g ranks listed) (v : ℕ) → IsAvailable g.edges g.nodes listed v → IsFront g ranks (listed ++ v ∷ [])
 front_more g ok ranks r listed f v next =
     let older : (b : ℕ) → ¬ Contains (listed ++ v ∷ []) b → ¬ Contains listed b = λ b lacks c. lacks (Contains-append_left listed (v ∷ []) b c) in
-    -- another component that is listed in part would keep v back
+    -- Otherwise another component would be listed in part, and `v` not available.
     let alone : (c d : ℕ) → Contains listed c → d < g.nodes → ¬ Contains listed d → get_or ranks c 0 ≡ get_or ranks d 0 → get_or ranks v 0 ≡ get_or ranks c 0 =
     λ c d hc ld lacks e.
     elim (cases_eq (get_or ranks v 0) (get_or ranks c 0)) [

@@ -1,4 +1,4 @@
--- Which node is chosen.
+-- The choice of the next node.
 use Rattle.std.proofs.Common.{◌≡◌, ℕ, suc, ◌+◌, ◌-◌, ◌<◌, ◌≤◌, drop, inl, inr, Bool, true, false, not, List, [], length, get_or, set, refl, ap, sym, ◌∙◌, arith, Contains}
 use Rattle.std.proofs.lemmas.Bool.{cases_Bool, cases_lt, cases_eq}
 use Rattle.std.proofs.lemmas.List.{length-drop, get_or-drop}
@@ -35,7 +35,7 @@ row_member n ranks c long y cy =
 row_has : (n : ℕ) (ranks : List ℕ) (c u : ℕ) → length ranks ≡ n → u < n → get_or ranks u 0 ≡ c → Contains (places c ranks) u
 row_has n ranks c u long lu e = let r = row_complete ranks c u (omega (arith, long)) e in rw r.2 at (Contains-get_or (places c ranks) r.0 0 r.1)
 
--- a node of the row from place k on stands at a place from there on
+-- A number in the row from place `k` on has a place from there on.
 behind_place : (row : List ℕ) (k y : ℕ) → Contains (drop k row) y → (j : ℕ) × (k ≤ j) × ((j < length row) × (get_or row j 0 ≡ y))
 behind_place row k y c =
     let p = place_of (drop k row) y c in
@@ -48,7 +48,7 @@ place_behind row k j y le l e =
     let r : get_or (drop k row) (j - k) 0 ≡ y = get_or-drop k row (j - k) 0 ∙ ap (λ i. get_or row i 0) z ∙ e in
     rw r at c
 
--- the first place at which a node stands that isn't done
+-- The first node of the row that isn't done is the least one.
 pub takes_row : (ranks : List ℕ) (c : ℕ) (done : List Bool) (from place : ℕ) → IsFreshPlace (places c ranks) done from place
     → TakesFresh done (drop from (places c ranks)) (get_or (places c ranks) place 0) (drop place (places c ranks))
 takes_row ranks c done from place f =
@@ -76,13 +76,13 @@ takes_row ranks c done from place f =
       };
     }
 
--- where each place of the row is passed, each node that is left is done
+-- If each place from `from` on is done, each number left in the row is done.
 pub row_done : (row : List ℕ) (done : List Bool) (from : ℕ) → ((j : ℕ) → from ≤ j → j < length row → IsDone done (get_or row j 0)) → (y : ℕ) → Contains (drop from row) y → IsDone done y
 row_done row done from all y cy = let p = behind_place row from y cy in rw p.2.1 at (all p.0 p.1 p.2.0)
 
 module _ (g : Graph) (ranks : List ℕ) (s : IsSetup g ranks) (listed : List ℕ) (done : List Bool) (outside held starts : List ℕ) where
   module _ (c : ℕ) (ready rest : List ℕ) (w : IsWithin g ranks c listed done outside held starts ready rest) where
-    -- the head of the component at hand is chosen
+    -- The head of the current component is next.
     choose : (v : ℕ) (ready' rest' : List ℕ) → get_or ranks v 0 ≡ c → IsHead g.nodes ranks held done v → AreCut done ready v ready' → AreCut done rest v rest'
         → IsChosen g ranks v listed done outside held starts ready' rest'
     choose v ready' rest' rank head cut cut' =
@@ -101,11 +101,11 @@ module _ (g : Graph) (ranks : List ℕ) (s : IsSetup g ranks) (listed : List ℕ
           run = run_mark g ranks listed done outside held starts v ready ready' rest rest' run (omega (arith, p.done_long, head.node)) cut cut';
         }
 
-    -- the component at hand has a node, so its number is small
+    -- The current component has a node, so its rank is below the number of nodes.
     pub rank_small : c < g.nodes
     rank_small = let b = w.run.begun in omega (arith, s.small b.by (w.plan.nodes b.by (w.plan.marks.listed_one b.by b.marked)), b.same)
 
-    -- the least ready node
+    -- The least ready node is next.
     pub choose_ready : (v : ℕ) (ready' : List ℕ) → TakesFresh done ready v ready' → IsChosen g ranks v listed done outside held starts ready' rest
     choose_ready v ready' t =
         let o = w.run.ready_only v t.was in
@@ -117,7 +117,7 @@ module _ (g : Graph) (ranks : List ℕ) (s : IsSetup g ranks) (listed : List ℕ
         })
         t.cut (cut_none done rest v)
 
-    -- or the least of all, where none is ready
+    -- If none is ready, the least node of the component that isn't done is next.
     pub choose_rest : (v : ℕ) (rest' : List ℕ) → ((y : ℕ) → Contains ready y → IsDone done y) → TakesFresh done rest v rest' → IsChosen g ranks v listed done outside held starts [] rest'
     choose_rest v rest' none t =
         let o = w.run.rest_only v t.was in
@@ -132,7 +132,7 @@ module _ (g : Graph) (ranks : List ℕ) (s : IsSetup g ranks) (listed : List ℕ
         })
         (cut_all done ready v none) t.cut
 
-    -- the component is done
+    -- If no node is left, the component is done.
     pub within_end : ((y : ℕ) → Contains rest y → IsDone done y) → IsPause g ranks listed done outside held starts
     within_end none =
         record {
@@ -140,7 +140,7 @@ module _ (g : Graph) (ranks : List ℕ) (s : IsSetup g ranks) (listed : List ℕ
           whole = λ d a b da lb fb e. absurd (fb (none b (w.run.rest_all b lb fb (sym e ∙ w.run.whole a b da lb fb e))));
         }
 
-    -- a component of one node is done
+    -- A component of one node is done after its start.
     pub alone_end : length (places c ranks) ≡ 1 → IsPause g ranks listed done outside held starts
     alone_end one =
         let b = w.run.begun in
@@ -157,7 +157,7 @@ module _ (g : Graph) (ranks : List ℕ) (s : IsSetup g ranks) (listed : List ℕ
     small_rank : (u : ℕ) → u < g.nodes → get_or ranks u 0 < length outside
     small_rank u lu = omega (arith, s.small u lu, q.plan.outside_long)
 
-    -- the least start, in a component whose other nodes wait
+    -- The least start is next when no component is done in part.
     pub choose_start : (v : ℕ) (starts' ready : List ℕ) → TakesFresh done starts v starts' → AreReadyBut g.nodes ranks held (get_or ranks v 0) v ready
         → IsChosen g ranks v listed done outside held starts' ready (drop 0 (places (get_or ranks v 0) ranks))
     choose_start v starts' ready t f =
@@ -206,7 +206,7 @@ module _ (g : Graph) (ranks : List ℕ) (s : IsSetup g ranks) (listed : List ℕ
               (entered_of g ranks done outside q.plan.entering (get_or ranks c 0) (small_rank c lc) z a b edge (sym same) (λ e. ne (e ∙ same)));
         }
 
-    -- where no start is left, each node is done
+    -- If no start is left, each node is done.
     pub all_done : ((y : ℕ) → Contains starts y → IsDone done y) → (u : ℕ) → u < g.nodes → IsDone done u
     all_done none u lu =
         elim (done_cases done u) [
@@ -234,7 +234,7 @@ module _ (g : Graph) (ranks : List ℕ) (s : IsSetup g ranks) (listed : List ℕ
         let long : length listed ≡ g.nodes = omega (arith, q.plan.counted, zero_left) in
         record { long = long; next = λ k h. q.plan.ordered k (omega (arith, long)) }
 
--- the row of a component waits: its nodes do
+-- If the row of a component is ready, the nodes of the component are.
 pub filled : (n : ℕ) (ranks held : List ℕ) (c v : ℕ) (ready : List ℕ) → length ranks ≡ n → RowWaits (places c ranks) held v ready → AreReadyBut n ranks held c v ready
 filled n ranks held c v ready long w =
     record {
@@ -242,7 +242,7 @@ filled n ranks held c v ready long w =
       ready_only = λ u cu. let o = w.ready_only u cu in let m = row_member n ranks c long u o.0 in (m.0, (m.1, o.1));
     }
 
--- at the start nothing is done, and each component that no edge enters waits
+-- At first no node is done, and the head of each component that no edge enters is among the starts.
 pub pause_first : (g : Graph) (ranks : List ℕ) (done : List Bool) (outside held starts : List ℕ) → length done ≡ g.nodes → length outside ≡ g.nodes → length held ≡ g.nodes → ((v : ℕ) → ¬ IsDone done v)
     → IsTally outside (length g.edges) (is_fresh g.edges done) (enters g.edges ranks) → IsTally held (length g.edges) (is_fresh g.edges done) (holds g.edges ranks)
     → ((u : ℕ) → u < g.nodes → get_or outside (get_or ranks u 0) 0 ≡ 0 → IsWaiting g.nodes ranks held done starts (get_or ranks u 0))

@@ -244,14 +244,14 @@ module _ (g : Graph) (m ps bs os ls : List ℕ) (rank : ℕ) (w : IsWalking g m 
             ]
       ])
 
-  -- the last open node
+  -- The last open node.
   module _ (top last : ℕ) (some : last + 1 ≡ length os) (top_is : get_or os last 0 ≡ top) where
     top_place : (0 < get_or m top 0) × (get_or m top 0 ≤ length ps) × (get_or ps (get_or m top 0 - 1) 0 ≡ top)
     top_place =
         let p : (0 < get_or m top 0) × (get_or m top 0 ≤ length ps) = rw top_is at (w.opened_pending last (omega arith)) in
         (p.0, p.1, (w.known top p.0 (omega (arith, p.1, few))).1)
 
-    -- no bound is behind it
+    -- No bound is behind the last open node.
     pub bound_low : (b : ℕ) → b < length bs → get_or bs b 0 < get_or m top 0
     bound_low b h =
         let o = w.bounds_open b h in
@@ -278,7 +278,7 @@ module _ (g : Graph) (m ps bs os ls : List ℕ) (rank : ℕ) (w : IsWalking g m 
     pub bounded : 0 < length bs
     bounded = (w.first (omega (arith, top_place.0, top_place.1))).0
 
-    -- the bounds that aren't below the far end of an edge are let go
+    -- Removing the bounds from the target of an edge on keeps the invariant.
     pub joined : (x : ℕ) → HasEdge g.edges top x → 0 < get_or m x 0 → (bs' : List ℕ) → IsFrontOf bs bs' → 0 < length bs' → ((i : ℕ) → length bs' ≤ i → i < length bs → get_or m x 0 ≤ get_or bs i 0)
         → IsWalking g m ps bs' os ls rank
     joined x edge pos bs' f some' dropped =
@@ -320,7 +320,7 @@ module _ (g : Graph) (m ps bs os ls : List ℕ) (rank : ℕ) (w : IsWalking g m 
           same = w.same;
         }
 
-    -- one edge of it is passed
+    -- Passing one edge of the last open node keeps the invariant.
     pub stepped : (r : ℕ) → get_or ls last 0 ≡ r + 1
         → ((b : ℕ) → b < length bs → get_or bs b 0 < get_or m (target_at g.edges top (length (places top (sources g.edges)) - get_or ls last 0)) 0)
         → IsWalking g m ps bs os (set ls last r) rank
@@ -368,7 +368,7 @@ module _ (g : Graph) (m ps bs os ls : List ℕ) (rank : ℕ) (w : IsWalking g m 
           same = w.same;
         }
 
-    -- each of its edges is passed
+    -- All edges of the last open node are passed.
     module _ (none : get_or ls last 0 ≡ 0) where
       all_passed : (x b : ℕ) → HasEdge g.edges top x → b < length bs → get_or bs b 0 < get_or m x 0
       all_passed x b edge h =
@@ -390,7 +390,7 @@ module _ (g : Graph) (m ps bs os ls : List ℕ) (rank : ℕ) (w : IsWalking g m 
               | inr ge ↦ let at : i ≡ length os' = omega (arith, o.long) in let e' : get_or os (length os') 0 ≡ v = rw at at e in ne (sym e' ∙ o.last)
             ]
 
-        -- it stays among the pending nodes
+        -- Case 1: the node doesn't begin a component, so it stays pending.
         pub closed_inner : ((b : ℕ) → b < length bs → get_or bs b 0 + 1 ≢ get_or m top 0) → IsWalking g m ps bs os' ls' rank
         closed_inner apart =
             record {
@@ -447,7 +447,7 @@ module _ (g : Graph) (m ps bs os ls : List ℕ) (rank : ℕ) (w : IsWalking g m 
                     ]
               ]
 
-          -- what was above a bound stays so
+          -- A mark above a pending place stays above it.
           stays_above : (v y : ℕ) → y < length ps → y < get_or m v 0 → y < get_or m' v 0
           stays_above v y small h = elim (changed v) [ inl q ↦ omega (arith, q.2, rank_big, small) | inr q ↦ omega (arith, q.1, h) ]
 
@@ -465,7 +465,7 @@ module _ (g : Graph) (m ps bs os ls : List ℕ) (rank : ℕ) (w : IsWalking g m 
               let low : get_or m (get_or os' i 0) 0 ≤ s = omega (arith, up, top_at) in
               (pos, low, given.low _ low)
 
-          -- an edge from the component leads to it, or to one with a higher rank
+          -- An edge from the component leads into it, or to a component of higher rank.
           out_of : (a x : ℕ) → s < get_or m a 0 → get_or m a 0 ≤ length ps → HasEdge g.edges a x → s < get_or m x 0
           out_of a x more_than within edge =
               let last_bound : length bs' < length bs = omega (arith, b.long) in
@@ -491,7 +491,7 @@ module _ (g : Graph) (m ps bs os ls : List ℕ) (rank : ℕ) (w : IsWalking g m 
               let q = w.ahead (length bs') (get_or m a 0 - 1) (omega (arith, b.long)) le (omega (arith, within, more_than)) in
               rw (k.1, bound_last) at q
 
-          -- a mark above the number of nodes that stayed
+          -- A mark past the remaining pending nodes is a rank.
           was_ranked : (v : ℕ) → length ps < get_or m v 0 → g.nodes < get_or m v 0
           was_ranked v far = elim (cases_lt g.nodes (get_or m v 0)) [ inl l ↦ l | inr ge ↦ absurd (omega (arith, far, (w.known v (omega (arith, far)) ge).0)) ]
 
@@ -613,7 +613,7 @@ module _ (g : Graph) (m ps bs os ls : List ℕ) (rank : ℕ) (w : IsWalking g m 
                     ];
               }
 
--- no node is pending where none is open
+-- If no node is open, each entered node has a rank.
 pub finished : (g : Graph) (m ps bs os ls : List ℕ) (rank : ℕ) → IsWalking g m ps bs os ls rank → length os ≡ 0 → (v : ℕ) → get_or m v 0 ≢ 0 → g.nodes < get_or m v 0
 finished g m ps bs os ls rank w none v some =
     elim (cases_lt g.nodes (get_or m v 0)) [
@@ -657,7 +657,7 @@ zero_at n v xs e =
       | inr p ↦ let long : length xs ≡ n = ap length e ∙ length-replicate n 0 in get_or_past xs v 0 (omega (arith, p, long))
     ]
 
--- the marks, less a base, are a ranking
+-- The marks minus a base are a ranking.
 pub ranked : (g : Graph) (m ps bs os ls : List ℕ) (rank : ℕ) (ranks : List ℕ) → IsDigraph g → IsWalking g m ps bs os ls rank → ((v : ℕ) → v < g.nodes → g.nodes < get_or m v 0)
     → length ranks ≡ length m → ((v : ℕ) → v < length m → get_or ranks v 0 + (g.nodes + 1) ≡ get_or m v 0) → IsRanking g ranks
 ranked g m ps bs os ls rank ranks ok w whole long each =
@@ -678,7 +678,7 @@ front_take n xs = record { shorter = omega (arith, length-take n xs); kept = λ 
 pub fewer_steps : (t t' e s d o : ℕ) → t ≡ (e + 2) + t' → d ≤ e → t' + ((s + d) + (o + 1)) < t + (s + o)
 fewer_steps t t' e s d o is le = omega (arith, is, le)
 
--- the edge that is next where so many are left
+-- The number of the next edge, from the number of edges left.
 pub next_edge : (g : Graph) (v l first last : ℕ) → range_with_len first (last - first) ≡ places v (sources g.edges) → 0 < l → l ≤ length (places v (sources g.edges))
     → last - l ≡ get_or (places v (sources g.edges)) (length (places v (sources g.edges)) - l) 0
 next_edge g v l first last e some few =

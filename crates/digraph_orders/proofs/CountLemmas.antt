@@ -1,4 +1,4 @@
--- Counts of edges that are left.
+-- Counts of the remaining edges.
 use Rattle.std.proofs.Common.{◌≡◌, ◌≢◌, ℕ, zero, suc, ◌+◌, ◌<◌, inl, inr, Bool, true, false, ◌&&◌, List, length, get_or, set, refl, sym, ◌∙◌, arith, get_or-set_same, get_or-set_other}
 use Rattle.std.proofs.Math.ListN.{length-set}
 use Rattle.std.proofs.lemmas.Bool.{cases_eq, cases_Bool}
@@ -55,11 +55,11 @@ and_off false = refl
 both_off : (x y : Bool) → (x && false) ≡ (y && false)
 both_off x y = and_off x ∙ sym (and_off y)
 
--- the counts stay where what is left stays
+-- The counts are right as long as the same edges are left.
 pub tally_same : (counts : List ℕ) (n : ℕ) (left next : ℕ → Bool) (test : ℕ → ℕ → Bool) → ((i : ℕ) → i < n → next i ≡ left i) → IsTally counts n left test → IsTally counts n next test
 tally_same counts n left next test e t c h = t c h ∙ count_same (λ i. left i && test c i) (λ i. next i && test c i) n (λ i l. rw (e i l) refl)
 
--- p leaves, and counts for nothing
+-- Removing an edge that counts for nothing keeps the counts right.
 pub tally_skip : (counts : List ℕ) (n : ℕ) (left next : ℕ → Bool) (test : ℕ → ℕ → Bool) (p : ℕ) → ((c : ℕ) → c < length counts → test c p ≡ false) → ((i : ℕ) → i ≢ p → next i ≡ left i)
     → IsTally counts n left test → IsTally counts n next test
 tally_skip counts n left next test p off e t c h =
@@ -69,7 +69,7 @@ tally_skip counts n left next test p off e t c h =
       | inr ne ↦ rw (e i ne) refl
     ])
 
--- p leaves, and counted for d alone
+-- Removing an edge that counts only for `d` takes one from its count.
 pub tally_pass : (counts : List ℕ) (n : ℕ) (left next : ℕ → Bool) (test : ℕ → ℕ → Bool) (p d : ℕ) → p < n → d < length counts → left p ≡ true → next p ≡ false → test d p ≡ true
     → ((c : ℕ) → c ≢ d → test c p ≡ false) → ((i : ℕ) → i ≢ p → next i ≡ left i)
     → IsTally counts n left test → (0 < get_or counts d 0) × ((k : ℕ) → k + 1 ≡ get_or counts d 0 → IsTally (set counts d k) n next test)
@@ -96,7 +96,7 @@ tally_pass counts n left next test p d lp ld on off here others e t =
           | inr other ↦ rw (e i other) refl
         ])
 
--- p comes, and counts for d alone
+-- Adding an edge that counts only for `d` adds one to its count.
 pub tally_add : (counts : List ℕ) (n : ℕ) (left next : ℕ → Bool) (test : ℕ → ℕ → Bool) (p d : ℕ) → p < n → d < length counts → left p ≡ false → next p ≡ true → test d p ≡ true
     → ((c : ℕ) → c ≢ d → test c p ≡ false) → ((i : ℕ) → i ≢ p → next i ≡ left i)
     → IsTally counts n left test → IsTally (set counts d (get_or counts d 0 + 1)) n next test
@@ -118,7 +118,7 @@ tally_add counts n left next test p d lp ld off on here others e t c h =
           ]))
     ]
 
--- where nothing is left, the counts are zero
+-- If no edge is left, the counts are 0.
 pub tally_none : (counts : List ℕ) (n : ℕ) (test : ℕ → ℕ → Bool) → ((c : ℕ) → c < length counts → get_or counts c 0 ≡ 0) → IsTally counts n (λ i. false) test
 tally_none counts n test z c h = z c h ∙ sym (count_zero (λ i. false && test c i) n (λ i l. refl))
 

@@ -31,7 +31,7 @@ pub count_le : (t : ℕ → Bool) (n : ℕ) → count_below t n ≤ n
 count_le t zero = omega arith
 count_le t (suc n) = elim (cases_Bool (t n)) [ inl e ↦ rw e (omega (arith, count_le t n)) | inr e ↦ rw e (omega (arith, count_le t n)) ]
 
--- one that isn't counted yet leaves room
+-- If one number fails the test, fewer than `n` pass.
 pub count_lt : (t : ℕ → Bool) (n p : ℕ) → p < n → t p ≡ false → count_below t n < n
 count_lt t zero p h e = absurd (omega arith)
 count_lt t (suc n) p h e =
@@ -104,7 +104,7 @@ holding_none g ranks counts long z =
       tally = λ c h. z c h ∙ sym (count_zero (λ i. nat_lt i 0 && holds g.edges ranks c i) (length g.edges) (λ i l. rw (le-ltb i 0 (omega arith)) refl));
     }
 
--- before the first component none is among the starts
+-- Before the first component the starts are empty.
 pub firsts_none : (ranks outside held : List ℕ) → AreFirsts ranks outside held 0 []
 firsts_none ranks outside held =
     record {
@@ -130,7 +130,7 @@ firsts_skip ranks outside held k old a off =
       only = a.only;
     }
 
--- with every count made, nothing listed, and the first starts: the first plan's two clauses
+-- The clauses of the first plan about its starts.
 pub firsts_wait : (n : ℕ) (ranks outside held : List ℕ) (done : List Bool) (starts : List ℕ) → length ranks ≡ n → ((u : ℕ) → u < n → get_or ranks u 0 < n) → ((v : ℕ) → ¬ IsDone done v) → AreFirsts ranks outside held n starts
     → ((u : ℕ) → u < n → get_or outside (get_or ranks u 0) 0 ≡ 0 → IsWaiting n ranks held done starts (get_or ranks u 0))
     × ((x : ℕ) → Contains starts x → IsHead n ranks held done x × (get_or outside (get_or ranks x 0) 0 ≡ 0))
@@ -207,7 +207,7 @@ fresh_now n v =
       | inr p ↦ rw (get_or_past (replicate n false) v false (omega (arith, length-replicate n false))) refl
     ]
 
--- with every count made and nothing listed, the first plan stands
+-- With all edges counted and no node listed, the first plan is a pause.
 pub first_pause : (g : Graph) (ranks : List ℕ) → IsSetup g ranks → (outside held starts : List ℕ) → AreEntering g ranks (length g.edges) outside → AreHolding g ranks (length g.edges) held → AreFirsts ranks outside held g.nodes starts
     → IsPause g ranks [] (replicate g.nodes false) outside held starts
 first_pause g ranks s outside held starts entering holding firsts =

@@ -1,4 +1,4 @@
--- The head of a component, by its row.
+-- The head of a component, from its row.
 use Rattle.std.proofs.Common.{◌≡◌, ℕ, zero, suc, ◌<◌, ◌≤◌, inl, inr, Bool, true, false, List, [], ◌∷◌, length, get_or, refl, sym, ◌∙◌, arith}
 use Rattle.std.proofs.lemmas.Bool.{cases_eq, cases_lt}
 use Rattle.std.proofs.lemmas.Bool.Decides.{eqb_tells}
@@ -44,18 +44,18 @@ has_at (y ∷ ys) x h =
       | inr t ↦ let h' : is_in x ys ≡ true = rw t.0 at h in let f = has_at ys x h' in (suc f.0, omega (arith, f.1), f.2)
     ]
 
--- each node of rank c stands in the row of c
+-- Each node of rank `c` is in row `c`.
 pub row_complete : (ranks : List ℕ) (c u : ℕ) → u < length ranks → get_or ranks u 0 ≡ c → (k : ℕ) × (k < length (places c ranks)) × (get_or (places c ranks) k 0 ≡ u)
 row_complete ranks c u h e = has_at (places c ranks) u (has_place c 0 ranks u u h e (omega arith))
 
--- in a component of one node, its row has that one
+-- In a component of one node, the row has only that node.
 pub row_alone : (ranks : List ℕ) (c u : ℕ) → u < length ranks → get_or ranks u 0 ≡ c → length (places c ranks) ≡ 1 → (j : ℕ) → j < length (places c ranks) → get_or (places c ranks) j 0 ≡ u
 row_alone ranks c u h e one j l =
     let r = row_complete ranks c u h e in
     let same : r.0 ≡ j = omega (arith, r.1, one, l) in
     rw same at r.2
 
--- and that one is its first
+-- In a component of one node, that node is the first.
 pub first_alone : (ranks held : List ℕ) (c u : ℕ) → u < length ranks → get_or ranks u 0 ≡ c → length (places c ranks) ≡ 1 → IsFirst (places c ranks) held u
 first_alone ranks held c u h e one =
     record {
@@ -68,13 +68,13 @@ first_alone ranks held c u h e one =
       ];
     }
 
--- in a component with no node done, the first of its row with no hold, or else the first, is the head
+-- In a component with no node done, the first node without a hold, or else the first, is the head.
 pub first_head : (n : ℕ) (ranks held : List ℕ) (done : List Bool) (c x : ℕ) → length ranks ≡ n → ((u : ℕ) → get_or ranks u 0 ≡ c → ¬ IsDone done u) → IsFirst (places c ranks) held x → (get_or ranks x 0 ≡ c) × IsHead n ranks held done x
 first_head n ranks held done c x long fresh f =
     let w = places_within c ranks f.place f.within in
     let rank : get_or ranks x 0 ≡ c = rw f.is at w.1 in
     let lx : x < n = let l = w.0 in omega (arith, l, f.is, long) in
-    -- a lesser node of the component stands earlier
+    -- A lesser node of the component has an earlier place.
     let earlier : (u : ℕ) → u < x → get_or ranks u 0 ≡ c → (j : ℕ) × (j < f.place) × (get_or (places c ranks) j 0 ≡ u) =
     λ u less e.
     let q = row_complete ranks c u (omega (arith, less, lx, long)) e in

@@ -1,4 +1,4 @@
--- The head of a component that may go on is next.
+-- The head of a component that is free to go on is next.
 use Rattle.std.proofs.Common.{◌≡◌, ℕ, ◌<◌, ◌≤◌, ◌⊎◌, inl, inr, Bool, true, false, List, get_or, sym, ◌∙◌, arith, Contains}
 use Rattle.std.proofs.lemmas.Bool.{cases_eq, cases_lt, cases_Bool}
 use Rattle.guppy_support.specs.Graph.{Graph, IsDigraph}
@@ -18,7 +18,7 @@ module _ (g : Graph) (ok : IsDigraph g) (ranks : List ℕ) (r : IsRanking g rank
   fresh_by : (v : ℕ) → ¬ Contains listed v → ¬ IsDone done v
   fresh_by v f c = f (m.listed_one v c)
 
-  -- a head may come next, if its component may
+  -- A head is available if its component is free to go on.
   pub head_available : ((a : ℕ) → Contains listed a → a < g.nodes) → (v : ℕ) → IsHead g.nodes ranks held done v → IsWholeBut g ranks done (get_or ranks v 0) → IsEntered g ranks done (get_or ranks v 0) → IsAvailable g.edges g.nodes listed v
   head_available nodes v head whole entered =
       record {
@@ -42,7 +42,7 @@ module _ (g : Graph) (ok : IsDigraph g) (ranks : List ℕ) (r : IsRanking g rank
         ];
       }
 
-  -- an available node is not before the head of its component
+  -- An available node isn't less than the head of its component.
   pub head_least : (v u : ℕ) → IsHead g.nodes ranks held done v → IsAvailable g.edges g.nodes listed u → get_or ranks u 0 ≡ get_or ranks v 0 → v ≤ u
   head_least v u head av same =
       elim (cases_lt u v) [
@@ -59,7 +59,7 @@ module _ (g : Graph) (ok : IsDigraph g) (ranks : List ℕ) (r : IsRanking g rank
             ]
       ]
 
-  -- inside a component that is begun, its head is next
+  -- Inside a component that has begun, its head is next.
   pub next_within : ((a : ℕ) → Contains listed a → a < g.nodes) → (v a : ℕ) → IsHead g.nodes ranks held done v → IsWholeBut g ranks done (get_or ranks v 0) → IsEntered g ranks done (get_or ranks v 0)
       → IsDone done a → get_or ranks a 0 ≡ get_or ranks v 0 → IsNext g.edges g.nodes listed v
   next_within nodes v a head whole entered da same =
@@ -76,7 +76,7 @@ module _ (g : Graph) (ok : IsDigraph g) (ranks : List ℕ) (r : IsRanking g rank
             ];
       }
 
-  -- where no component is done in part, the least head of those that are entered is next
+  -- If no component is done in part, the least head of the entered ones is next.
   pub next_start : ((a : ℕ) → Contains listed a → a < g.nodes) → (v : ℕ) → IsHead g.nodes ranks held done v → ((c : ℕ) → IsWholeBut g ranks done c) → IsEntered g ranks done (get_or ranks v 0)
       → ((u : ℕ) → u < g.nodes → ¬ IsDone done u → IsEntered g ranks done (get_or ranks u 0) → (x : ℕ) × (v ≤ x) × (IsHead g.nodes ranks held done x × (get_or ranks u 0 ≡ get_or ranks x 0)))
       → IsNext g.edges g.nodes listed v

@@ -37,14 +37,14 @@ path_inside g ok (onward e p) h = path_inside g ok p (nodes_of_edge g ok e).1
 pub firm_is_edge : {es : List Edge} {a b : ℕ} → HasFirmEdge es a b → HasEdge es a b
 firm_is_edge f = record { edge = f.edge; listed = f.listed; from = f.from; to = f.to }
 
--- a node of v's component that isn't listed
+-- An unlisted node of `v`'s component.
 record Fresh (g : Graph) (listed : List ℕ) (v : ℕ) : Type 0 where
   node : ℕ
   same : SameComponent g.edges node v
   fresh : ¬ Contains listed node
 
 module _ (g : Graph) (ok : IsDigraph g) (listed : List ℕ) (v : ℕ) (lv : v < g.nodes) (free : ¬ Contains listed v) (held : (b : ℕ) → SameComponent g.edges b v → ¬ Contains listed b → IsHeld g.edges listed b) where
-  -- walking back from v along firm edges, among the nodes that aren't listed
+  -- The walk back from `v` along edges that aren't dev-only, over unlisted nodes.
   back : ℕ → Fresh g listed v
   back zero = record { node = v; same = same_self v; fresh = free }
   back (suc k) =
@@ -63,7 +63,7 @@ module _ (g : Graph) (ok : IsDigraph g) (listed : List ℕ) (v : ℕ) (lv : v < 
   way k zero = let e : suc zero + k ≡ suc k = omega arith in rw e (firm_edge (step_edge k))
   way k (suc d) = let e : suc (suc d) + k ≡ suc (suc d + k) = omega arith in rw e (firm_onward (step_edge (suc d + k)) (way k d))
 
-  -- one of the first n nodes is x, or none is
+  -- `x` is one of the first `n` nodes of the walk, or none is `x`.
   find : (x n : ℕ) → ((i : ℕ) × (i < n) × ((back i).node ≡ x)) ⊎ ((i : ℕ) → i < n → (back i).node ≢ x)
   find x zero = inr (λ i h e. omega (arith, h))
   find x (suc n) =
@@ -76,7 +76,7 @@ module _ (g : Graph) (ok : IsDigraph g) (listed : List ℕ) (v : ℕ) (lv : v < 
             ]
       ]
 
-  -- two of the first n nodes are one, or all differ
+  -- Two of the first `n` nodes of the walk are equal, or all are distinct.
   again : (n : ℕ) → ((i : ℕ) × (j : ℕ) × (i < j) × ((back i).node ≡ (back j).node)) ⊎ ((i j : ℕ) → i < j → j < n → (back i).node ≢ (back j).node)
   again zero = inr (λ i j l h e. omega (arith, h))
   again (suc n) =
@@ -89,7 +89,7 @@ module _ (g : Graph) (ok : IsDigraph g) (listed : List ℕ) (v : ℕ) (lv : v < 
             ]
       ]
 
-  -- there are fewer nodes than steps: some node comes again, on a firm cycle
+  -- A walk longer than the number of nodes visits some node twice, so it has a cycle.
   pub firm_cycle : (a : ℕ) × FirmPath g.edges a a
   firm_cycle =
       elim (again (g.nodes + 1)) [

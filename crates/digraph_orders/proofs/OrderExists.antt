@@ -30,7 +30,7 @@ or_cases A B a b =
           ]
     ]
 
--- the least number below n that passes, or none does
+-- Some least number below `n` passes, or none does.
 first_below : (P : ℕ → Type 0) → ((k : ℕ) → P k ⊎ ¬ P k) → (n : ℕ) → ((k : ℕ) × (k < n) × P k × ((j : ℕ) → j < k → ¬ P j)) ⊎ ((k : ℕ) → k < n → ¬ P k)
 first_below P test zero = inr (λ k h p. omega (arith, h))
 first_below P test (suc n) =
@@ -45,7 +45,7 @@ first_below P test (suc n) =
 
 -- ---- whether a path leads from a to b
 
--- a path whose inner nodes are below k
+-- A path from `a` to `b` whose inner nodes are below `k`.
 abbrev Through : List Edge → ℕ → ℕ → ℕ → Type 0
 Through es zero a b = (a ≡ b) ⊎ HasEdge es a b
 Through es (suc k) a b = Through es k a b ⊎ (Through es k a k × Through es k k b)
@@ -127,7 +127,7 @@ unfolding told
 told_holds (inl x) a = refl
 told_holds (inr fails) a = absurd (fails a)
 
--- a test that holds wherever another does passes as often, or oftener where it holds at one place more
+-- A weaker test passes at least as often, and more often if it passes at one more place.
 count_more : (t s : ℕ → Bool) (n : ℕ) → ((i : ℕ) → i < n → t i ≡ true → s i ≡ true) → count_below t n ≤ count_below s n
 count_more t s zero e = omega arith
 count_more t s (suc n) e =
@@ -154,15 +154,15 @@ count_most t s (suc n) p h tp sp e =
     ]
 
 module _ (g : Graph) (ok : IsDigraph g) where
-  -- whether u leads to v
+  -- Whether a path leads from `u` to `v`.
   leads : ℕ → ℕ → Bool
   leads v u = told (path_cases g ok u v)
 
-  -- how many nodes lead to v
+  -- The number of nodes with a path to `v`.
   sources_of : ℕ → ℕ
   sources_of v = count_below (leads v) g.nodes
 
-  -- the least node of v's component
+  -- The least node of `v`'s component.
   record IsLeast (v k : ℕ) : Type 0 where
     pub node : k < g.nodes
     pub same : SameComponent g.edges k v
@@ -193,7 +193,7 @@ module _ (g : Graph) (ok : IsDigraph g) where
       go (inl l) = (least_of v l).1
       go (inr past) = absurd (omega arith)
 
-  -- by the nodes that lead there, and then by the component's least node
+  -- The rank: first by the number of nodes that lead there, then by the component's least node.
   rank : ℕ → ℕ
   rank v = sources_of v * (g.nodes + 1) + least v
 
@@ -272,15 +272,15 @@ module _ (g : Graph) (ok : IsDigraph g) where
       ]
 
   module _ (list : List ℕ) (f : IsFront g ranks list) where
-    -- b keeps v back: its component is listed in part
+    -- `b` keeps `v` from being available: the component of `b` is listed in part.
     keeps_whole : ℕ → ℕ → ℕ → Type 0
     keeps_whole v a b = (Contains list a × SameComponent g.edges a b) × ((¬ SameComponent g.edges a v) × (¬ Contains list b))
 
-    -- an edge from a enters v's component, and a isn't listed
+    -- `a` keeps `v` from being available: an edge from it enters `v`'s component, and it isn't listed.
     keeps_entered : ℕ → ℕ → ℕ → Type 0
     keeps_entered v a b = (HasEdge g.edges a b × SameComponent g.edges b v) × ((¬ SameComponent g.edges a v) × (¬ Contains list a))
 
-    -- b is free where v is held
+    -- If `v` is held, `b` keeps it from being available: `b` isn't held.
     keeps_ready : ℕ → ℕ → Type 0
     keeps_ready v b = SameComponent g.edges b v × ((¬ Contains list b) × (¬ IsHeld g.edges list b))
 
@@ -362,7 +362,7 @@ module _ (g : Graph) (ok : IsDigraph g) where
       go (inl k) = (k.1, get_or_default list k.0 0 u k.1 ∙ k.2)
       go (inr lacks) = absurd (lacks known)
 
-  -- a list that has each node is as long as there are nodes
+  -- A list that has each node has at least as many elements as there are nodes.
   long_enough : (list : List ℕ) → ((u : ℕ) → u < g.nodes → Contains list u) → g.nodes ≤ length list
   long_enough list all =
       let places : List ℕ = map (place_in list) (range_with_len 0 g.nodes) in
@@ -388,7 +388,7 @@ module _ (g : Graph) (ok : IsDigraph g) where
         | inr none ↦ absurd (omega (arith, h, long_enough list (λ u hu. elim (contains_cases list u) [ inl c ↦ c | inr lacks ↦ absurd (none u hu lacks) ])))
       ]
 
-  -- the first k nodes of an order
+  -- The first `k` nodes of an order.
   record IsBegin (k : ℕ) (list : List ℕ) : Type 0 where
     pub long : length list ≡ k
     pub front : IsFront g ranks list

@@ -1,4 +1,4 @@
--- There is one order at most.
+-- A digraph has at most one order.
 use Rattle.std.proofs.Common.{◌≡◌, ℕ, zero, suc, ◌<◌, ◌≤◌, inl, inr, List, length, take, get_or, refl, sym, ◌∙◌, subst, arith, add-one, Contains, ◌≢◌}
 use Rattle.std.proofs.lemmas.Bool.{cases_order, cases_lt}
 use Rattle.std.proofs.lemmas.List.{take_more_same, take_all, get_or-take, length-take, get_or_default}
@@ -38,7 +38,7 @@ listed_before {n = n} {list = list} o i j l h =
 pub order_below : {es : List Edge} {n : ℕ} {list : List ℕ} → IsOrder es n list → (i : ℕ) → i < n → get_or list i 0 < n
 order_below o i h = (o.next i h).available.node
 
--- what an order lists is below a length that is the number of nodes
+-- Each element of an order is below the number of nodes.
 pub order_within : {es : List Edge} {n : ℕ} {list : List ℕ} → IsOrder es n list → (long : ℕ) → long ≡ n → (i : ℕ) → i < length list → get_or list i 0 < long
 order_within {n = n} o long e i h =
     let below = order_below o i (omega (arith, h, o.long)) in
@@ -50,7 +50,7 @@ order_apart {n = n} {list = list} o i j l h =
     let hn : j < n = omega (arith, o.long) in
     (o.next j hn).available.fresh (rw e at (listed_before o i j l hn))
 
--- where a node is listed among the first j, its place is below j
+-- If node `i` of an order is among the first `j`, then `i` is below `j`.
 pub place_before : {es : List Edge} {n : ℕ} {list : List ℕ} → IsOrder es n list → (i j : ℕ) → i < n → Contains (take j list) (get_or list i 0) → i < j
 place_before {list = list} o i j h c =
     elim (cases_lt i j) [

@@ -1,4 +1,4 @@
--- The edges that leave a node, and lists with one more.
+-- The edges that leave a node, and lists with one more element.
 use Rattle.std.proofs.Common.{◌≡◌, ℕ, ◌+◌, ◌-◌, ◌<◌, List, [], ◌∷◌, ◌++◌, length, get_or, ap, sym, ◌∙◌, arith, length-append, Some, slice_get}
 use Rattle.std.proofs.lemmas.List.{get_or-map, length-map, get_or_append_left, get_or_at}
 use Rattle.std.specs.List.{range_with_len}
@@ -39,7 +39,7 @@ edge_to g v k e ok h got =
     let edge : HasEdge g.edges v e.to = rw value at (edge_at g.edges v k h) in
     record { value = sym value; node = (nodes_of_edge g ok edge).1; edge = edge }
 
--- the edges that leave v stand together: the k-th has the number first + k
+-- The edges that leave `v` are consecutive: the `k`-th has number `first + k`.
 pub out_number : (g : Graph) (v k first last : ℕ) → range_with_len first (last - first) ≡ places v (sources g.edges) → k < length (places v (sources g.edges)) → first + k ≡ get_or (places v (sources g.edges)) k 0
 out_number g v k first last e h =
     let long : k < last - first = omega (arith, ap length e, length-range_with_len first (last - first)) in

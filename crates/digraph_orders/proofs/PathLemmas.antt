@@ -1,4 +1,4 @@
--- Paths join, and components are classes.
+-- Paths are transitive, and components are equivalence classes.
 use Rattle.std.proofs.Common.{ℕ, List}
 use Rattle.guppy_support.specs.declared.digraph.Edge.{Edge}
 use Rattle.guppy_support.specs.Paths.{HasEdge, Path, nowhere, onward, SameComponent, OnCycle}
@@ -20,12 +20,12 @@ same_turned s = record { there = s.back; back = s.there }
 pub same_joined : {es : List Edge} {a b c : ℕ} → SameComponent es a b → SameComponent es b c → SameComponent es a c
 same_joined s t = record { there = join s.there t.there; back = join t.back s.back }
 
--- a path between different nodes isn't empty
+-- A path between different nodes has a first edge.
 pub first_step : {es : List Edge} {a b : ℕ} → Path es a b → a ≢ b → (c : ℕ) × HasEdge es a c × Path es c b
 first_step nowhere ne = absurd (ne refl)
 first_step (onward {b = c} e p) ne = (c, e, p)
 
--- two nodes of one component lie on a common cycle, where they differ
+-- Two different nodes of one component are on a common cycle.
 pub cycle_from_same : {es : List Edge} {a b : ℕ} → SameComponent es a b → a ≢ b → OnCycle es a b
 cycle_from_same s ne =
     let there = first_step s.there ne in

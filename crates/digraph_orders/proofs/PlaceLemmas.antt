@@ -1,4 +1,4 @@
--- What stands in the list of places.
+-- The elements of a list of places.
 use Rattle.std.proofs.Common.{◌≡◌, ℕ, zero, suc, ◌+◌, ◌<◌, inl, inr, true, List, [], ◌∷◌, length, get_or, refl, ap, sym, ◌∙◌, subst, arith, All}
 use Rattle.std.proofs.lemmas.Bool.Decides.{eqb_tells}
 use Rattle.std.proofs.lemmas.Bool.{eq-eqb}
@@ -10,7 +10,7 @@ use Rattle.digraph_orders.specs.inner.NodeEdges.{target_at, source_at}
 use Rattle.guppy_support.specs.Rows.{places_from, places}
 use Rattle.guppy_support.specs.Paths.{HasEdge}
 
--- the place at j is a place of v
+-- `p` is a place of `v`.
 record IsPlace (v s : ℕ) (xs : List ℕ) (p : ℕ) : Type 0 where
   pub from : ℕ
   pub is : p ≡ s + from
@@ -42,7 +42,7 @@ places_from_sound v s (x ∷ xs) (suc j) h =
           subst (λ l. IsPlace v s (x ∷ xs) (get_or l (suc j) 0)) shape (later (places_from_sound v (suc s) xs (suc j) (subst (λ l. suc j < length l) (sym shape) h)))
     ]
 
--- each place of v is listed
+-- Place `i` is listed.
 record IsListed (v s : ℕ) (xs : List ℕ) (i : ℕ) : Type 0 where
   pub at : ℕ
   pub within : at < length (places_from v s xs)
@@ -76,7 +76,7 @@ places_from_complete v s (x ∷ xs) (suc i) h e =
           }
     ]
 
--- each place is in the list, and v stands there
+-- Each listed place is within the list, and `v` is there.
 pub places_within : (v : ℕ) (xs : List ℕ) (k : ℕ) → k < length (places v xs) → (get_or (places v xs) k 0 < length xs) × (get_or xs (get_or (places v xs) k 0) 0 ≡ v)
 places_within v xs k h =
     let p = places_from_sound v 0 xs k h in
@@ -89,7 +89,7 @@ All-places v xs = All-from_get_or (λ k. k < length xs) (places v xs) 0 (λ i h.
 no_edge : Edge
 no_edge = record { from = 0; to = 0; non_dev = true }
 
--- the k-th of the edges that leave a is an edge from a
+-- The `k`-th edge that leaves `a` is an edge from `a`.
 pub edge_at : (es : List Edge) (a k : ℕ) → k < length (places a (sources es)) → HasEdge es a (target_at es a k)
 edge_at es a k h =
     let p = places_within a (sources es) k h in
@@ -102,7 +102,7 @@ edge_at es a k h =
       to = sym (get_or-map (λ (e : Edge). e.to) es number no_edge 0 inside);
     }
 
--- each edge from a is one of those
+-- Each edge from `a` is one of the edges that leave it.
 pub edge_found : (es : List Edge) (a b : ℕ) → HasEdge es a b → (k : ℕ) × (k < length (places a (sources es))) × (target_at es a k ≡ b)
 edge_found es a b e =
     let number = e.listed.0 in
@@ -114,7 +114,7 @@ edge_found es a b e =
     let is : get_or (places a (sources es)) l.at 0 ≡ number = omega (arith, l.is) in
     (l.at, l.within, rw is to)
 
--- the k-th of the edges that enter b is an edge to b
+-- The `k`-th edge that enters `b` is an edge to `b`.
 pub edge_into_at : (es : List Edge) (b k : ℕ) → k < length (places b (targets es)) → HasEdge es (source_at es b k) b
 edge_into_at es b k h =
     let p = places_within b (targets es) k h in
@@ -127,7 +127,7 @@ edge_into_at es b k h =
       to = sym (get_or-map (λ (e : Edge). e.to) es number no_edge 0 inside) ∙ p.1;
     }
 
--- each edge to b is one of those
+-- Each edge to `b` is one of the edges that enter it.
 pub edge_into_found : (es : List Edge) (a b : ℕ) → HasEdge es a b → (k : ℕ) × (k < length (places b (targets es))) × (source_at es b k ≡ a)
 edge_into_found es a b e =
     let number = e.listed.0 in

@@ -1,4 +1,4 @@
--- What the counts of a plan say.
+-- The meaning of a plan's counts.
 use Rattle.std.proofs.Common.{◌≡◌, ◌≢◌, ℕ, ◌<◌, inl, inr, Bool, true, false, ◌&&◌, eqb, not, List, length, get_or, map, refl, ap, sym, ◌∙◌, arith}
 use Rattle.std.proofs.lemmas.Bool.{cases_Bool, eq-eqb, not-true}
 use Rattle.std.proofs.lemmas.Bool.Decides.{eqb_tells}
@@ -47,7 +47,7 @@ firm_at es i = get_or (map (λ (e : Edge). e.non_dev) es) i false
 no_edge : Edge
 no_edge = record { from = 0; to = 0; non_dev = true }
 
--- edge i, by its places in the lists of ends
+-- Edge `i` leads from `a` to `b`, by the lists of sources and targets.
 pub record IsEdgeAt (es : List Edge) (a b i : ℕ) : Type 0 where
   pub within : i < length es
   pub from : get_or (sources es) i 0 ≡ a
@@ -96,7 +96,7 @@ firm_of_number es i h firm =
     }
 
 module _ (g : Graph) (ok : IsDigraph g) (ranks : List ℕ) (r : IsRanking g ranks) (listed : List ℕ) (done : List Bool) (m : AreMarks listed done) where
-  -- the counts of holds say which nodes are held
+  -- The counts of holds decide which nodes are held.
   pub holds_of : (held : List ℕ) → length held ≡ g.nodes → IsTally held (length g.edges) (is_fresh g.edges done) (holds g.edges ranks) → AreHolds g listed held
   holds_of held long t =
       record {
@@ -132,7 +132,7 @@ module _ (g : Graph) (ok : IsDigraph g) (ranks : List ℕ) (r : IsRanking g rank
       }
 
 module _ (g : Graph) (ranks : List ℕ) (done : List Bool) (outside : List ℕ) (t : IsTally outside (length g.edges) (is_fresh g.edges done) (enters g.edges ranks)) where
-  -- a count of zero: each edge that enters starts at a node that is done
+  -- If a component's count is 0, each edge into it starts at a node that is done.
   pub entered_of : (c : ℕ) → c < length outside → get_or outside c 0 ≡ 0 → IsEntered g ranks done c
   entered_of c h z a b edge eb na =
       let f = edge_number g.edges a b edge in

@@ -1,4 +1,4 @@
--- A queue is a set of bits, and sets of its words.
+-- A queue is a set of bits, with sets of its words above it.
 use Rattle.std.proofs.Common.{◌≡◌, ◌≢◌, ℕ, ◌+◌, ◌-◌, ◌/◌, ◌<◌, ◌≤◌, inl, inr, Bool, true, false, List, [], ◌∷◌, length, get_or, set, replicate, refl, ap, sym, ◌∙◌, arith, cond, get_or-set_same, get_or-set_other}
 use Rattle.std.proofs.Math.ListN.{length-set}
 use Rattle.std.proofs.lemmas.Bool.{cases_eq}
@@ -66,7 +66,7 @@ leaves s k h least =
           omega (arith, old, new, ticks_less s k h);
     }
 
--- a set with nothing has no members
+-- A set that has no number has no members.
 pub members_none : (s : List Bool) → ((j : ℕ) → ¬ (has s j ≡ true)) → members s ≡ []
 members_none s none = empty (members s) (λ i h. none (get_or (members s) i 0) (has-members s i h))
   where
@@ -77,7 +77,7 @@ members_none s none = empty (members s) (λ i h. none (get_or (members s) i 0) (
 pub members_empty : (n : ℕ) → members (replicate n false) ≡ []
 members_empty n = members_none (replicate n false) (λ j h. true≢false (sym h ∙ has-empty n j))
 
--- an empty set of words is above an empty set
+-- An empty set of words is above an empty set.
 pub above_empty : (n m : ℕ) → m ≡ n / 64 + 1 → IsAbove (replicate n false) (replicate m false)
 above_empty n m e =
     record {
@@ -138,7 +138,7 @@ upper_less lower upper p none a =
       covers = λ j h. has_other upper p (j / 64) (λ e. true≢false (sym h ∙ none j e)) (a.covers j h);
     }
 
--- the least of the least word is the least
+-- The least number in the least word is the least of all.
 pub least_of_least : (lower upper : List Bool) (p k : ℕ) → IsAbove lower upper → ((v : ℕ) → has upper v ≡ true → p ≤ v) → k / 64 ≡ p → ((j : ℕ) → j / 64 ≡ p → has lower j ≡ true → k ≤ j) → (j : ℕ) → has lower j ≡ true → k ≤ j
 least_of_least lower upper p k a above at within j h =
     let le = above (j / 64) (a.covers j h) in

@@ -1,4 +1,4 @@
--- Each place stands once in its row.
+-- Each place is in its row once.
 use Rattle.std.proofs.Common.{◌≡◌, ◌≢◌, ℕ, zero, suc, ◌+◌, ◌<◌, ◌≤◌, ◌⊎◌, inl, inr, Bool, true, false, ◌||◌, eqb, List, [], ◌∷◌, length, get_or, drop, set, refl, sym, arith, get_or-set_same, get_or-set_other}
 use Rattle.std.proofs.lemmas.Bool.{cases_eq, cases_Bool, eq-eqb}
 use Rattle.std.proofs.lemmas.Bool.Decides.{eqb_tells}
@@ -77,7 +77,7 @@ drop_whole [] (suc k) h = refl
 drop_whole (x ∷ xs) zero h = absurd (omega arith)
 drop_whole (x ∷ xs) (suc k) h = drop_whole xs k (omega arith)
 
--- marks that were set
+-- A mark that was just set is set.
 pub done_same : (done : List Bool) (v : ℕ) → v < length done → IsDone (set done v true) v
 done_same done v h = get_or-set_same done v true false h
 
@@ -87,7 +87,7 @@ done_kept done v a h d = elim (cases_eq a v) [ inl e ↦ rw e (done_same done v 
 pub done_which : (done : List Bool) (v a : ℕ) → IsDone (set done v true) a → (a ≡ v) ⊎ IsDone done a
 done_which done v a d = elim (cases_eq a v) [ inl e ↦ inl e | inr ne ↦ inr (rw (get_or-set_other done v a true false ne) at d) ]
 
--- once v is marked, its edges take its place
+-- Once `v` is marked, its out-edges are left in its place.
 pub left_start : (es : List Edge) (done : List Bool) (v : ℕ) → ¬ IsDone done v → v < length done → (i : ℕ) → i < length (sources es) → is_left es (set done v true) (places v (sources es)) 0 i ≡ is_fresh es done i
 left_start es done v fresh lv i h =
     elim (cases_eq (get_or (sources es) i 0) v) [
@@ -109,7 +109,7 @@ left_start es done v fresh lv i h =
 pub left_end : (es : List Edge) (done : List Bool) (row : List ℕ) (k : ℕ) → length row ≤ k → (i : ℕ) → is_fresh es done i ≡ is_left es done row k i
 left_end es done row k h i = rw (drop_whole row k h) (sym (or_false _))
 
--- the edge at place k leaves
+-- The edge at place `k` is removed from those left.
 pub record Steps (p n : ℕ) (left next : ℕ → Bool) : Type 0 where
   pub within : p < n
   pub on : left p ≡ true

@@ -22,7 +22,7 @@ use Rattle.digraph_orders.proofs.Available.{rank_same, path_node}
 -- ---- along the order
 
 module _ (g : Graph) (ok : IsDigraph g) (ranks : List ℕ) (r : IsRanking g ranks) (list : List ℕ) (o : IsOrder g.edges g.nodes list) where
-  -- between two nodes of one component stand nodes of it alone
+  -- Between two nodes of one component there are only nodes of that component.
   pub together : (i k j : ℕ) → i < k → k < j → j < g.nodes → rank_at list ranks i ≡ rank_at list ranks j → rank_at list ranks i ≡ rank_at list ranks k
   together i k j lk lj h same =
       let hk : k < g.nodes = omega arith in
@@ -107,7 +107,7 @@ module _ (g : Graph) (ok : IsDigraph g) (ranks : List ℕ) (r : IsRanking g rank
     pub number_below : (i : ℕ) → i < g.nodes → get_or numbers i 0 < count
     number_below i h = omega (arith, number_rises i (g.nodes - 1) (omega arith) (omega arith), a.last (g.nodes - 1) (omega arith))
 
-    -- each number up to that of place i stands at some place
+    -- Each number up to that of place `i` is at some place.
     number_found : (i c : ℕ) → i < g.nodes → c ≤ get_or numbers i 0 → (j : ℕ) × (j < g.nodes) × (get_or numbers j 0 ≡ c)
     number_found zero c h le = (0, h, omega (arith, a.first (omega arith)))
     number_found (suc i) c h le =
@@ -126,7 +126,7 @@ module _ (g : Graph) (ok : IsDigraph g) (ranks : List ℕ) (r : IsRanking g rank
           | inr some ↦ number_found (g.nodes - 1) c (omega arith) (omega (arith, a.last (g.nodes - 1) (omega arith)))
         ]
 
-    -- each node has the number of its place
+    -- Each node has the number of its place.
     module _ (component : List ℕ) (long : length component ≡ g.nodes) (put : (i : ℕ) → i < g.nodes → get_or component (get_or list i 0) 0 ≡ get_or numbers i 0) where
       place_of : (v : ℕ) → v < g.nodes → (k : ℕ) × (k < g.nodes) × (get_or list k 0 ≡ v)
       place_of v h =
@@ -222,7 +222,7 @@ numbered_more list ranks numbers count next a first stays steps =
           ];
     }
 
--- a number that isn't below c, at the end, changes nothing of those below c
+-- Appending a number that is at least `c` doesn't change the count below `c`.
 below_push : (c : ℕ) (xs : List ℕ) (y : ℕ) → c ≤ y → below c (xs ++ y ∷ []) ≡ below c xs
 below_push c [] y h = rw (le-ltb y c h) refl
 below_push c (x ∷ xs) y h = rw (below_push c xs y h) refl
@@ -231,7 +231,7 @@ below_all : (c : ℕ) (xs : List ℕ) → ((i : ℕ) → i < length xs → get_o
 below_all c [] h = refl
 below_all c (x ∷ xs) h = rw (lt-ltb x c (h 0 (omega arith))) (omega (arith, below_all c xs (λ i l. h (suc i) (omega arith))))
 
--- one component more begins behind all numbers
+-- A new component begins after all numbers so far.
 pub begun_last : (numbers begins : List ℕ) (p : ℕ) → AreBegun numbers begins → ((i : ℕ) → i < length numbers → get_or numbers i 0 < length begins) → p ≡ length numbers → AreBegun numbers (begins ++ p ∷ [])
 begun_last numbers begins p begun low is c h =
     elim (cases_eq c (length begins)) [
@@ -241,7 +241,7 @@ begun_last numbers begins p begun low is c h =
           rw (get_or_append_left begins (p ∷ []) 0 c l) (begun c l)
     ]
 
--- what is known while components are numbered
+-- The state while components are numbered.
 pub record IsNumbering (list ranks numbers begins : List ℕ) (place : ℕ) : Type 0 where
   pub long : length numbers ≡ place
   pub numbered : AreNumbered list ranks numbers (length begins)
@@ -269,7 +269,7 @@ low_more numbers n m le some low i h =
 begun_push : (numbers begins : List ℕ) → AreBegun numbers begins → AreBegun (numbers ++ (length begins - 1) ∷ []) begins
 begun_push numbers begins begun c h = begun c h ∙ sym (below_push c numbers (length begins - 1) (omega arith))
 
--- one place more, with its component's begin where it has one
+-- Numbering one more place, with a new begin if the component is new.
 pub numbering_more : (list ranks numbers begins begins' : List ℕ) (place : ℕ) → IsNumbering list ranks numbers begins place
     → (place ≡ 0 → begins' ≡ begins ++ place ∷ [])
     → ((i : ℕ) → i + 1 ≡ place → rank_at list ranks i ≡ rank_at list ranks place → begins' ≡ begins)
@@ -315,7 +315,7 @@ numbering_more list ranks numbers begins begins' place n first stays steps =
           },
         )
 
--- one node more has its number
+-- Writing the number of one more node.
 pub scattered_more : (list numbers numbered : List ℕ) (k x y : ℕ) → k < length list → get_or list k 0 ≡ x → x < length numbered → get_or numbers k 0 ≡ y → AreApart list
     → ((i : ℕ) → i < k → get_or numbered (get_or list i 0) 0 ≡ get_or numbers i 0)
     → (i : ℕ) → i < k + 1 → get_or (set numbered x y) (get_or list i 0) 0 ≡ get_or numbers i 0
@@ -327,7 +327,7 @@ scattered_more list numbers numbered k x y h lx inside ny apart before i l =
 
 -- ---- the nodes of one component
 
--- where the numbers ascend, those that are c stand together, behind those below c
+-- If `f` ascends along the list, the elements with value `c` are consecutive, after those below.
 pub run_of : (f : ℕ → ℕ) (xs : List ℕ) (c : ℕ) → ((i j : ℕ) → i < j → j < length xs → f (get_or xs i 0) ≤ f (get_or xs j 0))
     → take (below (c + 1) (map f xs) - below c (map f xs)) (drop (below c (map f xs)) xs) ≡ filter (λ v. eqb (f v) c) xs
 run_of f [] c rising = refl
@@ -360,7 +360,7 @@ run_of f (x ∷ xs) c rising =
     step : (a b : ℕ) → a ≡ 0 → b ≡ 0 → take (b - a) (drop a xs) ≡ filter (λ v. eqb (f v) c) xs → take (0 + b - (0 + a)) (drop (0 + a) (x ∷ xs)) ≡ filter (λ v. eqb (f v) c) xs
     step a b za zb e = rw (za, zb) (rw (za, zb) at e)
 
--- where the numbers ascend along the list, counting those below each number groups it
+-- If component numbers ascend along the list, the counts below each number group the list.
 pub grouped : (count : ℕ) (list component numbers begins : List ℕ) → numbers_of list component ≡ numbers
     → ((i j : ℕ) → i < j → j < length list → get_or component (get_or list i 0) 0 ≤ get_or component (get_or list j 0) 0)
     → length begins ≡ count + 1 → ((c : ℕ) → c ≤ count → get_or begins c 0 ≡ below c numbers) → AreGrouped count list component begins

@@ -1,4 +1,4 @@
--- What a mark and the passing of an edge do to a plan.
+-- Marking a node and passing an edge keep a plan.
 use Rattle.std.proofs.Common.{◌≡◌, ◌≢◌, ℕ, suc, ◌+◌, ◌<◌, ◌⊎◌, inl, inr, Bool, true, false, ◌&&◌, eqb, not, List, [], ◌∷◌, ◌++◌, length, get_or, take, map, set, refl, ap, sym, ◌∙◌, arith, get_or-set_same, get_or-set_other, length-append}
 use Rattle.std.proofs.Math.ListN.{length-set}
 use Rattle.std.proofs.lemmas.Bool.{cases_eq, cases_lt, cases_Bool, eq-eqb}
@@ -16,7 +16,7 @@ use Rattle.digraph_orders.proofs.CountLemmas.{count_fewer, tally_same, tally_ski
 use Rattle.digraph_orders.proofs.PlanLemmas.{eqb_false}
 use Rattle.digraph_orders.proofs.RowLemmas.{done_same, done_kept, done_which, left_start, Steps}
 
--- a head stays one while no new node comes into its component, and the counts there stay
+-- A head stays a head if its component has no new node and no new counts.
 pub head_same : (n : ℕ) (ranks held held' : List ℕ) (done done' : List Bool) (x : ℕ) → IsHead n ranks held done x → ¬ IsDone done' x
     → ((u : ℕ) → ¬ IsDone done' u → ¬ IsDone done u)
     → ((u : ℕ) → get_or ranks u 0 ≡ get_or ranks x 0 → get_or held' u 0 ≡ get_or held u 0)
@@ -43,7 +43,7 @@ ordered_push P listed v old new k h =
           rw (front, take_all k listed (omega arith), get_or_at listed v [] 0 k is) new
     ]
 
--- one node fewer isn't done
+-- Marking a node leaves one node fewer that isn't done.
 unseen_less : (done : List Bool) (v n : ℕ) → v < n → v < length done → ¬ IsDone done v → count_below (λ i. not (get_or done i false)) n ≡ suc (count_below (λ i. not (get_or (set done v true) i false)) n)
 unseen_less done v n lv inside fresh =
     let off : get_or done v false ≡ false = elim (cases_Bool (get_or done v false)) [ inl t ↦ absurd (fresh t) | inr f ↦ f ] in
@@ -51,7 +51,7 @@ unseen_less done v n lv inside fresh =
     count_fewer (λ i. not (get_or done i false)) (λ i. not (get_or (set done v true) i false)) n v lv (rw off refl) (rw on refl)
     (λ i ne. rw (get_or-set_other done v i true false ne) refl)
 
--- a number that is done may go from the starts
+-- A start that is done may be removed.
 pub plan_cut : (g : Graph) (ranks listed : List ℕ) (done done' : List Bool) (left : ℕ → Bool) (outside held before starts : List ℕ) (v : ℕ) → IsPlan g ranks listed done' left outside held before → IsDone done' v
     → ((u : ℕ) → ¬ IsDone done' u → ¬ IsDone done u) → AreCut done before v starts → IsPlan g ranks listed done' left outside held starts
 plan_cut g ranks listed done done' left outside held before starts v p d older cut =
@@ -76,7 +76,7 @@ plan_cut g ranks listed done done' left outside held before starts v p d older c
     }
 
 module _ (g : Graph) (ranks listed : List ℕ) (done : List Bool) (outside held starts : List ℕ) (v : ℕ) where
-  -- the next node is listed and marked, and its edges wait to be passed
+  -- Listing and marking the next node leaves its edges to be passed.
   pub plan_mark : IsPlan g ranks listed done (is_fresh g.edges done) outside held starts → v < g.nodes → ¬ IsDone done v → get_or outside (get_or ranks v 0) 0 ≡ 0 → IsNext g.edges g.nodes listed v
       → IsPlan g ranks (listed ++ v ∷ []) (set done v true) (is_left g.edges (set done v true) (places v (sources g.edges)) 0) outside held starts
   plan_mark p lv fresh zero_v next =
@@ -129,7 +129,7 @@ module _ (g : Graph) (ranks listed : List ℕ) (done : List Bool) (outside held 
             ];
       }
 
-  -- the node leaves what waits in its component
+  -- Removing the marked node from the queues of its component keeps `IsRun`.
   pub run_mark : (ready ready' rest rest' : List ℕ) → IsRun g ranks done held ready rest (get_or ranks v 0) → v < length done → AreCut done ready v ready' → AreCut done rest v rest'
       → IsRun g ranks (set done v true) held ready' rest' (get_or ranks v 0)
   run_mark ready ready' rest rest' r inside a b =
@@ -188,7 +188,7 @@ module _ (g : Graph) (ranks listed : List ℕ) (done : List Bool) (left next : �
       and_off true = refl
       and_off false = refl
 
-  -- an edge into another component
+  -- Passing an edge into another component.
   pub pass_outside : get_or ranks a 0 ≢ get_or ranks b 0
       → (0 < get_or outside (get_or ranks b 0) 0)
       × ((k : ℕ) (starts' : List ℕ) → k + 1 ≡ get_or outside (get_or ranks b 0) 0 → AreStarts g.nodes ranks held done k (get_or ranks b 0) starts starts' → IsPlan g ranks listed done next (set outside (get_or ranks b 0) k) held starts')
@@ -242,7 +242,7 @@ module _ (g : Graph) (ranks listed : List ℕ) (done : List Bool) (left next : �
             },
       )
 
-  -- a firm edge to another node of the component
+  -- Passing an edge that isn't dev-only to another node of the same component.
   pub pass_held : get_or ranks a 0 ≡ get_or ranks b 0 → a ≢ b → get_or (map (λ (e : Edge). e.non_dev) g.edges) i false ≡ true
       → (0 < get_or held b 0) × ((k : ℕ) → k + 1 ≡ get_or held b 0 → IsPlan g ranks listed done next outside (set held b k) starts)
   pass_held same ne firm =
@@ -291,7 +291,7 @@ module _ (g : Graph) (ranks listed : List ℕ) (done : List Bool) (left next : �
             },
       )
 
-  -- any other edge inside the component
+  -- Passing any other edge inside the component.
   pub pass_idle : get_or ranks a 0 ≡ get_or ranks b 0 → (a ≡ b) ⊎ (get_or (map (λ (e : Edge). e.non_dev) g.edges) i false ≡ false) → IsPlan g ranks listed done next outside held starts
   pass_idle same idle =
       record {
@@ -327,7 +327,7 @@ module _ (g : Graph) (ranks listed : List ℕ) (done : List Bool) (left next : �
                 ]
           ]
 
--- a hold of b went: b may be ready now
+-- Subtracting a hold of `b` keeps `IsRun`; `b` may become ready.
 pub run_held : (g : Graph) (ranks : List ℕ) (done : List Bool) (held ready ready' rest : List ℕ) (b k : ℕ) → IsRun g ranks done held ready rest (get_or ranks b 0) → b < length held → b < g.nodes → k + 1 ≡ get_or held b 0
     → AreReady k b ready ready'
     → IsRun g ranks done (set held b k) ready' rest (get_or ranks b 0)

@@ -1,4 +1,4 @@
--- What an order says: the list T, the component of each node, and how many components there are.
+-- The value of an order: the list of nodes, the component of each node, and the number of components.
 use Rattle.std.specs.Prelude.{◌≡◌, ℕ, ◌<◌, ◌≤◌, List, length, slice_index}
 use Rattle.guppy_support.specs.Paths.{SameComponent}
 use Rattle.guppy_support.specs.Graph.{Graph}
@@ -12,7 +12,7 @@ pub record Sequence : Type 0 where
 abbrev pub component_of : Sequence → ℕ → ℕ
 component_of o v = slice_index o.component v
 
--- the order and the components of the digraph, which are numbered by their first place in the order
+-- The order of a digraph and its components, which are numbered by their first place in the order.
 pub record IsOrderOf (g : Graph) (o : Sequence) : Type 0 where
   pub order : IsOrder g.edges g.nodes o.list
   pub long : length o.component ≡ g.nodes
@@ -22,7 +22,7 @@ pub record IsOrderOf (g : Graph) (o : Sequence) : Type 0 where
   pub below : (v : ℕ) → v < g.nodes → component_of o v < o.count
   pub each : (c : ℕ) → c < o.count → (v : ℕ) × (v < g.nodes) × (component_of o v ≡ c)
 
--- what is true of an order's value by itself: it lists each node once, and gives each a component
+-- The invariant of an order's value: it lists each node once, and assigns each a component.
 pub record IsSequence (o : Sequence) : Type 0 where
   pub each : ListsEach (length o.list) o.list
   pub long : length o.component ≡ length o.list

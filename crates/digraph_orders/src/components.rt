@@ -1,4 +1,4 @@
-//! Components, by one walk.
+//! Components of a digraph, found in one depth-first walk.
 ghost use Rattle.std.specs.Prelude.{ℕ, ◌<◌, IfOk, slice_index};
 ghost use Rattle.digraph_orders.specs.inner.Ranks.{IsRanking};
 ghost use Rattle.digraph_orders.specs.inner.Widths.{IsNarrow};
@@ -9,18 +9,19 @@ use guppy_support::Digraph;
 use std::alloc::{AllocError, Global};
 use walk::{lowered, walked};
 
-/// Twice as many nodes have numbers that fit in 32 bits.
+/// The most nodes for which twice the number of nodes fits in 32 bits.
 const MOST_NODES: usize = 2147483647;
 
-/// The rank of each node's component.
+/// The components as ranks.
 #[derive(Drop)]
 pub(crate) struct Ranked {
     pub(crate) ranks: Vec<u32>,
-    /// How many ranks there are.
+    /// The number of distinct ranks.
     pub(crate) count: usize,
 }
 
-/// The rank of each node's component: ranks never fall along an edge. Too many nodes are answered as want of memory.
+/// Returns the rank of each node's component; ranks never fall along an edge. Returns `AllocError` if an
+/// allocation fails or there are more than 2147483647 nodes.
 pub(crate) fn component_ranks(alloc: Global, graph: &Digraph) -> Result<Ranked, AllocError>
     requires narrow { IsNarrow graph.now }
     ensures ranking { IfOk result (λ r. IsRanking graph.now r.ranks.items) }

@@ -24,7 +24,7 @@ use numbering::{numbered, placed, scattered};
 use std::alloc::{AllocError, Global};
 use std::marker::Model;
 
-/// All nodes of a digraph in an order in which sources come before targets as far as cycles allow, and their components.
+/// All nodes of a digraph in an order, and their components. Sources are before targets as far as cycles allow.
 /// Two nodes are in one component if paths lead both ways.
 #[derive(Debug, Drop)]
 pub struct Order {
@@ -50,8 +50,9 @@ impl Model for Order {
 }
 
 impl Order {
-    /// The order and the components of the digraph. Each next node is the least-numbered one that may come next.
-    /// More nodes than 2147483647, or edges than 4294967295, are refused as want of memory.
+    /// Computes the order and the components of `graph`. Each next node is the least-numbered one that is
+    /// available. Returns `AllocError` if an allocation fails, or if there are more than 2147483647 nodes or
+    /// 4294967295 edges.
     pub fn new(alloc: Global, graph: &Digraph) -> Result<Order, AllocError>
         ensures { IfOk result (IsOrderOf graph.now) }
     {
@@ -76,21 +77,21 @@ impl Order {
         })
     }
 
-    /// Does nothing: its contract is what is true of each order by itself.
+    /// Does nothing. The contract states the invariant: each order meets `IsSequence`.
     pub fn facts(&self)
         ensures { IsSequence self.now }
     {
         let _count = self.count;
     }
 
-    /// All nodes, in order.
+    /// Returns all nodes, in order.
     pub fn list(&self) -> &[usize]
         ensures { result.now ≡ self.now.list }
     {
         &self.list
     }
 
-    /// The place of the node in the list.
+    /// Returns the place of `node` in the list.
     pub fn place(&self, node: usize) -> usize
         requires { node < length self.now.list }
         ensures { slice_get self.now.list result ≡ Some node }
@@ -98,14 +99,14 @@ impl Order {
         self.places[node] as usize
     }
 
-    /// How many components there are.
+    /// Returns the number of components.
     pub fn component_count(&self) -> usize
         ensures { result ≡ self.now.count }
     {
         self.count
     }
 
-    /// The number of the node's component. Components are numbered by their first place in the order.
+    /// Returns the number of `node`'s component. Components are numbered by their first place in the order.
     pub fn component(&self, node: usize) -> usize
         requires { node < length self.now.component }
         ensures { result ≡ component_of self.now node }
@@ -113,7 +114,7 @@ impl Order {
         self.components[node] as usize
     }
 
-    /// Whether two nodes are in one component: paths lead both ways.
+    /// Returns true if `a` and `b` are in one component: paths lead both ways.
     pub fn is_same(&self, a: usize, b: usize) -> bool
         requires a { a < length self.now.component }
         requires b { b < length self.now.component }
@@ -123,7 +124,7 @@ impl Order {
         self.components[a] == self.components[b]
     }
 
-    /// The nodes of the component of that number, in order.
+    /// Returns the nodes of the component with this number, in order.
     pub fn component_nodes(&self, component: usize) -> &[usize]
         requires { component < self.now.count }
         ensures { result.now ≡ filter (λ v. component_of self.now v == component) self.now.list }
@@ -132,7 +133,7 @@ impl Order {
     }
 }
 
-// The order of the nodes, from the ranks of their components.
+// Returns the list of the order, from the ranks of the nodes' components.
 fn listed(alloc: Global, graph: &Digraph, ranks: &[u32]) -> Result<Vec<usize>, AllocError>
     requires setup { IsSetup graph.now ranks.now }
     ensures { IfOk result (λ list. IsOrder graph.now.edges graph.now.nodes list.items) }

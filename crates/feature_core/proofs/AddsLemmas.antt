@@ -21,7 +21,7 @@ Contains-cases x xs y h = at_cons x xs y h.0 h.1 h.2
 pub Contains-none : {X : Type 0} (x : X) → Contains [] x → ⊥
 Contains-none x h = omega (arith, h.1)
 
--- an element stands at some place
+-- an element has a place
 pub place_of_element : {X : Type 0} (xs : List X) (x : X) → Contains xs x → (k : ℕ) × (slice_get xs k ≡ Some x)
 place_of_element [] x h = absurd (Contains-none x h)
 place_of_element (y ∷ ys) x h = ⊎_elim
@@ -59,7 +59,7 @@ module _ {X : Type 0} where
     nothing_else = λ x h. ⊎_elim (λ i. ⊎_elim (λ j. inl j) (λ j. inr (inl j)) (f.nothing_else x i)) (λ i. inr (inr i)) (s.nothing_else x h);
   }
 
-  -- what was added may then be put in order
+  -- the added elements may be permuted
   pub Adds-permuted : (P : X → Type 0) (a b c : List X) → Adds P a b → IsPermutation b c → Adds P a c
   Adds-permuted P a b c f moved = record {
     kept = λ x h. Contains-permutation b c x moved (f.kept x h);
@@ -67,7 +67,7 @@ module _ {X : Type 0} where
     nothing_else = λ x h. f.nothing_else x (Contains-permutation c b x (IsPermutation-sym b c moved) h);
   }
 
-  -- what is added may be said in another way
+  -- the property of the added elements may be replaced by an equivalent one
   pub Adds-as : (P Q : X → Type 0) (a b : List X) → ((x : X) → P x → Q x) → ((x : X) → Q x → P x) → Adds P a b → Adds Q a b
   Adds-as P Q a b f g h = record {
     kept = h.kept;
@@ -84,7 +84,7 @@ module _ {X : Type 0} where
       split : (k m : ℕ) → k < m + 1 → (k < m) ⊎ (k ≡ m)
       split k m l = grind arith
 
-  -- one more turn of a loop
+  -- one more iteration of a loop
   pub Adds-turn : (P : ℕ → X → Type 0) (n : ℕ) (a b c : List X) → Adds (Below n P) a b → Adds (P n) b c → Adds (Below (n + 1) P) a c
   Adds-turn P n a b c f s = Adds-as (λ x. Below n P x ⊎ P n x) (Below (n + 1) P) a c
       (λ x h. ⊎_elim (λ i. (i.0, omega (arith, i.1), i.2)) (λ i. (n, omega arith, i)) h)

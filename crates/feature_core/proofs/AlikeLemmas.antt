@@ -1,4 +1,4 @@
--- The edges of alike keys say the same.
+-- The edges of alike keys are equal.
 use Rattle.std.proofs.Common.{◌≡◌, ℕ, zero, suc, ◌⊎◌, inl, inr, ⊎_elim, List, [], ◌∷◌, ◌++◌, ◌+◌, ◌<◌, length, map, take, Bool, true, Some, refl, ap, sym, ◌∙◌, subst, arith, length-append}
 use Rattle.std.specs.Prelude.{slice_get, IsTrue, Contains}
 use Rattle.std.proofs.lemmas.List.{append_assoc, length-take-le}
@@ -73,7 +73,7 @@ module _ (t : Tables) (x y : Key) (l m : LinkFacts) where
   pub beside_alike : x.to ≡ y.to → SaysBeside t x l → SaysBeside t y m → l ≡ m
   beside_alike h a b = a.is ∙ by_one t Optional a.p b.p a.d b.d (one_text t y.to a.p b.p a.d b.d (subst (λ z. NodeAt t z a.p (optional a.d) ⊎ NodeAt t z a.p (named a.d)) h a.to_node) b.to_node) ∙ sym b.is
 
--- the declarations that an edge covers, by where it starts
+-- the source of an edge determines the declarations that it covers
 one_half : (t : Tables) (n : ℕ) (a b : LinkDeclarations) (v w : LinkTable)
     → ((a ≡ Required) × NodeAt t n v.from base) ⊎ ((a ≡ Optional) × NodeAt t n v.from (optional v.name))
     → ((b ≡ Required) × NodeAt t n w.from base) ⊎ ((b ≡ Optional) × NodeAt t n w.from (optional w.name)) → a ≡ b
@@ -82,7 +82,7 @@ one_half t n a b v w (inl p) (inr q) = let no = same_label t n v.from w.from bas
 one_half t n a b v w (inr p) (inl q) = let no = same_label t n v.from w.from (optional v.name) base p.1 q.1 in cc
 one_half t n a b v w (inr p) (inr q) = p.0 ∙ sym q.0
 
--- a section over a link of one declaration says that one alone
+-- a section over a link with one declaration covers all of its declarations
 section_whole : (t : Tables) → AreTables t → (x : Key) (l : LinkFacts) → IsOfTables t x → x.rank ≡ 7 → IsSingle t x.source → (s : SaysSection t x l) → l ≡ over s.which (λ d. true) ((x.source, s.link) ∷ [])
 section_whole t tables x l h r single s =
     let o = of_link t tables x l s x h r refl refl in
@@ -100,7 +100,7 @@ section_alike t tables x y l m hx hy rx ry source from single a b =
     ∙ sym (section_whole t tables y m hy ry single b)
 
 module _ (t : Tables) (tables : AreTables t) (weak : List ℕ) (x y : Key) (hx : IsOfTables t x) (hy : IsOfTables t y) (f : EdgeFacts) (v : IsValueOf t weak x f) where
-  -- a value of one key, where both tell the same edge
+  -- the value of one key is a value of another, if both determine the same edge
   by_told : (make other : LinkFacts → Edge) (A B : LinkFacts → Type 0) (o : IsTold t x make A) (p : IsTold t y other B) → make o.link ≡ other p.link → IsValueOf t weak y f
   by_told make other A B o p same =
       let edge : v.edge ≡ make o.link = same_rank t tables x.from x.to v.edge (make o.link) v.candidate o.candidate (sym v.rank ∙ o.rank) in
@@ -146,7 +146,7 @@ module _ (t : Tables) (tables : AreTables t) (weak : List ℕ) (x y : Key) (hx :
   by_subject r (one_link k source) = ⊎_elim (λ q. alike_full (r ∙ q) q source) (λ q. alike_weak (r ∙ q) q source) k
   by_subject r (one_declaration q source from single) = alike_section (r ∙ q) q source from single
 
--- what is built of a key is built of each key that is alike
+-- a value of a key is a value of each alike key
 pub alike_value : (t : Tables) → AreTables t → (x y : Key) → IsOfTables t x → IsOfTables t y → AreAlike t x y → (weak : List ℕ) (f : EdgeFacts) → IsValueOf t weak x f → IsValueOf t weak y f
 alike_value t tables x y hx hy h weak f v = by_subject t tables weak x y hx hy f v h.rank h.subject
 
@@ -156,7 +156,7 @@ get_taken (suc i) k [] x l h = cc
 get_taken (suc i) zero (y ∷ xs) x l h = h
 get_taken (suc i) (suc k) (y ∷ xs) x l h = get_taken i k xs x (omega (arith, l)) h
 
--- what the edge of an alike key says is told of the key
+-- the edge of an alike key is the next edge
 pub next_repeated : (t : Tables) → AreTables t → (kept : List Key) (ix near number : ℕ) (x y : Key) (old new : MadeEdges) (f : EdgeFacts) → IsOfTables t x → IsOfTables t y
     → near < ix → ix < length kept → slice_get kept near ≡ Some x → AreAlike t x y → number + ix ≡ length old.edges + near → slice_get old.edges number ≡ Some f → IsAppended y f old new → IsNext t kept ix y old new
 next_repeated t tables kept ix near number x y old new f hx hy before within at alike count says appended = record {
@@ -194,10 +194,10 @@ next_made t done kept ix x old mid new more at links gates grown edges ends n h 
     (λ rest. subst (λ z. IsValueOf t (map (λ e. e.0) z ++ rest) x n.says) (sym same) (value rest))
     h)
 
--- what is said of the key at a place is said of any key there
+-- the next edge is that of any key at the place
 pub next_there : (t : Tables) (kept : List Key) (ix : ℕ) (x y : Key) (old new : MadeEdges) → slice_get kept ix ≡ Some x → slice_get kept ix ≡ Some y → IsNext t kept ix x old new → IsNext t kept ix y old new
 next_there t kept ix x y old new a b n = subst (λ z. IsNext t kept ix z old new) (same_got kept ix x y a b) n
 
--- what is noted of the key at a place is noted of any key there
+-- the note for a key at a place is that for any key there
 pub noted_there : (kept : List Key) (ix : ℕ) (x y : Key) (numbers : List ℕ) → slice_get kept ix ≡ Some x → slice_get kept ix ≡ Some y → (x.rank ≡ 6 → Contains numbers x.source) → y.rank ≡ 6 → Contains numbers y.source
 noted_there kept ix x y numbers a b = subst (λ z. z.rank ≡ 6 → Contains numbers z.source) (same_got kept ix x y a b)

@@ -1,4 +1,4 @@
--- Facts on tests.
+-- Facts about tests.
 use Rattle.std.proofs.Common.{◌≡◌, Bool, true, false, ◌&&◌, ◌||◌, ◌⊎◌, refl, sym, ◌∙◌, inl, inr}
 use Rattle.std.specs.Prelude.{IsTrue, IsFalse}
 

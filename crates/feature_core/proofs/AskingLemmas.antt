@@ -1,4 +1,4 @@
--- What a source of edges holds, and what it tells.
+-- The content of a source of edges, and its results.
 use Rattle.std.proofs.Common.{◌≡◌, ℕ, suc, ◌<◌, Bool, List, [], ◌∷◌, Option, Some, length, map, refl, sym, ◌∙◌, ap, subst, arith}
 use Rattle.std.specs.Prelude.{IsTrue, ◌==◌, slice_get}
 use Rattle.std.specs.Option.{option_map}
@@ -36,7 +36,7 @@ gate_there : (asking : Asking) (g : Graph) (fs : List EdgeFacts) (f : EdgeFacts)
 gate_there (Offers weak released) g fs f some tied = gate_within weak.now.entries g.nodes f some tied.gates
 gate_there (Chosen which) g fs f some tied = some
 
--- the edge at a place of those that wait for the gate
+-- the edge at a place among those that wait for the gate
 pub release_held : (asking : Asking) (direction : DependencyDirection) (g : Graph) (fs : List EdgeFacts) (gate place : ℕ) (found : Option ℕ) → IsTied asking g fs → found ≡ released_place asking direction gate place → slice_get (releasing (held asking direction g.nodes (built_edges g.edges fs)) gate) place ≡ found
 release_held (Offers weak released) Forward g fs gate place found tied is = ap (λ (xs : List ℕ). slice_get xs place) (sym (releases_same g.nodes gate g fs weak.now.entries released.now tied)) ∙ sym is
 release_held (Offers weak released) Reverse g fs gate place found tied is = ap (λ (xs : List ℕ). slice_get xs place) (none_waits weak.now.entries gate 0 g.edges fs) ∙ sym is
@@ -53,7 +53,7 @@ module _ (asking : Asking) where
   pub take_held : (direction : DependencyDirection) (g : Graph) (fs : List EdgeFacts) (n place : ℕ) (found : Option ℕ) → IsTied asking g fs → found ≡ slice_get (starting (open_ways direction g) n) place → slice_get (starting (held asking direction g.nodes (built_edges g.edges fs)) n) place ≡ found
   take_held direction g fs n place found tied is = ap (λ (xs : List ℕ). slice_get xs place) (starts_same direction n 0 g.edges fs (tied_each asking g fs tied)) ∙ sym is
 
-  -- what stands in a list of numbers is the number of an edge
+  -- a number of a list of ways is the number of an edge
   pub number_below : (direction : DependencyDirection) (g : Graph) (fs : List EdgeFacts) (p : Way → Bool) (place k : ℕ) → IsTied asking g fs → slice_get (numbers_where p 0 (map (way_in asking direction) (built_edges g.edges fs))) place ≡ Some k → k < length g.edges
   number_below direction g fs p place k tied is =
       let edges = built_edges g.edges fs in
@@ -64,12 +64,12 @@ module _ (asking : Asking) where
   pub way_at : (direction : DependencyDirection) (es : List Edge) (fs : List EdgeFacts) (k : ℕ) (e : Edge) (f : EdgeFacts) → slice_get es k ≡ Some e → slice_get fs k ≡ Some f → slice_get (map (way_in asking direction) (built_edges es fs)) k ≡ Some (way_in asking direction (e.from, e.to, f))
   way_at direction es fs k e f p q = slice_get-map (way_in asking direction) (built_edges es fs) k ∙ ap (option_map (way_in asking direction)) (built_edge_at k es fs e f p q)
 
-  -- what is told of an edge
+  -- the edge as a walk takes it
   pub told_held : (direction : DependencyDirection) (nodes : ℕ) (es : List Edge) (fs : List EdgeFacts) (k : ℕ) (e : Edge) (f : EdgeFacts) → slice_get es k ≡ Some e → slice_get fs k ≡ Some f → ◌≡◌ {A = Option Taken} (Some (record { edge = k; far = (open_way direction e).far; ask = ask_in asking direction f })) (told (held asking direction nodes (built_edges es fs)) (Some k))
   told_held Forward nodes es fs k e f p q = sym (ap (taken_of k) (way_at Forward es fs k e f p q))
   told_held Reverse nodes es fs k e f p q = sym (ap (taken_of k) (way_at Reverse es fs k e f p q))
 
-  -- what a table tells of an edge
+  -- the edge as a table returns it
   pub tells_held : (direction : DependencyDirection) (nodes : ℕ) (es : List Edge) (fs : List EdgeFacts) (k : ℕ) (e : Edge) (f : EdgeFacts) (edge : TableEdge) → slice_get es k ≡ Some e → slice_get fs k ≡ Some f
       → edge.start ≡ (open_way direction e).start → edge.far ≡ (open_way direction e).far → edge.ask ≡ ask_in asking direction f → edge.gate ≡ gate_in asking f
       → Tells (slice_get (held asking direction nodes (built_edges es fs)).ways k) (Some edge)

@@ -1,4 +1,4 @@
--- The edges that are built of the least keys are those of the tables.
+-- The edges built from the least keys are those of the tables.
 use Rattle.std.proofs.Common.{◌≡◌, ℕ, zero, suc, ◌<◌, ⊎_elim, List, [], ◌∷◌, length, map, Bool, true, false, cond, Option, Some, None, refl, sym, ap, ◌∙◌, subst, arith}
 use Rattle.std.specs.Prelude.{◌↔◌, ◌==◌, Contains, All, AllPairs, slice_get, filter_map}
 use Rattle.std.specs.List.{zip, cons_option, list_any}
@@ -53,7 +53,7 @@ alone k link some = ap (λ b. map (λ (l : ℕ × LinkTable). l.0) (cond b ((k, 
     many [] l = absurd (omega (arith, l))
     many (d ∷ ds) l = refl
 
--- the facts of each key beside its pair
+-- the value of each key with its pair
 abbrev pub told : List Key → List EdgeFacts → List (ℕ × ℕ × EdgeFacts)
 told kept facts = map (λ p. (p.0.from, p.0.to, p.1)) (zip kept facts)
 
@@ -118,7 +118,7 @@ module _ (t : Tables) (tables : AreTables t) where
       (λ e. let r = told_into weak kept facts (tail_values weak k kept f facts v) y e in record { facts = r.facts; listed = Contains-later x rest (y.from, y.to, r.facts) r.listed; value = r.value })
       (Contains-cases k kept y h)
 
-  -- the weak links that the edges name are those that the keys name
+  -- the weak links of the edges are those of the keys
   named_by : (weak : List ℕ) (x : Key) (e : Edge) → x.rank ≡ rank_of e → Says t x e → weak_link (facts_of t weak e) ≡ weak_source x
   named_by weak x feature_to_base r s = no_source x (λ h. omega (arith, r, h))
   named_by weak x named_feature r s = no_source x (λ h. omega (arith, r, h))
@@ -203,7 +203,7 @@ ends_paired [] (f ∷ facts) h = refl
 ends_paired (k ∷ kept) [] h = absurd (omega (arith, h))
 ends_paired (k ∷ kept) (f ∷ facts) h = ap (λ z. (k.from, k.to) ∷ z) (ends_paired kept facts (omega (arith, h)))
 
--- the pairs of edges in order are those of the digraph
+-- the pairs of the built edges are those of the digraph
 pub built_ends : (edges : List End) (facts : List EdgeFacts) → length facts ≡ length edges → ends_of (built_edges edges facts) ≡ pairs_of edges
 built_ends [] [] h = refl
 built_ends [] (f ∷ facts) h = refl
@@ -216,7 +216,7 @@ built_long [] (f ∷ facts) h = refl
 built_long (e ∷ edges) [] h = absurd (omega (arith, h))
 built_long (e ∷ edges) (f ∷ facts) h = ap suc (built_long edges facts (omega (arith, h)))
 
--- an edge of the digraph, with what it says
+-- an edge of the digraph, with its value
 pub built_at : (edges : List End) (facts : List EdgeFacts) (k : ℕ) (e : End) (f : EdgeFacts) → slice_get edges k ≡ Some e → slice_get facts k ≡ Some f → slice_get (built_edges edges facts) k ≡ Some (e.from, e.to, f)
 built_at [] facts k e f h i = cc
 built_at (x ∷ edges) [] k e f h i = cc
@@ -229,7 +229,7 @@ built_at (x ∷ edges) (y ∷ facts) zero e f h i =
     same_some x y h = cc
 built_at (x ∷ edges) (y ∷ facts) (suc k) e f h i = built_at edges facts k e f h i
 
--- what was made of the least keys: the digraph's edges are their ends
+-- the values built from the least keys; the digraph's edges are their ends
 pub record IsMade (kept : List Key) (facts : List EdgeFacts) (digraph : List End) : Type 0 where
   pub long : length facts ≡ length kept
   pub ends : digraph ≡ map (λ p. edge_end p.0 p.1) (zip kept facts)
@@ -253,7 +253,7 @@ module _ (kept : List Key) (facts : List EdgeFacts) (digraph : List End) (made :
       let same : built_edges digraph facts ≡ map (λ p. (p.0.from, p.0.to, p.1)) (zip kept facts) = ap (λ z. built_edges z facts) made.ends ∙ ends_told kept facts made.long in
       subst (λ z. AreBuilt t z weak) (sym same) built
 
--- what was made of the least keys of all packages
+-- the edges built from the least keys of all packages
 module _ (t : Tables) (tables : AreTables t) (m : MadeEdges) (below : AreMadeBelow t (length t.packages) m) (digraph : List End) (is : digraph ≡ m.ends) where
   all_made : IsMade below.kept m.edges digraph
   all_made = record { long = (below.made.values []).long; ends = is ∙ below.made.ends }

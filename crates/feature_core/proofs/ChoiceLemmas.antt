@@ -19,7 +19,7 @@ use Rattle.feature_core.proofs.AddsLemmas.{Contains-first, Contains-later, Conta
 use Rattle.feature_core.proofs.PairLemmas.{Along-weaker, member_alike}
 use Rattle.feature_core.proofs.PushLemmas.{from_filter, into_filter, from_map, into_map}
 
--- all edges are chosen where all are to be
+-- `All` chooses all edges
 all_kept : (edges : List (ℕ × ℕ × EdgeFacts)) → filter (λ e. is_chosen All e.2) edges ≡ edges
 all_kept [] = refl
 all_kept (e ∷ edges) = ap (λ z. e ∷ z) (all_kept edges)
@@ -27,7 +27,7 @@ all_kept (e ∷ edges) = ap (λ z. e ∷ z) (all_kept edges)
 pub all_chosen : (edges : List (ℕ × ℕ × EdgeFacts)) → chosen_pairs All edges ≡ ends_of edges
 all_chosen edges = ap ends_of (all_kept edges)
 
--- an edge is chosen as what is built of it is
+-- an edge is chosen if and only if its built edge is
 chosen_same : (which : EdgeChoice) (t : Tables) (weak : List ℕ) (e : Edge) → is_chosen which (facts_of t weak e) ≡ is_chosen_edge which e
 chosen_same All t weak e = refl
 chosen_same FeatureToBaseAndNamed t weak feature_to_base = refl
@@ -48,7 +48,7 @@ same_or_not (a, b) (c, d) = ⊎_elim
     (λ p. inr (λ e. eqb-false a c p (ap (λ z. z.0) e)))
     (decide (a == c))
 
--- a pair of numbers stands in a list, or it doesn't
+-- a pair of numbers is in a list or not
 stands_or_not : (pairs : List (ℕ × ℕ)) (x : ℕ × ℕ) → Contains pairs x ⊎ (Contains pairs x → ⊥)
 stands_or_not [] x = inr (λ h. Contains-none x h)
 stands_or_not (p ∷ pairs) x = ⊎_elim
@@ -89,7 +89,7 @@ chosen_leads : (t : Tables) (b : Built) (which : EdgeChoice) (direction : Depend
 chosen_leads t b which Forward x u w = chosen_pair t which b.edges b.weak x.edges u w
 chosen_leads t b which Reverse x u w = chosen_pair t which b.edges b.weak x.edges w u
 
--- what is reached over the chosen pairs is what is reached over the chosen edges
+-- the reach over the chosen pairs is the reach over the chosen edges
 pub chosen_alike : (t : Tables) (b : Built) (which : EdgeChoice) (direction : DependencyDirection) (initials : ℕ → Bool) (n : ℕ) (P : Type 0) → IsBuilt t b → (P ↔ ReachAlong (PairLeads (chosen_pairs which b.edges) direction) initials n) → (P ↔ ChosenReach t which direction initials n)
 chosen_alike t b which direction initials n P x both =
     let by : ℕ → ℕ → Type 0 = PairLeads (chosen_pairs which b.edges) direction in
@@ -98,7 +98,7 @@ chosen_alike t b which direction initials n P x both =
       (λ r. both.1 (r.0, r.1, Along-weaker to by (λ u w. (chosen_leads t b which direction x u w).1) r.0 n r.2)),
     )
 
--- where all are chosen it is what is reached over all edges
+-- if all are chosen, it is the reach over all edges
 pub all_alike : (t : Tables) (b : Built) (which : EdgeChoice) (direction : DependencyDirection) (initials : ℕ → Bool) (n : ℕ) (P : Type 0) → which ≡ All → IsBuilt t b → (P ↔ ReachAlong (PairLeads (chosen_pairs which b.edges) direction) initials n) → (P ↔ Reach t direction initials n)
 all_alike t b which direction initials n P all x both =
     let same : chosen_pairs which b.edges ≡ ends_of b.edges = ap (λ z. chosen_pairs z b.edges) all ∙ all_chosen b.edges in

@@ -1,4 +1,4 @@
--- Chosen edges as ways that are open to all, and what is reached where each offer is refused.
+-- Chosen edges as unconditional ways, and the reach if each offer is refused.
 use Rattle.std.proofs.Common.{◌≡◌, ℕ, suc, Bool, true, false, ◌&&◌, ◌||◌, inl, inr, List, [], ◌∷◌, Some, map, refl, sym, ◌∙◌, ap, subst}
 use Rattle.std.specs.Prelude.{IsFalse, ◌==◌, ◌↔◌, slice_get, filter, Contains}
 use Rattle.std.proofs.lemmas.Option.{slice_get-map, slice_get-get_or, slice_get_within, get_or_from_slice_get}
@@ -36,7 +36,7 @@ or_false : (a b c : Bool) → b ≡ false → c ≡ false → ((a && b) || c) �
 or_false true b c p q = ap (λ z. z || c) p ∙ q
 or_false false b c p q = q
 
--- no offer was accepted where each is refused
+-- if each offer is refused, no offer was accepted
 pub none_accepted : {O : Type 0} (s : O) (run : List Call) (t : O) → GoesAlong {O = O} (λ _ _ _ answer _. answer ≡ false) s run t → (e : ℕ) (h : Half) → IsFalse (was_accepted run e h)
 none_accepted s [] t along e h = refl
 none_accepted s (call ∷ before) t (m, along, refused) e h = or_false (is_of call e h) call.answer (was_accepted before e h) refused (none_accepted s before m along e h)
@@ -53,7 +53,7 @@ way_leads : (which : EdgeChoice) (direction : DependencyDirection) (edges : List
 way_leads which Forward edges x h chosen = into_map (λ e. (e.0, e.1)) (filter (λ e. is_chosen which e.2) edges) x (into_filter (λ e. is_chosen which e.2) edges x h chosen)
 way_leads which Reverse edges x h chosen = into_map (λ e. (e.0, e.1)) (filter (λ e. is_chosen which e.2) edges) x (into_filter (λ e. is_chosen which e.2) edges x h chosen)
 
--- an edge from u to v that is chosen
+-- a chosen edge from `u` to `v`
 record IsChosenAt (which : EdgeChoice) (edges : List (ℕ × ℕ × EdgeFacts)) (u v : ℕ) : Type 0 where
   number : ℕ
   edge : ℕ × ℕ × EdgeFacts
@@ -118,6 +118,6 @@ module _ (which : EdgeChoice) (nodes : ℕ) (edges : List (ℕ × ℕ × EdgeFac
   by_pairs direction u v nowhere reach = reach
   by_pairs direction u v (onward {v = m} leads rest) reach = by_pairs direction m v rest (one_way direction u m leads reach)
 
-  -- what is reached where each offer is refused is what is reached over the chosen pairs
+  -- if each offer is refused, the reach is the reach over the chosen pairs
   pub reach_chosen_pairs : (direction : DependencyDirection) (n : ℕ) → Reach (chosen_content which direction nodes edges) I A n ↔ ReachAlong (PairLeads (chosen_pairs which edges) direction) I n
   reach_chosen_pairs direction n = (by_ways which direction nodes edges I A refused n, λ r. by_pairs direction r.0 n r.2 (r.0, [], r.1, refl))

@@ -1,4 +1,4 @@
--- What is on by default, from the walk over the edges that are built.
+-- The features that are on by default, from the walk over the built edges.
 use Rattle.std.proofs.Common.{◌≡◌, ℕ, ◌+◌, ◌<◌, ◌≤◌, ◌⊎◌, ⊎_elim, zero, suc, List, length, Bool, true, false, Option, Some, None, refl, sym, ap, ◌∙◌, subst, arith}
 use Rattle.std.specs.Prelude.{◌↔◌, IsTrue, slice_set, replicate, codes}
 use Rattle.std.proofs.lemmas.List.{length-map}
@@ -64,7 +64,7 @@ along_more : (Step : ℕ → ℕ → Type 0) (u v w : ℕ) → Along Step u v �
 along_more Step u v w (nowhere {u = a}) s = onward s nowhere
 along_more Step u v w (onward {u = a} {v = b} {w = c} step rest) s = onward step (along_more Step b c w rest s)
 
--- what is closed under steps has the end of each path from its members
+-- a set closed under steps contains the end of each path from its members
 along_in : (Step : ℕ → ℕ → Type 0) (S : ℕ → Type 0) → ((u w : ℕ) → Step u w → S u → S w) → (u w : ℕ) → Along Step u w → S u → S w
 along_in Step S f u w (nowhere {u = a}) s = s
 along_in Step S f u w (onward {u = a} {v = b} {w = c} step rest) s = along_in Step S f b c rest (f a b step s)
@@ -120,7 +120,7 @@ none_some n e = absurd (clash e)
     clash : ◌≡◌ {A = Option ℕ} None (Some n) → ⊥
     clash e = cc
 
--- where the package has a feature of that name
+-- the default feature, if the package has a feature of that name
 pub default_found : (t : Tables) (p node : ℕ) → ((n : ℕ) → ◌≡◌ {A = Option ℕ} (Some node) (Some n) ↔ NodeAt t n p (named (codes "default"))) → (n : ℕ) → (node ≡ n) ↔ IsDefaultFeature t p n
 default_found t p node h n = ((λ e. by_name ((h n).0 (ap Some e))), back n)
   where
@@ -128,7 +128,7 @@ default_found t p node h n = ((λ e. by_name ((h n).0 (ap Some e))), back n)
     back n (by_name at) = got_same node n ((h n).1 at)
     back n (by_base none at) = absurd (none node ((h node).0 refl))
 
--- where it has none
+-- the default feature, if it has none
 pub default_missing : (t : Tables) (p node : ℕ) → ((n : ℕ) → ◌≡◌ {A = Option ℕ} None (Some n) ↔ NodeAt t n p (named (codes "default"))) → NodeAt t node p base → (n : ℕ) → (node ≡ n) ↔ IsDefaultFeature t p n
 default_missing t p node h is n = ((λ e. by_base (λ m at. none_some m ((h m).1 at)) (subst (λ z. NodeAt t z p base) e is)), back n)
   where
@@ -163,7 +163,7 @@ next_start t p q node set e within d h n = (
     before_or_last : (a b : ℕ) → a < b + 1 → (a < b) ⊎ (a ≡ b)
     before_or_last a b l = grind arith
 
--- those of all packages
+-- the same for all packages
 pub all_starts : (t : Tables) (p : ℕ) (set : List Bool) → length t.packages ≤ p → ((n : ℕ) → IsTrue (has set n) ↔ Starts t p n) → (n : ℕ) → IsTrue (has set n) ↔ ((q : ℕ) × IsDefaultFeature t q n)
 all_starts t p set long h n = (
   (λ m. let s = (h n).0 m in (s.0, s.2)),

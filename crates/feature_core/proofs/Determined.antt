@@ -1,4 +1,4 @@
--- What is built of tables is determined.
+-- Tables determine the data built from them.
 use Rattle.std.proofs.Common.{◌≡◌, ℕ, suc, ◌+◌, ◌<◌, ◌⊎◌, length, get_or, ⊎_elim, List, ◌∷◌, [], Bool, true, false, map, refl, ap, sym, ◌∙◌, subst, arith, Some, None, Option}
 use Rattle.std.specs.Prelude.{◌↔◌, IsTrue, Contains, AllPairs, filter_map, slice_get}
 use Rattle.std.specs.List.{cons_option}
@@ -26,7 +26,7 @@ use Rattle.feature_core.specs.BuiltOnce.{Contains-prop}
 use Rattle.feature_core.proofs.Places.{IsSpread, node_back}
 use Rattle.feature_core.proofs.PushLemmas.{from_map, into_map}
 
--- ascending lists with the same elements are the same
+-- ascending lists with the same elements are equal
 module _ {X : Type 0} (R : X → X → Type 0) (never : (x y : X) → R x y → R y x → ⊥) where
   later_is : (x : X) (xs : List X) → AllPairs R (x ∷ xs) → (y : X) → Contains xs y → R x y
   later_is x xs h y c = subst (λ z. R x z) c.2 (AllPairs-first R x xs h c.0 y c.1)
@@ -58,7 +58,7 @@ module _ {X : Type 0} (R : X → X → Type 0) (never : (x y : X) → R x y → 
       let rest : xs ≡ ys = one_ascending xs ys (AllPairs-later R x xs a) (AllPairs-later R y ys b) (in_rest x y xs ys a e f) (in_rest y x ys xs b (sym e) g) in
       ap (λ z. z ∷ xs) e ∙ ap (λ z. y ∷ z) rest
 
--- by from, then to
+-- sorted by source and then by target
 abbrev IsEarlier : {X : Type 0} → ℕ × ℕ × X → ℕ × ℕ × X → Type 0
 IsEarlier a b = (a.0 < b.0) ⊎ ((a.0 ≡ b.0) × (a.1 < b.1))
 
@@ -73,11 +73,11 @@ ascends_map f R xs h i j e l m =
     let at_j : get_or (map f xs) j e ≡ f (get_or xs j d) = get_or-map f xs j d e within in
     subst (λ z. R z (get_or (map f xs) j e)) (sym at_i) (subst (λ z. R (f (get_or xs i d)) z) (sym at_j) (h i j d l within))
 
--- the two nodes of an edge, and the package link that it names if it is weak
+-- the two nodes of an edge, and its package link if it is weak
 abbrev named_link : ℕ × ℕ × EdgeFacts → ℕ × ℕ × Option ℕ
 named_link x = (x.0, x.1, weak_link x.2)
 
--- what is built of an edge names one package link, whatever the weak links are
+-- a built edge names one package link, for any weak links
 named_alike : (t : Tables) (v w : List ℕ) (e : Edge) → weak_link (facts_of t v e) ≡ weak_link (facts_of t w e)
 named_alike t v w feature_to_base = refl
 named_alike t v w named_feature = refl
@@ -96,7 +96,7 @@ named_ascend t a v h = ascends_map named_link IsEarlier a h.ascends
 never_earlier : (a : ℕ × ℕ × Option ℕ) → IsEarlier a a → ⊥
 never_earlier a h = never_both a a h h
 
--- the links that edges name stand in each list that is built
+-- the links that edges name are in each list that is built
 named_there : (t : Tables) (a b : List (ℕ × ℕ × EdgeFacts)) (v w : List (ℕ × ℕ)) → AreBuilt t a v → AreBuilt t b w → (z : ℕ × ℕ × Option ℕ) → Contains (map named_link a) z → Contains (map named_link b) z
 named_there t a b v w h i z c =
     let x = from_map named_link a z c in
@@ -111,7 +111,7 @@ named_links : (a : List (ℕ × ℕ × EdgeFacts)) → filter_map (λ (e : ℕ �
 named_links [] = refl
 named_links (x ∷ xs) = ap (cons_option (weak_link x.2)) (named_links xs)
 
--- the weak links are one list
+-- the weak links are determined
 one_numbers : (t : Tables) (a b : List (ℕ × ℕ × EdgeFacts)) (v w : List (ℕ × ℕ)) → AreBuilt t a v → AreBuilt t b w → map (λ x. x.0) v ≡ map (λ x. x.0) w
 one_numbers t a b v w h i =
     let same : map named_link a ≡ map named_link b = one_ascending IsEarlier never_both (map named_link a) (map named_link b) (named_ascend t a v h) (named_ascend t b w i) (named_there t a b v w h i) (named_there t b a w v i h) in
@@ -119,7 +119,7 @@ one_numbers t a b v w h i =
     ∙ ap first_ones (sym (named_links a) ∙ ap (filter_map (λ (e : ℕ × ℕ × Option ℕ). e.2)) same ∙ named_links b)
     ∙ sym i.links
 
--- what the edges of the tables say is one list
+-- the built edges are determined
 one_edges : (t : Tables) (a b : List (ℕ × ℕ × EdgeFacts)) (v w : List (ℕ × ℕ)) → AreBuilt t a v → AreBuilt t b w → a ≡ b
 one_edges t a b v w h i =
     let same = one_numbers t a b v w h i in
@@ -152,7 +152,7 @@ one_gate t tables k g h a b =
     let link = element_within t.links k a.within in
     one_node t tables link.0.from g h link.0.name (a.node link.0 link.1) (b.node link.0 link.1)
 
--- weak links with their gates are one list
+-- the weak links with their gates are determined
 one_weak : (t : Tables) → AreTables t → (a b : List (ℕ × ℕ)) → map (λ x. x.0) a ≡ map (λ x. x.0) b
     → ((i k gate : ℕ) → slice_get a i ≡ Some (k, gate) → IsGate t k gate) → ((i k gate : ℕ) → slice_get b i ≡ Some (k, gate) → IsGate t k gate) → a ≡ b
 one_weak t tables [] [] e f g = refl
@@ -168,7 +168,7 @@ one_weak t tables (x ∷ xs) (y ∷ ys) e f g =
 one_links : (t : Tables) → AreTables t → (a b : List (ℕ × ℕ × EdgeFacts)) (v w : List (ℕ × ℕ)) → AreBuilt t a v → AreBuilt t b w → v ≡ w
 one_links t tables a b v w h i = one_weak t tables v w (one_numbers t a b v w h i) h.gates i.gates
 
--- lists of one length with the same members are the same
+-- lists of one length with the same members are equal
 one_set : (a b : List Bool) → length a ≡ length b → ((n : ℕ) → IsTrue (has a n) → IsTrue (has b n)) → ((n : ℕ) → IsTrue (has b n) → IsTrue (has a n)) → a ≡ b
 one_set [] [] l f g = refl
 one_set [] (y ∷ ys) l f g = absurd (omega (arith, l))
@@ -181,14 +181,14 @@ one_set (x ∷ xs) (y ∷ ys) l f g =
     one_mark false true f g = g refl
     one_mark false false f g = refl
 
--- what is on by default is one list
+-- the features that are on by default are determined
 one_defaults : (t : Tables) (a b : List Bool) → AreDefaults t a → AreDefaults t b → a ≡ b
 one_defaults t a b h i = one_set a b (h.long ∙ sym i.long) (λ n m. (i.exact n).1 ((h.exact n).0 m)) (λ n m. (h.exact n).1 ((i.exact n).0 m))
 
 abbrev of_parts : ℕ → List ℕ → List ℕ → List (ℕ × ℕ × EdgeFacts) → List (ℕ × ℕ) → List Warning → List Bool → Built
 of_parts stamp firsts packages edges weak warnings defaults = record { stamp = stamp; firsts = firsts; packages = packages; edges = edges; weak = weak; warnings = warnings; defaults = defaults }
 
--- what is equal in each part is equal
+-- data equal in each part is equal
 alike_same : (a b : Built) → AreAlike a b → a ≡ b
 alike_same a b h =
     ap (λ z. of_parts z a.firsts a.packages a.edges a.weak a.warnings a.defaults) h.0
@@ -199,7 +199,7 @@ alike_same a b h =
     ∙ ap (λ z. of_parts b.stamp b.firsts b.packages b.edges b.weak z a.defaults) h.5
     ∙ ap (λ z. of_parts b.stamp b.firsts b.packages b.edges b.weak b.warnings z) h.6
 
--- two builds of one graph under one stamp are the same
+-- two builds of one graph under one stamp are equal
 pub determined : (t : Tables) → AreTables t → (a b : Built) → IsBuilt t a → IsBuilt t b → a.stamp ≡ b.stamp → AreAlike a b
 determined t tables a b x y s = (
   s,
@@ -211,7 +211,7 @@ determined t tables a b x y s = (
   one_defaults t a.defaults b.defaults x.defaults y.defaults,
 )
 
--- whether data is the same as a build says whether it was built of the graph
+-- data equals a build if and only if it was built from the graph
 pub same_as_built : (t : Tables) → AreTables t → (a b : Built) (same : Bool) → IsBuilt t a → a.stamp ≡ b.stamp → IsTrue same ↔ AreAlike a b → IsTrue same ↔ IsBuilt t b
 same_as_built t tables a b true x s h = ((λ p. subst (λ z. IsBuilt t z) (alike_same a b (h.0 refl)) x), (λ y. refl))
 same_as_built t tables a b false x s h = ((λ p. absurd (never p)), (λ y. absurd (never (h.1 (determined t tables a b x y s)))))
@@ -219,7 +219,7 @@ same_as_built t tables a b false x s h = ((λ p. absurd (never p)), (λ y. absur
     never : IsTrue false → ⊥
     never p = cc
 
--- so is what walks follow
+-- the content that walks follow is determined
 pub one_content : (t : Tables) → AreTables t → (a b : Built) (direction : DependencyDirection) → IsBuilt t a → IsBuilt t b → content_of direction a ≡ content_of direction b
 one_content t tables a b direction x y =
     same_content direction (length a.packages) (length b.packages) a.edges b.edges a.weak b.weak (ap length (x.packages ∙ sym y.packages))

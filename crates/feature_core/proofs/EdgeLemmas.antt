@@ -1,4 +1,4 @@
--- The least keys stand for the edges, and for all of them.
+-- The least keys represent the edges, and all of them.
 use Rattle.std.proofs.Common.{◌≡◌, suc, ◌≤◌, ⊎_elim, List, [], ◌∷◌, sym, ◌∙◌, subst, arith}
 use Rattle.std.specs.Prelude.{◌↔◌, Contains, All, AllPairs}
 use Rattle.std.proofs.lemmas.List.Elements.{All-contains}

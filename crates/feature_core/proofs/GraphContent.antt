@@ -1,4 +1,4 @@
--- What walks of a feature graph follow, and what is reached over it.
+-- The content that walks of a feature graph follow, and its reach.
 use Rattle.std.proofs.Common.{◌≡◌, ℕ, ◌+◌, ◌<◌, List, [], ◌∷◌, length, map, Bool, true, false, Option, Some, refl, ap, sym, ◌∙◌, subst, arith, length-append}
 use Rattle.std.specs.Prelude.{slice_get, flat_map, IsTrue, IsFalse, ◌↔◌}
 use Rattle.std.specs.Option.{option_map_or}
@@ -43,7 +43,7 @@ length-renamed f g (x ∷ xs) =
     ∙ ap (λ n. length (f x) + n) (length-renamed f g xs)
     ∙ sym (length-append (f x) (flat_map f xs))
 
--- there are as many nodes with a package as with a name
+-- there are as many packages of nodes as names of nodes
 node_count : (t : Tables) → length (node_packages t) ≡ length (nodes t)
 node_count t =
     length-map (node_places t) (λ x. x.0)
@@ -74,7 +74,7 @@ candidate_within t u w e (with_feature p n f d g item from beside differ to is) 
 candidate_within t u w e (of_required s) = (at_node t u s.link.from base s.from_node, at_node t w s.link.to s.asked s.to_node)
 candidate_within t u w e (of_optional s) = (at_node t u s.link.from (optional s.link.name) s.from_node, at_node t w s.link.to s.asked s.to_node)
 
--- the nodes of an edge
+-- the nodes of an edge are nodes of the graph
 edge_within : (t : Tables) (b : Built) → IsBuilt t b → (k : ℕ) (x : ℕ × ℕ × EdgeFacts) → slice_get b.edges k ≡ Some x → (x.0 < length b.packages) × (x.1 < length b.packages)
 edge_within t b h k x at =
     let c = (h.pairs.exact x.0 x.1).0 (into_map (λ y. (y.0, y.1)) b.edges x (element_at_place b.edges k x at)) in
@@ -129,14 +129,14 @@ not_gated (section_edge l) = refl
 pub reverse_ungated : (b : Built) → IsUngated (content_of Reverse b)
 reverse_ungated b e w at = let x = way_edge b Reverse e w at in subst (λ (z : Way). IsFalse (is_gated z.ask)) x.2 (not_gated x.0.2)
 
--- every way is open where all offers are accepted
+-- if all offers are accepted, every way is open
 always_open : (e : ℕ) (ask : Ask) → IsTrue (is_open every e ask)
 always_open e asks.Nobody = refl
 always_open e asks.Full = refl
 always_open e (asks.Weak true gated) = refl
 always_open e (asks.Weak false gated) = refl
 
--- an edge leads as the direction follows it
+-- an edge leads in this direction
 edge_leads : (t : Tables) (b : Built) → IsBuilt t b → (direction : DependencyDirection) (k : ℕ) (x : ℕ × ℕ × EdgeFacts) → slice_get b.edges k ≡ Some x → LeadsTo t direction (start_of direction x) (far_of direction x)
 edge_leads t b h Forward k x at = (h.pairs.exact x.0 x.1).0 (into_map (λ y. (y.0, y.1)) b.edges x (element_at_place b.edges k x at))
 edge_leads t b h Reverse k x at = (h.pairs.exact x.0 x.1).0 (into_map (λ y. (y.0, y.1)) b.edges x (element_at_place b.edges k x at))

@@ -1,4 +1,4 @@
--- What is built of a key's candidate, by the key's rank.
+-- The value built of a key's candidate, by the key's rank.
 use Rattle.std.proofs.Common.{◌≡◌, ℕ, ◌≤◌, List, refl, ap, ◌∙◌, subst, arith}
 use Rattle.guppy_packages.specs.Tables.{Tables}
 use Rattle.feature_links.specs.Links.{LinkFacts}
@@ -11,7 +11,7 @@ use Rattle.feature_core.specs.declared.key.Key.{Key}
 use Rattle.feature_core.proofs.KeySays.{Says, SaysColon, SaysOver, SaysBeside, SaysSection}
 use Rattle.feature_core.proofs.PartLemmas.{NamesDiffer, stands_for}
 
--- an edge over a link that the key tells of
+-- the edge that the key determines, over a link that satisfies `Tells`
 pub record IsTold (t : Tables) (x : Key) (make : LinkFacts → Edge) (Tells : LinkFacts → Type 0) : Type 0 where
   pub link : LinkFacts
   pub candidate : Candidate t x.from x.to (make link)
@@ -126,7 +126,7 @@ module _ (t : Tables) (differ : NamesDiffer t) (weak : List ℕ) (x : Key) (h : 
       let high : x.rank ≤ 7 = omega (arith, w.1, s.rank) in
       grind (arith, a, b, c, d, e, f, low, high)
 
--- a value over the link that the key tells of
+-- a value over the link that the key determines
 pub value_over : (t : Tables) (weak : List ℕ) (x : Key) (make : LinkFacts → Edge) (built : LinkFacts → EdgeFacts) (Tells : LinkFacts → Type 0)
     → ((l : LinkFacts) → built l ≡ facts_of t weak (make l)) → (o : IsTold t x make Tells) (l : LinkFacts) → l ≡ o.link → IsValueOf t weak x (built l)
 value_over t weak x make built Tells same o l is = record { edge = make o.link; candidate = o.candidate; rank = o.rank; is = ap built is ∙ same o.link }

@@ -1,4 +1,4 @@
--- The keys of one pair stand together among sorted keys.
+-- The keys of one pair are adjacent among sorted keys.
 use Rattle.std.proofs.Common.{◌≡◌, ℕ, ◌+◌, ◌-◌, zero, suc, ◌<◌, ◌≤◌, ◌⊎◌, inl, inr, ⊎_elim, List, [], ◌∷◌, length, get_or, Bool, true, false, refl, ap, sym, ◌∙◌, subst, arith, take, drop}
 use Rattle.std.specs.Prelude.{Contains, AllPairs, ◌↔◌}
 use Rattle.std.specs.List.Sorted.{IsPartitionPoint, IsPartitionedBy}
@@ -15,7 +15,7 @@ by_test true = inl refl
 by_test false = inr refl
 
 module _ {X : Type 0} (p : X → Bool) (xs : List X) (i : ℕ) (within : i ≤ length xs) (parts : IsPartitionPoint (λ y. p y ≡ true) (λ y. p y ≡ false) xs i) where
-  -- what stands before a partition point passes, and what passes stands there
+  -- the elements before a partition point are those that pass
   pub partition_front : (y : X) → Contains (take i xs) y ↔ (Contains xs y × (p y ≡ true))
   partition_front y = (
     (λ h.
@@ -33,7 +33,7 @@ module _ {X : Type 0} (p : X → Bool) (xs : List X) (i : ℕ) (within : i ≤ l
       below_or : (a b : ℕ) → (a < b) ⊎ (b ≤ a)
       below_or a b = grind arith
 
-  -- what stands after it fails, and what fails stands there
+  -- the elements after it are those that fail
   pub partition_back : (y : X) → Contains (drop i xs) y ↔ (Contains xs y × (p y ≡ false))
   partition_back y = (
     (λ h.
@@ -70,7 +70,7 @@ take_whole zero (x ∷ xs) h = absurd (omega (arith, h))
 take_whole (suc n) [] h = refl
 take_whole (suc n) (x ∷ xs) h = ap (λ z. x ∷ z) (take_whole n xs (omega (arith, h)))
 
--- a key that isn't later than one that is no later than the pair isn't either
+-- a key no later than one that is no later than the pair is no later than the pair
 up_to_parts : (from to : ℕ) (a b : Key) → IsNoLater a b → is_pair_up_to from to b ≡ true → is_pair_up_to from to a ≡ true
 up_to_parts from to a b (inl (inl h)) e = grind (arith, nat_tests)
 up_to_parts from to a b (inl (inr (h, i))) e = grind (arith, nat_tests)

@@ -1,4 +1,4 @@
--- What a key tells of the edge that it stands for.
+-- The link of the edge that a key represents.
 use Rattle.std.proofs.Common.{◌≡◌, ℕ, ◌⊎◌, ◌∷◌, []}
 use Rattle.std.specs.Prelude.{IsTrue}
 use Rattle.guppy_packages.specs.Rows.{Text}

@@ -54,7 +54,7 @@ from_missing test o k (y ∷ ys) x h e t = ⊎_elim (λ i. none_some o i.1) (λ 
         apart (test x) t (sym (ap test same) ∙ i.0)
     next (suc k) e i more = more k e
 
--- where `position` finds an element, and that it misses none
+-- the place that `position` finds, and that it finds each element that passes
 pub position_there : {X : Type 0} (test : X → Bool) (k : ℕ) (xs : List X) → position test xs ≡ Some k → IsPlace test xs k
 position_there test k xs h =
     let r = from_there test 0 k xs (sym (position_from-zero test xs) ∙ h) in
@@ -94,7 +94,7 @@ optional_label table k name h =
     get_right (map (λ f. named f.name) table.features) (map (λ d. optional d) table.optional_names) (length table.features + k) k (omega arith)
     ∙ slice_get-map (λ d. optional d) table.optional_names k ∙ ap (option_map (λ d. optional d)) h
 
--- a label's place back
+-- the feature at a label's place
 named_back : (table : PackageTable) (k : ℕ) (name : Text) → slice_get (labels_of table) k ≡ Some (named name) → (j : ℕ) × (k ≡ suc j) × ((feature : FeatureTable) × (slice_get table.features j ≡ Some feature) × (feature.name ≡ name))
 named_back table zero name h = absurd (base_apart (named name) (named_base name) h)
 named_back table (suc k) name h = ⊎_elim
@@ -144,7 +144,7 @@ same_table t p a b h i = let e : ◌≡◌ {A = Option PackageTable} (Some a) (S
     got e = cc
 
 module _ (t : Tables) (p : ℕ) (table : PackageTable) (is : IsPackage t p table) where
-  -- a node of this package, as a place among its labels
+  -- a node of this package has a place among its labels
   row_back : (n : ℕ) (label : LabelName) → NodeAt t n p label → (k : ℕ) × (n ≡ first_node t p + k) × (slice_get (labels_of table) k ≡ Some label)
   row_back n label h =
       let s = node_back t n p label h in
@@ -167,7 +167,7 @@ module _ (t : Tables) (p : ℕ) (table : PackageTable) (is : IsPackage t p table
         ap Some is_m),
   )
 
-  -- the number of a named feature that was found at a place
+  -- the number of a named feature found at a place
   pub named_found : AreTables t → (name : Text) (k m : ℕ) → feature_place name table.features ≡ Some k → m ≡ first_node t p + (1 + k) → (n : ℕ) → (◌≡◌ {A = Option ℕ} (Some m) (Some n)) ↔ NodeAt t n p (named name)
   named_found tables name k m h e n =
       let q = position_there (λ f. bytes_eq name f.name) k table.features h in
@@ -185,7 +185,7 @@ module _ (t : Tables) (p : ℕ) (table : PackageTable) (is : IsPackage t p table
       none_some : (n : ℕ) → ◌≡◌ {A = Option ℕ} None (Some n) → NodeAt t n p (named name)
       none_some n e = cc
 
-  -- the number of an optional name that was found at a place
+  -- the number of an optional name found at a place
   pub optional_found : AreTables t → (name : Text) (k m : ℕ) → optional_place name table.optional_names ≡ Some k → m ≡ first_node t p + (1 + length table.features + k) → (n : ℕ) → (◌≡◌ {A = Option ℕ} (Some m) (Some n)) ↔ NodeAt t n p (optional name)
   optional_found tables name k m h e n =
       let q = position_there (bytes_eq name) k table.optional_names h in
@@ -215,7 +215,7 @@ module _ (t : Tables) (p : ℕ) (table : PackageTable) (is : IsPackage t p table
       none_some : (n : ℕ) → ◌≡◌ {A = Option ℕ} None (Some n) → NodeAt t n p (optional name)
       none_some n e = cc
 
--- a package has a first node, which is the entry of its number
+-- a package has a first node, at its number in the list
 pub first_within : (t : Tables) (p : ℕ) (table : PackageTable) (firsts : List ℕ) → firsts ≡ first_nodes t → IsPackage t p table → p < length firsts
 first_within t p table firsts e is =
     let l : p < length t.packages = place_below t.packages p table is in
@@ -226,7 +226,7 @@ first_within t p table firsts e is =
 pub first_is : (t : Tables) (p : ℕ) (table : PackageTable) (firsts : List ℕ) → firsts ≡ first_nodes t → IsPackage t p table → slice_index firsts p ≡ first_node t p
 first_is t p table firsts e is = ap (λ z. slice_index z p) e ∙ get_or-map-range_with_len (first_node t) 0 (length t.packages) p p 0 (place_below t.packages p table is) (omega arith)
 
--- the number of a label's node fits where the number of nodes does
+-- the number of a label's node fits if the number of nodes does
 pub number_fits : (t : Tables) (p k : ℕ) (table : PackageTable) → length (node_places t) < 2 ^ 64 → IsPackage t p table → k < length (labels_of table) → first_node t p + k < 2 ^ 64
 number_fits t p k table few is l = let b = node_below t p k table is l in omega (arith, b, few)
 
@@ -245,11 +245,11 @@ optional_place_below table name features k e h =
     let l : k < length table.optional_names = place_below table.optional_names k q.element q.there in
     omega (arith, length_labels table)
 
--- a place among the labels fits where the number of nodes does
+-- a place among the labels fits if the number of nodes does
 pub place_fits : (t : Tables) (p k : ℕ) (table : PackageTable) → length (node_places t) < 2 ^ 64 → IsPackage t p table → k < length (labels_of table) → k < 2 ^ 64
 place_fits t p k table few is l = let b = node_below t p k table is l in omega (arith, b, few)
 
--- the tables of a package, where its graph is known
+-- the tables of a package of a known graph
 pub package_there : (t g : Tables) (p : ℕ) (table : PackageTable) → g ≡ t → slice_get g.packages p ≡ Some table → IsPackage t p table
 package_there t g p table e h = subst (λ z. slice_get z.packages p ≡ Some table) e h
 

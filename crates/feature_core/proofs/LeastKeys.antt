@@ -1,4 +1,4 @@
--- What is left of keys in order, where the first of each pair stays.
+-- The keys that remain when only the first key of each pair is kept.
 use Rattle.std.proofs.Common.{◌≡◌, suc, ◌≤◌, inl, inr, List, [], ◌∷◌, Bool, true, false, cond, refl, arith}
 use Rattle.std.specs.Prelude.{slice_index_or, ◌==◌, ◌&&◌, Contains, All, AllPairs}
 use Rattle.std.specs.List.{dedup, dedup_from}

@@ -70,14 +70,14 @@ half_is t which k l h = go (slice_get t.links k) refl h
     go None e i = cc
     go (Some link) e i = (link, e, kept link (has_declaration which link) i)
 
--- a half declares which it is
+-- a half covers its own declarations
 pub half_declares : (t : Tables) (which : LinkDeclarations) (k : ℕ) (l : LinkFacts) → half_of t which k ≡ Some l → l.declarations ≡ which
 half_declares t which k l h = let s = half_is t which k l h in ap (λ (z : LinkFacts). z.declarations) s.2
 
 half_links : (t : Tables) (which : LinkDeclarations) (k : ℕ) (l : LinkFacts) → half_of t which k ≡ Some l → AreLinks t l
 half_links t which k l h = let s = half_is t which k l h in subst (AreLinks t) (sym s.2) (one_link t which (λ d. includes which d) k s.0 s.1)
 
--- each link of what is built of an edge
+-- each link of a built edge
 abbrev HasLinks : Tables → Edge → Type 0
 HasLinks t e = (weak : List ℕ) (h : Half) (l : LinkFacts) → link_at (facts_of t weak e) h ≡ Some l → AreLinks t l
 

@@ -1,4 +1,4 @@
--- Lists that are gone over by number.
+-- Lists traversed by number.
 use Rattle.std.proofs.Common.{◌≡◌, ℕ, ◌+◌, ◌≤◌, List, [], ◌∷◌, ◌++◌, length, map, drop, Bool, true, false, cond, Option, None, Some, ap, sym, ◌∙◌, append_assoc, append-nil}
 use Rattle.std.specs.Prelude.{position, slice_get}
 use Rattle.std.specs.List.{position_from, zip}
@@ -14,7 +14,7 @@ use Rattle.feature_core.specs.inner.Releases.{releases_from}
 pub drop_read : {X : Type 0} (xs : List X) (i : ℕ) (x : X) → slice_get xs i ≡ Some x → drop i xs ≡ x ∷ drop (i + 1) xs
 drop_read xs i x h = drop_more xs i x (slice_get_within xs i x h) ∙ ap (λ z. z ∷ drop (i + 1) xs) (get_or_from_slice_get xs i x x h)
 
--- the first element that passes isn't before number i
+-- the first element that passes isn't before number `i`
 module _ {X : Type 0} (p : X → Bool) (xs : List X) where
   abbrev pub IsSought : ℕ → Type 0
   IsSought i = position_from p i (drop i xs) ≡ position p xs
@@ -31,7 +31,7 @@ module _ {X : Type 0} (p : X → Bool) (xs : List X) where
   pub sought_none : (i : ℕ) → length xs ≤ i → IsSought i → None ≡ position p xs
   sought_none i l s = sym (ap (position_from p i) (drop_all i xs l)) ∙ s
 
--- the releases of the first i edges, and those of the rest
+-- the releases of the first `i` edges, and those of the rest
 module _ (weak : List (ℕ × ℕ)) (facts : List EdgeFacts) where
   abbrev pub AreSplit : ℕ → List (ℕ × ℕ) → Type 0
   AreSplit i released = released ++ releases_from weak i (drop i facts) ≡ releases_from weak 0 facts
@@ -49,7 +49,7 @@ module _ (weak : List (ℕ × ℕ)) (facts : List EdgeFacts) where
   pub split_all : (i : ℕ) (released : List (ℕ × ℕ)) → length facts ≤ i → AreSplit i released → released ≡ releases_from weak 0 facts
   split_all i released l s = sym (append-nil released) ∙ ap (λ z. released ++ releases_from weak i z) (sym (drop_all i facts l)) ∙ s
 
--- what is made of the first i pairs of two lists, and of the rest
+-- the values made from the first `i` pairs of two lists, and from the rest
 module _ {A B C : Type 0} (make : A × B → C) (xs : List A) (ys : List B) where
   abbrev pub ArePaired : ℕ → List C → Type 0
   ArePaired i made = made ++ map make (zip (drop i xs) (drop i ys)) ≡ map make (zip xs ys)

@@ -1,4 +1,4 @@
--- What the edges of keys are made of.
+-- The input for the edges of keys.
 use Rattle.std.proofs.Common.{◌≡◌, ℕ, ◌<◌, ◌⊎◌, ⊎_elim, List, length, ap, sym, ◌∙◌, subst, Some, Option}
 use Rattle.std.specs.Prelude.{slice_get, slice_index}
 use Rattle.std.specs.Option.{option_map}

@@ -21,7 +21,7 @@ module _ {A B C : Type 0} (f : A → List B) (g : A → B → C) where
   abbrev pub all_of : List A → List C
   all_of xs = flat_map (λ x. map (g x) (f x)) xs
 
-  -- an element of a row, as it stands among the elements of all rows
+  -- an element of a row, and its place among the elements of all rows
   pub named_there : (p n : ℕ) (xs : List A) (y : B) → (h : IsSpread f xs n p y) → slice_get (all_of xs) n ≡ Some (g h.row y)
   named_there p n [] y h = let e = h.is_row in cc
   named_there zero n (x ∷ xs) y h =
@@ -78,7 +78,7 @@ named_node t n name h =
 pub id_at : (t : Tables) (p : ℕ) (table : PackageTable) (id : Text) → IsPackage t p table → table.id ≡ id → slice_get (map (λ q. q.id) t.packages) p ≡ Some id
 id_at t p table id is e = slice_get-map (λ q. q.id) t.packages p ∙ ap (option_map (λ q. q.id)) is ∙ ap Some e
 
--- where a package has the id, its nodes are those of that name
+-- if a package has the id, its nodes are those with that id in their names
 pub found_name : (t : Tables) (id : Text) (p n : ℕ) (label : LabelName) → AreTables t → package_place id t.packages ≡ Some p → NodeAt t n p label ↔ NodeNamed t n (id, label)
 found_name t id p n label tables h =
     let q = position_there (λ z. bytes_eq id z.id) p t.packages h in
@@ -90,7 +90,7 @@ found_name t id p n label tables h =
           subst (λ z. NodeAt t n z label) place m.node),
     )
 
--- where none has it, no node has the name
+-- if no package has the id, no node has the name
 pub missing_name : (t : Tables) (id : Text) (n : ℕ) (label : LabelName) → package_place id t.packages ≡ None → NodeNamed t n (id, label) → ⊥
 missing_name t id n label h i =
     let m = named_node t n (id, label) i in
@@ -103,7 +103,7 @@ base_found t p m e at n = (
   (λ i. ap Some (e ∙ sym (base_back t n p i))),
 )
 
--- a number that is told of a label is told of the name
+-- the number of a label is the number of its name
 pub numbered_name : (t g : Tables) (id told : Text) (p n : ℕ) (label said : LabelName) (P : Type 0) → g ≡ t → told ≡ id → said ≡ label → AreTables t → package_place told t.packages ≡ Some p → (P ↔ NodeAt g n p said) → (P ↔ NodeNamed t n (id, label))
 numbered_name t g id told p n label said P same_graph same_id same_label tables h both =
     let f = found_name t told p n said tables h in
@@ -112,7 +112,7 @@ numbered_name t g id told p n label said P same_graph same_id same_label tables 
       (λ i. both.1 (subst (λ z. NodeAt z n p said) (sym same_graph) (f.1 (subst (λ z. NodeNamed t n z) (sym name) i)))),
     )
 
--- where no package has the id, there is no number
+-- if no package has the id, there is no number
 pub no_number : (t : Tables) (id told : Text) (n : ℕ) (label : LabelName) → told ≡ id → package_place told t.packages ≡ None → (◌≡◌ {A = Option ℕ} None (Some n)) ↔ NodeNamed t n (id, label)
 no_number t id told n label same h = (
   (λ i. none_some i),

@@ -14,7 +14,7 @@ use Rattle.feature_core.proofs.AddsLemmas.{place_below}
 use Rattle.feature_core.proofs.LabelLemmas.{named_label, optional_label}
 use Rattle.feature_core.proofs.Places.{node_there, node_back}
 
--- an element that was read, as what a map gives for it
+-- an element at an index, and its image under a map
 pub read_map : {X Y : Type 0} (f : X → Y) (xs : List X) (ys : List Y) (k : ℕ) (x : X) → map f xs ≡ ys → k < length xs → x ≡ slice_index_or xs k x → slice_get ys k ≡ Some (f x)
 read_map f xs ys k x e l is =
     ap (λ z. slice_get z k) (sym e) ∙ slice_get-map f xs k ∙ ap (option_map f) (slice_get_read xs (length xs) k x refl l is)
@@ -25,7 +25,7 @@ named_at table place k feature name e at same = ap (slice_get (labels_of table))
 pub optional_at : (table : PackageTable) (place k : ℕ) (found name : Text) → place ≡ suc (length table.features + k) → slice_get table.optional_names k ≡ Some found → name ≡ found → slice_get (labels_of table) place ≡ Some (optional name)
 optional_at table place k found name e at same = ap (slice_get (labels_of table)) e ∙ optional_label table k found at ∙ ap (λ z. Some (optional z)) (sym same)
 
--- node n is at a place of package p
+-- node `n` has a place in package `p`
 pub record IsWithin (t : Tables) (n p : ℕ) : Type 0 where
   pub table : PackageTable
   pub is_package : IsPackage t p table
@@ -43,7 +43,7 @@ index_there [] k x h = cc
 index_there (y ∷ ys) zero x h = cc
 index_there (y ∷ ys) (suc k) x h = index_there ys k x h
 
--- each node is at a place of its package
+-- each node has a place in its package
 pub in_package : (t : Tables) (packages : List ℕ) (n p : ℕ) → packages ≡ node_packages t → n < length packages → p ≡ slice_index packages n → IsWithin t n p
 in_package t packages n p e l is =
     let place_of : ℕ × LabelName → ℕ = λ x. x.0 in

@@ -20,7 +20,7 @@ take-suc-next (y ∷ ys) (suc i) x h = ap (λ z. y ∷ z) (take-suc-next ys i x 
 pub take-next : {X : Type 0} (xs : List X) (i : ℕ) (x : X) → slice_get xs i ≡ Some x → take (i + 1) xs ≡ take i xs ++ x ∷ []
 take-next xs i x h = ap (λ n. take n xs) (add-one i) ∙ take-suc-next xs i x h
 
--- one more of what is pushed over and over
+-- one more copy of the element that is pushed repeatedly
 pub pushed-next : {X : Type 0} (start before after : List X) (n : ℕ) (x : X) → before ≡ start ++ replicate n x → after ≡ before ++ x ∷ [] → after ≡ start ++ replicate (n + 1) x
 pushed-next start before after n x b a = a ∙ ap (λ z. z ++ x ∷ []) b ∙ append_assoc start (replicate n x) (x ∷ []) ∙ ap (λ z. start ++ z) (replicate-next n x)
 
@@ -45,7 +45,7 @@ pub append-none : {X : Type 0} (xs : List X) → xs ++ [] ≡ xs
 append-none [] = refl
 append-none (x ∷ xs) = ap (λ z. x ∷ z) (append-none xs)
 
--- the nodes of the packages before p, as far as their packages go
+-- the package numbers of the nodes of the packages before `p`
 abbrev pub packages_before : Tables → ℕ → List ℕ
 packages_before t p = map (λ x. x.0) (spread labels_of 0 (take p t.packages))
 
@@ -65,7 +65,7 @@ packages_next t p table h =
     one_spread : (q : ℕ) → q ≡ p → spread labels_of q (table ∷ []) ≡ map (λ y. (p, y)) (labels_of table)
     one_spread q e = append-none (map (λ y. (q, y)) (labels_of table)) ∙ ap (λ z. map (λ y. (z, y)) (labels_of table)) e
 
--- as many as the number of the next
+-- their number is the first node of the next package
 pub length_before : (t : Tables) (p : ℕ) → length (packages_before t p) ≡ first_node t p
 length_before t p = length-map (spread labels_of 0 (take p t.packages)) (λ x. x.0) ∙ length-spread labels_of 0 (take p t.packages)
 
@@ -97,7 +97,7 @@ firsts_next t p n before after b a e =
     let next : 0 + p ≡ p = omega arith in
     a ∙ ap (λ z. z ++ n ∷ []) b ∙ ap (λ z. map (first_node t) (range_with_len 0 p) ++ z ∷ []) (e ∙ ap (first_node t) (sym next)) ∙ sym (map-append (first_node t) (range_with_len 0 p) ((0 + p) ∷ [])) ∙ ap (map (first_node t)) (sym (range-next 0 p)) ∙ ap (λ z. map (first_node t) (range_with_len 0 z)) (sym (add-one p))
 
--- the nodes of one more package are pushed
+-- the nodes of one more package are appended
 pub packages_pushed : (t : Tables) (p q : ℕ) (table : PackageTable) (before after : List ℕ) → before ≡ packages_before t p → after ≡ before ++ replicate (length (labels_of table)) q → q ≡ p → slice_get t.packages p ≡ Some table → after ≡ packages_before t (p + 1)
 packages_pushed t p q table before after b a same at = a ∙ ap (λ z. before ++ replicate (length (labels_of table)) z) same ∙ ap (λ z. z ++ replicate (length (labels_of table)) p) b ∙ sym (packages_next t p table at)
 
@@ -105,10 +105,10 @@ pub take-all : {X : Type 0} (xs : List X) → take (length xs) xs ≡ xs
 take-all [] = refl
 take-all (x ∷ xs) = ap (λ z. x ∷ z) (take-all xs)
 
--- those before the end are all
+-- the nodes before the end are all nodes
 pub packages_all : (t : Tables) (n : ℕ) → n ≡ length t.packages → packages_before t n ≡ node_packages t
 packages_all t n e = ap (packages_before t) e ∙ ap (λ z. map (λ x. x.0) (spread labels_of 0 z)) (take-all t.packages)
 
--- the nodes before p are as many as p's first
+-- there are as many nodes before `p` as the number of its first node
 pub count_before : (t : Tables) (p : ℕ) (before : List ℕ) → before ≡ packages_before t p → length before ≡ first_node t p
 count_before t p before b = ap length b ∙ length_before t p

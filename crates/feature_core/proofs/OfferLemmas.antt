@@ -47,7 +47,7 @@ pub says_same : (t : Tables) → AreTables t → (b : Built) (k : ℕ) (x : ℕ 
 says_same t tables b k x e h at edge =
     ∥∥₁_elim (says t b k x h at) (facts-set _ _) (λ s. s.2 ∙ ap (facts_of t (numbers b)) (one_edge t tables x.0 x.1 s.0 e s.1 edge))
 
--- what stands at two places of an ascending list
+-- the elements at two places of an ascending list
 ascend_at : (xs : List (ℕ × ℕ × EdgeFacts)) (i j : ℕ) (x y : ℕ × ℕ × EdgeFacts) → AllPairs EdgeBefore xs → i < j → slice_get xs i ≡ Some x → slice_get xs j ≡ Some y → EdgeBefore x y
 ascend_at xs i j x y h l a b =
     let first : get_or xs i x ≡ x = get_or_from_slice_get xs i x x a in
@@ -71,7 +71,7 @@ edge_once t b j k x y h at there from to =
     o)
     (order_of j k)
 
--- what a weak edge is made of
+-- the package link and the halves of a weak edge
 record IsWeakSaid (t : Tables) (weak : List ℕ) (l : LinkFacts) (halves : WeakFacts) : Type 0 where
   number : ℕ
   link : LinkTable

@@ -1,4 +1,4 @@
--- What names an offer, and what names a node.
+-- Names of offers and of nodes.
 use Rattle.std.proofs.Common.{◌≡◌, ℕ, ◌+◌, List, Option, Some, None, refl, ap, sym, ◌∙◌, subst}
 use Rattle.std.specs.Prelude.{slice_get, IsTrue}
 use Rattle.std.proofs.Math.Logic.{∥∥₁_elim}
@@ -76,7 +76,7 @@ names_are_labels t name = (
       (n, subst (λ z. NodeNamed t n (z, name.1)) h.2 named_so)),
 )
 
--- the halves of a weak edge declare what they are
+-- the half over the required declarations covers exactly these, and the other half the optional ones
 required_declares : (t : Tables) (weak : List ℕ) (e : Edge) (m : LinkFacts) (halves : WeakFacts) (l : LinkFacts) → weak_edge m halves ≡ facts_of t weak e → halves.required ≡ Some l → l.declarations ≡ covered.Required
 required_declares t weak feature_to_base m halves l h is = cc
 required_declares t weak named_feature m halves l h is = cc
@@ -148,7 +148,7 @@ one_half direction f Optional Optional l o a b is also same differ = refl
 one_half direction f Required Optional l o a b is also same differ = absurd (two_halves f l o is also same differ)
 one_half direction f Optional Required l o a b is also same differ = absurd (two_halves f o l also is (sym same) differ)
 
--- two offers of one name are one
+-- two offers with one name are equal
 pub one_offer : (t : Tables) → (b : Built) (direction : DependencyDirection) (d : ℕ) (g : Half) (e : ℕ) (h : Half) → IsBuilt t b → IsOffer (content_of direction b) d g → IsOffer (content_of direction b) e h → HaveOneName b d g e h → (d ≡ e) × (g ≡ h)
 one_offer t b direction d g e h built one other name = (place, half)
   where

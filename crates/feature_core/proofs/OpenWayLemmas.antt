@@ -1,4 +1,4 @@
--- The edges of a digraph as ways that are open to all.
+-- The edges of a digraph as unconditional ways.
 use Rattle.std.proofs.Common.{◌≡◌, ℕ, suc, ◌+◌, ◌-◌, ◌<◌, List, [], ◌∷◌, Some, None, length, get_or, map, refl, sym, ◌∙◌, ap, subst, arith}
 use Rattle.std.specs.Prelude.{IsTrue, ◌==◌, slice_get}
 use Rattle.std.specs.List.{range_with_len}
@@ -16,7 +16,7 @@ use Rattle.feature_core.specs.inner.OpenWays.{open_way, open_ways}
 use Rattle.feature_core.proofs.Answered.{clash}
 use Rattle.feature_core.proofs.Places.{got_map}
 
--- the ways that start at a node are the edges that leave it, or that enter it
+-- the ways that start at a node are the edges that leave it, or in reverse those that enter it
 pub forward_numbers : (n first : ℕ) (es : List Edge) → numbers_where (λ w. w.start == n) first (map (open_way Forward) es) ≡ places_from n first (sources es)
 forward_numbers n first [] = refl
 forward_numbers n first (e ∷ es) = rw (forward_numbers n (suc first) es) refl
@@ -32,7 +32,7 @@ way_edge direction g k w is = got_map (open_way direction) (slice_get g.edges k)
 pub edge_way : (direction : DependencyDirection) (g : Graph) (k : ℕ) (e : Edge) → slice_get g.edges k ≡ Some e → IsWay (open_ways direction g) k (open_way direction e)
 edge_way direction g k e is = slice_get-map (open_way direction) g.edges k ∙ ap (option_map (open_way direction)) is
 
--- the edge at a place of those that leave a node
+-- the edge at a place among those that leave a node
 pub out_place : (g : Graph) (n start end place : ℕ) → range_with_len start (end - start) ≡ places n (sources g.edges) → place < end - start → Some (start + place) ≡ slice_get (starting (open_ways Forward g) n) place
 out_place g n start end place same within =
     let range : List ℕ = range_with_len start (end - start) in

@@ -24,7 +24,7 @@ use Rattle.feature_core.proofs.Released.{Rises, same_rising, in_released, releas
 use Rattle.feature_core.proofs.NodeLabels.{element_within}
 use Rattle.feature_core.proofs.ReleaseTables.{exact_releases}
 
--- an edge with what it says
+-- an edge with its value
 pub built_edge_at : (k : ℕ) (es : List Edge) (fs : List EdgeFacts) (e : Edge) (f : EdgeFacts) → slice_get es k ≡ Some e → slice_get fs k ≡ Some f → slice_get (built_edges es fs) k ≡ Some (e.from, e.to, f)
 built_edge_at k [] fs e f p q = absurd (cc)
 built_edge_at k (x ∷ es) [] e f p q = absurd (cc)
@@ -54,7 +54,7 @@ none_waits weak n first [] fs = refl
 none_waits weak n first (e ∷ es) [] = refl
 none_waits weak n first (e ∷ es) (f ∷ fs) = rw (none_asked f) (none_waits weak n (suc first) es fs)
 
--- forward those wait that have a gate
+-- forward, an edge waits if it has a gate
 waits_put : (weak : List (ℕ × ℕ)) (n first : ℕ) (f : EdgeFacts) (xs : List ℕ) (rest : List (ℕ × ℕ)) → xs ≡ released_by n rest → cond (is_gated (asked Forward f) && (option_map_or (λ gate. gate) (gate_of weak f) 0 == n)) (first ∷ xs) xs ≡ released_by n (option_map_or (λ gate. (gate, first) ∷ []) (gate_of weak f) [] ++ rest)
 waits_put weak n first base_edge xs rest e = e
 waits_put weak n first feature_edge xs rest e = e
@@ -83,7 +83,7 @@ made_rises : (weak : List (ℕ × ℕ)) (gate n : ℕ) (fs : List EdgeFacts) →
 made_rises weak gate n [] = tt
 made_rises weak gate n (f ∷ fs) = put_rises weak gate n (gate_of weak f) (releases_from weak (n + 1) fs) (subst (λ (k : ℕ). Rises k (released_by gate (releases_from weak (n + 1) fs))) (add-one n) (made_rises weak gate (n + 1) fs))
 
--- the edges that wait for a node are those beside it in the table
+-- the edges that wait for a node are those with this gate in the table
 pub releases_same : (nodes gate : ℕ) (g : Graph) (fs : List EdgeFacts) (weak released : List (ℕ × ℕ)) → AreTied g fs weak released → released_by gate released ≡ releasing (content Forward nodes (built_edges g.edges fs) weak) gate
 releases_same nodes gate g fs weak released tied =
     let table = tied.releases in
@@ -113,7 +113,7 @@ length-built_edges [] fs l = refl
 length-built_edges (e ∷ es) [] l = absurd (omega arith)
 length-built_edges (e ∷ es) (f ∷ fs) l = let r : length (built_edges es fs) ≡ length es = length-built_edges es fs (omega arith) in omega arith
 
--- the gates that are built are nodes
+-- the gates of the built weak links are nodes
 pub built_gates : (t : Tables) (edges : List (ℕ × ℕ × EdgeFacts)) (weak : List (ℕ × ℕ)) (nodes : ℕ) → AreBuilt t edges weak → nodes ≡ length (node_packages t) → GatesAreNodes nodes weak
 built_gates t edges weak nodes built n i d l =
     let x : ℕ × ℕ = get_or weak i d in

@@ -1,4 +1,4 @@
--- The parts of the tables contribute exactly a key for each candidate of a pair.
+-- The parts of the tables contribute exactly one key for each candidate of a pair.
 use Rattle.std.proofs.Common.{◌≡◌, ◌≢◌, ℕ, zero, suc, ◌+◌, ◌<◌, inl, inr, ⊎_elim, List, ◌∷◌, [], length, map, Bool, true, false, refl, ap, sym, ◌∙◌, subst, arith, Option, Some, cond}
 use Rattle.std.specs.Prelude.{slice_get, IsTrue, IsFalse, ◌&&◌, ◌||◌, not}
 use Rattle.std.specs.List.{list_any}
@@ -140,7 +140,7 @@ pub record IsKeyOf (u w : ℕ) (e : Edge) (x : Key) : Type 0 where
   pub to : x.to ≡ w
   pub rank : x.rank ≡ rank_of e
 
--- a candidate for which the key stands, and what the key tells of it
+-- the candidate that the key represents, and its link
 pub record StandsFor (t : Tables) (x : Key) : Type 0 where
   pub edge : Edge
   pub candidate : Candidate t x.from x.to edge
@@ -167,7 +167,7 @@ module _ (t : Tables) (differ : NamesDiffer t) where
       go s (suc k) at is =
           (key (first_node t p + suc k) (first_node t p) 1 0 0, (s.row, s.is_row, inl (suc k, place_below (labels_of s.row) (suc k) l at, (omega arith, refl))), record { from = sym is; to = sym (base_back t w p nw); rank = refl })
 
-  -- what an item of a feature contributes is among what its package contributes
+  -- the keys of an item of a feature are keys of its package
   of_item : (u p : ℕ) (f : Text) (item : Item) (x : Key) → HasItem t p f item → NodeAt t u p (named f) → IsOfItem t u p f item x → IsOfPackageAt t p x
   of_item u p f item x h nu of =
       let j = place_of_element h.table.features h.feature h.is_feature in
@@ -233,7 +233,7 @@ module _ (t : Tables) (differ : NamesDiffer t) where
           (record { number = refl; over = record { link = link; is_link = is; is = refl }; optional = record { link = link; is_link = is; has = both_true.1 } })
       go false e = stands t u w (over_rank weak link) k 0 (slash_full (unsplit_of k link)) x eq (over_strong k link weak (leads weak refl) e refl) (over_strongly weak link e) (record { link = link; is_link = is; is = refl })
 
-  -- what an item contributes stands for a candidate
+  -- a key of an item represents a candidate
   by_item : (u p : ℕ) (f : Text) (item : Item) (x : Key) → HasItem t p f item → NodeAt t u p (named f) → IsOfItem t u p f item x → StandsFor t x
   by_item u p f (feature_item g) x h nu of = stands t u of.1.0 2 0 0 named_feature x of.1.2 (to_feature p f g h of.0 nu of.1.1 refl) refl tt
   by_item u p f (optional_item d) x h nu of = stands t u of.0 3 0 0 (dep_colon (by_name t p Unsplit d)) x of.2 (to_dependency p f d h nu of.1 refl) refl (record { p = p; d = d; to_node = of.1; is = refl })
@@ -298,6 +298,6 @@ module _ (t : Tables) (differ : NamesDiffer t) where
       let asked = d.2.2 in
       by_declaration k h.2.0 h.0 d.0 x d.2.0 asked.2.0 asked.0 h.1 d.1 d.2.1 asked.1 asked.2.1 asked.2.2
 
-  -- each key stands for a candidate
+  -- each key represents a candidate
   pub stands_for : (x : Key) → IsOfTables t x → StandsFor t x
   stands_for x h = ⊎_elim (λ i. by_package i.0 x i.1) (λ i. by_link i.0 x i.1) h

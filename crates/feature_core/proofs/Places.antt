@@ -19,7 +19,7 @@ get_right [] b n m h = ap (slice_get b) (omega arith)
 get_right (x ∷ a) b zero m h = absurd (omega arith)
 get_right (x ∷ a) b (suc n) m h = get_right a b n m (omega arith)
 
--- the element at n stands in the first list, or in the second
+-- the element at `n` is in the first list or in the second
 pub get_cases : {X : Type 0} (a b : List X) (n : ℕ) (y : X) → slice_get (a ++ b) n ≡ Some y → (slice_get a n ≡ Some y) ⊎ ((m : ℕ) × (n ≡ length a + m) × (slice_get b m ≡ Some y))
 get_cases [] b n y h = inr (n, omega arith, h)
 get_cases (x ∷ a) b zero y h = inl h
@@ -32,7 +32,7 @@ got_map f (Some x) y h = (x, refl, cc)
 pub got_same : {X : Type 0} (x y : X) → ◌≡◌ {A = Option X} (Some x) (Some y) → x ≡ y
 got_same x y h = cc
 
--- element n of what is spread is this element of list p
+-- element `n` of the spread list is this element of list `p`
 pub record IsSpread {A B : Type 0} (f : A → List B) (xs : List A) (n p : ℕ) (y : B) : Type 0 where
   pub row : A
   pub is_row : slice_get xs p ≡ Some row

@@ -1,4 +1,4 @@
--- Edges that share places.
+-- Edges that share storage.
 use Rattle.std.proofs.Common.{◌≡◌, ℕ, zero, suc, ◌<◌, ◌≤◌, ⊎_elim, List, [], ◌∷◌, ◌++◌, length, map, get_or, Bool, false, Option, None, Some, refl, ap, sym, ◌∙◌, subst, arith}
 use Rattle.std.specs.Prelude.{IsTrue, ◌↔◌, nat_lt, slice_get}
 use Rattle.std.specs.Option.{option_map}
@@ -15,7 +15,7 @@ use Rattle.feature_links.specs.Values.{edge_facts}
 use Rattle.feature_core.proofs.Places.{get_left, get_right, get_cases, got_same}
 use Rattle.feature_core.proofs.SameLists.{no}
 
--- what stands at a place of a pool
+-- the value at a place of a pool
 said_at : (pool : List FeatureEdge) (p : ℕ) → p < length pool → slice_get (map edge_facts pool) p ≡ Some (get_or (map edge_facts pool) p base_edge)
 said_at pool p h = slice_get-get_or (map edge_facts pool) p base_edge (omega (arith, h, length-map pool edge_facts))
 
@@ -49,7 +49,7 @@ no_place pool p f h = no (slice_get (map edge_facts pool) p ≡ Some f) (λ s. m
     missing : ◌≡◌ {A = Option EdgeFacts} None (Some f) → ⊥
     missing e = cc
 
--- a pool with one edge more
+-- a pool with one more edge
 pub keeps_more : (old : List FeatureEdge) (e : FeatureEdge) → Keeps old (old ++ e ∷ [])
 keeps_more old e p f h = ap (λ z. slice_get z p) (map-append edge_facts old (e ∷ [])) ∙ get_left (map edge_facts old) (edge_facts e ∷ []) p f h
 
@@ -60,7 +60,7 @@ only_one : (x : EdgeFacts) (m : ℕ) (y : EdgeFacts) → slice_get (x ∷ []) m 
 only_one x zero y h = got_same x y h
 only_one x (suc m) y h = cc
 
--- with a conditional edge more
+-- a pool with one more conditional edge
 pub parted_more : (old : List FeatureEdge) (e : FeatureEdge) → fixed_place (edge_facts e) ≡ None → IsParted old → IsParted (old ++ e ∷ [])
 parted_more old e h parted = record {
   to_base = keeps_more old e 0 base_edge parted.to_base;
@@ -82,7 +82,7 @@ not_fixed (section_edge l) h = refl
 not_first : (p : ℕ) → 2 ≤ p → nat_lt p 2 ≡ false
 not_first p h = grind (arith, nat_tests)
 
--- the places of the unconditional edges are the first ones
+-- the unconditional edges have the first places
 chosen_at : (pool : List FeatureEdge) (p : ℕ) (f : EdgeFacts) → IsParted pool → slice_get (map edge_facts pool) p ≡ Some f → is_chosen FeatureToBaseAndNamed f ≡ nat_lt p 2
 chosen_at pool zero f parted is = ap (is_chosen FeatureToBaseAndNamed) (sym (got_same base_edge f (sym parted.to_base ∙ is)))
 chosen_at pool (suc zero) f parted is = ap (is_chosen FeatureToBaseAndNamed) (sym (got_same feature_edge f (sym parted.to_named ∙ is)))

@@ -1,4 +1,4 @@
--- A link that covers a declaration is present for some kind, so each edge of the tables has a link that is present.
+-- A link that covers a declaration is present for some kind, so each edge of the tables has a present link.
 use Rattle.std.proofs.Common.{◌≡◌, ℕ, zero, suc, ◌+◌, ◌<◌, ⊎_elim, List, [], ◌∷◌, length, Bool, true, false, cond, Option, None, Some, map, refl, ap, sym, ◌∙◌, subst, arith, if◌then◌else◌, is_some}
 use Rattle.std.specs.Prelude.{filter, filter_map, flat_map, slice_get, Contains, IsTrue, ◌&&◌, ◌||◌, ◌==◌, not, nat_lt, position}
 use Rattle.std.specs.List.{list_any, position_or_len}
@@ -32,7 +32,7 @@ use Rattle.feature_core.proofs.PartLemmas.{list_any_there, list_any_back}
 use Rattle.feature_core.proofs.Places.{IsSpread, node_back}
 use Rattle.feature_core.proofs.PushLemmas.{into_map, into_filter}
 
--- platforms with a spec
+-- the status of platforms with a spec isn't never
 specs_there : (platforms : List (Option Text)) (text : Text) → Contains platforms (Some text) → is_never (status_by (firsts bytes_eq (filter_map (λ p. p) platforms))) ≡ false
 specs_there [] text h = absurd (Contains-none (Some text) h)
 specs_there (Some s ∷ platforms) text h = refl
@@ -79,7 +79,7 @@ turned a b h = grind (arith, nat_tests)
 both_true : (a b : Bool) → a ≡ true → b ≡ true → a && b ≡ true
 both_true a b h i = rw (h, i)
 
--- a kind of which a covered declaration is
+-- the status of a kind with a covered declaration isn't never
 status_there : (kind : DependencyKind) (passes : Declared → Bool) (links : List (ℕ × LinkTable)) (l : ℕ × LinkTable) (d : Declared) → Contains links l → Contains l.1.declarations d
     → passes d ≡ true → is_kind kind d.kind ≡ true → is_never (status_of kind passes links) ≡ false
 status_there kind passes links l d h i p e =
@@ -100,7 +100,7 @@ dev_there true true c h = rw h
 dev_there true false c h = refl
 dev_there false b c h = refl
 
--- a link that covers a declaration
+-- a link that covers a declaration is present
 over_there : (which : LinkDeclarations) (passes : Declared → Bool) (links : List (ℕ × LinkTable)) (l : ℕ × LinkTable) (d : Declared) → Contains links l → Contains l.1.declarations d
     → passes d ≡ true → IsTrue (is_present (over which passes links))
 over_there which passes links l d h i p = go d.kind refl
@@ -116,7 +116,7 @@ over_there which passes links l d h i p = go d.kind refl
     go Build e = build_there (never Normal) (never Build) (never Development) (there Build (ap (is_kind Build) e))
     go Development e = dev_there (never Normal) (never Build) (never Development) (there Development (ap (is_kind Development) e))
 
--- the link over one package link, of which a declaration is covered
+-- the link over one package link with a covered declaration is present
 one_there : (which : LinkDeclarations) (passes : Declared → Bool) (k : ℕ) (link : LinkTable) → IsTrue (list_any passes link.declarations) → IsTrue (is_present (over which passes ((k, link) ∷ [])))
 one_there which passes k link h =
     let q = list_any_back passes link.declarations h in
@@ -140,7 +140,7 @@ two : (a b : Bool) → a && b ≡ true → (a ≡ true) × (b ≡ true)
 two true b h = (refl, h)
 two false b h = cc
 
--- a name with an optional node
+-- a package with an optional node has a link of its name with an optional declaration
 name_there : (t : Tables) → AreTables t → (n p : ℕ) (name : Text) → NodeAt t n p (optional name) → IsTrue (has_optional_link p name t.links)
 name_there t tables n p name at = go (optional_place name s.row.optional_names) refl
   where
@@ -190,7 +190,7 @@ name_link t tables n p name at which covers =
     let h = optional_there t p name (name_there t tables n p name at) in
     over_there which (λ d. includes which d) (links_named t p name) (h.number, h.link) h.declared h.among h.there (covers h.declared h.is_optional)
 
--- what is built of the edge has no link, or one that is present
+-- the built edge has no link, or a present one
 abbrev IsSound : Tables → Edge → Type 0
 IsSound t e = (weak : List ℕ) (l : LinkFacts) → full_link (facts_of t weak e) ≡ Some l → IsTrue (is_present l)
 
@@ -207,7 +207,7 @@ section_sound t u w which label e h =
     sound_of t e (section (over which (requesting h.asked which) ((h.k, h.link) ∷ []))) h.is_edge
     (λ weak l i. same_link (over which (requesting h.asked which) ((h.k, h.link) ∷ [])) l i (one_there which (requesting h.asked which) h.k h.link h.is_requested))
 
--- each candidate
+-- the same for each candidate
 candidate_sound : (t : Tables) → AreTables t → (u w : ℕ) (e : Edge) → Candidate t u w e → IsSound t e
 candidate_sound t tables u w e (to_base p label from differ to is) = sound_of t e feature_to_base is (λ weak l h. cc)
 candidate_sound t tables u w e (to_feature p f g item differ from to is) = sound_of t e named_feature is (λ weak l h. cc)
@@ -224,7 +224,7 @@ candidate_sound t tables u w e (with_feature p n f d g item from beside differ t
 candidate_sound t tables u w e (of_required s) = section_sound t u w Required (λ link. base) e s
 candidate_sound t tables u w e (of_optional s) = section_sound t u w Optional (λ link. optional link.name) e s
 
--- the link of each conditional edge that is built is present
+-- the link of each built conditional edge is present
 pub links_present : (t : Tables) → AreTables t → (b : Built) → IsBuilt t b → (k : ℕ) (e : ℕ × ℕ × EdgeFacts) (l : LinkFacts) → slice_get b.edges k ≡ Some e → full_link e.2 ≡ Some l → IsTrue (is_present l)
 links_present t tables b h k e l at is =
     ∥∥₁_elim
@@ -232,7 +232,7 @@ links_present t tables b h k e l at is =
     (Bool-set _ _)
     (λ s. candidate_sound t tables e.0 e.1 s.0 s.1.candidate (map (λ x. x.0) b.weak) l (ap full_link (sym s.2) ∙ is))
 
--- the first place at which an edge passes is that at which what it says passes
+-- the first edge that passes has the place of the first value that passes
 module _ (p : EdgeFacts → Bool) where
   or_len_built : (ends : List End) (facts : List EdgeFacts) → length facts ≡ length ends → position_or_len (λ e. p e.2) (built_edges ends facts) ≡ position_or_len p facts
   or_len_built [] [] h = refl

@@ -1,4 +1,4 @@
--- What the steps of the builder add.
+-- The keys that the builder's steps add.
 use Rattle.std.proofs.Common.{◌≡◌, ◌≢◌, ℕ, zero, suc, ◌+◌, ◌<◌, ◌≤◌, ◌⊎◌, inl, inr, ⊎_elim, List, ◌∷◌, [], length, map, Bool, true, false, cond, Option, Some, None, refl, ap, sym, ◌∙◌, subst, arith, not, true≢false}
 use Rattle.std.specs.Prelude.{slice_get, Contains, ◌↔◌, ◌&&◌, ◌==◌, filter}
 use Rattle.std.specs.Str.{bytes_eq}
@@ -19,7 +19,7 @@ use Rattle.feature_core.specs.inner.Parts.{key, over_rank, IsToFirst, IsTo, IsOv
 use Rattle.feature_core.proofs.NodeLabels.{element_within}
 use Rattle.feature_core.proofs.AddsLemmas.{Adds-nothing, Adds-then, Adds-as, place_of_element, element_at_place, place_below, Contains-first, Contains-later, Contains-cases, Contains-none}
 
--- a key to the node of a label, where its number is told
+-- a key to the node of a label, whose number is known
 pub pushed_to : (t : Tables) (u p rank source place : ℕ) (label : LabelName) (to : Option ℕ) (a b : List Key) → ((n : ℕ) → (to ≡ Some n) ↔ NodeAt t n p label)
     → Adds (λ x. (w : ℕ) × (to ≡ Some w) × (x ≡ key u w rank source place)) a b → Adds (IsTo t u p label rank source place) a b
 pushed_to t u p rank source place label to a b told h = Adds-as (λ x. (w : ℕ) × (to ≡ Some w) × (x ≡ key u w rank source place)) (IsTo t u p label rank source place) a b
@@ -27,11 +27,11 @@ pushed_to t u p rank source place label to a b told h = Adds-as (λ x. (w : ℕ)
     (λ x i. (i.0, (told i.0).1 i.1, i.2))
     h
 
--- the same elements, by a number that is told otherwise
+-- the same elements, for an equal number
 pub Adds-for : {X : Type 0} (P : ℕ → X → Type 0) (m n : ℕ) (a b : List X) → m ≡ n → Adds (P m) a b → Adds (P n) a b
 Adds-for P m n a b e h = subst (λ z. Adds (P z) a b) e h
 
--- a key from node k to the first
+-- a key from node `k` to the first
 pub first_pushed : (first k : ℕ) (a b : List Key) → 0 < k → Adds (λ x. (w : ℕ) × (◌≡◌ {A = Option ℕ} (Some first) (Some w)) × (x ≡ key (first + k) w 1 0 0)) a b → Adds (IsToFirst first k) a b
 first_pushed first k a b l h = Adds-as (λ x. (w : ℕ) × (◌≡◌ {A = Option ℕ} (Some first) (Some w)) × (x ≡ key (first + k) w 1 0 0)) (IsToFirst first k) a b
     (λ x i. let e : first ≡ i.0 = cc in (l, i.2 ∙ ap (λ z. key (first + k) z 1 0 0) (sym e)))
@@ -41,14 +41,14 @@ first_pushed first k a b l h = Adds-as (λ x. (w : ℕ) × (◌≡◌ {A = Optio
 pub first_none : (first n : ℕ) (a : List Key) → n ≤ 1 → Adds (Below n (IsToFirst first)) a a
 first_none first n a l = Adds-nothing (Below n (IsToFirst first)) a (λ x h. omega (arith, h.1, h.2.0))
 
--- nothing more where the end has been passed
+-- no further keys past the end
 pub first_end : (first n count : ℕ) (a b : List Key) → count ≤ n → n ≤ 1 ⊎ (n ≡ count) → Adds (Below n (IsToFirst first)) a b → Adds (Below count (IsToFirst first)) a b
 first_end first n count a b l e h = Adds-as (Below n (IsToFirst first)) (Below count (IsToFirst first)) a b
     (λ x i. (i.0, ⊎_elim (λ s. absurd (omega (arith, i.1, i.2.0, s))) (λ s. omega (arith, i.1, s)) e, i.2))
     (λ x i. (i.0, omega (arith, i.1, l), i.2))
     h
 
--- over link k, whose own declarations tell the rank
+-- a key over link `k`, whose declarations determine the rank
 pub link_pushed : (t : Tables) (u k rank : ℕ) (g : Text) (weak : Bool) (link : LinkTable) (a b : List Key) → IsLink t k link → rank ≡ over_rank weak link
     → Adds (IsTo t u link.to (named g) rank k 0) a b → Adds (IsOverLink t u g weak k) a b
 link_pushed t u k rank g weak link a b is e h = Adds-as (IsTo t u link.to (named g) rank k 0) (IsOverLink t u g weak k) a b
@@ -61,7 +61,7 @@ link_pushed t u k rank g weak link a b is e h = Adds-as (IsTo t u link.to (named
     same_link : (other : LinkTable) → ◌≡◌ {A = Option LinkTable} (Some other) (Some link) → other ≡ link
     same_link other e = cc
 
--- over the links in a list, as far as a place
+-- the keys over the link at a place of a list
 abbrev pub OverAt : Tables → ℕ → Text → Bool → List ℕ → ℕ → Key → Type 0
 OverAt t u g weak links i x = (k : ℕ) × (slice_get links i ≡ Some k) × IsOverLink t u g weak k x
 
@@ -81,7 +81,7 @@ over_end t u n g weak links a b l h = Adds-as (Below n (OverAt t u g weak links)
     (λ x i. (i.0, omega (arith, l, place_below links i.0 i.1 i.2), (i.1, i.2, i.3)))
     h
 
--- the links of a package under a name are those numbers
+-- the links of a package under a name have these numbers
 numbered_back : (q : ℕ) (ls : List LinkTable) (k : ℕ) (link : LinkTable) → Contains (numbered q ls) (k, link) → (j : ℕ) × (k ≡ q + j) × (slice_get ls j ≡ Some link)
 numbered_back q [] k link h = absurd (Contains-none (k, link) h)
 numbered_back q (l ∷ ls) k link h = ⊎_elim
@@ -149,7 +149,7 @@ is_same m n h = grind (arith, nat_tests)
 abbrev pub IsUnder : Tables → ℕ → Text → ℕ → Type 0
 IsUnder t p d k = (link : LinkTable) × IsLink t k link × (link.from ≡ p) × (link.name ≡ d)
 
--- a number in the list of a package and a name is that of such a link
+-- a number in the list of a package and a name is the number of such a link
 pub under_back : (t : Tables) (p : ℕ) (d : Text) (i k : ℕ) → slice_get (link_numbers t p d) i ≡ Some k → (link : LinkTable) × IsLink t k link × (link.from ≡ p) × (link.name ≡ d)
 under_back t p d i k h =
     let test : ℕ × LinkTable → Bool = λ l. (l.1.from == p) && bytes_eq l.1.name d in
@@ -167,7 +167,7 @@ under_there t p d k link is f n =
     let kept = into_filter test (numbered 0 t.links) (k, link) among (both_true (link.from == p) (bytes_eq link.name d) (is_same link.from p f) ((bytes_decides link.name d).1 n)) in
     place_of_element (link_numbers t p d) k (into_map (λ l. l.0) (filter test (numbered 0 t.links)) (k, link) kept)
 
--- over the links of the list of a package and a name
+-- the keys over the links in the list of a package and a name
 pub over_named : (t : Tables) (u p : ℕ) (d g : Text) (weak : Bool) (links : List ℕ) (a b : List Key) → links ≡ link_numbers t p d
     → Adds (λ x. (i k : ℕ) × (slice_get links i ≡ Some k) × IsOverLink t u g weak k x) a b → Adds (λ x. (k : ℕ) × IsOver t u p d g weak k x) a b
 over_named t u p d g weak links a b e h = Adds-as (λ x. (i k : ℕ) × (slice_get links i ≡ Some k) × IsOverLink t u g weak k x) (λ x. (k : ℕ) × IsOver t u p d g weak k x) a b
@@ -192,28 +192,28 @@ pub list_any-map : {X Y : Type 0} (f : X → Y) (p : Y → Bool) (xs : List X) �
 list_any-map f p [] = refl
 list_any-map f p (x ∷ xs) = rw (list_any-map f p xs)
 
--- no key beside, where the package has no such optional dependency
+-- no key beside, if the package has no such optional dependency
 pub none_beside : (t : Tables) (u p : ℕ) (f d : Text) (a : List Key) → ((n : ℕ) → (◌≡◌ {A = Option ℕ} None (Some n)) ↔ NodeAt t n p (optional d)) → Adds (IsBeside t u p f d) a a
 none_beside t u p f d a told = Adds-nothing (IsBeside t u p f d) a (λ x h. ⊎_elim (λ i. gone i.0 ((told i.0).1 i.1)) (λ i. gone i.1.0 ((told i.1.0).1 i.1.1)) h)
   where
     gone : (n : ℕ) → ◌≡◌ {A = Option ℕ} None (Some n) → ⊥
     gone n e = cc
 
--- the keys beside, where the name is the feature's
+-- the keys beside, if the name is the feature's
 pub one_beside : (t : Tables) (u p : ℕ) (f d : Text) (a b : List Key) → d ≡ f → Adds (IsTo t u p (optional d) 5 0 0) a b → Adds (IsBeside t u p f d) a b
 one_beside t u p f d a b same h = Adds-as (IsTo t u p (optional d) 5 0 0) (IsBeside t u p f d) a b
     (λ x i. inl i)
     (λ x i. ⊎_elim (λ j. j) (λ j. absurd (j.0 same)) i)
     h
 
--- the keys beside, where it is another
+-- the keys beside, if the name is another one
 pub two_beside : (t : Tables) (u n p : ℕ) (f d : Text) (a b c : List Key) → d ≢ f → NodeAt t n p (optional d) → Adds (IsTo t u p (optional d) 5 0 0) a b → Adds (IsTo t u p (named d) 5 0 0) b c → Adds (IsBeside t u p f d) a c
 two_beside t u n p f d a b c differ at g h = Adds-as (λ x. IsTo t u p (optional d) 5 0 0 x ⊎ IsTo t u p (named d) 5 0 0 x) (IsBeside t u p f d) a c
     (λ x i. ⊎_elim (λ j. inl j) (λ j. inr (differ, (n, at), j)) i)
     (λ x i. ⊎_elim (λ j. inl j) (λ j. inr j.2) i)
     (Adds-then (IsTo t u p (optional d) 5 0 0) (IsTo t u p (named d) 5 0 0) a b c g h)
 
--- a test of texts that differ, and of texts that are one
+-- unequal texts, and equal ones
 pub texts_differ : (c d : Text) → true ≡ not (bytes_eq c d) → c ≢ d
 texts_differ c d h e = go (bytes_eq c d) h ((bytes_decides c d).1 e)
   where
@@ -255,14 +255,14 @@ strong_item t u p f d g weak a b c e h i = Adds-as (λ x. ((k : ℕ) × IsOver t
 pub item_read : (t : Tables) (u p : ℕ) (f : Text) (said read : Item) (a b : List Key) → said ≡ read → Adds (IsOfItem t u p f said) a b → Adds (IsOfItem t u p f read) a b
 item_read t u p f said read a b e h = subst (λ z. Adds (IsOfItem t u p f z) a b) e h
 
--- what stands at a place alone is what stands at some place
+-- the elements for some place below `n` are the elements for some place
 pub Adds-all : {X : Type 0} (P : ℕ → X → Type 0) (n : ℕ) (a b : List X) → ((k : ℕ) (x : X) → P k x → k < n) → Adds (Below n P) a b → Adds (λ x. (k : ℕ) × P k x) a b
 Adds-all P n a b within h = Adds-as (Below n P) (λ x. (k : ℕ) × P k x) a b
     (λ x i. (i.0, i.2))
     (λ x i. (i.0, within i.0 x i.1, i.1))
     h
 
--- by the item at a place
+-- the keys of the item at a place
 pub item_at : (t : Tables) (u p k : ℕ) (feature : FeatureTable) (text name : Text) (a b : List Key) → slice_get feature.items k ≡ Some text → name ≡ feature.name → Adds (IsOfItem t u p name (item_of text)) a b → Adds (IsOfItemAt t u p feature k) a b
 item_at t u p k feature text name a b at e h = Adds-as (IsOfItem t u p name (item_of text)) (IsOfItemAt t u p feature k) a b
     (λ x i. (text, at, subst (λ z. IsOfItem t u p z (item_of text) x) e i))
@@ -277,7 +277,7 @@ item_at t u p k feature text name a b at e h = Adds-as (IsOfItem t u p name (ite
 pub items_within : (t : Tables) (u p : ℕ) (feature : FeatureTable) (k : ℕ) (x : Key) → IsOfItemAt t u p feature k x → k < length feature.items
 items_within t u p feature k x h = place_below feature.items k h.0 h.1
 
--- by the feature at a place
+-- the keys of the feature at a place
 pub feature_at : (t : Tables) (p k u : ℕ) (table : PackageTable) (feature : FeatureTable) (a b : List Key) → slice_get table.features k ≡ Some feature → u ≡ first_node t p + 1 + k → Adds (λ x. (j : ℕ) × IsOfItemAt t u p feature j x) a b → Adds (IsOfFeatureAt t p table k) a b
 feature_at t p k u table feature a b at e h = Adds-as (λ x. (j : ℕ) × IsOfItemAt t u p feature j x) (IsOfFeatureAt t p table k) a b
     (λ x i. (feature, at, subst (λ z. (j : ℕ) × IsOfItemAt t z p feature j x) e i))
@@ -292,7 +292,7 @@ feature_at t p k u table feature a b at e h = Adds-as (λ x. (j : ℕ) × IsOfIt
 pub features_within : (t : Tables) (p : ℕ) (table : PackageTable) (k : ℕ) (x : Key) → IsOfFeatureAt t p table k x → k < length table.features
 features_within t p table k x h = place_below table.features k h.0 h.1
 
--- by a package: its nodes, then its items
+-- the keys of a package: of its nodes, then of its items
 pub package_at : (t : Tables) (p first count : ℕ) (table : PackageTable) (a b c : List Key) → IsPackage t p table → first ≡ first_node t p → count ≡ length (labels_of table)
     → Adds (Below count (IsToFirst first)) a b → Adds (λ x. (k : ℕ) × IsOfFeatureAt t p table k x) b c → Adds (IsOfPackageAt t p) a c
 package_at t p first count table a b c is e n h i =
@@ -311,7 +311,7 @@ package_at t p first count table a b c is e n h i =
 pub packages_within : (t : Tables) (p : ℕ) (x : Key) → IsOfPackageAt t p x → p < length t.packages
 packages_within t p x h = place_below t.packages p h.0 h.1
 
--- by link k, which leaves package p
+-- the keys of link `k`, which leaves package `p`
 abbrev pub IsOfLinkFrom : Tables → ℕ → ℕ → Key → Type 0
 IsOfLinkFrom t p k x = IsLinkFrom t p k × IsOfLinkAt t k x
 
@@ -336,7 +336,7 @@ module _ (t : Tables) (p first end : ℕ) (are : AreLinksFrom t.links p first en
       (λ x i. (i.0, (i.1, i.2)))
       (Adds-all (IsOfLinkFrom t p) n a b (λ k x i. let w = leaves_within k i.0 in omega (arith, w.1, l)) h)
 
--- by the links that leave a package, then by the package, from none on
+-- the keys of the links that leave a package, then those of the package, appended to an empty list
 pub all_of_source : (t : Tables) (p : ℕ) (a b c : List Key) → a ≡ [] → Adds (λ x. (k : ℕ) × IsLinkFrom t p k × IsOfLinkAt t k x) a b → Adds (IsOfPackageAt t p) b c → (x : Key) → Contains c x ↔ IsOfSource t p x
 all_of_source t p a b c e f g x =
     let all : Adds (λ x. ((k : ℕ) × IsLinkFrom t p k × IsOfLinkAt t k x) ⊎ IsOfPackageAt t p x) a c = Adds-then (λ x. (k : ℕ) × IsLinkFrom t p k × IsOfLinkAt t k x) (IsOfPackageAt t p) a b c f g in (

@@ -1,4 +1,4 @@
--- Parts of the tables of which no warning is, one after another.
+-- Parts of the tables without a warning, one after another.
 use Rattle.std.proofs.Common.{◌≡◌, ℕ, zero, suc, ◌+◌, ◌<◌, ◌≤◌, ⊎_elim, List, [], ◌∷◌, ◌++◌, Bool, true, false, not, length, take, Option, Some, None, refl, ap, sym, ◌∙◌, subst, is_some, replicate, if◌then◌else◌}
 use Rattle.std.specs.Prelude.{slice_get, slice_set, flat_map, IsTrue, ◌&&◌, ◌↔◌, codes}
 use Rattle.std.specs.Option.{option_map_or}
@@ -22,7 +22,7 @@ use Rattle.feature_core.proofs.RequestLemmas.{declaration_place}
 use Rattle.feature_core.proofs.WarningLemmas.{added-next, added-all, placed-any, lack_at, with_links}
 use Rattle.feature_core.proofs.WayNumbers.{marked_cases}
 
--- some items of feature f of package p, and the declarations of link k before place j
+-- some items of feature `f` of package `p` have no warning; the declarations of link `k` before place `j` have none
 abbrev pub IsQuietItems : Tables → ℕ → Text → List Text → Type 0
 IsQuietItems t p f items = (table : PackageTable) → IsPackage t p table → flat_map (λ text. of_item t p table f (item_of text)) items ≡ []
 
@@ -34,7 +34,7 @@ and_cases true b h = (refl, h)
 and_cases false b h = cc
 
 module _ {X Y : Type 0} (f : X → List Y) where
-  -- one more that gives nothing
+  -- one more element without a warning
   pub quiet-next : (xs : List X) (i : ℕ) (x : X) (before told after : Bool) → slice_get xs i ≡ Some x → after ≡ before && told → (IsTrue before → flat_map f (take i xs) ≡ []) → (IsTrue told → f x ≡ []) → IsTrue after → flat_map f (take (i + 1) xs) ≡ []
   quiet-next xs i x before told after at e b a h =
       let both = and_cases before told (sym e ∙ h) in
@@ -60,7 +60,7 @@ no_number : (n : ℕ) → ◌≡◌ {A = Option ℕ} None (Some n) → ⊥
 no_number n e = cc
 
 module _ (t : Tables) (p : ℕ) (table : PackageTable) (is : IsPackage t p table) (name : Text) (n : ℕ) where
-  -- a package has what is a node of it
+  -- a package has the name of each of its nodes
   pub has_named : NodeAt t n p (named name) → has_feature name table.features ≡ true
   has_named at = not_false (has_feature name table.features) (λ e.
       let none : feature_place name table.features ≡ None = absent (feature_place name table.features) (placed-any (λ f. bytes_eq name f.name) table.features ∙ e) in
@@ -71,7 +71,7 @@ module _ (t : Tables) (p : ℕ) (table : PackageTable) (is : IsPackage t p table
       let none : optional_place name table.optional_names ≡ None = absent (optional_place name table.optional_names) (placed-any (bytes_eq name) table.optional_names ∙ e) in
       no_number n ((optional_missing t p table is name none n).1 at))
 
--- no lack of what was looked up and found
+-- a name that was looked up and found is not missing
 pub found_named : (t : Tables) (p : ℕ) (name : Text) (to : Option ℕ) → ((n : ℕ) → (to ≡ Some n) ↔ NodeAt t n p (named name)) → is_some to ≡ true → lack_in t p name ≡ []
 found_named t p name to told h = go (slice_get t.packages p) refl
   where
@@ -98,7 +98,7 @@ dependency_found t p f d to told h table is =
     let x = present to h in
     ap (λ b. if b then [] else missing_feature table.id (codes "dep:" ++ d) ∷ []) (has_optional t p table is d x.0 ((told x.0).0 x.1))
 
--- an item with a slash, where each target of the links under its name has the feature
+-- an item with a slash, if each target of the links under its name has the feature
 pub slash_found : (t : Tables) (p : ℕ) (f d g : Text) (weak : Bool) (links : List ℕ) → links ≡ link_numbers t p d → (0 < length links) × (flat_map (lack_by t g) links ≡ []) → IsQuietItem t p f (slash_item d g weak)
 slash_found t p f d g weak links e h table is = sym (with_links t table d g p links e h.0) ∙ h.1
 
@@ -129,7 +129,7 @@ features_all t p k features l h table is = quiet-all (λ f. flat_map (λ text. o
 pub package_found : (t : Tables) (p : ℕ) (table : PackageTable) → IsPackage t p table → AreQuietFeatures t p table.features → IsQuietPackage t p
 package_found t p table is h other same = subst (λ z. of_package t (p, z) ≡ []) (got_same table other (sym is ∙ same)) (h table is)
 
--- a declaration whose names the link's target has, one more declaration, and all of a link
+-- a declaration whose names the link's target has, one more declaration, and all declarations of a link
 pub declaration_found : (t : Tables) (k j q : ℕ) (link : LinkTable) (d : Declared) → IsLink t k link → slice_get link.declarations j ≡ Some d → q ≡ link.to → flat_map (lack_in t q) d.features ≡ [] → IsQuietDeclaration t k j
 declaration_found t k j q link d is at e h other said same there =
     let one : link ≡ other = got_same link other (sym is ∙ same) in
@@ -148,7 +148,7 @@ declarations_all t k j link is l h other same =
     let one : link ≡ other = got_same link other (sym is ∙ same) in
     quiet-all (λ d. flat_map (lack_over t other) d.features) other.declarations j (subst (λ z. length z.declarations ≤ j) one l) (h other same)
 
--- what is put into a set where this is told
+-- a set into which `i` is inserted if `told` is true
 module _ (set new : List Bool) (i : ℕ) (told : Bool) (is : new ≡ (if told then slice_set set i true else set)) where
   noted_long : length new ≡ length set
   noted_long = go told is
@@ -170,7 +170,7 @@ module _ (set new : List Bool) (i : ℕ) (told : Bool) (is : new ≡ (if told th
   pub link_noted : (t : Tables) → AreQuietLinks t set → (IsTrue told → IsQuietLink t i) → AreQuietLinks t new
   link_noted t old this = record { long = noted_long ∙ old.long; each = noted_each (IsQuietLink t) old.each this }
 
--- a set of none
+-- the empty set
 none_there : (n k : ℕ) → has (replicate n false) k ≡ false
 none_there zero k = refl
 none_there (suc n) zero = refl

@@ -42,7 +42,7 @@ record Chosen (t : Tables) (u w : ℕ) (l : LinkFacts) : Type 0 where
   at_w : NodeAt t w p (optional d) ⊎ NodeAt t w p (named d)
   is : l ≡ by_name t p Optional d
 
--- what a candidate says by its edge
+-- the case of a candidate, by its edge
 Told : Tables → ℕ → ℕ → Edge → Type 0
 Told t u w feature_to_base = Unit {0}
 Told t u w named_feature = Unit {0}
@@ -64,7 +64,7 @@ told t u w e (with_feature p n f d g i a b c m q) = subst (λ x. Told t u w x) (
 told t u w e (of_required s) = subst (λ x. Told t u w x) (sym s.is_edge) (inl (subst (λ x. IsSection t u w Required (λ link. base) x) s.is_edge s))
 told t u w e (of_optional s) = subst (λ x. Told t u w x) (sym s.is_edge) (inr (subst (λ x. IsSection t u w Optional (λ link. optional link.name) x) s.is_edge s))
 
--- one link a pair of packages
+-- a pair of packages has one link
 pub same_link : (t : Tables) → AreTables t → (k j : ℕ) (l m : LinkTable) → IsLink t k l → IsLink t j m → l.from ≡ m.from → l.to ≡ m.to → (k ≡ j) × (l ≡ m)
 same_link t tables k j l m a b p q =
     let pair : (m.from, m.to) ≡ (l.from, l.to) = cc in
@@ -94,7 +94,7 @@ named_optional c d h = cc
 base_optional : (d : Text) → base ≡ optional d → ⊥
 base_optional d h = cc
 
--- two names of one node
+-- a node has one package
 pub same_home : (t : Tables) (n p q : ℕ) (x y : LabelName) → NodeAt t n p x → NodeAt t n q y → p ≡ q
 same_home t n p q x y a b = ap (λ z. z.0) (same_got _ n (p, x) (q, y) a b)
 

@@ -19,11 +19,11 @@ pub path_in : (c : Content) (A : ℕ → Half → Bool) (S : ℕ → Type 0) →
 path_in c A S f a [] b p s = subst S p s
 path_in c A S f a (e ∷ es) b (w, is, st, op, rest) s = path_in c A S f w.far es b rest (f e w is op (subst S (sym st) s))
 
--- what holds the initial nodes and is closed along open ways holds what is reached
+-- a set that contains the initial nodes and is closed along open ways contains the reach
 pub reach_in : (c : Content) (I : ℕ → Bool) (A : ℕ → Half → Bool) (S : ℕ → Type 0) → ((n : ℕ) → IsTrue (I n) → S n) → ((e : ℕ) (w : Way) → IsWay c e w → IsTrue (is_open A e w.ask) → S w.start → S w.far) → (n : ℕ) → Reach c I A n → S n
 reach_in c I A S i f n (a, es, start, p) = path_in c A S f a es n p (i a start)
 
--- an open way is open because nobody is asked or an offer is accepted
+-- an open way is unconditional, or one of its offers is accepted
 pub open_cases : (A : ℕ → Half → Bool) (e : ℕ) (ask : Ask) → IsTrue (is_open A e ask) → (ask ≡ asks.Nobody) ⊎ ((h : Half) × IsTrue (has_half ask h) × IsTrue (A e h))
 open_cases A e asks.Nobody t = inl refl
 open_cases A e asks.Full t = inr (Full, refl, t)

@@ -1,4 +1,4 @@
--- The table of releases, as it is made.
+-- The table of releases, as it is built.
 use Rattle.std.proofs.Common.{◌≡◌, ℕ, zero, suc, ◌+◌, ◌-◌, ◌<◌, ◌≤◌, ◌⊎◌, inl, inr, ⊎_elim, Bool, true, false, cond, List, [], ◌∷◌, ◌++◌, Option, Some, None, length, refl, sym, ◌∙◌, ap, subst, arith}
 use Rattle.std.specs.Prelude.{◌==◌, ◌↔◌, slice_get, slice_index_or, Contains, AllPairs, IsPermutation, count_by, nat_lt}
 use Rattle.std.specs.Ordering.{is_lt, nat_cmp, ordering_then}
@@ -19,7 +19,7 @@ use Rattle.feature_core.proofs.Released.{Contains-first, Contains-later, Contain
 pair_same : (a b c d : ℕ) → a ≡ c → b ≡ d → ◌≡◌ {A = ℕ × ℕ} (a, b) (c, d)
 pair_same a b c d p q = cc
 
--- an edge, counted from n on, has this gate
+-- edge `e`, counted from `n` on, has this gate
 abbrev HasGate : List (ℕ × ℕ) → ℕ → List EdgeFacts → ℕ → ℕ → Type 0
 HasGate weak n fs gate e = (i : ℕ) × (e ≡ n + i) × ((f : EdgeFacts) × (slice_get fs i ≡ Some f) × (gate_of weak f ≡ Some gate))
 
@@ -42,7 +42,7 @@ module _ (weak : List (ℕ × ℕ)) where
       (λ (q : Contains (releases_from weak (n + 1) fs) (gate, e)). gate_later weak n f fs gate e (later q))
       (Contains-cases (g, n) (releases_from weak (n + 1) fs) (gate, e) h)
 
-  -- each release is of an edge with the gate
+  -- each release belongs to an edge with the gate
   has_gate : (n : ℕ) (fs : List EdgeFacts) (gate e : ℕ) → Contains (releases_from weak n fs) (gate, e) → HasGate weak n fs gate e
   has_gate n [] gate e h = absurd (none_contained (gate, e) h)
   has_gate n (f ∷ fs) gate e h = has_gate_put n f fs gate e (gate_of weak f) refl (has_gate (n + 1) fs gate e)
@@ -58,7 +58,7 @@ module _ (weak : List (ℕ × ℕ)) where
       let same : g ≡ gate = cc in
       subst (λ (p : ℕ × ℕ). Contains ((g, n) ∷ rest) p) (pair_same g n gate e same (sym i)) (Contains-first (g, n) rest)
 
-  -- and each edge with a gate has its release
+  -- each edge with a gate has a release
   has_release : (n : ℕ) (fs : List EdgeFacts) (gate e i : ℕ) (f : EdgeFacts) → e ≡ n + i → slice_get fs i ≡ Some f → gate_of weak f ≡ Some gate → Contains (releases_from weak n fs) (gate, e)
   has_release n [] gate e i f is at h = absurd (cc)
   has_release n (x ∷ fs) gate e zero f is at h =
@@ -76,7 +76,7 @@ module _ (weak : List (ℕ × ℕ)) where
     (λ h. has_release 0 fs gate e e h.0 (omega arith) h.1 h.2),
   )
 
--- how often an edge's number stands in the list
+-- the number of times that an edge's number is in the list
 abbrev times : ℕ → List (ℕ × ℕ) → ℕ
 times e rs = count_by (λ r. r.1 == e) rs
 
@@ -170,7 +170,7 @@ apart x y h e = grind (arith, nat_tests)
 below_or : (x y : ℕ) → y ≤ x → (y < x) ⊎ (y ≡ x)
 below_or x y h = grind arith
 
--- b isn't less than a
+-- `b` isn't less than `a`
 pub up_from : (a b : ℕ × ℕ) → is_lt (ordering_then (nat_cmp b.0 a.0) (nat_cmp b.1 a.1)) ≡ false → IsUpTo a b
 up_from a b h =
     let k : (nat_lt b.0 a.0 ≡ false) × (((b.0 == a.0) ≡ false) ⊎ (is_lt (nat_cmp b.1 a.1) ≡ false)) = lex (nat_lt b.0 a.0) (b.0 == a.0) (nat_cmp b.1 a.1) h in

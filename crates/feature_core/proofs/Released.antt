@@ -40,7 +40,7 @@ same_first x y xs ys hx hy tx ty = ⊎_elim
     (or_cases (x == y) (is_in xs y) ty))
     (or_cases (y == x) (is_in ys x) tx)
 
--- two ascending lists of the same numbers
+-- two ascending lists with the same numbers are equal
 pub same_rising : (a b : ℕ) (xs ys : List ℕ) → Rises a xs → Rises b ys → ((n : ℕ) → IsTrue (is_in xs n) → IsTrue (is_in ys n)) → ((n : ℕ) → IsTrue (is_in ys n) → IsTrue (is_in xs n)) → xs ≡ ys
 same_rising a b [] [] hx hy f g = refl
 same_rising a b [] (y ∷ ys) hx hy f g = absurd (clash (g y (first_in y ys)) refl)
@@ -74,7 +74,7 @@ AllPairs-later R x xs h i j d l m = h (suc i) (suc j) d (omega arith) (omega ari
 pair_is : (r : ℕ × ℕ) (a b : ℕ) → r.0 ≡ a → r.1 ≡ b → r ≡ (a, b)
 pair_is (x, y) a b p q = cc
 
--- a number stands beside a gate where the pair is in the list
+-- a number with this gate is in the list with it
 pub in_released : (gate e : ℕ) (rs : List (ℕ × ℕ)) → IsTrue (is_in (released_by gate rs) e) → Contains rs (gate, e)
 in_released gate e [] t = absurd (clash t refl)
 in_released gate e (r ∷ rs) t = elim (decide (r.0 == gate)) [
@@ -100,7 +100,7 @@ released_in gate e (r ∷ rs) h = ⊎_elim
     ])
     (Contains-cases r rs (gate, e) h)
 
--- what stands beside a gate ascends
+-- the numbers with one gate ascend
 pub released_rises : (gate low : ℕ) (rs : List (ℕ × ℕ)) → AllPairs IsBefore rs → All (λ r. r.0 ≡ gate → low ≤ r.1) rs → Rises low (released_by gate rs)
 released_rises gate low [] o l = tt
 released_rises gate low (r ∷ rs) o l = elim (decide (r.0 == gate)) [
@@ -112,7 +112,7 @@ released_rises gate low (r ∷ rs) o l = elim (decide (r.0 == gate)) [
   | inr q ↦ rw q (released_rises gate low rs (AllPairs-later IsBefore r rs o) (All-tail (λ r. r.0 ≡ gate → low ≤ r.1) r rs l))
 ]
 
--- what a look-up at a place of the list says of the gate
+-- the edge of an entry of the list, if it has the gate
 abbrev pub picked : ℕ → Option (ℕ × ℕ) → Option ℕ
 picked gate None = None
 picked gate (Some r) = cond (r.0 == gate) (Some r.1) None
@@ -138,7 +138,7 @@ at_gate : (gate place : ℕ) (r : ℕ × ℕ) (rs : List (ℕ × ℕ)) → IsTru
 at_gate gate zero r rs q f = rw q refl
 at_gate gate (suc place) r rs q f = rw q (f place)
 
--- the place counts from there
+-- places count from the first entry with the gate
 pub released_place : (gate first place : ℕ) (rs : List (ℕ × ℕ)) → AllPairs IsBefore rs → Begins gate first rs → slice_get (released_by gate rs) place ≡ picked gate (slice_get (drop first rs) place)
 released_place gate zero place [] o h = refl
 released_place gate (suc first) place [] o h = refl
@@ -172,7 +172,7 @@ below_gate x y h = grind (arith, nat_tests)
 up_to_gate : (x y : ℕ) → nat_lt x y ≡ false → y ≤ x
 up_to_gate x y h = grind (arith, nat_tests)
 
--- where the gates reach this one
+-- the place of the first entry with the gate
 pub begins_at : (gate first : ℕ) (rs : List (ℕ × ℕ)) → IsPartitionPoint (λ r. nat_lt r.0 gate ≡ true) (λ r. nat_lt r.0 gate ≡ false) rs first → Begins gate first rs
 begins_at gate first rs (before, after) = record {
   before = λ k d l. below_gate (slice_index_or rs k d).0 gate (before k d (omega arith) l);

@@ -1,4 +1,4 @@
--- What the declarations of a link add.
+-- The keys that the declarations of a link add.
 use Rattle.std.proofs.Common.{◌≡◌, ℕ, ◌+◌, ◌<◌, ◌⊎◌, inl, inr, ⊎_elim, List, length, map, get_or, Bool, true, false, cond, refl, ap, sym, ◌∙◌, subst, Option, Some, None}
 use Rattle.std.specs.Prelude.{slice_get, IsTrue, ◌||◌, ◌&&◌, ◌↔◌, codes}
 use Rattle.std.specs.Str.{bytes_eq}
@@ -21,11 +21,11 @@ use Rattle.feature_core.proofs.Places.{got_same}
 use Rattle.feature_core.proofs.PartLemmas.{base_back, list_any_there, list_any_back}
 use Rattle.feature_core.proofs.AddsLemmas.{Adds-nothing, Adds-then, Adds-as, Adds-turn}
 
--- from u to a node that was looked up
+-- a key from `u` to a node that was looked up
 abbrev pub IsToFound : ℕ → Option ℕ → ℕ → ℕ → ℕ → Key → Type 0
 IsToFound u to rank source place x = (w : ℕ) × (to ≡ Some w) × (x ≡ key u w rank source place)
 
--- what was looked up is this label of package p, where that is a node
+-- `to` is the node of this label of package `p`, if it is one
 abbrev pub IsFound : Tables → ℕ → LabelName → Option ℕ → Type 0
 IsFound t p label to = (n : ℕ) → (to ≡ Some n) ↔ NodeAt t n p label
 
@@ -36,7 +36,7 @@ found_adds t u p label rank source place to a b found h =
 pub base_found : (t : Tables) (p first : ℕ) → first ≡ first_node t p → NodeAt t first p base → IsFound t p base (Some first)
 base_found t p first is node n = (λ e. subst (λ z. NodeAt t z p base) (got_same first n e) node, λ h. ap Some (is ∙ sym (base_back t n p h)))
 
--- the element at a place of what is made of each element
+-- the element at a place of a mapped list
 pub mapped_at : {X Y : Type 0} (f : X → Y) (xs : List X) (ys : List Y) (i : ℕ) (x : X) → map f xs ≡ ys → i < length xs → x ≡ get_or xs i x → slice_get ys i ≡ Some (f x)
 mapped_at f xs ys i x e l h =
     subst (λ z. slice_get z i ≡ Some (f x)) e (slice_get-map f xs i ∙ ap (option_map f) (slice_get_read xs (length xs) i x refl l h))
@@ -44,11 +44,11 @@ mapped_at f xs ys i x e l h =
 pub mapped_length : {X Y : Type 0} (f : X → Y) (xs : List X) (ys : List Y) → map f xs ≡ ys → length xs ≡ length ys
 mapped_length f xs ys e = sym (length-map xs f) ∙ ap length e
 
--- to the default feature, where d asks for it
+-- a key to the default feature, if `d` requests it
 abbrev pub IsByDefault : Tables → ℕ → ℕ → ℕ → ℕ → Declared → Key → Type 0
 IsByDefault t u p k j d x = IsTrue d.default_features × IsTo t u p (named (codes "default")) 7 k j x
 
--- to the i-th feature that d lists
+-- a key to feature `i` of those that `d` lists
 abbrev pub IsListed : Tables → ℕ → ℕ → ℕ → ℕ → Declared → ℕ → Key → Type 0
 IsListed t u p k j d i x = (g : Text) × (slice_get d.features i ≡ Some g) × IsTo t u p (named g) 7 k j x
 
@@ -92,7 +92,7 @@ and_cases : (a b : Bool) → a && b ≡ true → (a ≡ true) × (b ≡ true)
 and_cases true b h = (refl, h)
 and_cases false b h = cc
 
--- the base, the default feature where d asks for it, and the features that d lists
+-- the keys to the base, to the default feature if `d` requests it, and to the features that `d` lists
 abbrev IsAsked : Tables → ℕ → ℕ → ℕ → ℕ → Declared → ℕ → Key → Type 0
 IsAsked t u p k j d i x = (IsTo t u p base 7 k j x ⊎ IsByDefault t u p k j d x) ⊎ Below i (IsListed t u p k j d) x
 
@@ -124,7 +124,7 @@ module _ (t : Tables) (u p k j : ℕ) (d : Declared) where
           inl (inr (f.0, subst (λ z. IsTo t u p (named z) 7 k j x) same to)))
           (or_cases (list_any (λ z. bytes_eq g z) d.features) (d.default_features && bytes_eq g (codes "default")) r)
 
-  -- all that d requests
+  -- all keys that `d` requests
   pub requested : (i : ℕ) (a b c e : List Key) → length d.features ≡ i → Adds (IsTo t u p base 7 k j) a b → Adds (IsByDefault t u p k j d) b c → Adds (Below i (IsListed t u p k j d)) c e → Adds (IsRequest t u p k j d) a e
   requested i a b c e long first second third =
       Adds-as (IsAsked t u p k j d i) (IsRequest t u p k j d) a e (asked_there i) (λ x h. asked_back i x long h)
@@ -137,11 +137,11 @@ start_found t link d p first required q is node =
     subst (λ label. IsFound t link.from label (Some first)) (sym (ap (λ b. cond b (optional link.name) base) required))
     (subst (λ z. IsFound t z base (Some first)) q (base_found t p first is node))
 
--- by declaration j of link k
+-- the keys of declaration `j` of link `k`
 abbrev pub IsOfDeclaration : Tables → ℕ → ℕ → Key → Type 0
 IsOfDeclaration t k j x = (link : LinkTable) × IsLink t k link × IsOfDeclarationAt t k link j x
 
--- by declaration d, which is the j-th of link k
+-- the keys of declaration `d`, which is declaration `j` of link `k`
 abbrev IsByStart : Tables → ℕ → ℕ → LinkTable → Declared → Key → Type 0
 IsByStart t k j link d x = (u : ℕ) × NodeAt t u link.from (start_of link d) × IsRequest t u link.to k j d x
 
@@ -152,7 +152,7 @@ the_declaration t k j link d x is at h =
     let f : h.2.0 ≡ d = got_same h.2.0 d (sym m ∙ at) in
     subst (λ z. IsByStart t k j link z x) f (subst (λ l. IsByStart t k j l h.2.0 x) e h.2.2)
 
--- a declaration that starts nowhere adds nothing
+-- a declaration without a source node adds no keys
 pub no_start : (t : Tables) (k j : ℕ) (link : LinkTable) (d : Declared) (start : Option ℕ) (a : List Key) → IsLink t k link → slice_get link.declarations j ≡ Some d → IsFound t link.from (start_of link d) start → start ≡ None → Adds (IsOfDeclaration t k j) a a
 no_start t k j link d start a is at found none = Adds-nothing (IsOfDeclaration t k j) a (λ x h.
     let s = the_declaration t k j link d x is at h in

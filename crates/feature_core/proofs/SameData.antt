@@ -1,4 +1,4 @@
--- Data that is compared part by part.
+-- Data compared part by part.
 use Rattle.std.proofs.Common.{◌≡◌, ℕ, List, ◌∷◌, [], length, map, Bool, true, false, refl, ap, sym, ◌∙◌, arith}
 use Rattle.std.specs.Prelude.{◌↔◌, IsTrue}
 use Rattle.std.specs.List.{zip}
@@ -8,7 +8,7 @@ use Rattle.feature_links.specs.Facts.{EdgeFacts}
 use Rattle.feature_core.proofs.BuildLemmas.{built_ends}
 use Rattle.feature_core.proofs.SameLists.{is_not}
 
--- what the edges of a digraph say, from the pairs of their ends
+-- the edges of a digraph with their values, from the pairs of their ends
 told_by : List (ℕ × ℕ) → List EdgeFacts → List (ℕ × ℕ × EdgeFacts)
 told_by pairs facts = map (λ p. (p.0.0, p.0.1, p.1)) (zip pairs facts)
 
@@ -24,7 +24,7 @@ facts_back [] (f ∷ facts) h = absurd (omega (arith, h))
 facts_back (e ∷ edges) [] h = absurd (omega (arith, h))
 facts_back (e ∷ edges) (f ∷ facts) h = ap (λ z. f ∷ z) (facts_back edges facts (omega (arith, h)))
 
--- a list of edges as a digraph and what its edges say
+-- a list of edges as a digraph and the values of its edges
 pub record IsShown (all : List (ℕ × ℕ × EdgeFacts)) (edges : List Edge) (facts : List EdgeFacts) : Type 0 where
   pub long : length facts ≡ length edges
   pub shown : built_edges edges facts ≡ all
@@ -45,6 +45,6 @@ module _ (a b : List (ℕ × ℕ × EdgeFacts)) (d e : List Edge) (f g : List Ed
   pub pairs_apart : (pairs : Bool) → IsTrue pairs ↔ (pairs_of d ≡ pairs_of e) → pairs ≡ false → IsTrue pairs ↔ (a ≡ b)
   pairs_apart pairs h t = ((λ s. absurd (is_not pairs (pairs_of d ≡ pairs_of e) h t (h.0 s))), (λ k. h.1 (pairs_alike k)))
 
--- a comparison under other names
+-- a comparison of equal operands
 pub alike_at : {X : Type 0} (P : Type 0) (p q a b : X) → p ≡ a → q ≡ b → (P ↔ (p ≡ q)) → (P ↔ (a ≡ b))
 alike_at P p q a b h i k = ((λ t. sym h ∙ k.0 t ∙ i), (λ e. k.1 (h ∙ e ∙ sym i)))

@@ -1,4 +1,4 @@
--- Lists that are compared element by element.
+-- Lists compared element by element.
 use Rattle.std.proofs.Common.{◌≡◌, ℕ, zero, suc, ◌+◌, ◌<◌, ◌≤◌, ◌++◌, List, ◌∷◌, [], length, map, take, get_or, Bool, true, false, Some, refl, ap, sym, ◌∙◌, arith}
 use Rattle.std.specs.Prelude.{◌↔◌, IsTrue, slice_get}
 use Rattle.std.specs.Option.{option_map}
@@ -16,14 +16,14 @@ never t = cc
 pub no : (P : Type 0) → (P → ⊥) → IsTrue false ↔ P
 no P n = ((λ t. absurd (never t)), (λ p. absurd (n p)))
 
--- what a comparison says
+-- a true comparison implies its proposition
 pub is_so : (b : Bool) (P : Type 0) → IsTrue b ↔ P → b ≡ true → P
 is_so b P h e = h.0 e
 
 pub is_not : (b : Bool) (P : Type 0) → IsTrue b ↔ P → b ≡ false → P → ⊥
 is_not b P h e p = never (sym e ∙ h.1 p)
 
--- the element that is read at a place
+-- the element at a place
 pub read : {X : Type 0} (xs : List X) (i : ℕ) (x : X) → i < length xs → x ≡ get_or xs i x → slice_get xs i ≡ Some x
 read xs i x l h = slice_get-get_or xs i x l ∙ ap Some (sym h)
 
@@ -38,7 +38,7 @@ take-whole (suc n) [] h = refl
 take-whole (suc n) (x ∷ xs) h = ap (λ z. x ∷ z) (take-whole n xs (omega (arith, h)))
 
 module _ {X Y : Type 0} (f : X → Y) (xs ys : List X) where
-  -- the first i say the same
+  -- the values of the first `i` elements are equal
   abbrev pub AreSame : ℕ → Type 0
   AreSame i = map f (take i xs) ≡ map f (take i ys)
 
@@ -57,7 +57,7 @@ module _ {X Y : Type 0} (f : X → Y) (xs ys : List X) where
   pub apart_long : (length xs ≡ length ys → ⊥) → map f xs ≡ map f ys → ⊥
   apart_long n e = n (sym (length-map xs f) ∙ ap length e ∙ length-map ys f)
 
--- the same of the elements themselves
+-- the same for the elements themselves
 module _ {X : Type 0} (xs ys : List X) where
   pub plain_all : (i : ℕ) → length xs ≤ i → length xs ≡ length ys → AreSame (λ z. z) xs ys i → xs ≡ ys
   plain_all i l e h = sym (plain xs) ∙ same_all (λ z. z) xs ys i l e h ∙ plain ys

@@ -1,4 +1,4 @@
--- The keys of a pair that a link's declarations request are those of the declarations that request it.
+-- The keys of a pair from a link's declarations are those of the declarations that request it.
 use Rattle.std.proofs.Common.{◌≡◌, ℕ, ◌<◌, ◌≤◌, inl, inr, ⊎_elim, List, [], ◌∷◌, map, length, get_or, Bool, true, false, cond, refl, ap, sym, ◌∙◌, subst, arith, Some, eqb}
 use Rattle.std.specs.Prelude.{Contains, AllPairs, ◌↔◌, IsTrue, slice_get, not, ◌&&◌, All}
 use Rattle.std.specs.List.{dedup, dedup_from}
@@ -28,7 +28,7 @@ use Rattle.feature_core.proofs.KeySays.{SaysSection}
 use Rattle.feature_core.proofs.PairLemmas.{names_differ}
 use Rattle.feature_core.proofs.Ranks.{same_home, same_label, same_link}
 
--- a key that a declaration of a link requests
+-- a key of a declaration of a link
 record IsSectionKey (t : Tables) (y : Key) : Type 0 where
   link : LinkTable
   is_link : IsLink t y.source link
@@ -116,7 +116,7 @@ joined_true : (a b : Bool) → a ≡ true → b ≡ true → a && b ≡ true
 joined_true true b h i = i
 joined_true false b h i = cc
 
--- a key of the pair, of this rank and source
+-- a key with this pair, rank and source
 abbrev IsOfPair : Key → Key → Type 0
 IsOfPair x y = (y.from ≡ x.from) × (y.to ≡ x.to) × (y.rank ≡ 7) × (y.source ≡ x.source)
 
@@ -127,12 +127,12 @@ later_place x a b (f, g, h, i) (p, q, r, o) (inr (e, inl k)) = absurd (omega (ar
 later_place x a b (f, g, h, i) (p, q, r, o) (inr (e, inr (k, inl n))) = absurd (omega (arith, n, i, o))
 later_place x a b (f, g, h, i) (p, q, r, o) (inr (e, inr (k, inr n))) = n.1
 
--- exactly the keys of the tables for the pair of a key, in order, all of declarations
+-- `run` has exactly the keys of the tables for the pair of `x`, in order, and all are keys of declarations
 pub record AreRequests (t : Tables) (x : Key) (run : List Key) : Type 0 where
   pub ordered : AllPairs IsNoLater run
   pub exact : (y : Key) → Contains run y ↔ (IsOfTables t y × (y.rank ≡ 7) × (y.from ≡ x.from) × (y.to ≡ x.to))
 
--- where the least key of a pair is of a declaration, all keys of the pair are
+-- if the least key of a pair is a declaration's, all keys of the pair are
 pub run_requests : (t : Tables) → AreTables t → (keys run : List Key) (x : Key) → ((y : Key) → Contains keys y → IsOfTables t y) → ((x y : Key) → Contains keys x → IsOfTables t y → y.from ≡ x.from → Contains keys y)
     → IsLeast keys x → x.rank ≡ 7 → IsRun keys x.from x.to run → AreRequests t x run
 run_requests t tables keys run x of whole least last is = record {
@@ -166,7 +166,7 @@ module _ (t : Tables) (tables : AreTables t) (x : Key) (l : LinkFacts) (s : Says
       (λ o. subst (λ z. NodeAt t x.from s.link.from z) (sym (of_optional s.link d (subst (λ z. IsTrue (includes z d)) o.0 i))) o.1)
       s.start
 
-  -- another key of the pair comes from the same link
+  -- another key of the pair has the same package link
   pub record IsOfLink (y : Key) : Type 0 where
     pub source : y.source ≡ x.source
     pub declared : Declared
@@ -196,7 +196,7 @@ module _ (t : Tables) (tables : AreTables t) (x : Key) (l : LinkFacts) (s : Says
       let p = both (includes s.which d) (requests d s.asked) passes in
       inr (x.source, (s.link, s.is_link, (j, (d, at, (x.from, starts d p.0, (s.asked, p.1, (x.to, s.to_node, refl)))))))
 
-  -- some declaration of the link at this place requests the label
+  -- the declaration of the link at this place requests the label
   abbrev pub RequestsAt : ℕ → Type 0
   RequestsAt j = (d : Declared) × (slice_get s.link.declarations j ≡ Some d) × IsTrue (requesting s.asked s.which d)
 
@@ -259,7 +259,7 @@ rises_from k (x ∷ xs) o = cond_has (eqb x k) (AllPairs (λ a b. a < b)) _ _
     (λ h. rises_from k xs (skip_second k x xs o))
     (λ h. AllPairs-cons (λ a b. a < b) k _ (All-dedup eqb (λ y. k < y) (x ∷ xs) (all_above k x xs h o)) (rises_from x xs (AllPairs-later (λ a b. a ≤ b) k (x ∷ xs) o)))
 
--- numbers that don't fall rise once repeats are dropped
+-- non-decreasing numbers without repeats ascend
 pub rises : (xs : List ℕ) → AllPairs (λ a b. a ≤ b) xs → AllPairs (λ a b. a < b) (dedup eqb xs)
 rises [] o = λ i j d l m. absurd (omega arith)
 rises (x ∷ xs) o = rises_from x xs o
@@ -275,7 +275,7 @@ places_passing t tables x l s run all = record {
   );
 }
 
--- which declarations of the link lead from the start
+-- the declarations of the link that lead from the source node
 pub half_is : (t : Tables) (x : Key) (l : LinkFacts) (s : SaysSection t x l) (which : LinkDeclarations)
     → ((p : ℕ) → NodeAt t x.from p base → which ≡ Required) → ((p : ℕ) (d : Text) → NodeAt t x.from p (optional d) → which ≡ Optional) → which ≡ s.which
 half_is t x l s which r o = ⊎_elim (λ h. r s.link.from h.1 ∙ sym h.0) (λ h. o s.link.from s.link.name h.1 ∙ sym h.0) s.start

@@ -1,4 +1,4 @@
--- The ends of the edges that are built make a digraph.
+-- The ends of the built edges make a digraph.
 use Rattle.std.proofs.Common.{◌≡◌, ℕ, ⊎_elim, List, length, Some, refl, ap, ◌∙◌, subst, arith, get_or}
 use Rattle.std.specs.Prelude.{slice_get, slice_index}
 use Rattle.std.specs.Option.{option_map}
@@ -19,7 +19,7 @@ use Rattle.feature_core.proofs.GraphContent.{AreWithin, candidate_within}
 use Rattle.feature_core.proofs.NodeLabels.{element_within, index_there}
 use Rattle.feature_core.proofs.PushLemmas.{into_map}
 
--- edges without a fault are refused for want of memory alone
+-- valid edges are rejected only if an allocation fails
 pub no_fault : (n : ℕ) (es : List End) (e : DigraphError) → IsDigraph (record { nodes = n; edges = es }) → IsRefused n es e → e ≡ Memory
 no_fault n es e sound (for_its_ends k l before apart) = absurd (apart (sound k l).nodes)
 no_fault n es e sound (for_its_place j k next l before nodes apart) = absurd (apart ((sound k l).sorted j next))

@@ -1,4 +1,4 @@
--- The package that a key starts at, and the least keys of one package after the other.
+-- The package that a key starts at, and the least keys of the packages in turn.
 use Rattle.std.proofs.Common.{◌≡◌, ℕ, zero, suc, ◌+◌, ◌<◌, ◌≤◌, ◌⊎◌, inl, inr, ⊎_elim, List, [], ◌∷◌, ◌++◌, length, take, get_or, refl, ap, sym, ◌∙◌, subst, arith, length-append, Some}
 use Rattle.std.specs.Prelude.{slice_get, flat_map, Contains, AllPairs, ◌↔◌}
 use Rattle.std.proofs.lemmas.List.Elements.{All-append, Contains-get_or, Contains-append_left, Contains-append_right, Contains-append_cases}
@@ -22,7 +22,7 @@ use Rattle.feature_core.proofs.Places.{got_same, node_there, node_back}
 use Rattle.feature_core.proofs.PushLemmas.{packages_within}
 use Rattle.feature_core.proofs.Ranks.{same_home}
 
--- an element of a row stands before those of each later row
+-- an element of a row precedes those of each later row
 spread_before : {A B : Type 0} (f : A → List B) (p q place : ℕ) (xs : List A) (row : A) → slice_get xs p ≡ Some row → p < q → place < length (f row)
     → length (flat_map f (take p xs)) + place < length (flat_map f (take q xs))
 spread_before f p q place [] row at l w = cc
@@ -34,7 +34,7 @@ spread_before f (suc p) (suc q) place (x ∷ xs) row at l w =
     let rest = spread_before f p q place xs row at (omega (arith, l)) w in
     omega (arith, rest, length-append (f x) (flat_map f (take p xs)), length-append (f x) (flat_map f (take q xs)))
 
--- the nodes of a package stand before those of each later one
+-- the nodes of a package precede those of each later one
 node_order : (t : Tables) (n m p q : ℕ) (k l : LabelName) → NodeAt t n p k → NodeAt t m q l → p < q → n < m
 node_order t n m p q k l a b h =
     let x = node_back t n p k a in
@@ -94,7 +94,7 @@ source_within : (t : Tables) → AreTables t → (p : ℕ) (x : Key) → IsOfSou
 source_within t tables p x (inl h) = packages_within t p x h
 source_within t tables p x (inr h) = subst (λ z. z < length t.packages) h.1.2 (tables.ends h.0 h.1.0 h.1.1).0
 
--- a key that starts where one of a package does is of the package too
+-- a key from a source node of a package's keys is a key of the package
 pub same_source : (t : Tables) (p : ℕ) (x y : Key) → IsOfSource t p x → IsOfTables t y → y.from ≡ x.from → IsOfSource t p y
 same_source t p x y h i e =
     let q = tables_of_source t y i in
@@ -109,7 +109,7 @@ pairs_append R (x ∷ xs) ys a b c = AllPairs-cons R x (xs ++ ys)
     (All-append (R x) xs ys (AllPairs-first R x xs a) (λ k d l. c x (get_or ys k d) (Contains-first x xs) (Contains-get_or ys k d l)))
     (pairs_append R xs ys (AllPairs-later R x xs a) b (λ y z i j. c y z (Contains-later x xs y i) j))
 
--- the least of two lists, where the starts of the one are before those of the other
+-- the least keys of two lists, if the source nodes of one precede those of the other
 least_joined : (a b kept more : List Key) → AreLeast a kept → AreLeast b more → ((x y : Key) → Contains a x → Contains b y → x.from < y.from) → AreLeast (a ++ b) (kept ++ more)
 least_joined a b kept more h i apart = record {
   ascends = pairs_append IsBefore kept more h.ascends i.ascends (λ x y u v. inl (apart x y (h.from_keys x u) (i.from_keys y v)));

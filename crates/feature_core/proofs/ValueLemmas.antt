@@ -53,7 +53,7 @@ made_none t m weak edges ends = record {
   ends = ends;
 }
 
--- one more edge, where its weak link is noted
+-- one more edge, whose weak link is noted
 pub made_next : (t : Tables) (done : List Key) (x : Key) (old new : MadeEdges) (f : EdgeFacts) (more : List ℕ)
     → map (λ e. e.0) new.weak.entries ≡ first_ones (weak_sources (done ++ x ∷ []))
     → AreGates t new.weak.entries

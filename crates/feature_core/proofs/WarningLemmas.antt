@@ -1,4 +1,4 @@
--- Warnings, as they are appended one after another.
+-- Warnings, appended one after another.
 use Rattle.std.proofs.Common.{◌≡◌, ℕ, zero, suc, ◌+◌, ◌<◌, ◌≤◌, List, [], ◌∷◌, ◌++◌, Bool, true, false, cond, not, length, map, take, Option, Some, None, refl, ap, sym, ◌∙◌, arith, is_some, if◌then◌else◌}
 use Rattle.std.specs.Prelude.{slice_get, position, nat_lt, flat_map, filter, ◌==◌, ◌&&◌}
 use Rattle.std.specs.List.{enumerate_from, list_any, position_or_len}
@@ -18,11 +18,11 @@ use Rattle.feature_core.specs.Warnings.{Warning, missing_feature, lack_of, lack_
 use Rattle.feature_core.proofs.NodeLemmas.{append-none, take-next}
 
 module _ {X Y : Type 0} (f : X → List Y) where
-  -- what one more element adds
+  -- one more element adds its warnings
   pub added-next : (xs : List X) (i : ℕ) (x : X) (start before after : List Y) → slice_get xs i ≡ Some x → before ≡ start ++ flat_map f (take i xs) → after ≡ before ++ f x → after ≡ start ++ flat_map f (take (i + 1) xs)
   added-next xs i x start before after at b a = a ∙ ap (λ z. z ++ f x) b ∙ flat_map_more f start (take i xs) x ∙ ap (λ z. start ++ flat_map f z) (sym (take-next xs i x at))
 
-  -- those before the end are all
+  -- the elements before the end are all elements
   pub added-all : (xs : List X) (n : ℕ) (start end : List Y) → length xs ≤ n → end ≡ start ++ flat_map f (take n xs) → end ≡ start ++ flat_map f xs
   added-all xs n start end l e = e ∙ ap (λ z. start ++ flat_map f z) (take_all n xs l)
 
@@ -47,7 +47,7 @@ enumerated_end xs n e = let l : length (enumerate_from 0 xs) ≡ length xs = len
 pub not_empty : {X : Type 0} (xs : List X) (b : Bool) → b ≡ (length xs == 0) → b ≡ false → 0 < length xs
 not_empty xs b e f = grind (arith, nat_tests)
 
--- there is a first place exactly where an element passes
+-- there is a first place if and only if an element passes
 pub placed-any : {X : Type 0} (p : X → Bool) (xs : List X) → is_some (position p xs) ≡ list_any p xs
 placed-any p xs = go (nat_lt (position_or_len p xs) (length xs)) refl
   where
@@ -64,7 +64,7 @@ module _ {X : Type 0} (p : X → Bool) (xs : List X) (place : Option ℕ) (none 
   pub some_passes : none ≡ false → list_any p xs ≡ true
   some_passes e = sym (placed-any p xs) ∙ sym (ap is_some at) ∙ tested ∙ ap not e
 
--- a warning where a test fails, and none where it passes
+-- a warning if a test fails, and none if it passes
 pub warned : (test : Bool) (start end : List Warning) (x : Warning) → test ≡ false → end ≡ start ++ x ∷ [] → end ≡ start ++ (if test then [] else x ∷ [])
 warned test start end x t e = e ∙ ap (λ b. start ++ (if b then [] else x ∷ [])) (sym t)
 
@@ -78,7 +78,7 @@ pub lack_of_target : (t : Tables) (g : Text) (link : LinkTable) (table : Package
 lack_of_target t g link table h = sym (ap (λ o. option_map_or (λ target. lack_of target g) o []) h)
 
 module _ (h : ℕ → List Warning) (f : LinkTable → List Warning) (test : ℕ × LinkTable → Bool) where
-  -- what links give is what their numbers give
+  -- the results of links are those of their numbers
   by_numbers : (q : ℕ) (ls : List LinkTable) → ((j : ℕ) (link : LinkTable) → slice_get ls j ≡ Some link → h (q + j) ≡ f link)
       → flat_map h (map (λ l. l.0) (filter test (numbered q ls))) ≡ flat_map (λ l. f l.1) (filter test (numbered q ls))
   by_numbers q [] same = refl

@@ -23,7 +23,7 @@ marked_cases marks n k t =
       | inr p ↦ let ne : k ≢ n = p.1 in inr (rw get_or-set_other at t)
     ]
 
--- a number of a way that passes
+-- the number of a way that passes
 abbrev pub Numbers : (Way → Bool) → ℕ → List Way → ℕ → Type 0
 Numbers p first ws e = (i : ℕ) × (e ≡ first + i) × ((w : Way) × (slice_get ws i ≡ Some w) × IsTrue (p w))
 
@@ -34,7 +34,7 @@ number_first : (p : Way → Bool) (first : ℕ) (w : Way) (ws : List Way) (k e :
 number_first p first w ws zero e t later h = let q : first ≡ e = cc in (0, omega arith, (w, refl, t))
 number_first p first w ws (suc k) e t later h = number_later p first w ws e (later k h)
 
--- what stands in the list of numbers is the number of a way that passes
+-- an entry of the list of numbers is the number of a way that passes
 pub number_way : (p : Way → Bool) (first : ℕ) (ws : List Way) (k e : ℕ) → slice_get (numbers_where p first ws) k ≡ Some e → Numbers p first ws e
 number_way p first [] k e h = absurd (cc)
 number_way p first (w ∷ ws) k e h =

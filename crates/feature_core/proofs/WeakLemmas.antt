@@ -26,7 +26,7 @@ use Rattle.feature_core.proofs.NodeLabels.{element_within}
 use Rattle.feature_core.proofs.PartLemmas.{list_any_there, list_any_back}
 use Rattle.feature_core.proofs.Places.{node_there}
 
--- a number at the end, unless it is there
+-- the numbers with `k` at the end, unless it is among them
 abbrev pub with_one : ℕ → List ℕ → List ℕ
 with_one k [] = k ∷ []
 with_one k (x ∷ xs) = cond (k == x) (x ∷ xs) (x ∷ with_one k xs)
@@ -60,7 +60,7 @@ module _ (p : ℕ → Bool) (k : ℕ) where
           ap (λ b. cond b (x ∷ filter p xs) (filter p xs)) passes ∙ at_first true e ∙ ap (λ b. with_one k (cond b (x ∷ filter p xs) (filter p xs))) (sym passes)
       go false e more = kept (p x) refl e more
 
--- one number more, by first appearance
+-- one more number, by first appearance
 pub first_ones-more : (k : ℕ) (xs : List ℕ) → first_ones (xs ++ k ∷ []) ≡ with_one k (first_ones xs)
 first_ones-more k [] = refl
 first_ones-more k (x ∷ xs) = ap (λ z. x ∷ filter (λ y. not (x == y)) z) (first_ones-more k xs) ∙ go (k == x) refl
@@ -121,14 +121,14 @@ place_from k n (x ∷ xs) ys h = go (k == x) refl (λ c. place_from k (n + 1) xs
     go true e more = refl
     go false e more = more (⊎_elim (λ i. absurd (not_itself k x e i)) (λ i. i) (Contains-cases x xs k h))
 
--- the place of a number that is there doesn't move where others follow
+-- the place of a number is unchanged if others follow
 pub place_stays : (k : ℕ) (xs ys : List ℕ) → Contains xs k → position (λ j. k == j) (xs ++ ys) ≡ position (λ j. k == j) xs
 place_stays k xs ys h = position_from-zero (λ j. k == j) (xs ++ ys) ∙ place_from k 0 xs ys h ∙ sym (position_from-zero (λ j. k == j) xs)
 
 same_entry : (P : ℕ → ℕ → Type 0) (k v j w : ℕ) → ◌≡◌ {A = Option (ℕ × ℕ)} (Some (k, v)) (Some (j, w)) → P k v → P j w
 same_entry P k v j w e h = let is : ◌≡◌ {A = ℕ × ℕ} (k, v) (j, w) = cc in subst (λ z. P z.0 z.1) is h
 
--- each entry is still a link with its gate
+-- each entry is a link with its gate, with one more entry too
 pub gates_inserted : (t : Tables) (k v : ℕ) (entries : List (ℕ × ℕ)) → AreGates t entries → IsGate t k v → AreGates t (insert_entry (λ a b. a == b) entries k v)
 gates_inserted t k v [] old new zero j w h = same_entry (IsGate t) k v j w h new
 gates_inserted t k v [] old new (suc i) j w h = cc
@@ -161,7 +161,7 @@ links_next done v x entries weak h =
     keys_inserted x.source v entries ∙ ap (with_one x.source) h ∙ sym (first_ones-more x.source (weak_sources done))
     ∙ ap (λ z. first_ones (weak_sources done ++ z)) (sym (weak_next x weak)) ∙ ap first_ones (sym (filter_map-append weak_source done (x ∷ [])))
 
--- and after another key
+-- the links after another key
 pub links_same : (done : List Key) (x : Key) (links : List ℕ) → (x.rank ≡ 6 → ⊥) → links ≡ first_ones (weak_sources done) → links ≡ first_ones (weak_sources (done ++ x ∷ []))
 links_same done x links strong h =
     h ∙ ap first_ones (sym (append-nil (weak_sources done)) ∙ ap (λ z. weak_sources done ++ z) (sym (strong_next x strong)) ∙ sym (filter_map-append weak_source done (x ∷ [])))
@@ -173,7 +173,7 @@ joined false b h i = cc
 same_test : (n : ℕ) → n == n ≡ true
 same_test n = grind (arith, nat_tests)
 
--- an optional link has the node of its name in its source
+-- a link with an optional declaration has the node of its name in its source
 pub optional_node : (t : Tables) → AreTables t → (k : ℕ) (link : LinkTable) → IsLink t k link → IsTrue (has_declaration Optional link) → (n : ℕ) × NodeAt t n link.from (optional link.name)
 optional_node t tables k link is o =
     let table = element_within t.packages link.from (tables.ends k link is).0 in

@@ -1,4 +1,4 @@
--- What is built of tables.
+-- The data built from tables.
 use Rattle.std.specs.Prelude.{◌≡◌, ◌↔◌, ℕ, List, Bool, Some, Contains, length, map, not, slice_get}
 use Rattle.std.specs.List.{zip}
 use Rattle.guppy_support.specs.declared.digraph.Edge.{Edge}
@@ -14,8 +14,8 @@ use Rattle.feature_core.specs.Defaults.{AreDefaults}
 use Rattle.feature_core.specs.Pairs.{IsPairList}
 use Rattle.feature_core.specs.Warnings.{Warning, warnings}
 
--- the stamp that the caller gave, the first node of each package, the package of each node, the edges by from, then to,
--- the package link and the gate of each weak link, the warnings, and for each node whether it is on by default
+-- The caller's stamp, the first node of each package, and the package of each node. The edges are sorted by source and then by
+-- target. `weak` has the package link and the gate of each weak link, `defaults` whether each node is on by default.
 pub record Built : Type 0 where
   pub stamp : ℕ
   pub firsts : List ℕ
@@ -25,7 +25,7 @@ pub record Built : Type 0 where
   pub warnings : List Warning
   pub defaults : List Bool
 
--- it was built of these tables
+-- `b` is built from the tables `t`.
 pub record IsBuilt (t : Tables) (b : Built) : Type 0 where
   pub firsts : b.firsts ≡ first_nodes t
   pub packages : b.packages ≡ node_packages t
@@ -34,29 +34,29 @@ pub record IsBuilt (t : Tables) (b : Built) : Type 0 where
   pub warnings : b.warnings ≡ warnings t
   pub defaults : AreDefaults t b.defaults
 
--- equal in each part
+-- `a` and `b` are equal in each part.
 abbrev pub AreAlike : Built → Built → Type 0
 AreAlike a b = (a.stamp ≡ b.stamp) × (a.firsts ≡ b.firsts) × (a.packages ≡ b.packages) × (a.edges ≡ b.edges) × (a.weak ≡ b.weak) × (a.warnings ≡ b.warnings) × (a.defaults ≡ b.defaults)
 
--- node n has this name: the id of its package, and its label
+-- Node `n` has this name: its package's id and its label.
 abbrev pub NodeNamed : Tables → ℕ → Text × LabelName → Type 0
 NodeNamed t n name = slice_get (nodes t) n ≡ Some name
 
--- the names of nodes are the labels of packages, beside the packages' ids
+-- The names of nodes are exactly the labels of the packages, each with its package's id.
 abbrev pub NamesAreLabels : Tables → Type 0
 NamesAreLabels t = (name : Text × LabelName) → ((n : ℕ) × NodeNamed t n name) ↔ ((table : PackageTable) × Contains t.packages table × (table.id ≡ name.0) × Contains (labels_of table) name.1)
 
 abbrev pub pairs_of : List Edge → List (ℕ × ℕ)
 pairs_of edges = map (λ e. (e.from, e.to)) edges
 
--- the edges of a digraph, with what each says
+-- The edges of a digraph, each with its value.
 abbrev pub built_edges : List Edge → List EdgeFacts → List (ℕ × ℕ × EdgeFacts)
 built_edges edges facts = map (λ p. (p.0.from, p.0.to, p.1)) (zip edges facts)
 
--- the edge of a digraph: its two nodes, and whether it is more than dev-only
+-- The digraph's edge: its two nodes, and whether it is not dev-only.
 abbrev pub end_of : ℕ × ℕ × EdgeFacts → Edge
 end_of e = record { from = e.0; to = e.1; non_dev = not (is_dev_only e.2) }
 
--- the digraph of the nodes
+-- The digraph of the nodes.
 abbrev pub digraph_of : Built → Graph
 digraph_of b = record { nodes = length b.packages; edges = map end_of b.edges }

@@ -1,4 +1,4 @@
--- That data was built of tables has one proof at most, so a view of a graph can carry it.
+-- A proof that data was built from tables is unique, so a view of a graph can carry it.
 use Rattle.std.specs.Prelude.{◌≡◌, ℕ, ◌<◌, ◌⊎◌, List, ◌↔◌, Some, Contains, AllPairs, length, map, slice_get, slice_index_or}
 use Rattle.std.proofs.Common.{inl, inr, ⊎_elim, ap, subst, arith}
 use Rattle.std.proofs.Props.{props}
@@ -18,7 +18,7 @@ earlier-prop a b c d (inr h) (inr k) = let both : IsProp ((a ≡ c) × (b < d)) 
 order_of : (a b : ℕ) → (a < b) ⊎ ((b < a) ⊎ (a ≡ b))
 order_of a b = grind arith
 
--- where no element stands before itself, each stands at one place of an ascending list
+-- If no element precedes itself, each has one place in an ascending list.
 module _ {X : Type 0} (R : X → X → Type 0) (never : (x : X) → R x x → ⊥) (is_set : IsSet X) (xs : List X) (ascends : AllPairs R xs) (x : X) where
   one_place : (j k : ℕ) → j < length xs → k < length xs → slice_index_or xs j x ≡ x → slice_index_or xs k x ≡ x → j ≡ k
   one_place j k l m e f =

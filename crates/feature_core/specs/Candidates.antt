@@ -12,7 +12,7 @@ use Rattle.feature_labels.specs.declared.link_declarations.LinkDeclarations.TheV
 use Rattle.feature_core.specs.Nodes.{NodeAt}
 use Rattle.feature_links.specs.Links.{LinkFacts, IsPackage, IsLink, over, includes, has_declaration, by_name}
 
--- what an edge says; a weak edge also names its package link
+-- An edge as a plain value; a weak edge also names its package link.
 pub data Edge : Type 0 where
   feature_to_base : Edge
   named_feature : Edge
@@ -31,7 +31,7 @@ rank_of (slash_optional l) = 5
 rank_of (slash_weak k l) = 6
 rank_of (section l) = 7
 
--- feature f of package p has an item that says this
+-- Feature `f` of package `p` has an item with the meaning `item`.
 pub record HasItem (t : Tables) (p : ℕ) (f : Text) (item : Item) : Type 0 where
   pub table : PackageTable
   pub is_package : IsPackage t p table
@@ -42,21 +42,21 @@ pub record HasItem (t : Tables) (p : ℕ) (f : Text) (item : Item) : Type 0 wher
   pub is_item : Contains feature.items text
   pub says : item_of text ≡ item
 
--- whether a declaration requests this label of its target
+-- Whether a declaration requests this label of its target.
 abbrev pub requests : Declared → LabelName → Bool
 requests d base = true
 requests d (named g) = list_any (λ x. bytes_eq g x) d.features || (d.default_features && bytes_eq g (codes "default"))
 requests d (optional n) = false
 
--- a declaration that a link covers and that requests this label
+-- Whether a link covers the declaration and the declaration requests `label`.
 abbrev pub requesting : LabelName → LinkDeclarations → Declared → Bool
 requesting label which d = includes which d && requests d label
 
--- all declarations of one link
+-- The link over all declarations of one package link.
 abbrev pub unsplit_of : ℕ → LinkTable → LinkFacts
 unsplit_of k link = over Unsplit (λ d. true) ((k, link) ∷ [])
 
--- an item `d/g`, or `d?/g` where weak, of feature f leads to g of the target of a link named d
+-- An item `d/g` of feature `f`, or `d?/g` if `weak`, leads to `g` of the target of a link named `d`.
 pub record LeadsOver (t : Tables) (u w : ℕ) (weak : Bool) (k : ℕ) (link : LinkTable) : Type 0 where
   pub f : Text
   pub g : Text
@@ -65,7 +65,7 @@ pub record LeadsOver (t : Tables) (u w : ℕ) (weak : Bool) (k : ℕ) (link : Li
   pub is_link : IsLink t k link
   pub to_node : NodeAt t w link.to (named g)
 
--- the covered declarations of a link lead from this label of its source to a node that one of them requests
+-- The covered declarations of a link lead from this label of its source to a node that one of them requests.
 pub record IsSection (t : Tables) (u w : ℕ) (which : LinkDeclarations) (label : LinkTable → LabelName) (e : Edge) : Type 0 where
   pub k : ℕ
   pub link : LinkTable
@@ -76,7 +76,7 @@ pub record IsSection (t : Tables) (u w : ℕ) (which : LinkDeclarations) (label 
   pub to_node : NodeAt t w link.to asked
   pub is_edge : e ≡ section (over which (requesting asked which) ((k, link) ∷ []))
 
--- the cases of an edge from u to w
+-- The cases in which `e` is a candidate for the edge from `u` to `w`.
 pub data Candidate (t : Tables) (u w : ℕ) (e : Edge) : Type 0 where
   to_base : (p : ℕ) (l : LabelName) → NodeAt t u p l → l ≢ base → NodeAt t w p base → e ≡ feature_to_base → Candidate t u w e
   to_feature : (p : ℕ) (f g : Text) → HasItem t p f (feature_item g) → g ≢ f → NodeAt t u p (named f) → NodeAt t w p (named g) → e ≡ named_feature → Candidate t u w e
@@ -88,7 +88,7 @@ pub data Candidate (t : Tables) (u w : ℕ) (e : Edge) : Type 0 where
   of_required : IsSection t u w Required (λ link. base) e → Candidate t u w e
   of_optional : IsSection t u w Optional (λ link. optional link.name) e → Candidate t u w e
 
--- the edge of a pair: a candidate that none goes before
+-- The edge of a pair: a candidate of least rank.
 pub record IsEdge (t : Tables) (u w : ℕ) (e : Edge) : Type 0 where
   pub candidate : Candidate t u w e
   pub least : (other : Edge) → Candidate t u w other → rank_of e ≤ rank_of other

@@ -1,4 +1,4 @@
--- Errors, without where what they name lies in memory.
+-- Errors as plain values.
 use Rattle.guppy_packages.specs.Rows.{Text}
 use Rattle.feature_labels.specs.Names.{LabelName, id_of}
 use Rattle.feature_core.specs.declared.error.Error.{Error}

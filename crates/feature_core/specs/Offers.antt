@@ -11,23 +11,23 @@ use Rattle.feature_links.specs.Links.{LinkFacts, IsLink}
 use Rattle.feature_core.specs.Nodes.{NodeAt}
 use Rattle.feature_core.specs.Ways.{content}
 
--- what walks of a feature graph follow, in a direction
+-- The ways that walks of a feature graph follow in a direction.
 abbrev pub content_of : DependencyDirection → Built → Content
 content_of direction b = content direction (length b.packages) b.edges b.weak
 
--- a half of an edge that is offered
+-- Half `h` of edge `e` is offered.
 pub record IsOffer (c : Content) (e : ℕ) (h : Half) : Type 0 where
   pub way : Way
   pub is_way : IsWay c e way
   pub half : IsTrue (has_half way.ask h)
 
--- the link of edge e, full or of a half
+-- `l` is the link of edge `e`: its full link or that of a half.
 pub record IsLinkOf (b : Built) (e : ℕ) (h : Half) (l : LinkFacts) : Type 0 where
   pub edge : ℕ × ℕ × EdgeFacts
   pub is_edge : slice_get b.edges e ≡ Some edge
   pub is_link : link_at edge.2 h ≡ Some l
 
--- two offers lead from one node to another over the same declarations
+-- Two offers lead from one node to another over the same declarations.
 pub record HaveOneName (b : Built) (d : ℕ) (g : Half) (e : ℕ) (h : Half) : Type 0 where
   pub one : ℕ × ℕ × EdgeFacts
   pub is_one : slice_get b.edges d ≡ Some one
@@ -41,8 +41,8 @@ pub record HaveOneName (b : Built) (d : ℕ) (g : Half) (e : ℕ) (h : Half) : T
   pub is_other_link : link_at other.2 h ≡ Some other_link
   pub declarations : link.declarations ≡ other_link.declarations
 
--- a weak edge: its index is that of its package link, whose gate is the optional dependency of the link's name in its source,
--- and its optional half is there
+-- A weak edge. Its index is that of its package link, whose gate is the optional dependency of the link's name in its source. Its
+-- optional half has a link.
 pub record IsWeakEdge (t : Tables) (b : Built) (l : LinkFacts) (halves : WeakFacts) : Type 0 where
   pub number : ℕ
   pub gate : ℕ

@@ -1,4 +1,4 @@
--- The edges of a feature graph as ways, as a direction follows them.
+-- The edges of a feature graph as ways in a direction.
 use Rattle.std.specs.Prelude.{ℕ, ◌<◌, List, Bool, true, false, Option, Some, None, map, slice_get, All}
 use Rattle.std.specs.Option.{option_map_or, is_some}
 use Rattle.guppy_packages.specs.declared.direction.DependencyDirection.{DependencyDirection}
@@ -9,12 +9,12 @@ use Rattle.feature_links.specs.Facts.{EdgeFacts}
 use Rattle.feature_links.specs.Facts.EdgeFacts.{base_edge, feature_edge, colon_edge, strong_edge, weak_edge, section_edge}
 use Rattle.walk_engine.specs.Walks.{Way, Content}
 
--- an optional half waits for its gate forward, and not in reverse
+-- An optional half waits for its gate forward, and not in reverse.
 abbrev pub waits : DependencyDirection → Bool
 waits Forward = true
 waits Reverse = false
 
--- what is asked of an edge
+-- The offers of an edge.
 abbrev pub asked : DependencyDirection → EdgeFacts → Ask
 asked direction base_edge = Nobody
 asked direction feature_edge = Nobody
@@ -23,11 +23,11 @@ asked direction (strong_edge l) = Full
 asked direction (weak_edge l half) = Weak (is_some half.required) (waits direction)
 asked direction (section_edge l) = Full
 
--- the gate of a weak link, where each weak link stands with its gate
+-- The gate of weak link `index`; `weak` has each weak link with its gate.
 abbrev pub gate_at : List (ℕ × ℕ) → ℕ → ℕ
 gate_at weak index = option_map_or (λ x. x.1) (slice_get weak index) 0
 
--- the gate that the optional half of a weak edge has
+-- The gate of a weak edge's optional half.
 abbrev pub gate_of : List (ℕ × ℕ) → EdgeFacts → Option ℕ
 gate_of weak base_edge = None
 gate_of weak feature_edge = None
@@ -36,7 +36,7 @@ gate_of weak (strong_edge l) = None
 gate_of weak (weak_edge l half) = Some (gate_at weak half.index)
 gate_of weak (section_edge l) = None
 
--- the end that the direction comes from, and the end that it leads to
+-- The end that an edge starts from in a direction, and the end that it leads to.
 abbrev pub start_of : DependencyDirection → ℕ × ℕ × EdgeFacts → ℕ
 start_of Forward e = e.0
 start_of Reverse e = e.1
@@ -45,7 +45,7 @@ abbrev pub far_of : DependencyDirection → ℕ × ℕ × EdgeFacts → ℕ
 far_of Forward e = e.1
 far_of Reverse e = e.0
 
--- an edge as a way
+-- An edge as a way.
 abbrev pub way : DependencyDirection → List (ℕ × ℕ) → ℕ × ℕ × EdgeFacts → Way
 way direction weak e = record {
   start = start_of direction e;
@@ -57,15 +57,15 @@ way direction weak e = record {
 abbrev pub ways : DependencyDirection → List (ℕ × ℕ × EdgeFacts) → List (ℕ × ℕ) → List Way
 ways direction edges weak = map (way direction weak) edges
 
--- what a walk in the direction follows
+-- The nodes and ways that a walk in the direction follows.
 abbrev pub content : DependencyDirection → ℕ → List (ℕ × ℕ × EdgeFacts) → List (ℕ × ℕ) → Content
 content direction nodes edges weak = record { nodes = nodes; ways = ways direction edges weak }
 
--- every gate is a node
+-- Every gate is a node.
 abbrev pub GatesAreNodes : ℕ → List (ℕ × ℕ) → Type 0
 GatesAreNodes nodes weak = All (λ x. x.1 < nodes) weak
 
--- what a source of edges holds, and how many reads there were
+-- The content of a source of edges, and the number of reads.
 pub record Reading : Type 0 where
   pub holds : Content
   pub reads : ℕ

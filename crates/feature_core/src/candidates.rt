@@ -1,4 +1,4 @@
-//! The candidates for the edges of a package's nodes, as keys, part by part of the tables.
+//! The candidates for the edges of a package's nodes, as keys, one part of the tables at a time.
 ghost use Rattle.std.specs.Prelude.{◌≡◌, ◌+◌, ◌<◌, ◌^◌, ◌↔◌, ◌&&◌, if◌then◌else◌, ℕ, AllPairs, Contains, OnOk, IsFalse, IsTrue, IfOk, Some, [], flat_map, length, slice_get};
 ghost use Rattle.feature_labels.specs.declared.link_declarations.LinkDeclarations.TheVariants.{Optional};
 ghost use Rattle.guppy_packages.specs.Items.{item_of};
@@ -21,15 +21,15 @@ use feature_links::{LinkGroups, is_any_included, numbers_of};
 use guppy_packages::{NamedFeature, NamedFeatureDep, PackageLink, PackageMetadata};
 use std::alloc::{AllocError, Global};
 
-/// Whether a number takes more than 32 bits.
+/// Returns whether `number` needs more than 32 bits.
 fn is_wide(number: usize) -> bool
     ensures { IsFalse result → number < 2 ^ 32 }
 {
     number > u32::MAX as usize
 }
 
-/// Adds a key to the node, where there is one. A number that a key has no room for is answered as want of memory: what it counts
-/// would take tens of gigabytes.
+/// Appends the key from `from` to `to`, if `to` is `Some`. Returns `AllocError` if a number doesn't fit in 32 bits: that many
+/// nodes or links need tens of gigabytes.
 pub(crate) fn push_to(
     keys: &mut Vec<Key>,
     from: usize,
@@ -56,7 +56,7 @@ pub(crate) fn push_to(
     Ok(())
 }
 
-/// Adds a key from each node of a package past the first to the first.
+/// Appends a key to `first`, a package's base, from each of its other nodes.
 fn push_to_first(keys: &mut Vec<Key>, first: usize, count: usize) -> Result<(), AllocError>
     requires some { 0 < count }
     requires fits { first + count < 2 ^ 64 }
@@ -68,14 +68,14 @@ fn push_to_first(keys: &mut Vec<Key>, first: usize, count: usize) -> Result<(), 
     Ok(())
 }
 
-/// The rank of an edge over a link, where the item is weak or not and a declaration of the link is optional or none is.
+/// Returns the rank of a slash edge, by whether its item is weak and its link has an optional declaration.
 fn slash_rank(weak: bool, optional: bool) -> u8
     ensures { result ≡ (if weak && optional then 6 else 4) }
 {
     if weak && optional { 6 } else { 4 }
 }
 
-/// The rank of an edge over a link, where the item is weak or not.
+/// Returns the rank of a slash edge over `link`, by whether its item is weak.
 fn rank_over(link: PackageLink<'_>, weak: bool) -> u8
     ensures { result ≡ over_rank weak (link_table_of link.entry) }
 {
@@ -85,7 +85,7 @@ fn rank_over(link: PackageLink<'_>, weak: bool) -> u8
     )
 }
 
-/// Adds a key to the feature of a link's target, where it has the feature. Gives whether it has.
+/// Appends a key to the named feature `feature` of the target of link `ix`, if the target has it. Returns whether it does.
 fn push_over_link(
     keys: &mut Vec<Key>,
     numbers: Numbers<'_>,
@@ -104,7 +104,7 @@ fn push_over_link(
     Ok(to.is_some())
 }
 
-/// Adds a key to the feature of each target of a package's links under a name. Gives whether there is a link, and each
+/// Appends a key to the named feature `feature` of each link's target that has it. Returns whether there is a link and each
 /// target has the feature.
 fn push_over(
     keys: &mut Vec<Key>,
@@ -125,7 +125,8 @@ fn push_over(
     Ok(each_has)
 }
 
-/// Adds the keys of a strong item beside those over links: to the optional dependency, and to the feature of its name.
+/// Appends the keys of a strong item to nodes of its own package: the optional dependency `dep_name`, and the feature of that
+/// name.
 fn push_beside(
     keys: &mut Vec<Key>,
     numbers: Numbers<'_>,
@@ -147,8 +148,8 @@ fn push_beside(
     Ok(())
 }
 
-/// Adds the keys of an item of a feature, beside whose place other features are looked for first. Where it gives true, no warning is of
-/// the item.
+/// Appends the keys of an item of the feature `feature_name`. Neighbours of `place` are tried first as its target. If the result
+/// is true, the item has no warning.
 fn push_item(
     keys: &mut Vec<Key>,
     numbers: Numbers<'_>,
@@ -193,7 +194,7 @@ fn push_item(
     }
 }
 
-/// Adds the keys of the items of a feature. Where it gives true, no warning is of them.
+/// Appends the keys of a feature's items. If the result is true, they have no warning.
 fn push_feature(
     keys: &mut Vec<Key>,
     numbers: Numbers<'_>,
@@ -224,7 +225,7 @@ fn push_feature(
     Ok(quiet)
 }
 
-/// Adds the keys of the items of a feature, in order. Where it gives true, no warning is of them.
+/// Appends the keys of a feature's items, sorted. If the result is true, they have no warning.
 fn push_in_order(
     alloc: Global,
     keys: &mut Vec<Key>,
@@ -246,7 +247,7 @@ fn push_in_order(
     Ok(quiet)
 }
 
-/// Adds the keys of the items of a package's features. Where it gives true, no warning is of them.
+/// Appends the keys of the items of a package's features. If the result is true, they have no warning.
 fn push_features(
     alloc: Global,
     keys: &mut Vec<Key>,
@@ -277,7 +278,8 @@ fn push_features(
     Ok(quiet)
 }
 
-/// Adds the keys of a package: to its base, and by the items of its features. Where it gives true, no warning is of these.
+/// Appends the keys of a package's nodes to its base, and those of its features' items. If the result is true, the items have no
+/// warning.
 fn push_package(
     alloc: Global,
     keys: &mut Vec<Key>,
@@ -296,8 +298,8 @@ fn push_package(
     Ok(quiet)
 }
 
-/// The keys of a package: by its nodes, by the items of its features, and by the declarations of its links, in order. Notes
-/// of which of these no warning is.
+/// Sets `keys` to the keys of package `ix`, sorted: those of its nodes, of its features' items, and of the declarations of its
+/// links. Records in `quiet` the parts without a warning.
 pub(crate) fn package_keys(
     alloc: Global,
     keys: &mut Vec<Key>,
@@ -315,7 +317,7 @@ pub(crate) fn package_keys(
 {
     let metadata = numbers.graph.package(ix);
     keys.clear();
-    // keys from the base come first in order, and most of them are of links
+    // sorting is faster with the links first: most keys from the base are of links, and the base is the least node
     push_links(keys, &mut quiet.links, numbers, metadata)?;
     let told = push_package(alloc, keys, numbers, groups, metadata)?;
     note(&mut quiet.packages, ix, told);

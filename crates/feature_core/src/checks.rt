@@ -1,4 +1,4 @@
-//! Checks of explanations over the edges of a feature graph, and the steps on which one node rests.
+//! Checks of explanations over the edges of a feature graph, and the steps that support one node.
 ghost use Rattle.std.specs.Prelude.{◌≡◌, ◌↔◌, ℕ, Bool, List, IsTrue, IsFalse, IfOk, IfErr, MatchOption, length};
 ghost use Rattle.guppy_support.specs.Bits.{has};
 ghost use Rattle.walk_engine.specs.Explanations.{IsExplanation, nodes_of};
@@ -17,9 +17,10 @@ use guppy_support::IxBitSet;
 use std::alloc::Global;
 use walk_engine::{Half, Step};
 
-/// Whether the steps are an explanation for the initial nodes, by edges and offers as the direction follows them: no node twice,
-/// and for each a reason that holds by the steps before it. A number that is no node or no edge, or a half that the edge
-/// lacks, gives false. Linear in the steps and the nodes; the only error is want of memory.
+/// Returns whether `steps` is an explanation for `initials`, by edges and offers in `direction`. No node may be repeated, and
+/// each needs a reason that the steps before it support. `Memory` is the only error.
+///
+/// Returns false for a number that is no node or edge, and for a half that the edge lacks. Linear in the steps and the nodes.
 pub fn check_steps(
     alloc: Global,
     built: &FeatureGraphData,
@@ -36,9 +37,10 @@ pub fn check_steps(
     Ok(answer)
 }
 
-/// Whether the steps are an explanation that names none of the refused offers and lists a set that is closed for all others. A
-/// refused entry that is no offer refuses nothing. Linear in the steps, the refused, and the edges of the listed nodes; the only
-/// error is want of memory.
+/// Returns whether `steps` is an explanation that uses no offer in `refused`, and whose nodes are closed under all other offers.
+/// `Memory` is the only error.
+///
+/// An entry of `refused` that is no offer has no effect. Linear in the steps, in `refused`, and in the edges of the listed nodes.
 pub fn check_exact_steps(
     alloc: Global,
     built: &FeatureGraphData,
@@ -56,8 +58,10 @@ pub fn check_exact_steps(
     Ok(answer)
 }
 
-/// The steps of an explanation on which a node rests, in order and each once, its own step the last; none where the node isn't
-/// listed. Linear in the steps and the nodes; the only error is want of memory. Of steps that are no explanation nothing is said.
+/// Returns the steps of an explanation that support `node`, in order, each once, ending with its own step; `None` if `node` isn't
+/// listed. `Memory` is the only error.
+///
+/// If `steps` is not an explanation, the result is unspecified. Linear in the steps and the nodes.
 pub fn why(
     alloc: Global,
     built: &FeatureGraphData,

@@ -1,4 +1,4 @@
-//! What is reached over chosen edges of a digraph.
+//! Reach over chosen edges of a digraph.
 ghost use Rattle.std.specs.Prelude.{◌≡◌, ◌↔◌, ℕ, false, IfOk, IsTrue, length};
 ghost use Rattle.guppy_support.specs.Bits.{has};
 ghost use Rattle.feature_core.specs.Pairs.{PairLeads, ReachAlong};
@@ -13,7 +13,7 @@ use guppy_support::{Digraph, IxBitSet};
 use std::alloc::{AllocError, Global};
 use walk_engine::{Half, Offerer, walk_over};
 
-/// Refuses each offer.
+/// An offerer that refuses each offer.
 #[derive(Drop)]
 struct NoOffers;
 
@@ -27,7 +27,7 @@ impl Offerer for NoOffers {
     }
 }
 
-/// The nodes that are reached from the initial ones over the chosen edges, as the direction follows them.
+/// Returns the nodes reached from `initials` in `direction` over the edges that `which` chooses.
 pub(crate) fn reach_chosen(
     alloc: Global,
     digraph: &Digraph,

@@ -1,4 +1,4 @@
-//! The candidates for edges, as keys, that declarations of links request.
+//! The candidates that declarations of links contribute, as keys.
 ghost use Rattle.std.specs.Prelude.{◌≡◌, ◌<◌, ◌↔◌, ℕ, IfOk, OnOk, IsTrue, Some, [], flat_map, length, slice_get};
 ghost use Rattle.guppy_packages.specs.Tables.{LinkTable};
 ghost use Rattle.guppy_packages.specs.Metadata.{package_graph_of, link_graph_of, link_table_of};
@@ -17,8 +17,8 @@ use guppy_packages::{Declaration, PackageLink, PackageMetadata};
 use guppy_support::IxBitSet;
 use std::alloc::AllocError;
 
-/// Adds the keys of what a declaration requests of a package. Gives whether the package has each feature that the declaration
-/// lists.
+/// Appends the keys of the nodes of a package that `declaration` requests. Returns whether the package has each feature that the
+/// declaration lists.
 fn push_requests(
     keys: &mut Vec<Key>,
     numbers: Numbers<'_>,
@@ -46,7 +46,7 @@ fn push_requests(
     Ok(all)
 }
 
-/// The node that a declaration of a link starts from.
+/// Returns the source node of a declaration: the optional dependency if it is optional, and otherwise the base.
 fn start<'g>(
     numbers: Numbers<'g>,
     link: PackageLink<'g>,
@@ -62,7 +62,7 @@ fn start<'g>(
     }
 }
 
-/// Adds the keys of a declaration of a link. Where it gives true, no warning is of the names that the declaration lists.
+/// Appends the keys of declaration `place` of link `ix`. If the result is true, the names that it lists have no warning.
 fn push_declaration(
     keys: &mut Vec<Key>,
     numbers: Numbers<'_>,
@@ -83,7 +83,7 @@ fn push_declaration(
     Ok(quiet)
 }
 
-/// Adds the keys of the declarations of a link. Where it gives true, no warning is of the names that they list.
+/// Appends the keys of the declarations of link `ix`. If the result is true, the names that they list have no warning.
 fn push_link(keys: &mut Vec<Key>, numbers: Numbers<'_>, ix: usize) -> Result<bool, AllocError>
     requires { ix < length numbers.graph.now.links }
     ensures keys { OnOk result (Adds (IsOfLinkAt numbers.entry.graph.now ix) keys.old.items keys.new.items) }
@@ -98,7 +98,7 @@ fn push_link(keys: &mut Vec<Key>, numbers: Numbers<'_>, ix: usize) -> Result<boo
     Ok(quiet)
 }
 
-/// Adds the keys of the links that leave a package, and puts into the set those of which no warning is.
+/// Appends the keys of the links that leave a package. Inserts those without a warning into `quiet`.
 pub(crate) fn push_links(
     keys: &mut Vec<Key>,
     quiet: &mut IxBitSet,

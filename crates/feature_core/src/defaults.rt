@@ -1,4 +1,4 @@
-//! Which features are on by default.
+//! The features that are on by default.
 ghost use Rattle.std.specs.Prelude.{◌≡◌, ◌<◌, ◌↔◌, ℕ, IfOk, IsTrue, length};
 ghost use Rattle.guppy_support.specs.Bits.{has};
 ghost use Rattle.guppy_packages.specs.Metadata.{package_graph_of};
@@ -16,7 +16,7 @@ use guppy_packages::{DependencyDirection, PackageMetadata};
 use guppy_support::IxBitSet;
 use std::alloc::{AllocError, Global};
 
-/// The named feature `default` of each package, where it has one.
+/// Returns the node of the feature `default` of each package, or `None` if it has none.
 pub(crate) fn default_nodes(
     alloc: Global,
     numbers: Numbers<'_>,
@@ -31,7 +31,7 @@ pub(crate) fn default_nodes(
     Ok(nodes)
 }
 
-/// The numbers, with the features `default` that were looked up.
+/// Returns `numbers` with the features `default` that were looked up.
 pub(crate) fn with_defaults<'a>(numbers: Numbers<'a>, defaults: &'a [Option<usize>]) -> Numbers<'a>
     requires { AreDefaultNodes numbers.graph.now defaults.now }
     ensures { result.graph.now ≡ numbers.entry.graph.now }
@@ -43,7 +43,7 @@ pub(crate) fn with_defaults<'a>(numbers: Numbers<'a>, defaults: &'a [Option<usiz
     }
 }
 
-/// The default feature of a package: its feature named `default`, or its base where it has none.
+/// Returns the default feature of a package: its feature named `default`, or its base if it has none.
 fn default_feature(numbers: Numbers<'_>, metadata: PackageMetadata<'_>) -> usize
     requires { package_graph_of metadata ≡ numbers.graph.now }
     ensures { (n : ℕ) → (result ≡ n) ↔ IsDefaultFeature numbers.entry.graph.now metadata.entry.package_ix n }
@@ -54,7 +54,7 @@ fn default_feature(numbers: Numbers<'_>, metadata: PackageMetadata<'_>) -> usize
     }
 }
 
-/// The default features of all packages.
+/// Returns the set of the default features of all packages.
 fn default_features(
     alloc: Global,
     numbers: Numbers<'_>,
@@ -72,7 +72,7 @@ fn default_features(
     Ok(set)
 }
 
-/// For each node, whether it is on by default.
+/// Returns the set of the nodes that are on by default.
 pub(crate) fn default_marks(
     alloc: Global,
     numbers: Numbers<'_>,

@@ -1,4 +1,4 @@
-//! Edges by number, of which those that say the same share one place.
+//! Edges by number. Equal edges may share storage.
 ghost use Rattle.std.specs.Prelude.{◌≡◌, ◌++◌, ◌∷◌, ◌<◌, ◌↔◌, [], None, Some, IfOk, OnOk, IsTrue, length, map, not, position, slice_get};
 ghost use Rattle.std.specs.Option.{option_map};
 ghost use Rattle.feature_links.specs.declared.edge.EdgeChoice.TheVariants.{FeatureToBaseAndNamed};
@@ -13,13 +13,13 @@ use feature_links::{ConditionalLinkImpl, FeatureEdge, SlashForm};
 use std::alloc::{AllocError, Global};
 use std::marker::Model;
 
-/// Edges by number: for each its place in a pool. The unconditional edges have the first places, and a conditional one that says the
-/// same as a recent one has the place of that one. A contract sees what each edge says.
+/// Edges by number, each with an index into a pool. Indices 0 and 1 are the unconditional edges; a conditional edge shares the
+/// index of an equal recent one. A contract sees the list of edges as plain values.
 #[derive(Drop)]
 pub(crate) struct EdgeList {
     pool: Vec<FeatureEdge>,
     places: Vec<u32>,
-    // the place and the mark of an edge of each slot
+    // the index and the mark of a recent edge, for each slot
     recent: Vec<(u32, u32)>,
 }
 
@@ -35,7 +35,7 @@ impl Model for EdgeList {
     ghost invariant = { λ l. AreWithin l.pool.items l.places.items × (length l.recent.items ≡ 4096) × IsParted l.pool.items };
 }
 
-/// A pool of the unconditional edges, with room for so many edges.
+/// Returns a pool with the unconditional edges and capacity for `room` edges.
 fn fixed_edges(alloc: Global, room: usize) -> Result<Vec<FeatureEdge>, AllocError>
     ensures { IfOk result (λ pool. IsParted pool.items) }
 {
@@ -45,7 +45,7 @@ fn fixed_edges(alloc: Global, room: usize) -> Result<Vec<FeatureEdge>, AllocErro
     Ok(pool)
 }
 
-/// The place that an unconditional edge has in each pool.
+/// Returns the index of an unconditional edge, which is the same in each pool; `None` for a conditional edge.
 fn fixed_place(edge: &FeatureEdge) -> Option<u32>
     ensures { result ≡ fixed_place (edge_facts edge.now) }
 {
@@ -58,7 +58,7 @@ fn fixed_place(edge: &FeatureEdge) -> Option<u32>
     }
 }
 
-/// The first package link of a link.
+/// Returns the first package link of `link`, or 0.
 fn first_link(link: &ConditionalLinkImpl) -> usize {
     match link.package_link_ixs().first() {
         Some(link_ix) => *link_ix,
@@ -66,7 +66,8 @@ fn first_link(link: &ConditionalLinkImpl) -> usize {
     }
 }
 
-/// The slot of an edge of a kind over a link, by the link's first package link, and whether it's over optional declarations.
+/// Returns the slot of an edge of `kind` over `link`. It depends on the first package link, and on whether the link covers
+/// optional declarations only.
 fn link_slot(link: &ConditionalLinkImpl, kind: usize) -> usize
     requires { kind < 8 }
     ensures { result < 4096 }
@@ -78,7 +79,7 @@ fn link_slot(link: &ConditionalLinkImpl, kind: usize) -> usize
     (first_link(link) % 256) * 16 + kind * 2 + half
 }
 
-/// The slot of the table of recent places where an edge is looked up.
+/// Returns the slot of `edge` in the table of recent edges.
 fn edge_slot(edge: &FeatureEdge) -> usize
     ensures { result < 4096 }
 {
@@ -94,7 +95,7 @@ fn edge_slot(edge: &FeatureEdge) -> usize
     }
 }
 
-/// The mark of an edge: the low bits of its first package link. Most edges that say something else have another mark.
+/// Returns the mark of `edge`: the low bits of its first package link. Different edges mostly have different marks.
 fn edge_mark(edge: &FeatureEdge) -> u32 {
     match edge {
         FeatureEdge::FeatureToBase | FeatureEdge::NamedFeature => 0,
@@ -104,7 +105,7 @@ fn edge_mark(edge: &FeatureEdge) -> u32 {
     }
 }
 
-/// Whether an edge at this place says the same.
+/// Returns whether the edge at index `place` equals `edge`.
 fn is_at(pool: &[FeatureEdge], place: usize, edge: &FeatureEdge) -> bool
     ensures { IsTrue result ↔ (slice_get (map edge_facts pool.now) place ≡ Some (edge_facts edge.now)) }
 {
@@ -114,7 +115,8 @@ fn is_at(pool: &[FeatureEdge], place: usize, edge: &FeatureEdge) -> bool
     false
 }
 
-/// Adds a conditional edge, and gives its place. It fails where memory is refused, or places have run out.
+/// Appends a conditional edge and returns its index. Returns `AllocError` if an allocation fails or the index doesn't fit in 32
+/// bits.
 fn place_after(pool: &mut Vec<FeatureEdge>, edge: FeatureEdge) -> Result<u32, AllocError>
     requires conditional { fixed_place (edge_facts edge) ≡ None }
     requires parted { IsParted pool.old.items }
@@ -130,7 +132,7 @@ fn place_after(pool: &mut Vec<FeatureEdge>, edge: FeatureEdge) -> Result<u32, Al
     Ok(place as u32)
 }
 
-/// The place of a conditional edge that says the same, where it's the one in the edge's slot; else the edge is added.
+/// Returns the index of a conditional edge: that of the edge in its slot if they are equal; otherwise `edge` is appended.
 fn place_near(
     pool: &mut Vec<FeatureEdge>,
     recent: &mut Vec<(u32, u32)>,
@@ -155,7 +157,7 @@ fn place_near(
     Ok(place)
 }
 
-/// The place of an edge, which is added where it's conditional and no edge that says the same is in its slot.
+/// Returns the index of `edge`, which is appended if it is conditional and differs from the edge in its slot.
 fn place_of(
     pool: &mut Vec<FeatureEdge>,
     recent: &mut Vec<(u32, u32)>,
@@ -175,7 +177,7 @@ fn place_of(
 }
 
 impl EdgeList {
-    /// No edge, with room for so many, and for so many that say something of their own.
+    /// Returns an empty list with capacity for `room` edges, and for `own` conditional edges in the pool.
     pub(crate) fn with_capacity(
         alloc: Global,
         room: usize,
@@ -193,7 +195,7 @@ impl EdgeList {
         })
     }
 
-    /// Appends an edge.
+    /// Appends `edge`.
     pub(crate) fn push(&mut self, edge: FeatureEdge) -> Result<(), AllocError>
         ensures { OnOk result (self.new ≡ self.old ++ edge_facts edge ∷ []) }
     {
@@ -202,7 +204,7 @@ impl EdgeList {
         Ok(())
     }
 
-    /// Appends what the edge of a number says.
+    /// Appends a copy of edge `number`.
     pub(crate) fn repeat(&mut self, number: usize) -> Result<(), AllocError>
         requires { number < length self.now }
         ensures { OnOk result ((f : EdgeFacts) → slice_get self.old number ≡ Some f → self.new ≡ self.old ++ f ∷ []) }
@@ -212,14 +214,14 @@ impl EdgeList {
         Ok(())
     }
 
-    /// How many edges there are.
+    /// Returns the number of edges.
     pub(crate) fn len(&self) -> usize
         ensures { result ≡ length self.now }
     {
         self.places.len()
     }
 
-    /// The edge of this number.
+    /// Returns edge `number`.
     pub(crate) fn get(&self, number: usize) -> &FeatureEdge
         requires { number < length self.now }
         ensures { slice_get self.now number ≡ Some (edge_facts result.now) }
@@ -228,7 +230,7 @@ impl EdgeList {
         &self.pool[place as usize]
     }
 
-    /// Whether the edge of this number is unconditional, by its place alone.
+    /// Returns whether edge `number` is unconditional. Only its index is read.
     pub(crate) fn is_unconditional(&self, number: usize) -> bool
         requires { number < length self.now }
         ensures { Some result ≡ option_map (is_chosen FeatureToBaseAndNamed) (slice_get self.now number) }
@@ -237,7 +239,7 @@ impl EdgeList {
     }
 }
 
-/// The first of these edges that is conditional and whose link is present for no kind.
+/// Returns the number of the first conditional edge whose link is present for no kind of dependency.
 pub(crate) fn first_absent(edges: &EdgeList) -> Option<usize>
     ensures { result ≡ position (λ f. not (has_present_link f)) edges.now }
 {

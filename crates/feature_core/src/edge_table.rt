@@ -1,4 +1,4 @@
-//! The edges of a package graph, package by package, from keys to what each edge says.
+//! The edges of a package graph, built from keys, package by package.
 ghost use Rattle.std.specs.Prelude.{◌≡◌, ◌++◌, [], ℕ, ◌+◌, ◌-◌, ◌<◌, ◌≤◌, Contains, IfOk, List, OnOk, Some, length, map, slice_get, take};
 ghost use Rattle.indexmap.specs.IndexMap.{keys};
 ghost use Rattle.feature_core.specs.declared.key.Key.{Key as KeyValue};
@@ -30,7 +30,7 @@ use guppy_support::{Digraph, Edge, EdgeColumns};
 use indexmap::IndexMap;
 use std::alloc::{AllocError, Global};
 
-/// The edges by from, then to, what each says, and the gate of each weak link.
+/// The edges, sorted by source and then by target, and the gate of each weak link.
 #[derive(Drop)]
 pub(crate) struct EdgeTable {
     pub(crate) digraph: Digraph,
@@ -38,7 +38,7 @@ pub(crate) struct EdgeTable {
     pub(crate) weak: IndexMap<usize, usize>,
 }
 
-/// The ends of a key's edge.
+/// Returns the digraph's edge of `key`, whose built edge is `edge`.
 fn edge_end(key: Key, edge: &FeatureEdge) -> Edge
     ensures { result ≡ edge_end key (edge_facts edge.now) }
 {
@@ -49,7 +49,7 @@ fn edge_end(key: Key, edge: &FeatureEdge) -> Edge
     }
 }
 
-/// The edges of keys, one after the other: what each says, its ends, and the gate of each weak link.
+/// The edges of keys, one after the other: their values, their ends, and the gate of each weak link.
 #[derive(Drop)]
 pub(crate) struct MadeEdges {
     edges: EdgeList,
@@ -57,8 +57,8 @@ pub(crate) struct MadeEdges {
     weak: IndexMap<usize, usize>,
 }
 
-/// Room for the keys of a package, for the least of each pair, and for the places of keys that may be alike; and what is found
-/// to be without a warning on the way.
+/// Buffers that packages share: a package's keys, the least key of each pair, and recent keys. `quiet` collects the parts without
+/// a warning.
 #[derive(Drop)]
 struct Room {
     keys: Vec<Key>,
@@ -68,7 +68,7 @@ struct Room {
 }
 
 impl Room {
-    /// Room for the edges of a graph. Nothing of it is found yet.
+    /// Returns empty buffers, with no part recorded as quiet.
     fn new(alloc: Global, graph: &PackageGraph) -> Result<Room, AllocError>
         ensures { IfOk result (λ room. IsQuiet graph.now room.quiet) }
     {
@@ -84,7 +84,7 @@ impl Room {
 }
 
 impl MadeEdges {
-    /// Makes the edge of a key whose weak link is noted.
+    /// Builds and appends the edge of `key`, whose weak link is noted.
     fn make(
         &mut self,
         alloc: Global,
@@ -103,7 +103,7 @@ impl MadeEdges {
         Ok(())
     }
 
-    /// Gives a key the edge that is so many places back.
+    /// Appends the edge `back` places before the end as the edge of `key`.
     fn repeat(&mut self, key: Key, back: usize) -> Result<(), AllocError>
         requires some { 0 < back }
         requires within { back ≤ length self.now.edges }
@@ -116,7 +116,7 @@ impl MadeEdges {
         Ok(())
     }
 
-    /// Adds the edge of a key whose weak link is noted: that of an alike key before it, where one is near.
+    /// Appends the edge of key `ix`, whose weak link is noted. If a recent key has an equal edge, that edge is repeated.
     fn add_noted(
         &mut self,
         alloc: Global,
@@ -140,7 +140,7 @@ impl MadeEdges {
         }
     }
 
-    /// Adds the edge of a key.
+    /// Appends the edge of key `ix`.
     fn add(
         &mut self,
         alloc: Global,
@@ -160,7 +160,7 @@ impl MadeEdges {
         self.add_noted(alloc, material, near, kept, ix)
     }
 
-    /// Adds the edges of the least keys of a package.
+    /// Appends the edges of the least keys of a package.
     fn add_all(
         &mut self,
         alloc: Global,
@@ -178,7 +178,7 @@ impl MadeEdges {
         Ok(())
     }
 
-    /// Adds the edges of a package's nodes.
+    /// Appends the edges of the nodes of package `ix`.
     fn add_package(
         &mut self,
         alloc: Global,
@@ -208,7 +208,7 @@ impl MadeEdges {
         Ok(())
     }
 
-    /// Adds the edges of the nodes of all packages, each in the same room.
+    /// Appends the edges of the nodes of all packages.
     fn add_packages(
         &mut self,
         alloc: Global,
@@ -230,7 +230,7 @@ impl MadeEdges {
         Ok(())
     }
 
-    /// Adds the edges of the nodes of all packages to none, and gives what is without a warning.
+    /// Appends the edges of the nodes of all packages to an empty list, and returns the parts without a warning.
     fn fill(
         &mut self,
         alloc: Global,
@@ -250,8 +250,8 @@ impl MadeEdges {
     }
 }
 
-/// No edge, with room for as many as graphs of so many nodes and links mostly have: an edge for each node, and four for each link, of
-/// which two say something of their own. Room that isn't used is never touched.
+/// Returns no edges, with capacity for one edge per node and four per link, and for two distinct edges per link. Most graphs need
+/// no more, and unused capacity is never touched.
 fn no_edges(alloc: Global, nodes: usize, links: usize) -> Result<MadeEdges, AllocError>
     ensures edges { IfOk result (λ made. made.edges ≡ []) }
     ensures ends { IfOk result (λ made. made.ends ≡ []) }
@@ -268,7 +268,7 @@ fn no_edges(alloc: Global, nodes: usize, links: usize) -> Result<MadeEdges, Allo
     })
 }
 
-/// The edges of the nodes of all packages, and what is without a warning.
+/// Returns the edges of the nodes of all packages, and the parts without a warning.
 fn made_edges(
     alloc: Global,
     numbers: Numbers<'_>,
@@ -285,7 +285,7 @@ fn made_edges(
     Ok((made, quiet))
 }
 
-/// The edges of a package graph, whose nodes are in the table, and what of the graph is without a warning.
+/// Returns the edges of a package graph whose nodes are in `table`, and the parts without a warning.
 pub(crate) fn edge_table(
     alloc: Global,
     numbers: Numbers<'_>,

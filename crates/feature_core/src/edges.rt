@@ -26,8 +26,8 @@ use indexmap::IndexMap;
 use smallvec::SmallVec;
 use std::alloc::{AllocError, Global};
 
-/// What the edges of a package's nodes are made of: the numbers of nodes, the package of each node, the links of each
-/// package by name, and the keys of the package, in order.
+/// The input for the edges of a package's nodes: the numbers of nodes, the package of each node, the links by package and name,
+/// and the package's sorted keys.
 #[derive(Clone, Copy)]
 pub(crate) struct Material<'a, 'g> {
     pub(crate) numbers: Numbers<'g>,
@@ -36,7 +36,7 @@ pub(crate) struct Material<'a, 'g> {
     pub(crate) keys: &'a [Key],
 }
 
-/// The name of a node that is no base.
+/// Returns the name of node `ix`, which is no base.
 fn name_at<'g>(material: Material<'_, 'g>, ix: usize) -> &'g str
     requires material { IsMaterial material }
     requires named { (p : ℕ) × (d : Text) × (NodeAt material.numbers.graph.now ix p (optional d) ⊎ NodeAt material.numbers.graph.now ix p (named d)) }
@@ -53,7 +53,7 @@ fn name_at<'g>(material: Material<'_, 'g>, ix: usize) -> &'g str
     }
 }
 
-/// The union of the links of a package under the name of one of its nodes.
+/// Returns the union of the links of a package under the name of its node `ix`.
 fn link_to(
     alloc: Global,
     material: Material<'_, '_>,
@@ -76,7 +76,7 @@ fn link_to(
     )
 }
 
-/// The places that keys tell.
+/// Returns the `place` of each key.
 fn places_of(alloc: Global, keys: &[Key]) -> Result<SmallVec<usize, 2>, AllocError>
     ensures { IfOk result (λ places. places.items ≡ map (λ y. y.place) keys.now) }
 {
@@ -87,7 +87,7 @@ fn places_of(alloc: Global, keys: &[Key]) -> Result<SmallVec<usize, 2>, AllocErr
     Ok(places)
 }
 
-/// The places of the declarations that request a pair of nodes, ascending.
+/// Returns the places of the declarations that request the edge from `from` to `to`, ascending.
 fn places_at(
     alloc: Global,
     sorted: &[Key],
@@ -102,8 +102,8 @@ fn places_at(
     Ok(places)
 }
 
-/// The declarations of a link that lead from one of its source's nodes: from the base the required ones, from an
-/// optional dependency the optional ones.
+/// Returns the declarations of a link that lead from node `ix` of its source: the required ones from the base, the optional ones
+/// from an optional dependency.
 fn half_from(material: Material<'_, '_>, ix: usize) -> LinkDeclarations
     requires material { IsMaterial material }
     requires node { ix < length material.packages.now }
@@ -121,7 +121,7 @@ fn half_from(material: Material<'_, '_>, ix: usize) -> LinkDeclarations
     }
 }
 
-/// The number of a package link among the weak links.
+/// Returns the index of package link `link_ix` among the weak links.
 fn index_in(weak: &IndexMap<usize, usize>, link_ix: usize) -> WeakIndex
     ensures { result.0 ≡ option_map_or (λ i. i) (position (λ j. link_ix == j) (keys weak.now)) 0 }
 {
@@ -131,7 +131,7 @@ fn index_in(weak: &IndexMap<usize, usize>, link_ix: usize) -> WeakIndex
     }
 }
 
-/// The edge over the link of a `dep:` item.
+/// Returns the edge of an item `dep:d`.
 fn colon_edge(
     alloc: Global,
     material: Material<'_, '_>,
@@ -147,7 +147,7 @@ fn colon_edge(
     Ok(FeatureEdge::NamedFeatureDepColon(link))
 }
 
-/// The edge of a strong item to an optional dependency, and to the feature of its name.
+/// Returns the edge of a strong item to the optional dependency, or to the feature of its name.
 fn beside_edge(
     alloc: Global,
     material: Material<'_, '_>,
@@ -166,7 +166,7 @@ fn beside_edge(
     })
 }
 
-/// The edge of a strong item over a package link.
+/// Returns the edge of an item over a package link, without halves.
 fn full_edge(alloc: Global, material: Material<'_, '_>, key: Key) -> Result<FeatureEdge, AllocError>
     requires material { IsMaterial material }
     requires of_tables { IsOfTables material.numbers.graph.now key }
@@ -186,7 +186,7 @@ fn full_edge(alloc: Global, material: Material<'_, '_>, key: Key) -> Result<Feat
     })
 }
 
-/// The edge of a weak item over a package link.
+/// Returns the edge of a weak item over a package link.
 fn weak_edge(
     alloc: Global,
     material: Material<'_, '_>,
@@ -226,7 +226,7 @@ fn weak_edge(
     })
 }
 
-/// The edge of the declarations that request a pair of nodes.
+/// Returns the edge of the declarations that request a pair of nodes.
 fn section_edge(
     alloc: Global,
     material: Material<'_, '_>,
@@ -251,7 +251,7 @@ fn section_edge(
     Ok(FeatureEdge::DependenciesSection(link))
 }
 
-/// The edge of a key that is the least of its pair, where its weak link is noted.
+/// Returns the edge of `key`, which is the least of its pair. If it is weak, its weak link is noted in `table`.
 pub(crate) fn edge_of(
     alloc: Global,
     material: Material<'_, '_>,

@@ -1,4 +1,4 @@
-//! Walks over the edges of a source, which ask an offerer before they follow a conditional edge.
+//! Walks over the edges of a source. A walk asks an offerer before it follows a conditional edge.
 
 ghost use Rattle.std.specs.Prelude.{◌≡◌, ◌^◌, ◌<◌, IfOk, IfErr, OnErr, length};
 ghost use Rattle.guppy_support.specs.Bits.{has};
@@ -10,10 +10,10 @@ use guppy_support::IxBitSet;
 use std::alloc::Global;
 pub use walk_engine::{Ask, EdgeSource, Half, Offerer, Step, StepReason, Taken, Walk};
 
-/// Walks from the initial nodes, and explains the members.
+/// Walks from `initials` and explains the members.
 ///
-/// The offers make a complete legal run. Gives the walk, a step for each member in the order in which they were
-/// reached, and the refused offers in the order of the run. On want of memory the offers made are a legal run.
+/// Returns the walk, a step for each member in the order of reaching, and the refused offers in the order of the run. The offers
+/// make a complete legal run. `Memory` is the only error; the offers made by then are a legal run.
 pub fn walk_explained<S: EdgeSource, O: Offerer>(
     alloc: Global,
     source: &mut S,
@@ -36,10 +36,10 @@ pub fn walk_explained<S: EdgeSource, O: Offerer>(
     Ok(explained)
 }
 
-/// Walks from the initial nodes.
+/// Walks from `initials`.
 ///
-/// The offers make a complete legal run, and the members are exactly what its accepted offers reach. On want of
-/// memory the offers made are a legal run.
+/// The offers make a complete legal run, and the members are exactly the nodes that its accepted offers reach. `Memory` is the
+/// only error; the offers made by then are a legal run.
 pub fn walk_over<S: EdgeSource, O: Offerer>(
     alloc: Global,
     source: &mut S,

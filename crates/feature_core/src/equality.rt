@@ -1,4 +1,4 @@
-//! Whether data says what a build of a package graph says.
+//! Comparing feature graph data with a build of a package graph.
 ghost use Rattle.std.specs.Prelude.{◌≡◌, ◌<◌, ◌↔◌, ℕ, Some, IfOk, IfErr, IsTrue, map, slice_get};
 ghost use Rattle.indexmap.specs.IndexMap.{index_map_len};
 ghost use Rattle.feature_core.specs.Built.{IsBuilt, pairs_of};
@@ -17,14 +17,14 @@ use guppy_support::{Digraph, Edge};
 use indexmap::IndexMap;
 use std::alloc::Global;
 
-/// Whether specs have the same text.
+/// Returns whether `a` and `b` have the same text.
 fn same_spec(a: &Spec, b: &Spec) -> bool
     ensures { IsTrue result ↔ (spec_text a.now ≡ spec_text b.now) }
 {
     a.text() == b.text()
 }
 
-/// Whether the texts of specs are the same, in the same order.
+/// Returns whether `a` and `b` have the same texts, in the same order.
 fn same_specs(a: &[Spec], b: &[Spec]) -> bool
     ensures { IsTrue result ↔ (map spec_text a.now ≡ map spec_text b.now) }
 {
@@ -39,7 +39,7 @@ fn same_specs(a: &[Spec], b: &[Spec]) -> bool
     true
 }
 
-/// Whether statuses are on the same platforms.
+/// Returns whether `a` and `b` are the same status, with the same specs.
 fn same_status(a: PlatformStatus<'_>, b: PlatformStatus<'_>) -> bool
     ensures { IsTrue result ↔ (status_of a.entry ≡ status_of b.entry) }
 {
@@ -53,7 +53,7 @@ fn same_status(a: PlatformStatus<'_>, b: PlatformStatus<'_>) -> bool
     }
 }
 
-/// Whether links say the same.
+/// Returns whether `a` and `b` are equal links.
 fn same_link(a: &ConditionalLinkImpl, b: &ConditionalLinkImpl) -> bool
     ensures { IsTrue result ↔ (link_facts a.now ≡ link_facts b.now) }
 {
@@ -64,7 +64,7 @@ fn same_link(a: &ConditionalLinkImpl, b: &ConditionalLinkImpl) -> bool
         && a.package_link_ixs() == b.package_link_ixs()
 }
 
-/// Whether halves say the same.
+/// Returns whether `a` and `b` are equal halves.
 fn same_half(a: &EnabledLink, b: &EnabledLink) -> bool
     ensures { IsTrue result ↔ (half_facts a.now ≡ half_facts b.now) }
 {
@@ -75,7 +75,7 @@ fn same_half(a: &EnabledLink, b: &EnabledLink) -> bool
     }
 }
 
-/// Whether weak edges say the same.
+/// Returns whether `a` and `b` are equal weak edges.
 fn same_weak(a: &WeakSlashImpl, b: &WeakSlashImpl) -> bool
     ensures { IsTrue result ↔ (weak_facts_of a.now ≡ weak_facts_of b.now) }
 {
@@ -84,7 +84,7 @@ fn same_weak(a: &WeakSlashImpl, b: &WeakSlashImpl) -> bool
         && same_half(a.optional(), b.optional())
 }
 
-/// Whether forms say the same.
+/// Returns whether `a` and `b` are equal forms.
 fn same_slash(a: &SlashForm, b: &SlashForm) -> bool
     ensures { IsTrue result ↔ (slash_facts a.now ≡ slash_facts b.now) }
 {
@@ -95,7 +95,7 @@ fn same_slash(a: &SlashForm, b: &SlashForm) -> bool
     }
 }
 
-/// Whether edges say the same.
+/// Returns whether `a` and `b` are equal edges.
 pub(crate) fn same_edge(a: &FeatureEdge, b: &FeatureEdge) -> bool
     ensures { IsTrue result ↔ (edge_facts a.now ≡ edge_facts b.now) }
 {
@@ -116,7 +116,7 @@ pub(crate) fn same_edge(a: &FeatureEdge, b: &FeatureEdge) -> bool
     }
 }
 
-/// Whether edges say the same, in the same order.
+/// Returns whether `a` and `b` are equal lists of edges.
 pub(crate) fn same_edges(a: &EdgeList, b: &EdgeList) -> bool
     ensures { IsTrue result ↔ (a.now ≡ b.now) }
 {
@@ -133,21 +133,21 @@ pub(crate) fn same_edges(a: &EdgeList, b: &EdgeList) -> bool
     true
 }
 
-/// Whether edges of digraphs have the same ends.
+/// Returns whether `a` and `b` have the same ends.
 fn same_ends(a: Edge, b: Edge) -> bool
     ensures { IsTrue result ↔ ◌≡◌ {A = ℕ × ℕ} (a.from, a.to) (b.from, b.to) }
 {
     a.from == b.from && a.to == b.to
 }
 
-/// Whether numbers are the same, in the same order.
+/// Returns whether `a` and `b` are equal lists of numbers.
 pub(crate) fn same_numbers(a: &[usize], b: &[usize]) -> bool
     ensures { IsTrue result ↔ (a.now ≡ b.now) }
 {
     a == b
 }
 
-/// Whether digraphs have edges between the same nodes.
+/// Returns whether the edges of `a` and `b` have the same ends, in the same order.
 pub(crate) fn same_pairs(a: &Digraph, b: &Digraph) -> bool
     ensures { IsTrue result ↔ (pairs_of a.now.edges ≡ pairs_of b.now.edges) }
 {
@@ -164,7 +164,7 @@ pub(crate) fn same_pairs(a: &Digraph, b: &Digraph) -> bool
     true
 }
 
-/// Whether warnings say the same, in the same order.
+/// Returns whether `a` and `b` are equal lists of warnings.
 pub(crate) fn same_warnings(a: &[FeatureGraphWarning], b: &[FeatureGraphWarning]) -> bool
     ensures { IsTrue result ↔ (map warning_of a.now ≡ map warning_of b.now) }
 {
@@ -179,7 +179,7 @@ pub(crate) fn same_warnings(a: &[FeatureGraphWarning], b: &[FeatureGraphWarning]
     true
 }
 
-/// A weak link with its gate, by its place.
+/// Returns weak link `ix` and its gate.
 fn gate_at(weak: &IndexMap<usize, usize>, ix: usize) -> (usize, usize)
     requires { ix < index_map_len weak.now }
     ensures { slice_get weak.now.entries ix ≡ Some result }
@@ -190,14 +190,14 @@ fn gate_at(weak: &IndexMap<usize, usize>, ix: usize) -> (usize, usize)
     }
 }
 
-/// Whether a weak link and its gate are the same.
+/// Returns whether `a` and `b` are the same weak link with the same gate.
 fn same_gate(a: (usize, usize), b: (usize, usize)) -> bool
     ensures { IsTrue result ↔ (a ≡ b) }
 {
     a.0 == b.0 && a.1 == b.1
 }
 
-/// Whether the weak links and their gates are the same, in the same order.
+/// Returns whether `a` and `b` are the same weak links with the same gates, in the same order.
 pub(crate) fn same_gates(a: &IndexMap<usize, usize>, b: &IndexMap<usize, usize>) -> bool
     ensures { IsTrue result ↔ (a.now.entries ≡ b.now.entries) }
 {
@@ -215,7 +215,7 @@ pub(crate) fn same_gates(a: &IndexMap<usize, usize>, b: &IndexMap<usize, usize>)
 }
 
 impl FeatureGraphData {
-    /// Whether a build of this package graph, under the same stamp, gives the same. It fails only where memory is refused.
+    /// Returns whether the data equals a build of `graph` under its own stamp. `Memory` is the only error.
     pub fn is_built_from(&self, alloc: Global, graph: &PackageGraph) -> Result<bool, Error<'static>>
         ensures answer { IfOk result (λ same. IsTrue same ↔ IsBuilt graph.now self.now) }
         ensures refused { IfErr result (λ e. e ≡ Error.Memory) }

@@ -1,21 +1,21 @@
-//! Why a call on a feature graph has no answer.
+//! Errors of calls on a feature graph.
 use feature_labels::FeatureId;
 use guppy_packages::PackageId;
 use std::alloc::{AllocError, AllocFailed};
 
-/// Why a call on a feature graph has no answer. It borrows what it names.
+/// The reason why a call on a feature graph failed. It borrows the ids that it names.
 #[derive(Clone, Copy, PartialEq, Eq, Debug)]
 pub enum Error<'a> {
     /// No package of the graph has this id.
     UnknownPackageId(&'a PackageId),
     /// No feature of the graph has this id.
     UnknownFeatureId(FeatureId<'a>),
-    /// The link of an edge between these features is never present.
+    /// The link of the edge from `from` to `to` is present for no kind of dependency.
     FeatureGraphInternalError {
         from: FeatureId<'a>,
         to: FeatureId<'a>,
     },
-    /// Memory was refused.
+    /// An allocation failed, or a number of nodes, edges or links doesn't fit in 32 bits.
     Memory,
 }
 

@@ -1,4 +1,4 @@
-//! The feature graph as it is built of a package graph.
+//! The data of a feature graph, built from a package graph.
 ghost use Rattle.std.specs.Prelude.{◌≡◌, ◌+◌, ◌<◌, ◌↔◌, ℕ, Some, IfOk, IfErr, IsTrue, length, map, not, position, slice_get};
 ghost use Rattle.guppy_packages.specs.Metadata.{package_graph_of};
 ghost use Rattle.guppy_packages.specs.Tables.{Tables};
@@ -39,8 +39,8 @@ use order_views::cyclic_components;
 use std::alloc::{AllocError, Global};
 use std::marker::Model;
 
-/// The nodes and edges of a package graph's features. A contract sees the stamp, the table of nodes, the edges with what
-/// each says, the weak links with their gates, the warnings, and the features that are on by default.
+/// The nodes and edges of a package graph's features. A contract sees the stamp, the node table, the edges, the weak links with
+/// their gates, the warnings, and the default features.
 #[derive(Drop)]
 pub struct FeatureGraphData {
     stamp: u64,
@@ -77,7 +77,7 @@ impl Model for FeatureGraphData {
         × (d.cyclic.items ≡ cyclic_components d.digraph.edges d.order) };
 }
 
-/// The numbers of the nodes in this table.
+/// Returns the numbers of the nodes of `table`.
 fn numbers_in<'a>(graph: &'a PackageGraph, table: &'a NodeTable) -> Numbers<'a>
     requires firsts { table.now.firsts.items ≡ first_nodes graph.now }
     requires packages { table.now.packages.items ≡ node_packages graph.now }
@@ -90,7 +90,7 @@ fn numbers_in<'a>(graph: &'a PackageGraph, table: &'a NodeTable) -> Numbers<'a>
     }
 }
 
-/// The node of a label of a package, where the package has the label.
+/// Returns the node of the feature `label` of a package, or `None` if the package doesn't have it.
 fn number_of(
     numbers: Numbers<'_>,
     metadata: PackageMetadata<'_>,
@@ -106,8 +106,8 @@ fn number_of(
     }
 }
 
-/// What is found with the edges: the features that are on by default, the edges that wait for a gate, and the order with the
-/// components that have a cycle.
+/// The data computed from the edges: the features that are on by default, the edges that wait for a gate, the order, and the
+/// components with a cycle.
 #[derive(Drop)]
 struct Found {
     defaults: IxBitSet,
@@ -116,7 +116,7 @@ struct Found {
     cyclic: Vec<usize>,
 }
 
-/// The order of a digraph, and its components that have a cycle.
+/// Returns the order of `digraph` and its components with a cycle.
 fn ordered(alloc: Global, digraph: &Digraph) -> Result<(Order, Vec<usize>), AllocError>
     ensures order { IfOk result (λ o. IsOrderOf digraph.now o.0) }
     ensures cyclic { IfOk result (λ o. o.1.items ≡ cyclic_components digraph.now.edges o.0) }
@@ -126,7 +126,7 @@ fn ordered(alloc: Global, digraph: &Digraph) -> Result<(Order, Vec<usize>), Allo
     Ok((order, cyclic))
 }
 
-/// What is found with these edges.
+/// Returns the data computed from the edges of `table`.
 fn found_with(alloc: Global, numbers: Numbers<'_>, table: &EdgeTable) -> Result<Found, AllocError>
     requires nodes { table.now.digraph.nodes ≡ length (node_packages numbers.graph.now) }
     requires long { length table.now.edges ≡ length table.now.digraph.edges }
@@ -147,7 +147,7 @@ fn found_with(alloc: Global, numbers: Numbers<'_>, table: &EdgeTable) -> Result<
     })
 }
 
-/// The edges of the nodes in the table, and the warnings.
+/// Returns the edges of the nodes of `table`, and the warnings.
 fn made(
     alloc: Global,
     numbers: Numbers<'_>,
@@ -168,7 +168,7 @@ fn made(
     Ok((edges, warnings))
 }
 
-/// The feature graph of a package graph, under a stamp of the caller's. Each package's feature `default` is looked up once.
+/// Returns the feature graph of `graph`, marked with `stamp`. The feature `default` of each package is looked up once.
 fn built(alloc: Global, graph: &PackageGraph, stamp: u64) -> Result<FeatureGraphData, AllocError>
     ensures built { IfOk result (λ b. IsBuilt graph.now b) }
     ensures stamp { IfOk result (λ b. b.stamp ≡ stamp) }
@@ -194,7 +194,7 @@ fn built(alloc: Global, graph: &PackageGraph, stamp: u64) -> Result<FeatureGraph
 }
 
 impl FeatureGraphData {
-    /// The feature graph of a package graph, under a stamp of the caller's.
+    /// Returns the feature graph of `graph`, marked with `stamp`. `Memory` is the only error.
     pub fn build(
         alloc: Global,
         graph: &PackageGraph,
@@ -210,36 +210,36 @@ impl FeatureGraphData {
         }
     }
 
-    /// The stamp that the caller gave.
+    /// Returns the stamp that the caller passed to `build`.
     pub fn stamp(&self) -> u64
         ensures { result ≡ self.now.stamp }
     {
         self.stamp
     }
 
-    /// What building noted: the items of features and then the listed names that ask for what is not there.
+    /// Returns the warnings of features' items, then those of the names that declarations list.
     pub fn warnings(&self) -> &[FeatureGraphWarning]
         ensures { map warning_of result.now ≡ self.now.warnings }
     {
         self.warnings.as_slice()
     }
 
-    /// How many nodes there are.
+    /// Returns the number of nodes.
     pub fn node_count(&self) -> usize
         ensures { result ≡ length self.now.packages }
     {
         self.table.packages.len()
     }
 
-    /// How many edges there are.
+    /// Returns the number of edges.
     pub fn edge_count(&self) -> usize
         ensures { result ≡ length self.now.edges }
     {
         self.digraph.edge_count()
     }
 
-    /// The edges as a digraph of the nodes. An edge counts as dev-only there where it is conditional, and its link is
-    /// neither for normal use nor for builds.
+    /// Returns the edges as a digraph of the nodes. A conditional edge is dev-only there if its link has no declaration for
+    /// normal use or for build scripts.
     pub fn digraph(&self) -> &Digraph
         ensures nodes { result.now.nodes ≡ length self.now.packages }
         ensures edges { result.now.edges ≡ map end_of self.now.edges }
@@ -247,15 +247,15 @@ impl FeatureGraphData {
         &self.digraph
     }
 
-    /// The nodes in order, and their components: those of the digraph. It was made with the graph.
+    /// Returns the order of the digraph's nodes and components. It was computed with the graph.
     pub fn order(&self) -> &Order
         ensures { IsOrderOf (digraph_of self.now) result.now }
     {
         &self.order
     }
 
-    /// The order, and the numbers of its components that have a cycle, the last one first: those of two nodes or more, and the
-    /// nodes with an edge to themselves. They were found with the graph.
+    /// Returns the order, and the numbers of its components with a cycle, the last one first. These have two nodes or more, or
+    /// one node with an edge to itself. They were computed with the graph.
     pub fn cyclic_components(&self) -> (&Order, &[usize])
         ensures order { IsOrderOf (digraph_of self.now) result.0.now }
         ensures cyclic { result.1.now ≡ cyclic_components (digraph_of self.now).edges result.0.now }
@@ -263,7 +263,7 @@ impl FeatureGraphData {
         (&self.order, self.cyclic.as_slice())
     }
 
-    /// The two nodes of an edge, and what it says.
+    /// Returns the source and the target of edge `number`, and the edge.
     pub fn edge(&self, number: usize) -> (usize, usize, &FeatureEdge)
         requires { number < length self.now.edges }
         ensures { slice_get self.now.edges number ≡ Some (result.0, result.1, edge_facts result.2.now) }
@@ -272,22 +272,22 @@ impl FeatureGraphData {
         (ends.from, ends.to, self.edges.get(number))
     }
 
-    /// The first edge whose link is present for no kind, where there is one.
+    /// Returns the number of the first edge whose link is present for no kind of dependency, or `None`.
     pub fn first_absent_link(&self) -> Option<usize>
         ensures { result ≡ position (λ e. not (has_present_link e.2)) self.now.edges }
     {
         first_absent(&self.edges)
     }
 
-    /// The weak links, by index: the package link that weak edges name, and the node on whose being reached their
-    /// optional halves wait.
+    /// Returns the weak links, by index: the package link of its weak edges, and the gate, which is the node that their optional
+    /// halves wait for.
     pub fn weak_links(&self) -> &IndexMap<usize, usize>
         ensures { result.now.entries ≡ self.now.weak }
     {
         &self.weak
     }
 
-    /// The number of a node's package.
+    /// Returns the number of the package of node `ix`.
     pub fn package_of(&self, ix: usize) -> usize
         requires { ix < length self.now.packages }
         ensures { slice_get self.now.packages ix ≡ Some result }
@@ -295,7 +295,7 @@ impl FeatureGraphData {
         self.table.packages[ix]
     }
 
-    /// The first node of a package.
+    /// Returns the first node of package `package_ix`.
     pub fn first_node(&self, package_ix: usize) -> usize
         requires { package_ix < length self.now.firsts }
         ensures { slice_get self.now.firsts package_ix ≡ Some result }
@@ -303,8 +303,8 @@ impl FeatureGraphData {
         self.table.firsts[package_ix]
     }
 
-    /// Whether a node is on by default: at the end of a path from its package's default feature, over edges to the base
-    /// and between the package's named features.
+    /// Returns whether node `ix` is on by default: reachable from its package's default feature over edges to the base and edges
+    /// between the package's named features.
     pub fn is_default(&self, ix: usize) -> bool
         requires { ix < length self.now.packages }
         ensures mark { result ≡ has self.now.defaults ix }
@@ -315,7 +315,7 @@ impl FeatureGraphData {
 }
 
 impl FeatureGraphData {
-    /// The node of a feature, or none where the graph has no such feature. The data is built of this package graph.
+    /// Returns the node of the feature `id`, or `None` if the graph doesn't have it. The data must be built from `graph`.
     pub fn node(&self, graph: &PackageGraph, id: FeatureId<'_>) -> Option<usize>
         requires { IsBuilt graph.now self.now }
         ensures { (n : ℕ) → (result ≡ Some n) ↔ NodeNamed graph.now n (id_of id.entry) }
@@ -327,7 +327,7 @@ impl FeatureGraphData {
         }
     }
 
-    /// The id of a node. The data is built of this package graph.
+    /// Returns the id of node `ix`. The data must be built from `graph`.
     pub fn id<'g>(&self, graph: &'g PackageGraph, ix: usize) -> FeatureId<'g>
         requires built { IsBuilt graph.now self.now }
         requires node { ix < length self.now.packages }
@@ -340,7 +340,7 @@ impl FeatureGraphData {
 }
 
 impl FeatureGraphData {
-    /// What is reached from the initial nodes over the chosen edges.
+    /// Returns the nodes reached from `initials` in `direction` over the edges that `which` chooses.
     pub(crate) fn reach(
         &self,
         alloc: Global,
@@ -362,7 +362,7 @@ impl FeatureGraphData {
         )
     }
 
-    /// Its edges as a source of walks, as the direction follows them.
+    /// Returns the edges as a source of walks in `direction`.
     pub(crate) fn packed(&self, direction: DependencyDirection) -> Packed<'_>
         ensures { result ≡ record { holds = content direction (length self.now.packages) self.now.edges self.now.weak; reads = 0 } }
     {
@@ -377,7 +377,7 @@ impl FeatureGraphData {
 }
 
 impl FeatureGraphData {
-    /// Whether the first nodes of packages are the same.
+    /// Returns whether the first nodes of packages are equal.
     fn has_same_firsts(&self, other: &FeatureGraphData) -> bool
         ensures { IsTrue result ↔ (self.now.firsts ≡ other.now.firsts) }
     {
@@ -386,7 +386,7 @@ impl FeatureGraphData {
         same_numbers(own, others)
     }
 
-    /// Whether the packages of nodes are the same.
+    /// Returns whether the packages of nodes are equal.
     fn has_same_packages(&self, other: &FeatureGraphData) -> bool
         ensures { IsTrue result ↔ (self.now.packages ≡ other.now.packages) }
     {
@@ -395,21 +395,21 @@ impl FeatureGraphData {
         same_numbers(own, others)
     }
 
-    /// Whether the edges are the same, with all that they say.
+    /// Returns whether the edges are equal.
     fn has_same_edges(&self, other: &FeatureGraphData) -> bool
         ensures { IsTrue result ↔ (self.now.edges ≡ other.now.edges) }
     {
         same_pairs(&self.digraph, &other.digraph) && same_edges(&self.edges, &other.edges)
     }
 
-    /// Whether the weak links are the same, with their gates.
+    /// Returns whether the weak links and their gates are equal.
     fn has_same_gates(&self, other: &FeatureGraphData) -> bool
         ensures { IsTrue result ↔ (self.now.weak ≡ other.now.weak) }
     {
         same_gates(&self.weak, &other.weak)
     }
 
-    /// Whether the warnings are the same.
+    /// Returns whether the warnings are equal.
     fn has_same_warnings(&self, other: &FeatureGraphData) -> bool
         ensures { IsTrue result ↔ (self.now.warnings ≡ other.now.warnings) }
     {
@@ -418,14 +418,14 @@ impl FeatureGraphData {
         same_warnings(own, others)
     }
 
-    /// Whether the same nodes are on by default.
+    /// Returns whether the same nodes are on by default.
     fn has_same_defaults(&self, other: &FeatureGraphData) -> bool
         ensures { IsTrue result ↔ (self.now.defaults ≡ other.now.defaults) }
     {
         self.defaults.is_identical(&other.defaults)
     }
 
-    /// Whether two are the same in each part.
+    /// Returns whether `self` and `other` are equal in each part.
     pub(crate) fn is_same(&self, other: &FeatureGraphData) -> bool
         ensures { IsTrue result ↔ AreAlike self.now other.now }
     {

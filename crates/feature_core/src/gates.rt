@@ -11,7 +11,7 @@ use feature_links::{FeatureEdge, SlashForm};
 use indexmap::IndexMap;
 use std::alloc::{AllocError, Global};
 
-/// The gate of an edge's optional half.
+/// Returns the gate of a weak edge's optional half; `None` for another edge.
 pub(crate) fn gate_of(weak: &IndexMap<usize, usize>, edge: &FeatureEdge) -> Option<usize>
     ensures { result ≡ gate_of weak.now.entries (edge_facts edge.now) }
 {
@@ -24,7 +24,7 @@ pub(crate) fn gate_of(weak: &IndexMap<usize, usize>, edge: &FeatureEdge) -> Opti
     }
 }
 
-/// The gate of a weak link.
+/// Returns the gate of weak link `index`, or 0 if there is none.
 fn gate_at(weak: &IndexMap<usize, usize>, index: usize) -> usize
     ensures { result ≡ gate_at weak.now.entries index }
 {
@@ -34,7 +34,7 @@ fn gate_at(weak: &IndexMap<usize, usize>, index: usize) -> usize
     }
 }
 
-/// Adds the number beside the gate, where there is one.
+/// Appends `number` with its gate, if `gate` is `Some`.
 fn push_release(
     released: &mut Vec<(usize, usize)>,
     gate: Option<usize>,
@@ -48,7 +48,7 @@ fn push_release(
     Ok(())
 }
 
-/// The gate of each weak edge beside the edge's number, by number.
+/// Returns the gate and the number of each weak edge, by number.
 fn releases(
     alloc: Global,
     edges: &EdgeList,
@@ -64,7 +64,7 @@ fn releases(
     Ok(released)
 }
 
-/// The gate of each weak edge beside the edge's number, ascending.
+/// Returns the gate and the number of each weak edge, sorted by gate and then by number.
 pub(crate) fn release_table(
     alloc: Global,
     edges: &EdgeList,
@@ -77,7 +77,7 @@ pub(crate) fn release_table(
     Ok(released)
 }
 
-/// Sorts by gate, then number.
+/// Sorts `released` by gate and then by number.
 fn sort_releases(released: &mut Vec<(usize, usize)>)
     ensures permutation { IsPermutation released.old.items released.new.items }
     ensures sorted { AllPairs IsUpTo released.new.items }
@@ -85,7 +85,7 @@ fn sort_releases(released: &mut Vec<(usize, usize)>)
     released.sort_unstable();
 }
 
-/// The edge at this place among those that the gate releases, by binary search.
+/// Returns the number of edge `place` among those that `gate` releases, by binary search.
 pub(crate) fn released_at(released: &[(usize, usize)], gate: usize, place: usize) -> Option<usize>
     requires { AllPairs IsBefore released.now }
     ensures { result ≡ slice_get (released_by gate released.now) place }
@@ -95,7 +95,7 @@ pub(crate) fn released_at(released: &[(usize, usize)], gate: usize, place: usize
     if releaser == gate { Some(edge) } else { None }
 }
 
-/// The place of the first release whose gate isn't below this one.
+/// Returns the index of the first release whose gate is at least `gate`.
 fn first_release(released: &[(usize, usize)], gate: usize) -> usize
     requires { AllPairs IsBefore released.now }
     ensures within { result ≤ length released.now }
@@ -104,7 +104,7 @@ fn first_release(released: &[(usize, usize)], gate: usize) -> usize
     released.partition_point(|release| release.0 < gate)
 }
 
-/// The release at the place, where places count from this one on.
+/// Returns the release `place` places after `first`.
 fn release_from(released: &[(usize, usize)], first: usize, place: usize) -> Option<(usize, usize)>
     requires { first ≤ length released.now }
     ensures { result ≡ slice_get (drop first released.now) place }

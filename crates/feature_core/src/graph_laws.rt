@@ -1,5 +1,4 @@
-//! Laws of feature graphs as they are built. Each function does nothing, and its contract is the law: it speaks of whatever
-//! is built of the package graph.
+//! Laws of built feature graphs. Each function does nothing: its contract is the law, for each build of `graph`.
 
 ghost use Rattle.std.specs.Prelude.{◌≡◌, ◌↔◌, ◌<◌, ℕ, Bool, Some, length, map, slice_get};
 ghost use Rattle.guppy_packages.specs.Rows.{Text};
@@ -20,7 +19,7 @@ ghost use Rattle.feature_core.specs.Pairs.{Reach};
 
 use guppy_packages::PackageGraph;
 
-/// Each edge says what the edge of its pair says by the tables, and a pair has one edge.
+/// States that each built edge is the edge of its pair by the tables, and that a pair has one edge.
 pub fn edges_say(graph: &PackageGraph)
     ensures says { (b : Built) (k : ℕ) (x : ℕ × ℕ × EdgeFacts) → IsBuilt graph.now b → slice_get b.edges k ≡ Some x
         → EdgeSays graph.now (map (λ w. w.0) b.weak) x.0 x.1 x.2 }
@@ -32,7 +31,7 @@ pub fn edges_say(graph: &PackageGraph)
     graph.facts();
 }
 
-/// Every offer of the graph, in either direction, has its link.
+/// States that each offer of the graph, in either direction, has a link.
 pub fn offers_are_links(graph: &PackageGraph)
     ensures { (b : Built) (direction : DependencyDirection) (e : ℕ) (h : Half) → IsBuilt graph.now b
         → IsOffer (content_of direction b) e h → (l : LinkFacts) × IsLinkOf b e h l }
@@ -40,8 +39,8 @@ pub fn offers_are_links(graph: &PackageGraph)
     graph.facts();
 }
 
-/// An offer is named by its two nodes and by which declarations its link covers, and a node by its package's id and its
-/// label.
+/// States that its two nodes and the declarations that its link covers determine an offer. A package's id and a label determine a
+/// node.
 pub fn link_names_offer(graph: &PackageGraph)
     ensures offers { (b : Built) (direction : DependencyDirection) (d : ℕ) (g : Half) (e : ℕ) (h : Half) → IsBuilt graph.now b
         → IsOffer (content_of direction b) d g → IsOffer (content_of direction b) e h → HaveOneName b d g e h
@@ -51,18 +50,18 @@ pub fn link_names_offer(graph: &PackageGraph)
     graph.facts();
 }
 
-/// The names of nodes are exactly the labels of the packages, each beside its package's id.
+/// States that the names of nodes are exactly the labels of the packages, each with its package's id.
 pub fn node_names(graph: &PackageGraph)
     ensures { NamesAreLabels graph.now }
 {}
 
-/// The package links of each link are links of the package graph.
+/// States that the package links of each link are links of the package graph.
 pub fn link_numbers(graph: &PackageGraph)
     ensures { (b : Built) (e : ℕ) (h : Half) (l : LinkFacts) (i k : ℕ) → IsBuilt graph.now b → IsLinkOf b e h l
         → slice_get l.package_links i ≡ Some k → k < length graph.now.links }
 {}
 
-/// Each weak edge has its place among the weak links, its gate and its optional half.
+/// States that each weak edge has an index among the weak links, a gate and an optional half.
 pub fn weak_edges(graph: &PackageGraph)
     ensures { (b : Built) (k u w : ℕ) (l : LinkFacts) (halves : WeakFacts) → IsBuilt graph.now b
         → slice_get b.edges k ≡ Some (u, w, weak_edge l halves) → IsWeakEdge graph.now b l halves }
@@ -70,9 +69,8 @@ pub fn weak_edges(graph: &PackageGraph)
     graph.facts();
 }
 
-/// What walks of a feature graph follow: the ends and gates of its ways are nodes, the two directions are each other's
-/// reverse, in reverse no half waits for a gate, and what is reached over all offers is what is reached over the
-/// candidates of the tables.
+/// States properties of the ways of a built graph. Their ends and gates are nodes, the two directions are each other's reverse,
+/// and in reverse no half waits for a gate. The reach over all offers is the reach over the candidates of the tables.
 pub fn content_of_graph(graph: &PackageGraph)
     ensures count { (b : Built) → IsBuilt graph.now b → length b.packages ≡ length (nodes graph.now) }
     ensures ends { (b : Built) (direction : DependencyDirection) → IsBuilt graph.now b → EndsAreNodes (content_of direction b) }
@@ -85,7 +83,7 @@ pub fn content_of_graph(graph: &PackageGraph)
     graph.facts();
 }
 
-/// What walks follow in a direction is determined by the package graph: any two builds of it agree.
+/// States that the package graph determines the ways of each direction: any two builds have the same.
 pub fn one_content(graph: &PackageGraph)
     ensures { (a b : Built) (direction : DependencyDirection) → IsBuilt graph.now a → IsBuilt graph.now b
         → content_of direction a ≡ content_of direction b }

@@ -1,4 +1,4 @@
-//! Candidates for edges as small keys, and the least of each pair of nodes.
+//! Candidates for edges as small keys, and the least key of each pair of nodes.
 ghost use Rattle.std.specs.Prelude.{◌≡◌, ◌≤◌, IsPermutation, AllPairs, OnOk, length};
 ghost use Rattle.feature_core.specs.inner.Keys.{IsNoLater, AreLeast, IsRun, is_pair_below, is_pair_up_to};
 
@@ -6,9 +6,9 @@ use std::alloc::{AllocError, Global};
 
 /// A candidate for the edge of a pair of nodes.
 ///
-/// Keys are ordered by the pair, then by rank. The source is the number of the package link that the candidate comes
-/// from, and the place that of the declaration there; both are 0 where the pair alone tells what the candidate is. All four take
-/// four bytes each: a package with 100,000 features has hundreds of thousands of keys.
+/// Keys are ordered by the pair, then by `rank`. `source` is the number of the candidate's package link, and `place` the index of
+/// its declaration there; both are 0 if the pair determines the candidate. The fields have 32 bits each or fewer, because a
+/// package with 100,000 features has hundreds of thousands of keys.
 #[derive(Clone, Copy, PartialEq, Eq, PartialOrd, Ord)]
 pub(crate) struct Key {
     pub(crate) from: u32,
@@ -18,7 +18,7 @@ pub(crate) struct Key {
     pub(crate) place: u32,
 }
 
-/// Sorts keys by pair, rank, source and place. They come in long runs that are in order, which a merge sort keeps.
+/// Sorts `keys` by pair, rank, source and place. They contain long sorted runs, which a merge sort uses.
 pub(crate) fn sort_keys(keys: &mut Vec<Key>) -> Result<(), AllocError>
     ensures permutation { IsPermutation keys.old.items keys.new.items }
     ensures sorted { OnOk result (AllPairs IsNoLater keys.new.items) }
@@ -27,7 +27,7 @@ pub(crate) fn sort_keys(keys: &mut Vec<Key>) -> Result<(), AllocError>
     Ok(())
 }
 
-/// Sorts the end of a slice of keys.
+/// Sorts `keys` from index `start` on.
 fn sort_end(alloc: Global, keys: &mut [Key], start: usize) -> Result<(), AllocError>
     requires { start ≤ length keys.old }
     ensures { IsPermutation keys.old keys.new }
@@ -36,7 +36,7 @@ fn sort_end(alloc: Global, keys: &mut [Key], start: usize) -> Result<(), AllocEr
     end.sort(alloc)
 }
 
-/// Sorts the keys from a place on. So the keys of a package, which come source by source, are mostly in order when all are there.
+/// Sorts `keys` from index `start` on. Sorting each part when it is complete leaves the whole mostly sorted.
 pub(crate) fn sort_keys_from(
     alloc: Global,
     keys: &mut Vec<Key>,
@@ -48,7 +48,7 @@ pub(crate) fn sort_keys_from(
     sort_end(alloc, keys.as_mut_slice(), start)
 }
 
-/// Of sorted keys, keeps the least of each pair.
+/// Keeps the least key of each pair; `keys` are sorted.
 fn keep_least(keys: &mut Vec<Key>)
     requires { AllPairs IsNoLater keys.old.items }
     ensures { AreLeast keys.old.items keys.new.items }
@@ -56,7 +56,7 @@ fn keep_least(keys: &mut Vec<Key>)
     keys.dedup_by_key(|key| (key.from, key.to));
 }
 
-/// Puts the least of each pair of sorted keys in place of what was kept.
+/// Sets `kept` to the least key of each pair; `keys` are sorted.
 pub(crate) fn keep_least_of(kept: &mut Vec<Key>, keys: &[Key]) -> Result<(), AllocError>
     requires { AllPairs IsNoLater keys.now }
     ensures { OnOk result (AreLeast keys.now kept.new.items) }
@@ -67,7 +67,7 @@ pub(crate) fn keep_least_of(kept: &mut Vec<Key>, keys: &[Key]) -> Result<(), All
     Ok(())
 }
 
-/// Of sorted keys, those of a pair.
+/// Returns the keys of the pair `from`, `to`; `keys` are sorted.
 pub(crate) fn run_of(keys: &[Key], from: u32, to: u32) -> &[Key]
     requires { AllPairs IsNoLater keys.now }
     ensures { IsRun keys.now from to result.now }

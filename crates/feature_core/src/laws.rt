@@ -1,5 +1,5 @@
 //! Laws of walks, of edges, and of equality of warnings. Each function's contract is the law; those of walks and edges do
-//! nothing, and speak of the definitions alone.
+//! nothing.
 
 ghost use Rattle.digraph_orders.specs.Laws.{ComponentsFollowEdges, CyclesAreMutual, FirmEdgesFollow};
 ghost use Rattle.std.specs.Prelude.{◌≡◌, ◌↔◌, ℕ, IsTrue};
@@ -17,8 +17,8 @@ pub use walk_engine::laws::{
     required_half_is_due, reverse_accept_all,
 };
 
-/// In an order, of two nodes in different components the one with an edge to the other comes first; and where the edges that
-/// aren't dev-only form no cycle, each of them orders its two ends.
+/// States that in an order, if an edge joins nodes of two components, its source comes first. If the edges that aren't dev-only
+/// form no cycle, each of them has its source first.
 pub fn order_respects_edges()
     ensures components { ComponentsFollowEdges }
     ensures firm { FirmEdgesFollow }
@@ -27,14 +27,14 @@ pub fn order_respects_edges()
     firm_edges_follow();
 }
 
-/// If a node lies on a common cycle with another, so does the other with it.
+/// States that lying on a common cycle is symmetric.
 pub fn common_cycle_symmetric()
     ensures { CyclesAreMutual }
 {
     cycles_are_mutual();
 }
 
-/// Candidates for the edge of one pair of nodes that have one rank are equal, so a pair has at most one edge.
+/// States that candidates of one pair and one rank are equal, so a pair has at most one edge.
 pub fn one_candidate(graph: &PackageGraph)
     ensures of_rank { (u w : ℕ) (e other : Edge) → Candidate graph.now u w e → Candidate graph.now u w other
         → rank_of e ≡ rank_of other → e ≡ other }
@@ -43,14 +43,14 @@ pub fn one_candidate(graph: &PackageGraph)
     graph.facts();
 }
 
-/// The link of each conditional edge that is built is present for some kind.
+/// States that the link of each conditional edge is present for some kind of dependency.
 pub fn links_are_present(graph: &PackageGraph)
     ensures { (b : Built) → IsBuilt graph.now b → ArePresent b.edges }
 {
     graph.facts();
 }
 
-/// Two warnings are equal where they say the same, with the same texts.
+/// Compares two warnings: they are equal if and only if they are of one kind, with the same texts.
 pub fn warning_equality(a: &FeatureGraphWarning, b: &FeatureGraphWarning) -> bool
     ensures { IsTrue result ↔ (warning_of a.now ≡ warning_of b.now) }
 {

@@ -1,4 +1,4 @@
-//! Earlier keys of a package whose edges say the same.
+//! Earlier keys of a package whose edges are equal.
 ghost use Rattle.std.specs.Prelude.{◌≡◌, ◌<◌, IfSome, IsTrue, Some, length, slice_get};
 ghost use Rattle.feature_core.specs.declared.key.Key.{Key as KeyValue};
 ghost use Rattle.feature_core.specs.inner.Alike.{AreAlike, IsAlikeBefore, IsSingle, SharesSubject};
@@ -9,7 +9,7 @@ use crate::numbers::Numbers;
 use std::alloc::{AllocError, Global};
 use std::marker::Model;
 
-/// Places of keys of a package, each in the slot of what the key's edge speaks of.
+/// A table of recent keys of a package: each slot contains the index of a key.
 #[derive(Drop)]
 pub(crate) struct NearKeys {
     slots: Vec<u32>,
@@ -25,7 +25,7 @@ impl Model for NearKeys {
     ghost invariant = { λ n. length n.slots.items ≡ 4096 };
 }
 
-/// The slot of a key, by its rank and what its edge speaks of: a node or a package link.
+/// Returns the slot of `key`, by its rank and its subject: the node or the package link that determines its edge.
 fn key_slot(key: Key) -> usize
     ensures { result < 4096 }
 {
@@ -37,7 +37,7 @@ fn key_slot(key: Key) -> usize
     (subject as usize % 512) * 8 + usize::from(key.rank % 8)
 }
 
-/// Whether a package link has one declaration.
+/// Returns whether package link `link_ix` has exactly one declaration.
 fn is_single(numbers: Numbers<'_>, link_ix: usize) -> bool
     requires { link_ix < length numbers.graph.now.links }
     ensures { IsTrue result → IsSingle numbers.entry.graph.now link_ix }
@@ -45,7 +45,7 @@ fn is_single(numbers: Numbers<'_>, link_ix: usize) -> bool
     numbers.graph.link(link_ix).declarations().len() == 1
 }
 
-/// Whether the sections of two keys are of the one declaration of one link, and start at one node.
+/// Returns whether two section keys have one source node and one package link with a single declaration.
 fn shares_declaration(numbers: Numbers<'_>, earlier: Key, key: Key) -> bool
     requires of_tables { IsOfTables numbers.graph.now key }
     requires rank { key.rank ≡ 7 }
@@ -58,7 +58,7 @@ fn shares_declaration(numbers: Numbers<'_>, earlier: Key, key: Key) -> bool
     false
 }
 
-/// Whether the edges of two keys of one rank speak of the same.
+/// Returns whether two keys of one rank have the same subject.
 fn shares_subject(numbers: Numbers<'_>, earlier: Key, key: Key) -> bool
     requires { IsOfTables numbers.graph.now key }
     ensures { IsTrue result → SharesSubject numbers.entry.graph.now earlier key }
@@ -74,7 +74,7 @@ fn shares_subject(numbers: Numbers<'_>, earlier: Key, key: Key) -> bool
     }
 }
 
-/// Whether the key at a place is alike.
+/// Returns whether key `near` of `kept` is alike to `key`: their edges are equal.
 fn is_alike_at(numbers: Numbers<'_>, kept: &[Key], near: usize, key: Key) -> bool
     requires { IsOfTables numbers.graph.now key }
     ensures { IsTrue result → ((x : KeyValue) × (slice_get kept.now near ≡ Some x) × AreAlike numbers.entry.graph.now x key) }
@@ -86,14 +86,14 @@ fn is_alike_at(numbers: Numbers<'_>, kept: &[Key], near: usize, key: Key) -> boo
 }
 
 impl NearKeys {
-    /// No place yet.
+    /// Returns a table with no keys.
     pub(crate) fn new(alloc: Global) -> Result<NearKeys, AllocError> {
         let slots = vec![in alloc; 0u32; 4_096]?;
         Ok(NearKeys { slots })
     }
 
-    /// The place of an earlier key that is alike, where it's the last one that took the slot. The key at hand takes it, if its place
-    /// fits in 32 bits.
+    /// Returns the index of an earlier key alike to `key`, if that key is the last one in the slot. Then `key` takes the slot, if
+    /// `ix` fits in 32 bits.
     pub(crate) fn alike_before(
         &mut self,
         numbers: Numbers<'_>,

@@ -1,4 +1,4 @@
-//! The nodes of a package graph: where those of each package begin, and the number of each label.
+//! The nodes of a package graph: the first node of each package, and the package of each node.
 ghost use Rattle.std.specs.Prelude.{◌≡◌, ◌+◌, ◌<◌, ◌++◌, ◌↔◌, OnOk, IfOk, length, replicate};
 ghost use Rattle.guppy_packages.specs.Metadata.{package_table_of};
 ghost use Rattle.feature_core.specs.Nodes.{labels_of, first_nodes, node_packages};
@@ -13,7 +13,7 @@ pub(crate) struct NodeTable {
     pub(crate) packages: Vec<usize>,
 }
 
-/// Appends a number so many times.
+/// Appends `number` to `numbers`, `times` times.
 fn push_times(numbers: &mut Vec<usize>, number: usize, times: usize) -> Result<(), AllocError>
     ensures { OnOk result (numbers.new.items ≡ numbers.old.items ++ replicate times number) }
 {
@@ -23,7 +23,7 @@ fn push_times(numbers: &mut Vec<usize>, number: usize, times: usize) -> Result<(
     Ok(())
 }
 
-/// Appends the nodes of a package.
+/// Appends the package's number once for each of its nodes.
 fn push_nodes(packages: &mut Vec<usize>, metadata: PackageMetadata<'_>) -> Result<(), AllocError>
     ensures { OnOk result (packages.new.items ≡ packages.old.items ++ replicate (length (labels_of (package_table_of metadata.entry))) metadata.entry.package_ix) }
 {
@@ -33,7 +33,7 @@ fn push_nodes(packages: &mut Vec<usize>, metadata: PackageMetadata<'_>) -> Resul
     push_times(packages, ix, metadata.optional_deps().len())
 }
 
-/// The nodes of all packages.
+/// Returns the nodes of all packages.
 pub(crate) fn node_table(alloc: Global, graph: &PackageGraph) -> Result<NodeTable, AllocError>
     ensures firsts { IfOk result (λ table. table.firsts.items ≡ first_nodes graph.now) }
     ensures packages { IfOk result (λ table. table.packages.items ≡ node_packages graph.now) }

@@ -11,8 +11,8 @@ ghost use Rattle.feature_core.specs.Nodes.{NodeAt, labels_of, first_node, first_
 use feature_labels::FeatureLabel;
 use guppy_packages::{NamedFeature, PackageGraph, PackageMetadata};
 
-/// A package graph with the first node of each package. The packages below the length of `defaults` have their named feature
-/// `default` there, or none where they have no such feature; for the others it is looked up.
+/// A package graph with the first node of each package. `defaults` has the node of the feature `default` of the packages below
+/// its length, `None` if there is no such feature. For other packages it is looked up.
 #[derive(Clone, Copy)]
 pub(crate) struct Numbers<'g> {
     pub(crate) graph: &'g PackageGraph,
@@ -23,7 +23,7 @@ pub(crate) struct Numbers<'g> {
     pub(crate) ghost looked_up: { AreDefaultNodes graph.now defaults.now },
 }
 
-/// The first node of a package.
+/// Returns the first node of package `ix`.
 fn first_of(firsts: &[usize], ix: usize) -> usize
     requires { ix < length firsts.now }
     ensures { result ≡ slice_index firsts.now ix }
@@ -31,7 +31,7 @@ fn first_of(firsts: &[usize], ix: usize) -> usize
     firsts[ix]
 }
 
-/// The label at a place among those of a package.
+/// Returns label `place` of a package.
 fn label<'g>(metadata: PackageMetadata<'g>, place: usize) -> FeatureLabel<'g>
     requires { place < length (labels_of (package_table_of metadata)) }
     ensures { slice_get (labels_of (package_table_of metadata.entry)) place ≡ Some (label_of result) }
@@ -47,7 +47,7 @@ fn label<'g>(metadata: PackageMetadata<'g>, place: usize) -> FeatureLabel<'g>
     }
 }
 
-/// The label of a node, by the first node of each package and the package of each node.
+/// Returns the label of node `ix`, by the first node of each package and the package of each node.
 pub(crate) fn label_at<'g>(
     graph: &'g PackageGraph,
     firsts: &[usize],
@@ -64,14 +64,14 @@ pub(crate) fn label_at<'g>(
     label(graph.package(package_ix), place)
 }
 
-/// Whether the feature has this name.
+/// Returns whether the name of `feature` is `name`.
 fn is_called(feature: &NamedFeature, name: &str) -> bool
     ensures { IsTrue result → (feature_table feature.now).name ≡ name.now }
 {
     feature.name() == name
 }
 
-/// Whether there is a feature of this name at the place.
+/// Returns whether there is a feature `place`, with the name `name`.
 fn has_name(features: &[NamedFeature], place: usize, name: &str) -> bool
     ensures { IsTrue result → (f : FeatureTable) × (slice_get (map feature_table features.now) place ≡ Some f) × (f.name ≡ name.now) }
 {
@@ -81,7 +81,7 @@ fn has_name(features: &[NamedFeature], place: usize, name: &str) -> bool
     false
 }
 
-/// The place of the feature of this name, where it is the one after or before this place.
+/// Returns the index of the feature `name`, if it is next to `place`.
 fn place_beside(features: &[NamedFeature], place: usize, name: &str) -> Option<usize>
     ensures { IfSome result (λ k. (f : FeatureTable) × (slice_get (map feature_table features.now) k ≡ Some f) × (f.name ≡ name.now)) }
 {
@@ -97,7 +97,7 @@ fn place_beside(features: &[NamedFeature], place: usize, name: &str) -> Option<u
 }
 
 impl<'g> Numbers<'g> {
-    /// The node at a place of a package.
+    /// Returns the node of label `place` of a package.
     fn number(self, metadata: PackageMetadata<'g>, place: usize) -> usize
         requires graph { package_graph_of metadata ≡ self.graph.now }
         requires place { place < length (labels_of (package_table_of metadata)) }
@@ -107,7 +107,7 @@ impl<'g> Numbers<'g> {
         first_of(self.firsts, ix) + place
     }
 
-    /// The base of a package.
+    /// Returns the base of a package.
     pub(crate) fn base(self, metadata: PackageMetadata<'g>) -> usize
         requires { package_graph_of metadata ≡ self.graph.now }
         ensures number { result ≡ first_node self.entry.graph.now metadata.entry.package_ix }
@@ -117,7 +117,7 @@ impl<'g> Numbers<'g> {
         self.number(metadata, 0)
     }
 
-    /// The named feature of a package, where it has one of this name.
+    /// Returns the node of the named feature `name` of a package, or `None` if there is none.
     pub(crate) fn named(self, metadata: PackageMetadata<'g>, name: &str) -> Option<usize>
         requires { package_graph_of metadata ≡ self.graph.now }
         ensures { (n : ℕ) → (result ≡ Some n) ↔ NodeAt self.entry.graph.now n metadata.entry.package_ix (named name.now) }
@@ -130,8 +130,8 @@ impl<'g> Numbers<'g> {
         }
     }
 
-    /// The named feature of a package, where it has one of this name: what stands beside this place is looked at first, which serves
-    /// features that name their neighbours.
+    /// Returns the node of the named feature `name` of a package, or `None` if there is none. Neighbours of `place` are tried
+    /// first, since features often name them.
     pub(crate) fn named_beside(
         self,
         metadata: PackageMetadata<'g>,
@@ -150,7 +150,7 @@ impl<'g> Numbers<'g> {
         }
     }
 
-    /// The named feature `default` of a package, where it has one.
+    /// Returns the node of the feature `default` of a package, or `None` if there is none.
     pub(crate) fn default_of(self, metadata: PackageMetadata<'g>) -> Option<usize>
         requires { package_graph_of metadata ≡ self.graph.now }
         ensures { (n : ℕ) → (result ≡ Some n) ↔ NodeAt self.entry.graph.now n metadata.entry.package_ix (named (codes "default")) }
@@ -162,7 +162,7 @@ impl<'g> Numbers<'g> {
         self.named(metadata, "default")
     }
 
-    /// The optional dependency of a package, where it has one of this name.
+    /// Returns the node of the optional dependency `name` of a package, or `None` if there is none.
     pub(crate) fn optional(self, metadata: PackageMetadata<'g>, name: &str) -> Option<usize>
         requires { package_graph_of metadata ≡ self.graph.now }
         ensures { (n : ℕ) → (result ≡ Some n) ↔ NodeAt self.entry.graph.now n metadata.entry.package_ix (optional name.now) }
@@ -176,7 +176,7 @@ impl<'g> Numbers<'g> {
         }
     }
 
-    /// The named feature at a place of a package's features.
+    /// Returns the node of named feature `place` of a package.
     pub(crate) fn feature(self, metadata: PackageMetadata<'g>, place: usize) -> usize
         requires graph { package_graph_of metadata ≡ self.graph.now }
         requires place { place < length (package_table_of metadata).features }
@@ -186,7 +186,7 @@ impl<'g> Numbers<'g> {
         self.number(metadata, 1 + place)
     }
 
-    /// How many nodes a package has.
+    /// Returns the number of nodes of a package.
     pub(crate) fn node_count(self, metadata: PackageMetadata<'g>) -> usize
         requires { package_graph_of metadata ≡ self.graph.now }
         ensures count { result ≡ length (labels_of (package_table_of metadata.entry)) }

@@ -23,7 +23,7 @@ use indexmap::IndexMap;
 use std::marker::Model;
 use walk_checks::{EdgeTable, TableEdge};
 
-/// What is asked of edges.
+/// The condition for following an edge.
 #[derive(Drop)]
 pub(crate) enum Asking<'a> {
     /// The offers of each conditional edge. Forward, optional halves wait for their gates.
@@ -31,11 +31,11 @@ pub(crate) enum Asking<'a> {
         weak: &'a IndexMap<usize, usize>,
         released: &'a [(usize, usize)],
     },
-    /// Nothing of these edges, and the full link of each other one.
+    /// No condition for the chosen edges, and the full link for each other one.
     Chosen(EdgeChoice),
 }
 
-/// What is asked of the edge of this number.
+/// Returns the condition of edge `number`.
 fn ask_of(
     asking: &Asking<'_>,
     direction: DependencyDirection,
@@ -54,7 +54,7 @@ fn ask_of(
     }
 }
 
-/// Whether the edge of this number is among the chosen ones.
+/// Returns whether `which` chooses edge `number`.
 fn is_chosen(edges: &EdgeList, which: EdgeChoice, number: usize) -> bool
     requires { number < length edges.now }
     ensures { Some result ≡ option_map (is_chosen which) (slice_get edges.now number) }
@@ -65,14 +65,14 @@ fn is_chosen(edges: &EdgeList, which: EdgeChoice, number: usize) -> bool
     }
 }
 
-/// The full link where the edge isn't chosen.
+/// Returns no condition if `chosen` is true, and otherwise the full link.
 fn ask_unless(chosen: bool) -> Ask
     ensures { result ≡ ask_where chosen }
 {
     if chosen { Ask::Nobody } else { Ask::Full }
 }
 
-/// The offers of an edge, as the direction follows it.
+/// Returns the offers of `edge` in `direction`.
 fn offers_of(direction: DependencyDirection, edge: &FeatureEdge) -> Ask
     ensures { result ≡ asked direction (edge_facts edge.now) }
 {
@@ -89,7 +89,7 @@ fn offers_of(direction: DependencyDirection, edge: &FeatureEdge) -> Ask
     }
 }
 
-/// Whether an optional half waits for its gate.
+/// Returns whether optional halves wait for their gates in `direction`.
 fn waits(direction: DependencyDirection) -> bool
     ensures { result ≡ waits direction }
 {
@@ -99,8 +99,7 @@ fn waits(direction: DependencyDirection) -> bool
     }
 }
 
-/// The edges of a feature graph as one direction follows them. A contract sees what it holds and how many reads there
-/// were.
+/// The edges of a feature graph, followed in one direction. A contract sees the ways and the number of reads.
 #[derive(Drop)]
 pub struct Packed<'a> {
     digraph: &'a Digraph,
@@ -123,14 +122,14 @@ impl<'a> Model for Packed<'a> {
 }
 
 impl<'a> Packed<'a> {
-    /// The edges of a feature graph, as the direction follows them.
+    /// Returns the edges of `built`, followed in `direction`.
     pub fn new(built: &'a FeatureGraphData, direction: DependencyDirection) -> Self
         ensures { result ≡ record { holds = content direction (length built.now.packages) built.now.edges built.now.weak; reads = 0 } }
     {
         built.packed(direction)
     }
 
-    /// The source over these parts.
+    /// Returns the edges of `digraph`, each with its offers, followed in `direction`.
     pub(crate) fn over(
         digraph: &'a Digraph,
         edges: &'a EdgeList,
@@ -150,7 +149,7 @@ impl<'a> Packed<'a> {
         }
     }
 
-    /// The source over these parts of which nobody is asked of a chosen edge, and the others are offered.
+    /// Returns the edges of `digraph`: those that `which` chooses are unconditional, and every other is offered by its full link.
     pub(crate) fn chosen(
         digraph: &'a Digraph,
         edges: &'a EdgeList,
@@ -169,7 +168,7 @@ impl<'a> Packed<'a> {
         }
     }
 
-    /// How many reads there were.
+    /// Returns the number of reads so far.
     pub fn reads(&self) -> u128
         ensures { result ≡ self.now.reads }
     {
@@ -177,7 +176,7 @@ impl<'a> Packed<'a> {
     }
 }
 
-/// The number of the edge at this place, from 0, among those that start at the node, as the direction follows them.
+/// Returns the number of edge `place`, from 0, among those that start at `node` in `direction`.
 fn edge_number(
     digraph: &Digraph,
     direction: DependencyDirection,
@@ -200,7 +199,7 @@ fn edge_number(
     }
 }
 
-/// The number at a place of a list.
+/// Returns number `place` of `numbers`, or `None`.
 fn number_at(numbers: &[u32], place: usize) -> Option<usize>
     ensures { result ≡ slice_get numbers.now place }
 {
@@ -211,7 +210,7 @@ fn number_at(numbers: &[u32], place: usize) -> Option<usize>
     }
 }
 
-/// The number of the edge at this place, from 0, among those that wait for the gate, as the direction follows them.
+/// Returns the number of edge `place`, from 0, among those that wait for `gate` in `direction`.
 fn released_number(
     asking: &Asking<'_>,
     direction: DependencyDirection,
@@ -230,7 +229,7 @@ fn released_number(
     }
 }
 
-/// The end of an edge that the direction leads to.
+/// Returns the end that `edge` leads to in `direction`.
 fn far_end(direction: DependencyDirection, edge: Edge) -> usize
     ensures { result ≡ (open_way direction edge).far }
 {
@@ -240,7 +239,7 @@ fn far_end(direction: DependencyDirection, edge: Edge) -> usize
     }
 }
 
-/// What is told of an edge.
+/// Returns edge `edge` as a walk takes it: its number, the end that it leads to, and its condition.
 fn taken(
     digraph: &Digraph,
     edges: &EdgeList,
@@ -282,7 +281,7 @@ impl EdgeSource for Packed<'_> {
     }
 }
 
-/// The gate of an edge, where its optional half waits; else 0.
+/// Returns the gate of `edge` if its optional half waits, and otherwise 0.
 fn gate_in(asking: &Asking<'_>, edge: &FeatureEdge) -> usize
     ensures { result ≡ gate_in asking.now (edge_facts edge.now) }
 {
@@ -292,7 +291,7 @@ fn gate_in(asking: &Asking<'_>, edge: &FeatureEdge) -> usize
     }
 }
 
-/// The end of an edge that the direction comes from.
+/// Returns the end that `edge` starts from in `direction`.
 fn near_end(direction: DependencyDirection, edge: Edge) -> usize
     ensures { result ≡ (open_way direction edge).start }
 {
@@ -302,7 +301,7 @@ fn near_end(direction: DependencyDirection, edge: Edge) -> usize
     }
 }
 
-/// An edge as the direction follows it.
+/// Returns edge `number` as `direction` follows it.
 fn table_edge(
     digraph: &Digraph,
     edges: &EdgeList,

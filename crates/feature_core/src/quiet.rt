@@ -1,4 +1,4 @@
-//! The parts of a package graph that building its edges found to be without a warning.
+//! The parts of a package graph that are known to have no warning, since building the edges looked at them.
 ghost use Rattle.std.specs.Prelude.{◌≡◌, ◌<◌, true, IfOk, length, slice_set, if◌then◌else◌};
 ghost use Rattle.feature_core.specs.inner.Quiet.{IsQuiet};
 
@@ -6,7 +6,7 @@ use guppy_packages::PackageGraph;
 use guppy_support::IxBitSet;
 use std::alloc::{AllocError, Global};
 
-/// Packages with no warning of an item, and links with no warning of a listed name. There may be more such.
+/// Packages whose items have no warning, and links whose listed names have none. Others may have none too.
 #[derive(Drop)]
 pub(crate) struct Quiet {
     pub(crate) packages: IxBitSet,
@@ -14,7 +14,7 @@ pub(crate) struct Quiet {
 }
 
 impl Quiet {
-    /// None of them, as long as nothing was found.
+    /// Returns the empty sets.
     pub(crate) fn none(alloc: Global, graph: &PackageGraph) -> Result<Quiet, AllocError>
         ensures { IfOk result (λ quiet. IsQuiet graph.now quiet) }
     {
@@ -24,7 +24,7 @@ impl Quiet {
     }
 }
 
-/// Puts a number into the set, where this is told of it.
+/// Inserts `ix` into `set` if `told` is true.
 pub(crate) fn note(set: &mut IxBitSet, ix: usize, told: bool)
     requires { ix < length set.old }
     ensures { set.new ≡ (if told then slice_set set.old ix true else set.old) }

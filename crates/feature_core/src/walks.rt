@@ -18,7 +18,7 @@ use guppy_support::IxBitSet;
 use std::alloc::Global;
 use walk_engine::{Offerer, Walk, walk_over};
 
-/// The nodes that are reached from the initial ones over the chosen edges, as the direction follows them.
+/// Returns the nodes reached from `initials` in `direction` over the edges that `which` chooses. `Memory` is the only error.
 pub fn walk_all(
     alloc: Global,
     built: &FeatureGraphData,
@@ -37,12 +37,14 @@ pub fn walk_all(
     Ok(set)
 }
 
-/// Walks over the edges of a feature graph from the initial nodes, as the direction follows them.
+/// Walks over the edges of a feature graph from `initials`, in `direction`.
 ///
-/// An edge that isn't conditional is followed. A conditional one is followed where an offer of it is accepted: its full
-/// link, or a half of a weak edge. Forward, the optional half of a weak edge is offered once the optional dependency that
-/// it names is reached too. The offers make a complete legal run, and the members are exactly the least set for the
-/// accepted ones. Where memory is refused, the offers made are a legal run.
+/// Unconditional edges are followed. A conditional edge is followed if one of its offers is accepted: its full link, or a half of
+/// a weak edge. Forward, the optional half of a weak edge is offered only when the optional dependency that it names is reached
+/// too.
+///
+/// The offers make a complete legal run, and the members are exactly the least set for the accepted ones. `Memory` is the only
+/// error; the offers made by then are a legal run.
 pub fn walk<O: Offerer>(
     alloc: Global,
     built: &FeatureGraphData,

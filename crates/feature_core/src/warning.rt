@@ -1,4 +1,4 @@
-//! Warnings: what items and listed names ask for that is not there.
+//! Warnings of items and of listed names whose target doesn't exist.
 ghost use Rattle.std.specs.Prelude.{◌≡◌, ◌<◌, ◌++◌, ◌∷◌, [], IfOk, IsTrue, OnOk, codes, flat_map, length, string_bytes, if◌then◌else◌};
 ghost use Rattle.std.specs.List.{enumerate_from};
 ghost use Rattle.guppy_packages.specs.Items.{item_of};
@@ -20,10 +20,10 @@ use guppy_packages::{
 use guppy_support::IxBitSet;
 use std::alloc::{AllocError, Global};
 
-/// What building a feature graph noted: an item or a listed name that leads nowhere.
+/// A warning of building a feature graph: an item or a listed name has no target.
 #[derive(PartialEq, Eq, Debug, Drop)]
 pub enum FeatureGraphWarning {
-    /// The package lacks what an item or a listed name asks of it.
+    /// The package doesn't have the feature or dependency that an item or a listed name requests.
     MissingFeature {
         package_id: PackageId,
         feature_name: String,
@@ -35,7 +35,7 @@ pub enum FeatureGraphWarning {
     },
 }
 
-/// Appends that a package lacks what has this name.
+/// Appends the warning that the package doesn't have `name`.
 fn push_missing(
     alloc: Global,
     found: &mut Vec<FeatureGraphWarning>,
@@ -51,7 +51,7 @@ fn push_missing(
     Ok(())
 }
 
-/// Appends that a feature of a package names itself.
+/// Appends the warning that the feature `name` of the package names itself.
 fn push_self_loop(
     alloc: Global,
     found: &mut Vec<FeatureGraphWarning>,
@@ -67,7 +67,7 @@ fn push_self_loop(
     Ok(())
 }
 
-/// Appends a warning where a package has no named feature of this name.
+/// Appends a warning if the package has no named feature `name`.
 fn push_lack(
     alloc: Global,
     found: &mut Vec<FeatureGraphWarning>,
@@ -82,7 +82,7 @@ fn push_lack(
     Ok(())
 }
 
-/// Appends a warning where a package has no optional dependency of this name.
+/// Appends a warning if the package has no optional dependency `name`.
 fn push_lack_of_dependency(
     alloc: Global,
     found: &mut Vec<FeatureGraphWarning>,
@@ -99,7 +99,7 @@ fn push_lack_of_dependency(
     Ok(())
 }
 
-/// Appends a warning where the target of a link has no named feature of this name.
+/// Appends a warning if the target of `link` has no named feature `name`.
 fn push_lack_over(
     alloc: Global,
     found: &mut Vec<FeatureGraphWarning>,
@@ -111,7 +111,7 @@ fn push_lack_over(
     push_lack(alloc, found, link.to(), name)
 }
 
-/// Appends the warnings of an item that asks the targets of a package's links of one name for a feature.
+/// Appends the warnings of an item that requests `feature` of the targets of `links`, the package's links under `dep_name`.
 fn push_lacks_over(
     alloc: Global,
     found: &mut Vec<FeatureGraphWarning>,
@@ -132,7 +132,7 @@ fn push_lacks_over(
     Ok(())
 }
 
-/// Appends the warnings of an item of a feature.
+/// Appends the warnings of an item of the feature `feature_name`.
 fn push_item(
     alloc: Global,
     found: &mut Vec<FeatureGraphWarning>,
@@ -166,7 +166,7 @@ fn push_item(
     }
 }
 
-/// Appends the warnings of the items of a feature.
+/// Appends the warnings of a feature's items.
 fn push_feature(
     alloc: Global,
     found: &mut Vec<FeatureGraphWarning>,
@@ -190,7 +190,7 @@ fn push_feature(
     Ok(())
 }
 
-/// Appends the warnings of the items of a package's features.
+/// Appends the warnings for a package's feature items.
 fn push_package(
     alloc: Global,
     found: &mut Vec<FeatureGraphWarning>,
@@ -207,7 +207,7 @@ fn push_package(
     Ok(())
 }
 
-/// Appends the warnings of the items of a package's features, of which none is where this is told.
+/// Appends the warnings for a package's feature items. If `quiet` is true, there are none.
 fn push_package_unless(
     alloc: Global,
     found: &mut Vec<FeatureGraphWarning>,
@@ -226,7 +226,7 @@ fn push_package_unless(
     Ok(())
 }
 
-/// Appends the warnings of the items of all packages, of which those in the set have none.
+/// Appends the warnings for the feature items of all packages; those in `quiet` have none.
 fn push_packages(
     alloc: Global,
     found: &mut Vec<FeatureGraphWarning>,
@@ -244,7 +244,7 @@ fn push_packages(
     Ok(())
 }
 
-/// Appends the warnings of the names that a declaration of a link lists.
+/// Appends the warnings of the names that a declaration of `link` lists.
 fn push_declaration(
     alloc: Global,
     found: &mut Vec<FeatureGraphWarning>,
@@ -260,7 +260,7 @@ fn push_declaration(
     Ok(())
 }
 
-/// Appends the warnings of the names that the declarations of a link list.
+/// Appends the warnings of the names that the declarations of `link` list.
 fn push_link(
     alloc: Global,
     found: &mut Vec<FeatureGraphWarning>,
@@ -275,7 +275,7 @@ fn push_link(
     Ok(())
 }
 
-/// Appends the warnings of the names that the declarations of a link list, of which none is where this is told.
+/// Appends the warnings of the names that the declarations of link `ix` list. If `quiet` is true, there are none.
 fn push_link_unless(
     alloc: Global,
     found: &mut Vec<FeatureGraphWarning>,
@@ -293,7 +293,7 @@ fn push_link_unless(
     Ok(())
 }
 
-/// Appends the warnings of the names that the declarations of all links list, of which those in the set have none.
+/// Appends the warnings of the names that the declarations of all links list; links in `quiet` have none.
 fn push_links(
     alloc: Global,
     found: &mut Vec<FeatureGraphWarning>,
@@ -309,8 +309,8 @@ fn push_links(
     Ok(())
 }
 
-/// The warnings of a package graph: of the items of features by packages, features and places, then of listed names by
-/// links, declarations and places. What is quiet isn't looked at again.
+/// Returns the warnings of a package graph: first of items, by packages, features and places; then of listed names, by links,
+/// declarations and places. Parts in `quiet` are skipped.
 pub(crate) fn warnings(
     alloc: Global,
     graph: &PackageGraph,

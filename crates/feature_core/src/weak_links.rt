@@ -1,4 +1,4 @@
-//! The weak links that keys name, with their gates.
+//! The weak links of keys, with their gates.
 ghost use Rattle.std.specs.Prelude.{◌≡◌, ◌++◌, ◌∷◌, [], ℕ, List, Contains, OnOk, map};
 ghost use Rattle.feature_core.specs.declared.key.Key.{Key as KeyValue};
 ghost use Rattle.feature_core.specs.Edges.{IsGate, first_ones};
@@ -10,7 +10,7 @@ use crate::numbers::Numbers;
 use indexmap::IndexMap;
 use std::alloc::AllocError;
 
-/// The gate of a weak link: the node of its name among the optional dependencies of its source.
+/// Returns the gate of weak link `ix`: the node of its name among the optional dependencies of its source.
 fn gate_of(numbers: Numbers<'_>, ix: usize) -> usize
     requires { IsOptionalLink numbers.graph.now ix }
     ensures { IsGate numbers.entry.graph.now ix result }
@@ -23,7 +23,7 @@ fn gate_of(numbers: Numbers<'_>, ix: usize) -> usize
     }
 }
 
-/// Notes the weak link of a key, where it is the key of a weak edge.
+/// Inserts the weak link of `key` and its gate into `table`, if the edge of `key` is weak.
 pub(crate) fn note_gate(
     table: &mut IndexMap<usize, usize>,
     numbers: Numbers<'_>,

@@ -13,7 +13,7 @@ use Rattle.std.proofs.lemmas.List.{get_or-map, length-map}
 use Rattle.std.proofs.lemmas.Map.Keys.{Less-from_sorted}
 use Rattle.std.proofs.lemmas.List.Sorted.{searchable_from_sorted}
 
--- repeats are dropped before or after `f`, where `same` and `like` are one test
+-- repeats may be dropped before or after `f`, if `same` and `like` are one test
 dedup_from-map : {X Y : Type 0} (f : X → Y) (same : X → X → Bool) (like : Y → Y → Bool) → ((a b : X) → same a b ≡ like (f a) (f b)) → (k : X) (xs : List X) → map f (dedup_from same k xs) ≡ dedup_from like (f k) (map f xs)
 dedup_from-map f same like e k [] = refl
 dedup_from-map f same like e k (x ∷ xs) =
@@ -24,7 +24,7 @@ pub dedup-map : {X Y : Type 0} (f : X → Y) (same : X → X → Bool) (like : Y
 dedup-map f same like e [] = refl
 dedup-map f same like e (x ∷ xs) = dedup_from-map f same like e x xs
 
--- what is sorted through `f` is sorted after it
+-- a list sorted through `f` is sorted after `map f`
 pub IsSorted-map : {X Y : Type 0} (f : X → Y) (cmp : X → X → Ordering) (R : Y → Y → Ordering) → ((a b : X) → cmp a b ≡ R (f a) (f b)) → (xs : List X) → IsSorted cmp xs → IsSorted R (map f xs)
 IsSorted-map f cmp R e [] s = λ k d low high. absurd (omega arith)
 IsSorted-map f cmp R e (x ∷ xs) s = λ k d low high.
@@ -32,7 +32,7 @@ IsSorted-map f cmp R e (x ∷ xs) s = λ k d low high.
     let here : k < length (x ∷ xs) = omega arith in
     rw (get_or-map f (x ∷ xs) k x d here, get_or-map f (x ∷ xs) (k + 1) x d next, ← e (get_or (x ∷ xs) (k + 1) x) (get_or (x ∷ xs) k x)) (s k x low next)
 
--- what a binary search of the elements answers is what one of their images would
+-- a binary search of the elements is one of their images
 pub IsBinarySearchResult-map : {X Y : Type 0} (f : X → Y) (ord : X → Ordering) (rank : Y → Ordering) → ((a : X) → ord a ≡ rank (f a)) → (xs : List X) (r : Result ℕ ℕ) → IsSearchInRange r (length xs) → IsBinarySearchResult ord xs r → IsBinarySearchResult rank (map f xs) r
 IsBinarySearchResult-map f ord rank e [] (Ok i) below h = absurd (omega arith)
 IsBinarySearchResult-map f ord rank e [] (Err i) below h = λ rises. (λ k d low high. absurd (omega arith), λ k d low high. absurd (omega arith))
@@ -56,7 +56,7 @@ IsSorted-from_strictly {K} {R} o ks s = λ k d low high.
     let up : R (get_or ks k d) (get_or ks (k + 1) d) ≡ Less = Less-from_sorted R ks k (k + 1) d s (omega arith) (omega arith) in
     rw (o.antisymm (get_or ks (k + 1) d) (get_or ks k d), up) refl
 
--- a binary search of a strictly sorted list finds what the list has
+-- a binary search of a strictly sorted list finds exactly the list's elements
 pub found_from_search : {K : Type 0} {R : K → K → Ordering} → IsTotalOrder R → ((a b : K) → R a b ≡ Equal → a ≡ b) → (ks : List K) (k : K) → IsStrictlySortedBy R ks → (r : Result ℕ ℕ) → IsSearchInRange r (length ks) → IsBinarySearchResult (λ y. R y k) ks r → IsTrue (is_ok r) ↔ Contains ks k
 found_from_search {K} {R} o exact ks k s (Ok i) below h = (λ _. (i, below, exact (get_or ks i k) k (h k)), λ _. refl)
 found_from_search {K} {R} o exact ks k s (Err i) below h =
@@ -69,14 +69,14 @@ found_from_search {K} {R} o exact ks k s (Err i) below h =
           absurd (elim (cases_lt has.0 i) [ inl before ↦ (let less : R (get_or ks has.0 k) k ≡ Less = parts.0 has.0 k (omega arith) before in cc) | inr from ↦ (let greater : R (get_or ks has.0 k) k ≡ Greater = parts.1 has.0 k from has.1 in cc) ]),
     )
 
--- a partial function gives no more than there are elements
+-- a partial function has at most as many values as there are elements
 pub length_filter_map_le : {K X : Type 0} (h : K → Option X) (ks : List K) → length (filter_map h ks) ≤ length ks
 length_filter_map_le h [] = omega arith
 length_filter_map_le {K} {X} h (k ∷ ks) =
     let rest = length_filter_map_le h ks in
     elim (h k) as (λ o. length (cons_option o (filter_map h ks)) ≤ length (k ∷ ks)) [ None ↦ omega arith | Some x ↦ omega arith ]
 
--- what a partial function that keeps the order gives of ascending elements ascends
+-- a partial function that keeps the order maps ascending elements to ascending values
 below_kept : {K X : Type 0} (R : K → K → Ordering) (S : X → X → Ordering) (h : K → Option X) → ((a b : K) (x y : X) → h a ≡ Some x → h b ≡ Some y → R a b ≡ Less → S x y ≡ Less) → (k : K) (x : X) → h k ≡ Some x → (ks : List K) → AllByRecursion (λ each. R k each ≡ Less) ks → AllByRecursion (λ each. S x each ≡ Less) (filter_map h ks)
 below_kept R S h keeps k x is [] below = tt
 below_kept {K} {X} R S h keeps k x is (j ∷ ks) below =

@@ -1,4 +1,4 @@
--- What sorting labels and dropping repeats leaves.
+-- The labels that remain when repeats of sorted labels are dropped.
 use Rattle.std.proofs.Common.{◌≡◌, List, [], map, ap, ◌∙◌, refl}
 use Rattle.std.specs.List.{dedup}
 use Rattle.std.specs.List.Retain.{IsFiltered, DiffersFromLast}

@@ -1,4 +1,4 @@
--- A binary search of ascending labels answers whether the label is among them.
+-- A binary search of ascending labels returns whether the label is among them.
 use Rattle.std.proofs.Common.{ℕ, List, ◌↔◌, Result, IsTrue, length, map, ap}
 use Rattle.std.specs.List.{Contains}
 use Rattle.std.specs.List.Sorted.{IsBinarySearchResult, IsSearchInRange}

@@ -10,26 +10,26 @@ use Rattle.feature_labels.specs.Names.{LabelName, label_of, label_cmp, label_tex
 use Rattle.feature_labels.specs.Names.LabelName.{base, named, optional}
 use Rattle.feature_labels.specs.declared.display_features.DisplayFeatures.{DisplayFeatures}
 
--- features of one package: the tables that the package is of, its number and its id there, and the labels
+-- Features of one package: the graph's tables, the package's number and id there, and the labels.
 pub record ListValue : Type 0 where
   pub graph : Tables
   pub number : ℕ
   pub package_id : Text
   pub labels : List LabelName
 
--- each label is below those after it
+-- Each label is less than those after it.
 abbrev pub Ascends : List LabelName → Type 0
 Ascends labels = IsStrictlySortedBy label_cmp labels
 
--- each text is below those after it
+-- Each text is less than those after it.
 abbrev pub TextsAscend : List Text → Type 0
 TextsAscend texts = IsStrictlySortedBy (slice_cmp nat_cmp) texts
 
--- the same labels, in any order and however often
+-- The two lists contain the same labels, in any order and any number of times.
 abbrev pub SameLabels : List LabelName → List LabelName → Type 0
 SameLabels labels others = (label : LabelName) → Contains labels label ↔ Contains others label
 
--- the ids of the package's features with these labels
+-- The ids of the package's features with these labels.
 abbrev pub ids_in : Text → List LabelName → List (Text × LabelName)
 ids_in id labels = map (λ label. (id, label)) labels
 
@@ -43,7 +43,7 @@ name_if_optional base = None
 name_if_optional (named _) = None
 name_if_optional (optional name) = Some name
 
--- the labels' texts with `, ` between two neighbours
+-- The labels' texts with `, ` between neighbours.
 abbrev pub joined : List LabelName → Text
 joined labels = join_by label_text (codes ", ") labels
 

@@ -1,4 +1,4 @@
--- Labels and ids as values, without where their texts lie, with the texts that are printed and the orders.
+-- Labels and ids as plain values, with the texts that they print and their orders.
 use Rattle.std.specs.Prelude.{ℕ, ◌++◌, codes}
 use Rattle.std.specs.declared.cmp.Ordering.{Ordering}
 use Rattle.std.specs.declared.cmp.Ordering.TheVariants.{Less, Equal, Greater}
@@ -11,7 +11,7 @@ use Rattle.feature_labels.specs.declared.feature_label.FeatureKind.{FeatureKind}
 use Rattle.feature_labels.specs.declared.feature_label.FeatureKind.TheVariants as kind
 use Rattle.feature_labels.specs.declared.feature_id.FeatureId.{FeatureId}
 
--- the label of a feature by its text
+-- The label of a feature as a plain value.
 pub data LabelName : Type 0 where
   base : LabelName
   named : Text → LabelName
@@ -27,17 +27,17 @@ kind_of base = kind.Base
 kind_of (named _) = kind.Named
 kind_of (optional _) = kind.OptionalDependency
 
--- the place of the kind: the base, then the named features, then the optional dependencies
+-- The rank of a kind: the base, then named features, then optional dependencies.
 abbrev pub kind_rank : FeatureKind → ℕ
 kind_rank kind.Base = 0
 kind_rank kind.Named = 1
 kind_rank kind.OptionalDependency = 2
 
--- the base, then the named features, then the optional dependencies
+-- The order of kinds: the base, then named features, then optional dependencies.
 abbrev pub kind_cmp : FeatureKind → FeatureKind → Ordering
 kind_cmp a b = nat_cmp (kind_rank a) (kind_rank b)
 
--- the text of the package's id, and the label
+-- The text of the package's id, and the label.
 abbrev pub id_of : FeatureId → Text × LabelName
 id_of i = (i.package_id.now, label_of i.label)
 
@@ -49,7 +49,7 @@ label_text (optional name) = codes "dep:" ++ name
 abbrev pub id_text : Text × LabelName → Text
 id_text (id, label) = id ++ codes "/" ++ label_text label
 
--- the base, then the named features by their bytes, then the optional dependencies by theirs
+-- The order of labels: the base, then named features by their bytes, then optional dependencies by theirs.
 abbrev pub label_cmp : LabelName → LabelName → Ordering
 label_cmp base base = Equal
 label_cmp base (named _) = Less
@@ -61,6 +61,6 @@ label_cmp (optional _) base = Greater
 label_cmp (optional _) (named _) = Greater
 label_cmp (optional s) (optional t) = slice_cmp nat_cmp s t
 
--- by the bytes of the package's id, then by label
+-- The order of ids: by the bytes of the package's id, then by label.
 abbrev pub id_cmp : Text × LabelName → Text × LabelName → Ordering
 id_cmp a b = ordering_then (slice_cmp nat_cmp a.0 b.0) (label_cmp a.1 b.1)

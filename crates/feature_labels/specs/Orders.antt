@@ -1,4 +1,4 @@
--- The orders of labels and ids are total, and what they do not tell apart is equal.
+-- The orders of labels and ids are total, and labels or ids that compare `Equal` are equal.
 use Rattle.std.specs.Prelude.{ℕ, Bool, ◌&&◌, ◌≡◌, [], nat_eq, refl}
 use Rattle.std.specs.Bool.{Decides}
 use Rattle.std.specs.Cmp.{IsTotalOrder, IsEquivalence}
@@ -13,7 +13,7 @@ use Rattle.feature_labels.specs.Lists.{ListValue}
 use Rattle.feature_labels.specs.Names.{LabelName, kind_of, kind_rank, kind_cmp, label_cmp, id_cmp}
 use Rattle.feature_labels.specs.Names.LabelName.{base, named, optional}
 
--- whether two labels are the same
+-- Whether two labels are equal.
 abbrev pub label_eq : LabelName → LabelName → Bool
 label_eq = eq_by_cmp label_cmp
 
@@ -49,7 +49,7 @@ kind_cmp_total = on_total kind_rank nat_cmp_total
 pub id_cmp_total : IsTotalOrder id_cmp
 id_cmp_total = then_total (on_texts (λ (id : Text × LabelName). id.0)) (on_total (λ (id : Text × LabelName). id.1) label_cmp_total)
 
--- texts that compare `Equal` are equal
+-- Texts that compare `Equal` are equal.
 text_eq-Decides : (s t : Text) → Decides (eq_by_cmp (slice_cmp nat_cmp) s t) (s ≡ t)
 text_eq-Decides s t = let P : Bool → Type 0 = λ r. Decides r (s ≡ t) in subst P (texts_ties s t) (bytes_decides s t)
 
@@ -64,7 +64,7 @@ label_eq-Decides (optional _) base = (λ e. cc, λ e. cc)
 label_eq-Decides (optional _) (named _) = (λ e. cc, λ e. cc)
 label_eq-Decides (optional s) (optional t) = let d = text_eq-Decides s t in (λ e. ap optional (d.0 e), λ e. d.1 (cc))
 
--- whether two lists are of packages of one id and have the same labels
+-- Whether two lists have packages of one id and the same labels.
 abbrev pub list_eq : ListValue → ListValue → Bool
 list_eq a b = pointwise nat_eq a.package_id b.package_id && pointwise label_eq a.labels b.labels
 

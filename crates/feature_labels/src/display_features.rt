@@ -6,9 +6,9 @@ ghost use Rattle.feature_labels.specs.Names.{label_of};
 use crate::feature_label::FeatureLabel;
 use std::fmt;
 
-/// Prints labels, with `, ` between two of them, and nothing where there are none.
+/// A wrapper that prints labels with `, ` between neighbours, and nothing if there are none.
 ///
-/// `FeatureList::display_features` makes it.
+/// `FeatureList::display_features` returns it.
 #[derive(Clone, Copy)]
 pub struct DisplayFeatures<'g, 'a>(&'a [FeatureLabel<'g>]);
 
@@ -35,7 +35,7 @@ impl fmt::Display for DisplayFeatures<'_, '_> {
     }
 }
 
-/// Prints what Display prints, which is easier to read.
+/// Prints the same as `Display`, which is easier to read than the labels' structure.
 impl fmt::Debug for DisplayFeatures<'_, '_> {
     ghost debug_output = { λ shown. Some (joined (labels_shown shown)) };
 

@@ -1,4 +1,4 @@
-//! A feature of a package.
+//! Ids of features.
 ghost use Rattle.std.specs.Prelude.{◌≡◌, ◌↔◌, IsTrue, Some};
 ghost use Rattle.feature_labels.specs.Names.{label_of, id_of, id_text, kind_of};
 ghost use Rattle.feature_labels.specs.Names.LabelName.{base, named, optional};
@@ -18,63 +18,63 @@ pub struct FeatureId<'g> {
 }
 
 impl<'g> FeatureId<'g> {
-    /// The id of the feature of this package with this label.
+    /// Returns the id of the feature `label` of the package `package_id`.
     pub fn new(package_id: &'g PackageId, label: FeatureLabel<'g>) -> Self
         ensures { id_of result ≡ (package_id.now, label_of label.entry) }
     {
         FeatureId { package_id, label }
     }
 
-    /// The id of a named feature.
+    /// Returns the id of the named feature `feature_name`.
     pub fn named(package_id: &'g PackageId, feature_name: &'g str) -> Self
         ensures { id_of result ≡ (package_id.now, named feature_name.now) }
     {
         FeatureId::new(package_id, FeatureLabel::Named(feature_name))
     }
 
-    /// The id of an optional dependency.
+    /// Returns the id of the optional dependency `dep_name`.
     pub fn optional_dependency(package_id: &'g PackageId, dep_name: &'g str) -> Self
         ensures { id_of result ≡ (package_id.now, optional dep_name.now) }
     {
         FeatureId::new(package_id, FeatureLabel::OptionalDependency(dep_name))
     }
 
-    /// The id of the base feature of a package.
+    /// Returns the id of the package's base feature.
     pub fn base(package_id: &'g PackageId) -> Self
         ensures { id_of result ≡ (package_id.now, base) }
     {
         FeatureId::new(package_id, FeatureLabel::Base)
     }
 
-    /// The package's id.
+    /// Returns the package's id.
     pub fn package_id(&self) -> &'g PackageId
         ensures { result.now ≡ (id_of self.now).0 }
     {
         self.package_id
     }
 
-    /// The feature's label.
+    /// Returns the feature's label.
     pub fn label(&self) -> FeatureLabel<'g>
         ensures { label_of result ≡ (id_of self.now).1 }
     {
         self.label
     }
 
-    /// Whether this is the base feature of its package.
+    /// Returns whether this is the base feature of its package.
     pub fn is_base(&self) -> bool
         ensures { IsTrue result ↔ (kind_of (id_of self.now).1 ≡ kind.Base) }
     {
         self.label.kind().is_base()
     }
 
-    /// Whether this is an optional dependency.
+    /// Returns whether this is an optional dependency.
     pub fn is_optional_dependency(self) -> bool
         ensures { IsTrue result ↔ (kind_of (id_of self.entry).1 ≡ kind.OptionalDependency) }
     {
         self.label.kind().is_optional_dependency()
     }
 
-    /// Whether this is a named feature.
+    /// Returns whether this is a named feature.
     pub fn is_named(self) -> bool
         ensures { IsTrue result ↔ (kind_of (id_of self.entry).1 ≡ kind.Named) }
     {

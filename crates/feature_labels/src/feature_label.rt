@@ -6,14 +6,14 @@ use std::fmt;
 
 /// A unique identifier for a feature within one package, and a part of a `FeatureId`.
 ///
-/// Labels are ordered: the base, then the named features by the bytes of their names, then the optional
-/// dependencies by the bytes of theirs.
+/// Labels are ordered: the base, then the named features by the bytes of their names, then the optional dependencies by the bytes
+/// of theirs.
 #[derive(Clone, Copy, Debug, PartialEq, Eq, PartialOrd, Ord, Hash)]
 pub enum FeatureLabel<'g> {
-    /// The package with no feature enabled. Each package has it.
+    /// The package with no feature enabled. Each package has this label.
     Base,
 
-    /// A feature with a name of its own.
+    /// A named feature.
     Named(&'g str),
 
     /// An optional dependency, by its name.
@@ -21,7 +21,7 @@ pub enum FeatureLabel<'g> {
 }
 
 impl FeatureLabel<'_> {
-    /// The variant, without the name.
+    /// Returns the label's variant, without the name.
     pub fn kind(self) -> FeatureKind
         ensures { result ≡ kind_of (label_of self.entry) }
     {
@@ -49,10 +49,10 @@ impl fmt::Display for FeatureLabel<'_> {
 /// The kind of a feature within its package, ordered as the labels are.
 #[derive(Clone, Copy, Debug, PartialEq, Eq, PartialOrd, Ord, Hash)]
 pub enum FeatureKind {
-    /// The package with no feature enabled. Each package has it.
+    /// The package with no feature enabled. Each package has this kind of feature.
     Base,
 
-    /// A feature with a name of its own.
+    /// A named feature.
     Named,
 
     /// An optional dependency.
@@ -60,21 +60,21 @@ pub enum FeatureKind {
 }
 
 impl FeatureKind {
-    /// Whether this is the base feature.
+    /// Returns whether this is the base feature.
     pub fn is_base(self) -> bool
         ensures { IsTrue result ↔ (self ≡ FeatureKind.Base) }
     {
         matches!(self, FeatureKind::Base)
     }
 
-    /// Whether this is a named feature.
+    /// Returns whether this is a named feature.
     pub fn is_named(self) -> bool
         ensures { IsTrue result ↔ (self ≡ FeatureKind.Named) }
     {
         matches!(self, FeatureKind::Named)
     }
 
-    /// Whether this is an optional dependency.
+    /// Returns whether this is an optional dependency.
     pub fn is_optional_dependency(self) -> bool
         ensures { IsTrue result ↔ (self ≡ FeatureKind.OptionalDependency) }
     {

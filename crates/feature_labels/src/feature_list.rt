@@ -1,4 +1,4 @@
-//! A sorted list of features of one package, with no feature twice.
+//! A sorted list of features of one package, without repeats.
 ghost use Rattle.std.specs.Prelude.{◌≡◌, ◌↔◌, IfOk, IsTrue, map};
 ghost use Rattle.std.specs.List.{Contains, filter_map};
 ghost use Rattle.guppy_packages.specs.Metadata.{package_graph_of, package_id_of, package_number_of};
@@ -18,7 +18,7 @@ use std::alloc::{AllocError, Global};
 use std::fmt;
 use std::marker::Model;
 
-/// A sorted list of features of one package, with no feature twice.
+/// A sorted list of features of one package, without repeats.
 ///
 /// A contract sees it as the graph, the number and the id of its package, and the labels.
 #[derive(Drop)]
@@ -42,7 +42,8 @@ impl<'g> Model for FeatureList<'g> {
 }
 
 impl<'g> FeatureList<'g> {
-    /// The list of these labels, sorted and each once. Whether the package has them isn't asked.
+    /// Returns the list of `labels`, sorted and without repeats. It isn't checked that `package` has the features. `AllocError`
+    /// is the only error.
     pub fn new(
         alloc: Global,
         package: PackageMetadata<'g>,
@@ -60,7 +61,7 @@ impl<'g> FeatureList<'g> {
         Ok(FeatureList { package, labels })
     }
 
-    /// The package of the features.
+    /// Returns the package of the features.
     pub fn package(&self) -> &PackageMetadata<'g>
         ensures graph { package_graph_of result.now ≡ self.now.graph }
         ensures number { package_number_of result.now ≡ self.now.number }
@@ -69,35 +70,35 @@ impl<'g> FeatureList<'g> {
         &self.package
     }
 
-    /// Whether the list has this label.
+    /// Returns whether the list contains `label`.
     pub fn contains(&self, label: FeatureLabel<'_>) -> bool
         ensures { IsTrue result ↔ Contains self.now.labels (label_of label.entry) }
     {
         self.labels.binary_search(&label).is_ok()
     }
 
-    /// Whether the list has the base feature, which stands for the package with no feature enabled.
+    /// Returns whether the list contains the base feature: the package with no feature enabled.
     pub fn has_base(&self) -> bool
         ensures { IsTrue result ↔ Contains self.now.labels base }
     {
         self.contains(FeatureLabel::Base)
     }
 
-    /// Whether the list has the feature of this name.
+    /// Returns whether the list contains the named feature `feature_name`.
     pub fn has_named_feature(&self, feature_name: &str) -> bool
         ensures { IsTrue result ↔ Contains self.now.labels (named feature_name.now) }
     {
         self.contains(FeatureLabel::Named(feature_name))
     }
 
-    /// Whether the list has the optional dependency of this name.
+    /// Returns whether the list contains the optional dependency `dep_name`.
     pub fn has_optional_dependency(&self, dep_name: &str) -> bool
         ensures { IsTrue result ↔ Contains self.now.labels (optional dep_name.now) }
     {
         self.contains(FeatureLabel::OptionalDependency(dep_name))
     }
 
-    /// The labels, ascending.
+    /// Returns the labels, ascending.
     pub fn labels(&self) -> &[FeatureLabel<'g>]
         ensures value { map label_of result.now ≡ self.now.labels }
         ensures ascends { Ascends self.now.labels }
@@ -105,7 +106,7 @@ impl<'g> FeatureList<'g> {
         self.labels.as_slice()
     }
 
-    /// The names of the named features, ascending.
+    /// Returns the names of the named features, ascending.
     #[tactic(auto, using(crate::proofs::Texts::names_ascend))]
     pub fn named_features<'a>(&'a self) -> NamedFeatures<'g, 'a>
         ensures value { result ≡ filter_map name_if_named self.now.labels }
@@ -114,7 +115,7 @@ impl<'g> FeatureList<'g> {
         NamedFeatures::new(self.labels())
     }
 
-    /// The names of the optional dependencies, ascending.
+    /// Returns the names of the optional dependencies, ascending.
     #[tactic(auto, using(crate::proofs::Texts::optional_names_ascend))]
     pub fn optional_deps<'a>(&'a self) -> OptionalDeps<'g, 'a>
         ensures value { result ≡ filter_map name_if_optional self.now.labels }
@@ -123,21 +124,21 @@ impl<'g> FeatureList<'g> {
         OptionalDeps::new(self.labels())
     }
 
-    /// The ids of the features, in the order of the labels.
+    /// Returns the ids of the features, in the order of the labels.
     pub fn iter<'a>(&'a self) -> Iter<'g, 'a>
         ensures { result ≡ ids_in self.now.package_id self.now.labels }
     {
         Iter::new(self)
     }
 
-    /// Prints the labels, with `, ` between two of them.
+    /// Returns a value that prints the labels with `, ` between neighbours.
     pub fn display_features<'a>(&'a self) -> DisplayFeatures<'g, 'a>
         ensures { labels_shown result ≡ self.now.labels }
     {
         DisplayFeatures::new(self.labels())
     }
 
-    /// The labels, ascending.
+    /// Returns the labels, ascending, as a vector.
     pub fn into_labels(self) -> Vec<FeatureLabel<'g>>
         ensures value { map label_of result.items ≡ self.entry.labels }
         ensures ascends { Ascends self.entry.labels }
@@ -146,7 +147,7 @@ impl<'g> FeatureList<'g> {
         labels
     }
 
-    /// An equal list.
+    /// Returns an equal list. `AllocError` is the only error.
     pub fn try_clone(&self, alloc: Global) -> Result<FeatureList<'g>, AllocError>
         ensures { IfOk result (λ list. list ≡ self.now) }
     {
@@ -157,7 +158,7 @@ impl<'g> FeatureList<'g> {
     }
 }
 
-/// Lists are equal where their packages have one id, in whichever graphs, and they have the same labels.
+/// Compares the packages' ids, in whichever graphs, and the labels.
 impl PartialEq for FeatureList<'_> {
     ghost eq = { list_eq };
 

@@ -1,7 +1,7 @@
-//! Which declarations of a dependency a link stands for.
+//! The declarations of a dependency that a link covers.
 ghost use Rattle.std.specs.Prelude.{◌≡◌, ◌↔◌, ◌⊎◌, IsTrue};
 
-/// Which declarations of a dependency a link covers: all, or one half.
+/// The declarations of a dependency that a link covers: all, or one half.
 #[derive(Clone, Copy, Debug, PartialEq, Eq, Hash)]
 pub enum LinkDeclarations {
     /// The required and the optional declarations.
@@ -15,14 +15,14 @@ pub enum LinkDeclarations {
 }
 
 impl LinkDeclarations {
-    /// Whether the required declarations are covered.
+    /// Returns whether the required declarations are covered.
     pub fn includes_required(self) -> bool
         ensures { IsTrue result ↔ ((self ≡ LinkDeclarations.Unsplit) ⊎ (self ≡ LinkDeclarations.Required)) }
     {
         matches!(self, LinkDeclarations::Unsplit | LinkDeclarations::Required)
     }
 
-    /// Whether the optional declarations are covered.
+    /// Returns whether the optional declarations are covered.
     pub fn includes_optional(self) -> bool
         ensures { IsTrue result ↔ ((self ≡ LinkDeclarations.Unsplit) ⊎ (self ≡ LinkDeclarations.Optional)) }
     {

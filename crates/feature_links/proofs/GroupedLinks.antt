@@ -1,4 +1,4 @@
--- Links under a package and a name, as they are put beside their names.
+-- Links under a package and a name, as `fill_entries` appends them.
 use Rattle.std.proofs.Common.{◌≡◌, ℕ, zero, suc, ◌+◌, ◌-◌, ◌<◌, ◌≤◌, List, [], ◌∷◌, ◌++◌, Bool, true, false, cond, Some, map, length, take, refl, ap, sym, ◌∙◌, arith, if◌then◌else◌, add-one}
 use Rattle.std.specs.Prelude.{slice_get, ◌&&◌, ◌==◌, filter}
 use Rattle.std.specs.Borrow.{Bor}
@@ -17,7 +17,7 @@ use Rattle.feature_links.specs.NamedLinks.{link_numbers}
 same_number : (m n : ℕ) → (m == n) ≡ true → m ≡ n
 same_number m n h = grind (arith, nat_tests)
 
--- the links before number n, as far as they leave p under a name
+-- the links before number `n` that leave `p` under a name
 abbrev pub numbers_before : Tables → ℕ → ℕ → Text → List ℕ
 numbers_before t n p d = map (λ l. l.0) (filter (λ l. (l.1.from == p) && bytes_eq l.1.name d) (numbered 0 (take n t.links)))
 
@@ -86,21 +86,21 @@ there [] k l = absurd (omega (arith, l))
 there (x ∷ xs) zero l = (x, refl)
 there (x ∷ xs) (suc k) l = there xs k (omega (arith, l))
 
--- links that don't leave p add none
+-- links that don't leave `p` add none
 pub none_before : (t : Tables) (p : ℕ) (d : Text) (n : ℕ) → n ≤ length t.links → ((k : ℕ) (link : LinkTable) → k < n → slice_get t.links k ≡ Some link → link.from ≡ p → ⊥) → numbers_before t n p d ≡ []
 none_before t p d zero within apart = refl
 none_before t p d (suc n) within apart =
     let at = there t.links n (omega (arith, within)) in
     ap (λ z. numbers_before t z p d) (sym (add-one n)) ∙ others_pass t p d n at.0 at.1 (λ e. apart n at.0 (omega arith) at.1 e) ∙ none_before t p d n (omega (arith, within)) (λ k link l h e. apart k link (omega (arith, l)) h e)
 
--- links from number n on that don't leave p add none
+-- links from number `n` on that don't leave `p` add none
 none_after : (t : Tables) (p : ℕ) (d : Text) (more n : ℕ) → n + more ≡ length t.links → ((k : ℕ) (link : LinkTable) → n ≤ k → slice_get t.links k ≡ Some link → link.from ≡ p → ⊥) → numbers_before t n p d ≡ numbers_before t (length t.links) p d
 none_after t p d zero n long apart = ap (λ z. numbers_before t z p d) (omega (arith, long))
 none_after t p d (suc more) n long apart =
     let at = there t.links n (omega (arith, long)) in
     sym (others_pass t p d n at.0 at.1 (λ e. apart n at.0 (omega arith) at.1 e)) ∙ none_after t p d more (n + 1) (omega (arith, long)) (λ k link l h e. apart k link (omega (arith, l)) h e)
 
--- all of p's links stand before number n
+-- all links of `p` have numbers below `n`
 pub all_before : (t : Tables) (p : ℕ) (d : Text) (n : ℕ) → n ≤ length t.links → ((k : ℕ) (link : LinkTable) → n ≤ k → slice_get t.links k ≡ Some link → link.from ≡ p → ⊥) → numbers_before t n p d ≡ link_numbers t p d
 all_before t p d n within apart =
     none_after t p d (length t.links - n) n (omega (arith, within)) apart
@@ -117,7 +117,7 @@ numbers_named_next d entries e = ap (map (λ x. x.1)) (filter-append (λ x. byte
     last true = refl
     last false = append-nil (numbers_named d entries)
 
--- one more link of p stands beside its name
+-- one more link of `p`, beside its name
 pub noted_next : (t : Tables) (n p : ℕ) (link : LinkTable) (d : Text) (entries : List (Bor (List ℕ) × ℕ)) (e : Bor (List ℕ) × ℕ) → slice_get t.links n ≡ Some link → link.from ≡ p → e.0.now ≡ link.name → e.1 ≡ n
     → numbers_named d entries ≡ numbers_before t n p d → numbers_named d (entries ++ e ∷ []) ≡ numbers_before t (n + 1) p d
 noted_next t n p link d entries e h from name number before =

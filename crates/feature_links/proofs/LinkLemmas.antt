@@ -1,4 +1,4 @@
--- What is gathered of the declarations of links.
+-- The declarations collected for a link.
 use Rattle.std.proofs.Common.{◌≡◌, ℕ, zero, suc, ◌+◌, ◌<◌, ◌≤◌, List, [], ◌∷◌, ◌++◌, length, get_or, Bool, true, false, cond, Option, None, Some, map, take, refl, ap, sym, ◌∙◌, subst, arith, append_assoc, if◌then◌else◌, is_some}
 use Rattle.std.specs.Prelude.{filter, flat_map, slice_get, ◌&&◌, ◌||◌}
 use Rattle.std.specs.List.{list_any, cons_option}
@@ -17,12 +17,12 @@ use Rattle.feature_links.specs.Links.{LinkFacts, IsLink, includes, is_kind, join
 use Rattle.feature_links.specs.NamedLinks.{link_numbers}
 use Rattle.feature_links.specs.inner.Collected.{HasKinds, HasParts}
 
--- after these declarations, given in a row; whether there was one
+-- `declarations` were added to `old`; `any` is true if there was one
 pub record Gathers (old new : KindCollectors) (any : Bool) (declarations : List Declared) : Type 0 where
   pub kinds : (before : List Declared) → HasKinds old before → HasKinds new (before ++ declarations)
   pub added : any ≡ list_any (λ d. true) declarations
 
--- more of them
+-- further declarations
 pub gathers_more : (old mid new : KindCollectors) (any added : Bool) (xs ys zs : List Declared) → Gathers old mid any xs → ((before : List Declared) → HasKinds mid before → HasKinds new (before ++ ys))
     → added ≡ list_any (λ d. true) ys → xs ++ ys ≡ zs → Gathers old new (any || added) zs
 gathers_more old mid new any added xs ys zs g more a e = record {
@@ -62,11 +62,11 @@ parts_more c d k ds added before h more a e = record {
     go true t = rw (h.links, filter-append (λ (x : ℕ × List Declared). list_any (λ d. true) x.1) before ((k, ds) ∷ []), t, map-append (λ (x : ℕ × List Declared). x.0) (filter (λ x. list_any (λ d. true) x.1) before) ((k, ds) ∷ []))
     go false t = rw (h.links, filter-append (λ (x : ℕ × List Declared). list_any (λ d. true) x.1) before ((k, ds) ∷ []), t, append-nil (filter (λ (x : ℕ × List Declared). list_any (λ d. true) x.1) before))
 
--- those declarations of package links that pass
+-- the declarations of package links that pass
 abbrev pub parts_of : (Declared → Bool) → List (ℕ × LinkTable) → List (ℕ × List Declared)
 parts_of passes links = map (λ l. (l.0, filter passes l.1.declarations)) links
 
--- what is given of package links, beside the number of each
+-- the declarations added for package links, each with the number of its link
 abbrev given : (LinkTable → List Declared) → List (ℕ × LinkTable) → List (ℕ × List Declared)
 given g links = map (λ l. (l.0, g l.1)) links
 
@@ -118,7 +118,7 @@ links_kept passes (l ∷ links) = go (list_any passes l.1.declarations) (any_kep
     go true e more = rw e (ap (λ z. l.0 ∷ z) more)
     go false e more = rw e more
 
--- the link over those declarations of package links that pass
+-- the link over the declarations of package links that pass
 pub over_of_parts : (which : LinkDeclarations) (passes : Declared → Bool) (links : List (ℕ × LinkTable)) → over_parts which (parts_of passes links) ≡ over which passes links
 over_of_parts which passes links =
     let normal : joined (platforms_of Normal (flat_map (λ x. x.1) (parts_of passes links))) ≡ status_of Normal passes links = ap joined (platforms_over Normal passes links) in
@@ -130,13 +130,13 @@ over_of_parts which passes links =
     ∙ ap (λ z. record { declarations = which; normal = status_of Normal passes links; build = status_of Build passes links; dev = z; package_links = map (λ x. x.0) (filter (λ x. list_any (λ d. true) x.1) (parts_of passes links)) }) dev
     ∙ ap (λ z. record { declarations = which; normal = status_of Normal passes links; build = status_of Build passes links; dev = status_of Development passes links; package_links = z }) kept
 
--- a list of one number
+-- a list with one number
 the_one : (xs : List ℕ) → 1 ≤ length xs → length xs < 2 → xs ≡ get_or xs 0 0 ∷ []
 the_one [] least most = absurd (omega arith)
 the_one (x ∷ []) least most = refl
 the_one (x ∷ (y ∷ xs)) least most = absurd (omega arith)
 
--- the link over one package link of which one declaration passes
+-- the link over a package link with exactly one declaration that passes
 pub one_covered : (t : Tables) (which : LinkDeclarations) (links : List ℕ) (link : LinkTable) (d : Declared) → 1 ≤ length links → length links < 2 → IsLink t (get_or links 0 0) link
     → filter (λ d. includes which d) link.declarations ≡ d ∷ [] → over_parts which ((get_or links 0 0, d ∷ []) ∷ []) ≡ over which (λ d. includes which d) (links_at t links)
 one_covered t which links link d least most is covered =
@@ -152,7 +152,7 @@ pub one_place : (which : LinkDeclarations) (k : ℕ) (ds : List Declared) (place
 one_place which k ds places d least most there =
     ap (λ z. over_parts which ((k, z) ∷ [])) (sym (ap (at_places ds) (the_one places least most) ∙ ap (λ o. cons_option o []) there))
 
--- the links of a package under a name are those of their numbers
+-- the links of a package under a name are those with their numbers
 numbered_at : (t : Tables) (test : ℕ × LinkTable → Bool) (q : ℕ) (ls : List LinkTable) → ((j : ℕ) (l : LinkTable) → slice_get ls j ≡ Some l → slice_get t.links (q + j) ≡ Some l)
     → links_at t (map (λ l. l.0) (filter test (numbered q ls))) ≡ filter test (numbered q ls)
 numbered_at t test q [] h = refl
@@ -179,7 +179,7 @@ some_half t which k link l is e f =
     let here : half_over which k link ≡ Some (over which (λ d. includes which d) ((k, link) ∷ [])) = ap (λ b. if b then Some (over which (λ d. includes which d) ((k, link) ∷ [])) else None) e in
     ap Some f ∙ sym (ap (λ o. option_map_or (half_over which k) o None) is ∙ here)
 
--- one link has a number
+-- a link has one number
 pub one_link : (t : Tables) (k : ℕ) (a b : LinkTable) → IsLink t k a → IsLink t k b → a ≡ b
 one_link t k a b h i = same (sym h ∙ i)
   where

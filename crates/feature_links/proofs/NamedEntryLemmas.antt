@@ -1,4 +1,4 @@
--- Names with numbers beside them, as they are sorted and cut.
+-- Names with numbers beside them, sorted and cut.
 use Rattle.std.proofs.Common.{◌≡◌, ℕ, zero, suc, ◌+◌, ◌-◌, ◌<◌, ◌≤◌, List, [], ◌∷◌, Bool, true, false, cond, map, length, take, drop, get_or, refl, ap, sym, ◌∙◌, arith}
 use Rattle.std.specs.Prelude.{filter, not, ◌&&◌}
 use Rattle.std.specs.Borrow.{Bor}
@@ -21,7 +21,7 @@ Entry = Bor (List ℕ) × ℕ
 abbrev compare : Text → Text → Ordering
 compare = slice_cmp nat_cmp
 
--- a text is equal to a name just where neither is less
+-- a text equals a name if and only if neither is less
 equal_by : (name text : Text) → bytes_eq name text ≡ is_eq (ordering_reverse (compare text name))
 equal_by name text = texts_ties name text ∙ ap is_eq (nat_list_cmp_total.antisymm name text)
 
@@ -44,7 +44,7 @@ sorted_same old new stable name =
     let same : (e : Entry) → not (is_lt (compare name e.0.now)) && not (is_lt (compare e.0.now name)) ≡ bytes_eq name e.0.now = λ e. ties_are_equal name e.0.now in
     ap (map (λ e. e.1)) (sym (filter-same _ _ same new) ∙ stable one ∙ filter-same _ _ same old)
 
--- what stands beside what
+-- the names, zipped with the numbers, are the entries
 pub zip_parts : (entries : List Entry) → zip (map (λ e. e.0) entries) (map (λ e. e.1) entries) ≡ entries
 zip_parts [] = refl
 zip_parts (e ∷ entries) = ap (λ z. e ∷ z) (zip_parts entries)
@@ -60,7 +60,7 @@ names_ordered entries sorted k d l m =
 abbrev pub is_below : Text → Bor (List ℕ) → Bool
 is_below name text = is_lt (compare text.now name)
 
--- no name comes after a greater one, however far
+-- no name follows a greater one, at any distance
 far : (names : List (Bor (List ℕ))) → AreOrdered names → (i j : ℕ) (d : Bor (List ℕ)) → i ≤ j → j < length names → is_lt (compare (get_or names j d).now (get_or names i d).now) ≡ false
 far names ordered i j d l m = sorted_far (λ x y. is_lt (compare x.now y.now)) (ranks_by nat_list_cmp_total (λ x. x.now)) names ordered i j d l m
 
@@ -114,7 +114,7 @@ module _ (name : Text) where
       passed (x, n) (zip names numbers) (take count (drop first numbers)) (before 0 x (omega arith))
       (cut names numbers first count (omega (arith, long)) (omega (arith, within)) (λ k d m. before (suc k) d (omega (arith, m))) (λ k d m o. inside (suc k) d (omega (arith, m)) (omega (arith, o))) (λ k d m o. after (suc k) d (omega (arith, m)) (omega (arith, o))))
 
--- the numbers from the first place of a name up to the first place of another one are those beside the name
+-- the numbers from the first place of a name up to the first place of another are those beside the name
 module _ (name : Text) (names : List (Bor (List ℕ))) (numbers : List ℕ) (first end : ℕ) (ordered : AreOrdered names) (long : length names ≡ length numbers) (l : first ≤ end) (within : end ≤ length names)
     (inside : (k : ℕ) (d : Bor (List ℕ)) → first ≤ k → k < end → bytes_eq name (get_or names k d).now ≡ true)
     (ended : (d : Bor (List ℕ)) → end < length names → bytes_eq name (get_or names end d).now ≡ false) where
@@ -126,7 +126,7 @@ module _ (name : Text) (names : List (Bor (List ℕ))) (numbers : List ℕ) (fir
   clash : {P : Type 0} → true ≡ false → P
   clash e = cc
 
-  -- past the end stands no such name, since what stands at the end would stand between two of them
+  -- no such name follows the end, since the name at the end would be between two equal ones
   passed_by : ((d : Bor (List ℕ)) → end < length names → is_lt (compare (get_or names end d).now name) ≡ false)
       → (k : ℕ) (d : Bor (List ℕ)) → end ≤ k → k < length names → (b : Bool) → bytes_eq name (get_or names k d).now ≡ b → bytes_eq name (get_or names k d).now ≡ false
   passed_by above k d m o false e = e
@@ -143,7 +143,7 @@ module _ (name : Text) (names : List (Bor (List ℕ))) (numbers : List ℕ) (fir
       cut name names numbers first (end - first) long (omega (arith, l, within)) before (λ k d m o. inside k d m (omega (arith, l, o)))
       (λ k d m o. passed_by above k d (omega (arith, l, m)) o (bytes_eq name (get_or names k d).now) refl)
 
-  -- where the first place was found by looking through
+  -- the first place is found by scanning
   pub scanned : ((k : ℕ) (d : Bor (List ℕ)) → k < first → bytes_eq name (get_or names k d).now ≡ false)
       → ((d : Bor (List ℕ)) → first < length names → bytes_eq name (get_or names first d).now ≡ true)
       → take (end - first) (drop first numbers) ≡ numbers_named name (zip names numbers)
@@ -151,6 +151,6 @@ module _ (name : Text) (names : List (Bor (List ℕ))) (numbers : List ℕ) (fir
       let start : name ≡ (get_or names first d).now = (bytes_decides name (get_or names first d).now).0 (found d (omega (arith, l, m))) in
       ap (λ z. is_lt (compare (get_or names end d).now z)) start ∙ far names ordered first end d l m)
 
-  -- where it was found by halves
+  -- the first place is found by halves
   pub halved : IsPartitionPoint (λ y. is_below name y ≡ true) (λ y. is_below name y ≡ false) names first → take (end - first) (drop first numbers) ≡ numbers_named name (zip names numbers)
   halved low = beside (λ k d m. equal_by name (get_or names k d).now ∙ by_less _ (low.0 k d (omega arith) m)) (λ d m. low.1 end d l m)

@@ -1,4 +1,4 @@
--- The rows of packages, as they are made one after the other.
+-- The rows of packages, appended one after the other.
 use Rattle.std.proofs.Common.{◌≡◌, ℕ, zero, suc, ◌+◌, ◌-◌, ◌<◌, ◌≤◌, ◌⊎◌, inl, inr, ⊎_elim, List, [], ◌∷◌, ◌++◌, Option, Some, map, length, take, drop, length-append, refl, ap, sym, ◌∙◌, subst, arith}
 use Rattle.std.specs.Prelude.{slice_get}
 use Rattle.std.specs.Borrow.{Bor}
@@ -22,14 +22,14 @@ use Rattle.feature_links.proofs.NamedEntryLemmas.{names_ordered, zip_parts}
 abbrev pub Entry : Type 0
 Entry = Bor (List ℕ) × ℕ
 
--- the part at a span stays when more comes
+-- the part at a span is unchanged by further elements
 part_before : {X : Type 0} (span : Span) (xs ys : List X) → span.start ≤ span.end → span.end ≤ length xs → part_at span (xs ++ ys) ≡ part_at span xs
 part_before span xs ys l m =
     let long = length-drop span.start xs in
     ap (take (span.end - span.start)) (drop-append-le span.start xs ys (omega (arith, l, m)))
     ∙ take-append-le (span.end - span.start) (drop span.start xs) ys (omega (arith, l, m, long))
 
--- what comes is the part at its span
+-- the appended elements are the part at their span
 part_new : {X : Type 0} (span : Span) (xs ys : List X) → span.start ≡ length xs → span.end ≡ length xs + length ys → part_at span (xs ++ ys) ≡ ys
 part_new span xs ys from to =
     ap (λ z. take (span.end - z) (drop z (xs ++ ys))) from
@@ -40,19 +40,19 @@ part_new span xs ys from to =
 got_same : {X : Type 0} (x y : X) → ◌≡◌ {A = Option X} (Some x) (Some y) → x ≡ y
 got_same x y h = cc
 
--- what stands in a list with one more at the end
+-- the elements of a list with one more at the end
 got_next : {X : Type 0} (xs : List X) (x : X) (p : ℕ) (y : X) → slice_get (xs ++ x ∷ []) p ≡ Some y → (slice_get xs p ≡ Some y) ⊎ ((p ≡ length xs) × (x ≡ y))
 got_next [] x zero y h = inr (refl, got_same x y h)
 got_next [] x (suc p) y h = cc
 got_next (z ∷ xs) x zero y h = inl h
 got_next (z ∷ xs) x (suc p) y h = ⊎_elim (λ e. inl e) (λ e. inr (ap suc e.0, e.1)) (got_next xs x p y h)
 
--- a row has the links of package p
+-- a row has the links of package `p`
 pub record IsRowOf (t : Tables) (rows : NamedRows) (p : ℕ) (span : Span) : Type 0 where
   pub row : IsRow rows.names.items span
   pub links : (d : Text) → numbers_named d (entries_at rows span) ≡ link_numbers t p d
 
--- the rows are those of the packages before n
+-- the rows are those of the packages before `n`
 pub record AreRowsBefore (t : Tables) (rows : NamedRows) (n : ℕ) : Type 0 where
   pub count : length rows.spans.items ≡ n
   pub beside : length rows.names.items ≡ length rows.numbers.items
@@ -130,7 +130,7 @@ next_row t old new n entries before names numbers spans sorted links = record {
       links = λ d. ap (λ z. numbers_named d (zip z (part_at last new.numbers.items))) new_names ∙ ap (λ z. numbers_named d (zip texts z)) new_numbers ∙ ap (numbers_named d) (zip_parts entries) ∙ links d;
     }
 
--- the rows of all packages have the links of each: no package past the last one has links
+-- the rows of all packages have the links of each: later packages have no links
 pub all_rows : (t : Tables) (tables : AreTables t) (rows : NamedRows) → AreRowsBefore t rows (length t.packages) → (p : ℕ) (d : Text) → numbers_in_row rows p d ≡ link_numbers t p d
 all_rows t tables rows before p d = ⊎_elim
     (λ l. let at = there rows.spans.items p l in ap row_numbers at.1 ∙ (before.each p at.0 at.1).links d)

@@ -22,7 +22,7 @@ at_least : (low : ℕ) (xs : List ℕ) (j : ℕ) → IsFrom low xs → Contains 
 at_least low [] j f h = absurd (Contains-none j h)
 at_least low (x ∷ xs) j f h = ⊎_elim (λ e. omega (arith, e, f.0)) (λ e. omega (arith, f.0, at_least (suc x) xs j f.1 e)) (Contains-cases x xs j h)
 
--- two such lists with the same members are one
+-- two such lists with the same members are equal
 one_list : (low : ℕ) (xs ys : List ℕ) → IsFrom low xs → IsFrom low ys → ((j : ℕ) → Contains xs j → Contains ys j) → ((j : ℕ) → Contains ys j → Contains xs j) → xs ≡ ys
 one_list low [] [] f g there back = refl
 one_list low [] (y ∷ ys) f g there back = absurd (Contains-none y (back y (Contains-first y ys)))
@@ -35,7 +35,7 @@ one_list low (x ∷ xs) (y ∷ ys) f g there back =
     cc
 
 module _ (passes : Declared → Bool) where
-  -- the places of those that pass, from q on
+  -- the places of the declarations that pass, from `q` on
   abbrev places_from : ℕ → List Declared → List ℕ
   places_from q [] = []
   places_from q (d ∷ ds) = cond (passes d) (q ∷ places_from (q + 1) ds) (places_from (q + 1) ds)

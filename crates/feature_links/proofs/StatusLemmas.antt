@@ -1,4 +1,4 @@
--- What is collected of platforms, one by one.
+-- The platforms collected one by one.
 use Rattle.std.proofs.Common.{◌≡◌, ℕ, List, [], ◌∷◌, ◌++◌, ◌+◌, ◌<◌, length, get_or, Bool, true, false, cond, ◌||◌, not, Option, None, Some, map, take, refl, ap, sym, ◌∙◌, if◌then◌else◌, append_assoc, is_some, subst}
 use Rattle.std.specs.Prelude.{filter_map, filter}
 use Rattle.std.specs.Borrow.{Bor}
@@ -24,7 +24,7 @@ use Rattle.feature_links.specs.inner.Collected.{HasPlatforms, texts_in}
 text_along : (a b c : Text) → bytes_eq a b ≡ true → bytes_eq b c ≡ true → bytes_eq a c ≡ true
 text_along a b c h k = (bytes_decides a c).1 ((bytes_decides a b).0 h ∙ (bytes_decides b c).0 k)
 
--- one more text is put into a set of texts
+-- one more text is inserted into a set of texts
 pub inserted_text : (keys : List (Bor (List ℕ))) (k : Bor (List ℕ)) (xs : List Text) → map (λ t. t.now) keys ≡ firsts bytes_eq xs
     → map (λ t. t.now) (insert_key (λ (a b : Bor (List ℕ)). bytes_eq a.now b.now) keys k) ≡ firsts bytes_eq (xs ++ k.now ∷ [])
 inserted_text keys k xs h = go (list_any (λ (b : Bor (List ℕ)). bytes_eq k.now b.now) keys) refl ∙ sym (firsts-push bytes_eq text_along xs k.now)
@@ -37,7 +37,7 @@ inserted_text keys k xs h = go (list_any (λ (b : Bor (List ℕ)). bytes_eq k.no
     go true e = rw (known, e) h
     go false e = rw (known, e) (map-append (λ (t : Bor (List ℕ)). t.now) keys (k ∷ []) ∙ ap (λ z. z ++ k.now ∷ []) h)
 
--- the texts of one more spec are put into a set
+-- the texts of one more spec are inserted into a set
 pub inserted_spec : (keys new : List (Bor (List ℕ))) (k : Bor (List ℕ)) (before : List Text) (specs : List Spec) (i : ℕ) (s : Spec) → map (λ t. t.now) keys ≡ firsts bytes_eq (before ++ map spec_text (take i specs))
     → new ≡ insert_key (λ (a b : Bor (List ℕ)). bytes_eq a.now b.now) keys k → k.now ≡ spec_text s → i < length specs → s ≡ get_or specs i s
     → map (λ t. t.now) new ≡ firsts bytes_eq (before ++ map spec_text (take (i + 1) specs))
@@ -56,7 +56,7 @@ or_false : (b : Bool) → b ≡ b || false
 or_false true = refl
 or_false false = refl
 
--- every platform was added
+-- a declaration for all platforms was added
 pub always_added : (c : StatusCollector) (p : Option Text) (before : List (Option Text)) → None ≡ option_map (λ (spec : Text). spec ∷ []) p → HasPlatforms c before
     → HasPlatforms (record { always = true; specs = c.specs }) (before ++ p ∷ [])
 always_added c None before e h = record {

@@ -1,4 +1,4 @@
--- What an edge says, and the links that it has.
+-- Edges and their links as plain values.
 use Rattle.std.specs.Prelude.{ℕ, Bool, true, false, not, ◌&&◌, Option, None, Some}
 use Rattle.std.specs.Option.{option_map_or}
 use Rattle.guppy_packages.specs.Platform.{Status, never_status, always_status, spec_status}
@@ -6,13 +6,13 @@ use Rattle.walk_engine.specs.declared.walks.Half.{Half}
 use Rattle.walk_engine.specs.declared.walks.Half.TheVariants.{Full, Required, Optional}
 use Rattle.feature_links.specs.Links.{LinkFacts}
 
--- the number of a weak edge's weak link, and its halves
+-- The number of a weak edge's weak link, and its two halves.
 pub record WeakFacts : Type 0 where
   pub index : ℕ
   pub required : Option LinkFacts
   pub optional : Option LinkFacts
 
--- what a built edge says
+-- An edge as a plain value.
 pub data EdgeFacts : Type 0 where
   base_edge : EdgeFacts
   feature_edge : EdgeFacts
@@ -21,7 +21,7 @@ pub data EdgeFacts : Type 0 where
   weak_edge : LinkFacts → WeakFacts → EdgeFacts
   section_edge : LinkFacts → EdgeFacts
 
--- the link of a conditional edge
+-- The link of a conditional edge.
 abbrev pub full_link : EdgeFacts → Option LinkFacts
 full_link base_edge = None
 full_link feature_edge = None
@@ -30,7 +30,7 @@ full_link (strong_edge l) = Some l
 full_link (weak_edge l halves) = Some l
 full_link (section_edge l) = Some l
 
--- the halves of a weak edge
+-- The halves of a weak edge.
 abbrev pub halves_of : EdgeFacts → Option WeakFacts
 halves_of base_edge = None
 halves_of feature_edge = None
@@ -39,7 +39,7 @@ halves_of (strong_edge l) = None
 halves_of (weak_edge l halves) = Some halves
 halves_of (section_edge l) = None
 
--- the link of an edge: the full link of a conditional one, or a half of a weak one
+-- The link of one of the edge's offers: the full link of a conditional edge, or a half of a weak one.
 abbrev pub link_at : EdgeFacts → Half → Option LinkFacts
 link_at f Full = full_link f
 link_at f Required = option_map_or (λ w. w.required) (halves_of f) None
@@ -53,14 +53,14 @@ is_never (spec_status specs) = false
 abbrev pub is_dev_link : LinkFacts → Bool
 is_dev_link l = is_never l.normal && is_never l.build
 
--- conditional, and its link is neither normal nor for builds
+-- The edge is conditional, and its link has no declaration for normal use or for build scripts.
 abbrev pub is_dev_only : EdgeFacts → Bool
 is_dev_only f = option_map_or is_dev_link (full_link f) false
 
--- some kind has a declaration, on one platform or on all
+-- Some kind has a declaration that applies on some platform.
 abbrev pub is_present : LinkFacts → Bool
 is_present l = not (is_never l.normal && is_never l.build && is_never l.dev)
 
--- where the edge is conditional, its link is present
+-- The edge is unconditional, or its link is present.
 abbrev pub has_present_link : EdgeFacts → Bool
 has_present_link f = option_map_or is_present (full_link f) true

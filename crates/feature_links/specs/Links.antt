@@ -1,4 +1,4 @@
--- The link of an edge: which declarations it covers, and its status for each kind.
+-- The link of an edge: the declarations that it covers, and its status for each kind.
 use Rattle.std.specs.Prelude.{◌≡◌, ℕ, ◌+◌, ◌<◌, ◌↔◌, List, [], ◌∷◌, Bool, true, false, not, ◌&&◌, ◌==◌, Option, None, Some, IsTrue, AllPairs, Contains, map, filter, filter_map, flat_map, slice_get, if◌then◌else◌}
 use Rattle.std.specs.List.{list_any}
 use Rattle.std.specs.Option.{is_some, option_map, option_map_or}
@@ -12,14 +12,15 @@ use Rattle.guppy_packages.specs.declared.row.DependencyKind.TheVariants.{Normal,
 use Rattle.feature_labels.specs.declared.link_declarations.LinkDeclarations.{LinkDeclarations}
 use Rattle.feature_labels.specs.declared.link_declarations.LinkDeclarations.TheVariants.{Unsplit, Required, Optional}
 
--- package p of the tables, and link k
+-- Package `p` of the tables, and link `k`.
 abbrev pub IsPackage : Tables → ℕ → PackageTable → Type 0
 IsPackage t p table = slice_get t.packages p ≡ Some table
 
 abbrev pub IsLink : Tables → ℕ → LinkTable → Type 0
 IsLink t k link = slice_get t.links k ≡ Some link
 
--- Always where one platform is, never where there is none, and else the specs by first appearance, without repeats.
+-- Always if some declaration applies on all platforms; never if there is none; otherwise the specs by first appearance, without
+-- repeats.
 abbrev pub joined : List (Option Text) → Status
 joined platforms = if list_any (λ p. not (is_some p)) platforms then always_status else status_by (firsts bytes_eq (filter_map (λ p. p) platforms))
 
@@ -34,7 +35,7 @@ is_kind Development Normal = false
 is_kind Development Build = false
 is_kind Development Development = true
 
--- the declarations that a link covers
+-- Whether a link covers the declaration.
 abbrev pub includes : LinkDeclarations → Declared → Bool
 includes Unsplit d = true
 includes Required d = not d.optional
@@ -47,15 +48,15 @@ pub record LinkFacts : Type 0 where
   pub dev : Status
   pub package_links : List ℕ
 
--- the status of a kind, over those declarations of these package links that pass
+-- The status of `kind`, over the declarations of `links` that pass.
 abbrev pub status_of : DependencyKind → (Declared → Bool) → List (ℕ × LinkTable) → Status
 status_of kind passes links = joined (flat_map (λ l. map (λ d. d.platform) (filter (λ d. passes d && is_kind kind d.kind) l.1.declarations)) links)
 
--- the platforms of the declarations of a kind
+-- The platforms of the declarations of `kind`.
 abbrev pub platforms_of : DependencyKind → List Declared → List (Option Text)
 platforms_of kind declarations = map (λ d. d.platform) (filter (λ d. is_kind kind d.kind) declarations)
 
--- the link over those declarations of these package links that pass
+-- The link over the declarations of `links` that pass.
 abbrev pub over : LinkDeclarations → (Declared → Bool) → List (ℕ × LinkTable) → LinkFacts
 over which passes links = record {
   declarations = which;
@@ -65,7 +66,7 @@ over which passes links = record {
   package_links = map (λ l. l.0) (filter (λ l. list_any passes l.1.declarations) links);
 }
 
--- the link over these declarations of package links
+-- The link over these declarations of package links.
 abbrev pub over_parts : LinkDeclarations → List (ℕ × List Declared) → LinkFacts
 over_parts which parts = record {
   declarations = which;
@@ -75,38 +76,38 @@ over_parts which parts = record {
   package_links = map (λ x. x.0) (filter (λ x. list_any (λ d. true) x.1) parts);
 }
 
--- the declarations at these places
+-- The declarations at `places`.
 abbrev pub at_places : List Declared → List ℕ → List Declared
 at_places declarations places = filter_map (λ j. slice_get declarations j) places
 
--- the links of these numbers, with their numbers
+-- The links with these numbers, each with its number.
 abbrev pub links_at : Tables → List ℕ → List (ℕ × LinkTable)
 links_at t numbers = filter_map (λ k. option_map (λ l. (k, l)) (slice_get t.links k)) numbers
 
--- links with their numbers, from k on
+-- The links with their numbers, from `k` on.
 abbrev pub numbered : ℕ → List LinkTable → List (ℕ × LinkTable)
 numbered k [] = []
 numbered k (l ∷ ls) = (k, l) ∷ numbered (k + 1) ls
 
--- the links of package p that have this name
+-- The links that leave package `p` under `name`, with their numbers.
 abbrev pub links_named : Tables → ℕ → Text → List (ℕ × LinkTable)
 links_named t p name = filter (λ l. (l.1.from == p) && bytes_eq l.1.name name) (numbered 0 t.links)
 
 abbrev pub has_declaration : LinkDeclarations → LinkTable → Bool
 has_declaration which link = list_any (λ d. includes which d) link.declarations
 
--- the covered declarations of all links of package p that have this name
+-- The link over the covered declarations of all links that leave package `p` under one name.
 abbrev pub by_name : Tables → ℕ → LinkDeclarations → Text → LinkFacts
 by_name t p which d = over which (λ x. includes which x) (links_named t p d)
 
--- the link over the covered declarations of one package link, where there is one
+-- The link over the covered declarations of one package link, if there are any.
 abbrev pub half_over : LinkDeclarations → ℕ → LinkTable → Option LinkFacts
 half_over which k link = if has_declaration which link then Some (over which (λ d. includes which d) ((k, link) ∷ [])) else None
 
 abbrev pub half_of : Tables → LinkDeclarations → ℕ → Option LinkFacts
 half_of t which k = option_map_or (half_over which k) (slice_get t.links k) None
 
--- these places ascend, and are exactly those of declarations that pass
+-- `places` ascend and are exactly those of the declarations that pass.
 pub record ArePassing (passes : Declared → Bool) (declarations : List Declared) (places : List ℕ) : Type 0 where
   pub ascend : AllPairs (λ a b. a < b) places
   pub exact : (j : ℕ) → Contains places j ↔ ((d : Declared) × (slice_get declarations j ≡ Some d) × IsTrue (passes d))

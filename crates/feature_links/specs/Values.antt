@@ -1,4 +1,4 @@
--- Edges and their links, without where they lie in memory.
+-- Edges and their links as plain values.
 use Rattle.std.specs.Prelude.{[], ◌∷◌, Bool, true, false, Option, None, Some}
 use Rattle.std.specs.Option.{option_map}
 use Rattle.guppy_packages.specs.Platform.{Status, always_status, never_status, impl_status}
@@ -15,7 +15,7 @@ use Rattle.feature_links.specs.declared.edge.FeatureEdge.TheVariants.{FeatureToB
 use Rattle.feature_links.specs.Links.{LinkFacts}
 use Rattle.feature_links.specs.Facts.{WeakFacts, EdgeFacts, base_edge, feature_edge, colon_edge, strong_edge, weak_edge, section_edge}
 
--- always, or never
+-- Always if true, never if false.
 abbrev pub plain_status : Bool → Status
 plain_status true = always_status
 plain_status false = never_status
@@ -48,12 +48,12 @@ half_facts half = option_map link_facts half.link
 abbrev pub weak_facts_of : WeakSlashImpl → WeakFacts
 weak_facts_of weak = record { index = weak.index.0; required = half_facts weak.required; optional = half_facts weak.optional }
 
--- the halves, where it is weak
+-- The halves, if the form is weak.
 abbrev pub slash_facts : SlashForm → Option WeakFacts
 slash_facts Strong = None
 slash_facts (Weak weak) = Some (weak_facts_of weak.value)
 
--- an edge over a link, which is strong where it has no halves
+-- An edge with a `/`: strong if it has no halves.
 abbrev pub slash_edge : LinkFacts → Option WeakFacts → EdgeFacts
 slash_edge link None = strong_edge link
 slash_edge link (Some weak) = weak_edge link weak

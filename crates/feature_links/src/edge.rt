@@ -1,4 +1,4 @@
-//! What an edge between two features says.
+//! Edges between two features.
 ghost use Rattle.std.specs.Prelude.{◌≡◌, IfOk, option_copied};
 ghost use Rattle.std.specs.Option.{option_map};
 ghost use Rattle.feature_links.specs.Facts.{full_link, is_dev_only, halves_of, link_at, has_present_link};
@@ -8,19 +8,19 @@ use crate::link::{ConditionalLinkImpl, EnabledLink};
 use std::alloc::{AllocError, Global};
 use walk_engine::Half;
 
-/// The number of a weak link. Edges that name the same package link have the same one.
+/// The number of a weak link. Weak edges over one package link share it.
 #[derive(Clone, Copy, PartialEq, Eq, PartialOrd, Ord, Hash, Debug)]
 pub struct WeakIndex(usize);
 
 impl WeakIndex {
-    /// The weak link of this number.
+    /// Returns the weak link numbered `index`.
     pub fn new(index: usize) -> Self
         ensures { result.0 ≡ index }
     {
         WeakIndex(index)
     }
 
-    /// The number.
+    /// Returns the number.
     pub fn index(self) -> usize
         ensures { result ≡ self.0 }
     {
@@ -28,7 +28,7 @@ impl WeakIndex {
     }
 }
 
-/// The halves of a weak edge, over the required and over the optional declarations of its package link.
+/// The two halves of a weak edge: over the required and over the optional declarations of its package link.
 #[derive(Debug, Drop)]
 pub struct WeakSlashImpl {
     required: EnabledLink,
@@ -37,7 +37,7 @@ pub struct WeakSlashImpl {
 }
 
 impl WeakSlashImpl {
-    /// The weak edge of these halves.
+    /// Returns the weak edge with these halves and the weak link `index`.
     pub fn new(required: EnabledLink, optional: EnabledLink, index: WeakIndex) -> Self
         ensures required { (weak_facts_of result).required ≡ half_facts required }
         ensures optional { (weak_facts_of result).optional ≡ half_facts optional }
@@ -50,28 +50,28 @@ impl WeakSlashImpl {
         }
     }
 
-    /// The half over the required declarations.
+    /// Returns the half over the required declarations.
     pub fn required(&self) -> &EnabledLink
         ensures { half_facts result.now ≡ (weak_facts_of self.now).required }
     {
         &self.required
     }
 
-    /// The half over the optional declarations.
+    /// Returns the half over the optional declarations.
     pub fn optional(&self) -> &EnabledLink
         ensures { half_facts result.now ≡ (weak_facts_of self.now).optional }
     {
         &self.optional
     }
 
-    /// The number of its weak link.
+    /// Returns the number of the edge's weak link.
     pub fn index(&self) -> WeakIndex
         ensures { result.0 ≡ (weak_facts_of self.now).index }
     {
         self.index
     }
 
-    /// An equal weak edge. It fails only where memory is refused.
+    /// Returns an equal weak edge. `AllocError` is the only error.
     pub fn try_clone(&self, alloc: Global) -> Result<WeakSlashImpl, AllocError>
         ensures { IfOk result (λ weak. weak_facts_of weak ≡ weak_facts_of self.now) }
     {
@@ -85,17 +85,17 @@ impl WeakSlashImpl {
     }
 }
 
-/// Whether an item with a `/` waits for its dependency.
+/// The form of an item with a `/`: strong or weak.
 #[derive(Debug, Drop)]
 pub enum SlashForm {
-    /// It asks for the dependency.
+    /// The item requests the dependency.
     Strong,
-    /// Its optional half waits until the dependency is asked for elsewhere.
+    /// The item's optional half waits until its optional dependency is reached.
     Weak(Box<WeakSlashImpl>),
 }
 
 impl SlashForm {
-    /// An equal form. It fails only where memory is refused.
+    /// Returns an equal form. `AllocError` is the only error.
     pub fn try_clone(&self, alloc: Global) -> Result<SlashForm, AllocError>
         ensures { IfOk result (λ form. slash_facts form ≡ slash_facts self.now) }
     {
@@ -109,16 +109,16 @@ impl SlashForm {
     }
 }
 
-/// What an edge says.
+/// An edge between two features, with its link if it is conditional.
 #[derive(Debug, Drop)]
 pub enum FeatureEdge {
     /// From a feature to the base of its package.
     FeatureToBase,
-    /// From the base or an optional dependency of a package to what declarations of a link ask for.
+    /// From the base or an optional dependency of a package to a feature that declarations of a link request.
     DependenciesSection(ConditionalLinkImpl),
-    /// From a named feature to another one of its package.
+    /// From a named feature to another named feature of its package.
     NamedFeature,
-    /// From a named feature with an item `dep:d` to the optional dependency d.
+    /// From a named feature with an item `dep:d` to the optional dependency `d`.
     NamedFeatureDepColon(ConditionalLinkImpl),
     /// From a named feature with an item `d/g` or `d?/g`.
     NamedFeatureWithSlash {
@@ -127,17 +127,17 @@ pub enum FeatureEdge {
     },
 }
 
-/// Edges to follow.
+/// The edges to follow.
 #[derive(Clone, Copy, PartialEq, Eq, Debug)]
 pub enum EdgeChoice {
     /// All edges.
     All,
-    /// The edges from a feature to its base, and from a named feature to one of its own package's features, alone.
+    /// Only edges from a feature to its base, and from a named feature to a named feature of its package.
     FeatureToBaseAndNamed,
 }
 
 impl FeatureEdge {
-    /// The full link of a conditional edge.
+    /// Returns the full link of a conditional edge, or `None`.
     fn full_link(&self) -> Option<&ConditionalLinkImpl>
         ensures { option_map link_facts (option_copied result) ≡ full_link (edge_facts self.now) }
     {
@@ -149,7 +149,7 @@ impl FeatureEdge {
         }
     }
 
-    /// The halves of a weak edge.
+    /// Returns the halves of a weak edge, or `None`.
     fn halves(&self) -> Option<&WeakSlashImpl>
         ensures { option_map weak_facts_of (option_copied result) ≡ halves_of (edge_facts self.now) }
     {
@@ -162,7 +162,7 @@ impl FeatureEdge {
         }
     }
 
-    /// The link that an offer of it has: the full link of a conditional edge, or a half of a weak one, where the half has a
+    /// Returns the link of one of the edge's offers: the full link of a conditional edge, or a half of a weak one that has a
     /// declaration.
     pub fn link(&self, half: Half) -> Option<&ConditionalLinkImpl>
         ensures { option_map link_facts (option_copied result) ≡ link_at (edge_facts self.now) half }
@@ -180,7 +180,7 @@ impl FeatureEdge {
         }
     }
 
-    /// Whether it is conditional, and its link is neither for normal use nor for builds.
+    /// Returns whether the edge is conditional and its link has no declaration for normal use or for build scripts.
     pub fn is_dev_only(&self) -> bool
         ensures { result ≡ is_dev_only (edge_facts self.now) }
     {
@@ -190,7 +190,7 @@ impl FeatureEdge {
         }
     }
 
-    /// Whether its link is present for some kind, where it is conditional.
+    /// Returns whether the edge is unconditional, or its link is present for some kind of dependency.
     pub fn has_present_link(&self) -> bool
         ensures { result ≡ has_present_link (edge_facts self.now) }
     {
@@ -200,7 +200,7 @@ impl FeatureEdge {
         }
     }
 
-    /// An equal edge. It fails only where memory is refused.
+    /// Returns an equal edge. `AllocError` is the only error.
     pub fn try_clone(&self, alloc: Global) -> Result<FeatureEdge, AllocError>
         ensures { IfOk result (λ edge. edge_facts edge ≡ edge_facts self.now) }
     {

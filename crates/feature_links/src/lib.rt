@@ -1,4 +1,4 @@
-//! Links over declarations of package links, and what an edge over one says.
+//! Links over declarations of package links, and the edges that have one.
 #![tactic(auto)]
 
 mod edge;

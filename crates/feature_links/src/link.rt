@@ -1,4 +1,4 @@
-//! What a conditional edge says of the package links that it stands for.
+//! The link of a conditional edge.
 ghost use Rattle.std.specs.Prelude.{◌≡◌, IfOk, option_copied};
 ghost use Rattle.std.specs.Option.{option_map};
 ghost use Rattle.guppy_packages.specs.Platform.{status_of};
@@ -16,15 +16,15 @@ use std::alloc::{AllocError, Global};
 use std::fmt;
 use std::slice::from_ref;
 
-/// The link of a conditional edge: which declarations it covers, on which platforms for each kind of dependency, and
-/// the package links that have one of them.
+/// The link of a conditional edge: the declarations that it covers, their platforms for each kind of dependency, and the package
+/// links that have one of them.
 #[derive(Drop)]
 pub struct ConditionalLinkImpl {
     held: HeldLink,
 }
 
 impl ConditionalLinkImpl {
-    /// Which declarations it covers: all, or one half.
+    /// Returns which declarations the link covers: all, or one half.
     pub fn declarations(&self) -> LinkDeclarations
         ensures { result ≡ (link_facts self.now).declarations }
     {
@@ -34,7 +34,7 @@ impl ConditionalLinkImpl {
         }
     }
 
-    /// Where the covered declarations for normal use apply.
+    /// Returns the platforms of the covered declarations for normal use.
     pub fn normal(&self) -> PlatformStatus<'_>
         ensures { status_of result ≡ (link_facts self.now).normal }
     {
@@ -44,7 +44,7 @@ impl ConditionalLinkImpl {
         }
     }
 
-    /// Where the covered declarations for build scripts apply.
+    /// Returns the platforms of the covered declarations for build scripts.
     pub fn build(&self) -> PlatformStatus<'_>
         ensures { status_of result ≡ (link_facts self.now).build }
     {
@@ -54,7 +54,7 @@ impl ConditionalLinkImpl {
         }
     }
 
-    /// Where the covered declarations for development apply.
+    /// Returns the platforms of the covered declarations for development.
     pub fn dev(&self) -> PlatformStatus<'_>
         ensures { status_of result ≡ (link_facts self.now).dev }
     {
@@ -64,7 +64,7 @@ impl ConditionalLinkImpl {
         }
     }
 
-    /// The numbers of the package links that have a covered declaration, ascending.
+    /// Returns the numbers of the package links that have a covered declaration, ascending.
     pub fn package_link_ixs(&self) -> &[usize]
         ensures { result.now ≡ (link_facts self.now).package_links }
     {
@@ -77,21 +77,21 @@ impl ConditionalLinkImpl {
         }
     }
 
-    /// Whether no covered declaration is for normal use or for builds.
+    /// Returns whether no covered declaration is for normal use or for build scripts.
     pub fn is_dev_only(&self) -> bool
         ensures { result ≡ is_dev_link (link_facts self.now) }
     {
         self.normal().is_never() && self.build().is_never()
     }
 
-    /// Whether a covered declaration is for some kind on some platform.
+    /// Returns whether some kind has a covered declaration that applies on some platform.
     pub fn is_present(&self) -> bool
         ensures { result ≡ is_present (link_facts self.now) }
     {
         !(self.is_dev_only() && self.dev().is_never())
     }
 
-    /// An equal link. It fails only where memory is refused.
+    /// Returns an equal link. `AllocError` is the only error.
     pub fn try_clone(&self, alloc: Global) -> Result<ConditionalLinkImpl, AllocError>
         ensures { IfOk result (λ link. link_facts link ≡ link_facts self.now) }
     {
@@ -100,7 +100,7 @@ impl ConditionalLinkImpl {
     }
 }
 
-// Equal links print the same, however they are held.
+// Equal links print the same, however they are stored.
 impl fmt::Debug for ConditionalLinkImpl {
     fn fmt<W: fmt::Write>(&self, f: &mut fmt::Formatter<W>) -> fmt::Result {
         f.debug_struct("ConditionalLinkImpl")
@@ -113,21 +113,21 @@ impl fmt::Debug for ConditionalLinkImpl {
     }
 }
 
-/// The link of one half of a weak edge, where the half has a declaration.
+/// One half of a weak edge: its link, if the half has a declaration.
 #[derive(Debug, Drop)]
 pub struct EnabledLink {
     link: Option<ConditionalLinkImpl>,
 }
 
 impl EnabledLink {
-    /// The link, or none where the half has no declaration.
+    /// Returns the half's link, or `None` if the half has no declaration.
     pub fn get(&self) -> Option<&ConditionalLinkImpl>
         ensures { option_map link_facts (option_copied result) ≡ half_facts self.now }
     {
         self.link.as_ref()
     }
 
-    /// An equal half. It fails only where memory is refused.
+    /// Returns an equal half. `AllocError` is the only error.
     pub fn try_clone(&self, alloc: Global) -> Result<EnabledLink, AllocError>
         ensures { IfOk result (λ half. half_facts half ≡ half_facts self.now) }
     {

@@ -12,11 +12,11 @@ use crate::named_row::{NamedRows, OrderedRows};
 use guppy_packages::{PackageGraph, PackageMetadata};
 use std::alloc::{AllocError, Global};
 
-/// The links of each package by name: for each package a row of the names in order, and beside each name the number of its link.
+/// The links of each package by name: for each package a row of names in byte order, with the number of a link beside each name.
 /// Links of one name ascend.
 pub type LinkGroups<'g> = OrderedRows<'g>;
 
-/// Puts the links of a package beside their names, ascending.
+/// Sets `entries` to the names and numbers of the package's links, by number.
 fn fill_entries<'g>(
     entries: &mut Vec<(&'g str, usize)>,
     package: PackageMetadata<'g>,
@@ -32,7 +32,7 @@ fn fill_entries<'g>(
     Ok(())
 }
 
-/// Sorts by name. What is of one name stays in its order.
+/// Sorts `entries` by name; entries of one name keep their order.
 fn sort_entries<'g>(entries: &mut Vec<(&'g str, usize)>) -> Result<(), AllocError>
     ensures sorted { OnOk result (IsSortedByKey (λ e. e.0.now) (slice_cmp nat_cmp) entries.new.items) }
     ensures same { (name : Text) → numbers_named name entries.new.items ≡ numbers_named name entries.old.items }
@@ -40,7 +40,7 @@ fn sort_entries<'g>(entries: &mut Vec<(&'g str, usize)>) -> Result<(), AllocErro
     entries.sort_by_key(|entry| entry.0)
 }
 
-/// Puts the links of a package beside their names, in the order of the names.
+/// Sets `entries` to the names and numbers of the package's links, by name.
 fn fill_in_order<'g>(
     entries: &mut Vec<(&'g str, usize)>,
     package: PackageMetadata<'g>,
@@ -52,7 +52,7 @@ fn fill_in_order<'g>(
     sort_entries(entries)
 }
 
-/// The links of a graph, grouped by the package that they leave and by name.
+/// Returns the links of `graph`, grouped by the package that they leave and by name. `AllocError` is the only error.
 pub fn named_links(alloc: Global, graph: &PackageGraph) -> Result<LinkGroups<'_>, AllocError>
     ensures { IfOk result (λ groups. AreNamedLinks graph.now groups) }
 {
@@ -66,7 +66,7 @@ pub fn named_links(alloc: Global, graph: &PackageGraph) -> Result<LinkGroups<'_>
     Ok(OrderedRows { rows })
 }
 
-/// The links of a package under a name.
+/// Returns the numbers of the links that leave package `from` under `name`, ascending.
 pub fn numbers_of<'a>(groups: &'a LinkGroups<'_>, from: usize, name: &str) -> &'a [usize]
     ensures { result.now ≡ numbers_under groups.now from name.now }
 {

@@ -9,14 +9,14 @@ ghost use Rattle.feature_links.specs.inner.NamedEntries.{AreOrdered, AreRows, nu
 
 use std::alloc::{AllocError, Global};
 
-/// Where a row stands: from a start up to an end.
+/// The range of a row: from `start` up to, not including, `end`.
 #[derive(Clone, Copy)]
 pub(crate) struct Span {
     start: usize,
     end: usize,
 }
 
-/// Rows of names, one after the other, with a number beside each name; and where each row stands.
+/// Rows of names, stored one after the other, with a number beside each name and the range of each row.
 #[derive(Drop)]
 pub(crate) struct NamedRows<'g> {
     names: Vec<&'g str>,
@@ -24,14 +24,14 @@ pub(crate) struct NamedRows<'g> {
     spans: Vec<Span>,
 }
 
-/// Rows, each with its names in order.
+/// Rows whose names are in byte order.
 #[derive(Drop)]
 pub struct OrderedRows<'g> {
     pub(crate) rows: NamedRows<'g>,
     pub(crate) ghost in_order: { AreRows rows },
 }
 
-/// Appends the names of entries, and their numbers.
+/// Appends the names and the numbers of `entries`.
 fn push_entries<'g>(
     names: &mut Vec<&'g str>,
     numbers: &mut Vec<usize>,
@@ -47,10 +47,10 @@ fn push_entries<'g>(
     Ok(())
 }
 
-/// Up to how many names are looked through one by one.
+/// The most names that are scanned; a longer row is searched by halves.
 const FEW: usize = 12;
 
-/// The first place of a name, or how many names there are where it isn't among them.
+/// Returns the first place of `name`, or the number of names if it isn't among them.
 fn first_place(names: &[&str], name: &str) -> usize
     ensures within { result ≤ length names.now }
     ensures before { (k : ℕ) (d : Bor (List ℕ)) → k < result → bytes_eq name.now (get_or names.now k d).now ≡ false }
@@ -64,7 +64,7 @@ fn first_place(names: &[&str], name: &str) -> usize
     names.len()
 }
 
-/// The first place of another name, from a start on, or how many names there are where no other comes.
+/// Returns the first place from `start` on of a name other than `name`, or the number of names.
 fn end_place(names: &[&str], start: usize, name: &str) -> usize
     requires { start ≤ length names.now }
     ensures from { start ≤ result }
@@ -80,7 +80,7 @@ fn end_place(names: &[&str], start: usize, name: &str) -> usize
     names.len()
 }
 
-/// The numbers beside a name, among names in order, which are looked through one by one.
+/// Returns the numbers beside `name`; `names` are ordered. Scans for the first.
 fn numbers_scanned<'a>(names: &[&str], numbers: &'a [usize], name: &str) -> &'a [usize]
     requires ordered { AreOrdered names.now }
     requires beside { length names.now ≡ length numbers.now }
@@ -91,7 +91,7 @@ fn numbers_scanned<'a>(names: &[&str], numbers: &'a [usize], name: &str) -> &'a 
     &numbers[first..end]
 }
 
-/// The numbers beside a name, among names in order, of which the first is searched by halves.
+/// Returns the numbers beside `name`; `names` are ordered. Searches for the first by halves.
 fn numbers_halved<'a>(names: &[&str], numbers: &'a [usize], name: &str) -> &'a [usize]
     requires ordered { AreOrdered names.now }
     requires beside { length names.now ≡ length numbers.now }
@@ -106,7 +106,7 @@ fn numbers_halved<'a>(names: &[&str], numbers: &'a [usize], name: &str) -> &'a [
     &numbers[first..end]
 }
 
-/// The numbers beside a name, among names in order.
+/// Returns the numbers beside `name`; `names` are ordered.
 fn numbers_beside<'a>(names: &[&str], numbers: &'a [usize], name: &str) -> &'a [usize]
     requires ordered { AreOrdered names.now }
     requires beside { length names.now ≡ length numbers.now }
@@ -120,7 +120,7 @@ fn numbers_beside<'a>(names: &[&str], numbers: &'a [usize], name: &str) -> &'a [
 }
 
 impl<'g> NamedRows<'g> {
-    /// No row, and room for so many rows and names.
+    /// Returns no rows, with capacity for `rows` rows and `names` names.
     pub(crate) fn with_room(
         alloc: Global,
         rows: usize,
@@ -140,7 +140,7 @@ impl<'g> NamedRows<'g> {
         })
     }
 
-    /// Appends a row.
+    /// Appends a row with the names and numbers of `entries`.
     pub(crate) fn push(&mut self, entries: &[(&'g str, usize)]) -> Result<(), AllocError>
         ensures names { OnOk result (self.new.names.items ≡ self.old.names.items ++ map (λ e. e.0) entries.now) }
         ensures numbers { OnOk result (self.new.numbers.items ≡ self.old.numbers.items ++ map (λ e. e.1) entries.now) }
@@ -153,7 +153,7 @@ impl<'g> NamedRows<'g> {
         Ok(())
     }
 
-    /// The numbers beside a name in a row, none where there is no such row.
+    /// Returns the numbers beside `name` in row `row`; none if there is no such row.
     pub(crate) fn under(&self, row: usize, name: &str) -> &[usize]
         requires { AreRows self.now }
         ensures { result.now ≡ numbers_in_row self.now row name.now }

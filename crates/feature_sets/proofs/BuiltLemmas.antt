@@ -1,4 +1,4 @@
--- The number of nodes of what was built.
+-- The number of nodes of a built graph.
 use Rattle.std.proofs.Common.{◌≡◌, ℕ, ◌+◌, List, [], ◌∷◌, length, map, refl, ap, sym, ◌∙◌, length-append}
 use Rattle.std.specs.Prelude.{flat_map}
 use Rattle.std.proofs.lemmas.List.{length-map}
@@ -23,7 +23,7 @@ length-renamed f g (x ∷ xs) =
     ∙ ap (λ n. length (f x) + n) (length-renamed f g xs)
     ∙ sym (length-append (f x) (flat_map f xs))
 
--- there are as many nodes with a package as with a name
+-- there are as many nodes with a package as nodes with a name
 pub node_count : (t : Tables) → length (node_packages t) ≡ length (nodes t)
 node_count t =
     length-map (node_places t) (λ x. x.0)

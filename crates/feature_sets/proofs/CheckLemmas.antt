@@ -1,4 +1,4 @@
--- Checks of explanations that are told by names.
+-- Checks of named explanations.
 use Rattle.std.proofs.Common.{◌≡◌, ◌∙◌, refl, sym, subst, ℕ, Bool, List, Option, Some, None, length}
 use Rattle.std.specs.Prelude.{◌↔◌, IsTrue, IsFalse, MatchOption, slice_get}
 use Rattle.std.proofs.lemmas.Option.{none-some, same_Some}
@@ -35,7 +35,7 @@ possible_reason g d I A before n (Offer e h) (w, is, half, a, far, start, gate) 
 possible_steps : (g : Graph) (d : DependencyDirection) (I : ℕ → Bool) (A : ℕ → Half → Bool) (steps : List Step) → IsExplanation (content_of d g.built) I A steps → (k : ℕ) (step : Step) → slice_get steps k ≡ Some step → IsPossible g step.reason
 possible_steps g d I A steps x k step at = possible_reason g d I A _ step.node step.reason (x.reasons k step at)
 
--- the names of the initial nodes tell which they are
+-- the names of the initial nodes determine them
 same_initials : (g : Graph) (names : List Name) (a b : List Bool) → HoldsExactly g.tables a names → HoldsExactly g.tables b names → (n : ℕ) → IsTrue (has a n) ↔ IsTrue (has b n)
 same_initials g names a b first second n = ((λ h. (second.exact n).1 ((first.exact n).0 h)), (λ h. (first.exact n).1 ((second.exact n).0 h)))
 
@@ -70,7 +70,7 @@ module _ (g : Graph) (d : DependencyDirection) (names : List Name) (told : List 
           here)),
     )
 
--- why a node is listed, of an explanation that is told by its parts
+-- the reason chain of a node, in an explanation given by its parts
 module _ {K : Type 0} (items : K → List Step) where
   abbrev pub TellsWhy : Explanation → Name → Option K → Type 0
   TellsWhy x name found = (n : ℕ) (initials : List Bool) (A : ℕ → Half → Bool) → NodeNamed x.graph.tables n name → length initials ≡ length (nodes x.graph.tables) → IsExplanation (content_of x.direction x.graph.built) (has initials) A x.steps
@@ -83,7 +83,7 @@ module _ {K : Type 0} (items : K → List Step) where
         (λ n initials A at long explained.
         subst (λ k. MatchOption found (IsFalse (is_in (nodes_of x.steps) k)) (λ kept. IsWhy (content_of x.direction x.graph.built) (has initials) A x.steps k (items kept))) (same_Some node n ((named n).1 at)) (why initials A (long ∙ sym count) explained))
 
-    -- the kept steps are themselves an explanation
+    -- the kept steps are an explanation themselves
     pub kept_backed : (kept : K) → found ≡ Some kept → IsBacked x.graph x.direction x.steps → IsBacked x.graph x.direction (items kept)
     kept_backed kept is (initials, A, long, explained) =
         let told : IsWhy (content_of x.direction x.graph.built) (has initials) A x.steps node (items kept) = subst (λ o. MatchOption o (IsFalse (is_in (nodes_of x.steps) node)) (λ k. IsWhy (content_of x.direction x.graph.built) (has initials) A x.steps node (items k))) is (why initials A (long ∙ sym count) explained) in

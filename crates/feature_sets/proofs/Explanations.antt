@@ -27,7 +27,7 @@ explanation_grows c I J A B steps more offers x = record {
   reasons = λ k step at. reason_grows c I J A B (take k (nodes_of steps)) step.node step.reason more offers (x.reasons k step at);
 }
 
--- a set that is closed is closed for fewer initial nodes and fewer offers
+-- a closed set is also closed for fewer initial nodes and fewer offers
 closed_shrinks : (c : Content) (I J : ℕ → Bool) (A B : ℕ → Half → Bool) (S : ℕ → Type 0) → ((k : ℕ) → IsTrue (J k) → IsTrue (I k)) → ((e : ℕ) (h : Half) → IsOffer c e h → IsTrue (B e h) → IsTrue (A e h)) → IsClosed c I A S → IsClosed c J B S
 closed_shrinks c I J A B S fewer offers x = record {
   initial = λ n is. x.initial n (fewer n is);
@@ -41,7 +41,7 @@ not_more false true f h = absurd (false_true (f refl))
 not_more true false f h = refl
 not_more false false f h = refl
 
--- what is exact is so for the same initial nodes and the same refused offers, however they are listed
+-- an exact explanation depends on the refused offers, not on the order in which they are listed
 pub exact_same : (c : Content) (I J : ℕ → Bool) (xs ys : List (ℕ × Half)) (steps : List Step) → ((k : ℕ) → IsTrue (I k) ↔ IsTrue (J k)) → ((e : ℕ) (h : Half) → IsOffer c e h → IsTrue (is_refused xs e h) ↔ IsTrue (is_refused ys e h))
     → IsExact c I xs steps → IsExact c J ys steps
 exact_same c I J xs ys steps initials refused x = record {
@@ -49,12 +49,12 @@ exact_same c I J xs ys steps initials refused x = record {
   closed = closed_shrinks c I J (all_but xs) (all_but ys) _ (λ k. (initials k).1) (λ e h offer. not_more (is_refused ys e h) (is_refused xs e h) (refused e h offer).0) x.closed;
 }
 
--- a walk that is explained, whoever answered
+-- an explained walk is an explained run, for every visitor
 pub explained_run : {V : Type 0} (c : Content) (I : ℕ → Bool) (gives : V → ℕ → Half → Bool → V → Type 0) (s t : V) (M : ℕ → Bool) (steps : List Step) (refused : List (ℕ × Half)) → IsExplainedWalk c I gives s t M steps refused → IsExplainedRun c I M steps refused
 explained_run {V} c I gives s t M steps refused walk =
     (is_explained_walk (λ (p : V). Unit {0}) (λ (p : V). tt {0}) gives (λ (p : Unit {0}) e h answer (r : Unit {0}). Unit {0}) (λ p e h answer r holds step. (tt, tt)) c I s t M steps refused tt walk).1
 
--- an accepted offer is in each set with which the run agrees
+-- an accepted offer is in each set that agrees with the run
 accepted_in : (A : ℕ → Half → Bool) (run : List Call) → Agrees A run → (e : ℕ) (h : Half) → IsTrue (was_accepted run e h) → IsTrue (A e h)
 accepted_in A [] agrees e h t = absurd (false_true t)
 accepted_in A (call ∷ before) (agree, agrees) e h t = elim ((or_cases (is_of call e h && call.answer) (was_accepted before e h)).0 t) [
@@ -69,7 +69,7 @@ accepted_in A (call ∷ before) (agree, agrees) e h t = elim ((or_cases (is_of c
     both_of true b h = (refl, h)
     both_of false b h = absurd (false_true h)
 
--- the steps name offers that the visitor's answers accept
+-- the steps use only offers that the visitor accepts
 pub explained_by_answer : {V : Type 0} (c : Content) (I : ℕ → Bool) (gives : V → ℕ → Half → Bool → V → Type 0) (A : ℕ → Half → Bool) (s t : V) (M : ℕ → Bool) (steps : List Step) (refused : List (ℕ × Half)) → AnswersAs gives A s
     → IsExplainedWalk c I gives s t M steps refused → IsExplanation c I A steps
 explained_by_answer c I gives A s t M steps refused answers walk =

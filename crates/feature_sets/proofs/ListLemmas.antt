@@ -1,4 +1,4 @@
--- Elements of lists by their places.
+-- Elements of lists by index.
 use Rattle.std.proofs.Common.{◌≡◌, ◌≢◌, ℕ, zero, suc, ◌+◌, ◌<◌, ◌⊎◌, inl, inr, ⊎_elim, List, [], ◌∷◌, length, map, Bool, true, false, cond, Option, Some, None, refl, ap, sym, ◌∙◌, subst, arith, get_or-set_other, get_or-set_same}
 use Rattle.std.specs.Prelude.{Contains, IsTrue, position, slice_get, slice_index_or, slice_set}
 use Rattle.std.specs.List.{position_from}
@@ -38,7 +38,7 @@ pub into_map : {X Y : Type 0} (f : X → Y) (xs : List X) (x : X) → Contains x
 into_map f [] x h = absurd (no_element x h)
 into_map f (z ∷ xs) x h = ⊎_elim (λ e. subst (λ q. Contains (map f (z ∷ xs)) (f q)) e (first_element (f z) (map f xs))) (λ i. later_element (f z) (map f xs) (f x) (into_map f xs x i)) (element_cases z xs x h)
 
--- an element stands at some place, and what stands at a place is an element
+-- an element of a list has an index, and an index below the length has an element
 pub place_of_element : {X : Type 0} (xs : List X) (x : X) → Contains xs x → (k : ℕ) × (slice_get xs k ≡ Some x)
 place_of_element [] x h = absurd (omega (arith, h.1))
 place_of_element (y ∷ ys) x h =
@@ -59,7 +59,7 @@ place_below [] k x h = cc
 place_below (y ∷ ys) zero x h = omega arith
 place_below (y ∷ ys) (suc k) x h = let l = place_below ys k x h in omega (arith, l)
 
--- an element that passes, at its place
+-- an element that passes the test, with its index
 pub record IsPlace {X : Type 0} (test : X → Bool) (xs : List X) (k : ℕ) : Type 0 where
   pub element : X
   pub there : slice_get xs k ≡ Some element
@@ -97,7 +97,7 @@ from_missing test o k (y ∷ ys) x h e t =
         apart (test x) t (sym (ap test same) ∙ i.0)
     next (suc k) e i more = more k e
 
--- where `position` finds an element, and that it misses none
+-- `position` returns the index of an element that passes, and `None` only if no element does
 pub position_there : {X : Type 0} (test : X → Bool) (k : ℕ) (xs : List X) → position test xs ≡ Some k → IsPlace test xs k
 position_there test k xs h =
     let r = from_there test 0 k xs (sym (position_from-zero test xs) ∙ h) in
@@ -106,7 +106,7 @@ position_there test k xs h =
 pub position_missing : {X : Type 0} (test : X → Bool) (k : ℕ) (xs : List X) (x : X) → position test xs ≡ None → slice_get xs k ≡ Some x → test x ≡ true → ⊥
 position_missing test k xs x h e t = from_missing test 0 k xs x (sym (position_from-zero test xs) ∙ h) e t
 
--- one number more in a set
+-- a set with one more number
 pub marked_set : (marks : List Bool) (n : ℕ) → n < length marks → IsTrue (has (slice_set marks n true) n)
 marked_set marks n h = rw get_or-set_same refl
 

@@ -1,11 +1,11 @@
--- The names of the nodes of a set, by the numbers of the nodes.
+-- The names of a set's nodes, by node number.
 use Rattle.std.proofs.Common.{◌≡◌, ℕ, zero, suc, ◌+◌, ◌<◌, ◌≤◌, Bool, true, false, cond, List, [], ◌∷◌, length, map, filter, Option, Some, refl, ap, ◌∙◌, subst, arith}
 use Rattle.std.specs.Prelude.{slice_get}
 use Rattle.std.specs.List.{AllByRecursion, cons_option, enumerate_from, filter_map, range_with_len}
 use Rattle.guppy_support.specs.Bits.{has, members}
 use Rattle.feature_sets.specs.Names.{at_places}
 
--- what is got at the numbers that pass, where what is got from n on are the elements of the list
+-- the elements found by number equal those found by walking over the list
 from : {X : Type 0} (passes : ℕ → Bool) (get : ℕ → Option X) (n : ℕ) (xs : List X) → ((k : ℕ) → get (n + k) ≡ slice_get xs k)
     → filter_map get (filter passes (range_with_len n (length xs))) ≡ map (λ p. p.1) (filter (λ p. passes p.0) (enumerate_from n xs))
 from passes get n [] same = refl
@@ -20,7 +20,7 @@ from {X} passes get n (x ∷ xs) same =
       | false ↦ rest
     ]
 
--- the names of the members are those at the places of the members
+-- the names of the members are the names at the members' indices
 pub names_at_members : {X : Type 0} (xs : List X) (marks : List Bool) → length marks ≡ length xs → filter_map (slice_get xs) (members marks) ≡ at_places (has marks) xs
 names_at_members xs marks long =
     ap (λ n. filter_map (slice_get xs) (filter (has marks) (range_with_len 0 n))) long
@@ -36,23 +36,23 @@ within passes bound n (suc m) h =
       | false ↦ rest
     ]
 
--- each member is a place of the list
+-- each member is an index of the list
 pub members_within : {X : Type 0} (xs : List X) (marks : List Bool) → length marks ≡ length xs → AllByRecursion (λ n. n < length xs) (members marks)
 members_within xs marks long = within (has marks) (length xs) 0 (length marks) (omega arith)
 
--- a list has what stands at each place below its length
+-- an index below the length has an element
 got_below : {X : Type 0} (xs : List X) (n : ℕ) → n < length xs → (x : X) × (slice_get xs n ≡ Some x)
 got_below [] n h = absurd (omega arith)
 got_below (x ∷ xs) zero h = (x, refl)
 got_below (x ∷ xs) (suc n) h = got_below xs n (omega arith)
 
--- as many elements as places
+-- a list of indices has as many elements as indices
 pub as_many : {X : Type 0} (xs : List X) (numbers : List ℕ) → AllByRecursion (λ n. n < length xs) numbers → length (filter_map (slice_get xs) numbers) ≡ length numbers
 as_many xs [] h = refl
 as_many xs (n ∷ numbers) h =
     let found = got_below xs n h.0 in
     ap (λ o. length (cons_option o (filter_map (slice_get xs) numbers))) found.1 ∙ ap suc (as_many xs numbers h.1)
 
--- after the first number the others are places too
+-- the remaining numbers are indices too
 pub others_within : {X : Type 0} (xs : List X) (numbers rest : List ℕ) (n : ℕ) → numbers ≡ n ∷ rest → AllByRecursion (λ k. k < length xs) numbers → AllByRecursion (λ k. k < length xs) rest
 others_within xs numbers rest n is h = let all : AllByRecursion (λ k. k < length xs) (n ∷ rest) = subst (λ l. AllByRecursion (λ k. k < length xs) l) is h in all.1

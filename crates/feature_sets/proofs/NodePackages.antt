@@ -1,4 +1,4 @@
--- The package of a node, by the node's name.
+-- The package of a node, from the node's name.
 use Rattle.std.proofs.Common.{◌≡◌, ℕ, zero, suc, ◌+◌, ◌⊎◌, inl, inr, ⊎_elim, List, [], ◌∷◌, ◌++◌, Option, Some, map, refl, ap, sym, ◌∙◌, subst, arith}
 use Rattle.std.specs.Prelude.{slice_get, flat_map}
 use Rattle.std.proofs.lemmas.List.{map-append}
@@ -26,7 +26,7 @@ in_row q p id (l ∷ ls) rest names zero name h i =
     inl (number, ap (λ z. z.0) same)
 in_row q p id (l ∷ ls) rest names (suc n) name h i = in_row q p id ls rest names n name h i
 
--- package p has this id
+-- package `p` has this id
 pub record IsOf (packages : List PackageTable) (p : ℕ) (id : Text) : Type 0 where
   pub table : PackageTable
   pub is : slice_get packages p ≡ Some table
@@ -43,7 +43,7 @@ of_package q (t ∷ ts) n p name h i = ⊎_elim
     (in_row q p t.id (labels_of t) (map (λ x. x.0) (spread labels_of (q + 1) ts)) (flat_map (λ t. names_of t.id (labels_of t)) ts) n name
     (subst (λ z. slice_get z n ≡ Some p) (map-append (λ x. x.0) (row_of q (labels_of t)) (spread labels_of (q + 1) ts)) h) i)
 
--- a node's name has the id of the node's package
+-- a node's name contains the id of the node's package
 pub node_package : (t : Tables) (n p : ℕ) (name : Text × LabelName) → slice_get (node_packages t) n ≡ Some p → NodeNamed t n name → IsOf t.packages p name.0
 node_package t n p name h i =
     let r = of_package 0 t.packages n p name h i in
@@ -67,7 +67,7 @@ label_there q (t ∷ ts) n name h = ⊎_elim
     (λ e. let r = label_there (q + 1) ts e.0 name e.2 in (r.0, e.1 ∙ r.1))
     (in_place q t.id (labels_of t) (spread labels_of (q + 1) ts) (flat_map (λ t. names_of t.id (labels_of t)) ts) n name h)
 
--- a node's label is its label in its package
+-- a node's label in its name is its label in its package
 pub label_at_node : (t : Tables) (n p : ℕ) (name : Text × LabelName) → slice_get (node_packages t) n ≡ Some p → NodeNamed t n name → NodeAt t n p name.1
 label_at_node t n p name of named =
     let r = label_there 0 t.packages n name named in

@@ -1,4 +1,4 @@
--- Steps and offers that are told by names, and their numbers.
+-- Named steps and offers, and their numbers.
 use Rattle.std.proofs.Common.{◌≡◌, ◌∙◌, ◌+◌, ◌++◌, ◌∷◌, ◌⊎◌, [], ap, refl, sym, subst, inl, inr, ℕ, zero, suc, Bool, true, false, ◌||◌, ◌&&◌, List, Option, Some, None, map, take, add-one, arith}
 use Rattle.std.specs.Prelude.{◌↔◌, ◌==◌, IsTrue, IfSome, IfNone, MatchOption, slice_get}
 use Rattle.std.specs.Option.{option_map, option_map_or}
@@ -46,7 +46,7 @@ heads_same x y xs ys h = cc
 tails_same : {X : Type 0} (x y : X) (xs ys : List X) → ◌≡◌ {A = List X} (x ∷ xs) (y ∷ ys) → xs ≡ ys
 tails_same x y xs ys h = cc
 
--- which halves are offered doesn't depend on the direction
+-- the offered halves of an edge are the same in both directions
 half_either : (d : DependencyDirection) (f : EdgeFacts) (h : Half) → has_half (asked d f) h ≡ has_half (asked Forward f) h
 half_either d base_edge h = refl
 half_either d feature_edge h = refl
@@ -64,7 +64,7 @@ offer_forward d b e h offer =
     record { way = way Forward b.weak x.0; is_way = slice_get-map (way Forward b.weak) b.edges e ∙ ap (option_map (way Forward b.weak)) x.1; half = sym (half_either d x.0.2 h) ∙ half }
 
 module _ (g : Graph) where
-  -- an edge's half that is offered, as an offer of the graph
+  -- an offered half of an edge is an offer of the graph
   pub over_offer : (e : ℕ) (h : Half) (from to : Name) (declarations : LinkDeclarations) (x : ℕ × ℕ × EdgeFacts) → ends_told g e ≡ Some (from, to) → slice_get g.built.edges e ≡ Some x → IsOver x.2 declarations h → IsNumberedOffer g (from, to, declarations) e h
   over_offer e h from to declarations x ends is over =
       let facts = mapped_is (λ (l : LinkFacts). l.declarations) (link_at x.2 h) declarations over.over in
@@ -90,7 +90,7 @@ module _ (g : Graph) where
   offer_ends told e h numbered = let at = offer_there g e h told.0 told.1 told.2 numbered.told_so in ends_are g e told.0 told.1 at.ends
 
   module _ (once : (j k : ℕ) (x y : ℕ × ℕ × EdgeFacts) → slice_get g.built.edges j ≡ Some x → slice_get g.built.edges k ≡ Some y → x.0 ≡ y.0 → x.1 ≡ y.1 → j ≡ k) (one_node : (name : Name) (m n : ℕ) → NodeNamed g.tables m name → NodeNamed g.tables n name → m ≡ n) where
-    -- an edge that was found between two nodes is the one of their names
+    -- the edge between two nodes is the edge with their names
     pub edge_tells : (u w : ℕ) (found : Option ℕ) (from to : Name) → NodeNamed g.tables u from → NodeNamed g.tables w to → IfSome found (IsEdgeAt (map end_of g.built.edges) u w) → IfNone found (¬ HasEdge (map end_of g.built.edges) u w)
         → (e : ℕ) → (found ≡ Some e) ↔ (ends_told g e ≡ Some (from, to))
     edge_tells u w None from to a b some none e = (
@@ -110,14 +110,14 @@ module _ (g : Graph) where
               ap Some (once k e here.0 there.edge here.1 there.is_edge (here.2 ∙ one_node from u there.edge.0 a there.from_is) (here.3 ∙ one_node to w there.edge.1 b there.to_is))),
         )
 
-  -- where one of the two features isn't there, no edge has their names
+  -- if the graph lacks one of two features, no edge has their names
   pub edge_from_none : (from to : Name) → ((n : ℕ) → (◌≡◌ {A = Option ℕ} None (Some n)) ↔ NodeNamed g.tables n from) → (e : ℕ) → (◌≡◌ {A = Option ℕ} None (Some e)) ↔ (ends_told g e ≡ Some (from, to))
   edge_from_none from to none e = ((λ is. absurd (none-some e is)), (λ is. let at = ends_there g e from to is in absurd (none-some at.edge.0 ((none at.edge.0).1 at.from_is))))
 
   pub edge_to_none : (from to : Name) → ((n : ℕ) → (◌≡◌ {A = Option ℕ} None (Some n)) ↔ NodeNamed g.tables n to) → (e : ℕ) → (◌≡◌ {A = Option ℕ} None (Some e)) ↔ (ends_told g e ≡ Some (from, to))
   edge_to_none from to none e = ((λ is. absurd (none-some e is)), (λ is. let at = ends_there g e from to is in absurd (none-some at.edge.1 ((none at.edge.1).1 at.to_is))))
 
-  -- lists of steps that are told so
+  -- a list of named steps with one more
   pub numbered_push : (told : List (Name × ReasonName)) (steps : List Step) (t : Name × ReasonName) (step : Step) → AreNumbered g told steps → IsNumberedStep g t step → AreNumbered g (told ++ t ∷ []) (steps ++ step ∷ [])
   numbered_push [] [] t step h one = (one, tt)
   numbered_push [] (s ∷ steps) t step h one = absurd h
@@ -151,7 +151,7 @@ module _ (g : Graph) where
   told_numbered (t ∷ told) [] possible is = absurd (cc)
   told_numbered (t ∷ told) (s ∷ steps) possible is = (record { possible = possible 0 s refl; told_so = heads_same (step_told g s) (Some t) (map (step_told g) steps) (map Some told) is }, told_numbered told steps (λ k step at. possible (suc k) step at) (tails_same (step_told g s) (Some t) (map (step_told g) steps) (map Some told) is))
 
-  -- one entry more
+  -- a list of entries with one more
   pub listed_more : (entries : List (Name × Name × LinkDeclarations)) (entry : Name × Name × LinkDeclarations) (e : ℕ) (h : Half) → IsListed g (entries ++ entry ∷ []) e h ↔ (IsListed g entries e h ⊎ (offer_told g (e, h) ≡ Some entry))
   listed_more entries entry e h = (to_either entries, of_either entries)
     where
@@ -174,7 +174,7 @@ none_listed g e h (k, x, at, is) = none-some x at
 pub false_true : false ≡ true → ⊥
 false_true h = cc
 
--- refused offers, one more
+-- a list of refused offers with one more
 pub or_cases : (a b : Bool) → IsTrue (a || b) ↔ (IsTrue a ⊎ IsTrue b)
 or_cases true b = ((λ h. inl refl), (λ h. refl))
 or_cases false b = ((λ h. inr h), (λ h. elim h [ inl p ↦ absurd (false_true p) | inr q ↦ q ]))
@@ -227,7 +227,7 @@ refused_more xs o e h = (
   (λ either. refused_append xs o e h ∙ (or_cases (is_refused xs e h) ((o.0 == e) && is_half o.1 h)).1 (elim either [ inl before ↦ inl before | inr last ↦ inr ((same_offer o e h).1 last) ])),
 )
 
--- the look-up of an offer, by that of its edge and of a half
+-- the look-up of an offer, from the look-ups of its edge and of a half
 module _ (g : Graph) where
   pub edge_named : (e : ℕ) (from to : Name) → ends_told g e ≡ Some (from, to) → (x : ℕ × ℕ × EdgeFacts) × (slice_get g.built.edges e ≡ Some x)
   edge_named e from to is = let at = ends_there g e from to is in (at.edge, at.is_edge)
@@ -279,7 +279,7 @@ take_next xs i x is = ap (λ k. take k xs) (add-one i) ∙ next xs i x is
     next (z ∷ ys) zero y at = ap (λ w. w ∷ []) (same_Some z y at)
     next (z ∷ ys) (suc k) y at = ap (λ l. z ∷ l) (next ys k y at)
 
--- lists that are told, one more
+-- the lists of the loops, with one more element
 module _ (g : Graph) where
   pub numbered_more : (told : List (Name × ReasonName)) (steps more : List Step) (i : ℕ) (t : Name × ReasonName) (step : Step) → slice_get told i ≡ Some t → more ≡ steps ++ step ∷ [] → AreNumbered g (take i told) steps → IsNumberedStep g t step → AreNumbered g (take (i + 1) told) more
   numbered_more told steps more i t step at is h one =

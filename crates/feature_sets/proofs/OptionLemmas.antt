@@ -1,4 +1,4 @@
--- Options that are there.
+-- Chained options.
 use Rattle.std.proofs.Common.{◌≡◌, Option, Some, None, ap, refl, sym, ◌∙◌}
 use Rattle.std.specs.Prelude.{IsTrue}
 use Rattle.std.specs.Option.{is_some, option_map, option_map_or}
@@ -11,7 +11,7 @@ pub there_some : {A : Type 0} (o : Option A) → IsTrue (is_some o) → (a : A) 
 there_some None h = absurd (cc)
 there_some (Some a) h = (a, refl)
 
--- what follows from an option that is there
+-- if the chained option is `Some`, both parts are
 pub bound_is : {A B : Type 0} (f : A → Option B) (o : Option A) (b : B) → option_map_or f o None ≡ Some b → (a : A) × (o ≡ Some a) × (f a ≡ Some b)
 bound_is f None b h = absurd (none-some b h)
 bound_is f (Some a) b h = (a, refl, h)

@@ -1,4 +1,4 @@
--- Lists of nodes and edges that the order shows, as names and links.
+-- Lists of nodes and edges in the order, as names and links.
 use Rattle.std.proofs.Common.{◌≡◌, ℕ, ◌+◌, ◌<◌, List, [], ◌∷◌, ◌++◌, length, map, take, get_or, filter, false, cond, Option, Some, None, ap, sym, ◌∙◌}
 use Rattle.std.specs.Prelude.{All, IsFalse, MatchOption, slice_get}
 use Rattle.std.specs.Option.{is_some}
@@ -20,7 +20,7 @@ use Rattle.feature_sets.specs.Visits.{offered}
 use Rattle.feature_sets.proofs.BuiltLemmas.{built_count}
 use Rattle.feature_sets.proofs.MemberNames.{as_many}
 
--- as many names as nodes
+-- a list of nodes has as many names
 pub as_many_names : {X : Type 0} (xs : List X) (numbers : List ℕ) → All (λ n. n < length xs) numbers → length (filter_map (slice_get xs) numbers) ≡ length numbers
 as_many_names xs numbers h = as_many xs numbers (recursion_from_All (λ n. n < length xs) numbers h)
 
@@ -31,11 +31,11 @@ as_many_features t names = length-map names (λ name. (t, name))
 pub order_long : (t : Tables) (b : Built) (o : Sequence) → IsBuilt t b → IsOrderOf (digraph_of b) o → length o.list ≡ length (nodes t)
 order_long t b o built order = order.order.long ∙ built_count t b built
 
--- the digraph of a built graph, by its parts
+-- the digraph of a built graph is determined by its parts
 pub same_digraph : (g : Digraph) (b : Built) → g.nodes ≡ length b.packages → g.edges ≡ map end_of b.edges → g ≡ digraph_of b
 same_digraph g b nodes edges = λ i. record { nodes = nodes i; edges = edges i }
 
--- one name more
+-- a list of names with one more
 pub names_more : (xs : List (Text × LabelName)) (numbers : List ℕ) (i n d : ℕ) (name : Text × LabelName) → i < length numbers → get_or numbers i d ≡ n → slice_get xs n ≡ Some name
     → filter_map (slice_get xs) (take i numbers) ++ name ∷ [] ≡ filter_map (slice_get xs) (take (i + 1) numbers)
 names_more xs numbers i n d name within is at =
@@ -49,7 +49,7 @@ pub no_link : {X : Type 0} (o : Option X) (P : Type 0) (Q : X → Type 0) → Ma
 no_link None P Q m h = m
 no_link (Some x) P Q m h = cc
 
--- an edge that isn't conditional has no link among those that are left
+-- an unconditional edge has no full link
 pub passed_edge : (g : Graph) (number : ℕ) (rest numbers : List ℕ) → numbers ≡ number ∷ rest → IsFalse (has_facts (offered g number Full)) → full_links g rest ≡ full_links g numbers
 passed_edge g number rest numbers is none =
     let others : List ℕ = filter (λ k. has_facts (offered g k Full)) rest in

@@ -1,4 +1,4 @@
--- Packages and their labels, by what was asked for.
+-- Look-ups of packages and of their labels.
 use Rattle.std.proofs.Common.{◌≡◌, ℕ, suc, ◌⊎◌, inl, inr, ⊎_elim, List, ◌++◌, map, arith, Some, None, refl, ap, sym, ◌∙◌, subst, get_or}
 use Rattle.std.specs.Prelude.{Contains, slice_get}
 use Rattle.std.specs.Option.{option_map}
@@ -75,7 +75,7 @@ has_no_optional table name h c =
     i)
     (label_cases table (optional name) c)
 
--- what is read at the place that was found has the name
+-- the feature at the found index has the name
 pub read_named : {X : Type 0} (f : X → FeatureTable) (table : PackageTable) (list : List X) (name : Text) (k : ℕ) (x d : X) → map f list ≡ table.features → feature_place name table.features ≡ Some k → x ≡ get_or list k d → (f x).name ≡ name
 read_named f table list name k x d same h is =
     let q = position_there (λ f. bytes_eq name f.name) k table.features h in
@@ -97,13 +97,13 @@ no_package t id h (table, c, same) =
     let k = place_of_element t.packages table c in
     position_missing (λ p. bytes_eq id p.id) k.0 t.packages table h k.1 ((bytes_decides id table.id).1 (sym same))
 
--- where a place was found, there is such a package
+-- if an index was found, the graph has the package
 pub some_package : (t : Tables) (id told : Text) (p : ℕ) → told ≡ id → package_place told t.packages ≡ Some p → HasPackage t id
 some_package t id told p same h =
     let q = position_there (λ z. bytes_eq told z.id) p t.packages h in
     (q.element, element_at_place t.packages p q.element q.there, sym ((bytes_decides told q.element.id).0 q.passes) ∙ same)
 
--- the package at the place that was found has the id
+-- the package at the found index has the id
 pub id_found : (t : Tables) (id : Text) (p : ℕ) (table : PackageTable) → package_place id t.packages ≡ Some p → IsPackage t p table → table.id ≡ id
 id_found t id p table h is =
     let q = position_there (λ z. bytes_eq id z.id) p t.packages h in

@@ -1,4 +1,4 @@
--- The labels of one package's members, gathered node by node.
+-- The labels of one package's members, collected node by node.
 use Rattle.std.proofs.Common.{◌≡◌, ℕ, ◌+◌, ◌<◌, ◌≤◌, ◌⊎◌, inl, inr, ⊎_elim, Bool, List, [], ◌∷◌, ◌++◌, length, Option, Some, ap, sym, ◌∙◌, subst, arith}
 use Rattle.std.specs.Prelude.{◌↔◌, IsTrue, IfOk, Contains, slice_get}
 use Rattle.std.specs.Option.{option_map}
@@ -16,7 +16,7 @@ use Rattle.feature_sets.proofs.RangeLemmas.{node_of}
 use Rattle.feature_sets.specs.PackageLists.{HasMemberAt, ListsMembers}
 use Rattle.feature_sets.specs.inner.MemberLabels.{AddsLabel, HasMemberBelow}
 
--- the package of a node with this label of package p is p
+-- a node with a label of package `p` is a node of package `p`
 package_there : (t : Tables) (n p : ℕ) (label : LabelName) → NodeAt t n p label → slice_get (node_packages t) n ≡ Some p
 package_there t n p label at = slice_get-map (λ x. x.0) (node_places t) n ∙ ap (option_map (λ x. x.0)) at
 
@@ -78,7 +78,7 @@ module _ (t : Tables) (members : List Bool) (p : ℕ) where
       (λ h. let range = range_of h.0 label h.1 in (each label).1 (h.0, (h.1, h.2, omega (arith, range.1, past)))),
     )
 
-  -- a list of these labels is that of the members
+  -- a list of these labels is the list of the members
   pub members_listed : {E : Type 0} (u : Tables) (table : PackageTable) (labels : List LabelName) (r : Result ListValue E) → u ≡ t → slice_get u.packages p ≡ Some table
       → ((label : LabelName) → Contains labels label ↔ HasMemberAt t members p label)
       → IfOk r (λ l. l.graph ≡ u) → IfOk r (λ l. l.number ≡ p) → IfOk r (λ l. l.package_id ≡ table.id) → IfOk r (λ l. SameLabels labels l.labels) → IfOk r (λ l. Ascends l.labels)

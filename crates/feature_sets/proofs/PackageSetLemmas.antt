@@ -8,7 +8,7 @@ use Rattle.feature_sets.specs.MemberPackages.{AreMemberPackages}
 use Rattle.feature_sets.specs.Packages.{has_member_of}
 use Rattle.feature_sets.specs.inner.Sorting.{IsPut}
 
--- the packages before p are marked
+-- the packages below `p` are marked
 pub record MarkedBelow (t : Tables) (members : List Bool) (p : ℕ) (packages : List Bool) : Type 0 where
   pub size : length packages ≡ length t.packages
   pub each : (k : ℕ) → IsTrue (has packages k) ↔ ((k < p) × IsTrue (has_member_of t members k))

@@ -1,4 +1,4 @@
--- The packages of a set, as the order of packages is passed over.
+-- The packages of a set, in the order of packages.
 use Rattle.std.proofs.Common.{◌≡◌, ℕ, ◌<◌, ◌∙◌, cond, List, ◌∷◌, length, ap, sym, subst}
 use Rattle.std.specs.Prelude.{All, IsFalse, reverse}
 use Rattle.std.proofs.lemmas.List.Elements.{All-from_get_or}
@@ -12,7 +12,7 @@ use Rattle.feature_sets.specs.PackageViews.{as_read, with_members}
 use Rattle.feature_sets.specs.Packages.{has_member_of}
 use Rattle.feature_sets.specs.Values.{Set}
 
--- a package without a member is not among those that are left
+-- a package without a member is not among the remaining ones
 pub passed_package : (s : Set) (p : ℕ) (rest numbers : List ℕ) → numbers ≡ p ∷ rest → IsFalse (has_member_of s.graph.tables s.members p) → with_members s rest ≡ with_members s numbers
 passed_package s p rest numbers is none =
     let others : List ℕ = with_members s rest in
@@ -26,7 +26,7 @@ all_as_read : (P : ℕ → Type 0) (direction : DependencyDirection) (numbers : 
 all_as_read P Forward numbers h = h
 all_as_read P Reverse numbers h = All-permutation P numbers (reverse numbers) (IsPermutation-reverse numbers) h
 
--- the order of packages lists numbers of packages
+-- the order of packages lists package numbers
 pub order_within : (t : Tables) (o : Sequence) (direction : DependencyDirection) → IsSequence o → IsOrderOf (digraph_of_packages t) o → All (λ p. p < length t.packages) (as_read direction o.list)
 order_within t o direction sequence order =
     let listed : All (λ p. p < length o.list) o.list = All-from_get_or (λ p. p < length o.list) o.list 0 sequence.each.below in

@@ -80,7 +80,7 @@ module _ {F A : Type 0} (step : F → FeatureMetadata → A → F → Type 0) (f
     other_filled = filled_more second before.calls (length (nodes t)) node answer other other_more before.other_filled put_other;
   }
 
--- all were called
+-- at the end the callback was called for all features
 pub calls_made : {F A : Type 0} (step : F → FeatureMetadata → A → F → Type 0) (first second : A → Bool) (direction : DependencyDirection) (s : Set) (t : Tables) (numbers : List ℕ) (f g : F) (one other : List Bool) (a b : Set)
     → t ≡ s.graph.tables → AtOrder s.graph (λ o. numbers ≡ ordered_nodes direction s o) → HasCalled step first second t numbers [] f g one other
     → a.graph ≡ s.graph → a.members ≡ one → b.graph ≡ s.graph → b.members ≡ other

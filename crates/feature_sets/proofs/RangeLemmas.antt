@@ -1,4 +1,4 @@
--- The nodes of a package lie together, and what that says of the packages of a set.
+-- The nodes of a package are a range of numbers, and the packages of a set follow from the ranges.
 use Rattle.std.proofs.Common.{◌≡◌, ◌<◌, ◌≤◌, ℕ, zero, suc, ◌+◌, ◌-◌, ◌++◌, ◌⊎◌, inl, inr, ⊎_elim, Bool, true, false, cond, ◌||◌, List, [], ◌∷◌, length, map, filter, take, Some, refl, ap, sym, ◌∙◌, subst, arith, length-append}
 use Rattle.std.specs.Prelude.{◌↔◌, ◌==◌, slice_get, flat_map}
 use Rattle.std.specs.Option.{option_map}
@@ -57,7 +57,7 @@ module _ {A B : Type 0} (f : A → List B) where
       let long = length-row q (f x) in
       ap (λ l. slice_get l n) (numbers-cons q x xs) ∙ got_right (row q (f x)) (numbers (q + 1) xs) n m (omega (arith, long, h))
 
-  -- no number is below the first
+  -- each number is at least the first
   numbers_above : (q : ℕ) (xs : List A) (n p : ℕ) → slice_get (numbers q xs) n ≡ Some p → q ≤ p
   numbers_above q [] n p h = cc
   numbers_above q (x ∷ xs) n p h = ⊎_elim
@@ -96,7 +96,7 @@ module _ {A B : Type 0} (f : A → List B) where
       (omega (arith, rest.0, front, is), omega (arith, rest.1, whole, is)))
       (below_or n (length (f x)))
 
--- the nodes of package p are those from its first up to that of the next package
+-- the nodes of package `p` are those from its first node up to the first node of the next package
 pub node_of : (t : Tables) (p n : ℕ) → p < length t.packages → (slice_get (node_packages t) n ≡ Some p) ↔ ((first_node t p ≤ n) × (n < first_node t (p + 1)))
 node_of t p n within =
     let next : suc p ≡ p + 1 = omega arith in
@@ -117,7 +117,7 @@ length-range a (suc n) = ap suc (length-range (a + 1) n)
 pub length-first_nodes : (t : Tables) → length (first_nodes t) ≡ length t.packages
 length-first_nodes t = length-map (range_with_len 0 (length t.packages)) (first_node t) ∙ length-range 0 (length t.packages)
 
--- what stands in the list of first nodes
+-- the list of first nodes has the first node of each package
 pub first_node_at : (t : Tables) (p n : ℕ) → p < length t.packages → slice_get (first_nodes t) p ≡ Some n → n ≡ first_node t p
 first_node_at t p n within h =
     let all = slice_get-map (first_node t) (range_with_len 0 (length t.packages)) p ∙ ap (option_map (first_node t)) (got_range 0 (length t.packages) p within) in
@@ -126,7 +126,7 @@ first_node_at t p n within h =
     let is : n ≡ first_node t (0 + p) = cc in
     is ∙ ap (first_node t) same
 
--- after the last package there is no node
+-- the last package has the last nodes
 pub first_node_past : (t : Tables) (p : ℕ) → p ≡ length t.packages → length (nodes t) ≡ first_node t p
 first_node_past t p h = length-renamed labels_of (λ q l. (q.id, l)) t.packages ∙ sym (ap (λ l. length (flat_map labels_of l)) (ap (λ k. take k t.packages) h ∙ take-length t.packages))
 
@@ -142,7 +142,7 @@ or_right : (b c : Bool) → c ≡ true → (b || c) ≡ true
 or_right true c h = refl
 or_right false c h = h
 
--- an element that passes the test, at a place that passes
+-- an element that passes the test, at an index that passes
 record PassesAt {X : Type 0} (passes : ℕ → Bool) (test : X → Bool) (q : ℕ) (xs : List X) : Type 0 where
   place : ℕ
   element : X
@@ -188,13 +188,13 @@ picked_any {X} passes test q (y ∷ xs) (suc n) x at h holds =
     ]
 
 module _ (t : Tables) (members : List Bool) where
-  -- a member of the package was found
+  -- a member in the range of the package is a member of the package
   pub found_member : (p n : ℕ) → p < length t.packages → first_node t p ≤ n → n < first_node t (p + 1) → has members n ≡ true → has_member_of t members p ≡ true
   found_member p n within from to is =
       let here : 0 + n ≡ n = omega arith in
       picked_any (has members) (λ q. q == p) 0 (node_packages t) n p ((node_of t p n within).1 (from, to)) (subst (λ k. has members k ≡ true) (sym here) is) (eq-eqb p p refl)
 
-  -- no node of the package is a member
+  -- if no node of the package is a member, the package has no member
   pub no_member : (p : ℕ) → p < length t.packages → ((n : ℕ) → first_node t p ≤ n → n < first_node t (p + 1) → has members n ≡ false) → has_member_of t members p ≡ false
   no_member p within none = ⊎_elim
       (λ yes.
@@ -213,21 +213,21 @@ module _ (t : Tables) (members : List Bool) where
       let one_more : length t.packages - n ≡ suc (length t.packages - (n + 1)) = omega arith in
       ap (λ k. filter (λ p. has_member_of t members p) (range_with_len n k)) one_more
 
-  -- a package that has a member is the first from its number on
+  -- a package with a member is the first from its number on
   pub from_found : (n : ℕ) → n < length t.packages → has_member_of t members n ≡ true → member_packages_from t members n ≡ n ∷ member_packages_from t members (n + 1)
   from_found n h is = from_here n h ∙ ap (λ b. cond b (n ∷ member_packages_from t members (n + 1)) (member_packages_from t members (n + 1))) is
 
-  -- a package that has none is passed over
+  -- a package without a member is skipped
   pub from_passed : (n : ℕ) → n < length t.packages → has_member_of t members n ≡ false → member_packages_from t members n ≡ member_packages_from t members (n + 1)
   from_passed n h is = from_here n h ∙ ap (λ b. cond b (n ∷ member_packages_from t members (n + 1)) (member_packages_from t members (n + 1))) is
 
-  -- no package is left after the last
+  -- after the last package none remains
   pub from_past : (n : ℕ) → length t.packages ≤ n → member_packages_from t members n ≡ []
   from_past n h =
       let nothing : length t.packages - n ≡ 0 = omega arith in
       ap (λ k. filter (λ p. has_member_of t members p) (range_with_len n k)) nothing
 
--- a node of a package is one of the nodes
+-- a node of a package is a node of the graph
 pub range_within : (t : Tables) (p n : ℕ) → p < length t.packages → first_node t p ≤ n → n < first_node t (p + 1) → n < length (nodes t)
 range_within t p n within from to =
     let below = slice_get_within (node_packages t) n p ((node_of t p n within).1 (from, to)) in

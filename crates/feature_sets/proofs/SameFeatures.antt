@@ -1,4 +1,4 @@
--- Lists that have the same elements at the same places, and when two sets are equal.
+-- Lists with the same elements at the same indices, and equality of sets.
 use Rattle.std.proofs.Common.{◌≡◌, ℕ, suc, ◌<◌, ◌≤◌, List, [], ◌∷◌, length, Option, Some, refl, ap, arith, nat_eq}
 use Rattle.std.specs.Prelude.{slice_get}
 use Rattle.std.specs.Bool.{Decides}
@@ -13,7 +13,7 @@ use Rattle.feature_labels.specs.Orders.{label_eq, label_eq-Decides}
 use Rattle.feature_sets.specs.SetValues.{AreEqualSets, name_eq, graph_eq, set_eq}
 use Rattle.feature_sets.specs.Values.{Set}
 
--- lists of one length with the same elements are the same
+-- lists of one length with the same elements are equal
 pub same_list : {X : Type 0} (xs ys : List X) → length xs ≡ length ys → ((k : ℕ) → k < length xs → slice_get xs k ≡ slice_get ys k) → xs ≡ ys
 same_list [] [] long same = refl
 same_list [] (y ∷ ys) long same = absurd (omega (arith, long))
@@ -24,7 +24,7 @@ same_list {X} (x ∷ xs) (y ∷ ys) long same =
     let rest : xs ≡ ys = same_list xs ys (omega (arith, long)) (λ k within. same (suc k) (omega arith)) in
     (λ i. first i ∷ rest i)
 
--- the features before this node are the same
+-- the features below this node are the same
 abbrev pub SameBelow : List (Text × LabelName) → List (Text × LabelName) → ℕ → Type 0
 SameBelow xs ys n = (k : ℕ) → k < n → slice_get xs k ≡ slice_get ys k
 
@@ -32,7 +32,7 @@ module _ (xs ys : List (Text × LabelName)) where
   pub below_all : (n : ℕ) → length xs ≡ length ys → length xs ≤ n → SameBelow xs ys n → xs ≡ ys
   below_all n long past before = same_list xs ys long (λ k within. before k (omega arith))
 
--- the tests of graphs and sets say what they mean
+-- the tests for equal names, graphs and sets decide equality
 name_eq-Decides : (a b : Text × LabelName) → Decides (name_eq a b) (a ≡ b)
 name_eq-Decides a b =
     let both = Decides-and (pointwise nat_eq a.0 b.0) (label_eq a.1 b.1) (bytes_decides a.0 b.0) (label_eq-Decides a.1 b.1) in

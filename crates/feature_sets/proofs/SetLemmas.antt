@@ -1,4 +1,4 @@
--- Sets of the nodes of names.
+-- Sets of nodes from lists of names.
 use Rattle.std.proofs.Common.{◌≡◌, ◌≢◌, ℕ, zero, suc, ◌+◌, ◌<◌, ◌⊎◌, inl, inr, ⊎_elim, List, length, replicate, Bool, true, false, Option, Some, None, refl, ap, sym, ◌∙◌, subst, arith, get_or, map}
 use Rattle.std.specs.Option.{option_map}
 use Rattle.std.specs.Prelude.{slice_get, slice_set, ◌↔◌, IsTrue, is_some, IfSome, IfOk, Result, Ok, Err}
@@ -17,7 +17,7 @@ use Rattle.feature_sets.proofs.ListLemmas.{marked_set, marked_grows, marked_case
 use Rattle.feature_core.specs.Defaults.{IsDefault}
 use Rattle.feature_sets.specs.Names.{HasFeature, AreKnown, IsFirstUnknown, HoldsExactly, TellsMember, TellsDefault}
 
--- whether a number is what was found, as a look-up says it
+-- the result of a look-up is the number with the property `N`, if any
 abbrev pub Finds : Option ℕ → (ℕ → Type 0) → Type 0
 Finds found N = (n : ℕ) → (found ≡ Some n) ↔ N n
 
@@ -36,11 +36,11 @@ not_inserted marks N finds n = (
   (λ h. ⊎_elim (λ old. old) (λ is. let e = (finds n).1 is in cc) h),
 )
 
--- all names before this place are known
+-- all names before this index are known
 abbrev pub KnownBelow : Tables → List (Text × LabelName) → ℕ → Type 0
 KnownBelow t names i = (k : ℕ) (name : Text × LabelName) → k < i → slice_get names k ≡ Some name → HasFeature t name
 
--- one of the names before this place is the node's
+-- one of the names before this index is the node's
 abbrev pub AmongBelow : Tables → List (Text × LabelName) → ℕ → ℕ → Type 0
 AmongBelow t names i n = (k : ℕ) × (name : Text × LabelName) × (slice_get names k ≡ Some name) × (NodeNamed t n name × (k < i))
 
@@ -135,7 +135,7 @@ ok_map P Q (Err e) h f = tt
 pub name_at : (ids : List FeatureId) (i : ℕ) (x : FeatureId) → i < length ids → x ≡ get_or ids i x → slice_get (map id_of ids) i ≡ Some (id_of x)
 name_at ids i x within is = slice_get-map id_of ids i ∙ ap (option_map id_of) (slice_get_read ids (length ids) i x refl within is)
 
--- reach is the same where graph, direction and initials are
+-- reachability depends only on the tables, the direction and the initial nodes
 pub reach_carried : (t u : Tables) (d e : DependencyDirection) (i j s r : List Bool) → t ≡ u → d ≡ e → i ≡ j → r ≡ s → ((n : ℕ) → IsTrue (has s n) ↔ Reach t d (has i) n) → (n : ℕ) → IsTrue (has r n) ↔ Reach u e (has j) n
 reach_carried t u d e i j s r graph direction initials set h =
     let at_graph : (n : ℕ) → IsTrue (has s n) ↔ Reach u d (has i) n = subst (λ z. (n : ℕ) → IsTrue (has s n) ↔ Reach z d (has i) n) graph h in

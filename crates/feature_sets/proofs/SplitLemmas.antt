@@ -1,4 +1,4 @@
--- The parts by yes and by no split a set.
+-- The parts for true and for false split a set.
 use Rattle.std.proofs.Common.{◌≡◌, ◌≢◌, ℕ, ◌<◌, ◌⊎◌, inl, inr, ⊎_elim, Bool, true, false, ◌||◌, List, length, map, refl, ap, sym, ◌∙◌, subst, arith}
 use Rattle.std.specs.Prelude.{IsTrue, Contains, not, slice_index, slice_index_or}
 use Rattle.std.proofs.lemmas.List.{length-map, get_or-map, get_or_default}
@@ -57,7 +57,7 @@ or_cases false c h = inr h
 order_of : (i j : ℕ) → (i < j) ⊎ ((j < i) ⊎ (i ≡ j))
 order_of i j = grind arith
 
--- in a list whose first parts differ, one first part has one second part
+-- in a list of calls with distinct nodes, each node has one result
 module _ (calls : List (ℕ × Bool)) (apart : (i j : ℕ) → i < j → j < length (map (λ x. x.0) calls) → slice_index (map (λ x. x.0) calls) i ≢ slice_index (map (λ x. x.0) calls) j) where
   first_at : (i n : ℕ) (b : Bool) → i < length calls → slice_index_or calls i (n, b) ≡ (n, b) → slice_index (map (λ x. x.0) calls) i ≡ n
   first_at i n b within is = get_or-map (λ (x : ℕ × Bool). x.0) calls i (n, b) 0 within ∙ ap (λ x. x.0) is

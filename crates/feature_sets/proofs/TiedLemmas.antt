@@ -1,4 +1,4 @@
--- Two features that are tied, by their nodes, and the components that have a cycle.
+-- Relations between two features by their nodes, and the components that have a cycle.
 use Rattle.std.proofs.Common.{◌≡◌, ℕ, zero, suc, ◌<◌, Bool, true, false, cond, List, [], ◌∷◌, length, filter, Option, Some, None, refl, sym, subst, arith}
 use Rattle.std.specs.Prelude.{◌↔◌, All, IsTrue, IfSome, IfNone}
 use Rattle.std.specs.List.{AllByRecursion}
@@ -31,7 +31,7 @@ edge_there (e ∷ es) (suc k) u w within from to =
     let below = rest.listed.1 in
     record { edge = rest.edge; listed = (suc rest.listed.0, omega arith, rest.listed.2); from = rest.from; to = rest.to }
 
--- whether an edge was found is whether there is one
+-- an edge was found if and only if there is one
 pub edge_told : (es : List Edge) (u w : ℕ) (found : Option ℕ) (answer : Bool) → answer ≡ is_some found → IfSome found (IsEdgeAt es u w) → IfNone found (¬ HasEdge es u w) → IsTrue answer ↔ HasEdge es u w
 edge_told es u w None answer is some none = (
   (λ h. absurd (clash answer h is)),
@@ -51,7 +51,7 @@ filter_all P test (x ∷ xs) h =
     let rest = filter_all P test xs h.1 in
     elim (test x) as (λ b. AllByRecursion P (cond b (x ∷ filter test xs) (filter test xs))) [ true ↦ (h.0, rest) | false ↦ rest ]
 
--- the nodes that an order lists are below the count of what it lists
+-- the nodes in an order are below the length of its list
 pub listed_below : (o : Sequence) (test : ℕ → Bool) → IsSequence o → All (λ v. v < length o.list) (filter test o.list)
 listed_below o test order =
     let P : ℕ → Type 0 = λ v. v < length o.list in

@@ -1,4 +1,4 @@
--- Edges, offers and steps of a graph, and their names.
+-- The edges, offers and steps of a graph, and their names.
 use Rattle.std.proofs.Common.{◌≡◌, ◌∙◌, ◌<◌, ◌+◌, ◌++◌, ◌∷◌, [], ap, refl, sym, inl, inr, ℕ, Bool, true, false, List, Option, Some, None, length, map, take, get_or, arith}
 use Rattle.std.specs.Prelude.{IsTrue, All, slice_get, if◌then◌else◌}
 use Rattle.std.specs.Option.{is_some, option_map, option_map_or}
@@ -35,7 +35,7 @@ use Rattle.feature_sets.proofs.OptionLemmas.{there_some, some_there, bound_is, b
 abbrev pub Name : Type 0
 Name = Text × LabelName
 
--- the two ends of an edge, by what stands at its number
+-- the two ends of an edge, from the entry at its number
 module _ (g : Graph) where
   abbrev ends_at : Option (ℕ × ℕ × EdgeFacts) → Option (Name × Name)
   ends_at o = option_map_or (λ from. option_map (λ to. (from, to)) (option_map_or (λ x. slice_get (nodes g.tables) x.1) o None)) (option_map_or (λ x. slice_get (nodes g.tables) x.0) o None) None
@@ -62,7 +62,7 @@ module _ (g : Graph) where
   pub ends_there : (e : ℕ) (from to : Name) → ends_told g e ≡ Some (from, to) → EndsAt e from to
   ends_there e from to h = ends_of e (slice_get g.built.edges e) from to refl h
 
-  -- an offer's names
+  -- the names of an offer
   pub record OfferAt (e : ℕ) (h : Half) (from to : Name) (declarations : LinkDeclarations) : Type 0 where
     pub ends : EndsAt e from to
     pub facts : LinkFacts
@@ -85,7 +85,7 @@ module _ (g : Graph) where
         over = ap (λ (p : Name × Name × LinkDeclarations). p.2) second.2;
       }
 
-  -- a step's names
+  -- the names of a step
   pub step_is : (step : Step) (name : Name) (why : ReasonName) → slice_get (nodes g.tables) step.node ≡ Some name → reason_told g step.reason ≡ Some why → step_told g step ≡ Some (name, why)
   step_is step name why at is =
       bound (λ n. option_map (λ w. (n, w)) (reason_told g step.reason)) (slice_get (nodes g.tables) step.node) name (name, why) at
@@ -97,7 +97,7 @@ module _ (g : Graph) where
       let second = mapped_is (λ (w : ReasonName). (first.0, w)) (reason_told g step.reason) told first.2 in
       (first.1 ∙ ap (λ (p : Name × ReasonName). Some p.0) second.2, second.1 ∙ ap (λ (p : Name × ReasonName). Some p.1) second.2)
 
--- lists that are told, one more
+-- a list of names with one more
 pub told_more : {X T N : Type 0} (tell : X → Option N) (name : T → N) (xs : List X) (told : List T) (i : ℕ) (d : X) (t : T) → i < length xs → map tell (take i xs) ≡ map Some (map name told) → tell (get_or xs i d) ≡ Some (name t)
     → map tell (take (i + 1) xs) ≡ map Some (map name (told ++ t ∷ []))
 told_more tell name xs told i d t within before is =
@@ -115,11 +115,11 @@ element_at (x ∷ xs) i within = (get_or (x ∷ xs) i x, slice_get-get_or (x ∷
 has_below : (set : List Bool) (n : ℕ) → IsTrue (has set n) → n < length set
 has_below set n h = elim (cases_lt n (length set)) [ inl below ↦ below | inr past ↦ (let none : has set n ≡ false = get_or_past set n false past in absurd (cc)) ]
 
--- a way's edge
+-- the edge of a way
 pub way_edge : (d : DependencyDirection) (b : Built) (e : ℕ) (w : Way) → IsWay (content_of d b) e w → (x : ℕ × ℕ × EdgeFacts) × (slice_get b.edges e ≡ Some x) × (way d b.weak x ≡ w)
 way_edge d b e w is = mapped_is (way d b.weak) (slice_get b.edges e) w (sym (slice_get-map (way d b.weak) b.edges e) ∙ is)
 
--- the steps of an explanation are told
+-- the steps of an explanation have names
 module _ (g : Graph) (built : IsBuilt g.tables g.built) (links : OffersAreLinks g.tables) (count : length g.built.packages ≡ length (nodes g.tables)) (ends : (d : DependencyDirection) → EndsAreNodes (content_of d g.built)) where
   ends_named : (e : ℕ) (x : ℕ × ℕ × EdgeFacts) → slice_get g.built.edges e ≡ Some x → (from : Name) × (to : Name) × EndsAt g e from to
   ends_named e x is =
@@ -168,7 +168,7 @@ module _ (g : Graph) (built : IsBuilt g.tables g.built) (links : OffersAreLinks 
   pub backed_told : (d : DependencyDirection) (steps : List Step) → IsBacked g d steps → All (λ step. IsTrue (is_some (step_told g step))) steps
   backed_told d steps (initials, A, long, explained) = explained_told d initials A steps long explained
 
-  -- the refused offers of a legal run are told
+  -- the refused offers of a legal run have names
   pub refused_told : (d : DependencyDirection) (I : ℕ → Bool) (run : List Call) → IsLegal (content_of d g.built) I run → AreOffered g (refused_of run)
   refused_told d I [] legal = λ k default within. absurd (omega arith)
   refused_told d I (call ∷ before) (due, legal) = refused_by call.answer (refused_told d I before legal)

@@ -26,7 +26,7 @@ true_of : (b : Bool) → not b ≡ false → b ≡ true
 true_of true h = refl
 true_of false h = cc
 
--- what stands before the first place at which an element passes
+-- no element before the first that passes does
 before_or_len : {X : Type 0} (p : X → Bool) (xs : List X) (k : ℕ) (x : X) → k < position_or_len p xs → slice_get xs k ≡ Some x → p x ≡ false
 before_or_len p [] k x l at = cc
 before_or_len p (y ∷ ys) k x l at = go (p y) refl k l at (λ k l at. before_or_len p ys k x l at)
@@ -44,7 +44,7 @@ place_is p xs n h = go (nat_lt (position_or_len p xs) (length xs)) h
     go true e = cc
     go false e = cc
 
--- an edge passes where its link, if it has one, is present
+-- an edge passes if its link, if any, is present
 passes_by : (f : EdgeFacts) → ((l : LinkFacts) → full_link f ≡ Some l → IsTrue (is_present l)) → IsTrue (has_present_link f)
 passes_by f h = go (full_link f) h
   where
@@ -71,7 +71,7 @@ absent_link f h = go (full_link f) refl h
 abbrev pub first_absent : List (ℕ × ℕ × EdgeFacts) → Option ℕ
 first_absent edges = position (λ e. not (has_present_link e.2)) edges
 
--- where no edge is found, all pass
+-- if no edge is found, all edges pass
 pub none_absent : (edges : List (ℕ × ℕ × EdgeFacts)) → first_absent edges ≡ None → ArePresent edges
 none_absent edges h k e l at is = go (has_present_link e.2) refl
   where
@@ -79,7 +79,7 @@ none_absent edges h k e l at is = go (has_present_link e.2) refl
     go true i = passing_link e.2 l i is
     go false i = absurd (position_missing (λ e. not (has_present_link e.2)) k edges e h at (ap not i))
 
--- where one is found, not all do
+-- if an edge is found, not all edges pass
 pub some_absent : (edges : List (ℕ × ℕ × EdgeFacts)) (n : ℕ) → first_absent edges ≡ Some n → ArePresent edges → ⊥
 some_absent edges n h present =
     let q = position_there (λ e. not (has_present_link e.2)) n edges h in
@@ -87,7 +87,7 @@ some_absent edges n h present =
     let fails : has_present_link q.element.2 ≡ false = false_of (has_present_link q.element.2) q.passes in
     cc
 
--- the nodes of an edge, as those of its way
+-- the nodes of an edge are nodes of the graph
 pub edge_within : (b : Built) → EndsAreNodes (content_of Forward b) → (k : ℕ) (e : ℕ × ℕ × EdgeFacts) → slice_get b.edges k ≡ Some e → (e.0 < length b.packages) × (e.1 < length b.packages)
 edge_within b ends k e at =
     let w = ends k (way Forward b.weak e) (slice_get-map (way Forward b.weak) b.edges k ∙ ap (option_map (way Forward b.weak)) at) in

@@ -1,4 +1,4 @@
--- Walks of one who answers by another: what is said of the one's states is said of the other's.
+-- Walks with an adapter around a visitor: the properties of the adapter's run are those of the visitor's.
 use Rattle.std.proofs.Common.{◌≡◌, ℕ, Bool, List, [], ◌∷◌, refl, ap, sym, ◌∙◌, subst}
 use Rattle.std.specs.Prelude.{IsTrue, IfOk, OnErr, Result, Ok, Err}
 use Rattle.guppy_support.specs.Bits.{has}
@@ -14,7 +14,7 @@ use Rattle.feature_sets.specs.Visits.{query_content, offered, showable, shown}
 use Rattle.feature_sets.specs.declared.resolve_with.Shown.{Shown}
 use Rattle.feature_sets.proofs.Offered.{OffersAreLinks, offer_stands}
 
--- S answers by the T in it: while P holds, each step of S is one of T, and P goes on
+-- `S` contains a visitor `T`: while `P` holds, each step of `S` is a step of its `T`, and `P` still holds after it
 module _ {S T : Type 0} (P : S → Type 0) (v : S → T) (outer : S → ℕ → Half → Bool → S → Type 0) (inner : T → ℕ → Half → Bool → T → Type 0) where
   abbrev pub AnswersBy : Type 0
   AnswersBy = (p : S) (e : ℕ) (h : Half) (answer : Bool) (r : S) → P p → outer p e h answer r → P r × inner (v p) e h answer (v r)
@@ -43,7 +43,7 @@ module _ {S T : Type 0} (P : S → Type 0) (v : S → T) (outer : S → ℕ → 
       let moved = is_walk by c I s t M holds told.walk in
       (moved.0, record { walk = moved.1; explanation = told.explanation; listed = told.listed; refused_in_order = told.refused_in_order })
 
-  -- the other way: where T may be asked in every state, so may S
+  -- conversely: if `T` may be called in every state, so may `S`
   pub may_ask : AnswersBy → (may : S → ℕ → Half → Type 0) (can : T → ℕ → Half → Type 0) (c : Content) (s : S) → P s
       → ((p : S) (e : ℕ) (h : Half) (w : Way) → P p → IsWay c e w → IsTrue (has_half w.ask h) → can (v p) e h → may p e h)
       → MayAsk can inner c (v s) → MayAsk may outer c s
@@ -51,7 +51,7 @@ module _ {S T : Type 0} (P : S → Type 0) (v : S → T) (outer : S → ℕ → 
       let moved = goes_along by s run t holds calls in
       asked t e h w moved.0 is half (all run (v t) offers moved.1 e h w is half)
 
--- an adapter that shows offers to the visitor in it keeps its context and its visitor's place
+-- the adapter that shows offers to a visitor keeps its context and the reference to the visitor
 module _ {V : Type 0} (may : V → Query → Link → Type 0) (gives : V → Query → Link → Bool → V → Type 0) where
   abbrev AdapterMay : Shown V → ℕ → Half → Type 0
   AdapterMay s e h = IsTrue (has_facts (offered s.cx.now.graph e h)) × showable may s.cx.now s.visitor.now e h
@@ -97,7 +97,7 @@ module _ {V : Type 0} (may : V → Query → Link → Type 0) (gives : V → Que
       subst (λ cx. IsTrue (has_facts (offered cx.now.graph e h)) × may p.visitor.now cx.now (offered cx.now.graph e h)) (sym stays.0) (offer_stands s.cx.now law built e h w is half, can))
       all)
 
--- what both ends of a walk say
+-- a property of both outcomes of a walk
 pub at_both_ends : {A E X : Type 0} (P : A → Type 0) (Q : Type 0) (r : Result A E) → IfOk r P → OnErr r Q → ((a : A) → P a → X) → (Q → X) → X
 at_both_ends P Q (Ok a) ok err f g = f a ok
 at_both_ends P Q (Err e) ok err f g = g err
@@ -106,13 +106,13 @@ pub on_err : {A E P : Type 0} (r : Result A E) → P → OnErr r P
 on_err (Ok a) p = tt
 on_err (Err e) p = p
 
--- a test by which each offer is answered agrees with the run
+-- a test that decides each offer agrees with the run
 pub agrees_along : {V : Type 0} (gives : V → ℕ → Half → Bool → V → Type 0) (A : ℕ → Half → Bool) (s : V) → AnswersAs gives A s → (run : List Call) (t : V) → GoesAlong gives s run t → Agrees A run
 agrees_along gives A s answers [] t along = tt
 agrees_along gives A s answers (call ∷ before) t (m, along, step) =
     (sym (answers before m t call.edge call.half call.answer along step), agrees_along gives A s answers before m along)
 
--- what is said of one of two equal queries is said of the other
+-- a run of one query is a run of every equal query
 pub run_moved : {V : Type 0} (gives : V → Query → Link → Bool → V → Type 0) (p q : Query) (s t : V) → p ≡ q → LegalRun (query_content p) (has p.initials) (shown gives p) s t → LegalRun (query_content q) (has q.initials) (shown gives q) s t
 run_moved gives p q s t is run = subst (λ z. LegalRun (query_content z) (has z.initials) (shown gives z) s t) is run
 

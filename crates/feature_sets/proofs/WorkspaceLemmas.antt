@@ -1,4 +1,4 @@
--- What a filter was asked, node by node.
+-- The calls of a filter, node by node.
 use Rattle.std.proofs.Common.{◌≡◌, ◌<◌, ℕ, zero, suc, ◌+◌, ◌++◌, ◌⊎◌, inl, inr, ⊎_elim, Bool, true, false, cond, List, [], ◌∷◌, length, map, filter, take, Some, refl, ap, sym, ◌∙◌, subst, arith, append-nil, replicate}
 use Rattle.std.specs.Prelude.{◌↔◌, IsTrue, slice_get, Contains}
 use Rattle.std.specs.List.{enumerate_from}
@@ -17,11 +17,11 @@ use Rattle.feature_sets.specs.Names.{IsAmong}
 use Rattle.feature_sets.specs.Filters.{Run, Ran, MayAskEach, AsksNode, SelectsByFilter, accepted, workspace_marks, workspace_names}
 use Rattle.feature_sets.specs.Values.{Graph}
 
--- the elements whose places pass, of which the first has the number q
+-- the elements whose indices pass, with indices from `q` on
 abbrev pub picked : {X : Type 0} → (ℕ → Bool) → ℕ → List X → List X
 picked passes q xs = map (λ p. p.1) (filter (λ p. passes p.0) (enumerate_from q xs))
 
--- one more element, where its place passes
+-- one more element, if its index passes
 pub picked-more : {X : Type 0} (passes : ℕ → Bool) (q : ℕ) (xs : List X) (n : ℕ) (x : X) → slice_get xs n ≡ Some x
     → picked passes q (take (suc n) xs) ≡ picked passes q (take n xs) ++ cond (passes (q + n)) (x ∷ []) []
 picked-more passes q [] n x at = cc
@@ -39,7 +39,7 @@ picked-more {X} passes q (y ∷ xs) (suc n) x at =
     ]
     ∙ ap (λ k. picked passes q (take (suc n) (y ∷ xs)) ++ cond (passes k) (x ∷ []) []) (omega arith)
 
--- what stands at a place that passes is picked
+-- an element whose index passes is picked
 picked_has : {X : Type 0} (passes : ℕ → Bool) (q : ℕ) (xs : List X) (n : ℕ) (x : X) → slice_get xs n ≡ Some x → passes (q + n) ≡ true → Contains (picked passes q xs) x
 picked_has passes q [] n x at h = cc
 picked_has {X} passes q (y ∷ xs) zero x at h =
@@ -55,7 +55,7 @@ picked_has {X} passes q (y ∷ xs) (suc n) x at h =
       | false ↦ rest
     ]
 
--- an element that stands in front stands at its place too when more are added
+-- an element of the first list keeps its index in the concatenation
 got_before : {X : Type 0} (xs ys : List X) (k : ℕ) (x : X) → slice_get xs k ≡ Some x → slice_get (xs ++ ys) k ≡ Some x
 got_before [] ys k x h = cc
 got_before (y ∷ xs) ys zero x h = h
@@ -71,7 +71,7 @@ got_pushed [] x (suc k) y h = cc
 got_pushed (z ∷ xs) x zero y h = inl h
 got_pushed (z ∷ xs) x (suc k) y h = got_pushed xs x k y h
 
--- a list has what stands at each place below its length
+-- an index below the length has an element
 got_at : {X : Type 0} (xs : List X) (n : ℕ) → n < length xs → (x : X) × (slice_get xs n ≡ Some x)
 got_at [] n h = absurd (omega arith)
 got_at (x ∷ xs) zero h = (x, refl)
@@ -103,7 +103,7 @@ module _ (t : Tables) where
         h),
   )
 
-  -- the nodes of one more name, where it was accepted
+  -- the nodes of one more name, if it was accepted
   among_answered : (names : List (Text × LabelName)) (name : Text × LabelName) (answer : Bool) (n : ℕ)
       → IsAmong t (names ++ cond answer (name ∷ []) []) n ↔ (IsAmong t names n ⊎ (IsTrue answer × NodeNamed t n name))
   among_answered names name true n =
@@ -118,7 +118,7 @@ module _ (t : Tables) where
       )
 
 module _ {S : Type 0} (gives : S → Graph → Text × LabelName → Bool → S → Type 0) (g : Graph) (s : S) where
-  -- the filter was asked for the workspace's nodes below this one
+  -- the filter was called for the workspace's nodes below this one
   pub record AskedBelow (node : ℕ) (t : S) (members : List Bool) : Type 0 where
     pub run : Run
     pub steps : Ran gives g s run t
@@ -157,7 +157,7 @@ module _ {S : Type 0} (gives : S → Graph → Text × LabelName → Bool → S 
       ∙ picked-more (has (workspace_marks g.tables)) 0 (nodes g.tables) node name named
       ∙ ap (λ z. picked (has (workspace_marks g.tables)) 0 (take node (nodes g.tables)) ++ cond z (name ∷ []) []) (mark_next node b mark)
 
-  -- a node that is not of the workspace is passed over
+  -- a node outside the workspace is skipped
   pub passed_over : (node : ℕ) (t : S) (members : List Bool) → node < length (nodes g.tables) → slice_get (workspace_marks g.tables) node ≡ Some false → AskedBelow node t members → AskedBelow (node + 1) t members
   passed_over node t members below mark h =
       let name = got_at (nodes g.tables) node below in record {
@@ -168,7 +168,7 @@ module _ {S : Type 0} (gives : S → Graph → Text × LabelName → Bool → S 
         exact = h.exact;
       }
 
-  -- a node of the workspace was asked for
+  -- the filter was called for a node of the workspace
   pub asked_one : (node : ℕ) (t u : S) (members new : List Bool) → slice_get (workspace_marks g.tables) node ≡ Some true → AsksNode gives g node t u members new → AskedBelow node t members → AskedBelow (node + 1) u new
   asked_one node t u members new mark asks h =
       let push = accepted-push h.run asks.name asks.answer in record {
@@ -192,7 +192,7 @@ module _ {S : Type 0} (gives : S → Graph → Text × LabelName → Bool → S 
     exact = record { size = h.size; exact = h.exact };
   }
 
-  -- a name of a node of the workspace is one of those that it may be asked for
+  -- the filter may be called for the name of a workspace node
   pub may_ask_node : (can : S → Graph → Text × LabelName → Type 0) (node : ℕ) (t : S) (members : List Bool) (name : Text × LabelName)
       → MayAskEach can gives g (workspace_names g.tables) s → slice_get (workspace_marks g.tables) node ≡ Some true → AskedBelow node t members → NodeNamed g.tables node name → can t g name
   may_ask_node can node t members name may mark h named =
@@ -200,7 +200,7 @@ module _ {S : Type 0} (gives : S → Graph → Text × LabelName → Bool → S 
       let passing : passes (0 + node) ≡ true = mark_next node true mark in
       may h.run t h.steps name (picked_has passes 0 (nodes g.tables) node name named passing)
 
--- what stands in two lists together stands in one of them
+-- an element of a concatenation is in one of its two lists
 got_apart : {X : Type 0} (xs ys : List X) (n : ℕ) (x : X) → slice_get (xs ++ ys) n ≡ Some x → (slice_get xs n ≡ Some x) ⊎ ((m : ℕ) × (slice_get ys m ≡ Some x))
 got_apart [] ys n x h = inr (n, h)
 got_apart (y ∷ xs) ys zero x h = inl h
@@ -226,7 +226,7 @@ package_below t n p h =
     let same : made.0.0 ≡ p = made.2 in
     omega arith
 
--- whether a node's package is of the workspace
+-- the mark of a node is whether its package is in the workspace
 pub mark_at : (t : Tables) (n p : ℕ) (table : PackageTable) (b : Bool) → slice_get (node_packages t) n ≡ Some p → slice_get t.packages p ≡ Some table → b ≡ table.in_workspace → slice_get (workspace_marks t) n ≡ Some b
 mark_at t n p table b at is same =
     let flags = map (λ (q : PackageTable). q.in_workspace) t.packages in

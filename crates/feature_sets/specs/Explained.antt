@@ -1,4 +1,4 @@
--- When steps that are told by names explain, and when they leave nothing out.
+-- Explanations whose steps are named, and complete ones.
 use Rattle.std.specs.Prelude.{◌≡◌, ◌↔◌, ℕ, Bool, List, Some, IsTrue, map, slice_get}
 use Rattle.guppy_support.specs.Bits.{has}
 use Rattle.guppy_packages.specs.Rows.{Text}
@@ -16,23 +16,23 @@ use Rattle.feature_sets.specs.Names.{HoldsExactly}
 use Rattle.feature_sets.specs.Told.{ReasonName, Explanation, offer_told, step_told}
 use Rattle.feature_sets.specs.Values.{Graph}
 
--- these steps of the graph are told so
+-- the names of the steps
 abbrev pub AreTold : Graph → List Step → List ((Text × LabelName) × ReasonName) → Type 0
 AreTold g steps told = map (step_told g) steps ≡ map Some told
 
--- these offers of the graph are told so
+-- the names of the offers
 abbrev pub OffersAreTold : Graph → List (ℕ × Half) → List ((Text × LabelName) × (Text × LabelName) × LinkDeclarations) → Type 0
 OffersAreTold g offers told = map (offer_told g) offers ≡ map Some told
 
--- the entries tell this offer
+-- one of the entries names this offer
 abbrev pub IsListed : Graph → List ((Text × LabelName) × (Text × LabelName) × LinkDeclarations) → ℕ → Half → Type 0
 IsListed g entries e h = (k : ℕ) × (entry : (Text × LabelName) × (Text × LabelName) × LinkDeclarations) × (slice_get entries k ≡ Some entry) × (offer_told g (e, h) ≡ Some entry)
 
--- of the graph's offers, those are refused that the entries tell; an entry that tells none refuses nothing
+-- an offer of the graph is refused if an entry names it; the other entries are ignored
 abbrev pub AreRefused : Graph → DependencyDirection → List ((Text × LabelName) × (Text × LabelName) × LinkDeclarations) → List (ℕ × Half) → Type 0
 AreRefused g direction entries refused = (e : ℕ) (h : Half) → IsOffer (content_of direction g.built) e h → IsTrue (is_refused refused e h) ↔ IsListed g entries e h
 
--- the steps that are told so explain their features from the initial ones of these names
+-- the named steps explain their features, from the initial features `names`
 pub record Explains (g : Graph) (direction : DependencyDirection) (names : List (Text × LabelName)) (told : List ((Text × LabelName) × ReasonName)) : Type 0 where
   pub initials : List Bool
   pub are_initials : HoldsExactly g.tables initials names
@@ -40,7 +40,8 @@ pub record Explains (g : Graph) (direction : DependencyDirection) (names : List 
   pub are_steps : AreTold g steps told
   pub explanation : IsExplanation (content_of direction g.built) (has initials) every steps
 
--- and leave nothing out: by offers that the entries don't tell, and all features that these and the edges lead to are listed
+-- The named steps explain their features by offers that no entry names, and list every feature that edges and those
+-- offers lead to.
 pub record ExplainsAll (g : Graph) (direction : DependencyDirection) (names : List (Text × LabelName)) (told : List ((Text × LabelName) × ReasonName)) (entries : List ((Text × LabelName) × (Text × LabelName) × LinkDeclarations)) : Type 0 where
   pub initials : List Bool
   pub are_initials : HoldsExactly g.tables initials names
@@ -50,7 +51,7 @@ pub record ExplainsAll (g : Graph) (direction : DependencyDirection) (names : Li
   pub are_refused : AreRefused g direction entries refused
   pub exact : IsExact (content_of direction g.built) (has initials) refused steps
 
--- the steps that are told so are those on which the node rests, among all of the explanation
+-- the named steps are those on which the node rests, among all steps of the explanation
 pub record ExplainsOne (x : Explanation) (initials : List Bool) (A : ℕ → Half → Bool) (node : ℕ) (told : List ((Text × LabelName) × ReasonName)) : Type 0 where
   pub steps : List Step
   pub are_steps : AreTold x.graph steps told

@@ -1,4 +1,4 @@
--- Filters over features: what it is to ask one at several places, and what the standard ones accept.
+-- Filters over features: calls of a filter for several features, and the standard filters.
 use Rattle.std.specs.Prelude.{◌≡◌, ◌↔◌, ◌⊎◌, ℕ, Bool, List, IsTrue, Contains, map, filter, length}
 use Rattle.std.specs.List.{FoldsTo}
 use Rattle.guppy_support.specs.Bits.{has}
@@ -14,23 +14,23 @@ use Rattle.feature_sets.specs.declared.filter.FeatureFilterFn.{FeatureFilterFn}
 use Rattle.feature_sets.specs.declared.standard_features.StandardFeatures.{StandardFeatures}
 use Rattle.feature_sets.specs.declared.standard_features.StandardFeatures.TheVariants.{None, Default, All}
 
--- questions with their answers
+-- the names for which a filter was called, with its results
 abbrev pub Run : Type 0
 Run = List ((Text × LabelName) × Bool)
 
--- the questions took the filter's state from s to t, each answer a step
+-- these calls took the filter from the state `s` to `t`
 abbrev pub Ran : {S : Type 0} → (S → Graph → Text × LabelName → Bool → S → Type 0) → Graph → S → Run → S → Type 0
 Ran gives g s run t = FoldsTo (λ p x q. gives p g x.0 x.1 q) s run t
 
--- it may be asked for each of these names, in every state that such questions lead to
+-- the filter may be called for each of these names, in every state that such calls lead to
 abbrev pub MayAskEach : {S : Type 0} → (S → Graph → Text × LabelName → Type 0) → (S → Graph → Text × LabelName → Bool → S → Type 0) → Graph → List (Text × LabelName) → S → Type 0
 MayAskEach {S} can gives g names s = (run : Run) (t : S) → Ran gives g s run t → (name : Text × LabelName) → Contains names name → can t g name
 
--- the names whose answer is true
+-- the names for which the filter returned true
 abbrev pub accepted : Run → List (Text × LabelName)
 accepted run = map (λ x. x.0) (filter (λ x. x.1) run)
 
--- for each node, whether its package is of the workspace
+-- for each node, whether its package is in the workspace
 abbrev pub workspace_marks : Tables → List Bool
 workspace_marks t = map (λ p. has (map (λ table. table.in_workspace) t.packages) p) (node_packages t)
 
@@ -38,15 +38,15 @@ workspace_marks t = map (λ p. has (map (λ table. table.in_workspace) t.package
 abbrev pub workspace_names : Tables → List (Text × LabelName)
 workspace_names t = names_of_members t (workspace_marks t)
 
--- The filter was asked once for each feature of the workspace's packages, in the order of the nodes, and these nodes are
--- those that it accepted.
+-- The filter was called once for each feature of the workspace's packages, in the order of the nodes. The initial nodes
+-- are those that it accepted.
 pub record SelectsByFilter {S : Type 0} (gives : S → Graph → Text × LabelName → Bool → S → Type 0) (g : Graph) (s t : S) (initials : List Bool) : Type 0 where
   pub run : Run
   pub steps : Ran gives g s run t
   pub each : map (λ x. x.0) run ≡ workspace_names g.tables
   pub exact : HoldsExactly g.tables initials (accepted run)
 
--- The filter was asked for the feature of this node, and the nodes of its name are added where it accepted.
+-- The filter was called for the feature of this node, and the node was inserted if the filter accepted it.
 pub record AsksNode {S : Type 0} (gives : S → Graph → Text × LabelName → Bool → S → Type 0) (g : Graph) (node : ℕ) (s t : S) (old new : List Bool) : Type 0 where
   pub name : Text × LabelName
   pub named : NodeNamed g.tables node name
@@ -59,7 +59,7 @@ pub record AsksNode {S : Type 0} (gives : S → Graph → Text × LabelName → 
 abbrev pub closure_of : {F : Type 0} → FeatureFilterFn F → F
 closure_of f = f.0
 
--- what is answered for the feature of this name
+-- the result of a standard filter for the feature of this name
 abbrev pub StandardAccepts : StandardFeatures → Tables → Text × LabelName → Bool → Type 0
 StandardAccepts None t name answer = IsTrue answer ↔ (name.1 ≡ base)
 StandardAccepts Default t name answer = TellsDefault t name answer

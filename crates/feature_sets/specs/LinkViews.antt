@@ -1,4 +1,4 @@
--- Links of features, without where they lie in memory.
+-- Links between features as values.
 use Rattle.feature_sets.specs.LinkValues.{Link}
 use Rattle.feature_sets.specs.Views.{graph_of}
 use Rattle.feature_sets.specs.declared.link.ConditionalLink.{ConditionalLink}

@@ -1,4 +1,4 @@
--- What the order of a graph shows of a set: its members, the edges and links between them, its roots.
+-- A set in the order of its graph: its members, the edges and links between them, its roots.
 use Rattle.std.specs.Prelude.{ℕ, List, Option, None, map, filter, slice_get}
 use Rattle.std.specs.List.{filter_map}
 use Rattle.std.specs.Borrow.{Bor}
@@ -27,31 +27,31 @@ use Rattle.feature_sets.specs.Views.{feature_name_of, feature_tables_of}
 use Rattle.feature_sets.specs.Visits.{offered}
 use Rattle.feature_sets.specs.declared.metadata.FeatureMetadata.{FeatureMetadata}
 
--- P holds of the order of the graph, with its components
+-- `P` holds for the order of the graph, with its components
 abbrev pub AtOrder : Graph → (Sequence → Type 0) → Type 0
 AtOrder g P = (o : Sequence) × IsOrderOf (digraph_of g.built) o × P o
 
--- which way a direction reads the order
+-- the reading of the order for a direction
 abbrev pub reading_of : DependencyDirection → Reading
 reading_of Forward = reading.Forward
 reading_of Reverse = reading.Backward
 
--- the edges between the graph's nodes
+-- the edges between the nodes of the graph
 abbrev pub edges_of : Graph → List Edge
 edges_of g = (digraph_of g.built).edges
 
--- features by their names, each with the tables that it is of
+-- features by their names, each with its tables
 abbrev pub features_named : Tables → List (Text × LabelName) → List (Tables × (Text × LabelName))
 features_named t names = map (λ name. (t, name)) names
 
 abbrev pub feature_of : FeatureMetadata → Tables × (Text × LabelName)
 feature_of m = (feature_tables_of m, feature_name_of m)
 
--- the members' nodes in order
+-- the nodes of the members, in order
 abbrev pub ordered_nodes : DependencyDirection → Set → Sequence → List ℕ
 ordered_nodes direction s o = in_order (reading_of direction) o.list s.members
 
--- the members' names in order
+-- the names of the members, in order
 abbrev pub ordered_names : DependencyDirection → Set → Sequence → List (Text × LabelName)
 ordered_names direction s o = names_of_nodes s.graph.tables (ordered_nodes direction s o)
 
@@ -59,11 +59,11 @@ ordered_names direction s o = names_of_nodes s.graph.tables (ordered_nodes direc
 abbrev pub ordered_edges : DependencyDirection → Set → Sequence → List ℕ
 ordered_edges direction s o = links_in_order (reading_of direction) (edges_of s.graph) o.list s.members
 
--- the names of the roots in order
+-- the names of the roots, in order
 abbrev pub root_names : DependencyDirection → Set → Sequence → List (Text × LabelName)
 root_names direction s o = names_of_nodes s.graph.tables (roots_in_order (reading_of direction) (edges_of s.graph) o s.members)
 
--- the names of an edge's two features, and what the edge says
+-- the names of an edge's two features, and the facts of the edge
 abbrev pub edge_said : Graph → ℕ → Option ((Text × LabelName) × (Text × LabelName) × EdgeFacts)
 edge_said g k =
     option_map_or
@@ -76,6 +76,6 @@ edges_said g numbers = filter_map (edge_said g) numbers
 abbrev pub said_by : FeatureId × FeatureId × Bor FeatureEdge → (Text × LabelName) × (Text × LabelName) × EdgeFacts
 said_by p = (id_of p.0, id_of p.1, edge_facts p.2.now)
 
--- the full links of those of these edges that are conditional
+-- the full links of the conditional edges among these
 abbrev pub full_links : Graph → List ℕ → List Link
 full_links g numbers = map (λ k. offered g k Full) (filter (λ k. has_facts (offered g k Full)) numbers)

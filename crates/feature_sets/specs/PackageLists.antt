@@ -1,4 +1,4 @@
--- The features of one package that a set has.
+-- The members of a set that belong to one package.
 use Rattle.std.specs.Prelude.{◌≡◌, ◌↔◌, ℕ, List, Bool, Option, Some, IsTrue, IsFalse, MatchOption, Contains}
 use Rattle.guppy_support.specs.Bits.{has}
 use Rattle.guppy_packages.specs.Rows.{Text}
@@ -9,11 +9,11 @@ use Rattle.feature_labels.specs.Lists.{Ascends, ListValue}
 use Rattle.feature_labels.specs.Names.{LabelName}
 use Rattle.feature_sets.specs.Packages.{has_member_of}
 
--- this label of package p is a member
+-- the feature of package `p` with this label is a member
 abbrev pub HasMemberAt : Tables → List Bool → ℕ → LabelName → Type 0
 HasMemberAt t members p label = (n : ℕ) × NodeAt t n p label × IsTrue (has members n)
 
--- exactly the labels of package p that are members, sorted and each once, as a list of the package in these tables
+-- the list of the labels of package `p` that are members, sorted and each once
 pub record ListsMembers (t : Tables) (members : List Bool) (p : ℕ) (list : ListValue) : Type 0 where
   pub of_graph : list.graph ≡ t
   pub at_place : list.number ≡ p
@@ -23,7 +23,7 @@ pub record ListsMembers (t : Tables) (members : List Bool) (p : ℕ) (list : Lis
   pub labels : (label : LabelName) → Contains list.labels label ↔ HasMemberAt t members p label
   pub ascends : Ascends list.labels
 
--- the members of the package of this id, which the graph has, or nothing where none of its features is a member
+-- the graph has the package with this id, and `answer` lists its members, or is `None` if it has no member
 pub record TellsFeatures (t : Tables) (members : List Bool) (id : Text) (answer : Option ListValue) : Type 0 where
   pub place : ℕ
   pub is_package : package_place id t.packages ≡ Some place

@@ -1,4 +1,4 @@
--- The features of a set package by package, in the order of packages.
+-- The members of a set by package, in the order of packages.
 use Rattle.std.specs.Prelude.{◌≡◌, ℕ, List, filter, map, reverse}
 use Rattle.digraph_orders.specs.Orders.{IsOrder}
 use Rattle.guppy_packages.specs.PackageOrder.{digraph_of_packages}
@@ -9,24 +9,24 @@ use Rattle.feature_sets.specs.PackageLists.{ListsMembers}
 use Rattle.feature_sets.specs.Packages.{has_member_of}
 use Rattle.feature_sets.specs.Values.{Set}
 
--- an order as a direction reads it
+-- an order in a direction: reversed for `Reverse`
 abbrev pub as_read : DependencyDirection → List ℕ → List ℕ
 as_read Forward order = order
 as_read Reverse order = reverse order
 
--- those of these packages of which a feature is a member
+-- the packages with a member, among these
 abbrev pub with_members : Set → List ℕ → List ℕ
 with_members s numbers = filter (λ p. has_member_of s.graph.tables s.members p) numbers
 
--- packages by their numbers, each beside the set
+-- packages by their numbers, each paired with the set
 abbrev pub beside : Set → List ℕ → List (Set × ℕ)
 beside s numbers = map (λ p. (s, p)) numbers
 
--- the list has exactly the set's features of the package
+-- the list has exactly the set's features in the package
 abbrev pub IsOfPackage : ListValue → Set × ℕ → Type 0
 IsOfPackage list p = ListsMembers p.0.graph.tables p.0.members p.1 list
 
--- these are the packages of which the set has a feature, in the order of packages, or exactly backwards
+-- the packages with a member, in the order of packages, reversed for `Reverse`
 pub record ListsByPackage (direction : DependencyDirection) (s : Set) (packages : List (Set × ℕ)) : Type 0 where
   pub order : List ℕ
   pub is_order : IsOrder (digraph_of_packages s.graph.tables).edges (digraph_of_packages s.graph.tables).nodes order

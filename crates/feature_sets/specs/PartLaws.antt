@@ -1,4 +1,4 @@
--- What holds of the parts that a callback's answers make of a set.
+-- Laws of the parts of a set.
 use Rattle.std.specs.Prelude.{◌≡◌, ◌||◌, ℕ, Bool, List, IsTrue, map, not, length}
 use Rattle.guppy_support.specs.Bits.{has}
 use Rattle.digraph_orders.specs.Sequences.{Sequence, IsOrderOf}
@@ -8,17 +8,18 @@ use Rattle.feature_sets.specs.Ordered.{ordered_nodes}
 use Rattle.feature_sets.specs.Parts.{IsPart, is_yes}
 use Rattle.feature_sets.specs.Values.{Set}
 
--- the parts have no feature in common, and have exactly the features of the set
+-- the parts are disjoint, and their union is the set
 pub record AreSplit (s a b : Set) : Type 0 where
   pub apart : (n : ℕ) → IsTrue (has a.members n) → ¬ IsTrue (has b.members n)
   pub whole : (n : ℕ) → has s.members n ≡ (has a.members n || has b.members n)
 
--- where each feature of the set was answered once, the features with yes and those with no split the set
+-- if the callback was called once for each feature of the set, the features with true and those with false split the
+-- set
 abbrev pub PartitionIsSplit : Type 0
 PartitionIsSplit =
     (direction : DependencyDirection) (s a b : Set) (o : Sequence) (calls : List (ℕ × Bool)) → IsOrderOf (digraph_of s.graph.built) o → length s.members ≡ length o.list
     → map (λ x. x.0) calls ≡ ordered_nodes direction s o → IsPart is_yes calls s a → IsPart not calls s b → AreSplit s a b
 
--- the same answers make the same part
+-- the same results make the same part
 abbrev pub FilterIsFirst : Type 0
 FilterIsFirst = (s a c : Set) (calls : List (ℕ × Bool)) → IsPart is_yes calls s a → IsPart is_yes calls s c → (n : ℕ) → has a.members n ≡ has c.members n

@@ -1,4 +1,4 @@
--- Callbacks over the features of a set, and the parts that their answers make.
+-- Calls of a callback for the features of a set, and the parts that its results make.
 use Rattle.std.specs.Prelude.{◌≡◌, ◌↔◌, ℕ, Bool, false, List, Option, Some, None, IsTrue, Contains, map, not, length}
 use Rattle.std.specs.List.{FoldsTo}
 use Rattle.guppy_support.specs.Bits.{has}
@@ -11,29 +11,29 @@ use Rattle.feature_sets.specs.Values.{Set}
 use Rattle.feature_sets.specs.Views.{feature_name_of, feature_tables_of}
 use Rattle.feature_sets.specs.declared.metadata.FeatureMetadata.{FeatureMetadata}
 
--- the callback was called with the feature of the node, and gave the answer
+-- the callback was called with the feature of the node, and returned this result
 pub record CallsAt {F A : Type 0} (step : F → FeatureMetadata → A → F → Type 0) (t : Tables) (f : F) (call : ℕ × A) (g : F) : Type 0 where
   pub feature : FeatureMetadata
   pub of_graph : feature_tables_of feature ≡ t
   pub named : NodeNamed t call.0 (feature_name_of feature)
   pub call_step : step f feature call.1 g
 
--- the callback was called once for the feature of each of these nodes, in their order, and answered so
+-- the callback was called once for the feature of each of these nodes, in their order, with these results
 pub record CalledEach {F A : Type 0} (step : F → FeatureMetadata → A → F → Type 0) (t : Tables) (numbers : List ℕ) (f g : F) (calls : List (ℕ × A)) : Type 0 where
   pub each : map (λ x. x.0) calls ≡ numbers
   pub steps : FoldsTo (λ p x q. CallsAt step t p x q) f calls g
 
--- the callback was called for each feature of the set, in order, and P holds of its answers
+-- the callback was called for each feature of the set, in order, and `P` holds for its results
 abbrev pub Calls : {F A : Type 0} → (F → FeatureMetadata → A → F → Type 0) → DependencyDirection → Set → F → F → (List (ℕ × A) → Type 0) → Type 0
 Calls {F} {A} step direction s f g P = AtOrder s.graph (λ o. (calls : List (ℕ × A)) × CalledEach step s.graph.tables (ordered_nodes direction s o) f g calls × P calls)
 
--- the part of a set that has the nodes whose answers pass the test
+-- the part of a set with the nodes whose results pass the test
 pub record IsPart {A : Type 0} (test : A → Bool) (calls : List (ℕ × A)) (s part : Set) : Type 0 where
   pub graph : part.graph ≡ s.graph
   pub size : length part.members ≡ length (nodes s.graph.tables)
   pub exact : (n : ℕ) → IsTrue (has part.members n) ↔ ((a : A) × Contains calls (n, a) × IsTrue (test a))
 
--- answers of a callback that may say which part, or neither
+-- an optional result chooses the first part, the second or neither
 abbrev pub says_first : Option Bool → Bool
 says_first None = false
 says_first (Some b) = b

@@ -1,4 +1,4 @@
--- Sets of features as values: when their graphs count as one, when they are equal, and how two make a third.
+-- Sets of features as values: equality of their graphs, equality of sets, and combinations of two sets.
 use Rattle.std.specs.Prelude.{◌≡◌, ℕ, Bool, ◌&&◌, not, nat_eq, length}
 use Rattle.std.specs.Cmp.{IsEquivalence}
 use Rattle.std.specs.Cmp.Lexicographic.{pointwise}
@@ -15,7 +15,7 @@ pub record SameGraph (g h : Graph) : Type 0 where
   pub stamp : g.built.stamp ≡ h.built.stamp
   pub names : nodes g.tables ≡ nodes h.tables
 
--- equal sets: their graphs count as one, and they have the same members
+-- two sets are equal: their graphs count as one, and they have the same members
 pub record AreEqualSets (a b : Set) : Type 0 where
   pub graph : SameGraph a.graph b.graph
   pub members : members a.members ≡ members b.members
@@ -41,13 +41,12 @@ graph_eq_equiv = and_equiv (on_equiv (λ (g : Graph). g.built.stamp) nat_eq_equi
 pub set_eq_equiv : IsEquivalence set_eq
 set_eq_equiv = and_equiv (on_equiv (λ (s : Set). s.graph) graph_eq_equiv) (on_equiv (λ (s : Set). members s.members) nat_list_eq_equiv)
 
--- the third set stands over the first one's graph, and the test says of each node, by whether the first and the second have
--- it, whether the third has it
+-- `c` is over the graph of `a`; the test decides whether a node is in `c`, from whether `a` and `b` have it
 pub record IsCombined (test : Bool → Bool → Bool) (a b c : Set) : Type 0 where
   pub graph : c.graph ≡ a.graph
   pub size : length c.members ≡ length (nodes a.graph.tables)
   pub each : (n : ℕ) → has c.members n ≡ test (has a.members n) (has b.members n)
 
--- the first holds and the second doesn't
+-- true for the first alone
 abbrev pub first_alone : Bool → Bool → Bool
 first_alone a b = a && not b

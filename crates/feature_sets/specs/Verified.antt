@@ -1,4 +1,4 @@
--- What verifying a graph finds.
+-- The result of verifying a graph.
 use Rattle.std.specs.Prelude.{◌≡◌, ◌<◌, ℕ, List, Some, IsTrue, IsFalse, slice_get}
 use Rattle.guppy_packages.specs.Rows.{Text}
 use Rattle.guppy_packages.specs.Tables.{Tables}
@@ -8,7 +8,7 @@ use Rattle.feature_links.specs.Facts.{EdgeFacts, full_link, is_present, has_pres
 use Rattle.feature_core.specs.Errors.{Refusal, unknown_package, unknown_feature, internal_error, no_memory}
 use Rattle.feature_links.specs.Links.{LinkFacts}
 
--- the first of these edges whose link is present for no kind leads from the feature of this name to that of the other
+-- the first edge whose link is present for no kind, from the feature named `from` to the feature named `to`
 pub record IsFirstAbsent (t : Tables) (edges : List (ℕ × ℕ × EdgeFacts)) (from to : Text × LabelName) : Type 0 where
   pub place : ℕ
   pub edge : ℕ × ℕ × EdgeFacts
@@ -20,7 +20,7 @@ pub record IsFirstAbsent (t : Tables) (edges : List (ℕ × ℕ × EdgeFacts)) (
   pub from_node : NodeNamed t edge.0 from
   pub to_node : NodeNamed t edge.1 to
 
--- why the edges were refused
+-- the error of a graph with such an edge
 abbrev pub RefusesEdges : Tables → List (ℕ × ℕ × EdgeFacts) → Refusal → Type 0
 RefusesEdges t edges (internal_error from to) = IsFirstAbsent t edges from to
 RefusesEdges t edges (unknown_package id) = ⊥

@@ -1,4 +1,4 @@
--- Views of a feature graph, without where they lie in memory.
+-- Features of a graph as values.
 use Rattle.std.specs.Prelude.{ℕ}
 use Rattle.guppy_packages.specs.Rows.{Text}
 use Rattle.guppy_packages.specs.Tables.{Tables}
@@ -21,7 +21,7 @@ built_of g = (graph_of g).built
 abbrev pub stamp_of : FeatureGraph → ℕ
 stamp_of g = (built_of g).stamp
 
--- the name of the feature, and the tables that it is of
+-- the name of the feature
 abbrev pub feature_name_of : FeatureMetadata → Text × LabelName
 feature_name_of m = (package_id_of m.package, label_of m.label)
 

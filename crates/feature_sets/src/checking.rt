@@ -1,4 +1,4 @@
-//! Checks of explanations that are told by ids.
+//! Checks of explanations whose features are ids.
 ghost use Rattle.std.specs.Prelude.{◌≡◌, ◌↔◌, IsTrue, IfOk, IfErr, map};
 ghost use Rattle.feature_labels.specs.Names.{id_of};
 ghost use Rattle.feature_core.specs.Errors.{refusal_of};
@@ -17,10 +17,12 @@ use std::alloc::Global;
 impl<'g> FeatureGraph<'g> {
     ghost use Rattle.feature_sets.specs.Views.{graph_of, tables_of_graph};
 
-    /// Whether the steps are an explanation from these initial features, as the direction follows edges: no feature twice, and for
-    /// each a reason that holds by the steps before it. Whoever made them isn't trusted: an id that the graph lacks, or a link
-    /// that it doesn't offer, gives false. The first of the initial ids that the graph lacks is an error, found before memory is
-    /// asked for. Linear in the steps and the graph's features.
+    /// Checks whether `steps` is an explanation from `initials` in `direction`: each feature is listed once, with a
+    /// reason that holds by the steps before it.
+    ///
+    /// Returns false if a step names an id that the graph lacks, or a link that it doesn't offer; so `steps` may come
+    /// from anyone. The error is `UnknownFeatureId` with the first unknown id of `initials`, found before any
+    /// allocation, or `Memory`. Linear in `steps` and in the features of the graph.
     pub fn check_explanation<'a>(
         &self,
         alloc: Global,
@@ -42,10 +44,11 @@ impl<'g> FeatureGraph<'g> {
         }
     }
 
-    /// Whether the steps are an explanation that leaves nothing out: no reason is a refused link, and the features that are listed
-    /// hold the initial ones and all that edges and links that aren't refused lead to. A refused entry that is no link which the
-    /// graph offers refuses nothing. Otherwise as `check_explanation`, and linear in the refused and in the edges of the listed
-    /// features too.
+    /// Checks whether `steps` is a complete explanation: no reason is a link in `refused`, and the listed features
+    /// contain `initials` and are closed under the edges and the other links.
+    ///
+    /// An entry of `refused` that is no link of the graph is ignored. Otherwise as `check_explanation`, and linear also
+    /// in `refused` and in the edges of the listed features.
     pub fn check_exact<'a>(
         &self,
         alloc: Global,

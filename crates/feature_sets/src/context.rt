@@ -1,4 +1,4 @@
-//! What a visitor of links is told beside the link.
+//! The context of a visitor: the query that is being resolved.
 ghost use Rattle.std.specs.Prelude.{◌≡◌, ◌↔◌, IfOk, IfErr, IsTrue};
 ghost use Rattle.feature_sets.specs.Visits.{StartsFromInitial};
 
@@ -10,7 +10,7 @@ use std::alloc::Global;
 use std::fmt;
 use std::marker::Model;
 
-/// What a visitor is told beside the link: the query that is resolved. A contract sees it as the query.
+/// The context in which a visitor sees a link: the query that is being resolved. A contract sees it as the query.
 #[derive(Drop)]
 pub struct FeatureLinkContext<'g> {
     query: FeatureQuery<'g>,
@@ -27,29 +27,29 @@ impl<'g> Model for FeatureLinkContext<'g> {
 impl<'g> FeatureLinkContext<'g> {
     ghost use Rattle.feature_sets.specs.LinkViews.{link_of};
 
-    /// The context of a query.
+    /// Returns the context of `query`.
     pub(crate) fn new(query: FeatureQuery<'g>) -> Self
         ensures { result ≡ query.entry }
     {
         FeatureLinkContext { query }
     }
 
-    /// The query that is resolved.
+    /// Returns the query that is being resolved.
     pub fn query(&self) -> &FeatureQuery<'g>
         ensures { result.now ≡ self.now }
     {
         &self.query
     }
 
-    /// The way that the query follows edges.
+    /// Returns the direction of the query.
     pub fn direction(&self) -> DependencyDirection
         ensures { result ≡ self.now.direction }
     {
         self.query.direction()
     }
 
-    /// Whether the feature that the link starts at, in the query's direction, is one that the query starts from. Features
-    /// are compared by their ids, so a link of another graph may be asked too.
+    /// Returns true if the query starts from the feature at which `link` starts, in the query's direction. Features are
+    /// compared by their ids, so `link` may belong to another graph.
     pub fn starts_from_initial(&self, link: &ConditionalLink<'_>) -> bool
         ensures { IsTrue result ↔ StartsFromInitial self.now (link_of link.now) }
     {
@@ -63,7 +63,7 @@ impl<'g> FeatureLinkContext<'g> {
         }
     }
 
-    /// An equal context. It fails only where memory is refused.
+    /// Returns an equal context; `Memory` is the only error.
     pub fn try_clone(&self, alloc: Global) -> Result<FeatureLinkContext<'g>, Error<'static>>
         ensures same { IfOk result (λ cx. cx ≡ self.now) }
         ensures refused { IfErr result (λ e. e ≡ Error.Memory) }

@@ -22,23 +22,23 @@ use std::fmt;
 use std::iter::FusedIterator;
 use std::marker::Model;
 
-/// The cycles of a feature graph.
+/// A view of the cycles of a feature graph.
 #[derive(Clone, Copy)]
 pub struct Cycles<'g> {
     graph: FeatureGraph<'g>,
 }
 
 impl<'g> Cycles<'g> {
-    /// The cycles of this graph.
+    /// Returns the cycles of `graph`.
     pub(crate) fn new(graph: FeatureGraph<'g>) -> Self
         ensures { cycles_of result ≡ graph_of graph.entry }
     {
         Cycles { graph }
     }
 
-    /// Whether two features lie on a common cycle: a nonempty path of edges leads from the first to the second, and one back.
-    /// So a feature is cyclic with itself only where a cycle leads through it. The first one of the two that the graph doesn't
-    /// have is an error.
+    /// Returns true if `a` and `b` lie on a common cycle: a nonempty path of edges leads from `a` to `b`, and one leads
+    /// back. So a feature is cyclic with itself only if it lies on a cycle. The error is `UnknownFeatureId` with the
+    /// first of `a` and `b` that the graph lacks.
     pub fn is_cyclic<'a>(&self, a: FeatureId<'a>, b: FeatureId<'a>) -> Result<bool, Error<'a>>
         ensures told { IfOk result (λ answer. TellsTied (OnCycle (edges_of (cycles_of self.now))) (cycles_of self.now).tables (id_of a.entry) (id_of b.entry) answer) }
         ensures refused { IfErr result (λ e. RefusesTwo (cycles_of self.now).tables (id_of a.entry) (id_of b.entry) (refusal_of e)) }
@@ -48,9 +48,9 @@ impl<'g> Cycles<'g> {
         Ok(is_cyclic(built.order(), built.digraph(), first, second))
     }
 
-    /// The components of the graph that have a cycle: those of two features or more, and the features with an edge to
-    /// themselves. The last component in the order of the graph comes first, and the ids of one component come in the order.
-    /// Memory is taken for each item alone.
+    /// Returns an iterator over the components that have a cycle: two or more features, or one with an edge to itself.
+    /// The last component in the graph's order is first, and the ids of one component are in that order. Each item
+    /// allocates on its own.
     pub fn all_cycles(&self, alloc: Global) -> AllCycles<'g>
         ensures { AtOrder (cycles_of self.now) (λ o. result ≡ cycle_names (cycles_of self.now) o) }
     {
@@ -75,7 +75,7 @@ impl fmt::Debug for Cycles<'_> {
     }
 }
 
-/// The ids of these nodes.
+/// Returns the ids of the nodes in `numbers`.
 fn ids_of<'g>(
     alloc: Global,
     graph: FeatureGraph<'g>,
@@ -91,15 +91,15 @@ fn ids_of<'g>(
     Ok(ids)
 }
 
-/// The cycles of a graph that are left, each as the ids of its features, in order. After an error, which comes where memory
-/// is refused, none is left.
+/// An iterator over the cycles of a graph, each as the ids of its features in order. It ends after an error, which is
+/// `Memory`.
 #[derive(Drop)]
 pub struct AllCycles<'g> {
     alloc: Global,
     graph: FeatureGraph<'g>,
     order: &'g Order,
     components: &'g [usize],
-    // so many components are passed
+    // the number of components already passed
     passed: usize,
 }
 

@@ -1,4 +1,4 @@
-//! Whether a feature depends on another one.
+//! Tests whether one feature depends on another.
 ghost use Rattle.std.specs.Prelude.{◌≡◌, ◌<◌, ◌∷◌, [], IfOk, IfErr, length};
 ghost use Rattle.guppy_support.specs.Paths.{HasEdge, Path};
 ghost use Rattle.feature_labels.specs.Names.{id_of};
@@ -17,7 +17,7 @@ use order_views::depends_on;
 use std::alloc::Global;
 
 impl<'g> FeatureGraph<'g> {
-    /// The nodes of two features. The first one of the two that the graph doesn't have is an error.
+    /// Returns the nodes of `a` and `b`. The error is `UnknownFeatureId` with the first of them that the graph lacks.
     pub(crate) fn nodes_of_two<'a>(
         &self,
         a: FeatureId<'a>,
@@ -37,8 +37,8 @@ impl<'g> FeatureGraph<'g> {
         Ok((first, second))
     }
 
-    /// Whether an edge leads from the first feature to the second. The first one of the two that the graph doesn't have is
-    /// an error.
+    /// Returns true if an edge leads from `a` to `b`. The error is `UnknownFeatureId` with the first of them that the
+    /// graph lacks.
     pub fn directly_depends_on<'a>(
         &self,
         a: FeatureId<'a>,
@@ -51,8 +51,8 @@ impl<'g> FeatureGraph<'g> {
         Ok(self.built.digraph().edge_between(first, second).is_some())
     }
 
-    /// Whether a path of edges leads from the first feature to the second; from a feature to itself the empty one does. The
-    /// first one of the two that the graph doesn't have is an error, found before memory is asked for.
+    /// Returns true if a path of edges leads from `a` to `b`; from a feature to itself the empty path does. The error
+    /// is `UnknownFeatureId` with the first of them that the graph lacks, found before any allocation, or `Memory`.
     pub fn depends_on<'a>(
         &self,
         alloc: Global,
@@ -69,7 +69,7 @@ impl<'g> FeatureGraph<'g> {
         }
     }
 
-    /// The cycles of the graph.
+    /// Returns the cycles of the graph.
     pub fn cycles(&self) -> Cycles<'g>
         ensures { cycles_of result ≡ graph_of self.now }
     {

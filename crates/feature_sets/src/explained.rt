@@ -1,4 +1,4 @@
-//! What a resolve explains: for each feature of the set why it is there.
+//! Explained sets: a resolved set with the reason for each of its features.
 ghost use Rattle.std.specs.Prelude.{◌≡◌, ℕ, Bool, List, Some, IsFalse, IfOk, IfErr, MatchOption, ◌∷◌, [], length, map};
 ghost use Rattle.guppy_support.specs.Bits.{has};
 ghost use Rattle.feature_labels.specs.Names.{id_of};
@@ -25,20 +25,19 @@ use std::fmt;
 use std::marker::Model;
 use walk_engine::{Half, Step};
 
-/// Why a feature is in a set.
+/// The reason why a feature is in a set.
 #[derive(Clone, Copy, Debug, PartialEq, Eq)]
 pub enum Reason<'g> {
-    /// The query starts from it.
+    /// The query starts from the feature.
     Initial,
-    /// An edge that isn't conditional ties it to an earlier feature: the feature that the edge leads from, and the one that it
-    /// leads to. Forward the former is the earlier one, and in reverse the latter.
+    /// An unconditional edge connects it to an earlier feature: to `from` in a forward query, to `to` in a
+    /// reverse one.
     Edge {
         from: FeatureId<'g>,
         to: FeatureId<'g>,
     },
-    /// An accepted link ties it to an earlier feature; the link is told by its two features and by the declarations that it
-    /// covers. Forward, the optional half of a weak edge also rests on the optional dependency that it waits for, which stands
-    /// earlier too.
+    /// An accepted link connects it to an earlier feature. The link is named by its two features and by the
+    /// declarations that it covers. In a forward query, the gate of an optional half is an earlier feature too.
     Link {
         from: FeatureId<'g>,
         to: FeatureId<'g>,
@@ -46,7 +45,7 @@ pub enum Reason<'g> {
     },
 }
 
-/// A resolved set with the reason of each of its features, and the links that were refused.
+/// A resolved set with the reason for each of its features, and the refused links.
 #[derive(Drop)]
 pub struct Explained<'g> {
     set: FeatureSet<'g>,
@@ -74,7 +73,7 @@ impl<'g> Model for Explained<'g> {
 }
 
 impl<'g> Explained<'g> {
-    /// What is explained so, told by ids.
+    /// Builds the explanation of `set` from `numbers` and `refused_numbers`, with ids in place of numbers.
     pub(crate) fn new(
         alloc: Global,
         set: FeatureSet<'g>,
@@ -101,39 +100,40 @@ impl<'g> Explained<'g> {
         })
     }
 
-    /// The set that was resolved.
+    /// Returns the set that was resolved.
     pub fn set(&self) -> &FeatureSet<'g>
         ensures { result.now ≡ record { graph = self.now.graph; members = self.now.members } }
     {
         &self.set
     }
 
-    /// Each feature of the set once, with its reason, in the order in which they were reached: what a reason rests on stands
-    /// earlier.
+    /// Returns each feature of the set once, with its reason, in the order in which the walk reached them. A reason
+    /// uses only earlier features.
     pub fn steps(&self) -> &[(FeatureId<'g>, Reason<'g>)]
         ensures { AreTold self.now.graph self.now.steps (map step_name result.now) }
     {
         self.steps.as_slice()
     }
 
-    /// The links that were refused, in the order of the run, each told by its two features and by the declarations that it
-    /// covers.
+    /// Returns the links that the visitor refused, in the order of the run. Each is named by its two features and by
+    /// the declarations that it covers.
     pub fn refused(&self) -> &[(FeatureId<'g>, FeatureId<'g>, LinkDeclarations)]
         ensures { OffersAreTold self.now.graph self.now.refused (map offer_name result.now) }
     {
         self.refused.as_slice()
     }
 
-    /// The set alone.
+    /// Returns the resolved set without the reasons.
     pub fn into_set(self) -> FeatureSet<'g>
         ensures { result ≡ record { graph = self.entry.graph; members = self.entry.members } }
     {
         self.set
     }
 
-    /// Why a feature is on: the steps on which it rests, in order and each once, gates included, its own step the last. They are
-    /// an explanation for the same graph, initial features and direction. None where the set lacks the feature; an error where
-    /// the graph lacks it, or where memory is refused.
+    /// Returns the reason chain of a feature: the steps that its own step rests on, gates included, in order and each
+    /// once, with its own step last. They are an explanation for the same graph, initial features and direction.
+    ///
+    /// Returns `None` if the set lacks the feature. The error is `UnknownFeatureId` if the graph lacks it, or `Memory`.
     pub fn why<'a>(
         &self,
         alloc: Global,

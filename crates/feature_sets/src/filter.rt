@@ -1,4 +1,4 @@
-//! What a filter over features is, and the filters that call another: one that is lent, one in a box, a closure.
+//! Filters over features, and filters that call another one: by reference, in a box, or a closure.
 ghost use Rattle.std.specs.Prelude.{◌≡◌};
 ghost use Rattle.feature_labels.specs.Names.{id_of};
 ghost use Rattle.feature_labels.specs.declared.feature_id.FeatureId.{FeatureId};
@@ -11,7 +11,7 @@ use crate::graph::FeatureGraph;
 use feature_labels::FeatureId;
 use std::fmt;
 
-/// Whether a feature is selected. A filter may have a state, and an answer may change it.
+/// A test of features. A filter may have a state, which `accept` may change.
 pub trait FeatureFilter<'g> {
     ghost use Rattle.std.specs.Prelude.{Bool};
     ghost use Rattle.guppy_packages.specs.Rows.{Text};
@@ -22,7 +22,7 @@ pub trait FeatureFilter<'g> {
 
     ghost accept_gives: { Self → Graph → Text × LabelName → Bool → Self → Type 0 };
 
-    /// Whether the feature of this id, which the graph has, is selected.
+    /// Returns true if the filter selects `feature_id`, a feature of `graph`.
     fn accept(&mut self, graph: &FeatureGraph<'g>, feature_id: FeatureId<'g>) -> bool
         requires known { HasFeature (graph_of graph.now).tables (id_of feature_id) }
         requires allowed { can_accept self.old (graph_of graph.now) (id_of feature_id) }
@@ -39,7 +39,7 @@ impl<'g, T: FeatureFilter<'g>> FeatureFilter<'g> for &mut T {
     }
 }
 
-/// A filter that can be put in a box.
+/// A filter that can be boxed.
 pub trait FeatureFilterObject: Drop {
     ghost use Rattle.std.specs.Prelude.{Bool};
     ghost use Rattle.guppy_packages.specs.Rows.{Text};
@@ -50,7 +50,7 @@ pub trait FeatureFilterObject: Drop {
 
     ghost accept_any_gives: { Self → Graph → Text × LabelName → Bool → Self → Type 0 };
 
-    /// Whether the feature of this id, which the graph has, is selected.
+    /// Returns true if the filter selects `feature_id`, a feature of `graph`.
     fn accept_any(&mut self, graph: &FeatureGraph<'_>, feature_id: FeatureId<'_>) -> bool
         requires known { HasFeature (graph_of graph.now).tables (id_of feature_id) }
         requires allowed { can_accept_any self.old (graph_of graph.now) (id_of feature_id) }
@@ -74,7 +74,7 @@ pub struct FeatureFilterFn<F>(F);
 impl<F> FeatureFilterFn<F> {
     ghost use Rattle.feature_sets.specs.Filters.{closure_of};
 
-    /// The filter that calls this closure.
+    /// Returns the filter that calls `f`.
     pub fn new<'g>(f: F) -> Self
     where
         F: FnMut(&FeatureGraph<'g>, FeatureId<'g>) -> bool,

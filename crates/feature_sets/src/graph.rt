@@ -29,7 +29,7 @@ use std::alloc::Global;
 use std::fmt;
 use std::ops::Range;
 
-/// The feature graph of a package graph: a view of the packages and of what was built of them.
+/// The feature graph of a package graph: a view of the packages and of the data built from them.
 #[derive(Clone, Copy)]
 pub struct FeatureGraph<'g> {
     pub(crate) graph: &'g PackageGraph,
@@ -37,14 +37,14 @@ pub struct FeatureGraph<'g> {
     pub ghost is_built: { IsBuilt graph.now built.now } by { is_built-prop graph.now built.now },
 }
 
-/// Feature graphs of package graphs.
+/// Package graphs that have feature graphs.
 pub trait FeatureGraphExt {
     ghost use Rattle.guppy_packages.specs.Tables.{Tables};
     ghost use Rattle.feature_sets.specs.Views.{graph_of};
 
     ghost tables: { Self → Tables };
 
-    /// The feature graph, by what was built of this package graph.
+    /// Returns the feature graph of this package graph, over the data in `built`.
     fn feature_graph<'g>(&'g self, built: &'g FeatureGraphData) -> FeatureGraph<'g>
         requires { IsBuilt (tables self.now) built.now }
         ensures { graph_of result ≡ record { tables = tables self.now; built = built.now } };
@@ -61,43 +61,43 @@ impl FeatureGraphExt for PackageGraph {
 impl<'g> FeatureGraph<'g> {
     ghost use Rattle.feature_sets.specs.Views.{graph_of, tables_of_graph, stamp_of, feature_name_of, feature_tables_of};
 
-    /// The package graph.
+    /// Returns the package graph.
     pub fn package_graph(&self) -> &'g PackageGraph
         ensures { result.now ≡ tables_of_graph self.now }
     {
         self.graph
     }
 
-    /// The stamp that the graph was built under.
+    /// Returns the stamp under which the graph was built.
     pub fn stamp(&self) -> u64
         ensures { result ≡ stamp_of self.now }
     {
         self.built.stamp()
     }
 
-    /// What building noted of items and listed names that ask for what is not there: first the items, by packages,
-    /// features and places, then the names, by links, declarations and places.
+    /// Returns the warnings from building the graph. Those of feature items are first, by package, feature and index;
+    /// then those of listed names, by link, declaration and index.
     pub fn build_warnings(&self) -> &'g [FeatureGraphWarning]
         ensures { map warning_of result.now ≡ warnings (tables_of_graph self.now) }
     {
         self.built.warnings()
     }
 
-    /// How many features there are.
+    /// Returns the number of features.
     pub fn feature_count(&self) -> usize
         ensures { result ≡ length (nodes (tables_of_graph self.now)) }
     {
         self.built.node_count()
     }
 
-    /// How many links there are between features.
+    /// Returns the number of links between features.
     pub fn link_count(&self) -> usize
         ensures { IsLinkCount (tables_of_graph self.now) result }
     {
         self.built.edge_count()
     }
 
-    /// The node of a feature, where the graph has it.
+    /// Returns the node of `id`, or `None` if the graph lacks it.
     pub(crate) fn node(&self, id: FeatureId<'_>) -> Option<usize>
         ensures named { (n : ℕ) → (result ≡ Some n) ↔ NodeNamed (tables_of_graph self.now) n (id_of id.entry) }
         ensures within { IfSome result (λ n. n < length (nodes (tables_of_graph self.now))) }
@@ -105,7 +105,7 @@ impl<'g> FeatureGraph<'g> {
         self.built.node(self.graph, id)
     }
 
-    /// The id of a node.
+    /// Returns the id of `node`.
     pub(crate) fn id(&self, node: usize) -> FeatureId<'g>
         requires { node < length (nodes (tables_of_graph self.now)) }
         ensures { NodeNamed (tables_of_graph self.now) node (id_of result) }
@@ -113,7 +113,7 @@ impl<'g> FeatureGraph<'g> {
         self.built.id(self.graph, node)
     }
 
-    /// The nodes of the package of this number.
+    /// Returns the nodes of the package with this number.
     pub(crate) fn nodes_of(&self, package_ix: usize) -> Range<usize>
         requires { package_ix < length (tables_of_graph self.now).packages }
         ensures first { result.start ≡ first_node (tables_of_graph self.now) package_ix }
@@ -129,7 +129,7 @@ impl<'g> FeatureGraph<'g> {
         self.built.first_node(package_ix)..end
     }
 
-    /// The nodes that are reached from the initial ones over all edges, those included.
+    /// Returns the nodes reachable from `initials` over all edges, including `initials`; `Memory` is the only error.
     pub(crate) fn walk(
         &self,
         alloc: Global,
@@ -144,14 +144,14 @@ impl<'g> FeatureGraph<'g> {
         walk_all(alloc, self.built, direction, initials, EdgeChoice::All)
     }
 
-    /// Whether the graph has the feature.
+    /// Returns true if the graph has the feature.
     pub fn contains(&self, id: FeatureId<'_>) -> bool
         ensures { IsTrue result ↔ HasFeature (tables_of_graph self.now) (id_of id.entry) }
     {
         self.node(id).is_some()
     }
 
-    /// The feature of this id, or an error where the graph doesn't have it.
+    /// Returns the feature with this id, or `UnknownFeatureId` if the graph lacks it.
     pub fn metadata<'a>(&self, id: FeatureId<'a>) -> Result<FeatureMetadata<'g>, Error<'a>>
         ensures graph { IfOk result (λ m. feature_tables_of m ≡ tables_of_graph self.now) }
         ensures name { IfOk result (λ m. feature_name_of m ≡ id_of id.entry) }
@@ -173,7 +173,7 @@ impl<'g> FeatureGraph<'g> {
 impl<'g> FeatureGraph<'g> {
     ghost use Rattle.feature_sets.specs.Views.{graph_of, tables_of_graph};
 
-    /// All features of the package of this id, or an error where no package has it.
+    /// Returns all features of a package. The error is `UnknownPackageId` if no package has this id, or `Memory`.
     pub fn all_features_for<'a>(
         &self,
         alloc: Global,
@@ -191,7 +191,7 @@ impl<'g> FeatureGraph<'g> {
         }
     }
 
-    /// The set of all features. The only error is want of memory.
+    /// Returns the set of all features; `Memory` is the only error.
     pub fn resolve_all(&self, alloc: Global) -> Result<FeatureSet<'g>, Error<'static>>
         ensures graph { IfOk result (λ set. set.graph ≡ graph_of self.now) }
         ensures members { IfOk result (λ set. set.members ≡ replicate (length (nodes (tables_of_graph self.now))) true) }
@@ -201,7 +201,7 @@ impl<'g> FeatureGraph<'g> {
         Ok(FeatureSet::new(*self, members))
     }
 
-    /// The set of no feature. The only error is want of memory.
+    /// Returns the empty set; `Memory` is the only error.
     pub fn resolve_none(&self, alloc: Global) -> Result<FeatureSet<'g>, Error<'static>>
         ensures graph { IfOk result (λ set. set.graph ≡ graph_of self.now) }
         ensures members { IfOk result (λ set. set.members ≡ replicate (length (nodes (tables_of_graph self.now))) false) }
@@ -211,8 +211,8 @@ impl<'g> FeatureGraph<'g> {
         Ok(FeatureSet::new(*self, members))
     }
 
-    /// The set of exactly these features, with no base added. The first id of the list that the graph doesn't have is
-    /// an error, found before memory is asked for.
+    /// Returns the set of exactly the features in `feature_ids`; no base is added. The error is `UnknownFeatureId` with
+    /// the first unknown id, found before any allocation, or `Memory`.
     pub fn resolve_ids<'a>(
         &self,
         alloc: Global,
@@ -230,8 +230,8 @@ impl<'g> FeatureGraph<'g> {
         Ok(FeatureSet::new(*self, members))
     }
 
-    /// The query that follows edges this way from these features. The first id of the list that the graph doesn't have
-    /// is an error, found before memory is asked for.
+    /// Returns the query from `feature_ids` in `direction`. The error is `UnknownFeatureId` with the first unknown id,
+    /// found before any allocation, or `Memory`.
     pub fn query_directed<'a>(
         &self,
         alloc: Global,
@@ -248,8 +248,7 @@ impl<'g> FeatureGraph<'g> {
         Ok(FeatureQuery::new(initials, direction))
     }
 
-    /// The query that follows edges from these features to what they need. Unknown ids are refused as in
-    /// `query_directed`.
+    /// Returns the query from `feature_ids` to their dependencies. Errors are those of `query_directed`.
     pub fn query_forward<'a>(
         &self,
         alloc: Global,
@@ -264,8 +263,7 @@ impl<'g> FeatureGraph<'g> {
         self.query_directed(alloc, feature_ids, DependencyDirection::Forward)
     }
 
-    /// The query that follows edges from these features to what needs them. Unknown ids are refused as in
-    /// `query_directed`.
+    /// Returns the query from `feature_ids` to the features that depend on them. Errors are those of `query_directed`.
     pub fn query_reverse<'a>(
         &self,
         alloc: Global,
@@ -284,7 +282,7 @@ impl<'g> FeatureGraph<'g> {
 impl<'g> FeatureGraph<'g> {
     ghost use Rattle.feature_sets.specs.Views.{tables_of_graph, built_of};
 
-    /// The error that names the two features of the first edge whose link is present for no kind.
+    /// Returns the error with the two features of edge `number`, the first whose link is present for no kind.
     fn absent_link(&self, number: usize) -> Error<'g>
         requires { position (λ e. not (has_present_link e.2)) (built_of self.now).edges ≡ Some number }
         ensures { RefusesEdges (tables_of_graph self.now) (built_of self.now).edges (refusal_of result) }
@@ -297,9 +295,9 @@ impl<'g> FeatureGraph<'g> {
         }
     }
 
-    /// Goes through the edges, by the feature that they start at and then by that which they lead to. The first one whose
-    /// link is present neither for normal use nor for builds nor for development is an error. An edge that isn't
-    /// conditional passes. What was built of a package graph has no edge that doesn't.
+    /// Checks that the link of each conditional edge is present for normal use, for builds or for development. The
+    /// error names the two features of the first edge that fails, by source and then by target. A graph built from a
+    /// package graph always passes.
     pub fn verify(&self) -> Result<(), Error<'g>>
         ensures exact { IsTrue (is_ok result) ↔ ArePresent (built_of self.now).edges }
         ensures first { IfErr result (λ e. RefusesEdges (tables_of_graph self.now) (built_of self.now).edges (refusal_of e)) }
@@ -312,7 +310,7 @@ impl<'g> FeatureGraph<'g> {
         }
     }
 
-    /// Whether the feature, which the graph has, is on by default in its package.
+    /// Returns true if a feature of the graph is on by default in its package.
     pub(crate) fn is_default(&self, id: FeatureId<'_>) -> bool
         requires { HasFeature (tables_of_graph self.now) (id_of id) }
         ensures { TellsDefault (tables_of_graph self.now) (id_of id.entry) result }
@@ -323,9 +321,12 @@ impl<'g> FeatureGraph<'g> {
         }
     }
 
-    /// Whether the feature is on by default in its package: whether the package's feature named `default`, or its base
-    /// where it has none, leads to it over edges to the base and between the package's named features. It is an error
-    /// where no package has the id's package, and another where the package lacks the feature.
+    /// Returns true if the feature is on by default in its package. The default features are those reachable from the
+    /// package's feature `default`, or from its base if it has none. Only edges to the base and between named features
+    /// of the package are followed.
+    ///
+    /// The error is `UnknownPackageId` if no package has the id's package, or `UnknownFeatureId` if the package lacks
+    /// the feature.
     pub fn is_default_feature<'a>(&self, id: FeatureId<'a>) -> Result<bool, Error<'a>>
         ensures told { IfOk result (λ answer. TellsDefault (tables_of_graph self.now) (id_of id.entry) answer) }
         ensures refused { IfErr result (λ e. RefusesFeature (tables_of_graph self.now) (id_of id.entry) (refusal_of e)) }

@@ -12,7 +12,7 @@ use feature_labels::FeatureId;
 use guppy_support::IxBitSet;
 use std::alloc::{AllocError, Global};
 
-/// The first id of the list that the graph lacks.
+/// Returns the first of `ids` that the graph lacks.
 pub(crate) fn first_unknown<'a>(
     graph: FeatureGraph<'_>,
     ids: &[FeatureId<'a>],
@@ -29,7 +29,7 @@ pub(crate) fn first_unknown<'a>(
     None
 }
 
-/// Puts the feature into the set, where the graph has it.
+/// Inserts the node of `id` into `members` if the graph has the feature.
 pub(crate) fn insert_id(graph: FeatureGraph<'_>, id: FeatureId<'_>, members: &mut IxBitSet)
     requires { length members.old ≡ length (nodes (tables_of_graph graph)) }
     ensures size { length members.new ≡ length members.old }
@@ -40,7 +40,7 @@ pub(crate) fn insert_id(graph: FeatureGraph<'_>, id: FeatureId<'_>, members: &mu
     }
 }
 
-/// The set of the nodes of these ids.
+/// Returns the set of the nodes of `ids`.
 pub(crate) fn set_of_ids(
     alloc: Global,
     graph: FeatureGraph<'_>,

@@ -1,5 +1,5 @@
-//! Laws of what the calls of this crate speak of. Each function's contract is the law, and it does nothing; those of the
-//! crates below are handed on.
+//! Laws of visitors, explanations and parts. Each function does nothing: its contract is the law. The laws of the
+//! crates below are re-exported.
 ghost use Rattle.std.specs.Prelude.{◌↔◌, ℕ, Bool, List, IsTrue};
 ghost use Rattle.guppy_support.specs.Bits.{has};
 ghost use Rattle.walk_engine.specs.declared.walks.Half.{Half};
@@ -20,8 +20,8 @@ pub use feature_core::laws::{
     warning_equality,
 };
 
-/// Where a visitor answers the links of a query as a test of offers says, whatever it was shown before, the test agrees with
-/// each run of its answers, and the members of a walk are exactly the least set for the test.
+/// If a visitor decides by a fixed test of offers, the test agrees with each run of its answers. Then the members of a
+/// walk are exactly the least set for the test.
 pub fn visitor_agrees_by_answer<'g, V: FeatureLinkVisitor<'g>>()
     ensures agrees { (q : Query) (A : ℕ → Half → Bool) (s t : V) (run : List Call) → AnswersBy (shown V.visit_gives q) A s
         → GoesAlong (shown V.visit_gives q) s run t → Agrees A run }
@@ -30,8 +30,8 @@ pub fn visitor_agrees_by_answer<'g, V: FeatureLinkVisitor<'g>>()
         → (n : ℕ) → IsTrue (M n) ↔ Least (query_content q) (has q.initials) A n }
 {}
 
-/// What `resolve_explained` gives satisfies both checks: its steps are an explanation, by offers that the visitor accepted, and with
-/// the refused offers an exact one. Where the visitor answers as a test of offers says, they name offers of the test alone.
+/// The result of `resolve_explained` passes both checks: its steps are an explanation, and an exact one with the
+/// refused offers. If the visitor decides by a fixed test of offers, the steps use offers of the test alone.
 pub fn resolved_is_exact<'g, V: FeatureLinkVisitor<'g>>()
     ensures explained { (q : Query) (s t : V) (M : ℕ → Bool) (steps : List Step) (refused : List (ℕ × Half))
         → IsExplainedWalk (query_content q) (has q.initials) (shown V.visit_gives q) s t M steps refused
@@ -47,8 +47,8 @@ pub fn resolved_is_exact<'g, V: FeatureLinkVisitor<'g>>()
     run_is_exact();
 }
 
-/// Where a callback answered yes or no once for each feature of a set, the features with yes and those with no have none in
-/// common, and are the set together. The same answers make the same part, by `filter` and by `partition`.
+/// If a callback returned true or false once for each feature of a set, the two parts are disjoint and their union is
+/// the set. The same results make the same part, in `filter` and in `partition`.
 pub fn partition_is_split()
     ensures split { PartitionIsSplit }
     ensures first { FilterIsFirst }

@@ -1,4 +1,4 @@
-//! The feature graph: queries and sets of features.
+//! The feature graph: queries over it and sets of its features.
 #![tactic(auto)]
 
 mod checking;

@@ -19,7 +19,7 @@ use guppy_packages::{DependencyKind, PlatformStatus};
 use std::fmt;
 use walk_engine::Half;
 
-/// The feature of a node.
+/// Returns the feature of `node`.
 pub(crate) fn feature_at<'g>(graph: FeatureGraph<'g>, node: usize) -> FeatureMetadata<'g>
     requires { node < length (nodes (tables_of_graph graph)) }
     ensures name { NodeNamed (tables_of_graph graph.entry) node (feature_name_of result) }
@@ -33,8 +33,9 @@ pub(crate) fn feature_at<'g>(graph: FeatureGraph<'g>, node: usize) -> FeatureMet
     }
 }
 
-/// A link from a feature to one that it asks for where the platform and the kind of dependency agree: the full link of a
-/// conditional edge, or one half of a weak edge. A contract sees it as its graph, the number of its edge and the half.
+/// A conditional link from a feature to a feature that it turns on, depending on the platform and the dependency kind.
+/// It is the full link of a conditional edge, or one half of a weak edge. A contract sees it as its graph, the number
+/// of its edge and the half.
 #[derive(Clone, Copy)]
 pub struct ConditionalLink<'g> {
     graph: FeatureGraph<'g>,
@@ -46,7 +47,7 @@ pub struct ConditionalLink<'g> {
 impl<'g> ConditionalLink<'g> {
     ghost use Rattle.feature_sets.specs.LinkViews.{link_of};
 
-    /// The link of this edge of the graph: the full one, or a half.
+    /// Returns the link of an edge of the graph: the full link, or a half.
     pub(crate) fn new(graph: FeatureGraph<'g>, edge: usize, half: Half) -> Self
         requires { IsTrue (has_facts (record { graph = graph_of graph; edge = edge; half = half })) }
         ensures { link_of result ≡ record { graph = graph_of graph.entry; edge = edge; half = half } }
@@ -54,7 +55,7 @@ impl<'g> ConditionalLink<'g> {
         ConditionalLink { graph, edge, half }
     }
 
-    /// What the edge says of the link.
+    /// Returns the facts of the link, as its edge has them.
     fn facts(&self) -> &'g ConditionalLinkImpl
         ensures { facts_of (link_of self.now) ≡ Some (link_facts result.now) }
     {
@@ -65,7 +66,7 @@ impl<'g> ConditionalLink<'g> {
         }
     }
 
-    /// The feature that asks for the other one.
+    /// Returns the feature that the link leads from.
     pub fn from(&self) -> FeatureMetadata<'g>
         ensures name { from_name (link_of self.now) ≡ Some (feature_name_of result) }
         ensures tables { feature_tables_of result ≡ (link_of self.now).graph.tables }
@@ -75,7 +76,7 @@ impl<'g> ConditionalLink<'g> {
         feature_at(self.graph, from)
     }
 
-    /// The feature that is asked for.
+    /// Returns the feature that the link leads to.
     pub fn to(&self) -> FeatureMetadata<'g>
         ensures name { to_name (link_of self.now) ≡ Some (feature_name_of result) }
         ensures tables { feature_tables_of result ≡ (link_of self.now).graph.tables }
@@ -85,7 +86,7 @@ impl<'g> ConditionalLink<'g> {
         feature_at(self.graph, to)
     }
 
-    /// The feature that asks, and the one that is asked for.
+    /// Returns the features that the link leads from and to.
     pub fn endpoints(&self) -> (FeatureMetadata<'g>, FeatureMetadata<'g>)
         ensures from { from_name (link_of self.now) ≡ Some (feature_name_of result.0) }
         ensures to { to_name (link_of self.now) ≡ Some (feature_name_of result.1) }
@@ -95,28 +96,28 @@ impl<'g> ConditionalLink<'g> {
         (self.from(), self.to())
     }
 
-    /// Where the covered declarations for normal use apply.
+    /// Returns the platform status of the covered declarations for normal use.
     pub fn normal(&self) -> PlatformStatus<'g>
         ensures { option_map (λ facts. facts.normal) (facts_of (link_of self.now)) ≡ Some (status_of result) }
     {
         self.facts().normal()
     }
 
-    /// Where the covered declarations for build scripts apply.
+    /// Returns the platform status of the covered declarations for build scripts.
     pub fn build(&self) -> PlatformStatus<'g>
         ensures { option_map (λ facts. facts.build) (facts_of (link_of self.now)) ≡ Some (status_of result) }
     {
         self.facts().build()
     }
 
-    /// Where the covered declarations for development apply.
+    /// Returns the platform status of the covered declarations for development.
     pub fn dev(&self) -> PlatformStatus<'g>
         ensures { option_map (λ facts. facts.dev) (facts_of (link_of self.now)) ≡ Some (status_of result) }
     {
         self.facts().dev()
     }
 
-    /// Where the covered declarations of this kind apply.
+    /// Returns the platform status of the covered declarations of this kind.
     pub fn status_for_kind(&self, kind: DependencyKind) -> PlatformStatus<'g>
         ensures { option_map (status_for kind) (facts_of (link_of self.now)) ≡ Some (status_of result) }
     {
@@ -127,21 +128,21 @@ impl<'g> ConditionalLink<'g> {
         }
     }
 
-    /// Whether no covered declaration is for normal use or for builds.
+    /// Returns true if no covered declaration is for normal use or for build scripts.
     pub fn dev_only(&self) -> bool
         ensures { option_map is_dev_link (facts_of (link_of self.now)) ≡ Some result }
     {
         self.normal().is_never() && self.build().is_never()
     }
 
-    /// Which declarations of the dependency it covers: all, or those of a half.
+    /// Returns the declarations that the link covers: all of the dependency, or those of a half.
     pub fn declarations(&self) -> LinkDeclarations
         ensures { option_map (λ facts. facts.declarations) (facts_of (link_of self.now)) ≡ Some result }
     {
         self.facts().declarations()
     }
 
-    /// The links between packages that have one of the covered declarations, by ascending number.
+    /// Returns the package links that have one of the covered declarations, by ascending number.
     pub fn package_links(&self) -> PackageLinks<'g>
         ensures { option_map (λ facts. numbered_links (link_of self.now).graph.tables facts.package_links) (facts_of (link_of self.now)) ≡ Some result }
     {

@@ -12,7 +12,7 @@ use feature_labels::{FeatureLabel, FeatureList};
 use guppy_packages::{NamedFeature, PackageMetadata};
 use std::alloc::{AllocError, Global};
 
-/// Appends the labels of these named features.
+/// Appends the labels of `features`.
 fn push_named<'g>(
     labels: &mut Vec<FeatureLabel<'g>>,
     features: &'g [NamedFeature],
@@ -25,7 +25,7 @@ fn push_named<'g>(
     Ok(())
 }
 
-/// Appends the labels of optional dependencies of these names.
+/// Appends the labels of optional dependencies with these names.
 fn push_optional<'g>(
     labels: &mut Vec<FeatureLabel<'g>>,
     names: &'g [String],
@@ -38,7 +38,7 @@ fn push_optional<'g>(
     Ok(())
 }
 
-/// The labels of a package, in the order of their nodes.
+/// Returns the labels of a package, in the order of their nodes.
 fn package_labels<'g>(
     alloc: Global,
     package: PackageMetadata<'g>,
@@ -52,7 +52,7 @@ fn package_labels<'g>(
     Ok(labels)
 }
 
-/// All features of a package.
+/// Returns all features of a package.
 pub(crate) fn package_list<'g>(
     alloc: Global,
     package: PackageMetadata<'g>,

@@ -1,4 +1,4 @@
-//! Features of a graph, with what is known of them.
+//! Features of a graph, with their packages.
 ghost use Rattle.std.specs.Prelude.{◌≡◌, ◌↔◌, IsSome, IfSome, Contains};
 ghost use Rattle.guppy_packages.specs.Metadata.{package_graph_of, package_id_of, package_table_of};
 ghost use Rattle.feature_labels.specs.Names.{id_of, label_of};
@@ -18,21 +18,21 @@ pub struct FeatureMetadata<'g> {
 impl<'g> FeatureMetadata<'g> {
     ghost use Rattle.feature_sets.specs.Views.{feature_name_of, feature_tables_of};
 
-    /// The id of the feature.
+    /// Returns the id of the feature.
     pub fn feature_id(&self) -> FeatureId<'g>
         ensures { id_of result ≡ feature_name_of self.now }
     {
         FeatureId::new(self.package.id(), self.label)
     }
 
-    /// The id of the feature's package.
+    /// Returns the id of the feature's package.
     pub fn package_id(&self) -> &'g PackageId
         ensures { result.now ≡ (feature_name_of self.now).0 }
     {
         self.package.id()
     }
 
-    /// The feature's package.
+    /// Returns the feature's package.
     pub fn package(&self) -> PackageMetadata<'g>
         ensures graph { package_graph_of result ≡ feature_tables_of self.now }
         ensures id { package_id_of result ≡ (feature_name_of self.now).0 }
@@ -40,7 +40,7 @@ impl<'g> FeatureMetadata<'g> {
         self.package
     }
 
-    /// The feature's label.
+    /// Returns the feature's label.
     pub fn label(&self) -> FeatureLabel<'g>
         ensures { label_of result ≡ (feature_name_of self.now).1 }
     {
@@ -57,7 +57,8 @@ impl fmt::Debug for FeatureMetadata<'_> {
     }
 }
 
-/// The label as the package's tables hold it, where the package has it.
+/// Returns the label of the package that is equal to `label`, borrowed from the package; `None` if the package lacks
+/// it.
 pub(crate) fn label_in<'g>(
     package: PackageMetadata<'g>,
     label: FeatureLabel<'_>,

@@ -1,4 +1,4 @@
-//! Steps and offers that are told by ids, by their numbers.
+//! The numbers of steps and offers that are named by ids.
 ghost use Rattle.std.specs.Prelude.{◌≡◌, ◌↔◌, ℕ, List, Some, IsTrue, IfOk, MatchOption, map};
 ghost use Rattle.std.specs.Option.{option_map};
 ghost use Rattle.walk_engine.specs.Walks.{has_half};
@@ -24,7 +24,7 @@ use feature_labels::{FeatureId, LinkDeclarations};
 use std::alloc::{AllocError, Global};
 use walk_engine::{Half, Step, StepReason};
 
-/// The edge from one feature to another, where there is one.
+/// Returns the number of the edge from `from` to `to`, if any.
 fn edge_number(graph: FeatureGraph<'_>, from: FeatureId<'_>, to: FeatureId<'_>) -> Option<usize>
     ensures { (e : ℕ) → (result ≡ Some e) ↔ (ends_told (graph_of graph.entry) e ≡ Some (id_of from.entry, id_of to.entry)) }
 {
@@ -35,7 +35,7 @@ fn edge_number(graph: FeatureGraph<'_>, from: FeatureId<'_>, to: FeatureId<'_>) 
     graph.built.digraph().edge_between(first, second)
 }
 
-/// Whether the half of an edge is offered.
+/// Returns true if the graph offers this half of the edge.
 fn is_offered(edge: &FeatureEdge, half: Half) -> bool
     ensures { result ≡ has_half (asked Forward (edge_facts edge.now)) half }
 {
@@ -55,7 +55,7 @@ fn is_offered(edge: &FeatureEdge, half: Half) -> bool
     }
 }
 
-/// Whether it is the full link.
+/// Returns true if `half` is the full link.
 fn is_full(half: Half) -> bool
     ensures { result ≡ has_half ask.Full half }
 {
@@ -65,7 +65,7 @@ fn is_full(half: Half) -> bool
     }
 }
 
-/// Whether the half of an edge is offered over these declarations.
+/// Returns true if the graph offers this half of the edge and it covers these declarations.
 fn is_over(edge: &FeatureEdge, half: Half, declarations: LinkDeclarations) -> bool
     ensures { IsTrue result ↔ IsOver (edge_facts edge.now) declarations half }
 {
@@ -75,7 +75,7 @@ fn is_over(edge: &FeatureEdge, half: Half, declarations: LinkDeclarations) -> bo
     }
 }
 
-/// A half of an edge that is offered over these declarations.
+/// Returns the half of the edge that is offered and covers these declarations, if any.
 fn half_over(edge: &FeatureEdge, declarations: LinkDeclarations) -> Option<Half>
     ensures { MatchOption result ((h : Half) → ¬ IsOver (edge_facts edge.now) declarations h) (λ h. IsOver (edge_facts edge.now) declarations h) }
 {
@@ -90,7 +90,7 @@ fn half_over(edge: &FeatureEdge, declarations: LinkDeclarations) -> Option<Half>
     }
 }
 
-/// The offer from one feature to another over these declarations, where there is one.
+/// Returns the offer from `from` to `to` that covers these declarations, if any.
 fn offer_number(
     graph: FeatureGraph<'_>,
     from: FeatureId<'_>,
@@ -106,7 +106,7 @@ fn offer_number(
     Some((edge, half))
 }
 
-/// A reason, where the graph has its edge or offer.
+/// Returns the numbered form of `reason`; `None` if the graph lacks its edge or offer.
 fn reason_number(graph: FeatureGraph<'_>, reason: Reason<'_>) -> Option<StepReason>
     ensures { (r : StepReason) → (result ≡ Some r) ↔ IsNumberedReason (graph_of graph.entry) (reason_name reason.entry) r }
 {
@@ -127,7 +127,7 @@ fn reason_number(graph: FeatureGraph<'_>, reason: Reason<'_>) -> Option<StepReas
     }
 }
 
-/// A step, where the graph has its feature and its reason's edge or offer.
+/// Returns the numbered form of a step; `None` if the graph lacks its feature, edge or offer.
 fn step_number(graph: FeatureGraph<'_>, id: FeatureId<'_>, reason: Reason<'_>) -> Option<Step>
     ensures { (step : Step) → (result ≡ Some step) ↔ IsNumberedStep (graph_of graph.entry) (id_of id.entry, reason_name reason.entry) step }
 {
@@ -137,7 +137,7 @@ fn step_number(graph: FeatureGraph<'_>, id: FeatureId<'_>, reason: Reason<'_>) -
     Some(Step { node, reason })
 }
 
-/// Steps, where the graph has the features and the edges and offers of all.
+/// Returns the numbered forms of the steps in `told`; `None` if the graph lacks a feature, edge or offer of one.
 pub(crate) fn numbered_steps(
     alloc: Global,
     graph: FeatureGraph<'_>,
@@ -155,7 +155,7 @@ pub(crate) fn numbered_steps(
     Ok(Some(steps))
 }
 
-/// The offers of the graph that are told. What tells no offer is passed over.
+/// Returns the numbers of the offers in `told`; entries that the graph doesn't offer are skipped.
 pub(crate) fn numbered_offers(
     alloc: Global,
     graph: FeatureGraph<'_>,

@@ -1,4 +1,4 @@
-//! The links between packages that a link between features stands for.
+//! The package links that a link between features covers.
 ghost use Rattle.std.specs.Prelude.{◌≡◌, ◌<◌, IfSome, Some, All, length};
 ghost use Rattle.std.specs.Iterator.{YieldsFirstBy, UpTo, item_count};
 ghost use Rattle.std.specs.Iterator.SizeHint.{IsWithinCount};
@@ -10,7 +10,7 @@ use std::iter::FusedIterator;
 use std::marker::Model;
 use std::slice;
 
-/// Links between packages, by ascending number. It is seen as the list of those that are left.
+/// An iterator over package links, by ascending number. A contract sees it as the list of the remaining links.
 #[derive(Drop)]
 pub struct PackageLinks<'g> {
     graph: &'g PackageGraph,
@@ -32,7 +32,7 @@ impl<'g> Model for PackageLinks<'g> {
 }
 
 impl<'g> PackageLinks<'g> {
-    /// The links of these numbers.
+    /// Returns the links with these numbers.
     pub(crate) fn new(graph: &'g PackageGraph, numbers: &'g [usize]) -> Self
         requires { All (λ k. k < length graph.now.links) numbers.now }
         ensures { result ≡ numbered_links graph.now numbers.now }

@@ -1,4 +1,4 @@
-//! Queries: features to start from, and a way to follow edges.
+//! Queries: the features to start from, and a direction.
 ghost use Rattle.std.specs.Prelude.{◌≡◌, ◌↔◌, ℕ, IsTrue, IfOk, IfErr, MatchResult, length};
 ghost use Rattle.guppy_support.specs.Bits.{has};
 ghost use Rattle.feature_core.specs.Nodes.{nodes};
@@ -14,7 +14,7 @@ use std::alloc::Global;
 use std::fmt;
 use std::marker::Model;
 
-/// A query over a feature graph: the features to start from, and the way to follow edges.
+/// A query over a feature graph: the features to start from, and the direction in which edges are followed.
 #[derive(Drop)]
 pub struct FeatureQuery<'g> {
     direction: DependencyDirection,
@@ -32,7 +32,7 @@ impl<'g> Model for FeatureQuery<'g> {
 impl<'g> FeatureQuery<'g> {
     ghost use Rattle.feature_sets.specs.Views.{graph_of};
 
-    /// The query that follows edges this way from these features.
+    /// Returns the query from `initials` in `direction`.
     pub(crate) fn new(initials: FeatureSet<'g>, direction: DependencyDirection) -> Self
         ensures { result ≡ record { graph = initials.entry.graph; direction = direction; initials = initials.entry.members } }
     {
@@ -42,35 +42,36 @@ impl<'g> FeatureQuery<'g> {
         }
     }
 
-    /// The graph that is asked.
+    /// Returns the graph of the query.
     pub fn graph(&self) -> &FeatureGraph<'g>
         ensures { graph_of result.now ≡ self.now.graph }
     {
         self.initials.graph()
     }
 
-    /// The way to follow edges.
+    /// Returns the direction in which edges are followed.
     pub fn direction(&self) -> DependencyDirection
         ensures { result ≡ self.now.direction }
     {
         self.direction
     }
 
-    /// The features to start from.
+    /// Returns the features to start from.
     pub fn initials(&self) -> &FeatureSet<'g>
         ensures { result.now ≡ record { graph = self.now.graph; members = self.now.initials } }
     {
         &self.initials
     }
 
-    /// The packages of the features to start from, by number.
+    /// Returns an iterator over the packages of the features to start from, by number.
     pub fn initial_packages(&self) -> InitialPackages<'g, '_>
         ensures { result ≡ numbered self.now.graph.tables (member_packages self.now.graph.tables self.now.initials) }
     {
         self.initials.member_packages()
     }
 
-    /// Whether a feature to start from is of the package, or an error where no package has the id.
+    /// Returns true if the query starts from a feature of the package. The error is `UnknownPackageId` if no package
+    /// has this id.
     pub fn starts_from_package<'a>(&self, package_id: &'a PackageId) -> Result<bool, Error<'a>>
         ensures { MatchResult result
             (λ answer. TellsPackage self.now.graph.tables self.now.initials package_id.now answer)
@@ -79,7 +80,7 @@ impl<'g> FeatureQuery<'g> {
         self.initials.contains_package(package_id)
     }
 
-    /// All features that are reached over edges from the initial ones, those included. The only error is want of memory.
+    /// Returns the features reachable from the initial ones over all edges, including them; `Memory` is the only error.
     pub fn resolve(self, alloc: Global) -> Result<FeatureSet<'g>, Error<'static>>
         ensures graph { IfOk result (λ set. set.graph ≡ self.entry.graph) }
         ensures size { IfOk result (λ set. length set.members ≡ length (nodes self.entry.graph.tables)) }

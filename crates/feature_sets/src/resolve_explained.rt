@@ -1,4 +1,4 @@
-//! Resolving a query with a visitor, and explaining the result.
+//! Resolves a query with a visitor, and explains the result.
 ghost use Rattle.std.specs.Prelude.{◌≡◌, IfOk, IfErr, OnErr, length};
 ghost use Rattle.guppy_support.specs.Bits.{has};
 ghost use Rattle.feature_core.specs.Nodes.{nodes};
@@ -22,7 +22,8 @@ use guppy_support::IxBitSet;
 use std::alloc::{AllocError, Global};
 use walk_engine::{Half, Step, walk_explained};
 
-/// Walks over the edges of the query's graph, with the visitor in the adapter: the members, their steps, and the refused offers.
+/// Walks over the edges of the query's graph with the visitor of `adapter`. Returns the members, their steps and the
+/// refused offers.
 fn walk_told<'c, 'g, 'v, V: FeatureLinkVisitor<'g>>(
     alloc: Global,
     adapter: &mut Shown<'c, 'g, 'v, V>,
@@ -46,7 +47,7 @@ fn walk_told<'c, 'g, 'v, V: FeatureLinkVisitor<'g>>(
     Ok((walk.members, steps, refused))
 }
 
-/// What a walk gave, told by ids.
+/// Returns the explained set of a walk, with ids in place of numbers.
 fn explained<'g>(
     alloc: Global,
     graph: FeatureGraph<'g>,
@@ -70,7 +71,7 @@ fn explained<'g>(
 }
 
 impl<'g> FeatureQuery<'g> {
-    /// Walks over the edges of the graph, and asks the visitor.
+    /// Walks over the edges of the graph with `visitor`. Returns the members, their steps and the refused offers.
     fn walk_with<V: FeatureLinkVisitor<'g>>(
         self,
         alloc: Global,
@@ -91,8 +92,8 @@ impl<'g> FeatureQuery<'g> {
         Ok(walked)
     }
 
-    /// `resolve_with`, with the reason of each feature of the set, and the links that the visitor refused in the order of the run.
-    /// Where memory is refused, the only error, the visitor is as its calls left it, and these are a legal run.
+    /// Resolves the query as `resolve_with` does. Returns the set with the reason for each feature, and the refused
+    /// links in the order of the run. `Memory` is the only error; the calls of `visitor` up to it are a legal run.
     pub fn resolve_explained<V: FeatureLinkVisitor<'g>>(
         self,
         alloc: Global,

@@ -1,4 +1,4 @@
-//! Resolving a query with a visitor, who is asked before a conditional link is followed.
+//! Resolves a query with a visitor, which decides whether a conditional link is followed.
 ghost use Rattle.std.specs.Prelude.{◌≡◌, IsTrue, IfOk, IfErr, OnErr, length};
 ghost use Rattle.guppy_support.specs.Bits.{has};
 ghost use Rattle.feature_core.specs.Nodes.{nodes};
@@ -18,7 +18,7 @@ use guppy_support::IxBitSet;
 use std::alloc::{AllocError, Global};
 use walk_engine::{Half, Offerer, walk_over};
 
-/// Shows each offer of a walk to a visitor, as a link.
+/// An adapter that shows each offer of a walk to a visitor, as a link.
 #[derive(Drop)]
 pub(crate) struct Shown<'c, 'g, 'v, V> {
     pub(crate) cx: &'c FeatureLinkContext<'g>,
@@ -36,7 +36,7 @@ impl<'c, 'g, 'v, V: FeatureLinkVisitor<'g>> Offerer for Shown<'c, 'g, 'v, V> {
     }
 }
 
-/// Walks over the edges of the query's graph, with the visitor in the adapter.
+/// Walks over the edges of the query's graph with the visitor of `adapter`, and returns the members.
 fn walk_shown<'c, 'g, 'v, V: FeatureLinkVisitor<'g>>(
     alloc: Global,
     adapter: &mut Shown<'c, 'g, 'v, V>,
@@ -60,13 +60,13 @@ fn walk_shown<'c, 'g, 'v, V: FeatureLinkVisitor<'g>>(
 }
 
 impl<'g> FeatureQuery<'g> {
-    /// All features that are reached from the initial ones over the edges that aren't conditional and over the links
-    /// that the visitor accepts, the initial ones included.
+    /// Returns the features reachable from the initial ones over unconditional edges and accepted links, including the
+    /// initial ones.
     ///
-    /// The visitor is shown each link that comes up once, and no other: a link comes up once the feature that it starts
-    /// at, in the query's direction, is reached. Forward, the optional half of a weak edge also waits until the optional
-    /// dependency that it names is reached. The answers make a complete legal run, and the result is the least set for
-    /// them. Where memory is refused, the only error, the visitor is as its calls left it, and these are a legal run.
+    /// The visitor sees each link that is due once, and no other link. A link is due once its start, in the query's
+    /// direction, is reached. In a forward query, the optional half of a weak edge also waits for its gate. The calls
+    /// are a complete legal run, and the result is the least set for the accepted links. `Memory` is the only error;
+    /// the calls of `visitor` up to it are a legal run.
     pub fn resolve_with<V: FeatureLinkVisitor<'g>>(
         self,
         alloc: Global,
@@ -87,8 +87,7 @@ impl<'g> FeatureQuery<'g> {
         Ok(FeatureSet::new(graph, members))
     }
 
-    /// All features that are reached from the initial ones over the edges that aren't conditional and over the links
-    /// that the closure accepts: `resolve_with`, by a closure.
+    /// Resolves the query with the closure `f` as the visitor, as `resolve_with` does.
     pub fn resolve_with_fn<F: FnMut(&FeatureLinkContext<'g>, ConditionalLink<'g>) -> bool>(
         self,
         alloc: Global,
@@ -106,7 +105,7 @@ impl<'g> FeatureQuery<'g> {
         resolve_closure(self, alloc, &mut visitor)
     }
 
-    /// An equal query. It fails only where memory is refused.
+    /// Returns an equal query; `Memory` is the only error.
     pub fn try_clone(&self, alloc: Global) -> Result<FeatureQuery<'g>, Error<'static>>
         ensures same { IfOk result (λ query. query ≡ self.now) }
         ensures refused { IfErr result (λ e. e ≡ Error.Memory) }
@@ -118,7 +117,7 @@ impl<'g> FeatureQuery<'g> {
     }
 }
 
-/// Resolves with the closure in the visitor.
+/// Resolves the query with the closure in `visitor`.
 fn resolve_closure<'f, 'g, F: FnMut(&FeatureLinkContext<'g>, ConditionalLink<'g>) -> bool>(
     query: FeatureQuery<'g>,
     alloc: Global,

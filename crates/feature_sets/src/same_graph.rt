@@ -1,4 +1,4 @@
-//! Whether two graphs count as one.
+//! Tests whether two graphs count as one.
 ghost use Rattle.std.specs.Prelude.{◌≡◌, ◌↔◌, IsTrue};
 ghost use Rattle.feature_core.specs.Nodes.{nodes};
 ghost use Rattle.feature_sets.specs.SetValues.{SameGraph};
@@ -8,7 +8,7 @@ use crate::graph::FeatureGraph;
 use feature_labels::laws::id_equality;
 
 impl FeatureGraph<'_> {
-    /// Whether the two graphs have the same features in the same order.
+    /// Returns true if the two graphs have the same features in the same order.
     pub(crate) fn has_same_features(&self, other: &FeatureGraph<'_>) -> bool
         ensures { IsTrue result ↔ (nodes (tables_of_graph self.now) ≡ nodes (tables_of_graph other.now)) }
     {
@@ -24,7 +24,7 @@ impl FeatureGraph<'_> {
         true
     }
 
-    /// Whether the two graphs count as one: by their stamps first, and then by their features.
+    /// Returns true if the two graphs count as one: they have one stamp, and the same features in the same order.
     pub(crate) fn is_same(&self, other: &FeatureGraph<'_>) -> bool
         ensures { IsTrue result ↔ SameGraph (graph_of self.now) (graph_of other.now) }
     {

@@ -54,7 +54,7 @@ impl<'g> Model for FeatureSet<'g> {
 impl<'g> FeatureSet<'g> {
     ghost use Rattle.feature_sets.specs.Views.{graph_of, tables_of_graph};
 
-    /// The set of these nodes of the graph.
+    /// Returns the set of the nodes in `members`.
     pub(crate) fn new(graph: FeatureGraph<'g>, members: IxBitSet) -> Self
         requires { length members ≡ length (nodes (tables_of_graph graph)) }
         ensures graph { result.graph ≡ graph_of graph.entry }
@@ -63,7 +63,7 @@ impl<'g> FeatureSet<'g> {
         FeatureSet { graph, members }
     }
 
-    /// The nodes, as numbers below the count of the graph's features.
+    /// Returns the members as node numbers, in a bit set with one bit for each feature of the graph.
     pub(crate) fn members(&self) -> &IxBitSet
         ensures value { result.now ≡ self.now.members }
         ensures size { length self.now.members ≡ length (nodes self.now.graph.tables) }
@@ -71,7 +71,7 @@ impl<'g> FeatureSet<'g> {
         &self.members
     }
 
-    /// The graph that the features are of.
+    /// Returns the graph of the features.
     pub fn graph(&self) -> &FeatureGraph<'g>
         ensures value { graph_of result.now ≡ self.now.graph }
         ensures size { length self.now.members ≡ length (nodes self.now.graph.tables) }
@@ -79,21 +79,21 @@ impl<'g> FeatureSet<'g> {
         &self.graph
     }
 
-    /// How many features the set has.
+    /// Returns the number of features in the set.
     pub fn len(&self) -> usize
         ensures { result ≡ count_by (λ b. b) self.now.members }
     {
         self.members.count()
     }
 
-    /// Whether the set has no feature.
+    /// Returns true if the set is empty.
     pub fn is_empty(&self) -> bool
         ensures { IsTrue result ↔ (count_by (λ b. b) self.now.members ≡ 0) }
     {
         self.len() == 0
     }
 
-    /// Whether the set has the feature, or an error where the graph doesn't have it.
+    /// Returns true if the set has the feature, or `UnknownFeatureId` if the graph lacks it.
     pub fn contains<'a>(&self, id: FeatureId<'a>) -> Result<bool, Error<'a>>
         ensures { MatchResult result
             (λ answer. TellsMember self.now.graph.tables self.now.members (id_of id.entry) answer)
@@ -109,7 +109,7 @@ impl<'g> FeatureSet<'g> {
 impl<'g> FeatureSet<'g> {
     ghost use Rattle.feature_sets.specs.Names.{names_of_members};
 
-    /// The ids of the set's features, in the order of their nodes.
+    /// Returns an iterator over the ids of the set's features, in the order of their nodes.
     pub fn ids_by_node(&self) -> IdsByNode<'g, '_>
         ensures { result ≡ names_of_members self.now.graph.tables self.now.members }
     {
@@ -120,7 +120,7 @@ impl<'g> FeatureSet<'g> {
     }
 }
 
-/// The ids of a set's features that are left, in the order of their nodes.
+/// An iterator over the ids of a set's features, in the order of their nodes.
 #[derive(Drop)]
 pub struct IdsByNode<'g, 'a> {
     graph: FeatureGraph<'g>,

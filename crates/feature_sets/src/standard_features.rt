@@ -1,4 +1,4 @@
-//! The sets of features that Cargo selects by its options.
+//! The sets of features that Cargo's options select.
 ghost use Rattle.std.specs.Prelude.{◌≡◌};
 ghost use Rattle.feature_sets.specs.Filters.{StandardAccepts};
 
@@ -6,21 +6,21 @@ use crate::filter::FeatureFilter;
 use crate::graph::FeatureGraph;
 use feature_labels::FeatureId;
 
-/// The sets of features that Cargo selects by its options, each of them a filter.
+/// A filter for one of the sets of features that Cargo's options select.
 #[derive(Clone, Copy, Debug, PartialEq, Eq, PartialOrd, Ord, Hash)]
 pub enum StandardFeatures {
-    /// No feature but the base of each package.
+    /// Selects only the base of each package.
     None,
 
-    /// The features that are on by default.
+    /// Selects the features that are on by default.
     Default,
 
-    /// All features.
+    /// Selects all features.
     All,
 }
 
 impl StandardFeatures {
-    /// All of them, in order.
+    /// All values, in ascending order.
     pub const VALUES: &'static [Self; 3] = &[
         StandardFeatures::None,
         StandardFeatures::Default,

@@ -1,4 +1,4 @@
-//! Steps and offers, told by the ids of features.
+//! The ids of numbered steps and offers.
 ghost use Rattle.std.specs.Prelude.{◌≡◌, Some, IsTrue, IfOk, All, map};
 ghost use Rattle.std.specs.Option.{is_some};
 ghost use Rattle.feature_labels.specs.Names.{id_of};
@@ -15,7 +15,7 @@ use feature_labels::{FeatureId, LinkDeclarations};
 use std::alloc::{AllocError, Global};
 use walk_engine::{Half, Step, StepReason};
 
-/// The two ends of an edge.
+/// Returns the features of an edge.
 fn told_ends<'g>(graph: FeatureGraph<'g>, edge: usize) -> (FeatureId<'g>, FeatureId<'g>)
     requires { IsTrue (is_some (ends_told (graph_of graph) edge)) }
     ensures { ends_told (graph_of graph.entry) edge ≡ Some (id_of result.0, id_of result.1) }
@@ -25,7 +25,7 @@ fn told_ends<'g>(graph: FeatureGraph<'g>, edge: usize) -> (FeatureId<'g>, Featur
     (graph.id(from), graph.id(to))
 }
 
-/// An offer, by the two ends of its edge and the declarations that its link covers.
+/// Returns the features of an offer's edge, and the declarations that its link covers.
 fn told_offer<'g>(
     graph: FeatureGraph<'g>,
     edge: usize,
@@ -39,7 +39,7 @@ fn told_offer<'g>(
     (from, to, link.declarations())
 }
 
-/// A reason.
+/// Returns a reason with ids in place of numbers.
 fn told_reason<'g>(graph: FeatureGraph<'g>, reason: StepReason) -> Reason<'g>
     requires { IsTrue (is_some (reason_told (graph_of graph) reason)) }
     ensures { reason_told (graph_of graph.entry) reason ≡ Some (reason_name result) }
@@ -61,7 +61,7 @@ fn told_reason<'g>(graph: FeatureGraph<'g>, reason: StepReason) -> Reason<'g>
     }
 }
 
-/// A step.
+/// Returns a step with ids in place of numbers.
 fn told_step<'g>(graph: FeatureGraph<'g>, step: Step) -> (FeatureId<'g>, Reason<'g>)
     requires { IsTrue (is_some (step_told (graph_of graph) step)) }
     ensures { step_told (graph_of graph.entry) step ≡ Some (step_name result) }
@@ -69,7 +69,7 @@ fn told_step<'g>(graph: FeatureGraph<'g>, step: Step) -> (FeatureId<'g>, Reason<
     (graph.id(step.node), told_reason(graph, step.reason))
 }
 
-/// Steps.
+/// Returns `steps` with ids in place of numbers.
 pub(crate) fn told_steps<'g>(
     alloc: Global,
     graph: FeatureGraph<'g>,
@@ -85,7 +85,7 @@ pub(crate) fn told_steps<'g>(
     Ok(told)
 }
 
-/// Offers.
+/// Returns `offers` with ids in place of numbers.
 pub(crate) fn told_offers<'g>(
     alloc: Global,
     graph: FeatureGraph<'g>,

@@ -1,4 +1,4 @@
-//! Visitors: who says which links a query follows.
+//! Visitors, which decide the links that a query follows.
 ghost use Rattle.std.specs.Prelude.{◌≡◌, Bool};
 ghost use Rattle.feature_sets.specs.Boxed.{leaves};
 ghost use Rattle.feature_sets.specs.ByClosure.{closure_can, closure_gives};
@@ -9,19 +9,19 @@ ghost use Rattle.feature_sets.specs.Values.{Query};
 use crate::context::FeatureLinkContext;
 use crate::link::ConditionalLink;
 
-/// Who says which links a query follows.
+/// A visitor, which decides the links that a query follows.
 ///
 /// A walk shows a visitor each link at most once. A weak edge of a dependency with required and optional declarations
-/// has two, one for each half, with the same ends: `declarations` tells them apart, and the edge is followed where one of
+/// has two links with the same ends, one for each half. Their `declarations` differ, and the edge is followed if one of
 /// the two is accepted.
 pub trait FeatureLinkVisitor<'g> {
-    /// It may be shown the link, in the context of the query.
+    /// The visitor may be called for the link, in the context of the query.
     ghost can_visit: { Self → Query → Link → Type 0 };
 
-    /// The answer that it may give to the link, in the context of the query, and the state after it.
+    /// The visitor may return this result for the link, in the context of the query, and be in this state after it.
     ghost visit_gives: { Self → Query → Link → Bool → Self → Type 0 };
 
-    /// Whether the link is followed.
+    /// Returns true if the link is followed.
     fn visit_link(&mut self, cx: &FeatureLinkContext<'g>, link: ConditionalLink<'g>) -> bool
         requires { can_visit self.old cx.now (link_of link) }
         ensures { visit_gives self.old cx.now (link_of link.entry) result self.new };
@@ -37,15 +37,15 @@ impl<'g, T: FeatureLinkVisitor<'g>> FeatureLinkVisitor<'g> for &mut T {
     }
 }
 
-/// A visitor that can be boxed. It owns what it holds.
+/// A visitor that can be boxed. It owns its data.
 pub trait FeatureLinkObject: Drop {
-    /// It may be shown the link, in the context of the query.
+    /// The visitor may be called for the link, in the context of the query.
     ghost can_visit_any: { Self → Query → Link → Type 0 };
 
-    /// The answer that it may give to the link, in the context of the query, and the state after it.
+    /// The visitor may return this result for the link, in the context of the query, and be in this state after it.
     ghost visit_any_gives: { Self → Query → Link → Bool → Self → Type 0 };
 
-    /// Whether the link is followed.
+    /// Returns true if the link is followed.
     fn visit_any(&mut self, cx: &FeatureLinkContext<'_>, link: ConditionalLink<'_>) -> bool
         requires { can_visit_any self.old cx.now (link_of link) }
         ensures { visit_any_gives self.old cx.now (link_of link.entry) result self.new };

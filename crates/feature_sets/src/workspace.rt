@@ -1,4 +1,4 @@
-//! Queries that start from the workspace.
+//! Queries from the features of the workspace.
 ghost use Rattle.std.specs.Prelude.{◌≡◌, ◌<◌, Some, IfOk, IfErr, slice_get, length};
 ghost use Rattle.feature_core.specs.Nodes.{nodes};
 ghost use Rattle.feature_core.specs.Built.{NodeNamed};
@@ -16,7 +16,7 @@ use guppy_support::IxBitSet;
 use std::alloc::Global;
 
 impl<'g> FeatureGraph<'g> {
-    /// Whether the node's package is of the workspace.
+    /// Returns true if the package of `node` is in the workspace.
     fn is_in_workspace(&self, node: usize) -> bool
         requires { node < length (nodes (tables_of_graph self.now)) }
         ensures { slice_get (workspace_marks (tables_of_graph self.now)) node ≡ Some result }
@@ -25,7 +25,7 @@ impl<'g> FeatureGraph<'g> {
         self.graph.package(package_ix).in_workspace()
     }
 
-    /// Asks the filter for the feature of a node, and puts the node into the set where it accepts.
+    /// Calls the filter for the feature of `node`, and inserts the node into `members` if the filter accepts it.
     fn ask_node<F: FeatureFilter<'g>>(&self, node: usize, filter: &mut F, members: &mut IxBitSet)
         requires node { node < length (nodes (tables_of_graph self.now)) }
         requires size { length members.old ≡ length (nodes (tables_of_graph self.now)) }
@@ -38,9 +38,9 @@ impl<'g> FeatureGraph<'g> {
         }
     }
 
-    /// The query that follows edges from those features of the workspace's packages that the filter accepts to what they
-    /// need. The filter is asked once for each feature of the workspace's packages, in the order of the nodes, after all
-    /// memory was taken. The only error is want of memory, and the filter was asked nothing then.
+    /// Returns the forward query from the features that `filter` accepts, among those of the workspace's packages.
+    /// Calls `filter` once for each of these features, in the order of the nodes, after all allocations. `Memory` is
+    /// the only error, and then `filter` wasn't called.
     pub fn query_workspace<F: FeatureFilter<'g>>(
         &self,
         alloc: Global,

@@ -1,8 +1,7 @@
 //! The program `features FILE COMMAND ARGS`.
 //!
-//! FILE is the path of a row file, or `-` for standard input. The answer goes to standard output; a
-//! fault is one line on standard error, and the exit status says whether the words (2) or something
-//! else (1) was at fault.
+//! FILE is the path of a row file, or `-` for standard input. The output goes to standard output, and a fault is one
+//! line on standard error. The exit status is 2 for a fault of the command line, and 1 for every other fault.
 #![tactic(auto)]
 
 use guppy_support::collect_exactly;
@@ -12,7 +11,7 @@ use std::io::ErrorKind;
 use std::process::ExitCode;
 use std::{env, io};
 
-/// Answers what the program's words ask for.
+/// Runs the command of the program's arguments. The error is the first fault.
 fn answer(rt: &HostRuntime) -> Result<(), Fault> {
     let arguments = match env::args(rt) {
         Ok(arguments) => arguments,

@@ -1,4 +1,4 @@
--- Membership by a test of equality, in the field's values.
+-- Membership by a test of equality.
 use Rattle.std.proofs.Common.{◌≡◌, ◌<◌, ℕ, zero, suc, ◌⊎◌, inl, inr, ⊎_elim, Bool, true, false, ◌||◌, List, [], ◌∷◌, length, map, refl, sym, ◌∙◌, arith}
 use Rattle.std.specs.Prelude.{◌↔◌, IsTrue, Contains, slice_index_or}
 use Rattle.std.specs.List.{list_any}
@@ -12,7 +12,7 @@ at_front : {X : Type 0} (x : X) (xs : List X) (y : X) (k : ℕ) → k < suc (len
 at_front x xs y zero l e = inl e
 at_front x xs y (suc k) l e = inr (k, omega arith, e)
 
--- the first element, or one of the others
+-- an element is the first, or one of the others
 contains_cons : {X : Type 0} (x : X) (xs : List X) (y : X) → Contains (x ∷ xs) y ↔ ((x ≡ y) ⊎ Contains xs y)
 contains_cons x xs y = (
   (λ h. at_front x xs y h.0 h.1 h.2),
@@ -20,7 +20,8 @@ contains_cons x xs y = (
 )
 
 module _ {X N : Type 0} (f : X → N) where
-  -- a test that passes for what has this value
+  -- a test that passes exactly for the value `n` passes for an element if and only if `n` is a value of the
+  -- list
   pub listed : (test : X → Bool) (n : N) (xs : List X) → ((x : X) → IsTrue (test x) ↔ f x ≡ n) → IsTrue (list_any test xs) ↔ Contains (map f xs) n
   listed test n [] same = ((λ h. cc), (λ h. let below = h.1 in absurd (omega arith)))
   listed test n (x ∷ xs) same =
@@ -38,6 +39,6 @@ module _ {X N : Type 0} (f : X → N) where
       let test : (y : X) → IsTrue (eq found.0 y) ↔ f y ≡ n = λ y. ((λ e. sym ((good found.0 y).0 e) ∙ found.1), (λ e. (good found.0 y).1 (found.1 ∙ sym e))) in
       (listed (eq found.0) n ys test).0 (sym (same found.0) ∙ (listed (eq found.0) n xs test).1 h)
 
-  -- two lists that pass the same tests of equality have the same values
+  -- two lists for which the same tests of equality pass have the same values
   pub same_elements : (eq : X → X → Bool) (xs ys : List X) → ((x : X) → list_any (eq x) xs ≡ list_any (eq x) ys) → ((x y : X) → IsTrue (eq x y) ↔ f x ≡ f y) → SameElements (map f xs) (map f ys)
   same_elements eq xs ys same good n = (half eq xs ys same good n, half eq ys xs (λ x. sym (same x)) good n)

@@ -1,4 +1,4 @@
--- Links of a platform.
+-- Links that hold on a platform.
 use Rattle.std.proofs.Common.{◌≡◌, ◌∙◌, Bool, true, false, ◌||◌, List, [], ◌∷◌, Option, Some, None, map, refl, ap, sym}
 use Rattle.std.specs.List.{list_any}
 use Rattle.std.specs.Option.{option_map, option_map_or}
@@ -34,7 +34,7 @@ or_false : (b : Bool) → (b || false) ≡ b
 or_false true = refl
 or_false false = refl
 
--- one kind after another
+-- a link is for some of the kinds if it is for one of them
 pub by_kinds : (kinds : List DependencyKind) (specs : List Text) (l : Link) → list_any (λ kind. is_platform_link (kind ∷ []) specs l) kinds ≡ is_platform_link kinds specs l
 by_kinds kinds specs l = by (facts_of l)
   where
@@ -42,7 +42,7 @@ by_kinds kinds specs l = by (facts_of l)
     by None = none_any kinds
     by (Some facts) = any_same (λ kind. is_for_platform (kind ∷ []) specs facts) (λ kind. holds_where specs (status_for kind facts)) kinds (λ kind. or_false (holds_where specs (status_for kind facts)))
 
--- the status of one kind decides of it
+-- the status for one kind decides whether the link is for it
 pub by_status : (kind : DependencyKind) (specs : List Text) (l : Link) (status : Status) → option_map (status_for kind) (facts_of l) ≡ Some status → holds_where specs status ≡ is_platform_link (kind ∷ []) specs l
 by_status kind specs l status is =
     let facts = mapped_is (status_for kind) (facts_of l) status is in
@@ -50,7 +50,7 @@ by_status kind specs l status is =
     ∙ sym (or_false (holds_where specs (status_for kind facts.0)))
     ∙ ap (λ o. option_map_or (is_for_platform (kind ∷ []) specs) o false) (sym facts.1)
 
--- a visitor that stays as it is, and answers by a test of links, answers as the test of offers says
+-- a visitor that keeps its state and decides by a test of links decides by the test of offers
 answers_along : {V : Type 0} (test : Link → Bool) (gives : V → Query → Link → Bool → V → Type 0) (s : V) → ((u : V) (q : Query) (l : Link) (answer : Bool) (t : V) → u ≡ s → gives u q l answer t → (t ≡ s) × (answer ≡ test l))
     → (q : Query) (run : List Call) (t : V) → GoesAlong (shown gives q) s run t → t ≡ s
 answers_along test gives s step q [] t same = sym same

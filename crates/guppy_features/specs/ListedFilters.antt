@@ -1,4 +1,4 @@
--- The filters over a list: their bases, and what they list.
+-- The parts of filters with a list: the base, and the names or ids.
 use Rattle.std.specs.Prelude.{List, map}
 use Rattle.guppy_packages.specs.Rows.{Text}
 use Rattle.feature_labels.specs.Names.{LabelName, id_of}

@@ -1,10 +1,10 @@
--- Visitors for a platform, without where they lie in memory.
+-- Visitors for a platform as values.
 use Rattle.std.specs.Prelude.{List, map}
 use Rattle.guppy_packages.specs.Rows.{Text}
 use Rattle.guppy_packages.specs.declared.row.DependencyKind.{DependencyKind}
 use Rattle.guppy_features.specs.declared.platform_visitor.PlatformVisitor.{PlatformVisitor}
 
--- the kinds of dependency, and the specs that hold
+-- the dependency kinds of the visitor
 abbrev pub kinds_of : PlatformVisitor → List DependencyKind
 kinds_of v = v.kinds.now
 

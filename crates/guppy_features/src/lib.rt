@@ -1,4 +1,5 @@
-//! The feature graph: queries and sets of features, filters over a list, and a visitor for a platform.
+//! The feature graph: queries over it and sets of its features, filters with a list of names or ids, and a
+//! visitor for a platform.
 #![tactic(auto)]
 
 mod listed_filters;

@@ -1,4 +1,4 @@
-//! Filters that accept what another accepts, and the features of a list.
+//! Filters that extend another filter by a list of names or ids.
 ghost use Rattle.std.specs.Prelude.{◌≡◌, ◌↔◌, ◌⊎◌, IsTrue, IfOk, IfErr, Contains, map};
 ghost use Rattle.std.specs.List.{list_any};
 ghost use Rattle.std.specs.HashSet.{contains};
@@ -13,10 +13,10 @@ use std::collections::HashSet;
 use std::fmt;
 use std::hash::{BuildHasherDefault, DefaultHasher, Hash};
 
-/// The hash of what is listed: collisions have to be searched for.
+/// The hasher of the lists. Its key is fixed, so items that collide can be searched for.
 type Hashes = BuildHasherDefault<DefaultHasher>;
 
-/// The set of these items.
+/// Returns the set of the elements of `items`.
 fn set_of<T: Eq + Hash + Copy>(alloc: Global, items: &[T]) -> Result<HashSet<T, Hashes>, AllocError>
     ensures { IfOk result (λ set. (item : T) → contains T.eq set item ≡ list_any (T.eq item) items.now) }
 {
@@ -27,15 +27,15 @@ fn set_of<T: Eq + Hash + Copy>(alloc: Global, items: &[T]) -> Result<HashSet<T, 
     Ok(set)
 }
 
-/// Accepts what its base accepts, and the named features of the listed names.
+/// A filter that accepts the features that its base accepts, and the named features with a listed name.
 #[derive(Drop)]
 pub struct NamedFeatureFilter<'a, B> {
     base: B,
     names: HashSet<&'a str, Hashes>,
 }
 
-/// The filter that asks its base first and, where that refuses, accepts the named features of these names. The only
-/// error is want of memory.
+/// Returns the filter that accepts a feature if `base` does, or if it is a named feature whose name is in
+/// `names`. The base is called for every feature. `Memory` is the only error.
 pub fn named_feature_filter<'a, B: Drop>(
     alloc: Global,
     base: B,
@@ -50,7 +50,7 @@ pub fn named_feature_filter<'a, B: Drop>(
 }
 
 impl<'a, B> NamedFeatureFilter<'a, B> {
-    /// Whether the label is that of a named feature whose name is listed.
+    /// Returns true if the label is a named feature with a listed name.
     fn lists(&self, label: FeatureLabel<'_>) -> bool
         ensures { IsTrue result ↔ ListsLabel (listed_names self.now) (label_of label.entry) }
     {
@@ -77,15 +77,15 @@ impl<'a, B> fmt::Debug for NamedFeatureFilter<'a, B> {
     }
 }
 
-/// Accepts what its base accepts, and the features of the listed ids.
+/// A filter that accepts the features that its base accepts, and the features with a listed id.
 #[derive(Drop)]
 pub struct FeatureIdFilter<'a, B> {
     base: B,
     ids: HashSet<FeatureId<'a>, Hashes>,
 }
 
-/// The filter that asks its base first and, where that refuses, accepts the features of these ids. It knows no graph, so
-/// it takes an id that no graph has; that one is never met. The only error is want of memory.
+/// Returns the filter that accepts a feature if `base` does, or if its id is in `feature_ids`. The base is
+/// called for every feature. An id that the graph lacks has no effect. `Memory` is the only error.
 pub fn feature_id_filter<'a, B: Drop>(
     alloc: Global,
     base: B,
@@ -100,7 +100,7 @@ pub fn feature_id_filter<'a, B: Drop>(
 }
 
 impl<'a, B> FeatureIdFilter<'a, B> {
-    /// Whether the id is listed.
+    /// Returns true if the id is listed.
     fn lists(&self, id: FeatureId<'_>) -> bool
         ensures { IsTrue result ↔ Contains (listed_ids self.now) (id_of id.entry) }
     {

@@ -1,4 +1,4 @@
-//! A visitor for a platform.
+//! A visitor that follows the links of one platform.
 ghost use Rattle.std.specs.Prelude.{◌≡◌, ◌↔◌, ◌∷◌, [], ℕ, IsTrue, IfOk, IfErr, map};
 ghost use Rattle.std.specs.List.{list_any};
 ghost use Rattle.std.specs.Str.{bytes_eq};
@@ -19,15 +19,15 @@ use feature_sets::{
 use guppy_packages::{DependencyKind, PlatformStatus, Spec};
 use std::alloc::Global;
 
-/// A visitor for a platform: it accepts a link if, for one of its kinds of dependency, the link's status is always, or lists one of
-/// its specs. A spec is compared as text. It has no state.
+/// A visitor for a platform. It accepts a link if its status for one of `kinds` is always, or contains one of
+/// `specs`. Specs are compared as text. It has no state.
 #[derive(Clone, Copy, Debug)]
 pub struct PlatformVisitor<'a> {
     kinds: &'a [DependencyKind],
     specs: &'a [&'a str],
 }
 
-/// Whether a spec is among these texts.
+/// Returns true if the text of `spec` is in `specs`.
 fn is_among(spec: &Spec, specs: &[&str]) -> bool
     ensures { result ≡ list_any (λ s. bytes_eq (spec_text spec.now) s.now) specs.now }
 {
@@ -35,14 +35,14 @@ fn is_among(spec: &Spec, specs: &[&str]) -> bool
     specs.iter().any(|one| text == *one)
 }
 
-/// Whether one of the specs is among these texts.
+/// Returns true if the text of one of `listed` is in `specs`.
 fn are_met(listed: &[Spec], specs: &[&str]) -> bool
     ensures { result ≡ list_any (λ l. list_any (λ s. bytes_eq (spec_text l) s.now) specs.now) listed.now }
 {
     listed.iter().any(|spec| is_among(spec, specs))
 }
 
-/// Whether a status holds where these specs do.
+/// Returns true if the status is always, or contains one of `specs`.
 fn holds(status: PlatformStatus<'_>, specs: &[&str]) -> bool
     ensures { result ≡ holds_where (map (λ s. s.now) specs.now) (status_of status.entry) }
 {
@@ -54,7 +54,7 @@ fn holds(status: PlatformStatus<'_>, specs: &[&str]) -> bool
 }
 
 impl<'a> PlatformVisitor<'a> {
-    /// The visitor for these kinds of dependency, where these specs hold.
+    /// Returns the visitor for these dependency kinds and for the platform on which `specs` hold.
     pub fn new(kinds: &'a [DependencyKind], specs: &'a [&'a str]) -> Self
         ensures kinds { kinds_of result ≡ kinds.now }
         ensures specs { specs_of result ≡ map (λ s. s.now) specs.now }
@@ -62,22 +62,23 @@ impl<'a> PlatformVisitor<'a> {
         PlatformVisitor { kinds, specs }
     }
 
-    /// Whether the link is for a kind of dependency, where the specs hold.
+    /// Returns true if the link's status for `kind` holds on the platform.
     fn meets(&self, link: ConditionalLink<'_>, kind: DependencyKind) -> bool
         ensures { result ≡ is_platform_link (kind ∷ []) (specs_of self.now) (link_of link.entry) }
     {
         holds(link.status_for_kind(kind), self.specs)
     }
 
-    /// Whether the link is for one of the kinds of dependency, where the specs hold.
+    /// Returns true if the link's status for one of the visitor's kinds holds on the platform.
     fn accepts(&self, link: ConditionalLink<'_>) -> bool
         ensures { result ≡ list_any (λ kind. is_platform_link (kind ∷ []) (specs_of self.now) (link_of link.entry)) (kinds_of self.now) }
     {
         self.kinds.iter().any(|kind| self.meets(link, *kind))
     }
 
-    /// Resolves the query with this visitor, and explains the result: the least set for the offers of the platform, in whatever
-    /// order they came up, by reasons that are such offers, and nothing left out. The only error is want of memory.
+    /// Resolves the query with this visitor. The result is the least set for the platform's offers, with a
+    /// reason for each feature and with all refused links. The order in which links are visited doesn't
+    /// matter. `Memory` is the only error.
     pub fn resolve<'g>(
         self,
         alloc: Global,

@@ -1,4 +1,4 @@
--- Lists in which nothing stands twice.
+-- Lists without equal items.
 use Rattle.std.proofs.Common.{◌≡◌, ℕ, zero, suc, List, [], ◌∷◌, ◌++◌, Bool, true, false, ◌||◌, Some, map, refl, ap, ◌∙◌, subst}
 use Rattle.std.specs.Prelude.{slice_get}
 use Rattle.std.specs.List.{list_any}
@@ -6,7 +6,7 @@ use Rattle.guppy_packages.specs.Tables.{HasNoRepeats}
 use Rattle.guppy_packages.proofs.Firsts.{AreApart}
 use Rattle.guppy_packages.proofs.Lists.{list_any-map}
 
--- P holds of each item
+-- `P` holds for each item
 abbrev pub AllIn : {X : Type 0} → (X → Type 0) → List X → Type 0
 AllIn P [] = Unit {0}
 AllIn P (x ∷ xs) = P x × AllIn P xs

@@ -1,4 +1,4 @@
--- Lists that ascend: how they are joined, and that their elements fix them.
+-- Ascending lists: how they are joined, and that their elements determine them.
 use Rattle.std.proofs.Common.{◌≡◌, ℕ, zero, suc, ◌+◌, ◌<◌, ◌≤◌, ◌⊎◌, inl, inr, ⊎_elim, List, [], ◌∷◌, ◌++◌, Option, None, Some, map, length, refl, ap, sym, ◌∙◌, subst, arith}
 use Rattle.std.specs.Prelude.{All, AllPairs, Contains, filter_map, slice_get, slice_index_or}
 use Rattle.std.specs.List.{cons_option, flat_map, range_with_len}
@@ -46,7 +46,7 @@ place_of_element (y ∷ ys) x h = ⊎_elim
     (λ e. let r = place_of_element ys x e in (suc r.0, r.1))
     (Contains-cases y ys x h)
 
--- what a function of numbers gives of those from a up to a + n
+-- the values of `f` for the numbers from `a` up to `a + n`
 module _ {X : Type 0} (f : ℕ → Option X) where
   pub from_options : (a n : ℕ) (x : X) → Contains (filter_map f (range_with_len a n)) x → (i : ℕ) × (a ≤ i) × (i < a + n) × (f i ≡ Some x)
   from_options a zero x h = absurd (Contains-none x h)
@@ -75,7 +75,7 @@ module _ {X : Type 0} (f : ℕ → Option X) where
       add None c = c
       add (Some y) c = Contains-later y _ x c
 
--- the same where it gives lists
+-- the same for lists of values
 module _ {X : Type 0} (f : ℕ → List X) where
   pub from_lists : (a n : ℕ) (x : X) → Contains (flat_map f (range_with_len a n)) x → (i : ℕ) × (a ≤ i) × (i < a + n) × Contains (f i) x
   from_lists a zero x h = absurd (Contains-none x h)
@@ -114,7 +114,7 @@ module _ {X : Type 0} (R : X → X → Type 0) where
       (All-of (R x) (xs ++ ys) (λ y c. ⊎_elim (λ i. later_is x xs a y i) (λ i. h x y (Contains-first x xs) i) (Contains-append_cases xs ys y c)))
       (AllPairs-append xs ys (AllPairs-later x xs a) b (λ u v c d. h u v (Contains-later x xs u c) d))
 
-  -- lists that follow one another, each of which ascends
+  -- consecutive lists, each ascending
   pub lists_ascend : (f : ℕ → List X) → ((i : ℕ) → AllPairs R (f i)) → ((i j : ℕ) (x y : X) → i < j → Contains (f i) x → Contains (f j) y → R x y)
       → (a n : ℕ) → AllPairs R (flat_map f (range_with_len a n))
   lists_ascend f each apart a zero = AllPairs-none
@@ -134,7 +134,7 @@ module _ {X : Type 0} (R : X → X → Type 0) where
           (All-of (R x) (filter_map f (range_with_len (a + 1) n)) (λ y c. let r = from_options f (a + 1) n y c in apart a r.0 x y (omega (arith, r.1)) e r.3))
           more
 
--- ascending lists with the same elements are the same
+-- ascending lists with the same elements are equal
 module _ {X : Type 0} (R : X → X → Type 0) (never : (x y : X) → R x y → R y x → ⊥) where
   same_first : (x y : X) (xs ys : List X) → AllPairs R (x ∷ xs) → AllPairs R (y ∷ ys) → Contains (y ∷ ys) x → Contains (x ∷ xs) y → x ≡ y
   same_first x y xs ys a b c d =

@@ -1,4 +1,4 @@
--- What each row gives together with the rows before it.
+-- The results of a function for each row and the rows before it.
 use Rattle.std.proofs.Common.{◌≡◌, ◌+◌, List, [], ◌∷◌, ◌++◌, Option, None, Some, length, take, refl, ap, sym, ◌∙◌, append_assoc, length-append}
 use Rattle.std.proofs.lemmas.List.{append-nil}
 use Rattle.std.specs.List.{cons_option, filter_map, enumerate_from}
@@ -32,7 +32,7 @@ module _ {X : Type 0} (f : List RowText → RowText → Option X) where
   after-append before (x ∷ xs) ys =
       rw (after-append (before ++ x ∷ []) xs ys, append_assoc before (x ∷ []) xs) (sym (cons_option-append (f before x) (after (before ++ x ∷ []) xs) (after (before ++ x ∷ xs) ys)))
 
-  -- the rows that follow add at the end
+  -- further rows add results at the end
   pub each_after-append : (xs ys : List RowText) → each_after f (xs ++ ys) ≡ each_after f xs ++ after xs ys
   each_after-append xs ys = each_after-is (xs ++ ys) ∙ after-append [] xs ys ∙ ap (λ l. l ++ after xs ys) (sym (each_after-is xs))
 

@@ -7,7 +7,7 @@ use Rattle.std.proofs.lemmas.List.Elements.{filter-append}
 use Rattle.guppy_packages.specs.Graph.{firsts}
 
 module _ {X : Type 0} (like : X → X → Bool) (along : (a b c : X) → like a b ≡ true → like b c ≡ true → like a c ≡ true) where
-  -- what is like one that is left out is like the one that it stood behind
+  -- an item like one that is left out is like an earlier item that is kept
   kept : (d x : X) (ys : List X) → like d x ≡ false → list_any (like d) (filter (λ y. not (like y x)) ys) ≡ list_any (like d) ys
   kept d x [] h = refl
   kept d x (y ∷ ys) h = go (like y x) refl (like d y) refl (kept d x ys h)
@@ -36,7 +36,7 @@ module _ {X : Type 0} (like : X → X → Bool) (along : (a b c : X) → like a 
       go false e true f more = rw (more, filter-append (λ y. not (like y x)) (firsts like xs) (d ∷ []), f, append-nil (filter (λ y. not (like y x)) (firsts like xs)))
       go false e false f more = rw (more, filter-append (λ y. not (like y x)) (firsts like xs) (d ∷ []), f, kept d x (firsts like xs) f, e)
 
-  -- something is like one of the firsts where it is like one of all
+  -- an item is like one of the firsts if and only if it is like one of all
   pub list_any-firsts : (d : X) (xs : List X) → list_any (like d) (firsts like xs) ≡ list_any (like d) xs
   list_any-firsts d [] = refl
   list_any-firsts d (x ∷ xs) = go (like d x) refl (list_any-firsts d xs)
@@ -45,7 +45,7 @@ module _ {X : Type 0} (like : X → X → Bool) (along : (a b c : X) → like a 
       go true e more = refl
       go false e more = kept d x (firsts like xs) e ∙ more
 
--- each is like none that stands before it
+-- no item is like an earlier one
 abbrev pub AreApart : {X : Type 0} → (X → X → Bool) → List X → Type 0
 AreApart like [] = Unit {0}
 AreApart like (x ∷ xs) = (list_any (λ y. like y x) xs ≡ false) × AreApart like xs
@@ -79,7 +79,7 @@ pub AreApart-firsts : {X : Type 0} (like : X → X → Bool) (xs : List X) → A
 AreApart-firsts like [] = tt
 AreApart-firsts like (x ∷ xs) = (filtered_away (λ y. like y x) (firsts like xs), AreApart-filter like (λ y. not (like y x)) (firsts like xs) (AreApart-firsts like xs))
 
--- none is left where none passes
+-- if no item passes, the filtered list is empty
 pub filter-none : {X : Type 0} (p : X → Bool) (xs : List X) → list_any p xs ≡ false → filter p xs ≡ []
 filter-none p [] h = refl
 filter-none p (x ∷ xs) h = go (p x) h (filter-none p xs)

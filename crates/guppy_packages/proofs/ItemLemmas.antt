@@ -7,7 +7,7 @@ use Rattle.std.proofs.lemmas.List.{take-append-drop}
 use Rattle.guppy_packages.specs.Items.{item_of, cut_item, plain_item, slash_item, optional_item, feature_item, is_slash}
 use Rattle.guppy_packages.specs.Rows.{Text}
 
--- whether an element passes, by the place of the first that does
+-- an element passes if the first that does has a place
 pub list_any-found : {X : Type 0} (p : X → Bool) (xs : List X) → position_or_len p xs < length xs → list_any p xs ≡ true
 list_any-found p [] h = absurd (omega arith)
 list_any-found p (x ∷ xs) h = go (p x) h (λ k. list_any-found p xs k)

@@ -1,4 +1,4 @@
--- The links of dependencies, and what one more dependency does to them.
+-- The links of dependencies, and the effect of one more dependency.
 use Rattle.std.proofs.Common.{◌≡◌, ◌≢◌, ◌⊎◌, inl, inr, ℕ, List, [], ◌∷◌, ◌++◌, Bool, true, false, cond, ◌||◌, Option, None, Some, Err, map, length, refl, ap, ap₂, sym, ◌∙◌, if◌then◌else◌}
 use Rattle.std.specs.Prelude.{filter, ◌==◌, ◌&&◌}
 use Rattle.std.specs.List.{cons_option, list_any}
@@ -30,7 +30,7 @@ eqb-sym a b = go (eqb_tells a b) (eqb_tells b a)
 eqb-refl : (a : ℕ) → (a == a) ≡ true
 eqb-refl a = eq-eqb a a refl
 
--- dependencies of one pair have its ends
+-- dependencies of one pair have the same ends
 pub joined_ends : (d e : Dependency) → is_joined d e ≡ true → (d.from ≡ e.from) × (d.to ≡ e.to)
 joined_ends d e h = go (d.from == e.from) refl (d.to == e.to) refl h
   where
@@ -51,7 +51,7 @@ joined_along a b c e f =
     let q = joined_ends b c f in
     same_ends a.from c.from a.to c.to (p.0 ∙ q.0, p.1 ∙ q.1)
 
--- what is of the pair of one is so of the other's
+-- dependencies of one pair are alike to every third one
 joined_as : (d y z : Dependency) → is_joined d y ≡ true → is_joined d z ≡ is_joined z y
 joined_as d y z h =
     let ends = joined_ends d y h in
@@ -103,7 +103,7 @@ result_map-outcome : {X Y : Type 0} (f : X → Y) (o : Option RowFault) (x : X) 
 result_map-outcome f None x = refl
 result_map-outcome f (Some fault) x = refl
 
--- the links of some firsts take a dependency as the definitions say
+-- the links of some of the firsts, with one more dependency, are as defined
 joined : (all : List Dependency) (d : Dependency) (ys : List Dependency) → AreApart is_joined ys → (list_any (is_joined d) ys ≡ false → filter (is_joined d) all ≡ [])
     → add_link d.from d.to d.name d.declared (map (link_of all) ys)
     ≡ outcome (name_fault (has_other_name d.from d.to d.name (map (link_of all) ys))) (map (link_of (all ++ d ∷ [])) (with_new (list_any (is_joined d) ys) ys d))
@@ -132,14 +132,14 @@ joined all d (y ∷ ys) a alone = go (is_joined d y) refl (bytes_eq d.name y.nam
         last true = rw here
         last false = rw here
 
--- all links take a dependency as the definitions say
+-- all links, with one more dependency, are as defined
 add_link-is : (all : List Dependency) (d : Dependency)
     → add_link d.from d.to d.name d.declared (links_of all) ≡ outcome (name_fault (has_other_name d.from d.to d.name (links_of all))) (links_of (all ++ d ∷ []))
 add_link-is all d =
     joined all d (firsts is_joined all) (AreApart-firsts is_joined all) (λ h. filter-none (is_joined d) all (sym (list_any-firsts is_joined joined_along d all) ∙ h))
     ∙ ap (λ ys. outcome (name_fault (has_other_name d.from d.to d.name (links_of all))) (map (link_of (all ++ d ∷ [])) ys)) (sym (firsts-push is_joined joined_along all d))
 
--- the second pass takes a row as the definitions say
+-- the second pass reads a row as defined
 pub second_step-is : (packages : List PackageTable) (before : List RowText) (row : RowText)
     → second_step packages (length (packages_of before)) (links_of (dependencies_of packages before)) row ≡ outcome (link_fault packages before row) (links_of (dependencies_of packages (before ++ row ∷ [])))
 second_step-is packages before (a_package id w) = rw (each_after-push (row_dependency packages) before (a_package id w), append-nil (dependencies_of packages before))

@@ -1,4 +1,4 @@
--- The links that leave a package, by where the links of each package begin.
+-- The links that leave a package, by the first link of each package.
 use Rattle.std.proofs.Common.{◌≡◌, ℕ, ◌+◌, ◌<◌, ◌≤◌, List, [], ◌∷◌, Bool, true, false, Some, inl, inr, length, get_or, max, refl, sym, subst, arith}
 use Rattle.std.specs.Prelude.{nat_le, nat_lt, slice_get}
 use Rattle.std.proofs.lemmas.Bool.{cases_lt, leb-false, ltb-false}
@@ -26,7 +26,7 @@ there : (links : List LinkTable) (k : ℕ) → k < length links → (l : LinkTab
 there [] k h = absurd (omega arith)
 there (x ∷ xs) k h = (get_or (x ∷ xs) k x, slice_get-get_or (x ∷ xs) k x h)
 
--- the links between two begins
+-- the links between two consecutive first links
 pub links_between : (links : List LinkTable) (from first end : ℕ) → IsBegin links from first → IsBegin links (from + 1) end → AreLinksFrom links from first end
 links_between links from first end low high = record {
   ascend = unless end first (λ h. crossed h (there links end (omega (arith, h, low.within))));
@@ -45,7 +45,7 @@ links_between links from first end low high = record {
         let again = (high.before end t.0 t.1).1 (omega (arith, less)) in
         omega (arith, again)
 
--- the links of a package that has a begin
+-- the links of a package that has an entry in `begins`
 pub links_begun : (links : List LinkTable) (packages : ℕ) (begins : List ℕ) → AreAllBegun packages links begins → (from first end : ℕ) → from < packages
     → first ≡ get_or begins from first → end ≡ get_or begins (from + 1) end → AreLinksFrom links from first end
 links_begun links packages begins all from first end h is_first is_end =
@@ -55,7 +55,7 @@ links_begun links packages begins all from first end h is_first is_end =
     (subst (IsBegin links from) (sym (get_or_read begins from first lf is_first 0)) (all.begun from lf))
     (subst (IsBegin links (from + 1)) (sym (get_or_read begins (from + 1) end le is_end 0)) (all.begun (from + 1) le))
 
--- more begins, at one place
+-- more entries, all with one place
 pub begun_up : (links : List LinkTable) (begins more : List ℕ) (last place : ℕ) → AreBegun links begins → place ≤ length links
     → ((k : ℕ) (l : LinkTable) → slice_get links k ≡ Some l → k < place → l.from < length begins)
     → ((k : ℕ) (l : LinkTable) → slice_get links k ≡ Some l → place ≤ k → last ≤ l.from)
@@ -77,7 +77,7 @@ begun_up links begins more last place begun h before behind long kept added p lp
           })
     ]
 
--- the links behind one leave its package or later ones
+-- the links after one leave its package or later ones
 pub leaves_behind : (t : Tables) → AreTables t → (place : ℕ) (link : LinkTable) → slice_get t.links place ≡ Some link
     → (k : ℕ) (l : LinkTable) → slice_get t.links k ≡ Some l → place ≤ k → link.from ≤ l.from
 leaves_behind t are place link at k l got le =

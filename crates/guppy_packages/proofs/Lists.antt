@@ -31,7 +31,7 @@ slice_get-map f (y ∷ ys) (suc i) x h = slice_get-map f ys i x h
 pub drop_at : {X : Type 0} (xs : List X) (i : ℕ) (x : X) → slice_get xs i ≡ Some x → drop i xs ≡ x ∷ drop (i + 1) xs
 drop_at xs i x h = rw (add-one, drop-cons xs i x (slice_get_within xs i x h), get_or_from_slice_get xs i x x h)
 
--- an item of `map f xs` comes from the one at its place
+-- an item of `map f xs` is `f` of the item at its place
 pub map_at : {X Y : Type 0} (f : X → Y) (xs : List X) (k : ℕ) (y : Y) → slice_get (map f xs) k ≡ Some y → (x : X) × (k < length xs) × (get_or xs k x ≡ x) × (y ≡ f x)
 map_at f [] k y h = cc
 map_at f (x ∷ xs) zero y h =
@@ -44,7 +44,7 @@ map_at f (x ∷ xs) (suc k) y h =
     step : (a b : ℕ) → a < b → suc a < suc b
     step a b h = omega arith
 
--- whether one passes, by the place of the first that does
+-- an item passes if and only if the first that does has a place
 is_some-cond : {X : Type 0} (b : Bool) (x : X) → is_some (cond b (Some x) None) ≡ b
 is_some-cond true x = refl
 is_some-cond false x = refl

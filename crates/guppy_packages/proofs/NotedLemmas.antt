@@ -1,4 +1,4 @@
--- The link of a pair is the one that is noted where it leads to.
+-- The link of a pair is the one that is noted at its target.
 use Rattle.std.proofs.Common.{◌≡◌, ◌≢◌, ◌⊎◌, ◌↔◌, inl, inr, ℕ, zero, suc, ◌+◌, ◌<◌, ◌≤◌, List, [], ◌∷◌, ◌++◌, Bool, true, false, cond, ◌||◌, not, Option, None, Some, Ok, Err, Result, map, get_or, length, refl, ap, sym, ◌∙◌, subst, arith}
 use Rattle.std.specs.Prelude.{slice_get, slice_set, OnOk, ◌==◌, ◌&&◌}
 use Rattle.std.specs.List.{list_any, position_or_len}
@@ -14,7 +14,7 @@ use Rattle.guppy_packages.specs.inner.Begins.{IsBegin}
 use Rattle.guppy_packages.specs.inner.Noted.{AreNoted}
 use Rattle.guppy_packages.specs.inner.Steps.{joins}
 
--- the one item that passes stands at its place
+-- the place of the only item that passes
 first_at : {X : Type 0} (p : X → Bool) (xs : List X) (i : ℕ) (x : X) → slice_get xs i ≡ Some x → p x ≡ true → ((k : ℕ) (y : X) → slice_get xs k ≡ Some y → p y ≡ true → k ≡ i) → position_or_len p xs ≡ i
 first_at p [] i x g t only = cc
 first_at p (y ∷ ys) zero x g t only =
@@ -36,7 +36,7 @@ none_at p (x ∷ xs) h = go (p x) refl (none_at p xs (λ k y g t. h (suc k) y g 
     go true e more = absurd (h zero x refl e)
     go false e more = more
 
--- an item of a longer list, and of a list that was written to
+-- an item of a list that was appended or written to
 pushed_at : {X : Type 0} (xs : List X) (x : X) (k : ℕ) (y : X) → slice_get (xs ++ x ∷ []) k ≡ Some y → (slice_get xs k ≡ Some y) ⊎ ((k ≡ length xs) × (y ≡ x))
 pushed_at [] x zero y h =
     let same : y ≡ x = cc in
@@ -82,7 +82,7 @@ joins_ends from to l h = go (from == l.from) refl (to == l.to) refl h
     go true p false q h = cc
     go false p c q h = cc
 
--- the link at a number, where it passes
+-- the link at a number, which passes
 pub link_there : (p : LinkTable → Bool) (es : List ((ℕ × ℕ) × LinkData)) (at : ℕ) (e : (ℕ × ℕ) × LinkData) → option_map_or p (slice_get (map link_table es) at) false ≡ true → e ≡ get_or es at e
     → (slice_get (map link_table es) at ≡ Some (link_table e)) × (p (link_table e) ≡ true)
 link_there p es at e h is = go (slice_get (map link_table es) at) refl h
@@ -95,14 +95,14 @@ link_there p es at e h is = go (slice_get (map link_table es) at) refl h
         let same : l ≡ link_table e = cc in
         (there, ap p (sym same) ∙ t)
 
--- no link was made, and none is noted
+-- with no links, none is noted
 pub noted_none : (from : ℕ) (last : List ℕ) → AreNoted from [] last 0
 noted_none from last = record {
   each = λ k l h. cc;
   begin = record { within = omega arith; before = λ k l h. cc };
 }
 
--- the rows of a later package follow, whose links begin there
+-- the rows of a later package follow, and its links begin at `next`
 pub noted_later : (from later : ℕ) (links : List LinkTable) (last : List ℕ) (first next : ℕ) → from ≤ later → AreNoted from links last first → IsBegin links later next → AreNoted later links last next
 noted_later from later links last first next le noted begin = record {
   each = λ k l h.
@@ -117,7 +117,7 @@ pub on_ok : {A E : Type 0} (r : Result A E) (P : Type 0) → P → OnOk r P
 on_ok (Ok x) P h = h
 on_ok (Err e) P h = tt
 
--- what is noted, where a call gave these links and notes
+-- the notes after a call that returned these links and notes
 pub noted_given : {A E : Type 0} (r : Result A E) (from first : ℕ) (links new_links : List LinkTable) (last new_last : List ℕ) → OnOk r (new_links ≡ links) → OnOk r (new_last ≡ last) → AreNoted from links last first → OnOk r (AreNoted from new_links new_last first)
 noted_given (Ok x) from first links new_links last new_last h e noted = rw (h, e) noted
 noted_given (Err f) from first links new_links last new_last h e noted = tt

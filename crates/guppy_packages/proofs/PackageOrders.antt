@@ -24,7 +24,7 @@ kept_below set (v ∷ vs) = go (has set v) refl (kept_below set vs)
     go true e more = All-cons (λ v. v < length set) v (filter (λ v. has set v) vs) (has_below set v e) more
     go false e more = more
 
--- each member in order is a number below the set's size
+-- each listed member is below the length of the set
 pub listed_below : (r : Reading) (list : List ℕ) (set : List Bool) → All (λ v. v < length set) (in_order r list set)
 listed_below Forward list set = kept_below set list
 listed_below Backward list set =

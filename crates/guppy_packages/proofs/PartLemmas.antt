@@ -1,4 +1,4 @@
--- Texts that were pushed behind one another are the parts of the text that they make.
+-- Texts that were appended to one another are the parts of the resulting text.
 use Rattle.std.proofs.Common.{◌≡◌, ℕ, zero, suc, ◌+◌, ◌-◌, ◌<◌, ◌≤◌, List, [], ◌∷◌, ◌++◌, Bool, true, false, Some, length, take, drop, get_or, refl, ap, ap₂, sym, ◌∙◌, subst, append_assoc, arith}
 use Rattle.std.specs.Prelude.{slice_get, slice_range}
 use Rattle.std.specs.List.{AllByRecursion}
@@ -24,7 +24,7 @@ all-push : (P : Text → Type 0) (xs : List Text) (x : Text) → AllByRecursion 
 all-push P [] x all h = (h, tt)
 all-push P (y ∷ ys) x all h = (all.0, all-push P ys x all.1 h)
 
--- a text that is added to one is text where both are
+-- a text appended to UTF-8 is UTF-8 if the result is
 added_utf8 : (old x new : Text) → new ≡ old ++ x → IsUtf8 old → IsUtf8 new → IsUtf8 x
 added_utf8 old x new e u v =
     let cut : take (length old) new ≡ old = ap (take (length old)) e ∙ take-append_seam old x in
@@ -50,7 +50,7 @@ joined_utf8 : (xs : List Text) → AllByRecursion IsUtf8 xs → IsUtf8 (joined x
 joined_utf8 [] all = IsUtf8-nil
 joined_utf8 (x ∷ xs) all = IsUtf8-append x (joined xs) all.0 (joined_utf8 xs all.1)
 
--- the texts that were joined are the parts that end where they do
+-- the joined texts are the parts that end at their ends
 pub joined_parts : (old : Text) (xs : List Text) (new : Text) → new ≡ old ++ joined xs → AllByRecursion IsUtf8 xs
     → AreEnds (length old) (ends_from (length old) xs) new × (parts (length old) (ends_from (length old) xs) new ≡ xs)
 joined_parts old [] new e all = (tt, refl)
@@ -67,7 +67,7 @@ joined_parts old (x ∷ xs) new e all =
       ap₂ (λ t ts. t ∷ ts) part (subst (λ n. parts n (ends_from n xs) new ≡ xs) end more.1),
     )
 
--- the part at a place, and that the text may be cut there
+-- the part at an index, and the boundaries at its ends
 pub record IsPart (all : List Text) (text : Text) (ix start end : ℕ) : Type 0 where
   pub part : slice_get all ix ≡ Some (slice_range text start end)
   pub ascends : start ≤ end
@@ -84,7 +84,7 @@ pub length-parts : (from : ℕ) (ends : List ℕ) (text : Text) → length (part
 length-parts from [] text = refl
 length-parts from (end ∷ ends) text = ap suc (length-parts end ends text)
 
--- the items of a feature, by where they end
+-- the items of a feature, by their ends
 module _ (has : Bool) (name : ℕ) (ends : List ℕ) (text : Text) (ix : ℕ) (within : ix < length (parts name (item_ends has ends text) text)) where
   pub item_within : ix ≤ length ends
   item_within = go has (subst (λ n. ix < n) (length-parts name (item_ends has ends text) text) within)

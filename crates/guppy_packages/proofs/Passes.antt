@@ -29,7 +29,7 @@ outcome-err (Some other) x fault h =
 abbrev pub error_at : (List RowText → RowText → Option RowFault) → List RowText → RowText → Option RowError
 error_at fault before row = option_map (λ f. record { row = length before; fault = f }) (fault before row)
 
--- a row of all, which stands at i
+-- a row of all rows, at index i
 module _ (all : List RowText) (i : ℕ) (row : RowText) (h : i < length all) (at : drop i all ≡ row ∷ drop (i + 1) all) where
   before : List RowText
   before = take i all
@@ -52,14 +52,14 @@ module _ (all : List RowText) (i : ℕ) (row : RowText) (h : i < length all) (at
     passed ok =
         rw (take-next, each_after-append (error_at fault) (take i all) (row ∷ []), none, ok)
 
-    -- a row with a fault: it is the first
+    -- the first row with a fault
     pub refused : {X : Type 0} (f : RowFault) (x : X) → fault (take i all) row ≡ Some f → first_or (faults_by fault all) x ≡ Err (record { row = i; fault = f })
     refused f x bad =
         let first : faults_by fault all ≡ record { row = i; fault = f } ∷ after (error_at fault) (take i all ++ row ∷ []) (drop (i + 1) all) =
         ap (faults_by fault) parted ∙ each_after-append (error_at fault) (take i all) (row ∷ drop (i + 1) all) ∙ rw (none, bad, count) in
         ap (λ l. first_or l x) first
 
-    -- what the loop answers there
+    -- the loop's result for a row with a fault
     pub answers : (A : Type 0) {X Y : Type 0} (f : RowFault) (e : RowError) (new table : X) (x : Y) → e.fault ≡ f → e.row ≡ error_row f i
         → Takes {A = A} new (Err f) (outcome (fault (take i all) row) table) → MatchMemory e.fault (e.row ≡ 0) (first_or (faults_by fault all) x ≡ Err e)
     answers A f e new table x is_fault is_row taken = subst (λ g. MatchMemory g (e.row ≡ 0) (first_or (faults_by fault all) x ≡ Err e)) (sym is_fault) (go f is_fault is_row taken)
@@ -78,13 +78,13 @@ module _ (all : List RowText) (i : ℕ) (row : RowText) (h : i < length all) (at
         go UnknownTarget p q t = at_fault UnknownTarget p q t
         go OtherName p q t = at_fault OtherName p q t
 
-    -- what the loop goes on with
+    -- the loop's state after a row without a fault
     pub goes_on : {X : Type 0} (new table : X) → outcome (fault (take i all) row) table ≡ Ok new → (faults_by fault (take (i + 1) all) ≡ []) × (table ≡ new)
     goes_on new table taken =
         let parts = outcome-ok (fault (take i all) row) table new taken in
         (passed parts.0, parts.1)
 
-  -- the loop of the first pass, which has these packages
+  -- the loop of the first pass, with these packages so far
   module _ (none : faults_by row_fault (take i all) ≡ []) (old : List PackageTable) (tables : old ≡ packages_of (take i all)) where
     as_defined : first_step old row ≡ outcome (row_fault (take i all) row) (packages_of (take i all ++ row ∷ []))
     as_defined = ap (λ ps. first_step ps row) tables ∙ first_step-is (take i all) row
@@ -99,7 +99,7 @@ module _ (all : List RowText) (i : ℕ) (row : RowText) (h : i < length all) (at
         let parts = goes_on row_fault none new (packages_of (take i all ++ row ∷ [])) (sym as_defined ∙ taken) in
         (parts.0, sym parts.1 ∙ ap packages_of (sym take-next))
 
-  -- the loop of the second pass, which has these links
+  -- the loop of the second pass, with these links so far
   module _ (packages : List PackageTable) (none : faults_by (link_fault packages) (take i all) ≡ []) (begun : ℕ) (counted : begun ≡ length (packages_of (take i all))) (old : List LinkTable) (tables : old ≡ links_of (dependencies_of packages (take i all))) where
     so_defined : second_step packages begun old row ≡ outcome (link_fault packages (take i all) row) (links_of (dependencies_of packages (take i all ++ row ∷ [])))
     so_defined = ap₂ (λ n ls. second_step packages n ls row) counted tables ∙ second_step-is packages (take i all) row

@@ -1,4 +1,4 @@
--- The packages of rows, and what one more row does to them.
+-- The packages of rows, and the effect of one more row.
 use Rattle.std.proofs.Common.{◌≡◌, ℕ, zero, suc, ◌+◌, ◌-◌, List, [], ◌∷◌, ◌++◌, Bool, true, false, cond, ◌||◌, not, Option, None, Some, Ok, Err, length, refl, ap, ap₂, sym, ◌∙◌, arith, if◌then◌else◌}
 use Rattle.std.specs.Prelude.{slice_get, slice_set, take_while}
 use Rattle.std.specs.List.{cons_option, filter_map, list_any}
@@ -23,7 +23,7 @@ own_rows rows = take_while (λ row. not (is_package row)) rows
 abbrev pub with_rows : Text → Bool → List RowText → PackageTable
 with_rows id in_workspace own = record { id = id; in_workspace = in_workspace; features = filter_map row_feature own; optional_names = firsts bytes_eq (filter_map row_optional_name own) }
 
--- what one more row does to the package that it belongs to
+-- the effect of one more row on the package that it belongs to
 abbrev pub grown : RowText → PackageTable → PackageTable
 grown (a_package id in_workspace) p = p
 grown (a_feature name items) p = record p { features = p.features ++ record { name = name; items = items } ∷ [] }
@@ -62,7 +62,7 @@ own_rows-push (x ∷ rows) row = rw (take_while-cons (λ r. not (is_package r)) 
     go false false true = refl
     go false false false = refl
 
--- all rows are its own where no Package row follows
+-- if no Package row follows, all rows belong to the package
 own_rows-all : (rows : List RowText) → list_any is_package rows ≡ false → own_rows rows ≡ rows
 own_rows-all [] h = refl
 own_rows-all (x ∷ rows) h = rw (take_while-cons (λ r. not (is_package r)) x rows) (go (is_package x) h (own_rows-all rows))
@@ -143,7 +143,7 @@ last_place : {X : Type 0} (xs : List X) (x : X) → slice_get xs (length xs - 1)
 last_place [] x h = cc
 last_place (y ∷ ys) x h = omega arith
 
--- the first pass takes a row as the definitions say
+-- the first pass reads a row as defined
 pub first_step-is : (before : List RowText) (row : RowText) → first_step (packages_of before) row ≡ outcome (row_fault before row) (packages_of (before ++ row ∷ []))
 first_step-is before (a_package id w) = rw (packages_of-package before id w) (go (list_any (λ p. bytes_eq id p.id) (packages_of before)))
   where
@@ -178,7 +178,7 @@ length-map_last f [] = refl
 length-map_last f (x ∷ []) = refl
 length-map_last f (x ∷ y ∷ ys) = ap suc (length-map_last f (y ∷ ys))
 
--- the count of packages that began is that of the packages
+-- the number of Package rows read is the number of packages
 pub begun_after-is : (before : List RowText) (row : RowText) → begun_after (length (packages_of before)) row ≡ length (packages_of (before ++ row ∷ []))
 begun_after-is before (a_package id w) = rw (packages_of-package before id w) (sym (length-append (packages_of before) (with_rows id w [] ∷ [])))
 begun_after-is before (a_feature name items) = rw (packages_of-own before (a_feature name items) refl) (sym (length-map_last (grown (a_feature name items)) (packages_of before)))

@@ -1,4 +1,4 @@
--- What holds of the tables of rows that have no fault.
+-- The rules that the tables of rows without a fault satisfy.
 use Rattle.std.proofs.Common.{get_or}
 use Rattle.std.proofs.Common.{◌≡◌, ◌⊎◌, inl, inr, ℕ, zero, suc, ◌+◌, ◌-◌, ◌<◌, ◌≤◌, List, [], ◌∷◌, ◌++◌, Bool, true, false, cond, ◌||◌, Option, None, Some, Ok, Err, map, length, refl, ap, sym, ◌∙◌, subst, arith, append_assoc, if◌then◌else◌}
 use Rattle.std.specs.Prelude.{nat_lt, position, slice_get, ◌==◌, ◌&&◌}
@@ -27,7 +27,7 @@ use Rattle.guppy_packages.proofs.Sections.{grown, map_last, outcome, packages_of
 
 -- the links, each in order
 
--- a fact about each link that a joined declaration keeps
+-- a property of each link that an appended declaration preserves
 add_link-keeps : (Q : LinkTable → Type 0) (from to : ℕ) (name : Text) (d : Declared) → ((l : LinkTable) → Q l → Q (record l { declarations = l.declarations ++ d ∷ [] }))
     → Q (record { from = from; to = to; name = name; declarations = d ∷ [] }) → (ls new : List LinkTable) → AllIn Q ls → add_link from to name d ls ≡ Ok new → AllIn Q new
 add_link-keeps Q from to name d keep begin [] new a h =
@@ -103,7 +103,7 @@ optional-add_link i n from to name d (l ∷ ls) new h = go (joins from to l) ref
 
 -- the packages
 
--- an item of a list whose last item changed
+-- an item of a list whose last item is changed
 at_map_last : {X : Type 0} (f : X → X) (xs : List X) (i : ℕ) (y : X) → slice_get (map_last f xs) i ≡ Some y
     → (x : X) × (slice_get xs i ≡ Some x) × (((i + 1 ≡ length xs) × (y ≡ f x)) ⊎ ((i + 1 < length xs) × (y ≡ x)))
 at_map_last f [] i y h = cc
@@ -152,12 +152,12 @@ record HasEnds (m n : ℕ) (l : LinkTable) : Type 0 where
   pub to : l.to < n
   pub declared : 0 < length l.declarations
 
--- each link leaves the package of no later one
+-- each link leaves the same package as the one before it, or a later one
 abbrev AreOrdered : List LinkTable → Type 0
 AreOrdered [] = Unit {0}
 AreOrdered (l ∷ ls) = AllIn (λ m. l.from ≤ m.from) ls × AreOrdered ls
 
--- what holds of the packages and the links so far, where there are n packages in all
+-- the rules for the packages and links so far, with `n` packages in all
 record Fair (n : ℕ) (ps : List PackageTable) (ls : List LinkTable) : Type 0 where
   pub ids : AreApart bytes_eq (map (λ p. p.id) ps)
   pub features : AllIn (λ p. AreApart bytes_eq (map (λ f. f.name) p.features)) ps
@@ -171,7 +171,7 @@ more_packages m k n ls h a = AllIn-weaker (HasEnds m n) (HasEnds k n) ls (λ l e
     le_trans : {l : LinkTable} → HasEnds m n l → l.from < k
     le_trans e = omega (arith, e.from)
 
--- no link leaves a package that has not begun
+-- no link leaves a package whose row is not read
 no_link : (m n : ℕ) (name : Text) (ls : List LinkTable) → AllIn (HasEnds m n) ls → has_optional_link m name ls ≡ false
 no_link m n name [] a = refl
 no_link m n name (l ∷ ls) a =
@@ -196,7 +196,7 @@ add_link-ordered from to name d (l ∷ ls) new a o h = go (joins from to l) (byt
         subst AreOrdered same (add_link-keeps (λ m. l.from ≤ m.from) from to name d (λ m p. p) a.0 ls rest o.0 e, more rest e)
     go false n (Err f) e h more = cc
 
--- the same, by places
+-- the same, by indices
 ordered_by : (ls : List LinkTable) → AreOrdered ls → IsNonDecreasingBy (λ l. l.from) ls
 ordered_by [] o i j d le h = absurd (omega arith)
 ordered_by (l ∷ ls) o zero zero d le h = omega arith
@@ -239,7 +239,7 @@ or_false : (b : Bool) → b ≡ b || false
 or_false true = refl
 or_false false = refl
 
--- a name among those of a package, with one more optional dependency or not
+-- a name among those of a package, after a Dep row
 names_of : (m name : Text) (optional : Bool) (p : PackageTable) → has_name m (add_name name optional p).optional_names ≡ has_name m p.optional_names || (bytes_eq m name && optional)
 names_of m name true p = go (has_name name p.optional_names) refl
   where

@@ -1,4 +1,4 @@
--- The tables that the maps hold.
+-- The tables that the maps store.
 use Rattle.std.proofs.Common.{ℕ, zero, suc, [], ◌∷◌, Some, ap, get_or, refl}
 use Rattle.std.proofs.lemmas.List.Quantifiers.{position-Some}
 use Rattle.std.specs.Prelude.{slice_get}
@@ -15,7 +15,7 @@ use Rattle.guppy_packages.specs.Stored.{package_table}
 use Rattle.guppy_packages.specs.declared.contents.PackageData.{PackageData}
 use Rattle.guppy_packages.proofs.Lists.{position-map}
 
--- the map's index of an id is its place
+-- the map's index of an id is its index in the tables
 pub place_of_key : (id : Text) (es : List (Text × PackageData)) → package_place id (map package_table es) ≡ position (pointwise nat_eq id) (keys_of es)
 place_of_key id es = position-map package_table (λ p. bytes_eq id p.id) es ∙ sym (position-map (λ x. x.0) (bytes_eq id) es)
 
@@ -24,7 +24,7 @@ get_or-slice_get [] i x h = refl
 get_or-slice_get (y ∷ ys) zero x h = cc
 get_or-slice_get (y ∷ ys) (suc i) x h = get_or-slice_get ys i x h
 
--- the package at the place of an id has it
+-- the package at the index of an id has that id
 pub id_at_place : (id : Text) (packages : List PackageTable) (i : ℕ) (p : PackageTable) → package_place id packages ≡ Some i → slice_get packages i ≡ Some p → p.id ≡ id
 id_at_place id packages i p place at =
     let found = position-Some (λ p. bytes_eq id p.id) packages i p place in

@@ -1,4 +1,4 @@
--- What the calls of the maps do to the tables.
+-- The effect of the maps' calls on the tables.
 use Rattle.std.proofs.Common.{◌≡◌, ℕ, zero, suc, ◌+◌, ◌-◌, List, [], ◌∷◌, ◌++◌, Bool, true, false, cond, ◌||◌, not, Option, None, Some, Result, Ok, Err, IfErr, OnOk, map, length, refl, ap, sym, ◌∙◌, subst, arith, is_some}
 use Rattle.std.specs.Prelude.{slice_get, slice_set}
 use Rattle.std.specs.List.{list_any, position_or_len}
@@ -14,7 +14,7 @@ use Rattle.guppy_packages.specs.declared.row_error.RowFault.TheVariants.{NoPacka
 use Rattle.guppy_packages.specs.declared.contents.PackageData.{PackageData}
 use Rattle.guppy_packages.proofs.Lists.{slice_get-map}
 
--- a map has a key exactly where the list of its tables has an entry that passes
+-- a map has a key if and only if the list of its tables has an entry that passes
 pub lookup_any : {K V T : Type 0} (f : K × V → T) (test : K → Bool) (p : T → Bool) → ((e : K × V) → p (f e) ≡ test e.0) → (es : List (K × V)) → list_any p (map f es) ≡ is_some (lookup test es)
 lookup_any f test p same [] = refl
 lookup_any f test p same (e ∷ es) = go (test e.0) refl (lookup_any f test p same es)
@@ -43,7 +43,7 @@ set_value_at-same f (e ∷ es) zero v w h alike =
     ap (λ x. x ∷ map f es) (alike e.0 ∙ ap (λ u. f (e.0, u)) same)
 set_value_at-same f (e ∷ es) (suc i) v w h alike = ap (λ l. f e ∷ l) (set_value_at-same f es i v w h alike)
 
--- a value of a map stands at a key
+-- a value of a map has a key
 pub entry_of : {K V : Type 0} (es : List (K × V)) (i : ℕ) (v : V) → slice_get (values_of es) i ≡ Some v → (k : K) × (slice_get es i ≡ Some (k, v))
 entry_of [] i v h = cc
 entry_of (e ∷ es) zero v h =
@@ -51,7 +51,7 @@ entry_of (e ∷ es) zero v h =
     (e.0, ap (λ x. Some (e.0, x)) same)
 entry_of (e ∷ es) (suc i) v h = entry_of es i v h
 
--- what a call did to a part, for the whole
+-- the effect of a call on a part, for the whole
 pub Takes-map : {A B C : Type 0} (f : A → B) (new : A) (result : Outcome C) (given : Outcome A) → Takes new result given → Takes (f new) result (result_map f given)
 Takes-map f new (Ok x) given h = ap (result_map f) h
 Takes-map f new (Err NoPackage) given h = ap (result_map f) h
@@ -71,7 +71,7 @@ last_changed es v w change result at taken =
     let written = set_value_at-map package_table es (length es - 1) e.0 v w e.1 in
     rw (written, length-map es package_table, slice_get-map package_table es (length es - 1) (e.0, v) e.1) (Takes-map (slice_set (map package_table es) (length es - 1)) _ result _ (taken e.0))
 
--- a Dep row in the first pass: the last package notes its name, or not
+-- a Dep row in the first pass: the last package's optional names, if it is optional
 pub name_noted : {C : Type 0} (es : List (Text × PackageData)) (v w : PackageData) (name : Text) (names : List Text) (optional : Bool) (result : Outcome C)
     → slice_get (values_of es) (length es - 1) ≡ Some v → optional ≡ true
     → ((id : Text) → package_table (id, w) ≡ record (package_table (id, v)) { optional_names = names })
@@ -122,13 +122,13 @@ module _ (from to : ℕ) (name : Text) (d : Declared) where
           let at : position_or_len (joins from to) ls ≡ j = omega arith in
           rw (t, more j at g) (result_map-twice (λ rest. x ∷ rest) (slice_set ls j) (joined_link name d l))
 
-  -- the link of the pair was joined
+  -- a declaration is appended to the link of the pair
   pub link_joined : {C : Type 0} (ls : List LinkTable) (i : ℕ) (l new : LinkTable) (result : Outcome C) → position_or_len (joins from to) ls ≡ i → slice_get ls i ≡ Some l
       → Takes new result (joined_link name d l) → Takes (slice_set ls i new) result (add_link from to name d ls)
   link_joined ls i l new result p g taken =
       subst (λ o. Takes (slice_set ls i new) result o) (sym (link_at ls i l p g)) (Takes-map (slice_set ls i) new result (joined_link name d l) taken)
 
-  -- a link was begun, or memory was refused
+  -- a link is appended, or an allocation failed
   pub link_begun : {C : Type 0} (ls new : List LinkTable) (result : Outcome C) → list_any (joins from to) ls ≡ false
       → OnOk result (new ≡ ls ++ new_link ∷ []) → IfErr result (λ fault. fault ≡ Memory) → Takes new result (add_link from to name d ls)
   link_begun ls new (Ok x) none made fault = link_new ls none ∙ ap Ok (sym made)

@@ -1,4 +1,4 @@
--- The packages and links of a graph, without where they lie in memory.
+-- The packages and links of a graph as plain values.
 use Rattle.std.specs.Prelude.{ℕ}
 use Rattle.guppy_packages.specs.Rows.{Text}
 use Rattle.guppy_packages.specs.Tables.{Tables, PackageTable, LinkTable}
@@ -9,11 +9,11 @@ use Rattle.guppy_packages.specs.declared.package_link.PackageLink.{PackageLink}
 abbrev pub package_id_of : PackageMetadata → Text
 package_id_of m = m.id.now
 
--- the tables that the package is of, and its own
+-- The tables of the package's graph.
 abbrev pub package_graph_of : PackageMetadata → Tables
 package_graph_of m = m.graph.now
 
--- the place of the package among those of its tables
+-- The package's number in its graph.
 abbrev pub package_number_of : PackageMetadata → ℕ
 package_number_of m = m.package_ix
 
@@ -23,7 +23,7 @@ package_table_of m = package_table (m.id.now, m.contents.now)
 abbrev pub link_graph_of : PackageLink → Tables
 link_graph_of l = l.graph.now
 
--- the place of the link among those of its tables
+-- The link's number in its graph.
 abbrev pub link_number_of : PackageLink → ℕ
 link_number_of l = l.link_ix
 

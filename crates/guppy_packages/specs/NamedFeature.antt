@@ -1,4 +1,4 @@
--- What a named feature says.
+-- The name and the items of a named feature.
 use Rattle.std.specs.Prelude.{◌≡◌, ℕ, List, IsTrue, take}
 use Rattle.std.specs.String.{string_bytes}
 use Rattle.std.specs.Str.{bytes_eq}
@@ -10,18 +10,18 @@ use Rattle.guppy_packages.specs.Rows.{Text}
 use Rattle.guppy_packages.specs.Tables.{FeatureTable}
 use Rattle.guppy_packages.specs.declared.named_feature.NamedFeature.{NamedFeature}
 
--- the text begins with the name
+-- The text begins with the name.
 abbrev pub name_text : NamedFeature → Text
 name_text f = take f.name_end (string_bytes f.text)
 
--- behind the name the items stand, one after the other
+-- The items follow the name, one after the other.
 abbrev pub item_texts : NamedFeature → List Text
 item_texts f = parts f.name_end (item_ends f.has_items f.ends.items (string_bytes f.text)) (string_bytes f.text)
 
 abbrev pub feature_table : NamedFeature → FeatureTable
 feature_table f = record { name = name_text f; items = item_texts f }
 
--- a name hashes as the feature of that name does, and is equal to no other
+-- A name hashes as the feature of that name does, and compares with another feature as that feature does.
 pub text_Alike : (q : List ℕ) (k : NamedFeature) → IsTrue (bytes_eq q (name_text k)) → fed.str q ≡ fed.str (name_text k)
 text_Alike q k h = ap fed.str ((bytes_decides q (name_text k)).0 h)
 

@@ -11,24 +11,24 @@ use Rattle.guppy_packages.specs.declared.direction.DependencyDirection.{Dependen
 use Rattle.guppy_packages.specs.declared.direction.DependencyDirection.TheVariants.{Forward, Reverse}
 use Rattle.guppy_packages.specs.declared.package_metadata.PackageMetadata.{PackageMetadata}
 
--- the tables that the packages are of, and for each package whether it is a member
+-- The graph's tables, and whether each of its packages is a member.
 pub record PackageMembers : Type 0 where
   pub tables : Tables
   pub members : List Bool
 
--- which way a direction reads an order
+-- The way in which a direction reads an order.
 abbrev pub reading_of : DependencyDirection → Reading
 reading_of Forward = reading.Forward
 reading_of Reverse = reading.Backward
 
--- packages by their numbers, each with the tables that it is of
+-- The packages with these numbers, each with its tables.
 abbrev pub numbered : Tables → List ℕ → List (Tables × ℕ)
 numbered t numbers = map (λ p. (t, p)) numbers
 
 abbrev pub numbered_package : PackageMetadata → Tables × ℕ
 numbered_package m = (package_graph_of m, package_number_of m)
 
--- these packages are the members, in the order of packages, or exactly backwards
+-- `packages` are the members in the order of packages, or exactly backwards.
 pub record AreInPackageOrder (t : Tables) (direction : DependencyDirection) (members : List Bool) (packages : List (Tables × ℕ)) : Type 0 where
   pub order : List ℕ
   pub is_order : IsOrder (digraph_of_packages t).edges (digraph_of_packages t).nodes order

@@ -1,4 +1,4 @@
--- Platform statuses, without where they lie in memory.
+-- Platform statuses as plain values.
 use Rattle.std.specs.Prelude.{◌≢◌, List, [], ◌∷◌, Option, None, Some, map, slice_get}
 use Rattle.std.specs.String.{string_bytes}
 use Rattle.guppy_packages.specs.Rows.{Text}
@@ -8,7 +8,7 @@ use Rattle.guppy_packages.specs.declared.platform.PlatformStatus.TheVariants as 
 use Rattle.guppy_packages.specs.declared.platform.PlatformStatusImpl.{PlatformStatusImpl}
 use Rattle.guppy_packages.specs.declared.platform.PlatformStatusImpl.TheVariants as held
 
--- on no platform, on all, or on those of these specs
+-- On no platform, on all, or on the platforms of these specs.
 pub data Status : Type 0 where
   never_status : Status
   always_status : Status
@@ -20,7 +20,7 @@ IsPresent s = s ≢ never_status
 abbrev pub spec_text : Spec → Text
 spec_text s = string_bytes s.text
 
--- no spec at all is never
+-- No spec means never.
 abbrev pub status_by : List Text → Status
 status_by [] = never_status
 status_by (s ∷ specs) = spec_status (s ∷ specs)
@@ -34,12 +34,12 @@ abbrev pub impl_status : PlatformStatusImpl → Status
 impl_status held.Always = always_status
 impl_status (held.Specs specs) = status_by (map spec_text specs.items)
 
--- the specs that are held, where it is not always
+-- The stored specs, unless the status is always.
 abbrev pub platform_specs : PlatformStatusImpl → Option (List Text)
 platform_specs held.Always = None
 platform_specs (held.Specs specs) = Some (map spec_text specs.items)
 
--- a declaration's platform: always, or one spec
+-- The platform of a declaration: all, or one spec.
 abbrev pub platform_text : PlatformStatusImpl → Option Text
 platform_text held.Always = None
 platform_text (held.Specs specs) = slice_get (map spec_text specs.items) 0

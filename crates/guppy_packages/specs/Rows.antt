@@ -1,4 +1,4 @@
--- Rows, without where they lie in memory.
+-- Rows as plain values.
 use Rattle.std.specs.Prelude.{ℕ, List, Bool, Option, map}
 use Rattle.std.specs.Borrow.{Bor}
 use Rattle.std.specs.Option.{option_map}

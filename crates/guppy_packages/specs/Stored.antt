@@ -1,4 +1,4 @@
--- The tables that a package graph holds.
+-- The tables that a package graph stores.
 use Rattle.std.specs.Prelude.{ℕ, List, map}
 use Rattle.std.specs.String.{string_bytes}
 use Rattle.indexmap.specs.IndexMap.{IndexMap}

@@ -7,19 +7,19 @@ use Rattle.guppy_packages.specs.Rows.{Text, Declared}
 use Rattle.guppy_packages.specs.declared.row.DependencyKind.{DependencyKind}
 use Rattle.guppy_packages.specs.declared.row.DependencyKind.TheVariants.{Normal, Build, Development}
 
--- a named feature and its items, in row order
+-- A named feature and its items, in row order.
 pub record FeatureTable : Type 0 where
   pub name : Text
   pub items : List Text
 
--- a package; its optional names stand in the order of the first optional declaration of each
+-- A package. Its optional names are in the order of the first optional declaration of each.
 pub record PackageTable : Type 0 where
   pub id : Text
   pub in_workspace : Bool
   pub features : List FeatureTable
   pub optional_names : List Text
 
--- all declarations of one ordered pair of packages, in row order
+-- All declarations of one ordered pair of packages, in row order.
 pub record LinkTable : Type 0 where
   pub from : ℕ
   pub to : ℕ
@@ -30,7 +30,7 @@ pub record Tables : Type 0 where
   pub packages : List PackageTable
   pub links : List LinkTable
 
--- the first place of an id, of a feature's name and of an optional name
+-- The index of an id, of a feature's name and of an optional name.
 abbrev pub package_place : Text → List PackageTable → Option ℕ
 package_place id packages = position (λ p. bytes_eq id p.id) packages
 
@@ -51,28 +51,28 @@ is_development Development = true
 abbrev pub has_name : Text → List Text → Bool
 has_name name names = list_any (bytes_eq name) names
 
--- every declaration is for development
+-- Every declaration is for development.
 abbrev pub is_dev_only : LinkTable → Bool
 is_dev_only l = list_all (λ d. is_development d.kind) l.declarations
 
 abbrev pub pair_of : LinkTable → ℕ × ℕ
 pair_of l = (l.from, l.to)
 
--- nothing stands at two places
+-- Equal items have the same index.
 abbrev pub HasNoRepeats : {X : Type 0} → List X → Type 0
 HasNoRepeats {X} xs = (i j : ℕ) (x : X) → slice_get xs i ≡ Some x → slice_get xs j ≡ Some x → i ≡ j
 
--- exactly the links of the numbers from first up to end leave this package
+-- The links that leave package `from` are exactly those numbered from `first` up to, not including, `end`.
 pub record AreLinksFrom (links : List LinkTable) (from first end : ℕ) : Type 0 where
   pub ascend : first ≤ end
   pub within : end ≤ length links
   pub exactly : (k : ℕ) (l : LinkTable) → slice_get links k ≡ Some l → (l.from ≡ from) ↔ ((first ≤ k) × (k < end))
 
--- whether one of the links leaves this package under this name with an optional declaration
+-- Whether a link that leaves `from` under `name` has an optional declaration.
 abbrev pub has_optional_link : ℕ → Text → List LinkTable → Bool
 has_optional_link from name links = list_any (λ l. (from == l.from) && bytes_eq name l.name && list_any (λ d. d.optional) l.declarations) links
 
--- what holds of the tables of rows
+-- The rules that the tables of rows satisfy.
 pub record AreTables (t : Tables) : Type 0 where
   pub ids : HasNoRepeats (map (λ p. p.id) t.packages)
   pub features : (i : ℕ) (p : PackageTable) → slice_get t.packages i ≡ Some p → HasNoRepeats (map (λ f. f.name) p.features)

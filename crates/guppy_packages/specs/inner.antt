@@ -1,5 +1,5 @@
--- What private functions alone speak of: the two passes over the rows, a row at a time, the sets of names that they fill, the links
--- that they note, where the links of each package begin, and texts that are pushed behind one another.
+-- Definitions for private functions: the two passes, one row at a time; sets of names; the state of the second pass; the first
+-- link of each package; and texts that are appended to one another.
 pub mod Begins
 pub mod NameSets
 pub mod Noted

@@ -1,10 +1,10 @@
-//! What a package graph holds for a package and for a link.
+//! The data that a package graph stores for a package and for a link.
 use crate::declaration::Declaration;
 use crate::name_set::NameSet;
 use crate::named_feature::NamedFeature;
 use smallvec::SmallVec;
 
-/// A package without its id.
+/// A package's data, without its id.
 #[derive(Drop)]
 pub struct PackageData {
     pub(crate) in_workspace: bool,
@@ -12,10 +12,10 @@ pub struct PackageData {
     pub(crate) optional_names: NameSet<String>,
 }
 
-/// A link: the numbers of the package that it leaves and of the one that it leads to, and what is declared.
+/// A link: the numbers of the packages that it leaves and leads to, and its data.
 pub(crate) type Link = ((usize, usize), LinkData);
 
-/// The declarations of a pair of packages: most pairs have one, which then lies here.
+/// A link's name and declarations. Most pairs of packages have one declaration, which is stored inline.
 #[derive(Debug, Drop)]
 pub struct LinkData {
     pub(crate) name: String,

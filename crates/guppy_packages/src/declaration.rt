@@ -1,4 +1,4 @@
-//! What a Dep row declares.
+//! The declaration in a Dep row.
 ghost use Rattle.std.specs.Prelude.{◌≡◌, ◌∷◌, [], map};
 ghost use Rattle.std.specs.List.{list_all};
 ghost use Rattle.std.specs.Option.{option_map};
@@ -11,7 +11,7 @@ use crate::row::DependencyKind;
 use std::alloc::Global;
 use std::default::MadeWith;
 
-/// What one Dep row declares of the package that it names.
+/// The declaration in one Dep row: how the package depends on the row's target.
 #[derive(Debug, Drop)]
 pub struct Declaration {
     pub(crate) kind: DependencyKind,
@@ -25,35 +25,35 @@ pub struct Declaration {
 impl Declaration {
     ghost use Rattle.guppy_packages.specs.Stored.{declared};
 
-    /// The kind of the dependency.
+    /// Returns the kind of the dependency.
     pub fn kind(&self) -> DependencyKind
         ensures { result ≡ (declared self.now).kind }
     {
         self.kind
     }
 
-    /// Whether the dependency is optional.
+    /// Returns whether the dependency is optional.
     pub fn optional(&self) -> bool
         ensures { result ≡ (declared self.now).optional }
     {
         self.optional
     }
 
-    /// Where it applies: always, or on the platform of one spec.
+    /// Returns the platforms that the declaration applies to: all, or those of one spec.
     pub fn platform(&self) -> &PlatformStatusImpl
         ensures { platform_specs result.now ≡ option_map (λ spec. spec ∷ []) (declared self.now).platform }
     {
         &self.platform
     }
 
-    /// Whether it asks for the default feature.
+    /// Returns whether the declaration requests the default feature.
     pub fn default_features(&self) -> bool
         ensures { result ≡ (declared self.now).default_features }
     {
         self.default_features
     }
 
-    /// The names of the features that it asks for, in row order.
+    /// Returns the names of the features that the declaration requests, in row order.
     pub fn features(&self) -> &[String]
         ensures { map string_bytes result.now ≡ (declared self.now).features }
     {
@@ -61,7 +61,7 @@ impl Declaration {
     }
 }
 
-// A blank, which fills the place of a declaration that is still to come. It allocates nothing.
+// A placeholder for a declaration that is pushed later; it allocates nothing.
 impl MadeWith<Global> for Declaration {
     fn made_with(alloc: Global) -> Declaration {
         Declaration {
@@ -74,7 +74,7 @@ impl MadeWith<Global> for Declaration {
     }
 }
 
-/// Whether every declaration is for development.
+/// Returns whether every declaration of `declarations` is for development.
 pub(crate) fn are_for_development(declarations: &[Declaration]) -> bool
     ensures { result ≡ list_all (λ d. is_development d.kind) declarations.now }
 {

@@ -1,4 +1,4 @@
-//! From rows to a package graph, in two passes.
+//! Reads rows into a package graph, in two passes.
 ghost use Rattle.std.specs.Prelude.{◌≡◌, ℕ, ◌+◌, ◌-◌, ◌<◌, ◌≤◌, ◌^◌, ◌∷◌, ◌++◌, [], Ok, IfOk, IfErr, OnOk, Some, false, length, map, slice_get, slice_set};
 ghost use Rattle.std.specs.Option.{option_map, option_map_or};
 ghost use Rattle.std.specs.String.{string_bytes};
@@ -36,7 +36,7 @@ use smallvec::SmallVec;
 use std::alloc::{AllocError, Global};
 use std::hash::BuildHasherDefault;
 
-/// Owned texts.
+/// Returns owned copies of `items`.
 fn owned(alloc: Global, items: &[&str]) -> Result<Vec<String>, AllocError>
     ensures { IfOk result (λ v. map string_bytes v.items ≡ texts items.now) }
 {
@@ -47,7 +47,7 @@ fn owned(alloc: Global, items: &[&str]) -> Result<Vec<String>, AllocError>
     Ok(all)
 }
 
-/// A package of which no more rows are known. It allocates nothing.
+/// Returns a package with no features and no optional names; it allocates nothing.
 #[inline]
 fn blank_package(alloc: Global, in_workspace: bool) -> PackageData
     ensures { result ≡ record { in_workspace = in_workspace; features = []; optional_names = [] } }
@@ -59,7 +59,7 @@ fn blank_package(alloc: Global, in_workspace: bool) -> PackageData
     }
 }
 
-/// A Package row.
+/// Reads a Package row: appends the package `id`, or returns `DuplicatePackage` if `packages` already has it.
 fn push_package(
     alloc: Global,
     packages: &mut TextMap<PackageId, PackageData>,
@@ -76,7 +76,7 @@ fn push_package(
     Ok(())
 }
 
-/// A Feature row of a package with these features.
+/// Appends the feature `name` to `features`, or returns `DuplicateFeature` if `features` already has it.
 fn push_feature(
     alloc: Global,
     features: &mut NameSet<NamedFeature>,
@@ -93,7 +93,7 @@ fn push_feature(
     Ok(())
 }
 
-/// A Feature row, which belongs to the last package.
+/// Reads a Feature row into the last package. Returns `NoPackage` if there is none, `DuplicateFeature` if it has `name`.
 fn push_feature_row(
     alloc: Global,
     packages: &mut TextMap<PackageId, PackageData>,
@@ -108,7 +108,7 @@ fn push_feature_row(
     push_feature(alloc, &mut current.features, name, items)
 }
 
-/// The name of an optional dependency of a package with these.
+/// Inserts `name` into `names`, the optional names of a package.
 fn push_name(alloc: Global, names: &mut NameSet<String>, name: &str) -> Result<(), RowFault>
     ensures { Takes (map string_bytes names.new) result (Ok (with_name name.now (map string_bytes names.old))) }
 {
@@ -116,7 +116,8 @@ fn push_name(alloc: Global, names: &mut NameSet<String>, name: &str) -> Result<(
     Ok(())
 }
 
-/// A Dep row in the first pass: the last package notes the name of an optional dependency.
+/// Reads a Dep row in the first pass: inserts `name` into the last package's optional names if `optional` is true. Returns
+/// `NoPackage` if there is no package.
 fn push_dep_row(
     alloc: Global,
     packages: &mut TextMap<PackageId, PackageData>,
@@ -134,7 +135,7 @@ fn push_dep_row(
     Ok(())
 }
 
-/// The last package has all its rows, so its features and names need no more room.
+/// Frees the spare capacity of the last package, whose rows are all read.
 fn end_package(packages: &mut TextMap<PackageId, PackageData>)
     ensures { package_tables packages.new ≡ package_tables packages.old }
 {
@@ -144,7 +145,7 @@ fn end_package(packages: &mut TextMap<PackageId, PackageData>)
     }
 }
 
-/// A row of the first pass.
+/// Reads a row in the first pass, or returns its fault.
 fn take_row(
     alloc: Global,
     packages: &mut TextMap<PackageId, PackageData>,
@@ -162,7 +163,7 @@ fn take_row(
     }
 }
 
-/// The first pass. No package comes after it, so the map keeps no more room than it needs.
+/// Runs the first pass and returns the packages, or the first fault of a row by itself. The map's spare capacity is freed.
 fn take_packages<S: RowSource>(
     alloc: Global,
     source: &S,
@@ -181,7 +182,7 @@ fn take_packages<S: RowSource>(
     Ok(packages)
 }
 
-/// Where a Dep row applies.
+/// Returns the platforms of a Dep row: all, or those of the spec `platform`.
 fn platform_of(alloc: Global, platform: Option<&str>) -> Result<PlatformStatusImpl, AllocError>
     ensures specs { IfOk result (λ p. platform_specs p ≡ option_map (λ spec. spec ∷ []) (platform_text p)) }
     ensures text { IfOk result (λ p. platform_text p ≡ option_map (λ t. t.now) platform.entry) }
@@ -194,7 +195,7 @@ fn platform_of(alloc: Global, platform: Option<&str>) -> Result<PlatformStatusIm
     Ok(PlatformStatusImpl::Specs(specs))
 }
 
-/// What a Dep row declares.
+/// Returns the declaration of a Dep row with these columns.
 fn declare(
     alloc: Global,
     kind: DependencyKind,
@@ -222,18 +223,18 @@ fn declare(
     })
 }
 
-/// What the second pass notes of the links so far.
+/// The state of the second pass.
 #[derive(Drop)]
 struct Noted {
-    /// For each package the number of the last link that leads to it.
+    /// For each package, the number of the last link that leads to it.
     last: Vec<u32>,
-    /// Where the links of the package at hand begin.
+    /// The number of the current package's first link.
     first: usize,
-    /// How many packages began.
+    /// The number of packages whose Package row is read.
     begun: usize,
 }
 
-/// Whether the link of this number joins the pair. Those before `first` leave other packages, and aren't looked at.
+/// Returns whether link `at` joins `from` to `to`. Links before `first` leave other packages and are not looked at.
 fn joins_pair(links: &[Link], first: usize, at: usize, from: usize, to: usize) -> bool
     requires { IsBegin (link_tables links.now) from first }
     ensures { result ≡ option_map_or (joins from to) (slice_get (link_tables links.now) at) false }
@@ -247,7 +248,7 @@ fn joins_pair(links: &[Link], first: usize, at: usize, from: usize, to: usize) -
     }
 }
 
-/// A Dep row of a pair of packages whose link this is.
+/// Appends `declaration` to `link`, or returns `OtherName` if the link's name is not `name`.
 fn join_link(link: &mut LinkData, name: &str, declaration: Declaration) -> Result<(), RowFault>
     ensures { (pair : ℕ × ℕ) → Takes (link_table (pair, link.new)) result (joined_link name.now (declared declaration) (link_table (pair, link.old))) }
 {
@@ -258,7 +259,7 @@ fn join_link(link: &mut LinkData, name: &str, declaration: Declaration) -> Resul
     Ok(())
 }
 
-/// What a link of one declaration holds.
+/// Returns the data of a link named `name` with the one declaration `declaration`.
 fn link_data(alloc: Global, name: &str, declaration: Declaration) -> Result<LinkData, AllocError>
     ensures { IfOk result (λ link. (pair : ℕ × ℕ) → link_table (pair, link) ≡ record { from = pair.0; to = pair.1; name = name.now; declarations = declared declaration ∷ [] }) }
 {
@@ -268,7 +269,7 @@ fn link_data(alloc: Global, name: &str, declaration: Declaration) -> Result<Link
     Ok(LinkData { name, declarations })
 }
 
-/// A Dep row of a pair of packages that no link joins.
+/// Appends a link for `pair`, which has none, and notes its number in `last`.
 fn begin_link(
     alloc: Global,
     links: &mut Vec<Link>,
@@ -289,8 +290,8 @@ fn begin_link(
     Ok(())
 }
 
-/// A Dep row of a pair of packages. No link leaves a package after the first of the pair, so only the last link that leads to the
-/// second can be the pair's.
+/// Adds the declaration of a Dep row to the link of its pair, or appends a link. All links that leave `from` are at the end of
+/// `links`, so only the last link that leads to `to` can be the pair's.
 fn push_link(
     alloc: Global,
     links: &mut Vec<Link>,
@@ -313,14 +314,15 @@ fn push_link(
     begin_link(alloc, links, &mut noted.last, (from, to), name, declaration)
 }
 
-/// The number of the package with this id.
+/// Returns the number of the package whose id is `id`.
 fn place_of(packages: &TextMap<PackageId, PackageData>, id: &str) -> Option<usize>
     ensures { result ≡ package_place id.now (package_tables packages.now) }
 {
     packages.get_index_of(id)
 }
 
-/// A row of the second pass, where so many packages began.
+/// Reads a row in the second pass, with `begun` Package rows read. Returns `UnknownTarget` if the target is no package,
+/// `OtherName` if the pair's link has another name.
 fn link_row(
     alloc: Global,
     packages: &TextMap<PackageId, PackageData>,
@@ -355,7 +357,7 @@ fn link_row(
     push_link(alloc, links, noted, from, to, name, declaration)
 }
 
-/// How many packages began, with this row.
+/// Returns the number of Package rows read, with `row` included.
 fn count(begun: usize, row: Row) -> usize
     requires { begun + 1 < 2 ^ 64 }
     ensures value { result ≡ begun_after begun (row_text row.entry) }
@@ -368,8 +370,8 @@ fn count(begun: usize, row: Row) -> usize
     }
 }
 
-/// Where the links of the package at hand begin, with this row behind these links. Those of the first package begin the list, and those
-/// of any other come behind all that there are.
+/// Returns the number of the current package's first link, once `row` is read. Links of the first package begin at 0; those of a
+/// later one begin at the end of `links`.
 fn first_link(links: &[Link], first: usize, begun: usize, row: Row) -> usize
     requires ends { (k : ℕ) (l : LinkTable) → slice_get (link_tables links.now) k ≡ Some l → l.from ≤ begun - 1 }
     requires begin { IsBegin (link_tables links.now) (begun - 1) first }
@@ -381,7 +383,7 @@ fn first_link(links: &[Link], first: usize, begun: usize, row: Row) -> usize
     }
 }
 
-/// A row of the second pass, with what it changes of what is noted.
+/// Reads a row in the second pass and updates `noted`.
 fn take_link(
     alloc: Global,
     packages: &TextMap<PackageId, PackageData>,
@@ -405,8 +407,8 @@ fn take_link(
     Ok(())
 }
 
-/// The second pass. Rows of a package stand together, so the last link to each package tells whether a pair has come before. No link
-/// comes after it, so the list keeps no more room than it needs.
+/// Runs the second pass and returns the links, or the first fault of a row among all packages. A package's rows are adjacent, so
+/// the last link to each package shows whether a pair already has a link. The spare capacity is freed.
 fn take_links<S: RowSource>(
     alloc: Global,
     packages: &TextMap<PackageId, PackageData>,
@@ -430,7 +432,7 @@ fn take_links<S: RowSource>(
     Ok(links)
 }
 
-/// Both passes.
+/// Runs both passes and returns the packages and the links.
 fn take_tables<S: RowSource>(
     alloc: Global,
     source: &S,
@@ -444,7 +446,7 @@ fn take_tables<S: RowSource>(
     Ok((packages, links))
 }
 
-/// Where the links of each package begin, and the order of the packages.
+/// Returns the number of each package's first link, and the order of the packages.
 fn begins_and_order(
     alloc: Global,
     packages: &TextMap<PackageId, PackageData>,
@@ -460,7 +462,8 @@ fn begins_and_order(
 }
 
 impl PackageGraph {
-    /// The graph of the rows, or the first fault: those of rows by themselves come before those among all packages.
+    /// Returns the graph of `rows`, or the first fault. Faults of rows by themselves precede those among all packages. `Memory`
+    /// is returned when an allocation fails.
     pub fn from_rows(alloc: Global, rows: &[Row]) -> Result<PackageGraph, RowError>
         ensures tables { Reads (λ graph. graph) result (tables_of (map row_text rows.now)) }
         ensures row { IfErr result (NamesRow rows.now) }
@@ -468,7 +471,7 @@ impl PackageGraph {
         PackageGraph::from_source(alloc, &RowSlice { rows })
     }
 
-    /// The graph of a source's rows, or the first fault, as `from_rows` gives it. Each row is asked for twice.
+    /// Returns the graph of the rows of `source`, or the first fault, as `from_rows` does. Each row is requested twice.
     pub fn from_source<S: RowSource>(alloc: Global, source: &S) -> Result<PackageGraph, RowError>
         ensures tables { Reads (λ graph. graph) result (tables_of (S.rows source.now)) }
         ensures row { IfErr result (NamesRow (S.rows source.now)) }

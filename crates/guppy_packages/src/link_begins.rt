@@ -1,4 +1,4 @@
-//! Where the links of each package begin: links stand in the order of the packages that they leave.
+//! The number of each package's first link. Links are ordered by the packages that they leave.
 ghost use Rattle.std.specs.Prelude.{◌≡◌, ℕ, ◌+◌, ◌<◌, ◌≤◌, length, slice_index, max, IfOk, OnOk};
 ghost use Rattle.guppy_packages.specs.inner.Begins.{AreAllBegun};
 ghost use Rattle.guppy_packages.specs.Stored.{link_tables, package_tables};
@@ -10,7 +10,7 @@ use crate::package_id::PackageId;
 use crate::text_map::TextMap;
 use std::alloc::{AllocError, Global};
 
-/// Lets the links of the packages up to this one begin at the place, where they have no begin.
+/// Extends `begins` up to index `from` with `place`; earlier entries are unchanged.
 fn begin_up_to(begins: &mut Vec<u32>, from: usize, place: u32) -> Result<(), AllocError>
     ensures long { OnOk result (length begins.new.items ≡ max (length begins.old.items) (from + 1)) }
     ensures kept { OnOk result ((p : ℕ) → p < length begins.old.items → slice_index begins.new.items p ≡ slice_index begins.old.items p) }
@@ -22,7 +22,8 @@ fn begin_up_to(begins: &mut Vec<u32>, from: usize, place: u32) -> Result<(), All
     Ok(())
 }
 
-/// Where the links of each package begin; the end of all links stands last. Too many links are answered as want of memory.
+/// Returns the number of each package's first link, followed by the number of links. Returns `AllocError` if that number doesn't
+/// fit in 32 bits.
 pub(crate) fn link_begins(
     alloc: Global,
     packages: &TextMap<PackageId, PackageData>,

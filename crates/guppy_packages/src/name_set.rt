@@ -1,7 +1,7 @@
-//! Sets of named things, in the order of insertion.
+//! Sets of named things, in insertion order.
 //!
-//! Most packages have few names: a scan finds one of them sooner than a hash does, and needs no table. A package may also have
-//! thousands, and then they are hashed.
+//! Most packages have few names: scanning them is faster than hashing and needs no table. A package may also have thousands;
+//! those are hashed.
 ghost use Rattle.std.specs.Prelude.{◌≡◌, ◌<◌, ◌∷◌, ◌++◌, [], IfOk, OnErr, if◌then◌else◌, is_ok, length, not, position};
 ghost use Rattle.std.specs.List.{list_any};
 ghost use Rattle.indexmap.specs.IndexSet.{insert_all, insert_key};
@@ -15,17 +15,18 @@ use std::hash::{BuildHasherDefault, Hash};
 use std::marker::Model;
 use std::mem;
 
-/// How many items are scanned: a set of more hashes them. Room for so many is taken at once, and given back by `shrink_to_fit`.
+/// The most items that a set scans: a larger one hashes them. The first insert reserves this many, and `shrink_to_fit` frees the
+/// rest.
 const FEW: usize = 16;
 
-/// The items, in the order of insertion.
+/// The items of a set, in insertion order.
 #[derive(Drop)]
 pub(crate) enum Held<T: Eq + Hash> {
     Few(Vec<T>),
     Many(Box<TextSet<T>>),
 }
 
-/// A set in the order of insertion. A contract sees it as the list of its items, no two of which are equal.
+/// A set in insertion order. A contract sees it as the list of its items, which are pairwise different.
 #[derive(Drop)]
 pub(crate) struct NameSet<T: Eq + Hash> {
     held: Held<T>,
@@ -43,14 +44,14 @@ impl<T: Eq + Hash> Model for NameSet<T> {
     ghost invariant = { λ s. IsSet T.eq (held_items s.held) };
 }
 
-/// Whether one of the items is equal to this one.
+/// Returns whether an item of `items` is equal to `item`.
 fn has<T: Eq + Hash>(items: &[T], item: &T) -> bool
     ensures { result ≡ list_any (T.eq item.now) items.now }
 {
     items.iter().any(|held| item == held)
 }
 
-/// The items, hashed.
+/// Returns the hashed set of `items`.
 fn hashed<T: Eq + Hash + Drop>(alloc: Global, items: Vec<T>) -> Result<TextSet<T>, AllocError>
     ensures { IfOk result (λ set. set.keys ≡ insert_all T.eq [] items.items) }
 {
@@ -59,7 +60,7 @@ fn hashed<T: Eq + Hash + Drop>(alloc: Global, items: Vec<T>) -> Result<TextSet<T
     Ok(set)
 }
 
-/// The items and one more, hashed.
+/// Returns the hashed set of `items` and `item`.
 fn grown<T: Eq + Hash + Drop>(alloc: Global, items: Vec<T>, item: T) -> Result<Held<T>, AllocError>
     ensures { IfOk result (λ held. held_items held ≡ insert_key T.eq (insert_all T.eq [] items.items) item) }
 {
@@ -68,7 +69,7 @@ fn grown<T: Eq + Hash + Drop>(alloc: Global, items: Vec<T>, item: T) -> Result<H
     Ok(Held::Many(many))
 }
 
-/// Adds `item` at the end, unless an equal one is there, and returns whether it did. If an allocation fails, `items` stays as it was.
+/// Appends `item` unless an equal one is there, and returns whether it did. If an allocation fails, `items` is unchanged.
 #[inline]
 fn insert_few<T: Eq + Hash + Drop>(items: &mut Vec<T>, item: T) -> Result<bool, AllocError>
     ensures added { IfOk result (λ added. added ≡ not (list_any (T.eq item) items.old.items)) }
@@ -83,7 +84,7 @@ fn insert_few<T: Eq + Hash + Drop>(items: &mut Vec<T>, item: T) -> Result<bool, 
     Ok(true)
 }
 
-/// Adds an item at the end, unless an equal one is there, and tells whether it did. Where memory is refused, items may be lost.
+/// Appends `item` unless an equal one is there, and returns whether it did. If an allocation fails, items may be lost.
 #[inline]
 fn insert_into<T: Eq + Hash + Drop>(
     alloc: Global,
@@ -112,7 +113,7 @@ fn insert_into<T: Eq + Hash + Drop>(
 }
 
 impl<T: Eq + Hash + Drop> NameSet<T> {
-    /// The empty set, which allocates nothing.
+    /// Returns the empty set, which allocates nothing.
     pub(crate) fn new(alloc: Global) -> NameSet<T>
         ensures { result ≡ [] }
     {
@@ -121,7 +122,7 @@ impl<T: Eq + Hash + Drop> NameSet<T> {
         }
     }
 
-    /// The items, in the order of insertion.
+    /// Returns the items, in insertion order.
     pub(crate) fn as_slice(&self) -> &[T]
         ensures { result.now ≡ self.now }
     {
@@ -131,7 +132,7 @@ impl<T: Eq + Hash + Drop> NameSet<T> {
         }
     }
 
-    /// The place of the item that a name stands for.
+    /// Returns the index of the item that is equivalent to `name`.
     pub(crate) fn place_of<Q: Equivalent<T>>(&self, name: Q) -> Option<usize>
         ensures { result ≡ position (Q.equivalent name) self.now }
     {
@@ -141,7 +142,7 @@ impl<T: Eq + Hash + Drop> NameSet<T> {
         }
     }
 
-    /// Adds an item at the end, unless an equal one is there, and tells whether it did. Where memory is refused, items may be lost.
+    /// Appends `item` unless an equal one is there, and returns whether it did. If an allocation fails, items may be lost.
     pub(crate) fn insert(&mut self, alloc: Global, item: T) -> Result<bool, AllocError>
         ensures added { IfOk result (λ added. added ≡ not (list_any (T.eq item) self.old)) }
         ensures items { IfOk result (λ _. self.new ≡ insert_key T.eq self.old item) }
@@ -149,7 +150,7 @@ impl<T: Eq + Hash + Drop> NameSet<T> {
         insert_into(alloc, &mut self.held, item)
     }
 
-    /// Gives back memory that no item needs.
+    /// Frees the spare capacity.
     pub(crate) fn shrink_to_fit(&mut self)
         ensures { self.new ≡ self.old }
     {

@@ -1,4 +1,4 @@
-//! A named feature of a package, in one text.
+//! A named feature of a package, stored in one text.
 ghost use Rattle.std.specs.Prelude.{◌≡◌, ◌∷◌, ◌++◌, [], ◌<◌, ◌≤◌, ◌==◌, Some, IfOk, OnOk, length, not, slice_get, slice_index};
 ghost use Rattle.std.specs.String.{string_bytes};
 ghost use Rattle.guppy_packages.specs.Parts.{AreEnds, AreEnds-prop, item_ends};
@@ -12,21 +12,21 @@ use std::alloc::{AllocError, Global};
 use std::fmt;
 use std::hash::{Hash, Hasher};
 
-/// A named feature with its items. Among those of a package it is told by its name, so equality is of names.
+/// A named feature with its items. Names are distinct within a package, so equality compares names only.
 ///
-/// The name and the items stand in one text, one after the other: most features have at most one item, and then need nothing else.
-/// Where the name ends stands beside the text, so that names of other lengths are told apart by one look.
+/// One text contains the name, followed by the items: most features have at most one item and need no second allocation. The end
+/// of the name is a field, so comparing names of different lengths doesn't read the text.
 #[derive(Drop)]
 pub struct NamedFeature {
     text: String,
     name_end: u32,
     has_items: bool,
-    // where each item but the last ends: that one ends where the text does
+    // the end of each item but the last, which ends with `text`
     ends: Vec<u32>,
     ghost cut: { AreEnds 0 (name_end ∷ item_ends has_items ends.items (string_bytes text)) (string_bytes text) } by { AreEnds-prop 0 (name_end ∷ item_ends has_items ends.items (string_bytes text)) (string_bytes text) },
 }
 
-/// How long the text is, or the greatest number where no text is so long.
+/// Returns the length of `name` and `items` together, or `usize::MAX` if it doesn't fit.
 fn room_for(name: &str, items: &[&str]) -> usize {
     let mut room = name.len();
     for item in items {
@@ -35,7 +35,7 @@ fn room_for(name: &str, items: &[&str]) -> usize {
     room
 }
 
-/// Appends each of `items` to `text`, and the place where it ends to `ends`.
+/// Appends each of `items` to `text`, and its end in `text` to `ends`.
 fn push_each(text: &mut String, ends: &mut Vec<u32>, items: &[&str]) -> Result<(), AllocError>
     requires none { ends.old.items ≡ [] }
     ensures { OnOk result (IsPushed (string_bytes text.old) (texts items.now) (string_bytes text.new) ends.new.items) }
@@ -47,7 +47,7 @@ fn push_each(text: &mut String, ends: &mut Vec<u32>, items: &[&str]) -> Result<(
     Ok(())
 }
 
-/// Adds the items of a feature to its name, and tells where each but the last ends.
+/// Appends `items` to `text` and returns the end of each but the last.
 fn push_items(alloc: Global, text: &mut String, items: &[&str]) -> Result<Vec<u32>, AllocError>
     ensures { IfOk result (λ ends. IsPushed (string_bytes text.old) (texts items.now) (string_bytes text.new) (item_ends (not (length items.now == 0)) ends.items (string_bytes text.new))) }
 {
@@ -63,7 +63,8 @@ fn push_items(alloc: Global, text: &mut String, items: &[&str]) -> Result<Vec<u3
 impl NamedFeature {
     ghost use Rattle.guppy_packages.specs.NamedFeature.{feature_table};
 
-    /// The feature of this name with these items. A text that takes over four gigabytes is answered as want of memory.
+    /// Returns the feature `name` with `items`. Returns `AllocError` if an allocation fails, or if the end of `name` or of an
+    /// item before the last doesn't fit in 32 bits.
     pub(crate) fn new(alloc: Global, name: &str, items: &[&str]) -> Result<NamedFeature, AllocError>
         ensures { IfOk result (λ f. feature_table f ≡ record { name = name.now; items = texts items.now }) }
     {
@@ -79,14 +80,14 @@ impl NamedFeature {
         })
     }
 
-    /// Its name.
+    /// Returns the feature's name.
     pub fn name(&self) -> &str
         ensures { result.now ≡ (feature_table self.now).name }
     {
         &self.text[..self.name_end as usize]
     }
 
-    /// How many items it has.
+    /// Returns the number of items.
     pub fn item_count(&self) -> usize
         ensures { result ≡ length (feature_table self.now).items }
     {
@@ -96,7 +97,7 @@ impl NamedFeature {
         0
     }
 
-    /// Where an item begins.
+    /// Returns the start of item `ix` in the text.
     fn item_start(&self, ix: usize) -> usize
         requires { ix ≤ length self.now.ends.items }
         ensures { result ≡ slice_index (self.now.name_end ∷ self.now.ends.items) ix }
@@ -107,7 +108,7 @@ impl NamedFeature {
         self.ends[ix - 1] as usize
     }
 
-    /// Where an item ends.
+    /// Returns the end of item `ix` in the text.
     fn item_end(&self, ix: usize) -> usize
         requires { ix ≤ length self.now.ends.items }
         ensures { result ≡ slice_index (self.now.ends.items ++ length (string_bytes self.now.text) ∷ []) ix }
@@ -118,7 +119,7 @@ impl NamedFeature {
         self.text.as_str().len()
     }
 
-    /// The text of an item, by its place in the row.
+    /// Returns the text of item `ix`, in row order.
     pub fn item(&self, ix: usize) -> &str
         requires { ix < length (feature_table self.now).items }
         ensures { slice_get (feature_table self.now).items ix ≡ Some result.now }
@@ -167,7 +168,7 @@ impl Hash for NamedFeature {
     }
 }
 
-// A feature is looked up by its name, with no copy of the text.
+// A feature is looked up by its name, without a copy of the text.
 impl Equivalent<NamedFeature> for &str {
     ghost use Rattle.std.specs.Str.{bytes_eq};
     ghost use Rattle.guppy_packages.specs.NamedFeature.{name_text, text_Alike, text_congr};

@@ -1,4 +1,4 @@
-//! What the text of a feature's item means.
+//! The meaning of a feature item's text.
 ghost use Rattle.std.specs.Prelude.{◌≡◌};
 ghost use Rattle.guppy_packages.specs.Items.{item_of, meaning};
 
@@ -9,7 +9,7 @@ pub enum NamedFeatureDep<'a> {
     NamedFeature(&'a str),
     /// An optional dependency of the same package.
     OptionalDependency(&'a str),
-    /// A named feature of a dependency.
+    /// The feature `feature` of the dependency `dep_name`. A weak item doesn't request the dependency itself.
     DependencyNamedFeature {
         dep_name: &'a str,
         feature: &'a str,
@@ -18,8 +18,8 @@ pub enum NamedFeatureDep<'a> {
 }
 
 impl<'a> NamedFeatureDep<'a> {
-    /// The meaning of an item's text. It is cut at its first `/`, and then one `?` at the end of the left part makes it weak; without
-    /// a `/` it may begin with `dep:`; all else names a feature.
+    /// Returns the meaning of `input`, an item's text. It is cut at its first `/`; a `?` at the end of the left part makes it
+    /// weak. Without a `/`, the prefix `dep:` means an optional dependency, and any other text a named feature.
     pub fn from_cargo_string(input: &'a str) -> Self
         ensures { meaning result ≡ item_of input.now }
     {

@@ -3,10 +3,10 @@ ghost use Rattle.std.specs.Prelude.{◌≡◌, IfOk};
 
 use std::alloc::AllocError;
 
-/// Places beyond this one don't fit in 32 bits.
+/// The greatest place that fits in 32 bits.
 pub(crate) const LAST_PLACE: usize = 4294967295;
 
-/// The place, in 32 bits. One that doesn't fit is answered as want of memory.
+/// Returns `place` in 32 bits, or `AllocError` if it doesn't fit.
 pub(crate) fn narrow(place: usize) -> Result<u32, AllocError>
     ensures { IfOk result (λ narrow. narrow ≡ place) }
 {

@@ -18,7 +18,7 @@ use std::ops::Range;
 pub struct PackageGraph {
     pub(crate) packages: TextMap<PackageId, PackageData>,
     pub(crate) links: Vec<Link>,
-    // where the links of each package begin; the end of all links stands last
+    // the number of each package's first link, and the number of links at the end
     pub(crate) begins: Vec<u32>,
     pub(crate) order: Order,
 }
@@ -45,28 +45,28 @@ impl Model for PackageGraph {
 impl PackageGraph {
     ghost use Rattle.guppy_packages.specs.Metadata.{package_graph_of, package_id_of, package_number_of, package_table_of, link_graph_of, link_number_of, link_table_of};
 
-    /// What holds of the tables of every package graph.
+    /// States the rules that the tables of every package graph satisfy.
     pub fn facts(&self)
         ensures { AreTables self.now }
     {
         let _ = &self.packages;
     }
 
-    /// How many packages there are.
+    /// Returns the number of packages.
     pub fn package_count(&self) -> usize
         ensures { result ≡ length self.now.packages }
     {
         self.packages.len()
     }
 
-    /// How many links there are.
+    /// Returns the number of links.
     pub fn link_count(&self) -> usize
         ensures { result ≡ length self.now.links }
     {
         self.links.len()
     }
 
-    /// The package of this number.
+    /// Returns package `ix`.
     pub fn package(&self, ix: usize) -> PackageMetadata<'_>
         requires { ix < length self.now.packages }
         ensures graph { package_graph_of result ≡ self.now }
@@ -79,7 +79,7 @@ impl PackageGraph {
         }
     }
 
-    /// The link of this number.
+    /// Returns link `ix`.
     pub fn link(&self, ix: usize) -> PackageLink<'_>
         requires { ix < length self.now.links }
         ensures graph { link_graph_of result ≡ self.now }
@@ -90,7 +90,7 @@ impl PackageGraph {
         PackageLink::new(self, ix, *pair, data)
     }
 
-    /// The order of the packages, by their numbers: that of the digraph of their links, in which a link that is dev-only doesn't
+    /// Returns the order of the packages, by their numbers: the order of the digraph of their links. A dev-only link doesn't
     /// order its two packages.
     pub fn order(&self) -> &Order
         ensures { IsOrderOf (digraph_of_packages self.now) result.now }
@@ -98,7 +98,7 @@ impl PackageGraph {
         &self.order
     }
 
-    /// The numbers of the links that leave the package of this number. Links stand in the order of the packages that they leave.
+    /// Returns the numbers of the links that leave package `package_ix`: an empty range at the end if there is no such package.
     pub(crate) fn links_from(&self, package_ix: usize) -> Range<usize>
         ensures { AreLinksFrom self.now.links package_ix result.start result.end }
     {
@@ -109,7 +109,7 @@ impl PackageGraph {
         self.begins[package_ix] as usize..self.begins[package_ix + 1] as usize
     }
 
-    /// The package with this id, or an error where there is none.
+    /// Returns the package whose id is `id`, or `UnknownPackageId` if there is none.
     pub fn metadata(&self, id: &PackageId) -> Result<PackageMetadata<'_>, UnknownPackageId>
         ensures found { MatchResult result
             (λ m. (package_graph_of m ≡ self.now) × (package_place id.now self.now.packages ≡ Some (package_number_of m)))

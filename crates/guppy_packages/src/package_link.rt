@@ -8,7 +8,7 @@ use crate::declaration::{Declaration, are_for_development};
 use crate::package_graph::PackageGraph;
 use crate::package_metadata::PackageMetadata;
 
-/// A link from a package to one that it depends on, of a graph.
+/// A link of a graph: from a package to one of its dependencies.
 #[derive(Clone, Copy)]
 #[derive_where(Debug)]
 pub struct PackageLink<'g> {
@@ -23,7 +23,7 @@ pub struct PackageLink<'g> {
 impl<'g> PackageLink<'g> {
     ghost use Rattle.guppy_packages.specs.Metadata.{package_graph_of, package_number_of, package_table_of, link_graph_of, link_number_of, link_table_of};
 
-    /// The link of this number, whose pair and contents these are.
+    /// Returns link `link_ix` of `graph`, which joins `pair` and contains `contents`.
     pub(crate) fn new(
         graph: &'g PackageGraph,
         link_ix: usize,
@@ -43,7 +43,7 @@ impl<'g> PackageLink<'g> {
         }
     }
 
-    /// Its number in the graph.
+    /// Returns the link's number in the graph.
     pub fn link_ix(self) -> usize
         ensures number { result ≡ link_number_of self.entry }
         ensures link { slice_get (link_graph_of self.entry).links result ≡ Some (link_table_of self.entry) }
@@ -51,7 +51,7 @@ impl<'g> PackageLink<'g> {
         self.link_ix
     }
 
-    /// The package that it leaves.
+    /// Returns the package that the link leaves.
     pub fn from(self) -> PackageMetadata<'g>
         ensures graph { package_graph_of result ≡ link_graph_of self.entry }
         ensures number { package_number_of result ≡ (link_table_of self.entry).from }
@@ -61,7 +61,7 @@ impl<'g> PackageLink<'g> {
         self.graph.package(self.pair.0)
     }
 
-    /// The package that it leads to.
+    /// Returns the package that the link leads to.
     pub fn to(self) -> PackageMetadata<'g>
         ensures graph { package_graph_of result ≡ link_graph_of self.entry }
         ensures number { package_number_of result ≡ (link_table_of self.entry).to }
@@ -71,21 +71,21 @@ impl<'g> PackageLink<'g> {
         self.graph.package(self.pair.1)
     }
 
-    /// The name under which the one depends on the other.
+    /// Returns the name of the dependency in the package that the link leaves.
     pub fn dep_name(self) -> &'g str
         ensures { result.now ≡ (link_table_of self.entry).name }
     {
         self.contents.name.as_str()
     }
 
-    /// What the rows declare, in row order.
+    /// Returns the link's declarations, in row order.
     pub fn declarations(self) -> &'g [Declaration]
         ensures { map declared result.now ≡ (link_table_of self.entry).declarations }
     {
         self.contents.declarations.as_slice()
     }
 
-    /// Whether every declaration is for development.
+    /// Returns whether every declaration is for development.
     pub fn dev_only(self) -> bool
         ensures { result ≡ is_dev_only (link_table_of self.entry) }
     {

@@ -11,11 +11,11 @@ use crate::package_graph::PackageGraph;
 use crate::package_id::PackageId;
 use std::ops::Range;
 
-/// No package has the id.
+/// The error of a look-up: no package has the id.
 #[derive(Clone, Copy, PartialEq, Eq, Debug)]
 pub struct UnknownPackageId;
 
-/// A package of a graph. Two are equal where their ids are.
+/// A package of a graph. Equality compares ids only.
 #[derive(Clone, Copy)]
 #[derive_where(PartialEq, Eq, Debug)]
 pub struct PackageMetadata<'g> {
@@ -32,7 +32,7 @@ pub struct PackageMetadata<'g> {
 impl<'g> PackageMetadata<'g> {
     ghost use Rattle.guppy_packages.specs.Metadata.{package_id_of, package_graph_of, package_number_of, package_table_of};
 
-    /// The package of this number, whose id and contents these are.
+    /// Returns package `package_ix` of `graph`, with the id `id` and the data `contents`.
     pub(crate) fn new(
         graph: &'g PackageGraph,
         package_ix: usize,
@@ -52,14 +52,14 @@ impl<'g> PackageMetadata<'g> {
         }
     }
 
-    /// Its id.
+    /// Returns the package's id.
     pub fn id(self) -> &'g PackageId
         ensures { result.now ≡ package_id_of self.entry }
     {
         self.id
     }
 
-    /// Its number in the graph.
+    /// Returns the package's number in the graph.
     pub fn package_ix(self) -> usize
         ensures number { result ≡ package_number_of self.entry }
         ensures package { slice_get (package_graph_of self.entry).packages result ≡ Some (package_table_of self.entry) }
@@ -67,56 +67,56 @@ impl<'g> PackageMetadata<'g> {
         self.package_ix
     }
 
-    /// The graph that it is of.
+    /// Returns the package's graph.
     pub fn graph(self) -> &'g PackageGraph
         ensures { result.now ≡ package_graph_of self.entry }
     {
         self.graph
     }
 
-    /// Whether it is of the workspace.
+    /// Returns whether the package is a workspace member.
     pub fn in_workspace(self) -> bool
         ensures { result ≡ (package_table_of self.entry).in_workspace }
     {
         self.contents.in_workspace
     }
 
-    /// Its named features, in row order.
+    /// Returns the package's named features, in row order.
     pub fn named_features(self) -> &'g [NamedFeature]
         ensures { map feature_table result.now ≡ (package_table_of self.entry).features }
     {
         self.contents.features.as_slice()
     }
 
-    /// The place of the named feature of this name among them.
+    /// Returns the index of the feature `name` in `named_features`.
     pub fn feature_place(self, name: &str) -> Option<usize>
         ensures { result ≡ feature_place name.now (package_table_of self.entry).features }
     {
         self.contents.features.place_of(name)
     }
 
-    /// Whether a named feature is called `default`.
+    /// Returns whether a named feature is called `default`.
     pub fn has_default_feature(self) -> bool
         ensures { result ≡ has_feature (codes "default") (package_table_of self.entry).features }
     {
         self.feature_place("default").is_some()
     }
 
-    /// The names that an optional dependency has, in the order of the first row of each.
+    /// Returns the names of the optional dependencies, in the order of the first row of each.
     pub fn optional_deps(self) -> &'g [String]
         ensures { map string_bytes result.now ≡ (package_table_of self.entry).optional_names }
     {
         self.contents.optional_names.as_slice()
     }
 
-    /// The place of this name among them.
+    /// Returns the index of `name` in `optional_deps`.
     pub fn optional_place(self, name: &str) -> Option<usize>
         ensures { result ≡ optional_place name.now (package_table_of self.entry).optional_names }
     {
         self.contents.optional_names.place_of(name)
     }
 
-    /// The numbers of the links that leave it, ascending.
+    /// Returns the numbers of the links that leave the package, ascending.
     pub fn direct_links(self) -> Range<usize>
         ensures { AreLinksFrom (package_graph_of self.entry).links (package_number_of self.entry) result.start result.end }
     {

@@ -17,7 +17,7 @@ use std::fmt;
 use std::iter::FusedIterator;
 use std::marker::Model;
 
-/// A set of packages of one graph. A contract sees it as the tables of the graph, with its members.
+/// A set of packages of one graph. A contract sees it as the graph's tables and one bit for each package.
 #[derive(Drop)]
 pub struct PackageSet<'g> {
     graph: &'g PackageGraph,
@@ -36,7 +36,7 @@ impl<'g> Model for PackageSet<'g> {
 }
 
 impl<'g> PackageSet<'g> {
-    /// The set of the packages of these numbers, which are numbers below the count of the graph's packages.
+    /// Returns the set of the packages whose bit in `members` is set. `members` has one bit for each package of `graph`.
     pub fn new(graph: &'g PackageGraph, members: IxBitSet) -> Self
         requires { length members ≡ length graph.now.packages }
         ensures tables { result.tables ≡ graph.now }
@@ -45,21 +45,21 @@ impl<'g> PackageSet<'g> {
         PackageSet { graph, members }
     }
 
-    /// How many packages the set has.
+    /// Returns the number of packages in the set.
     pub fn len(&self) -> usize
         ensures { result ≡ count_by (λ b. b) self.now.members }
     {
         self.members.count()
     }
 
-    /// Whether the set has no package.
+    /// Returns whether the set is empty.
     pub fn is_empty(&self) -> bool
         ensures { IsTrue result ↔ (count_by (λ b. b) self.now.members ≡ 0) }
     {
         self.len() == 0
     }
 
-    /// Whether the set has the package of this id, or an error where the graph doesn't have it.
+    /// Returns whether the set contains the package `id`, or `UnknownPackageId` if the graph doesn't.
     pub fn contains(&self, id: &PackageId) -> Result<bool, UnknownPackageId>
         ensures { MatchResult result
             (λ answer. option_map (has self.now.members) (package_place id.now self.now.tables.packages) ≡ Some answer)
@@ -71,7 +71,7 @@ impl<'g> PackageSet<'g> {
         }
     }
 
-    /// The packages of the set: forward in the order of packages, and in reverse exactly backwards.
+    /// Returns the packages of the set in the order of packages: forward as it is, in reverse exactly backwards.
     pub fn packages(&self, direction: DependencyDirection) -> Packages<'g, '_>
         ensures { AreInPackageOrder self.now.tables direction self.now.members result }
     {
@@ -82,7 +82,7 @@ impl<'g> PackageSet<'g> {
     }
 }
 
-/// The packages of a set that are left, in the order of packages or backwards.
+/// An iterator over the packages of a set, in the order of packages or backwards.
 #[derive(Drop)]
 pub struct Packages<'g, 'a> {
     graph: &'g PackageGraph,

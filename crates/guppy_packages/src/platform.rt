@@ -5,14 +5,14 @@ ghost use Rattle.guppy_packages.specs.Platform.{Status, spec_text, status_of, im
 use crate::pushing::push_to;
 use std::alloc::{AllocError, Global};
 
-/// The spec of a platform, an opaque text.
+/// A platform spec: an opaque text.
 #[derive(PartialEq, Eq, Debug, Drop)]
 pub struct Spec {
     text: String,
 }
 
 impl Spec {
-    /// The spec of this text.
+    /// Returns the spec with the text `text`. `AllocError` is the only error.
     pub fn new(alloc: Global, text: &str) -> Result<Spec, AllocError>
         ensures { IfOk result (λ spec. spec_text spec ≡ text.now) }
     {
@@ -21,14 +21,14 @@ impl Spec {
         })
     }
 
-    /// An equal spec. It fails only where memory is refused.
+    /// Returns an equal spec. `AllocError` is the only error.
     pub fn try_clone(&self, alloc: Global) -> Result<Spec, AllocError>
         ensures { IfOk result (λ spec. spec_text spec ≡ spec_text self.now) }
     {
         Spec::new(alloc, self.text())
     }
 
-    /// The text.
+    /// Returns the spec's text.
     pub fn text(&self) -> &str
         ensures { result.now ≡ spec_text self.now }
     {
@@ -36,14 +36,14 @@ impl Spec {
     }
 }
 
-/// A platform status that owns its specs. No spec at all is never.
+/// A platform status that owns its specs. An empty list of specs means never.
 #[derive(PartialEq, Eq, Debug, Drop)]
 pub enum PlatformStatusImpl {
     Always,
     Specs(Vec<Spec>),
 }
 
-/// Equal specs, in the same order.
+/// Returns copies of `specs`, in order.
 fn copied(alloc: Global, specs: &[Spec]) -> Result<Vec<Spec>, AllocError>
     ensures { IfOk result (λ copy. map spec_text copy.items ≡ map spec_text specs.now) }
 {
@@ -55,7 +55,7 @@ fn copied(alloc: Global, specs: &[Spec]) -> Result<Vec<Spec>, AllocError>
 }
 
 impl PlatformStatusImpl {
-    /// An equal status, with specs of its own. It fails only where memory is refused.
+    /// Returns an equal status, with specs of its own. `AllocError` is the only error.
     pub fn try_clone(&self, alloc: Global) -> Result<PlatformStatusImpl, AllocError>
         ensures specs { IfOk result (λ status. platform_specs status ≡ platform_specs self.now) }
         ensures status { IfOk result (λ status. impl_status status ≡ impl_status self.now) }
@@ -69,19 +69,19 @@ impl PlatformStatusImpl {
     }
 }
 
-/// On which platforms something is enabled.
+/// The platforms on which something is enabled.
 #[derive(Clone, Copy, PartialEq, Eq, Debug)]
 pub enum PlatformStatus<'g> {
-    /// On none.
+    /// On no platform.
     Never,
-    /// On the platforms of these specs, at least one.
+    /// On the platforms of these specs. The slice isn't empty.
     PlatformDependent(&'g [Spec]),
-    /// On all.
+    /// On all platforms.
     Always,
 }
 
 impl<'g> PlatformStatus<'g> {
-    /// The status that is held: an empty list of specs is never.
+    /// Returns the status of `specs`; an empty list of specs means `Never`.
     pub fn new(specs: &'g PlatformStatusImpl) -> Self
         ensures { status_of result ≡ impl_status specs.now }
     {
@@ -97,21 +97,21 @@ impl<'g> PlatformStatus<'g> {
         }
     }
 
-    /// Whether it is never.
+    /// Returns whether the status is `Never`.
     pub fn is_never(self) -> bool
         ensures { IsTrue result ↔ (status_of self.entry ≡ never_status) }
     {
         matches!(&self, PlatformStatus::Never)
     }
 
-    /// Whether it is always.
+    /// Returns whether the status is `Always`.
     pub fn is_always(self) -> bool
         ensures { IsTrue result ↔ (status_of self.entry ≡ always_status) }
     {
         matches!(&self, PlatformStatus::Always)
     }
 
-    /// Whether it is not never.
+    /// Returns whether the status is `Always` or `PlatformDependent`.
     pub fn is_present(self) -> bool
         ensures { IsTrue result ↔ IsPresent (status_of self.entry) }
     {

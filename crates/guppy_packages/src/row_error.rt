@@ -1,24 +1,24 @@
-//! Why rows were refused.
+//! The reasons why rows are rejected.
 use std::alloc::{AllocError, AllocFailed};
 
-/// What is wrong with a row.
+/// The fault of a row.
 #[derive(Clone, Copy, PartialEq, Eq, Debug)]
 pub enum RowFault {
     /// A Feature or Dep row before any Package row.
     NoPackage,
-    /// A Package row whose id was seen.
+    /// A Package row whose id an earlier row has.
     DuplicatePackage,
-    /// A Feature row whose name was seen in its package.
+    /// A Feature row whose name an earlier row of its package has.
     DuplicateFeature,
-    /// A Dep row whose target is no package.
+    /// A Dep row whose target is the id of no package.
     UnknownTarget,
     /// A Dep row whose pair of packages already has a link of another name.
     OtherName,
-    /// Memory ran out.
+    /// An allocation failed, or a place in a feature's text or the number of links doesn't fit in 32 bits.
     Memory,
 }
 
-/// A fault, and the number of its row, counted from 0. Want of memory names row 0.
+/// A fault and the number of its row, counted from 0. `Memory` is reported for row 0.
 #[derive(Clone, Copy, PartialEq, Eq, Debug)]
 pub struct RowError {
     pub row: usize,
@@ -29,7 +29,7 @@ impl RowError {
     ghost use Rattle.std.specs.Prelude.{◌≡◌};
     ghost use Rattle.guppy_packages.specs.Graph.{error_row};
 
-    /// A fault of this row.
+    /// Returns the error of `fault` in row `row`; the row is 0 if the fault is `Memory`.
     pub(crate) fn new(row: usize, fault: RowFault) -> RowError
         ensures fault { result.fault ≡ fault }
         ensures row { result.row ≡ error_row fault row }

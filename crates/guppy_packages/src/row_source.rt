@@ -1,19 +1,19 @@
-//! Rows that are made when they are asked for.
+//! Rows that are generated on demand.
 ghost use Rattle.std.specs.Prelude.{◌≡◌, ◌<◌, List, Some, length, map, slice_get};
 ghost use Rattle.guppy_packages.specs.Rows.{RowText, row_text};
 
 use crate::row::Row;
 
-/// Rows that are made when they are asked for.
+/// A source of rows that are generated on demand.
 pub trait RowSource {
-    /// The rows, without where they lie in memory.
+    /// The rows as plain values.
     ghost rows: { Self → List RowText };
 
-    /// How many rows there are.
+    /// Returns the number of rows.
     fn row_count(&self) -> usize
         ensures { result ≡ length (rows self.now) };
 
-    /// The row of this number, from 0.
+    /// Returns row `ix`, counted from 0.
     fn row(&self, ix: usize) -> Row<'_>
         requires { ix < length (rows self.now) }
         ensures { slice_get (rows self.now) ix ≡ Some (row_text result) };

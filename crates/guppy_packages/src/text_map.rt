@@ -1,11 +1,11 @@
 //! Maps and sets whose keys are texts from outside.
 //!
-//! They hash by SipHash. Its key is fixed, so whoever writes the texts can still search for some that collide, but none collide by
-//! a pattern, as they do where a hasher only multiplies.
+//! They hash by SipHash with a fixed key. An author of the texts can search for collisions, but no simple pattern collides, as it
+//! would with a multiplying hasher.
 use indexmap::{IndexMap, IndexSet};
 use std::hash::{BuildHasherDefault, DefaultHasher};
 
-/// A map that is keyed by texts.
+/// A map keyed by texts.
 pub(crate) type TextMap<K, V> = IndexMap<K, V, BuildHasherDefault<DefaultHasher>>;
 
 /// A set of texts.

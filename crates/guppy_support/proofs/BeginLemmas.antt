@@ -11,7 +11,7 @@ use Rattle.guppy_support.specs.PackedRows.{below, AreBegun, AreAllBegun}
 use Rattle.guppy_support.proofs.FaultLemmas.{ascends}
 use Rattle.guppy_support.proofs.PackedLemmas.{below_more, below-le-length}
 
--- where the numbers before place p are below u and the others aren't, p are below u
+-- If exactly the elements before place `p` are below `u`, then `p` elements are below `u`.
 pub below_at : (keys : List ℕ) (p u : ℕ) → p ≤ length keys → ((i : ℕ) → i < p → get_or keys i 0 < u) → ((i : ℕ) → p ≤ i → i < length keys → u ≤ get_or keys i 0) → below u keys ≡ p
 below_at [] p u h before behind = omega arith
 below_at (k ∷ keys) zero u h before behind =
@@ -26,7 +26,7 @@ none_there : (v s : ℕ) (keys : List ℕ) → ((i : ℕ) → i < length keys �
 none_there v s [] h = refl
 none_there v s (k ∷ keys) h = rw (ne_eqb k v (λ e. omega (arith, h 0 (omega arith), e))) (none_there v (suc s) keys (λ i l. h (suc i) (omega arith)))
 
--- the places of a number stand together, behind those of all smaller ones
+-- In an ascending list the places of a number are consecutive, right after those of all smaller numbers.
 rising_places : (v s : ℕ) (keys : List ℕ) → Rises keys → (j : ℕ) → j < length (places_from v s keys) → get_or (places_from v s keys) j 0 ≡ s + below v keys + j
 rising_places v s [] r j h = absurd (omega arith)
 rising_places v s (k ∷ keys) r j h =
@@ -55,7 +55,7 @@ rising_places v s (k ∷ keys) r j h =
 rises : (g : Graph) → IsDigraph g → Rises (sources g.edges)
 rises g ok i j less l = (ascends g ok i j less (omega (arith, l, length-map g.edges (λ (e : Edge). e.from)))).by_first
 
--- the numbers of the edges that leave v
+-- `first..last` are the numbers of the edges that leave `v`.
 pub record IsOutRange (g : Graph) (v first last : ℕ) : Type 0 where
   pub numbers : range_with_len first (last - first) ≡ places v (sources g.edges)
   pub ascends : first ≤ last
@@ -82,7 +82,7 @@ out_range g ok begins all v h first last is_first is_last =
       within = omega (arith, high, below-le-length (v + 1) keys, length-map g.edges (λ (e : Edge). e.from));
     }
 
--- more begins, at one place
+-- Appending begins that are all equal to `place` keeps every begin right.
 pub begun_up : (keys begins more : List ℕ) (node place : ℕ) → AreBegun keys begins → place ≤ length keys → ((i : ℕ) → i < place → get_or keys i 0 < length begins) → ((i : ℕ) → place ≤ i → i < length keys → node ≤ get_or keys i 0)
     → length more ≡ max (length begins) (node + 1) → ((v : ℕ) → v < length begins → get_or more v 0 ≡ get_or begins v 0) → ((v : ℕ) → length begins ≤ v → v < length more → get_or more v 0 ≡ place) → AreBegun keys more
 begun_up keys begins more node place begun h before behind long kept added v lv =

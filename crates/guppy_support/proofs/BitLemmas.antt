@@ -24,11 +24,11 @@ length-bits_of n words = length-map-range_with_len (λ k. word_bit words k == 1)
 pub has-bits_of : (n : ℕ) (words : List ℕ) (k : ℕ) → k < n → has (bits_of n words) k ≡ (word_bit words k == 1)
 has-bits_of n words k h = get_or-map-range_with_len (λ j. word_bit words j == 1) 0 n k k false h (omega arith)
 
--- a list of tests that agrees with the bits is those bits
+-- A list of tests that agrees with each bit is the list of the bits.
 pub same_bits : (xs : List Bool) (n : ℕ) (words : List ℕ) → length xs ≡ n → ((k : ℕ) → k < n → has xs k ≡ (word_bit words k == 1)) → xs ≡ bits_of n words
 same_bits xs n words l each = fill_by_all (λ k. word_bit words k == 1) xs n false l each
 
--- the words with bit k set
+-- The words with bit `k` set.
 abbrev with_bit : List ℕ → ℕ → List ℕ
 with_bit words k = set words (k / 64) (bit_or (get_or words (k / 64) 0) (1 * 2 ^ (k % 64) % 2 ^ 64))
 
@@ -69,7 +69,7 @@ with_bit_view n words k h a =
       | inr ne ↦ rw (get_or-set_other (bits_of n words) k j true false ne, with_bit_other words k j inside ne) (has-bits_of n words j lj)
     ]))
 
--- the words with bit k cleared
+-- The words with bit `k` cleared.
 abbrev without_bit : List ℕ → ℕ → List ℕ
 without_bit words k = set words (k / 64) (bit_and (get_or words (k / 64) 0) (bit_not w64 (1 * 2 ^ (k % 64) % 2 ^ 64)))
 
@@ -122,7 +122,7 @@ empty_view n m words e =
           | inr p ↦ rw (get_or_past {X = ℕ} (replicate m 0) (k / 64) 0 (omega (arith, length-replicate {A = ℕ} m 0))) (bit_at-zero (k % 64))
         ]
 
--- the size of a set is the length of what it is seen as
+-- A set's size is the length of its view.
 pub size_is : (n : ℕ) (words : List ℕ) (now : List Bool) → bits_of n words ≡ now → n ≡ length now
 size_is n words now e = sym (length-bits_of n words) ∙ ap length e
 
@@ -146,7 +146,7 @@ pub ruleset member_steps = (members_from_yes, members_from_no, members_from_end)
 
 -- ---- bits of one word
 
--- a bit is 0 or 1, and the test tells which
+-- A bit is 0 or 1.
 pub bit_cases : (b : ℕ) → b < 2 → (b ≡ 0) ⊎ (b ≡ 1)
 bit_cases b h = elim (cases_lt b 1) [ inl l ↦ inl (omega arith) | inr p ↦ inr (omega arith) ]
 
@@ -155,7 +155,7 @@ bit_none zero h e = refl
 bit_none (suc zero) h e = absurd (true≢false e)
 bit_none (suc (suc b)) h e = absurd (omega arith)
 
--- bit j of word i
+-- Bit `64 * i + j` of the words is bit `j` of word `i`.
 pub word_bit_at : (words : List ℕ) (i j : ℕ) → j < 64 → word_bit words (i * 64 + j) ≡ bit_at (get_or words i 0) j
 word_bit_at words i j h =
     let place : (i * 64 + j) / 64 ≡ i = div-mul-add i 64 j h in
@@ -227,7 +227,7 @@ empty_are_words n f =
 
 -- ---- the words of an operation on two sets
 
--- the words of an operation that takes each pair of bits by the test t
+-- `op` on two words does `t` on each pair of bits.
 pub record Combines (op : ℕ → ℕ → ℕ) (t : Bool → Bool → Bool) : Type 0 where
   pub none : t false false ≡ false
   pub bits : (x y j : ℕ) → (bit_at (op x y) j == 1) ≡ t (bit_at x j == 1) (bit_at y j == 1)
@@ -265,7 +265,7 @@ combined_has op t c n a b wa wb k =
           (sym c.none)
     ]
 
--- a fact on two bits, from the four cases
+-- A property of two bits holds if it holds in the four cases.
 on_bits : (P : ℕ → ℕ → Type 0) → P 0 0 → P 0 1 → P 1 0 → P 1 1 → (x y : ℕ) → x < 2 → y < 2 → P x y
 on_bits P a b c d zero zero h k = a
 on_bits P a b c d zero (suc zero) h k = b
@@ -322,7 +322,7 @@ no_ticks f a (suc m) h =
     sum_by-cons (λ (b : Bool). cond b 1 0) (f a) (map f (range_with_len (a + 1) m))
     ∙ rw (h a (omega arith), zero-add) (no_ticks f (a + 1) m (λ k l. h k (omega arith)))
 
--- the bits of one word
+-- The bits of one word.
 word_bits : ℕ → List Bool
 word_bits w = map (λ k. bit_at w k == 1) (range_with_len 0 64)
 
@@ -339,7 +339,7 @@ ticks_of_word w h =
     let ms = map (λ k. bit_at w k == 1) (range_with_len 0 64) in
     sym (ones-mask_l (λ b. b) ms) ∙ ap count_ones (ap mask_l (map-id ms) ∙ word_is_mask w h)
 
--- the bits of one more word
+-- One more word adds its number of ones to the count.
 pub ticks_more : (words : List ℕ) (i : ℕ) → get_or words i 0 < 2 ^ 64 → ticks (bits_of ((i + 1) * 64) words) ≡ ticks (bits_of (i * 64) words) + count_ones (get_or words i 0)
 ticks_more words i h =
     let f : ℕ → Bool = λ k. word_bit words k == 1 in
@@ -354,7 +354,7 @@ ticks_more words i h =
     ∙ ap (λ (xs : List Bool). ticks (bits_of (i * 64) words) + ticks xs) last
     ∙ ap (λ (n : ℕ). ticks (bits_of (i * 64) words) + n) (ticks_of_word (get_or words i 0) h)
 
--- the bits past the last number add nothing
+-- Bits past the last number add nothing to the count.
 pub ticks_past : (n m : ℕ) (words : List ℕ) → AreWords n words → n ≤ m → ticks (bits_of m words) ≡ ticks (bits_of n words)
 ticks_past n m words w le =
     let f : ℕ → Bool = λ k. word_bit words k == 1 in
@@ -368,7 +368,7 @@ ticks_past n m words w le =
 pub ticks_all : (n : ℕ) (words : List ℕ) → AreWords n words → ticks (bits_of (length words * 64) words) ≡ ticks (bits_of n words)
 ticks_all n words w = ticks_past n (length words * 64) words w (omega (arith, w.long))
 
--- no more numbers than the size
+-- A set has at most `n` members.
 pub ticks_le : (n m : ℕ) (words : List ℕ) → AreWords n words → ticks (bits_of m words) ≤ n
 ticks_le n m words w =
     elim (cases_lt m n) [
@@ -376,7 +376,7 @@ ticks_le n m words w =
       | inr p ↦ omega (arith, ticks_past n m words w p, count_by-le-length (λ b. b) (bits_of n words), length-bits_of n words)
     ]
 
--- how many numbers a set has is how long their list is
+-- The number of members is the length of their list.
 pub length-members : (set : List Bool) → length (members_from set 0) ≡ ticks set
 length-members s =
     let z : length s - 0 ≡ length s = omega arith in
@@ -402,7 +402,7 @@ members_from_skip s n (suc d) none =
       | inr p ↦ members_from_end s n p ∙ sym (members_from_end s (n + suc d) (omega arith))
     ]
 
--- the k that is found: its bit is set, and none before it from `from` on
+-- `k` is the least member that is at least `from`.
 pub record IsNext (set : List Bool) (from k : ℕ) : Type 0 where
   pub after : from ≤ k
   pub inside : k < length set
@@ -433,17 +433,17 @@ next_none n words now from w e le none =
     rw d at (members_from_skip now from (n - from) (λ j a b. has_is n words now j e (omega arith) ∙ rw (none j a (omega (arith, w.long))) refl))
     ∙ members_from_end now n (omega arith)
 
--- the bits of a word that is shifted
+-- Bit `j` of a word shifted by `s` is its bit `s + j`.
 pub shifted_bit : (w s j : ℕ) → bit_at (w / 2 ^ s) j ≡ bit_at w (s + j)
 shifted_bit w s j = ap (λ (x : ℕ). x % 2) (shr-shr w s j)
 
--- bit j of the word of `from`
+-- Bit `from + j` of the words is in the word of `from`.
 pub bit_in_word : (words : List ℕ) (from j : ℕ) → from % 64 + j < 64 → word_bit words (from + j) ≡ bit_at (get_or words (from / 64) 0) (from % 64 + j)
 bit_in_word words from j h =
     let place : from + j ≡ from / 64 * 64 + (from % 64 + j) = omega arith in
     rw place (word_bit_at words (from / 64) (from % 64 + j) h)
 
--- the first word, from `from` on, isn't 0: its lowest bit is the next number
+-- If the shifted first word isn't 0, its lowest bit is the next member.
 pub next_in_first : (n : ℕ) (words : List ℕ) (now : List Bool) (from w : ℕ) → AreWords n words → bits_of n words ≡ now → get_or words (from / 64) 0 < 2 ^ 64 → w ≡ get_or words (from / 64) 0 / 2 ^ (from % 64) → 0 < w → (from % 64 + trailing_zeros w64 w < 64) × IsNext now from (from + trailing_zeros w64 w)
 next_in_first n words now from w a e fits is some =
     let word : ℕ = get_or words (from / 64) 0 in
@@ -463,13 +463,14 @@ next_in_first n words now from w a e fits is some =
           rw (← there) (bit_in_word words from (j - from) (omega arith) ∙ sym (shifted_bit word (from % 64) (j - from)) ∙ ap (λ (x : ℕ). bit_at x (j - from)) (sym is) ∙ low.2 (j - from) (omega arith))),
     )
 
--- the first word has none: no bit from `from` to its end
+-- If the shifted first word is 0, no bit from `from` to the end of that word is set.
 pub none_in_first : (words : List ℕ) (from : ℕ) → get_or words (from / 64) 0 / 2 ^ (from % 64) ≡ 0 → (j : ℕ) → from ≤ j → j < (from / 64 + 1) * 64 → word_bit words j ≡ 0
 none_in_first words from is j from_j j_below =
     let there : from + (j - from) ≡ j = omega arith in
     rw (← there) (bit_in_word words from (j - from) (omega arith) ∙ sym (shifted_bit (get_or words (from / 64) 0) (from % 64) (j - from)) ∙ rw is (bit_at-zero (j - from)))
 
--- a later word isn't 0, and those before it are
+-- If all words before word `p` have no bit from `from` on and word `p` isn't 0, its lowest bit is the next
+-- member.
 pub next_in_later : (n : ℕ) (words : List ℕ) (now : List Bool) (from p : ℕ) → AreWords n words → bits_of n words ≡ now → get_or words p 0 < 2 ^ 64 → from ≤ p * 64 → ((j : ℕ) → from ≤ j → j < p * 64 → word_bit words j ≡ 0) → 0 < get_or words p 0 → (trailing_zeros w64 (get_or words p 0) < 64) × IsNext now from (p * 64 + trailing_zeros w64 (get_or words p 0))
 next_in_later n words now from p a e fits le none some =
     let word : ℕ = get_or words p 0 in
@@ -486,7 +487,7 @@ next_in_later n words now from p a e fits le none some =
           ]),
     )
 
--- a later word is 0
+-- If word `p` is 0 as well, no bit from `from` to its end is set.
 pub none_in_later : (words : List ℕ) (from p : ℕ) → get_or words p 0 ≡ 0 → ((j : ℕ) → from ≤ j → j < p * 64 → word_bit words j ≡ 0) → (j : ℕ) → from ≤ j → j < (p + 1) * 64 → word_bit words j ≡ 0
 none_in_later words from p is none j from_j j_below =
     elim (cases_lt j (p * 64)) [
@@ -498,7 +499,7 @@ none_in_later words from p is none j from_j j_below =
 
 -- ---- one word
 
--- the word has no bit
+-- A word that is 0 has no member.
 pub none_in_word : (n : ℕ) (words : List ℕ) (now : List Bool) (p : ℕ) → bits_of n words ≡ now → get_or words p 0 ≡ 0 → (j : ℕ) → j / 64 ≡ p → has now j ≡ false
 none_in_word n words now p e is j at =
     elim (cases_lt j (length now)) [
@@ -506,7 +507,7 @@ none_in_word n words now p e is j at =
       | inl h ↦ has_is n words now j e h ∙ rw (none_in_later words (p * 64) p is (λ i a b. absurd (omega arith)) j (omega arith) (omega arith)) refl
     ]
 
--- the lowest bit of the word
+-- The lowest bit of a word is its least member.
 pub first_in_word : (n : ℕ) (words : List ℕ) (now : List Bool) (p : ℕ) → AreWords n words → bits_of n words ≡ now → get_or words p 0 < 2 ^ 64 → 0 < get_or words p 0 → (trailing_zeros w64 (get_or words p 0) < 64) × (p * 64 + trailing_zeros w64 (get_or words p 0) < length now) × IsFirstIn now p (p * 64 + trailing_zeros w64 (get_or words p 0))
 first_in_word n words now p a e fits some =
     let next = next_in_later n words now (p * 64) p a e fits (omega arith) (λ j b c. absurd (omega arith)) some in

@@ -8,14 +8,14 @@ length_edges_in [] es h = refl
 length_edges_in (s ∷ ss) [] h = absurd (omega arith)
 length_edges_in (s ∷ ss) (e ∷ es) h = ap suc (length_edges_in ss es (omega arith))
 
--- the numbers of edge k make it
+-- Edge `k` of the columns is encoded by element `k` of each.
 pub edge_in_columns : (ss es : List ℕ) (k : ℕ) → length ss ≡ length es → k < length ss → slice_get (edges_in ss es) k ≡ Some (edge_of (get_or ss k 0) (get_or es k 0))
 edge_in_columns [] es k h l = absurd (omega arith)
 edge_in_columns (s ∷ ss) [] k h l = absurd (omega arith)
 edge_in_columns (s ∷ ss) (e ∷ es) zero h l = refl
 edge_in_columns (s ∷ ss) (e ∷ es) (suc k) h l = edge_in_columns ss es k (omega arith) (omega arith)
 
--- the numbers of an edge make it
+-- Encoding an edge and decoding it returns the same edge.
 pub one_edge : (from to : ℕ) (firm : Bool) → edge_of from (2 * to + from_bool firm) ≡ record { from = from; to = to; non_dev = firm }
 one_edge from to true =
     let half : (2 * to + 1) / 2 ≡ to = omega arith in
@@ -26,7 +26,7 @@ one_edge from to false =
     let even : (2 * to + 0) % 2 ≡ 0 = omega arith in
     rw (half, even) refl
 
--- one more edge at the end of both columns
+-- Appending to both columns appends the edge.
 pub edges_in_more : (ss es : List ℕ) (s e : ℕ) → length ss ≡ length es → edges_in (ss ++ s ∷ []) (es ++ e ∷ []) ≡ edges_in ss es ++ edge_of s e ∷ []
 edges_in_more [] [] s e h = refl
 edges_in_more [] (f ∷ es) s e h = absurd (omega arith)

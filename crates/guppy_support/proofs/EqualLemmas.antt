@@ -21,7 +21,7 @@ same_tests false false f g = refl
 
 -- ---- members
 
--- the numbers of a set from a on, n places far
+-- The members among `n` numbers from `a` on.
 abbrev part : List Bool → ℕ → ℕ → List ℕ
 part s a n = filter (λ k. has s k) (range_with_len a n)
 
@@ -66,7 +66,7 @@ same_bit x y hx hy t =
           ]
     ]
 
--- a set has the numbers whose bits are set
+-- A number is in a set exactly if its bit is set.
 has_word : (n : ℕ) (a : List ℕ) → AreWords n a → (k : ℕ) → has (bits_of n a) k ≡ (word_bit a k == 1)
 has_word n a w k =
     elim (cases_lt k n) [
@@ -85,7 +85,7 @@ have_words n m a b wa wb fa fb e i =
     same_from_bits_below 64 (get_or a i 0) (get_or b i 0) (fa i) (fb i)
     (λ j l. sym (word_bit_at a i j l) ∙ bit (i * 64 + j) ∙ word_bit_at b i j l)
 
--- two sets have the same members exactly if their words agree
+-- Two sets have the same members exactly if their words agree.
 pub equal_members : (n m : ℕ) (a b : List ℕ) → AreWords n a → AreWords m b → Fit a → Fit b → (r : Bool) → (r ≡ true → (i : ℕ) → get_or a i 0 ≡ get_or b i 0) → (((i : ℕ) → get_or a i 0 ≡ get_or b i 0) → r ≡ true)
     → r ≡ pointwise nat_eq (members (bits_of n a)) (members (bits_of m b))
 equal_members n m a b wa wb fa fb r same apart =

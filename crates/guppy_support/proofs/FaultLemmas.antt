@@ -1,4 +1,4 @@
--- What a list of edges without a fault is.
+-- Properties of a list of edges without a fault.
 use Rattle.std.proofs.Common.{◌≡◌, ℕ, zero, suc, ◌+◌, ◌-◌, ◌<◌, ◌≤◌, List, refl, sym, ◌∙◌, ap, length, get_or, ◌⊎◌, inl, inr, arith, Some, slice_get}
 use Rattle.std.proofs.lemmas.Bool.{cases_eq, cases_order}
 use Rattle.std.proofs.lemmas.List.{get_or-map, length-map}
@@ -13,7 +13,7 @@ source_is es k e l is = get_or-map (λ (d : Edge). d.from) es k e 0 l ∙ ap (λ
 pub target_is : (es : List Edge) (k : ℕ) (e : Edge) → k < length es → e ≡ get_or es k e → target_of es k ≡ e.to
 target_is es k e l is = get_or-map (λ (d : Edge). d.to) es k e 0 l ∙ ap (λ (d : Edge). d.to) (sym is)
 
--- the ends of edge k, where it was got
+-- The source and the target of edge `k`, from a read with `slice_get`.
 pub source_got : (es : List Edge) (k : ℕ) (e : Edge) → k < length es → slice_get es k ≡ Some e → source_of es k ≡ e.from
 source_got es k e l got = source_is es k e l (sym (get_or_from_slice_get es k e e got))
 
@@ -25,7 +25,7 @@ ends_within g k e h l is =
     let s = (h k l).nodes in
     (omega (arith, s.from, source_is g.edges k e l is), omega (arith, s.to, target_is g.edges k e l is))
 
--- the ends of an edge are nodes
+-- The ends of an edge are nodes.
 pub nodes_of_edge : {a b : ℕ} (g : Graph) → IsDigraph g → HasEdge g.edges a b → (a < g.nodes) × (b < g.nodes)
 nodes_of_edge g h e =
     let ends = ends_within g e.listed.0 e.edge h e.listed.1 (sym e.listed.2) in
@@ -55,7 +55,7 @@ ascending g h j (suc d) l =
 pub ascends : (g : Graph) → IsDigraph g → (j k : ℕ) → j < k → k < length g.edges → ComesAfter g.edges j k
 ascends g h j k less l = let e : j + suc (k - suc j) ≡ k = omega arith in rw e at (ascending g h j (k - suc j) (omega arith))
 
--- edge k comes before a pair of nodes, or after it
+-- Edge `k` is before a pair of nodes, or after it.
 abbrev pub IsBelow : List Edge → ℕ → ℕ → ℕ → Type 0
 IsBelow es k a b = IsBefore (source_of es k) (target_of es k) a b
 
@@ -90,12 +90,12 @@ above_too g h j k a b le l p =
           }
     ]
 
--- an edge between two nodes stands at some place
+-- An edge between two nodes has a number.
 pub place_of_edge : {a b : ℕ} (es : List Edge) → HasEdge es a b → (k : ℕ) × (k < length es) × (source_of es k ≡ a) × (target_of es k ≡ b)
 place_of_edge es e =
     (e.listed.0, e.listed.1, source_is es e.listed.0 e.edge e.listed.1 (sym e.listed.2) ∙ e.from, target_is es e.listed.0 e.edge e.listed.1 (sym e.listed.2) ∙ e.to)
 
--- where each edge is below or above the pair, there is no edge between the two
+-- If each edge is below or above the pair, no edge joins the two nodes.
 pub no_edge_between : (es : List Edge) (a b : ℕ) → ((k : ℕ) → k < length es → IsBelow es k a b ⊎ IsAbove es k a b) → ¬ HasEdge es a b
 no_edge_between es a b each e =
     let p = place_of_edge es e in
@@ -104,7 +104,7 @@ no_edge_between es a b each e =
       | inr r ↦ omega (arith, r.by_second (sym p.2), p.3)
     ]
 
--- of two pairs neither of which comes before the other, both numbers are equal
+-- Two pairs are equal if neither is before the other.
 pub same_pairs : (a b c d : ℕ) → ¬ IsBefore a b c d → ¬ IsBefore c d a b → (a ≡ c) × (b ≡ d)
 same_pairs a b c d f g =
     elim (cases_order a c) [
@@ -124,19 +124,18 @@ same_pairs a b c d f g =
           ]
     ]
 
--- one more edge is sound
+-- If the edges before edge `i` are sound and edge `i` is, so are those before `i + 1`.
 pub sound_more : (n : ℕ) (es : List Edge) (i : ℕ) → ((k : ℕ) → k < i → IsSound n es k) → IsSound n es i → (k : ℕ) → k < i + 1 → IsSound n es k
 sound_more n es i below here k h = elim (cases_eq k i) [ inl e ↦ rw e here | inr ne ↦ below k (omega arith) ]
 
--- an edge whose ends are nodes
--- a read of edge k
+-- The source and the target of edge `k`, from a read with `get_or`.
 pub source_read : (es : List Edge) (k : ℕ) (d : Edge) → k < length es → source_of es k ≡ (get_or es k d).from
 source_read es k d l = get_or-map (λ (e : Edge). e.from) es k d 0 l
 
 pub target_read : (es : List Edge) (k : ℕ) (d : Edge) → k < length es → target_of es k ≡ (get_or es k d).to
 target_read es k d l = get_or-map (λ (e : Edge). e.to) es k d 0 l
 
--- reads of two edges, of which one comes before the other
+-- Edge `k` is after edge `j`, from reads of the two.
 pub comes_after : (es : List Edge) (j k : ℕ) (d : Edge) → j < length es → k < length es → IsBefore (get_or es j d).from (get_or es j d).to (get_or es k d).from (get_or es k d).to → ComesAfter es j k
 comes_after es j k d lj lk b = rw (source_read es j d lj, target_read es j d lj, source_read es k d lk, target_read es k d lk) b
 

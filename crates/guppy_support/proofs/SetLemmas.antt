@@ -1,4 +1,4 @@
--- Sets, as those who use them see them: lists of tests.
+-- Sets as lists of tests.
 use Rattle.std.proofs.Common.{◌≡◌, ◌≢◌, ℕ, zero, suc, ◌+◌, ◌-◌, ◌<◌, ◌≤◌, inl, inr, Bool, true, false, List, ◌∷◌, length, get_or, set, replicate, ap, sym, ◌∙◌, arith, Contains, get_or-set_same, get_or-set_other}
 use Rattle.std.specs.Prelude.{filter, count_by}
 use Rattle.std.specs.List.{range_with_len}
@@ -16,7 +16,7 @@ has-insert_same s k h = get_or-set_same s k true false h
 pub has-insert_other : (s : List Bool) (k j : ℕ) → j ≢ k → has (set s k true) j ≡ has s j
 has-insert_other s k j ne = get_or-set_other s k j true false ne
 
--- the empty set has nothing, within its size or past it
+-- The empty set has no member, within its size or past it.
 pub has-empty : (n k : ℕ) → has (replicate n false) k ≡ false
 has-empty n k =
     elim (cases_lt k n) [
@@ -27,7 +27,7 @@ has-empty n k =
 pub has-full : (n k : ℕ) → k < n → has (replicate n true) k ≡ true
 has-full n k h = get_or-replicate n k true false h
 
--- what a set has is below its size
+-- A member is below the set's size.
 pub has_inside : (s : List Bool) (k : ℕ) → has s k ≡ true → k < length s
 has_inside s k h =
     elim (cases_lt k (length s)) [
@@ -35,13 +35,13 @@ has_inside s k h =
       | inr p ↦ absurd (let c : false ≡ true = sym (get_or_past s k false p) ∙ h in cc)
     ]
 
--- `==` says whether two sets are equal
+-- `==` decides whether two sets are equal.
 pub set_eq_decides : (a b : List Bool) → (pointwise beq a b ≡ true → a ≡ b) × (a ≡ b → pointwise beq a b ≡ true)
 set_eq_decides a b = pointwise_decides booleans_Decides a b
 
 -- ---- the list of members
 
--- those of n numbers from a on
+-- The members among `n` numbers from `a` on.
 abbrev part : List Bool → ℕ → ℕ → List ℕ
 part s a n = filter (λ k. has s k) (range_with_len a n)
 
@@ -50,7 +50,7 @@ record IsIn (s : List Bool) (a n x : ℕ) : Type 0 where
   below : x < a + n
   is : has s x ≡ true
 
--- one more in front
+-- Prepending a member keeps the list within the set.
 front_sound : (s : List Bool) (a n : ℕ) (rest : List ℕ) → has s a ≡ true → ((i : ℕ) → i < length rest → IsIn s (a + 1) n (get_or rest i 0)) → (i : ℕ) → i < length (a ∷ rest) → IsIn s a (suc n) (get_or (a ∷ rest) i 0)
 front_sound s a n rest e each zero h = record { from = omega arith; below = omega arith; is = e }
 front_sound s a n rest e each (suc i) h = let p = each i (omega arith) in record { from = omega (arith, p.from); below = omega (arith, p.below); is = p.is }
@@ -111,6 +111,6 @@ Contains-members s k h = let m = members_complete s k h in (m.0, m.1, get_or_def
 pub has-Contains : (s : List Bool) (k : ℕ) → Contains (members s) k → has s k ≡ true
 has-Contains s k c = ap (λ (x : ℕ). has s x) (sym (get_or_default (members s) c.0 0 k c.1 ∙ c.2)) ∙ has-members s c.0 c.1
 
--- `count` is how many members there are
+-- `count` is the number of members.
 pub length-members_count : (s : List Bool) → length (members s) ≡ count_by (λ b. b) s
 length-members_count s = ap (λ (n : ℕ). length (filter (λ k. has s k) (range_with_len 0 n))) (let z : length s ≡ length s - 0 = omega arith in z) ∙ length-members s

@@ -1,4 +1,4 @@
-//! Sets of numbers below a bound, 64 numbers to a word.
+//! Sets of numbers below a bound, packed 64 to a word.
 ghost use Rattle.std.specs.Prelude.{◌≡◌, ℕ, ◌+◌, ◌*◌, ◌-◌, ◌/◌, ◌^◌, ◌<◌, ◌≤◌, ◌||◌, ◌&&◌, ◌==◌, not, false, [], ◌∷◌, length, map, zip, IfOk, IfSome, IfNone, Some, MatchOption, replicate, slice_set, count_by, bit_and, bit_or, bit_xor, nat_eq, slice_index, true, IsTrue, ◌↔◌};
 ghost use Rattle.std.specs.Iterator.{YieldsFirst, UpTo, item_count};
 ghost use Rattle.std.specs.Iterator.SizeHint.{IsWithinCount};
@@ -13,7 +13,7 @@ ghost use Rattle.guppy_support.specs.inner.Words.{Fit};
 use std::alloc::{AllocError, Global};
 use std::marker::Model;
 
-/// A set of numbers below a bound, its size.
+/// A set of numbers below `size`.
 #[derive(Debug, Drop)]
 pub struct IxBitSet {
     size: usize,
@@ -32,7 +32,7 @@ impl Model for IxBitSet {
 }
 
 impl IxBitSet {
-    /// The set of no number below `size`.
+    /// Returns the empty set of bound `size`.
     pub fn empty(alloc: Global, size: usize) -> Result<IxBitSet, AllocError>
         ensures { IfOk result (λ set. set ≡ replicate size false) }
     {
@@ -40,7 +40,7 @@ impl IxBitSet {
         Ok(IxBitSet { size, words })
     }
 
-    /// The set of all numbers below `size`.
+    /// Returns the set of all numbers below `size`.
     pub fn full(alloc: Global, size: usize) -> Result<IxBitSet, AllocError>
         ensures { IfOk result (λ set. set ≡ replicate size true) }
     {
@@ -49,7 +49,7 @@ impl IxBitSet {
         Ok(IxBitSet { size, words })
     }
 
-    /// A set of the same numbers below the same bound.
+    /// Returns a copy: the same numbers below the same bound.
     pub fn try_clone(&self, alloc: Global) -> Result<IxBitSet, AllocError>
         ensures { IfOk result (λ set. set ≡ self.now) }
     {
@@ -60,14 +60,14 @@ impl IxBitSet {
         })
     }
 
-    /// The bound: each number of the set is below it.
+    /// Returns the bound. Each number in the set is below it.
     pub fn size(&self) -> usize
         ensures { result ≡ length self.now }
     {
         self.size
     }
 
-    /// Whether the set has the number.
+    /// Returns true if `number` is in the set.
     pub fn contains(&self, number: usize) -> bool
         requires { number < length self.now }
         ensures { result ≡ has self.now number }
@@ -75,7 +75,7 @@ impl IxBitSet {
         (self.words[number / 64] >> (number % 64)) & 1 == 1
     }
 
-    /// Puts the number into the set.
+    /// Inserts `number` into the set.
     pub fn insert(&mut self, number: usize)
         requires { number < length self.old }
         ensures { self.new ≡ slice_set self.old number true }
@@ -83,7 +83,7 @@ impl IxBitSet {
         self.words[number / 64] |= 1 << (number % 64);
     }
 
-    /// Takes the number out of the set.
+    /// Removes `number` from the set.
     pub fn remove(&mut self, number: usize)
         requires { number < length self.old }
         ensures { self.new ≡ slice_set self.old number false }
@@ -91,7 +91,7 @@ impl IxBitSet {
         self.words[number / 64] &= !(1 << (number % 64));
     }
 
-    /// How many numbers the set has.
+    /// Returns the number of members.
     pub fn count(&self) -> usize
         ensures { result ≡ count_by (λ b. b) self.now }
     {
@@ -102,7 +102,7 @@ impl IxBitSet {
         count
     }
 
-    /// The numbers of the set, ascending.
+    /// Returns an iterator over the members, ascending.
     pub fn ones(&self) -> Ones<'_>
         ensures { result ≡ members self.now }
     {
@@ -113,7 +113,8 @@ impl IxBitSet {
         }
     }
 
-    /// The numbers that are in either set, below the bound of both.
+    /// Returns the numbers in `self`, in `other` or in both. The two sets must have the same bound, and the
+    /// result has it too.
     pub fn union(&self, alloc: Global, other: &IxBitSet) -> Result<IxBitSet, AllocError>
         requires { length self.now ≡ length other.now }
         ensures size { IfOk result (λ set. length set ≡ length self.now) }
@@ -126,7 +127,8 @@ impl IxBitSet {
         })
     }
 
-    /// The numbers that are in both sets, below the bound of both.
+    /// Returns the numbers in both `self` and `other`. The two sets must have the same bound, and the result
+    /// has it too.
     pub fn intersection(&self, alloc: Global, other: &IxBitSet) -> Result<IxBitSet, AllocError>
         requires { length self.now ≡ length other.now }
         ensures size { IfOk result (λ set. length set ≡ length self.now) }
@@ -139,7 +141,8 @@ impl IxBitSet {
         })
     }
 
-    /// The numbers of this set that the other set lacks, below the bound of both.
+    /// Returns the numbers in `self` that aren't in `other`. The two sets must have the same bound, and the
+    /// result has it too.
     pub fn difference(&self, alloc: Global, other: &IxBitSet) -> Result<IxBitSet, AllocError>
         requires { length self.now ≡ length other.now }
         ensures size { IfOk result (λ set. length set ≡ length self.now) }
@@ -152,7 +155,8 @@ impl IxBitSet {
         })
     }
 
-    /// The numbers that are in one of the sets and not in the other, below the bound of both.
+    /// Returns the numbers in exactly one of `self` and `other`. The two sets must have the same bound, and the
+    /// result has it too.
     pub fn symmetric_difference(
         &self,
         alloc: Global,
@@ -169,14 +173,14 @@ impl IxBitSet {
         })
     }
 
-    /// Whether two sets have the same numbers below the same bound.
+    /// Returns true if both sets have the same members and the same bound.
     pub fn is_identical(&self, other: &IxBitSet) -> bool
         ensures { IsTrue result ↔ (self.now ≡ other.now) }
     {
         self.size == other.size && same_words(&self.words, &other.words)
     }
 
-    /// Returns the least number of the set from `64 * place` up to the next multiple of 64.
+    /// Returns the least member of word `place`: the numbers from `64 * place` up to the next multiple of 64.
     pub fn first_in(&self, place: usize) -> Option<usize>
         requires { place * 64 ≤ length self.now }
         ensures none { IfNone result ((j : ℕ) → j / 64 ≡ place → has self.now j ≡ false) }
@@ -189,7 +193,7 @@ impl IxBitSet {
         Some(place * 64 + word.trailing_zeros() as usize)
     }
 
-    /// The least number of the set from `from` on.
+    /// Returns the least member that is at least `from`.
     pub fn next_from(&self, from: usize) -> Option<usize>
         requires { from ≤ length self.now }
         ensures fits { length self.now < 2 ^ 64 }
@@ -210,7 +214,7 @@ impl IxBitSet {
     }
 }
 
-/// Equal are sets of the same numbers, whatever their bounds.
+/// Compares the members only: two sets with different bounds can be equal.
 impl PartialEq for IxBitSet {
     ghost eq = { on members (pointwise nat_eq) };
 
@@ -225,14 +229,14 @@ impl Eq for IxBitSet {
     ghost laws = { on_equiv members nat_list_eq_equiv };
 }
 
-// So many copies of a word.
+// Returns `count` copies of `word`.
 fn copies(alloc: Global, word: u64, count: usize) -> Result<Vec<u64>, AllocError>
     ensures { IfOk result (λ words. words.items ≡ replicate count word) }
 {
     vec![in alloc; word; count]
 }
 
-// The word at the place, or 0 behind the last.
+// Returns the word at `place`, or 0 past the end.
 fn word_at(words: &[u64], place: usize) -> u64
     ensures { result ≡ slice_index words.now place }
 {
@@ -242,7 +246,7 @@ fn word_at(words: &[u64], place: usize) -> u64
     }
 }
 
-// Whether two lists of words have the same bits, where no bit is behind the last word.
+// Returns true if both lists have the same bits. Missing words count as 0.
 fn same_words(mine: &[u64], its: &[u64]) -> bool
     ensures same { result ≡ true → (i : ℕ) → slice_index mine.now i ≡ slice_index its.now i }
     ensures apart { ((i : ℕ) → slice_index mine.now i ≡ slice_index its.now i) → result ≡ true }
@@ -257,7 +261,7 @@ fn same_words(mine: &[u64], its: &[u64]) -> bool
     true
 }
 
-// The bits that either word has.
+// Returns the bitwise OR of each pair of words.
 fn either(alloc: Global, mine: &[u64], its: &[u64]) -> Result<Vec<u64>, AllocError>
     ensures { IfOk result (λ words. words.items ≡ map (λ p. bit_or p.0 p.1) (zip mine.now its.now)) }
 {
@@ -266,7 +270,7 @@ fn either(alloc: Global, mine: &[u64], its: &[u64]) -> Result<Vec<u64>, AllocErr
     Ok(words)
 }
 
-// The bits that both words have.
+// Returns the bitwise AND of each pair of words.
 fn both(alloc: Global, mine: &[u64], its: &[u64]) -> Result<Vec<u64>, AllocError>
     ensures { IfOk result (λ words. words.items ≡ map (λ p. bit_and p.0 p.1) (zip mine.now its.now)) }
 {
@@ -275,7 +279,7 @@ fn both(alloc: Global, mine: &[u64], its: &[u64]) -> Result<Vec<u64>, AllocError
     Ok(words)
 }
 
-// The bits of the first word that the second lacks.
+// Returns the bits of `mine` that aren't in `its`, word by word.
 fn first_alone(alloc: Global, mine: &[u64], its: &[u64]) -> Result<Vec<u64>, AllocError>
     ensures { IfOk result (λ words. words.items ≡ map (λ p. bit_and p.0 (bit_xor p.0 p.1)) (zip mine.now its.now)) }
 {
@@ -284,7 +288,7 @@ fn first_alone(alloc: Global, mine: &[u64], its: &[u64]) -> Result<Vec<u64>, All
     Ok(words)
 }
 
-// The bits that one word has and the other lacks.
+// Returns the bitwise XOR of each pair of words.
 fn exactly_one(alloc: Global, mine: &[u64], its: &[u64]) -> Result<Vec<u64>, AllocError>
     ensures { IfOk result (λ words. words.items ≡ map (λ p. bit_xor p.0 p.1) (zip mine.now its.now)) }
 {
@@ -293,7 +297,7 @@ fn exactly_one(alloc: Global, mine: &[u64], its: &[u64]) -> Result<Vec<u64>, All
     Ok(words)
 }
 
-/// The numbers of a set that are left, ascending.
+/// An iterator over the members of a set, ascending.
 #[derive(Debug, Drop)]
 pub struct Ones<'a> {
     set: &'a IxBitSet,

@@ -1,13 +1,13 @@
-//! Lists of the items of iterators.
+//! Collecting an iterator into a list.
 ghost use Rattle.std.specs.Prelude.{◌≡◌, List, IfOk, length, vec_len};
 ghost use Rattle.std.specs.Bool.{⊤};
 ghost use Rattle.std.specs.Iterator.{DrainsIf, IsFinite};
 
 use std::alloc::{AllocError, Global};
 
-/// The items of an iterator that tells how many it has left.
+/// Collects an iterator whose length is known. `AllocError` is returned when an allocation fails.
 ///
-/// Memory is asked for once, for all of them, and a refusal is the answer; `collect`, refused, asks again for less.
+/// The whole list is allocated at once. After a failure nothing smaller is tried, unlike `collect`.
 pub fn collect_exactly<T: Drop, I: Iterator<Item = T> + ExactSizeIterator>(
     items: I,
     alloc: Global,

@@ -1,4 +1,4 @@
-//! A digraph, and its edges by each end.
+//! A digraph whose edges are indexed by source and by target.
 ghost use Rattle.std.specs.List.{range_with_len};
 ghost use Rattle.std.specs.Prelude.{◌≡◌, ℕ, ◌+◌, ◌-◌, ◌<◌, ◌≤◌, length, slice_get, Some, None, IfOk, IfErr, IfSome, IfNone, IsTrue, ◌↔◌};
 ghost use Rattle.guppy_support.specs.Graph.{IsDigraph, IsRefused, IsEdgeAt, IsBefore, sources, targets};
@@ -16,10 +16,11 @@ use std::alloc::{AllocError, Global};
 use std::marker::Model;
 use std::ops::Range;
 
-/// More nodes than these have numbers that don't fit in 31 bits.
+/// The most nodes whose numbers fit in 31 bits.
 const MOST_NODES: usize = 2147483648;
 
-/// An edge of a digraph. `non_dev` says that it isn't dev-only: such an edge orders its two ends inside a component.
+/// An edge of a digraph. `non_dev` is false if the edge is dev-only. Only an edge with `non_dev` orders its two
+/// ends inside a component.
 #[derive(Clone, Copy, Debug, Drop, PartialEq, Eq)]
 pub struct Edge {
     pub from: usize,
@@ -27,23 +28,23 @@ pub struct Edge {
     pub non_dev: bool,
 }
 
-/// Why a list of edges makes no digraph.
+/// Reasons why a list of edges isn't a digraph.
 #[derive(Clone, Copy, Debug, Drop, PartialEq, Eq)]
 pub enum DigraphError {
     /// An end of an edge isn't below the number of nodes.
     BadNode,
-    /// An edge doesn't come after the one before it, by source and then by target.
+    /// An edge isn't after the one before it, by source and then by target.
     Unsorted,
-    /// Memory ran out.
+    /// An allocation failed.
     Memory,
 }
 
-/// Nodes, which are the numbers below a count, and edges, which ascend by source and then by target.
+/// A digraph. Its nodes are the numbers below a count; its edges ascend strictly by source and then by target.
 #[derive(Debug, Drop)]
 pub struct Digraph {
     nodes: usize,
     edges: EdgeColumns,
-    // where the edges of each source begin; the end stands last
+    // the first edge number of each source, then the number of edges
     begins: Vec<u32>,
     inward: Rows,
 }
@@ -63,10 +64,11 @@ impl Model for Digraph {
 }
 
 impl Digraph {
-    /// The digraph of these edges. They are examined in order, each edge's ends before its place; the first fault is the error.
+    /// Builds the digraph of `nodes` nodes and `edges`. Returns `BadNode` or `Unsorted` for the first edge with
+    /// a fault; the ends of an edge are checked before its place.
     ///
-    /// More than 2147483648 nodes or 4294967295 edges, whose numbers don't fit, are answered as want of memory: they would take
-    /// over 24 gigabytes.
+    /// Returns `Memory` if an allocation fails, or if there are more than 2147483648 nodes or 4294967295 edges,
+    /// whose numbers don't fit. Such a digraph would take over 24 gigabytes.
     pub fn new(alloc: Global, nodes: usize, edges: &[Edge]) -> Result<Digraph, DigraphError>
         ensures made { IfOk result (λ g. g ≡ record { nodes = nodes; edges = edges.now }) }
         ensures sound { IfOk result (λ g. IsDigraph g) }
@@ -81,7 +83,7 @@ impl Digraph {
         }
     }
 
-    /// The digraph of these edges, as `new` makes it. The list is let go once its edges are copied.
+    /// Builds a digraph as [`Digraph::new`] does, and frees `edges` once they are copied.
     pub fn from_edges(
         alloc: Global,
         nodes: usize,
@@ -100,8 +102,8 @@ impl Digraph {
         }
     }
 
-    /// The digraph of edges that are known to be without a fault, which aren't copied. Too many nodes or edges are answered as want of
-    /// memory, as `new` does.
+    /// Builds the digraph of `edges`, which have no fault by the precondition and aren't copied. Returns
+    /// `AllocError` where `new` returns `Memory`.
     pub fn from_columns(
         alloc: Global,
         nodes: usize,
@@ -142,28 +144,28 @@ impl Digraph {
         Ok(graph)
     }
 
-    /// How many nodes there are.
+    /// Returns the number of nodes.
     pub fn node_count(&self) -> usize
         ensures { result ≡ self.now.nodes }
     {
         self.nodes
     }
 
-    /// How many edges there are.
+    /// Returns the number of edges.
     pub fn edge_count(&self) -> usize
         ensures { result ≡ length self.now.edges }
     {
         self.edges.len()
     }
 
-    /// Does nothing: its contract is what is true of each digraph.
+    /// Does nothing. The contract states the invariant: each digraph meets `IsDigraph`.
     pub fn facts(&self)
         ensures { IsDigraph self.now }
     {
         let _nodes = self.nodes;
     }
 
-    /// The edge of that number.
+    /// Returns the edge with this number.
     pub fn edge(&self, number: usize) -> Edge
         requires { number < length self.now.edges }
         ensures { slice_get self.now.edges number ≡ Some result }
@@ -171,7 +173,7 @@ impl Digraph {
         self.edges.edge(number)
     }
 
-    /// The number of the edge that leads from one node to the other, by binary search.
+    /// Returns the number of the edge from `from` to `to`, or `None` if there is none. Takes logarithmic time.
     pub fn edge_between(&self, from: usize, to: usize) -> Option<usize>
         ensures some { IfSome result (IsEdgeAt self.now.edges from to) }
         ensures none { IfNone result (¬ HasEdge self.now.edges from to) }
@@ -192,7 +194,7 @@ impl Digraph {
         None
     }
 
-    /// The numbers of the edges that leave the node. They stand together, since edges ascend by source.
+    /// Returns the numbers of the edges that leave `node`. They form a range because edges ascend by source.
     pub fn out_edges(&self, node: usize) -> Range<usize>
         requires { node < self.now.nodes }
         ensures numbers { range_with_len result.start (result.end - result.start) ≡ places node (sources self.now.edges) }
@@ -202,7 +204,7 @@ impl Digraph {
         self.begins[node] as usize..self.begins[node + 1] as usize
     }
 
-    /// The numbers of the edges that enter the node, ascending.
+    /// Returns the numbers of the edges that enter `node`, ascending.
     pub fn in_edges(&self, node: usize) -> &[u32]
         requires { node < self.now.nodes }
         ensures { result.now ≡ places node (targets self.now.edges) }
@@ -212,7 +214,7 @@ impl Digraph {
     }
 }
 
-// The first fault of the edges, want of memory aside.
+// Returns the first fault of `edges`: `BadNode` or `Unsorted`, never `Memory`.
 fn first_fault(nodes: usize, edges: &[Edge]) -> Option<DigraphError>
     ensures some { IfSome result (λ e. IsRefused nodes edges.now e) }
     ensures none { IfNone result (IsDigraph (record { nodes = nodes; edges = edges.now })) }
@@ -232,14 +234,14 @@ fn first_fault(nodes: usize, edges: &[Edge]) -> Option<DigraphError>
     None
 }
 
-// Whether the first pair comes before the other.
+// Returns true if `first` is before `other` in lexicographic order.
 fn is_before(first: (usize, usize), other: (usize, usize)) -> bool
     ensures { IsTrue result ↔ IsBefore first.0 first.1 other.0 other.1 }
 {
     first.0 < other.0 || (first.0 == other.0 && first.1 < other.1)
 }
 
-// The targets of edges, in their order.
+// The targets of `edges`, in their order.
 #[derive(Drop)]
 struct Targets<'a> {
     edges: &'a EdgeColumns,
@@ -257,7 +259,7 @@ impl<'a> Keys for Targets<'a> {
     }
 }
 
-// The numbers of the edges by target.
+// Returns the numbers of the edges that enter each node.
 fn inward_rows(alloc: Global, nodes: usize, edges: &EdgeColumns) -> Result<Rows, AllocError>
     requires { IsDigraph (record { nodes = nodes; edges = edges.now }) }
     ensures { IfOk result (λ rows. IsPacked nodes (targets edges.now) rows.begins.items rows.numbers.items) }

@@ -1,7 +1,7 @@
-//! Laws of sets. Each function does nothing: its contract is the law.
+//! Laws of sets. Each function does nothing; its contract is the law.
 ghost use Rattle.guppy_support.specs.Laws.{SetsAreTheirMembers};
 
-/// Two sets list the same numbers exactly if each number is in both or in neither.
+/// Two sets list the same members exactly if each number is in both or in neither.
 pub fn sets_are_their_members()
     ensures { SetsAreTheirMembers }
 {}

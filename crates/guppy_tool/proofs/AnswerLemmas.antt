@@ -1,4 +1,4 @@
--- A refusal of the feature graph's, as the program tells it.
+-- Refusals of the feature graph as refusals of the program, and the texts of a list's elements.
 use Rattle.std.proofs.Common.{◌≡◌, ℕ, zero, suc, ◌+◌, ◌≤◌, List, [], ◌∷◌, ◌++◌, Bool, true, length, map, drop, Some, add-one, append_assoc, append-nil, sym, ap, ◌∙◌, subst, refl, arith}
 use Rattle.guppy_packages.specs.Rows.{Text}
 use Rattle.guppy_packages.specs.Tables.{Tables, PackageTable, AreTables}
@@ -16,7 +16,7 @@ use Rattle.guppy_tool.specs.Faults.{Refusal, IfNotMemory, unknown_feature, unkno
 use Rattle.guppy_tool.specs.Answers.{NamesUnknown, NamesNoPackage, ListsFeatures, IsToldAs, IsPackageToldAs, MayRefuseIds, MayRefusePackage}
 use Rattle.guppy_tool.proofs.RefusalLemmas.{if_not_memory}
 
--- want of memory claims nothing
+-- nothing is claimed if an allocation fails
 at_memory : (r : Refusal) (P : Type 0) → r ≡ out_of_memory → IfNotMemory r P
 at_memory r P e = subst (λ s. IfNotMemory s P) (sym e) tt
 
@@ -32,18 +32,18 @@ may_refuse t ids graph.no_memory h = tt
 may_refuse t ids (graph.unknown_package id) h = absurd h
 may_refuse t ids (graph.internal_error from to) h = absurd h
 
--- a run in which all was accepted agrees with the set of all offers
+-- a run that accepted every offer agrees with the set of all offers
 pub agrees_all : {O : Type 0} (gives : O → ℕ → Half → Bool → O → Type 0) → ((s : O) (e : ℕ) (h : Half) (b : Bool) (u : O) → gives s e h b u → b ≡ true) → (s t : O) (run : List Call) → GoesAlong gives s run t → Agrees every run
 agrees_all gives says s t [] along = tt
 agrees_all gives says s t (call ∷ before) (m, along, step) = (sym (says m call.edge call.half call.answer t step), agrees_all gives says s m before along)
 
--- the texts of what is left of a list are that of the next element and those of the rest
+-- the text of the elements from `k` on is the text of the element at `k` and the text of the rest
 texts_next : {X : Type 0} (f : X → List ℕ) (xs : List X) (k : ℕ) (x : X) → slice_get xs k ≡ Some x → flat_map f (drop k xs) ≡ f x ++ flat_map f (drop (suc k) xs)
 texts_next f [] k x e = cc
 texts_next f (y ∷ ys) zero x e = let same : y ≡ x = cc in ap (λ z. f z ++ flat_map f ys) same
 texts_next f (y ∷ ys) (suc k) x e = texts_next f ys k x e
 
--- so the texts so far, and those of what is left, stay the same
+-- the text so far with the text of the elements to come is unchanged by a step
 pub texts_so_far : {X : Type 0} (f : X → List ℕ) (xs : List X) (k : ℕ) (x : X) (text next all : List ℕ) → slice_get xs k ≡ Some x → text ++ flat_map f (drop k xs) ≡ all → next ≡ text ++ f x → next ++ flat_map f (drop (k + 1) xs) ≡ all
 texts_so_far f xs k x text next all e h n =
     ap (λ z. z ++ flat_map f (drop (k + 1) xs)) n
@@ -52,7 +52,7 @@ texts_so_far f xs k x text next all e h n =
     ∙ ap (λ z. text ++ z) (sym (texts_next f xs k x e))
     ∙ h
 
--- at the end they are the texts of all
+-- at the end of the loop the text is that of all elements
 pub texts_after : {X Y : Type 0} (g : X → Y) (f : Y → List ℕ) (xs : List X) (k : ℕ) (text first : List ℕ) → length xs ≤ k → text ++ flat_map (λ x. f (g x)) (drop k xs) ≡ first ++ flat_map (λ x. f (g x)) xs → text ≡ first ++ flat_map f (map g xs)
 texts_after g f xs k text first past h =
     sym (append-nil text)
@@ -73,7 +73,7 @@ texts_after g f xs k text first past h =
 pub texts_done : {X Y : Type 0} (g : X → Y) (f : Y → List ℕ) (xs : List X) (k : ℕ) (text : List ℕ) → length xs ≤ k → text ++ flat_map (λ x. f (g x)) (drop k xs) ≡ flat_map (λ x. f (g x)) xs → text ≡ flat_map f (map g xs)
 texts_done g f xs k text past h = texts_after g f xs k text [] past h
 
--- one package has the id
+-- only one package has the id
 pub one_table : (t : Tables) (a b : PackageTable) → AreTables t → Contains t.packages a → Contains t.packages b → a.id ≡ b.id → a ≡ b
 one_table t a b tables x y e =
     let mine = place_of_element t.packages a x in
@@ -89,7 +89,7 @@ one_table t a b tables x y e =
     slice_get_map f (y ∷ ys) zero x e = let same : y ≡ x = cc in ap (λ z. Some (f z)) same
     slice_get_map f (y ∷ ys) (suc k) x e = slice_get_map f ys k x e
 
--- the labels of the listed package are those of each package of its id
+-- the labels of the listed package are the labels of every package with its id
 pub lists_features : (t : Tables) (id : Text) (list : ListValue) (text : Text) → AreTables t → ListsPackage t id list → text ≡ joined list.labels ++ 10 ∷ [] → ListsFeatures t id text
 lists_features t id list text tables l line = record {
   known = (l.table, l.is_package, l.named);
@@ -99,7 +99,7 @@ lists_features t id list text tables l line = record {
   line = line;
 }
 
--- why a look-up was refused, in the program's terms
+-- a refused look-up names a package that doesn't exist
 pub names_no_package : (t : Tables) (id : Text) (refused : graph.Refusal) (r : Refusal) → RefusesPackage t id refused → IsPackageToldAs r refused → IfNotMemory r (NamesNoPackage t id r)
 names_no_package t id (graph.unknown_package other) r h told = if_not_memory r (r ≡ unknown_package other) (NamesNoPackage t id r) (λ e. (e ∙ ap unknown_package h.0, h.1)) told
 names_no_package t id graph.no_memory r h told = at_memory r (NamesNoPackage t id r) told

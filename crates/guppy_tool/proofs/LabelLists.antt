@@ -1,4 +1,4 @@
--- Ascending lists with the same elements are the same.
+-- Ascending lists with the same elements are equal.
 use Rattle.std.proofs.Common.{◌≡◌, ℕ, zero, suc, ◌<◌, ◌⊎◌, ⊎_elim, inl, inr, List, [], ◌∷◌, length, Ordering, Less, refl, ap, sym, subst, ◌∙◌, arith}
 use Rattle.std.specs.Prelude.{Contains, Some, slice_get, slice_index_or}
 use Rattle.std.specs.Cmp.{IsTotalOrder}
@@ -23,7 +23,7 @@ later_element x xs y h = let within = h.1 in (suc h.0, omega arith, h.2)
 no_element : {X : Type 0} (x : X) → Contains [] x → ⊥
 no_element x h = omega (arith, h.1)
 
--- an element stands at some place
+-- an element of a list has an index
 pub place_of_element : {X : Type 0} (xs : List X) (x : X) → Contains xs x → (k : ℕ) × (slice_get xs k ≡ Some x)
 place_of_element [] x h = absurd (no_element x h)
 place_of_element (y ∷ ys) x h =

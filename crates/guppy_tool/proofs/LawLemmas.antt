@@ -1,4 +1,4 @@
--- One command and one content of bytes have one answer.
+-- One command over the same bytes has one answer.
 use Rattle.std.proofs.Common.{◌≡◌, ℕ, ◌<◌, ◌⊎◌, inl, inr, List, [], ◌∷◌, ◌++◌, Bool, true, false, Result, Ok, Err, Some, sym, ap, ◌∙◌, refl, cond, filter, map, arith, rules}
 use Rattle.std.specs.Prelude.{IsFalse, IsTrue, slice_get}
 use Rattle.std.specs.List.{enumerate_from}
@@ -29,7 +29,7 @@ use Rattle.guppy_tool.proofs.SameOrders.{one_sequence}
 use Rattle.guppy_tool.specs.Laws.{has_choice}
 use Rattle.guppy_tool.specs.Run.{IsOutputOf, IsAnswer}
 
--- tests that pass alike
+-- two tests that imply each other are equal
 same_test : (a b : Bool) → (IsTrue a → IsTrue b) → (IsTrue b → IsTrue a) → a ≡ b
 same_test true b f g = sym (f refl)
 same_test false true f g = g refl
@@ -42,11 +42,11 @@ filter_alike p q (x ∷ xs) same = ap (λ b. cond b (x ∷ filter p xs) (filter 
 at_places_alike : {X : Type 0} (p q : ℕ → Bool) (xs : List X) → ((n : ℕ) → p n ≡ q n) → at_places p xs ≡ at_places q xs
 at_places_alike p q xs same = ap (map (λ x. x.1)) (filter_alike (λ x. p x.0) (λ x. q x.0) (enumerate_from 0 xs) (λ x. same x.0))
 
--- more initials reach more
+-- more initial nodes reach more nodes
 reach_grows : (t : Tables) (direction : DependencyDirection) (p q : ℕ → Bool) (n : ℕ) → ((u : ℕ) → IsTrue (p u) → IsTrue (q u)) → Reach t direction p n → Reach t direction q n
 reach_grows t direction p q n more (u, starts, path) = (u, more u starts, path)
 
--- those that hold exactly the same names
+-- two sets of initial nodes for the same ids have the same members
 same_initials : (t : Tables) (xs ys : List Bool) (ids : List (Text × LabelName)) → HoldsExactly t xs ids → HoldsExactly t ys ids → (n : ℕ) → IsTrue (has xs n) → IsTrue (has ys n)
 same_initials t xs ys ids a b n h = (b.exact n).1 ((a.exact n).0 h)
 
@@ -58,7 +58,7 @@ one_text t direction ids x y a b =
     let same : (n : ℕ) → has a.members n ≡ has b.members n = λ n. same_test (has a.members n) (has b.members n) (reached_too t direction ids x y a b n) (reached_too t direction ids y x b a n) in
     a.lines ∙ ap listing (at_places_alike (has a.members) (has b.members) (nodes t) same) ∙ sym b.lines
 
--- a set that is least from more initials has more
+-- a least set from more initial nodes has more members
 least_grows : (c : Content) (p q : ℕ → Bool) (A : ℕ → Half → Bool) (n : ℕ) → ((u : ℕ) → IsTrue (p u) → IsTrue (q u)) → Least c p A n → Least c q A n
 least_grows c p q A n more least S is_closed = least S (record { initial = λ u h. is_closed.initial u (more u h); unasked = is_closed.unasked; offered = is_closed.offered })
 
@@ -72,7 +72,7 @@ one_visit t direction ids x y a b =
     let same : (n : ℕ) → has a.members n ≡ has b.members n = λ n. same_test (has a.members n) (has b.members n) (visited_too t direction ids x y a b n) (visited_too t direction ids y x b a n) in
     a.lines ∙ ap listing (at_places_alike (has a.members) (has b.members) (nodes t) same) ∙ sym b.lines
 
--- there is one order of the nodes
+-- the nodes have one order
 one_order_of_nodes : OneOrder → OrderListsEach → (t : Tables) (o p : Sequence) → OrdersNodes t o → OrdersNodes t p → o ≡ p
 one_order_of_nodes one lists t o p a b = one_sequence one lists (digraph_of a.built) o p (a.every a.built a.is_built) (b.every a.built a.is_built)
 
@@ -98,7 +98,7 @@ one_line order t id x y a b =
     let same : a.labels ≡ b.labels = one_list label_cmp order a.labels b.labels a.ascends b.ascends (λ l h. (its l).0 ((mine l).1 h)) (λ l h. (mine l).0 ((its l).1 h)) in
     a.line ∙ ap (λ labels. joined labels ++ 10 ∷ []) same ∙ sym b.line
 
--- where all names are known, none is the first unknown one
+-- if all ids are known, none is the first unknown one
 not_both : (t : Tables) (ids : List (Text × LabelName)) (id : Text × LabelName) → AreKnown t ids → IsFirstUnknown t ids id → ⊥
 not_both t ids id known first = first.unknown (known first.place id first.at)
 
@@ -148,7 +148,7 @@ one_output order one lists (build kinds ids specs) (Ok t) a b fixed x y = absurd
 pub one_answer : IsTotalOrder label_cmp → OneOrder → OrderListsEach → (command : CommandText) (bytes : Text) (a b : Result Text Refusal) → IsFalse (has_choice command) → IsAnswer command bytes a → IsAnswer command bytes b → a ≡ b
 one_answer order one lists command bytes a b = one_output order one lists command (tables_in bytes) a b
 
--- where one answer is a refusal
+-- a refusal is the only answer
 refused_output : IsTotalOrder label_cmp → OneOrder → OrderListsEach → (command : CommandText) (tables : Result Tables Refusal) (refusal : Refusal) (b : Result Text Refusal) → IsOutputOf command tables (Err refusal) → IsOutputOf command tables b → b ≡ Err refusal
 refused_output order one lists command (Err other) refusal b x y = y ∙ sym x
 refused_output order one lists (resolve direction ids) (Ok t) refusal b x y = sym (one_output order one lists (resolve direction ids) (Ok t) (Err refusal) b refl x y)

@@ -1,4 +1,4 @@
--- Two builds of one package graph tell their steps alike.
+-- Two builds of one package graph have the same named steps.
 use Rattle.std.proofs.Common.{◌≡◌, ℕ, zero, suc, Bool, false, List, [], ◌∷◌, map, Option, Some, None, refl, ap, sym, ◌∙◌, subst}
 use Rattle.std.specs.Prelude.{◌↔◌, slice_get, IsTrue}
 use Rattle.std.specs.Option.{option_map, option_map_or}
@@ -37,7 +37,7 @@ use Rattle.feature_sets.specs.Visits.{offered, query_content}
 use Rattle.guppy_tool.specs.Answers.{TellsPlatform}
 use Rattle.guppy_tool.proofs.OneDigraph.{map_alike}
 
--- links as nested pairs, which are equal in one way at most
+-- links as nested pairs, whose equality is a proposition
 abbrev Pairs : Type 0
 Pairs = Option (LinkDeclarations × Option (Option (List Text)) × Option (Option (List Text)) × Option (Option (List Text)) × List ℕ)
 
@@ -74,7 +74,7 @@ link_same (Some l) =
     ∙ ap (λ s. Some (link_of_parts l.declarations l.normal s (status_back (status_pairs l.dev)) l.package_links)) (status_same l.build)
     ∙ ap (λ s. Some (link_of_parts l.declarations l.normal l.build s l.package_links)) (status_same l.dev)
 
--- the links of an edge don't lie with the weak links
+-- the link of an edge is independent of where the weak links lie
 links_alike : (t : Tables) (v w : List ℕ) (e : Edge) (h : Half) → link_at (facts_of t v e) h ≡ link_at (facts_of t w e) h
 links_alike t v w feature_to_base h = refl
 links_alike t v w named_feature h = refl
@@ -86,7 +86,7 @@ links_alike t v w (slash_weak k l) half.Required = refl
 links_alike t v w (slash_weak k l) half.Optional = refl
 links_alike t v w (section l) h = refl
 
--- two edges of one pair of nodes, each of which says what the edge of the pair says by the tables
+-- two edges of one pair of nodes have the same link if each has the facts of the pair's edge in the tables
 link_alike : (t : Tables) (v w : List ℕ) (x y : ℕ × ℕ × EdgeFacts) (h : Half) → EdgeSays t v x.0 x.1 x.2 → ((e : Edge) → IsEdge t y.0 y.1 e → y.2 ≡ facts_of t w e) → x.0 ≡ y.0 → x.1 ≡ y.1 → link_at x.2 h ≡ link_at y.2 h
 link_alike t v w x y h says same from to =
     let one : IsProp (pairs_of (link_at x.2 h) ≡ pairs_of (link_at y.2 h)) = hlevel props in
@@ -95,7 +95,7 @@ link_alike t v w x y h says same from to =
     ap pairs_of (ap (λ f. link_at f h) s.2 ∙ links_alike t v w s.0 h ∙ sym (ap (λ f. link_at f h) (same s.0 edge)))) in
     sym (link_same (link_at x.2 h)) ∙ ap link_back pairs ∙ link_same (link_at y.2 h)
 
--- what a step or an offer is told by: the two nodes of an edge, and a link of it
+-- the parts of an edge that name a step or an offer: its two nodes, and a link of it
 abbrev seen : Half → ℕ × ℕ × EdgeFacts → ℕ × ℕ × Option LinkFacts
 seen h x = (x.0, x.1, link_at x.2 h)
 
@@ -115,7 +115,7 @@ map_same : {X Y : Type 0} (f g : X → Y) (xs : List X) → ((x : X) → f x ≡
 map_same f g [] same = refl
 map_same f g (x ∷ xs) same = ap (λ z. z ∷ map f xs) (same x) ∙ ap (λ z. g x ∷ z) (map_same f g xs same)
 
--- two builds of which each edge says what the edge of its pair says by the tables, and of which walks follow the same
+-- two builds of `t` whose edges have the facts of the tables, for the same pairs in the same order
 module _ (t : Tables) (a b : Built)
     (says : (k : ℕ) (x : ℕ × ℕ × EdgeFacts) → slice_get a.edges k ≡ Some x → EdgeSays t (map (λ z. z.0) a.weak) x.0 x.1 x.2)
     (same : (k : ℕ) (x : ℕ × ℕ × EdgeFacts) (e : Edge) → slice_get b.edges k ≡ Some x → IsEdge t x.0 x.1 e → x.2 ≡ facts_of t (map (λ z. z.0) b.weak) e)
@@ -165,7 +165,7 @@ module _ (t : Tables) (a b : Built)
   step_alike : (s : Step) → step_told one s ≡ step_told other s
   step_alike s = ap (λ r. option_map_or (λ name. option_map (λ why. (name, why)) r) (slice_get (nodes t) s.node) None) (reason_alike s.reason)
 
-  -- what is told of one is told of the other
+  -- steps that explain one build explain the other
   pub tells_too : (kinds : List DependencyKind) (specs : List Text) (initials : List Bool) (told : List ((Text × LabelName) × ReasonName)) → TellsPlatform one kinds specs initials told → TellsPlatform other kinds specs initials told
   tells_too kinds specs initials told x =
       let offers : ◌≡◌ {A = ℕ → Half → Bool} (platform_offers kinds specs one) (platform_offers kinds specs other) = λ i e h. offers_alike kinds specs e h i in
@@ -176,13 +176,13 @@ module _ (t : Tables) (a b : Built)
         least = λ n. subst (λ A. IsTrue (is_in (nodes_of x.steps) n) ↔ Least (content_of Forward b) (has initials) A n) offers (subst (λ (c : Content). IsTrue (is_in (nodes_of x.steps) n) ↔ Least c (has initials) (platform_offers kinds specs one) n) content (x.least n));
       }
 
--- what holds for a direction, a graph, kinds and specs holds for equal ones
+-- a property of a direction, a graph, kinds and specs holds for equal ones
 at_equal : (P : DependencyDirection → Graph → List DependencyKind → List Text → Type 0) (d e : DependencyDirection) (g h : Graph) (kinds others : List DependencyKind) (specs texts : List Text)
     → d ≡ e → g ≡ h → kinds ≡ others → specs ≡ texts → P d g kinds specs → P e h others texts
 at_equal P d e g h kinds others specs texts directions graphs same_kinds same_specs x =
     subst (λ z. P e h others z) same_specs (subst (λ z. P e h z specs) same_kinds (subst (λ z. P e z kinds specs) graphs (subst (λ z. P z g kinds specs) directions x)))
 
--- what a query's resolve for a platform explains
+-- the steps that a query's `resolve` for a platform explains
 pub tells_query : (g : Graph) (query : Query) (found : Graph) (kinds others : List DependencyKind) (specs texts : List Text) (members : List Bool) (steps : List Step) (told : List ((Text × LabelName) × ReasonName))
     → query.direction ≡ Forward → query.graph ≡ g → others ≡ kinds → texts ≡ specs → found ≡ query.graph → AreTold found steps told
     → IsExplanation (query_content query) (has query.initials) (platform_offers others texts query.graph) steps

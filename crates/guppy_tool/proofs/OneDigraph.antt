@@ -14,7 +14,7 @@ use Rattle.feature_core.specs.Edges.{EdgeSays, facts_of}
 use Rattle.feature_core.specs.Offers.{content_of}
 use Rattle.feature_core.specs.Ways.{way}
 
--- whether an edge is dev-only doesn't lie with the weak links
+-- an edge is dev-only or not, independently of where the weak links lie
 dev_alike : (t : Tables) (v w : List ℕ) (e : Edge) → is_dev_only (facts_of t v e) ≡ is_dev_only (facts_of t w e)
 dev_alike t v w feature_to_base = refl
 dev_alike t v w named_feature = refl
@@ -24,7 +24,7 @@ dev_alike t v w (slash_optional l) = refl
 dev_alike t v w (slash_weak k l) = refl
 dev_alike t v w (section l) = refl
 
--- two edges of one pair of nodes, each of which says what the edge of the pair says by the tables
+-- two edges of one pair of nodes are both dev-only or both not
 said_alike : (t : Tables) (v w : List ℕ) (x y : ℕ × ℕ × EdgeFacts) → EdgeSays t v x.0 x.1 x.2 → ((e : Edge) → IsEdge t y.0 y.1 e → y.2 ≡ facts_of t w e) → x.0 ≡ y.0 → x.1 ≡ y.1 → is_dev_only x.2 ≡ is_dev_only y.2
 said_alike t v w x y says same from to =
     let one : IsProp (is_dev_only x.2 ≡ is_dev_only y.2) = hlevel props in
@@ -41,7 +41,7 @@ end_alike x y from to dev =
     ∙ ap (λ z. between y.0 z (not (is_dev_only x.2))) to
     ∙ ap (λ z. between y.0 y.1 (not z)) dev
 
--- what h makes of two lists, where f and g make the same of them
+-- lists with the same values of `f` and `g` have the same values of `h`, if each pair of equal values has
 pub map_alike : {X Y Z : Type 0} (f g : X → Y) (h : X → Z) (xs ys : List X) → map f xs ≡ map g ys → ((k : ℕ) (x y : X) → slice_get xs k ≡ Some x → slice_get ys k ≡ Some y → f x ≡ g y → h x ≡ h y) → map h xs ≡ map h ys
 map_alike f g h [] [] e same = refl
 map_alike f g h [] (y ∷ ys) e same = cc
@@ -54,7 +54,7 @@ map_alike f g h (x ∷ xs) (y ∷ ys) e same =
 abbrev graph_of_parts : ℕ → List Between → Graph
 graph_of_parts nodes edges = record { nodes = nodes; edges = edges }
 
--- walks follow the same in both, and each edge says what the edge of its pair says by the tables
+-- two builds whose edges have the facts of the tables have one digraph
 pub one_digraph : (t : Tables) (a b : Built)
     → ((k : ℕ) (x : ℕ × ℕ × EdgeFacts) → slice_get a.edges k ≡ Some x → EdgeSays t (map (λ z. z.0) a.weak) x.0 x.1 x.2)
     → ((k : ℕ) (x : ℕ × ℕ × EdgeFacts) (e : Edge) → slice_get b.edges k ≡ Some x → IsEdge t x.0 x.1 e → x.2 ≡ facts_of t (map (λ z. z.0) b.weak) e)

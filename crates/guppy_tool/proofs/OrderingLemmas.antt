@@ -21,7 +21,7 @@ use Rattle.feature_sets.specs.Values.{Graph, Set}
 use Rattle.guppy_tool.specs.Answers.{OrdersNodes, ListsInOrder, ListsCycles, groups, listing, read_by}
 use Rattle.guppy_tool.proofs.WholeOrders.{whole_list, whole_back}
 
--- the order of one build is that of each
+-- the order of one build is the order of every build
 pub orders_nodes : (t : Tables) (b : Built) (o : Sequence) → IsBuilt t b → IsOrderOf (digraph_of b) o → ((a b : Built) → IsBuilt t a → IsBuilt t b → digraph_of a ≡ digraph_of b) → OrdersNodes t o
 orders_nodes t b o built order same = record {
   built = b;
@@ -29,12 +29,12 @@ orders_nodes t b o built order same = record {
   every = λ a is. subst (λ g. IsOrderOf g o) (same b a built is) order;
 }
 
--- all nodes, as the direction reads their order
+-- all nodes in order, reversed for `Reverse`
 whole_in_order : (direction : DependencyDirection) (n : ℕ) (list : List ℕ) → ListsEach n list → in_order (reading_of direction) list (replicate n true) ≡ read_by direction list
 whole_in_order Forward n list each = whole_list n list each
 whole_in_order Reverse n list each = whole_back n list each
 
--- the set of all features in order
+-- the set of all features, listed in order, is the output of `order`
 pub lists_in_order : (t : Tables) (b : Built) (direction : DependencyDirection) (set : Set) (o : Sequence) (text : Text)
     → set.graph ≡ record { tables = t; built = b } → set.members ≡ replicate (length (nodes t)) true → length b.packages ≡ length (nodes t)
     → OrderListsEach → IsOrderOf (digraph_of set.graph.built) o → OrdersNodes t o → text ≡ listing (ordered_names direction set o) → ListsInOrder t direction text
@@ -48,7 +48,7 @@ lists_in_order t b direction set o text graph members count lists order every li
       lines = lines ∙ ap (λ (g : Graph). listing (names_of_nodes g.tables (in_order (reading_of direction) o.list set.members))) graph ∙ ap (λ z. listing (names_of_nodes t z)) whole;
     }
 
--- the groups that are still to come, where that stands before the first of them
+-- the text of the groups to come, with `before` in front of the first
 abbrev pub groups_after : Text → List (List (Text × LabelName)) → Text
 groups_after before [] = []
 groups_after before (first ∷ rest) = before ++ (listing first ++ flat_map (λ ids. 10 ∷ listing ids) rest)
@@ -61,7 +61,7 @@ groups_further : (rest : List (List (Text × LabelName))) → groups_after (10 �
 groups_further [] = refl
 groups_further (first ∷ rest) = refl
 
--- one more group is in the text
+-- a step of the loop moves one group into the text
 pub groups_next : (before text next all : Text) (first : List (Text × LabelName)) (rest left : List (List (Text × LabelName)))
     → left ≡ first ∷ rest → text ++ groups_after before left ≡ all → next ≡ text ++ (before ++ listing first) → next ++ groups_after (10 ∷ []) rest ≡ all
 groups_next before text next all first rest left is so_far more =
@@ -72,7 +72,7 @@ groups_next before text next all first rest left is so_far more =
     ∙ ap (λ z. text ++ groups_after before z) (sym is)
     ∙ so_far
 
--- none is still to come
+-- at the end no group is to come
 pub groups_end : (before text all : Text) (left : List (List (Text × LabelName))) → left ≡ [] → text ++ groups_after before left ≡ all → text ≡ all
 groups_end before text all left none so_far = sym (append-nil text) ∙ ap (λ z. text ++ groups_after before z) (sym none) ∙ so_far
 
@@ -80,7 +80,7 @@ groups_end before text all left none so_far = sym (append-nil text) ∙ ap (λ z
 abbrev names_by : Tables → List Edge → Sequence → List (List (Text × LabelName))
 names_by t edges o = map (λ c. names_of_nodes t (nodes_of o c)) (cyclic_components edges o)
 
--- the cycles of one build are those of each
+-- the cycles of one build are the cycles of every build
 pub lists_cycles : (t : Tables) (b : Built) (o : Sequence) (text : Text) → IsBuilt t b → IsOrderOf (digraph_of b) o → ((a b : Built) → IsBuilt t a → IsBuilt t b → digraph_of a ≡ digraph_of b)
     → text ≡ groups (cycle_names (record { tables = t; built = b }) o) → ListsCycles t text
 lists_cycles t b o text built order same lines = record {

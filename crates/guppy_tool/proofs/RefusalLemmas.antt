@@ -1,4 +1,4 @@
--- Claims that want of memory doesn't make, and a row file's errors in the program's terms.
+-- Claims that hold unless an allocation fails, and a row file's errors as refusals.
 use Rattle.std.proofs.Common.{◌≡◌, Result, Err, ap}
 use Rattle.guppy_packages.specs.declared.row_error.RowFault.TheVariants as row
 use Rattle.row_files.specs.declared.error.RowFileError.{RowFileError}
@@ -7,7 +7,7 @@ use Rattle.row_files.specs.FirstFault as file
 use Rattle.guppy_tool.specs.Faults.{Refusal, IfNotMemory, usage, bad_id, cannot_read, not_text, malformed, no_package, duplicate_package, duplicate_feature, unknown_target, other_name, unknown_package, unknown_feature, out_of_memory, cannot_write}
 use Rattle.guppy_tool.specs.RowFileRefusals.{file_refusal, in_refusals}
 
--- what follows from a claim that want of memory doesn't make
+-- a consequence of a claim that holds unless an allocation fails
 pub if_not_memory : (r : Refusal) (P Q : Type 0) → (P → Q) → IfNotMemory r P → IfNotMemory r Q
 if_not_memory out_of_memory P Q f h = tt
 if_not_memory usage P Q f h = f h
@@ -27,7 +27,7 @@ if_not_memory cannot_write P Q f h = f h
 refused : {X : Type 0} (given : Result X RowFileError) (e : RowFileError) → given ≡ Err e → in_refusals given ≡ Err (file_refusal e)
 refused given e h = ap in_refusals h
 
--- an error of the row file is told as the refusal of its bytes
+-- an error of the row file is the refusal of its bytes
 pub told : {X : Type 0} (given : Result X RowFileError) (e : RowFileError) → file.IfNotMemory e (given ≡ Err e) → IfNotMemory (file_refusal e) (in_refusals given ≡ Err (file_refusal e))
 told given error.Memory h = tt
 told given error.NotText h = refused given _ h

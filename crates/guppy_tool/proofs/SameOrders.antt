@@ -7,7 +7,7 @@ use Rattle.digraph_orders.specs.Laws.{OneOrder, OrderListsEach}
 use Rattle.digraph_orders.specs.Orders.{ListsEach}
 use Rattle.digraph_orders.specs.Sequences.{Sequence, IsOrderOf, component_of}
 
--- numbers that rise along n places, and are exactly those below m
+-- numbers that never fall along n indices, and cover exactly the numbers below m
 record IsNumbering (n m : ℕ) (at : ℕ → ℕ) : Type 0 where
   rising : (i j : ℕ) → i < j → j < n → at i ≤ at j
   below : (i : ℕ) → i < n → at i < m
@@ -26,7 +26,7 @@ first_number n m at h some =
     (λ rest. ⊎_elim (λ none. omega (arith, none)) (λ same. ap at same ∙ is) rest)
     (compare 0 found.0)
 
--- from one place to the next the number stays or grows by one
+-- from one index to the next, the number stays or grows by one
 next_number : (n m : ℕ) (at : ℕ → ℕ) → IsNumbering n m at → (i : ℕ) → suc i < n → (at (suc i) ≡ at i) ⊎ (at (suc i) ≡ suc (at i))
 next_number n m at h i within =
     let up = h.rising i (suc i) (omega arith) within in
@@ -54,7 +54,7 @@ next_number n m at h i within =
         rest)
         (compare found.0 i)
 
--- numberings that join the same places
+-- two numberings that map two indices to the same number in the same cases
 record JoinAlike (n : ℕ) (a b : ℕ → ℕ) : Type 0 where
   there : (i j : ℕ) → i < n → j < n → a i ≡ a j → b i ≡ b j
   back : (i j : ℕ) → i < n → j < n → b i ≡ b j → a i ≡ a j
@@ -97,7 +97,7 @@ one_by_places (x ∷ xs) [] e same = absurd (omega (arith, e))
 one_by_places (x ∷ xs) (y ∷ ys) e same =
     ap (λ z. z ∷ xs) (same 0 (omega arith)) ∙ ap (λ z. y ∷ z) (one_by_places xs ys (omega (arith, e)) (λ i l. same (suc i) (omega (arith, l))))
 
--- the place of a node in an order
+-- the index of a node in an order
 place_of : (n : ℕ) (list : List ℕ) → ListsEach n list → (v : ℕ) → v < n → (i : ℕ) × (i < n) × (slice_index list i ≡ v)
 place_of n list each v within =
     let there = each.every v within in
@@ -105,7 +105,7 @@ place_of n list each v within =
     let long = each.long in
     (there.0, omega (arith, l, long), get_or_default list there.0 0 v l ∙ there.2)
 
--- the components of the nodes as they are listed are a numbering
+-- the components of the nodes, in the listed order, are a numbering
 numbering_of : (g : Graph) (o : Sequence) → IsOrderOf g o → ListsEach g.nodes o.list → IsNumbering g.nodes o.count (λ i. component_of o (slice_index o.list i))
 numbering_of g o x each = record {
   rising = x.rising;
@@ -116,7 +116,7 @@ numbering_of g o x each = record {
       (place.0, place.1, ap (component_of o) place.2 ∙ node.2);
 }
 
--- two orders of one digraph with one list
+-- two orders of one digraph with the same list
 module _ (g : Graph) (o p : Sequence) (x : IsOrderOf g o) (y : IsOrderOf g p) (list : p.list ≡ o.list) (each : ListsEach g.nodes o.list) where
   other : IsNumbering g.nodes p.count (λ i. component_of p (slice_index o.list i))
   other = subst (λ z. IsNumbering g.nodes p.count (λ i. component_of p (slice_index z i))) list (numbering_of g p y (subst (ListsEach g.nodes) (sym list) each))
@@ -145,7 +145,7 @@ module _ (g : Graph) (o p : Sequence) (x : IsOrderOf g o) (y : IsOrderOf g p) (l
 abbrev of_parts : List ℕ → List ℕ → ℕ → Sequence
 of_parts list component count = record { list = list; component = component; count = count }
 
--- two orders of one digraph are the same
+-- a digraph has one order
 pub one_sequence : OneOrder → OrderListsEach → (g : Graph) (o p : Sequence) → IsOrderOf g o → IsOrderOf g p → o ≡ p
 one_sequence one lists g o p x y =
     let list : o.list ≡ p.list = one g o.list p.list x.order y.order in

@@ -1,4 +1,4 @@
--- An order as it shows the set of all its nodes.
+-- The order of the set of all nodes.
 use Rattle.std.proofs.Common.{◌≡◌, ℕ, zero, suc, ◌<◌, Bool, true, List, [], ◌∷◌, length, filter, replicate, cond, refl, ap, ◌∙◌, arith}
 use Rattle.std.specs.Prelude.{slice_index, reverse}
 use Rattle.guppy_support.specs.Bits.{has}
@@ -6,7 +6,7 @@ use Rattle.digraph_orders.specs.Orders.{ListsEach}
 use Rattle.order_views.specs.Views.{in_order}
 use Rattle.order_views.specs.declared.reading.Reading.TheVariants as reading
 
--- a set of all numbers below n
+-- the set of all numbers below n contains each of them
 in_full : (n v : ℕ) → v < n → has (replicate n true) v ≡ true
 in_full zero v within = absurd (omega (arith, within))
 in_full (suc n) zero within = refl
@@ -18,7 +18,7 @@ filter_whole passes (x ∷ xs) all =
     ap (λ b. cond b (x ∷ filter passes xs) (filter passes xs)) (all 0 (omega arith))
     ∙ ap (λ z. x ∷ z) (filter_whole passes xs (λ i l. all (suc i) (omega (arith, l))))
 
--- all nodes in order
+-- the set of all nodes, in order, is the whole list
 pub whole_list : (n : ℕ) (list : List ℕ) → ListsEach n list → in_order reading.Forward list (replicate n true) ≡ list
 whole_list n list each =
     filter_whole (λ v. has (replicate n true) v) list

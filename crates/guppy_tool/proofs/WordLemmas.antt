@@ -1,4 +1,4 @@
--- Where a word is cut.
+-- Words cut at a slash or at `--`, and iterators over words.
 use Rattle.std.proofs.Common.{◌≡◌, ◌≢◌, ℕ, ◌+◌, ◌-◌, ◌<◌, List, [], ◌∷◌, Bool, true, false, not, Option, None, Some, Ok, Err, length, get_or, take, drop, map, sym, ap, ◌∙◌, subst, arith, cond, refl, nat_eq, nat_lt, lit<}
 use Rattle.std.proofs.lemmas.Iterator.{YieldsList}
 use Rattle.std.proofs.Math.ListN.{drop_of_length-le}
@@ -23,7 +23,7 @@ use Rattle.guppy_tool.proofs.RefusalLemmas.{if_not_memory}
 some_pair : (a c b d : Text) → a ≡ c → b ≡ d → ◌≡◌ {A = Option (Text × Text)} (Some (a, b)) (Some (c, d))
 some_pair a c b d e f = ap (λ y. Some (a, y)) f ∙ ap (λ x. Some (x, d)) e
 
--- the last slash of a word stands at i
+-- the last slash of a word is at i
 record LastSlash (word : Text) (i : ℕ) : Type 0 where
   within : i < length word
   here : get_or word i 0 ≡ 47
@@ -71,31 +71,31 @@ cut_is word (Some x) (i, j, finds, front, back, order, long, rest) =
     let last = last_slash word i j finds.0 finds.1 (subst (λ t. length t + j ≡ length word) back rest) in
     some_pair _ _ _ _ front (back ∙ ap (λ n. drop n word) finds.1.ends) ∙ sym (cut_there word i last)
 
--- a word that gives no id
+-- a refused word has no id
 pub no_id : (word : Text) (id : Option (Text × LabelName)) (r : Refusal) → id_or_refusal word id ≡ Err r → (id ≡ None) × (bad_id word ≡ r)
 no_id word None r e = (refl, cc)
 no_id word (Some x) r e = absurd (cc)
 
--- a word that gives one
+-- a word that isn't refused has its id
 pub an_id : (word : Text) (id : Option (Text × LabelName)) (given : Text × LabelName) → id_or_refusal word id ≡ Ok given → id ≡ Some given
 an_id word None given e = absurd (cc)
 an_id word (Some x) given e = cc
 
--- the first word that is no id
+-- the first word that is no id decides the result
 pub word_refused : (r : Refusal) (front : List (Text × LabelName)) (word : Text) (items rest all : List Text)
     → with_front front (ids_in items) ≡ ids_in all → items ≡ word ∷ rest → IfNotMemory r (id_or_refusal word (id_in word) ≡ Err r) → IfNotMemory r (ids_in all ≡ Err r)
 word_refused r front word items rest all given at =
     if_not_memory r (id_or_refusal word (id_in word) ≡ Err r) (ids_in all ≡ Err r)
     (λ h. let no = no_id word (id_in word) r h in one_refused id_in bad_id front word items rest all given at no.0 ∙ ap Err no.1)
 
--- an item that an iterator gives is the first of those to come
+-- the next item of an iterator is the first of the items to come
 pub next_yielded : {S A B : Type 0} (steps : S → Option A → S → Type 0) (v : A → B) (s j : S) (x : A) (ys : List B) → YieldsList steps v s ys → steps s (Some x) j → (rest : List B) × (ys ≡ v x ∷ rest) × YieldsList steps v j rest
 next_yielded steps v s j x [] yields step = absurd (yields.runs x j step)
 next_yielded steps v s j x (y ∷ ys) yields step =
     let first = yields.runs.1 x j step in
     (ys, ap (λ z. z ∷ ys) (sym first.0), record { runs = first.1 })
 
--- an iterator that ends has none to come
+-- an iterator that ends has no items to come
 pub none_yielded : {S A B : Type 0} (steps : S → Option A → S → Type 0) (v : A → B) (s j : S) (ys : List B) → YieldsList steps v s ys → steps s None j → ys ≡ []
 none_yielded steps v s j [] yields step = refl
 none_yielded steps v s j (y ∷ ys) yields step = absurd (yields.runs.0 j step)
@@ -104,7 +104,7 @@ position_mapped : {X Y : Type 0} (f : X → Y) (p : Y → Bool) (xs : List X) �
 position_mapped f p [] = refl
 position_mapped f p (x ∷ xs) = ap (λ n. cond (not (p (f x))) (1 + n) 0) (position_mapped f p xs)
 
--- the first place that passes
+-- the index of the first element that passes the test
 place_found : {X : Type 0} (p : X → Bool) (xs : List X) (i : ℕ) → position p xs ≡ Some i → position_or_len p xs ≡ i
 place_found p xs i e = of_test (nat_lt (position_or_len p xs) (length xs)) e
   where
@@ -122,7 +122,7 @@ no_place p xs e = of_test (nat_lt (position_or_len p xs) (length xs)) refl e
         let most = prefix_len-le-length (λ x. not (p x)) xs in
         omega (arith, least, most)
 
--- a list of words is cut at the first that passes
+-- the words before the first that passes the test
 pub before_place : {X Y : Type 0} (f : X → Y) (p : Y → Bool) (xs : List X) (i : ℕ) → position (λ x. p (f x)) xs ≡ Some i → map f (take i xs) ≡ before_first p (map f xs)
 before_place f p xs i e = sym (take-map f i xs) ∙ ap (λ n. take n (map f xs)) (sym (position_mapped f p xs ∙ place_found (λ x. p (f x)) xs i e))
 
@@ -133,7 +133,7 @@ after_place f p xs i e =
     ∙ sym (drop-map f (i + 1) xs)
     ∙ ap (λ n. drop (n + 1) (map f xs)) (sym (position_mapped f p xs ∙ place_found (λ x. p (f x)) xs i e))
 
--- or has all of them before the cut
+-- if no word passes, all of them are before the cut
 pub all_before : {X Y : Type 0} (f : X → Y) (p : Y → Bool) (xs : List X) → position (λ x. p (f x)) xs ≡ None → map f xs ≡ before_first p (map f xs)
 all_before f p xs e =
     sym (take-length (map f xs))

@@ -1,4 +1,4 @@
--- What each command answers over the tables of a row file.
+-- The output of each command over the tables of a row file.
 use Rattle.std.specs.Prelude.{◌≡◌, ◌↔◌, ◌++◌, ℕ, List, ◌∷◌, [], Bool, true, false, Result, Ok, Err, IsTrue, Contains, codes, flat_map, reverse}
 use Rattle.guppy_packages.specs.Rows.{Text}
 use Rattle.guppy_packages.specs.Tables.{PackageTable, Tables}
@@ -30,11 +30,12 @@ use Rattle.walk_engine.specs.Laws.{every}
 use Rattle.guppy_tool.specs.Faults.{Refusal, unknown_feature, unknown_package, out_of_memory, IfNotMemory}
 use Rattle.guppy_tool.specs.Words.{CommandText, resolve, visit, ordered, all_cycles, list_of, all_warnings, build}
 
--- ids, each ended by a line feed
+-- the ids, each with a line feed after it
 abbrev pub listing : List (Text × LabelName) → Text
 listing ids = flat_map (λ id. id_text id ++ 10 ∷ []) ids
 
--- Every id names a feature, and the text lists the features to which those lead, in the order of the nodes.
+-- The output of `resolve`: every id names a feature, and the text lists the features reachable from them, by node
+-- number.
 pub record Resolves (t : Tables) (direction : DependencyDirection) (ids : List (Text × LabelName)) (text : Text) : Type 0 where
   pub known : AreKnown t ids
   pub initials : List Bool
@@ -43,8 +44,8 @@ pub record Resolves (t : Tables) (direction : DependencyDirection) (ids : List (
   pub reached : (n : ℕ) → IsTrue (has members n) ↔ Reach t direction (has initials) n
   pub lines : text ≡ listing (at_places (has members) (nodes t))
 
--- Every id names a feature, and the text lists the least set that holds those features and is closed when every offer is
--- accepted, in the order of the nodes.
+-- The output of `visit`: every id names a feature, and the text lists the least set that contains them, by node number.
+-- The set is closed under all offers.
 pub record Visits (t : Tables) (direction : DependencyDirection) (ids : List (Text × LabelName)) (text : Text) : Type 0 where
   pub known : AreKnown t ids
   pub initials : List Bool
@@ -55,40 +56,41 @@ pub record Visits (t : Tables) (direction : DependencyDirection) (ids : List (Te
   pub least : (b : Built) → IsBuilt t b → (n : ℕ) → IsTrue (has members n) ↔ Least (content_of direction b) (has initials) every n
   pub lines : text ≡ listing (at_places (has members) (nodes t))
 
--- the order and the components of the nodes: those of the digraph of the edges, whatever was built of the tables
+-- the order of the nodes of `t`: the order of the edges' digraph, for every build of `t`
 pub record OrdersNodes (t : Tables) (order : Sequence) : Type 0 where
   pub built : Built
   pub is_built : IsBuilt t built
   pub every : (b : Built) → IsBuilt t b → IsOrderOf (digraph_of b) order
 
--- a list as the direction reads it: in reverse, backwards
+-- a list in a direction: reversed for `Reverse`
 abbrev pub read_by : {X : Type 0} → DependencyDirection → List X → List X
 read_by Forward xs = xs
 read_by Reverse xs = reverse xs
 
--- The text lists all features in the order of the nodes, as the direction reads it.
+-- The output of `order`: the text lists all features in the order of the nodes, reversed for `Reverse`.
 pub record ListsInOrder (t : Tables) (direction : DependencyDirection) (text : Text) : Type 0 where
   pub order : Sequence
   pub is_order : OrdersNodes t order
   pub lines : text ≡ listing (names_of_nodes t (read_by direction order.list))
 
--- the ids of each group, and an empty line between two groups
+-- the ids of each group, with an empty line between two groups
 abbrev pub groups : List (List (Text × LabelName)) → Text
 groups [] = []
 groups (first ∷ rest) = listing first ++ flat_map (λ ids. 10 ∷ listing ids) rest
 
--- nothing stands before the first group, and an empty line before each other
+-- an empty line, unless the group is the first
 abbrev pub before_group : Bool → Text
 before_group true = []
 before_group false = 10 ∷ []
 
--- The text lists the components that have a cycle, the last in the order first, and the features of each in the order.
+-- The output of `cycles`: the components that have a cycle, the last in the order first. The features of each are in
+-- the order.
 pub record ListsCycles (t : Tables) (text : Text) : Type 0 where
   pub order : Sequence
   pub is_order : OrdersNodes t order
   pub lines : (b : Built) → IsBuilt t b → text ≡ groups (cycle_names (record { tables = t; built = b }) order)
 
--- The text is the labels of the package of this id, sorted and each once, in one line.
+-- The output of `list`: one line with the labels of the package `id`, sorted and without repeats.
 pub record ListsFeatures (t : Tables) (id : Text) (text : Text) : Type 0 where
   pub known : HasPackage t id
   pub labels : List LabelName
@@ -96,7 +98,7 @@ pub record ListsFeatures (t : Tables) (id : Text) (text : Text) : Type 0 where
   pub own : (table : PackageTable) → Contains t.packages table → table.id ≡ id → SameLabels (labels_of table) labels
   pub line : text ≡ joined labels ++ 10 ∷ []
 
--- a warning's line: what is wrong, the package's id and the name of the feature, with tabs between
+-- the line of a warning: its kind, the package's id and the feature's name, with tabs between
 abbrev pub warning_line : Warning → Text
 warning_line (missing_feature id name) = codes "missing" ++ 9 ∷ id ++ 9 ∷ name ++ 10 ∷ []
 warning_line (self_loop id name) = codes "self-loop" ++ 9 ∷ id ++ 9 ∷ name ++ 10 ∷ []
@@ -109,27 +111,30 @@ declarations_word Unsplit = codes "unsplit"
 declarations_word Required = codes "required"
 declarations_word Optional = codes "optional"
 
--- why a feature is on: it is given, or an edge or a link of these declarations leads to it from another feature
+-- the reason why a feature is on: it is initial, or an edge or a link with these declarations leads to it from another
+-- feature
 abbrev pub reason_text : ReasonName → Text
 reason_text initial = codes "initial"
 reason_text (edge from to) = codes "edge" ++ 9 ∷ id_text from
 reason_text (link from to declarations) = codes "link" ++ 9 ∷ id_text from ++ 9 ∷ declarations_word declarations
 
--- a step's line: the feature and why it is on, with tabs between
+-- the line of a step: the feature and the reason, with tabs between
 abbrev pub step_line : (Text × LabelName) × ReasonName → Text
 step_line (id, reason) = id_text id ++ 9 ∷ reason_text reason ++ 10 ∷ []
 
 abbrev pub step_lines : List ((Text × LabelName) × ReasonName) → Text
 step_lines told = flat_map step_line told
 
--- The steps told so explain, by offers of the platform alone, each feature of the least set for those offers once, and no other.
+-- The steps named in `told` explain each feature of the least set for the platform's offers once, and no other feature.
+-- Each step uses an offer of the platform.
 pub record TellsPlatform (g : Graph) (kinds : List DependencyKind) (specs : List Text) (initials : List Bool) (told : List ((Text × LabelName) × ReasonName)) : Type 0 where
   pub steps : List Step
   pub are_steps : AreTold g steps told
   pub explanation : IsExplanation (content_of Forward g.built) (has initials) (platform_offers kinds specs g) steps
   pub least : (n : ℕ) → IsTrue (is_in (nodes_of steps) n) ↔ Least (content_of Forward g.built) (has initials) (platform_offers kinds specs g) n
 
--- Every id names a feature, and the text tells such steps from those features, whatever was built of the tables.
+-- The output of `build`: every id names a feature, and the text lists such steps from these features, for every build
+-- of `t`.
 pub record Builds (t : Tables) (kinds : List DependencyKind) (ids : List (Text × LabelName)) (specs : List Text) (text : Text) : Type 0 where
   pub known : AreKnown t ids
   pub initials : List Bool
@@ -140,27 +145,27 @@ pub record Builds (t : Tables) (kinds : List DependencyKind) (ids : List (Text �
   pub is_built : IsBuilt t built
   pub every : (b : Built) → IsBuilt t b → TellsPlatform (record { tables = t; built = b }) kinds specs initials told
 
--- The first of the ids that names no feature is named.
+-- The refusal names the first of the ids that is no feature.
 pub record NamesUnknown (t : Tables) (ids : List (Text × LabelName)) (refusal : Refusal) : Type 0 where
   pub id : Text × LabelName
   pub first : IsFirstUnknown t ids id
   pub named : refusal ≡ unknown_feature (id_text id)
 
--- why a query over ids may be refused: an unknown feature, or want of memory
+-- the possible refusals of a query over ids: an unknown feature, or out of memory
 abbrev pub MayRefuseIds : graph.Refusal → Type 0
 MayRefuseIds (graph.unknown_feature id) = Unit {0}
 MayRefuseIds graph.no_memory = Unit {0}
 MayRefuseIds (graph.unknown_package id) = ⊥
 MayRefuseIds (graph.internal_error from to) = ⊥
 
--- such a refusal, in the program's terms
+-- the same refusal, as the program's
 abbrev pub IsToldAs : Refusal → graph.Refusal → Type 0
 IsToldAs refusal (graph.unknown_feature id) = IfNotMemory refusal (refusal ≡ unknown_feature (id_text id))
 IsToldAs refusal graph.no_memory = refusal ≡ out_of_memory
 IsToldAs refusal (graph.unknown_package id) = ⊥
 IsToldAs refusal (graph.internal_error from to) = ⊥
 
--- why the look-up of a package may be refused: no package has the id, or want of memory
+-- the possible refusals of a package look-up: an unknown package, or out of memory
 abbrev pub MayRefusePackage : graph.Refusal → Type 0
 MayRefusePackage (graph.unknown_feature id) = ⊥
 MayRefusePackage graph.no_memory = Unit {0}
@@ -173,11 +178,11 @@ IsPackageToldAs refusal graph.no_memory = refusal ≡ out_of_memory
 IsPackageToldAs refusal (graph.unknown_package id) = IfNotMemory refusal (refusal ≡ unknown_package id)
 IsPackageToldAs refusal (graph.internal_error from to) = ⊥
 
--- no package has the id
+-- the refusal names a package that doesn't exist
 abbrev pub NamesNoPackage : Tables → Text → Refusal → Type 0
 NamesNoPackage t id refusal = (refusal ≡ unknown_package id) × (¬ HasPackage t id)
 
--- what is answered over the tables: the text, or the first refusal
+-- the output of a command over the tables: a text, or the first refusal
 abbrev pub IsOutput : CommandText → Tables → Result Text Refusal → Type 0
 IsOutput (resolve direction ids) t (Ok text) = Resolves t direction ids text
 IsOutput (resolve direction ids) t (Err refusal) = NamesUnknown t ids refusal

@@ -1,4 +1,4 @@
--- Faults, with texts in place of strings.
+-- The program's faults, with texts in place of strings.
 use Rattle.std.specs.Prelude.{◌≡◌, ℕ, Result, Ok, Err}
 use Rattle.std.specs.String.{string_bytes}
 use Rattle.guppy_packages.specs.Rows.{Text}
@@ -7,7 +7,7 @@ use Rattle.byte_devices.specs.declared.whole.ReadError.TheVariants as error
 use Rattle.guppy_tool.specs.declared.fault.Fault.{Fault}
 use Rattle.guppy_tool.specs.declared.fault.Fault.TheVariants as fault
 
--- why there is no answer; a number is that of a line
+-- the reason why there is no output; a number is a line number
 pub data Refusal : Type 0 where
   usage : Refusal
   bad_id : Text → Refusal
@@ -40,17 +40,17 @@ refusal_of (fault.UnknownFeature id) = unknown_feature (string_bytes id)
 refusal_of fault.Memory = out_of_memory
 refusal_of fault.CannotWrite = cannot_write
 
--- why not all bytes were read
+-- the refusal for a failed read
 abbrev pub read_refusal : ReadError → Refusal
 read_refusal error.Failed = cannot_read
 read_refusal error.Memory = out_of_memory
 
--- want of memory claims nothing
+-- nothing is claimed if an allocation fails
 abbrev pub IfNotMemory : Refusal → Type 0 → Type 0
 IfNotMemory out_of_memory claim = Unit {0}
 IfNotMemory _ claim = claim
 
--- A call answered what is given, its value seen by a view.
+-- A call returned the expected result, with its value seen through `view`.
 abbrev pub Gives : {X Y : Type 0} → (X → Y) → Result X Fault → Result Y Refusal → Type 0
 Gives view (Ok x) given = given ≡ Ok (view x)
 Gives view (Err e) given = IfNotMemory (refusal_of e) (given ≡ Err (refusal_of e))

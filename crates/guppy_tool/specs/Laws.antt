@@ -1,19 +1,19 @@
--- What holds of every answer of the program.
+-- Laws of the program's output.
 use Rattle.std.specs.Prelude.{◌≡◌, Result, Err, Bool, true, false, IsFalse}
 use Rattle.guppy_packages.specs.Rows.{Text}
 use Rattle.guppy_tool.specs.Faults.{Refusal}
 use Rattle.guppy_tool.specs.Words.{CommandText, build}
 use Rattle.guppy_tool.specs.Run.{IsAnswer}
 
--- whether several texts may answer: those of `build`, where a feature may be on for several reasons
+-- whether a command may have several texts: only `build`, since a feature may be on for several reasons
 abbrev pub has_choice : CommandText → Bool
 has_choice (build kinds ids specs) = true
 has_choice _ = false
 
--- for one command that has no choice, and one content of bytes, there is one text or one refusal
+-- a command without a choice, over the same bytes, has one text or one refusal
 abbrev pub OneAnswer : Type 0
 OneAnswer = (command : CommandText) (bytes : Text) (a b : Result Text Refusal) → IsFalse (has_choice command) → IsAnswer command bytes a → IsAnswer command bytes b → a ≡ b
 
--- for each command, what is refused has no other answer
+-- if a command over some bytes may be refused, this refusal is its only result
 abbrev pub OneRefusal : Type 0
 OneRefusal = (command : CommandText) (bytes : Text) (refusal : Refusal) (b : Result Text Refusal) → IsAnswer command bytes (Err refusal) → IsAnswer command bytes b → b ≡ Err refusal

@@ -1,4 +1,4 @@
--- The tables of a row file, or why there are none, in the program's terms.
+-- The tables of a row file, or its first fault as a refusal of the program.
 use Rattle.std.specs.Prelude.{ℕ, Result, Ok, Err}
 use Rattle.guppy_packages.specs.Rows.{Text}
 use Rattle.guppy_packages.specs.Tables.{Tables}
@@ -9,7 +9,7 @@ use Rattle.row_files.specs.declared.error.RowFileError.TheVariants as error
 use Rattle.row_files.specs.RowFile.{tables_in as tables_of_file}
 use Rattle.guppy_tool.specs.Faults.{Refusal, not_text, malformed, no_package, duplicate_package, duplicate_feature, unknown_target, other_name, out_of_memory}
 
--- a row's fault at a line
+-- the refusal for a row's fault in a line
 abbrev pub row_refusal : ℕ → RowFault → Refusal
 row_refusal line row.NoPackage = no_package line
 row_refusal line row.DuplicatePackage = duplicate_package line
@@ -18,7 +18,7 @@ row_refusal line row.UnknownTarget = unknown_target line
 row_refusal line row.OtherName = other_name line
 row_refusal line row.Memory = out_of_memory
 
--- a row file's error
+-- the refusal for a row file's error
 abbrev pub file_refusal : RowFileError → Refusal
 file_refusal error.NotText = not_text
 file_refusal (error.Malformed line) = malformed line

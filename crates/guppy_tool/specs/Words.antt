@@ -1,4 +1,4 @@
--- What the words of the command line ask for.
+-- The command line: its words, and the command that they ask for.
 use Rattle.std.specs.Prelude.{ℕ, List, [], ◌∷◌, Bool, Option, None, Some, Result, Ok, Err, take, drop, map, ◌==◌, if◌then◌else◌, codes}
 use Rattle.std.specs.List.{list_any, before_first, after_first, before_last, after_last, slice_split}
 use Rattle.std.specs.Str.{bytes_eq}
@@ -39,11 +39,11 @@ command_of (commands.Build kinds ids specs) = build kinds.items (map given_of id
 abbrev pub is_slash : ℕ → Bool
 is_slash b = b == 47
 
--- what stands before the last slash, and after it
+-- the parts of a word before and after its last slash
 abbrev pub cut_at_last_slash : Text → Option (Text × Text)
 cut_at_last_slash word = if list_any is_slash word then Some (before_last is_slash word, after_last is_slash word) else None
 
--- the label of a text: `[base]`, `dep:` and a name, or else a name
+-- the label of a text: `[base]`, `dep:` with a name, or a name
 abbrev pub label_in : Text → LabelName
 label_in text =
     if bytes_eq text (codes "[base]") then base
@@ -53,16 +53,16 @@ abbrev pub id_in_parts : Option (Text × Text) → Option (Text × LabelName)
 id_in_parts None = None
 id_in_parts (Some (package_id, label)) = Some (package_id, label_in label)
 
--- an id is cut at its last slash into the package's id and the label
+-- the id of a word: the package's id before the last slash, and the label after it
 abbrev pub id_in : Text → Option (Text × LabelName)
 id_in word = id_in_parts (cut_at_last_slash word)
 
--- the id in one word
+-- the id of a word, or the refusal of the word
 abbrev pub id_or_refusal : Text → Option (Text × LabelName) → Result (Text × LabelName) Refusal
 id_or_refusal word None = Err (bad_id word)
 id_or_refusal word (Some id) = Ok id
 
--- the ids of the words, or the first word that is no id
+-- the ids of the words, or the refusal of the first word that is no id
 abbrev pub ids_in : List Text → Result (List (Text × LabelName)) Refusal
 ids_in = each_or id_in bad_id
 
@@ -79,12 +79,12 @@ abbrev pub ids_after : Option DependencyDirection → List Text → Result (Depe
 ids_after None words = Err usage
 ids_after (Some direction) words = beside direction (ids_in words)
 
--- a direction, and the ids after it
+-- a direction, followed by ids
 abbrev pub directed_ids : List Text → Result (DependencyDirection × List (Text × LabelName)) Refusal
 directed_ids [] = Err usage
 directed_ids (word ∷ words) = ids_after (direction_in word) words
 
--- a command over directed ids
+-- a command with a direction and ids
 abbrev pub over : (DependencyDirection → List (Text × LabelName) → CommandText) → Result (DependencyDirection × List (Text × LabelName)) Refusal → Result CommandText Refusal
 over command (Ok asked) = Ok (command asked.0 asked.1)
 over command (Err e) = Err e
@@ -93,12 +93,12 @@ abbrev pub ordered_by : Option DependencyDirection → Result CommandText Refusa
 ordered_by None = Err usage
 ordered_by (Some direction) = Ok (ordered direction)
 
--- one direction, and nothing after it
+-- exactly one direction
 abbrev pub one_direction : List Text → Result CommandText Refusal
 one_direction (word ∷ []) = ordered_by (direction_in word)
 one_direction _ = Err usage
 
--- one package, and nothing after it
+-- exactly one package
 abbrev pub one_package : List Text → Result CommandText Refusal
 one_package (id ∷ []) = Ok (list_of id)
 one_package _ = Err usage
@@ -109,7 +109,7 @@ kind_in word =
     else (if bytes_eq word (codes "build") then Some Build
     else (if bytes_eq word (codes "dev") then Some Development else None))
 
--- kinds with commas between; a part that is no kind is at fault
+-- the dependency kinds in a word, separated by commas; a part that is no kind is refused
 abbrev pub kinds_in : Text → Result (List DependencyKind) Refusal
 kinds_in word = each_or kind_in (λ part. usage) (slice_split (λ b. b == 44) word)
 
@@ -120,22 +120,22 @@ abbrev pub build_of : List DependencyKind → List Text → Result (List (Text �
 build_of kinds specs (Ok ids) = Ok (build kinds ids specs)
 build_of kinds specs (Err e) = Err e
 
--- the words after the first `--` are specs, and those before it ids
+-- the words after the first `--` are specs, and the words before it are ids
 abbrev pub build_over : Result (List DependencyKind) Refusal → List Text → Result CommandText Refusal
 build_over (Ok kinds) words = build_of kinds (after_first is_dashes words) (ids_in (before_first is_dashes words))
 build_over (Err e) words = Err e
 
--- kinds, and the words after them
+-- dependency kinds, followed by ids and specs
 abbrev pub build_in : List Text → Result CommandText Refusal
 build_in [] = Err usage
 build_in (word ∷ words) = build_over (kinds_in word) words
 
--- a command that has no arguments
+-- a command without arguments
 abbrev pub alone : CommandText → List Text → Result CommandText Refusal
 alone command [] = Ok command
 alone command (word ∷ words) = Err usage
 
--- the command of a word, and its arguments
+-- the command named by a word, with its arguments
 abbrev pub command_in : Text → List Text → Result CommandText Refusal
 command_in word arguments =
     if bytes_eq word (codes "resolve") then over resolve (directed_ids arguments)

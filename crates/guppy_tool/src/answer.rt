@@ -1,4 +1,4 @@
-//! What is answered for the bytes of a row file.
+//! From the bytes of a row file to the output of a command.
 ghost use Rattle.feature_core.specs.Built.{IsBuilt};
 ghost use Rattle.guppy_tool.specs.Faults.{Gives};
 ghost use Rattle.guppy_tool.specs.RowFileRefusals.{tables_in};
@@ -18,7 +18,7 @@ use row_files::graph_of;
 use std::alloc::Global;
 use std::mem::forget;
 
-/// The text that answers the command over what was built of a package graph, or the first refusal.
+/// Returns the output of `command` over the feature graph `built` of `graph`, or the first refusal.
 fn answer_built(
     alloc: Global,
     command: &Command,
@@ -39,8 +39,8 @@ fn answer_built(
     }
 }
 
-/// The text that answers the command over a package graph, or the first refusal. What was built is kept until the process ends, which
-/// gives it back as a whole.
+/// Builds the feature graph of `graph`, and returns the output of `command` over it or the first refusal. The built
+/// data is not freed: the process frees all its memory at once when it ends.
 fn answer_graph(alloc: Global, command: &Command, graph: &PackageGraph) -> Result<Vec<u8>, Fault>
     ensures { GivesAnswer (λ text. text.items) result (IsOutput (command_of command.now) graph.now) }
 {
@@ -54,7 +54,7 @@ fn answer_graph(alloc: Global, command: &Command, graph: &PackageGraph) -> Resul
     }
 }
 
-/// The package graph of a row file's bytes, or the first fault.
+/// Returns the package graph of a row file's bytes, or the first fault.
 fn graph_of_bytes(alloc: Global, bytes: &[u8]) -> Result<PackageGraph, Fault>
     ensures { Gives (λ graph. graph) result (tables_in bytes.now) }
 {
@@ -64,7 +64,8 @@ fn graph_of_bytes(alloc: Global, bytes: &[u8]) -> Result<PackageGraph, Fault>
     }
 }
 
-/// The text that answers the command over a row file's bytes, or the first refusal. The package graph is kept until the process ends.
+/// Returns the output of `command` over the row file `bytes`, or the first refusal. The package graph is not freed
+/// before the process ends.
 pub fn answer(alloc: Global, command: &Command, bytes: Vec<u8>) -> Result<Vec<u8>, Fault>
     ensures { GivesAnswer (λ text. text.items) result (IsAnswer (command_of command.now) bytes.items) }
 {

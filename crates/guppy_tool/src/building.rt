@@ -1,4 +1,4 @@
-//! The answer that tells why each feature is on.
+//! The output of `build`: each feature that is on, with the reason.
 ghost use Rattle.std.specs.Prelude.{◌≡◌, ◌++◌, IfOk, OnOk, map};
 ghost use Rattle.std.specs.String.{string_bytes};
 ghost use Rattle.guppy_packages.specs.Rows.{texts};
@@ -19,7 +19,7 @@ use guppy_features::{
 use guppy_packages::{DependencyDirection, DependencyKind, PackageGraph};
 use std::alloc::{AllocError, Global};
 
-/// The word for which declarations a link covers.
+/// Returns the word for the declarations that a link covers.
 fn word_of(declarations: LinkDeclarations) -> &'static str
     ensures { result.now ≡ declarations_word declarations }
 {
@@ -30,7 +30,7 @@ fn word_of(declarations: LinkDeclarations) -> &'static str
     }
 }
 
-/// Adds a step's line.
+/// Appends the line of one step: the id, the reason and its source, with tabs between them.
 fn push_step(text: &mut String, id: FeatureId<'_>, reason: Reason<'_>) -> Result<(), AllocError>
     ensures { OnOk result (string_bytes text.new ≡ string_bytes text.old ++ step_line (step_name (id.entry, reason.entry))) }
 {
@@ -45,7 +45,7 @@ fn push_step(text: &mut String, id: FeatureId<'_>, reason: Reason<'_>) -> Result
     }
 }
 
-/// The lines of steps, in their order.
+/// Returns the lines of `steps`, in their order.
 fn lines_of(alloc: Global, steps: &[(FeatureId<'_>, Reason<'_>)]) -> Result<Vec<u8>, AllocError>
     ensures { IfOk result (λ text. text.items ≡ step_lines (map step_name steps.now)) }
 {
@@ -56,8 +56,8 @@ fn lines_of(alloc: Global, steps: &[(FeatureId<'_>, Reason<'_>)]) -> Result<Vec<
     Ok(text.into_bytes())
 }
 
-/// The lines of the steps to the features that the given ones turn on for these kinds of dependency, where these specs hold,
-/// or the fault of the first unknown one.
+/// Returns a line for each feature that `given` turns on, with the reason, for the dependency kinds `kinds` and the
+/// platform specs `specs`. The error is `UnknownFeature` with the first unknown id of `given`, or `Memory`.
 pub fn explained(
     alloc: Global,
     graph: &PackageGraph,

@@ -1,4 +1,4 @@
-//! From all bytes of a reader to the answer.
+//! From the bytes of a reader to the output in a writer.
 ghost use Rattle.std.specs.Prelude.{◌≡◌, ◌⊎◌, ℕ, List, true, false, Ok, IfOk, OnOk, IfErr, OnErr, IfSome, ◌++◌, ◌<◌, ◌≤◌};
 ghost use Rattle.std.specs.Io.KnownBytes.{Keeps, Appends, Consumes, IsAtEnd};
 ghost use Rattle.guppy_tool.specs.Faults.{refusal_of};
@@ -11,10 +11,10 @@ use crate::words::Command;
 use byte_devices::{ByteInput, ByteOutput, Failed, read_all, write_all};
 use std::alloc::Global;
 
-/// Reads all there is, and writes the answer to it and nothing else.
+/// Reads all bytes of `reader`, and writes the output of `command` over them to `writer`.
 ///
-/// A fault of the bytes is the first in this order: text that isn't UTF-8, malformed lines, rows, ids.
-/// Nothing is written before the whole answer is known. The first read or write that fails ends the run.
+/// A fault of the bytes is the first in this order: text that isn't UTF-8, malformed lines, rows, ids. Nothing is
+/// written before the whole output is known. The first read or write that fails ends the run.
 pub fn run<R: ByteInput, W: ByteOutput>(
     alloc: Global,
     command: &Command,
@@ -25,11 +25,11 @@ pub fn run<R: ByteInput, W: ByteOutput>(
     requires writer_fresh { W.failed writer.old ≡ false }
     // Nothing is left to read.
     ensures end { OnOk result (IsAtEnd (R.left reader.new)) }
-    // What was written is the answer for all bytes that the reader held.
+    // The text that was written is the answer for all bytes of the reader.
     ensures ok { OnOk result (IfSome (R.left reader.old) (λ bytes. (text : List ℕ) × IsAnswer (command_of command.now) bytes (Ok text) × Appends (W.held writer.old) (W.held writer.new) text)) }
     // Neither device has failed.
     ensures fresh { OnOk result ((R.failed reader.new ≡ false) × (W.failed writer.new ≡ false)) }
-    // Else the fault is the first for those bytes, and nothing or a beginning was written.
+    // On an error, the fault is the first one for those bytes, and `writer` got nothing or a beginning of the text.
     ensures fault { IfErr result (λ fault. Ends (refusal_of fault) (R.left reader.old) (IsAnswer (command_of command.now)) (W.held writer.old) (W.held writer.new) (R.failed reader.new) (W.failed writer.new)) }
 {
     let bytes = read_all(alloc, reader)?;

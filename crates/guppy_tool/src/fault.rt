@@ -1,4 +1,4 @@
-//! Why the program gave no answer.
+//! The faults of the program.
 ghost use Rattle.std.specs.Prelude.{◌≡◌};
 ghost use Rattle.guppy_tool.specs.Faults.{refusal_of, read_refusal};
 ghost use Rattle.guppy_tool.specs.RowFileRefusals.{row_refusal, file_refusal};
@@ -9,7 +9,7 @@ use row_files::RowFileError;
 use std::alloc::{AllocError, AllocFailed};
 use thiserror::Error;
 
-/// Why the program gave no answer; its Display is the line for standard error.
+/// The reason why the program has no output. Its `Display` is the line for standard error.
 #[derive(Debug, Drop, Error)]
 pub enum Fault {
     #[error("usage: features FILE COMMAND ARGS")]
@@ -62,7 +62,7 @@ impl<T: Drop> From<AllocFailed<T>> for Fault {
     }
 }
 
-/// The fault of a row that stands in this line.
+/// Returns the fault of a row in this line.
 fn row_fault(line: usize, fault: RowFault) -> Fault
     ensures { refusal_of result ≡ row_refusal line fault }
 {
@@ -103,7 +103,7 @@ impl From<ReadError> for Fault {
 impl Fault {
     ghost use Rattle.guppy_tool.specs.Status.{status_of};
 
-    /// The exit status: 2 where the words are at fault, else 1.
+    /// Returns the exit status: 2 for a fault of the command line, and 1 for every other.
     pub fn status(&self) -> u8
         ensures { result ≡ status_of self.now }
     {

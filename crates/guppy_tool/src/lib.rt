@@ -1,4 +1,4 @@
-//! The engine of the program: from the bytes of a row file to the bytes of an answer.
+//! The engine of the program `features`: reads a row file, runs one command, writes its output.
 #![tactic(auto)]
 
 mod answer;

@@ -8,14 +8,14 @@ ghost use Rattle.guppy_tool.specs.Answers.{listing};
 use guppy_features::{FeatureId, FeatureSet};
 use std::alloc::{AllocError, Global};
 
-/// Adds an id's line.
+/// Appends the line of one id.
 pub fn push_line(text: &mut String, id: FeatureId<'_>) -> Result<(), AllocError>
     ensures { OnOk result (string_bytes text.new ≡ string_bytes text.old ++ (id_text (id_of id.entry) ++ 10 ∷ [])) }
 {
     writeln!(text, "{id}")
 }
 
-/// The lines of the members, in the order of the nodes.
+/// Returns a line for each member of `set`, in the order of the node numbers.
 pub fn list(alloc: Global, set: &FeatureSet) -> Result<Vec<u8>, AllocError>
     ensures { IfOk result (λ text. text.items ≡ listing (names_of_members set.now.graph.tables set.now.members)) }
 {

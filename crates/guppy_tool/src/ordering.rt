@@ -1,4 +1,4 @@
-//! The answers about the order of the graph: all features in it, and the components that have a cycle.
+//! The output of `order` and `cycles`: all features in the graph's order, and the components that have a cycle.
 ghost use Rattle.std.specs.Prelude.{◌≡◌, ◌++◌, IfOk, OnOk, map, replicate, length, true};
 ghost use Rattle.std.specs.String.{string_bytes};
 ghost use Rattle.feature_core.specs.Built.{Built, IsBuilt, digraph_of};
@@ -18,7 +18,7 @@ use guppy_features::{FeatureGraph, FeatureGraphData, FeatureGraphExt, FeatureId,
 use guppy_packages::{DependencyDirection, PackageGraph};
 use std::alloc::{AllocError, Global};
 
-// Does nothing: two builds of one package graph have one digraph.
+// Ghost code: two builds of one package graph have one digraph.
 fn one_digraph(graph: &PackageGraph)
     ensures { (a b : Built) → IsBuilt graph.now a → IsBuilt graph.now b → digraph_of a ≡ digraph_of b }
 {
@@ -26,7 +26,7 @@ fn one_digraph(graph: &PackageGraph)
     one_content(graph);
 }
 
-/// The lines of the set's features in the order of their graph, as the direction reads it.
+/// Returns a line for each feature of `set`, in the order of its graph; reversed if `direction` is `Reverse`.
 fn lines_in_order(
     alloc: Global,
     set: &FeatureSet,
@@ -41,7 +41,7 @@ fn lines_in_order(
     Ok(text.into_bytes())
 }
 
-/// The lines of all features in the order of their graph, as the direction reads it.
+/// Returns a line for each feature of the graph, in the graph's order; reversed if `direction` is `Reverse`.
 pub fn ordered(
     alloc: Global,
     graph: &PackageGraph,
@@ -60,7 +60,7 @@ pub fn ordered(
     Ok(lines_in_order(alloc, &set, direction)?)
 }
 
-/// Adds a line for each id.
+/// Appends a line for each id.
 fn push_lines(text: &mut String, ids: &[FeatureId<'_>]) -> Result<(), AllocError>
     ensures { OnOk result (string_bytes text.new ≡ string_bytes text.old ++ listing (map id_of ids.now)) }
 {
@@ -70,7 +70,7 @@ fn push_lines(text: &mut String, ids: &[FeatureId<'_>]) -> Result<(), AllocError
     Ok(())
 }
 
-/// Adds a line for each feature of a cycle, after an empty line where the cycle isn't the first.
+/// Appends a line for each feature of a cycle, after an empty line unless `is_first` is true.
 fn push_cycle(text: &mut String, is_first: bool, ids: &[FeatureId<'_>]) -> Result<(), AllocError>
     ensures { OnOk result (string_bytes text.new ≡ string_bytes text.old ++ (before_group is_first ++ listing (map id_of ids.now))) }
 {
@@ -80,7 +80,7 @@ fn push_cycle(text: &mut String, is_first: bool, ids: &[FeatureId<'_>]) -> Resul
     push_lines(text, ids)
 }
 
-/// The lines of the graph's cycles, with an empty line between two.
+/// Returns the lines of the graph's cycles, with an empty line between two cycles.
 fn lines_of_cycles(alloc: Global, graph: FeatureGraph<'_>) -> Result<Vec<u8>, AllocError>
     ensures { IfOk result (λ text. AtOrder (graph_of graph.entry) (λ o. text.items ≡ groups (cycle_names (graph_of graph.entry) o))) }
 {
@@ -96,7 +96,7 @@ fn lines_of_cycles(alloc: Global, graph: FeatureGraph<'_>) -> Result<Vec<u8>, Al
     Ok(text.into_bytes())
 }
 
-/// The lines of the components that have a cycle, the last in the order first.
+/// Returns the lines of the components that have a cycle. The last component in the graph's order is first.
 pub fn cycled(
     alloc: Global,
     graph: &PackageGraph,

@@ -1,4 +1,4 @@
-//! The answers about packages: the features of one, and what building noted of all.
+//! The output of `list` and `warnings`: the features of one package, and the warnings of a build.
 ghost use Rattle.std.specs.Prelude.{◌≡◌, ◌++◌, ◌∷◌, [], IfOk, IfErr, OnOk, map};
 ghost use Rattle.std.specs.String.{string_bytes};
 ghost use Rattle.feature_core.specs.Errors.{refusal_of as graph_refusal_of};
@@ -17,7 +17,7 @@ use guppy_features::{Error, FeatureGraphData, FeatureGraphExt, FeatureGraphWarni
 use guppy_packages::{PackageGraph, PackageId};
 use std::alloc::{AllocError, Global};
 
-/// The fault for an error of a look-up of a package.
+/// Returns the fault for an error of a package look-up.
 fn fault_of(alloc: Global, error: Error<'_>) -> Fault
     requires { MayRefusePackage (graph_refusal_of error) }
     ensures { IsPackageToldAs (refusal_of result) (graph_refusal_of error.entry) }
@@ -32,7 +32,7 @@ fn fault_of(alloc: Global, error: Error<'_>) -> Fault
     }
 }
 
-/// The line of a list's labels.
+/// Returns the line of the labels in `labels`.
 fn line_of(alloc: Global, labels: &FeatureList<'_>) -> Result<Vec<u8>, AllocError>
     ensures { IfOk result (λ text. text.items ≡ joined labels.now.labels ++ 10 ∷ []) }
 {
@@ -41,7 +41,7 @@ fn line_of(alloc: Global, labels: &FeatureList<'_>) -> Result<Vec<u8>, AllocErro
     Ok(text.into_bytes())
 }
 
-/// The line of a package's labels, or the fault of an unknown package.
+/// Returns the line of the package's labels. The error is `UnknownPackage` if no package has this id, or `Memory`.
 pub fn listed(
     alloc: Global,
     graph: &PackageGraph,
@@ -61,7 +61,7 @@ pub fn listed(
     }
 }
 
-/// Adds a warning's line.
+/// Appends the line of one warning.
 fn push_warning(text: &mut String, warning: &FeatureGraphWarning) -> Result<(), AllocError>
     ensures { OnOk result (string_bytes text.new ≡ string_bytes text.old ++ warning_line (warning_of warning.now)) }
 {
@@ -77,7 +77,7 @@ fn push_warning(text: &mut String, warning: &FeatureGraphWarning) -> Result<(), 
     }
 }
 
-/// The lines of warnings, in their order.
+/// Returns the lines of the warnings in `found`, in their order.
 fn lines_of(alloc: Global, found: &[FeatureGraphWarning]) -> Result<Vec<u8>, AllocError>
     ensures { IfOk result (λ text. text.items ≡ warning_lines (map warning_of found.now)) }
 {
@@ -88,7 +88,7 @@ fn lines_of(alloc: Global, found: &[FeatureGraphWarning]) -> Result<Vec<u8>, All
     Ok(text.into_bytes())
 }
 
-/// The lines of what building notes of the package graph.
+/// Returns the lines of the warnings from building the feature graph of `graph`.
 pub fn warned(
     alloc: Global,
     graph: &PackageGraph,

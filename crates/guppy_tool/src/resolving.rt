@@ -1,4 +1,4 @@
-//! The answers over the features to which given ones lead.
+//! The output of `resolve` and `visit`, and the query from ids on the command line.
 ghost use Rattle.std.specs.Prelude.{◌≡◌, Bool, IfOk, IfErr, true, map};
 ghost use Rattle.feature_labels.specs.Names.{id_of};
 ghost use Rattle.feature_core.specs.Built.{IsBuilt};
@@ -22,7 +22,7 @@ use guppy_features::{
 use guppy_packages::{DependencyDirection, PackageGraph};
 use std::alloc::{AllocError, Global};
 
-/// The ids that the words gave.
+/// Returns the feature ids for `given`.
 fn ids_of<'a, 'b>(alloc: Global, given: &'a [GivenId<'b>]) -> Result<Vec<FeatureId<'a>>, AllocError>
     ensures { IfOk result (λ ids. map id_of ids.items ≡ map given_of given.now) }
 {
@@ -33,7 +33,7 @@ fn ids_of<'a, 'b>(alloc: Global, given: &'a [GivenId<'b>]) -> Result<Vec<Feature
     Ok(ids)
 }
 
-/// The fault for an error of a query over ids.
+/// Returns the fault for an error of a query over ids.
 fn fault_of(alloc: Global, error: Error<'_>) -> Fault
     requires { MayRefuseIds (graph_refusal_of error) }
     ensures { IsToldAs (refusal_of result) (graph_refusal_of error.entry) }
@@ -48,7 +48,8 @@ fn fault_of(alloc: Global, error: Error<'_>) -> Fault
     }
 }
 
-/// The query from the given features, or the fault of the first unknown one.
+/// Returns the query from `given` in this direction. The error is `UnknownFeature` with the first unknown id, or
+/// `Memory`.
 pub fn queried<'g>(
     alloc: Global,
     graph: FeatureGraph<'g>,
@@ -68,7 +69,8 @@ pub fn queried<'g>(
     }
 }
 
-/// The lines of the features to which the given ones lead, or the fault of the first unknown one.
+/// Returns a line for each feature that is reachable from `given`. The error is `UnknownFeature` with the first unknown
+/// id, or `Memory`.
 pub fn resolved(
     alloc: Global,
     graph: &PackageGraph,
@@ -86,7 +88,7 @@ pub fn resolved(
     Ok(list(alloc, &set)?)
 }
 
-/// Accepts every link.
+/// A visitor that accepts every link.
 #[derive(Drop)]
 struct AllLinks;
 
@@ -100,8 +102,8 @@ impl<'g> FeatureLinkVisitor<'g> for AllLinks {
     }
 }
 
-/// The lines of the least set that holds the given features and is closed where every link is accepted, or the fault of the
-/// first unknown one.
+/// Returns a line for each feature of the least set that contains `given` and is closed under all links. The error is
+/// `UnknownFeature` with the first unknown id, or `Memory`.
 pub fn visited(
     alloc: Global,
     graph: &PackageGraph,

@@ -1,4 +1,4 @@
-//! What the words of the command line ask for.
+//! The command line: its words, and the command that they ask for.
 ghost use Rattle.std.specs.Prelude.{◌≡◌, ℕ, List, map};
 ghost use Rattle.std.specs.List.{before_first, after_first, position};
 ghost use Rattle.std.specs.Option.{option_map};
@@ -12,39 +12,40 @@ use feature_labels::{FeatureId, FeatureLabel};
 use guppy_packages::{DependencyDirection, DependencyKind, PackageId};
 use std::alloc::{AllocError, AllocFailed, Global};
 
-/// A feature as a word names it; nothing says that there is such a feature.
+/// A feature id as a word of the command line; the feature may not exist.
 #[derive(Drop)]
 pub struct GivenId<'a> {
     pub package_id: PackageId,
     pub label: FeatureLabel<'a>,
 }
 
-/// What the program is to print.
+/// A command of the program.
 #[derive(Drop)]
 pub enum Command<'a> {
-    /// The features to which the given ones lead in this direction, themselves among them.
+    /// Prints the features reachable from `ids` in `direction`, including `ids`.
     Resolve {
         direction: DependencyDirection,
         ids: Vec<GivenId<'a>>,
     },
-    /// The features of the least set that holds the given ones and is closed in this direction where every link is accepted.
+    /// Prints the least set that contains `ids` and is closed in `direction` if every link is accepted.
     Visit {
         direction: DependencyDirection,
         ids: Vec<GivenId<'a>>,
     },
-    /// All features in the order of their graph, or backwards.
+    /// Prints all features in the order of their graph, or in its reverse.
     Order {
         direction: DependencyDirection,
     },
-    /// The components of the graph that have a cycle.
+    /// Prints the components of the graph that have a cycle.
     Cycles,
-    /// The labels of a package.
+    /// Prints the labels of one package.
     List {
         package_id: PackageId,
     },
-    /// What building noted of items and listed names that ask for what is not there.
+    /// Prints the warnings from building the graph: items and listed names that refer to nothing, and self-loops.
     Warnings,
-    /// Why each feature is on that the given ones turn on for these kinds of dependency, where these specs hold.
+    /// Prints each feature that `ids` turn on, with the reason, for the dependency kinds `kinds` and the platform specs
+    /// `specs`.
     Build {
         kinds: Vec<DependencyKind>,
         ids: Vec<GivenId<'a>>,
@@ -52,14 +53,14 @@ pub enum Command<'a> {
     },
 }
 
-/// The two parts of a word round its last slash.
+/// Splits a word at its last slash; `None` if it has none.
 fn cut_at_last_slash(word: &str) -> Option<(&str, &str)>
     ensures { option_map (λ parts. (parts.0.now, parts.1.now)) result ≡ slash_cut word.now }
 {
     word.rsplit_once('/')
 }
 
-/// The label of a text: `[base]`, `dep:` and a name, or else a name.
+/// Returns the label of a text: `[base]`, `dep:` with a name, or a name.
 fn label(text: &str) -> FeatureLabel<'_>
     ensures { label_of result ≡ label_in text.now }
 {
@@ -72,7 +73,7 @@ fn label(text: &str) -> FeatureLabel<'_>
     }
 }
 
-/// The id in a word, or the fault of a word that has no slash.
+/// Returns the id in a word. The error is `BadId` if it has no slash, or `Memory`.
 fn id<'a>(alloc: Global, word: &'a str) -> Result<GivenId<'a>, Fault>
     ensures { Gives given_of result (id_or_refusal word.now (id_in word.now)) }
 {
@@ -86,7 +87,7 @@ fn id<'a>(alloc: Global, word: &'a str) -> Result<GivenId<'a>, Fault>
     })
 }
 
-/// The ids in the words, or the fault of the first word that is no id.
+/// Returns the ids in `words`. The error is `BadId` with the first word that has no slash, or `Memory`.
 fn ids<'a>(alloc: Global, words: &[&'a str]) -> Result<Vec<GivenId<'a>>, Fault>
     ensures { Gives (λ ids. map given_of ids.items) result (ids_in (texts words.now)) }
 {
@@ -97,7 +98,7 @@ fn ids<'a>(alloc: Global, words: &[&'a str]) -> Result<Vec<GivenId<'a>>, Fault>
     Ok(ids)
 }
 
-/// The direction that a word names.
+/// Returns the direction that a word names.
 fn direction(word: &str) -> Option<DependencyDirection>
     ensures { result ≡ direction_in word.now }
 {
@@ -110,7 +111,7 @@ fn direction(word: &str) -> Option<DependencyDirection>
     None
 }
 
-/// The direction and the ids of a command's arguments.
+/// Returns the direction and the ids of `arguments`. The error is `Usage` without a direction, `BadId` or `Memory`.
 fn directed<'a>(
     alloc: Global,
     arguments: &[&'a str],
@@ -126,7 +127,7 @@ fn directed<'a>(
     Ok((direction, ids(alloc, rest)?))
 }
 
-/// The command that lists all features in the one direction of the arguments.
+/// Returns the command `order` with the one direction in `arguments`, or `Usage`.
 fn ordering<'a>(arguments: &[&'a str]) -> Result<Command<'a>, Fault>
     ensures { Gives command_of result (one_direction (texts arguments.now)) }
 {
@@ -139,7 +140,7 @@ fn ordering<'a>(arguments: &[&'a str]) -> Result<Command<'a>, Fault>
     }
 }
 
-/// The command that lists the one package of the arguments.
+/// Returns the command `list` with the one package in `arguments`, or `Usage` or `Memory`.
 fn listing<'a>(alloc: Global, arguments: &[&'a str]) -> Result<Command<'a>, Fault>
     ensures { Gives command_of result (one_package (texts arguments.now)) }
 {
@@ -151,7 +152,7 @@ fn listing<'a>(alloc: Global, arguments: &[&'a str]) -> Result<Command<'a>, Faul
     })
 }
 
-/// The kind of dependency that a word names.
+/// Returns the dependency kind that a word names.
 fn kind(word: &str) -> Option<DependencyKind>
     ensures { result ≡ kind_in word.now }
 {
@@ -167,7 +168,7 @@ fn kind(word: &str) -> Option<DependencyKind>
     None
 }
 
-/// The kinds of dependency that a word names, with commas between.
+/// Returns the dependency kinds in a word, separated by commas. The error is `Usage` if a part is no kind, or `Memory`.
 fn kinds(alloc: Global, word: &str) -> Result<Vec<DependencyKind>, Fault>
     ensures { Gives (λ kinds. kinds.items) result (kinds_in word.now) }
 {
@@ -181,14 +182,14 @@ fn kinds(alloc: Global, word: &str) -> Result<Vec<DependencyKind>, Fault>
     Ok(kinds)
 }
 
-/// The place of the first `--`.
+/// Returns the index of the first `--`.
 fn place_of_dashes(words: &[&str]) -> Option<usize>
     ensures { result ≡ position (λ word. is_dashes word.now) words.now }
 {
     words.iter().position(|word| *word == "--")
 }
 
-/// The words before the first `--`, and those after it.
+/// Returns the words before the first `--` and the words after it.
 fn cut_at_dashes<'w, 'a>(words: &'w [&'a str]) -> (&'w [&'a str], &'w [&'a str])
     ensures before { texts result.0.now ≡ before_first is_dashes (texts words.now) }
     ensures after { texts result.1.now ≡ after_first is_dashes (texts words.now) }
@@ -199,7 +200,7 @@ fn cut_at_dashes<'w, 'a>(words: &'w [&'a str]) -> (&'w [&'a str], &'w [&'a str])
     }
 }
 
-/// The command that explains what the features of the arguments turn on.
+/// Returns the command `build` with these arguments. The error is `Usage`, `BadId` or `Memory`.
 fn building<'a>(alloc: Global, arguments: &[&'a str]) -> Result<Command<'a>, Fault>
     ensures { Gives command_of result (build_in (texts arguments.now)) }
 {
@@ -215,7 +216,7 @@ fn building<'a>(alloc: Global, arguments: &[&'a str]) -> Result<Command<'a>, Fau
     })
 }
 
-/// The command of a word, over its arguments.
+/// Returns the command named `word` with these arguments. The error is `Usage`, `BadId` or `Memory`.
 fn asked<'a>(alloc: Global, word: &str, arguments: &[&'a str]) -> Result<Command<'a>, Fault>
     ensures { Gives command_of result (command_in word.now (texts arguments.now)) }
 {
@@ -245,12 +246,13 @@ fn asked<'a>(alloc: Global, word: &str, arguments: &[&'a str]) -> Result<Command
     Err(Fault::Usage)
 }
 
-/// The file and the command that the words after the program's name ask for.
+/// Parses the words after the program's name into the file and the command.
 ///
-/// `FILE resolve DIRECTION ID...`, `FILE visit DIRECTION ID...`, `FILE order DIRECTION`, `FILE cycles`, `FILE list PACKAGE`,
-/// `FILE warnings` and `FILE build KINDS ID... [-- SPEC...]` are the forms, where DIRECTION is `forward` or `reverse`, and
-/// KINDS is `normal`, `build` and `dev`, one or more of them, with commas between; all else is the usage fault. The first ID
-/// without a slash is a bad id.
+/// The forms are `FILE resolve DIRECTION ID...`, `FILE visit DIRECTION ID...`, `FILE order DIRECTION`, `FILE cycles`,
+/// `FILE list PACKAGE`, `FILE warnings` and `FILE build KINDS ID... [-- SPEC...]`. DIRECTION is `forward` or `reverse`.
+/// KINDS is one or more of `normal`, `build` and `dev`, separated by commas.
+///
+/// The error is `BadId` with the first ID that has no slash, `Usage` for every other form, or `Memory`.
 pub fn parse_words<'a>(alloc: Global, words: &[&'a str]) -> Result<(&'a str, Command<'a>), Fault>
     ensures { Gives (λ asked. (asked.0.now, command_of asked.1)) result (words_ask (texts words.now)) }
 {

@@ -1,4 +1,4 @@
--- A component has a cycle exactly if its nodes lie on one.
+-- A component has a cycle exactly if its nodes are on one.
 use Rattle.std.proofs.Common.{◌≡◌, ◌≢◌, ◌↔◌, ℕ, ◌<◌, inl, inr, true, false, List, length, get_or, refl, ap, sym, ◌∙◌, subst, arith, Option, Some, None}
 use Rattle.std.specs.Prelude.{Contains, nat_eq, nat_lt, ◌==◌, IfSome, IfNone, IsTrue, is_some}
 use Rattle.std.specs.List.{IsDistinct, list_any}
@@ -36,7 +36,7 @@ edge_from_loop es v h =
 loop_from_edge : (es : List Edge) (v : ℕ) → HasEdge es v v → has_loop es v ≡ true
 loop_from_edge es v h = list_any-from_Any (is_loop v) es (h.listed.0, h.edge, h.listed.1, h.listed.2, and_from _ _ (eq-eqb h.edge.from v h.from) (eq-eqb h.edge.to v h.to))
 
--- what a look-up tells
+-- The result of a look-up decides whether `v` has an edge to itself.
 pub loop_is : (es : List Edge) (v : ℕ) (o : Option ℕ) → IfSome o (IsEdgeAt es v v) → IfNone o (¬ HasEdge es v v) → is_some o ≡ has_loop es v
 loop_is es v (Some k) some none = sym (loop_at es v k some)
 loop_is es v None some none = sym (false_from_ne_true (has_loop es v) (λ h. none (edge_from_loop es v h)))
@@ -47,7 +47,7 @@ join : {es : List Edge} {a b c : ℕ} → Path es a b → Path es b c → Path e
 join nowhere q = q
 join (onward e p) q = onward e (join p q)
 
--- whoever lies on a common cycle with another lies on one
+-- A node on a common cycle with another node is on a cycle.
 once_round : {es : List Edge} {a b : ℕ} → OnCycle es a b → OnCycle es a a
 once_round c =
     let round = join c.there (onward c.second_edge c.back) in
@@ -68,12 +68,12 @@ in_nodes o c v h e = to_filter (λ x. component_of o x == c) o.list v h (eq-eqb 
 two_places : (n i j : ℕ) → i < n → j < n → i ≢ j → 1 < n
 two_places n i j hi hj ne = elim (cases_order i j) [ inl e ↦ absurd (ne e) | inr c ↦ elim c [ inl l ↦ omega arith | inr l ↦ omega arith ] ]
 
--- a list that has two different numbers has two entries
+-- A list with two different numbers has at least two elements.
 two_entries : (xs : List ℕ) (a b : ℕ) → Contains xs a → Contains xs b → a ≢ b → 1 < length xs
 two_entries xs a b ha hb ne =
     two_places (length xs) ha.0 hb.0 ha.1 hb.1 (λ e. ne (sym ha.2 ∙ ap (λ i. get_or xs i a) e ∙ get_or_default xs hb.0 a b hb.1 ∙ hb.2))
 
--- another entry
+-- A list of distinct numbers, with at least two elements, has one other than `a`.
 another : (xs : List ℕ) (a : ℕ) → IsDistinct nat_eq xs → 1 < length xs → (b : ℕ) × Contains xs b × (a ≢ b)
 another xs a d long =
     let zeroth = Contains-get_or xs 0 0 (omega arith) in
@@ -91,7 +91,7 @@ module _ (law : CyclesAreComponents) (g : Graph) (o : Sequence) (ok : IsDigraph 
   below : (v : ℕ) → Contains o.list v → v < g.nodes
   below v h = subst (λ x. x < g.nodes) (get_or_default o.list h.0 0 v h.1 ∙ h.2) (each.below h.0 (omega (arith, h.1, each.long)))
 
-  -- another node of the component
+  -- If its component has another node, `v` is on a cycle.
   by_another : (v w : ℕ) → v < g.nodes → Contains (nodes_of o (component_of o v)) w → v ≢ w → OnCycle g.edges v v
   by_another v w h has ne =
       let parts = from_filter (λ x. component_of o x == component_of o v) o.list w has in

@@ -1,4 +1,4 @@
--- Lists of numbers that have each number once.
+-- Lists of numbers without repeats.
 use Rattle.std.proofs.Common.{◌≡◌, ◌≢◌, ℕ, ◌<◌, inl, inr, Bool, true, false, List, [], ◌∷◌, ◌++◌, length, get_or, refl, ap, sym, ◌∙◌, arith, ◌&&◌}
 use Rattle.std.specs.Prelude.{Contains, filter, reverse, nat_eq}
 use Rattle.std.specs.List.{IsDistinct, range_with_len}
@@ -53,7 +53,7 @@ pub distinct_range : (n : ℕ) → IsDistinct nat_eq (range_with_len 0 n)
 distinct_range n = distinct_from_apart (range_with_len 0 n) (λ i j l h e.
     omega (arith, e, get_or-range_with_len 0 n i 0 (omega (arith, length-range_with_len 0 n)), get_or-range_with_len 0 n j 0 (omega (arith, length-range_with_len 0 n)), length-range_with_len 0 n))
 
--- which numbers a list has
+-- The list has exactly the numbers below `n`.
 pub record HasBelow (n : ℕ) (xs : List ℕ) : Type 0 where
   pub every : (v : ℕ) → v < n → Contains xs v
   pub below : (v : ℕ) → Contains xs v → v < n
@@ -70,7 +70,7 @@ same_members n xs ys a b q =
     let y = is_member-Decides unsigned_Decides ys q in
     same_from_decides {P = q < n} (is_member nat_eq xs q) (is_member nat_eq ys q) (λ t. a.below q (x.0 t), λ h. x.1 (a.every q h)) (λ t. b.below q (y.0 t), λ h. y.1 (b.every q h))
 
--- two lists of the numbers below n, each once, have equally many that pass a test
+-- In two lists that have each number below `n` once, equally many numbers pass a test.
 pub same_count : (p : ℕ → Bool) (n : ℕ) (xs ys : List ℕ) → IsDistinct nat_eq xs → IsDistinct nat_eq ys → HasBelow n xs → HasBelow n ys → length (filter p xs) ≡ length (filter p ys)
 same_count p n xs ys dx dy hx hy =
     let alike : (q x : ℕ) → nat_eq q x ≡ true → p q ≡ p x = λ q x e. ap p ((unsigned_Decides q x).0 e) in

@@ -14,7 +14,7 @@ use Rattle.order_views.specs.inner.Search.{Finds, LeadsTo}
 use Rattle.order_views.proofs.Places.{get_range, within_some, place_is, place_listed}
 use Rattle.order_views.proofs.SearchLemmas.{finds_none, finds_more, finds_alike, listed}
 
--- where the edge that was read ends
+-- The target of the edge that was read.
 pub target_at : (es : List Edge) (k : ℕ) (e : Edge) → slice_get es k ≡ Some e → target_of es k ≡ e.to
 target_at [] k e h = absurd (cc)
 target_at (x ∷ es) zero e h = let same : x ≡ e = cc in ap (λ (y : Edge). y.to) same
@@ -40,7 +40,7 @@ follow_more es low k old found was waiting t is from l h =
 no_edge : Edge
 no_edge = record { from = 0; to = 0; non_dev = false }
 
--- the edges that leave the node are those of the range
+-- The edges that leave the node are those of the range.
 pub follow_all : (es : List Edge) (node low high : ℕ) (old found : List Bool) (was waiting : List ℕ) → range_with_len low (high - low) ≡ places node (sources es)
     → Finds (LeadsTo es low high) old was found waiting → Finds (HasEdge es node) old was found waiting
 follow_all es node low high old found was waiting numbers h =

@@ -16,7 +16,7 @@ use Rattle.order_views.proofs.RootLemmas.{or_false, or_true}
 
 -- ---- one edge
 
--- what an edge to itself at a node of component c is
+-- An edge from a node of component `c` to itself.
 record IsLoopIn (o : Sequence) (c : ℕ) (e : Edge) : Type 0 where
   pub same : e.from ≡ e.to
   pub node : Contains o.list e.from
@@ -34,7 +34,7 @@ loop_in o c e h =
       inside = ap (component_of o) from ∙ eqb-true (component_of o any.1) c node.1;
     }
 
--- the component of an edge from a node to itself is noted
+-- Inserting the component of an edge from a node to itself counts that edge.
 pub noted_loop : (o : Sequence) → ListsEach (length o.list) o.list → (noted : List Bool) (e : Edge) (c : ℕ) → e.from ≡ e.to → e.from < length o.list → component_of o e.from < length noted
     → has (set noted (component_of o e.from) true) c ≡ (has noted c || list_any (λ v. is_loop v e) (nodes_of o c))
 noted_loop o each noted e c same inside h =
@@ -51,7 +51,7 @@ noted_loop o each noted e c same inside h =
           get_or-set_other noted at c true false apart ∙ or_false (has noted c) ∙ ap (λ b. has noted c || b) (sym no)
     ]
 
--- another edge is passed
+-- Any other edge changes nothing.
 passed : (o : Sequence) (noted : List Bool) (e : Edge) (c : ℕ) → ¬ IsLoopIn o c e → has noted c ≡ (has noted c || list_any (λ v. is_loop v e) (nodes_of o c))
 passed o noted e c other =
     let no : list_any (λ v. is_loop v e) (nodes_of o c) ≡ false = false_from_ne_true (list_any (λ v. is_loop v e) (nodes_of o c)) (λ t. other (loop_in o c e t)) in
@@ -83,7 +83,7 @@ or_assoc : (a b c : Bool) → ((a || b) || c) ≡ (a || (b || c))
 or_assoc true b c = refl
 or_assoc false b c = refl
 
--- what is noted, and what the edges to come will note
+-- After one more edge, the components found so far and those of the remaining edges are the same together.
 pub loop_more : (nodes : List ℕ) (old new all : Bool) (e : Edge) (left rest : List Edge) → left ≡ e ∷ rest → new ≡ (old || list_any (λ v. is_loop v e) nodes)
     → (old || list_any (has_loop left) nodes) ≡ all → (new || list_any (has_loop rest) nodes) ≡ all
 loop_more nodes old new all e left rest is noted h =

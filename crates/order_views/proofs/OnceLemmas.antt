@@ -1,4 +1,4 @@
--- The members come once, and so do the edges between them.
+-- Members are listed once, and so are the edges between them.
 use Rattle.std.proofs.Common.{◌≡◌, ℕ, suc, ◌+◌, ◌-◌, ◌<◌, inl, inr, Bool, false, List, [], ◌∷◌, ◌++◌, length, get_or, refl, ap, sym, ◌∙◌, subst, arith, Some}
 use Rattle.std.specs.Prelude.{Contains, reverse, flat_map, nat_eq, IsTrue, slice_get, ◌==◌}
 use Rattle.std.specs.List.{IsDistinct}
@@ -24,7 +24,7 @@ use Rattle.order_views.proofs.Readings.{left_start}
 
 -- ---- lists in general
 
--- an element by its place
+-- An element read at a place is in the list.
 at_place : (xs : List ℕ) (i x : ℕ) → slice_get xs i ≡ Some x → Contains xs x
 at_place xs i x e =
     let h = within_some xs i x e in
@@ -57,7 +57,7 @@ in_flat_map f (x ∷ vs) v k h has =
       | inr ne ↦ Contains-append_right (f x) (flat_map f vs) k (in_flat_map f vs v k (Contains-tail x vs v ne h) has)
     ]
 
--- where an element of a flat map comes from
+-- The source of an element of a flat map.
 record IsFrom (f : ℕ → List ℕ) (vs : List ℕ) (k : ℕ) : Type 0 where
   node : ℕ
   listed : Contains vs node
@@ -71,7 +71,7 @@ from_flat_map f (x ∷ vs) k h =
       | inr there ↦ (let rest = from_flat_map f vs k there in record { node = rest.node; listed = Contains-append_right (x ∷ []) vs rest.node rest.listed; has = rest.has })
     ]
 
--- lists of elements that tell where they come from
+-- If each element determines its list, the flat map of distinct lists is distinct.
 distinct_flat_map : (f : ℕ → List ℕ) (home : ℕ → ℕ) → ((v k : ℕ) → Contains (f v) k → home k ≡ v) → ((v : ℕ) → IsDistinct nat_eq (f v)) → (vs : List ℕ) → IsDistinct nat_eq vs → IsDistinct nat_eq (flat_map f vs)
 distinct_flat_map f home tells each [] d = d
 distinct_flat_map f home tells each (x ∷ vs) d =

@@ -52,7 +52,7 @@ get_past (x ∷ xs) (suc i) h = get_past xs i (omega arith)
 
 -- ---- the places of v
 
--- p is the place of a v, where the list begins at place s
+-- `p` is a place of `v`, where the list begins at place `s`.
 pub record IsPlace (v s : ℕ) (xs : List ℕ) (p : ℕ) : Type 0 where
   pub from : ℕ
   pub is : p ≡ s + from
@@ -85,7 +85,7 @@ place_from v s (x ∷ xs) (suc i) p e =
           later (place_from v (suc s) xs (suc i) p (ap (λ l. slice_get l (suc i)) shape ∙ e))
     ]
 
--- what stands in the list of places
+-- `p` is a place of `v`.
 pub record IsPlaceOf (v : ℕ) (xs : List ℕ) (p : ℕ) : Type 0 where
   pub within : p < length xs
   pub at : get_or xs p 0 ≡ v
@@ -96,7 +96,7 @@ place_is v xs i p e =
     let same : h.from ≡ p = omega (arith, h.is) in
     record { within = omega (arith, h.within); at = subst (λ k. get_or xs k 0 ≡ v) same h.at }
 
--- each place of v is listed
+-- Place `i` of `v` is listed.
 pub record IsListed (v s : ℕ) (xs : List ℕ) (i : ℕ) : Type 0 where
   pub at : ℕ
   pub is : slice_get (places_from v s xs) at ≡ Some (s + i)
@@ -127,7 +127,7 @@ starting_forward r es v e = subst (λ q. places v (sources es) ≡ starting q es
 pub starting_backward : (r : Reading) (es : List Edge) (v : ℕ) → r ≡ Backward → places v (targets es) ≡ starting r es v
 starting_backward r es v e = subst (λ q. places v (targets es) ≡ starting q es v) (sym e) refl
 
--- edge k starts at v
+-- Edge `k` starts at `v`.
 pub record StartsAt (r : Reading) (es : List Edge) (v k : ℕ) : Type 0 where
   pub within : k < length es
   pub start : start_of r es k ≡ v

@@ -1,4 +1,4 @@
--- The members that are left of a list as it is read.
+-- The remaining members, in the direction of the reading.
 use Rattle.std.proofs.Common.{◌≡◌, ℕ, ◌+◌, ◌<◌, ◌≤◌, Bool, true, false, cond, List, [], ◌∷◌, length, get_or, drop, refl, ap, sym, ◌∙◌, subst, arith}
 use Rattle.std.specs.Prelude.{filter, count_by, map, nat_eq}
 use Rattle.std.specs.List.{IsDistinct, range_with_len}
@@ -18,7 +18,7 @@ pub length_as_read : (r : Reading) (list : List ℕ) → length (as_read r list)
 length_as_read Forward list = refl
 length_as_read Backward list = length-reverse list
 
--- the list from place i on begins with the node there
+-- The list from place `i` on begins with the node at `i`.
 left_at : (r : Reading) (list : List ℕ) (i : ℕ) → i < length list → drop i (as_read r list) ≡ get_or (as_read r list) i 0 ∷ drop (i + 1) (as_read r list)
 left_at r list i h = drop_more (as_read r list) i 0 (omega (arith, length_as_read r list))
 

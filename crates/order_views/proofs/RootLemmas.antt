@@ -12,7 +12,7 @@ use Rattle.order_views.specs.declared.reading.Reading.{Reading}
 use Rattle.order_views.specs.Views.{in_order, links_of, links_in_order, starting, end_of, start_of, leaves}
 use Rattle.order_views.proofs.Places.{starting_within}
 
--- every link is an edge
+-- Every link is an edge.
 pub links_within : (r : Reading) (es : List Edge) (list : List ℕ) (set : List Bool) → All (λ k. k < length es) (links_in_order r es list set)
 links_within r es list set = of_nodes (in_order r list set)
   where
@@ -30,7 +30,7 @@ pub or_true : (b : Bool) → true ≡ (b || true)
 or_true true = refl
 or_true false = refl
 
--- where the edge stays inside its component
+-- An edge inside a component changes nothing.
 pub noted_inside : (r : Reading) (es : List Edge) (o : Sequence) (left : List Bool) (k c : ℕ) → component_of o (end_of r es k) ≡ component_of o (start_of r es k)
     → has left c ≡ (has left c || leaves r es o c k)
 noted_inside r es o left k c e =
@@ -42,7 +42,7 @@ noted_inside r es o left k c e =
     contradicts true = refl
     contradicts false = refl
 
--- where it leads to another
+-- An edge that leads to another component adds the component of its start.
 pub noted_leaving : (r : Reading) (es : List Edge) (o : Sequence) (left : List Bool) (k c : ℕ) → component_of o (end_of r es k) ≢ component_of o (start_of r es k)
     → component_of o (start_of r es k) < length left → has (set left (component_of o (start_of r es k)) true) c ≡ (has left c || leaves r es o c k)
 noted_leaving r es o left k c ne h =

@@ -1,4 +1,4 @@
--- A search keeps what is known of it, and its end decides whether there is a path.
+-- Each step of the search keeps its invariant, and the end decides whether there is a path.
 use Rattle.std.proofs.Common.{◌≡◌, ◌⊎◌, ℕ, ◌+◌, ◌<◌, inl, inr, Bool, true, false, cond, List, [], ◌∷◌, ◌++◌, length, set, replicate, refl, ap, sym, ◌∙◌, subst, arith}
 use Rattle.std.specs.Prelude.{Contains, count_by, not}
 use Rattle.std.proofs.lemmas.Bool.{cases_eq, cases_Bool, false≢true}
@@ -22,7 +22,7 @@ has_kept found v u h = elim (cases_eq u v) [ inl e ↦ (let in' : v < length fou
 has_cases : (found : List Bool) (v u : ℕ) → has (set found v true) u ≡ true → (has found u ≡ true) ⊎ (u ≡ v)
 has_cases found v u h = elim (cases_eq u v) [ inl e ↦ inr e | inr ne ↦ inl (sym (get_or-set_other found v u true false ne) ∙ h) ]
 
--- a member is there already
+-- Inserting a member again changes nothing.
 pub set_again : (found : List Bool) (v : ℕ) → has found v ≡ true → set found v true ≡ found
 set_again found v h = sym (ap (set found v) h) ∙ set-get_or found v false
 
@@ -45,7 +45,7 @@ finds_none found waiting = record {
   same = refl;
 }
 
--- the same kind in other words
+-- `Finds` depends only on the set of nodes that are meant.
 pub finds_alike : {P Q : ℕ → Type 0} {old found : List Bool} {was waiting : List ℕ} → ((v : ℕ) → P v → Q v) → ((v : ℕ) → Q v → P v) → Finds P old was found waiting → Finds Q old was found waiting
 finds_alike to back h = record {
   size = h.size;
@@ -57,7 +57,7 @@ finds_alike to back h = record {
   same = h.same;
 }
 
--- the list after a find
+-- The list of waiting nodes after finding `t`.
 abbrev pub listed : List Bool → List ℕ → ℕ → List ℕ
 listed found waiting t = cond (has found t) waiting (waiting ++ t ∷ [])
 
@@ -116,12 +116,12 @@ search_begins es n a h =
       closed = λ u v t e. inr (subst (Contains (a ∷ [])) (sym (only u t)) (Contains-push [] a));
     }
 
--- a path goes on by an edge
+-- Appending an edge to a path.
 further : {es : List Edge} {a b c : ℕ} → Path es a b → HasEdge es b c → Path es a c
 further nowhere e = onward e nowhere
 further (onward f p) e = onward f (further p e)
 
--- the last node on the list is followed
+-- Following the last node of the list keeps the invariant.
 pub search_goes : (es : List Edge) (a node : ℕ) (old found : List Bool) (rest waiting : List ℕ) → IsSearch es a old (rest ++ node ∷ []) → Finds (HasEdge es node) old rest found waiting → IsSearch es a found waiting
 search_goes es a node old found rest waiting s f =
     let known : has old node ≡ true = s.waits node (Contains-push rest node) in
@@ -141,7 +141,7 @@ search_goes es a node old found rest waiting s f =
       ];
     }
 
--- nothing waits: what can be reached was found
+-- If no node waits, each reachable node is found.
 path_found : {es : List Edge} (found : List Bool) → ((u v : ℕ) → has found u ≡ true → HasEdge es u v → has found v ≡ true) → {a b : ℕ} → Path es a b → has found a ≡ true → has found b ≡ true
 path_found found closed nowhere h = h
 path_found found closed (onward {a = a} {b = b} e p) h = path_found found closed p (closed a b h e)
@@ -150,6 +150,6 @@ pub search_ends : (es : List Edge) (a b : ℕ) (found : List Bool) → IsSearch 
 search_ends es a b found s missing path =
     false≢true (sym missing ∙ path_found found (λ u v t e. elim (s.closed u v t e) [ inl x ↦ x | inr x ↦ absurd (omega (arith, x.1)) ]) path s.start)
 
--- who waits is a node
+-- A waiting node is below the number of nodes.
 pub waiting_within : (es : List Edge) (a node : ℕ) (found : List Bool) (rest : List ℕ) → IsSearch es a found (rest ++ node ∷ []) → node < length found
 waiting_within es a node found rest s = has_within found node (s.waits node (Contains-push rest node))

@@ -1,4 +1,4 @@
--- What a view shows is a number of its kind.
+-- Each item of a view is a number of its kind.
 use Rattle.std.proofs.Common.{ℕ, suc, zero, ◌<◌, length, All, arith}
 use Rattle.std.proofs.lemmas.List.Elements.{All-filter, All-nil, All-cons, All-weaker}
 use Rattle.order_views.specs.Cycles.{descending, has_cycle}

@@ -4,27 +4,27 @@ use Rattle.std.specs.List.{list_any}
 use Rattle.guppy_support.specs.declared.digraph.Edge.{Edge}
 use Rattle.digraph_orders.specs.Sequences.{Sequence, component_of}
 
--- the nodes of component c, in order
+-- The nodes of component `c`, in order.
 abbrev pub nodes_of : Sequence → ℕ → List ℕ
 nodes_of o c = filter (λ v. component_of o v == c) o.list
 
--- whether the edge leads from v to itself
+-- Whether the edge leads from `v` to itself.
 abbrev pub is_loop : ℕ → Edge → Bool
 is_loop v e = (e.from == v) && (e.to == v)
 
--- whether an edge leads from v to itself
+-- Whether some edge leads from `v` to itself.
 abbrev pub has_loop : List Edge → ℕ → Bool
 has_loop es v = list_any (is_loop v) es
 
--- whether component c has a cycle: it has two nodes or more, or a node with an edge to itself
+-- Whether component `c` has a cycle: it has at least two nodes, or a node with an edge to itself.
 abbrev pub has_cycle : List Edge → Sequence → ℕ → Bool
 has_cycle es o c = nat_lt 1 (length (nodes_of o c)) || list_any (has_loop es) (nodes_of o c)
 
--- the numbers below n, the greatest first
+-- The numbers below `n`, the greatest first.
 abbrev pub descending : ℕ → List ℕ
 descending zero = []
 descending (suc n) = n ∷ descending n
 
--- the components that have a cycle, the last in the order first
+-- The components that have a cycle, the last in the order first.
 abbrev pub cyclic_components : List Edge → Sequence → List ℕ
 cyclic_components es o = filter (has_cycle es o) (descending o.count)

@@ -1,4 +1,4 @@
--- What holds of every view.
+-- Laws of every view.
 use Rattle.std.specs.Prelude.{◌≡◌, ◌≢◌, ◌↔◌, ◌<◌, ℕ, Bool, List, Contains, IsTrue, All, length, slice_index}
 use Rattle.guppy_support.specs.declared.digraph.Edge.{Edge}
 use Rattle.guppy_support.specs.Graph.{Graph, IsDigraph, source_of, target_of}
@@ -9,30 +9,30 @@ use Rattle.order_views.specs.declared.reading.Reading.{Reading}
 use Rattle.order_views.specs.Views.{in_order, links_in_order, roots_in_order}
 use Rattle.order_views.specs.Cycles.{has_cycle, cyclic_components}
 
--- the list has exactly the numbers of that kind, each once
+-- The list has exactly the numbers of a kind, each once.
 pub record ListsOnce (Is : ℕ → Type 0) (xs : List ℕ) : Type 0 where
   pub exactly : (x : ℕ) → Contains xs x ↔ Is x
   pub apart : (i j : ℕ) → i < j → j < length xs → slice_index xs i ≢ slice_index xs j
 
--- the members in order are exactly the members, each once
+-- The members in order are exactly the members, each once.
 abbrev pub MembersComeOnce : Type 0
 MembersComeOnce =
     (o : Sequence) (set : List Bool) (r : Reading) → IsSequence o → length set ≡ length o.list
     → ListsOnce (λ v. IsTrue (has set v)) (in_order r o.list set)
 
--- edge k leads from a member to a member
+-- Edge `k` leads from a member to a member.
 pub record IsLink (es : List Edge) (set : List Bool) (k : ℕ) : Type 0 where
   pub within : k < length es
   pub from : IsTrue (has set (source_of es k))
   pub to : IsTrue (has set (target_of es k))
 
--- the links in order are exactly the edges with both ends in the set, each once
+-- The links in order are exactly the edges with both ends in the set, each once.
 abbrev pub LinksComeOnce : Type 0
 LinksComeOnce =
     (es : List Edge) (o : Sequence) (set : List Bool) (r : Reading) → IsSequence o → length set ≡ length o.list
     → ListsOnce (IsLink es set) (links_in_order r es o.list set)
 
--- each member, link, root and component that a view shows is a number of its kind
+-- Each member, link, root and component in a view is a number of its kind.
 abbrev pub MembersAreNodes : Type 0
 MembersAreNodes = (r : Reading) (list : List ℕ) (set : List Bool) → All (λ v. v < length set) (in_order r list set)
 
@@ -45,11 +45,11 @@ RootsAreNodes = (r : Reading) (es : List Edge) (o : Sequence) (set : List Bool) 
 abbrev pub CyclesAreNumbered : Type 0
 CyclesAreNumbered = (es : List Edge) (o : Sequence) → All (λ c. c < o.count) (cyclic_components es o)
 
--- two orders of one digraph have one list
+-- Two orders of one digraph have the same list.
 abbrev pub OneList : Type 0
 OneList = (g : Graph) (o p : Sequence) → IsOrderOf g o → IsOrderOf g p → o.list ≡ p.list
 
--- a node's component has a cycle exactly if the node lies on one: a nonempty path leads from it to itself
+-- A node's component has a cycle exactly if a path of at least one edge leads from the node to itself.
 abbrev pub CyclicByCycles : Type 0
 CyclicByCycles =
     (g : Graph) (o : Sequence) (v : ℕ) → IsDigraph g → IsOrderOf g o → v < g.nodes

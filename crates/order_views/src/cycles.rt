@@ -1,8 +1,6 @@
 //! Components that have a cycle.
-ghost use Rattle.std.specs.Prelude.{◌≡◌, ◌↔◌, ◌<◌, ◌≤◌, ◌||◌, ℕ, length, nat_lt, IfOk, IfSome, IsTrue};
+ghost use Rattle.std.specs.Prelude.{◌≡◌, ◌↔◌, ◌<◌, ◌||◌, ℕ, length, nat_lt, IfOk, IsTrue};
 ghost use Rattle.std.specs.List.{list_any};
-ghost use Rattle.std.specs.Iterator.{YieldsFirst, UpTo, item_count};
-ghost use Rattle.std.specs.Iterator.SizeHint.{IsWithinCount};
 ghost use Rattle.guppy_support.specs.Bits.{has};
 ghost use Rattle.guppy_support.specs.Paths.{OnCycle};
 ghost use Rattle.digraph_orders.specs.Sequences.{IsOrderOf};
@@ -11,18 +9,16 @@ ghost use Rattle.order_views.specs.Cycles.{has_cycle, is_loop, has_loop, nodes_o
 use digraph_orders::{Order, laws};
 use guppy_support::{Digraph, Edge, IxBitSet};
 use std::alloc::{AllocError, Global};
-use std::iter::FusedIterator;
-use std::marker::Model;
 
-// Whether an edge leads from the node to itself, by binary search.
+// Returns true if an edge leads from `node` to itself. Takes logarithmic time.
 fn has_edge_to_itself(digraph: &Digraph, node: usize) -> bool
     ensures { result ≡ has_loop digraph.now.edges node }
 {
     digraph.edge_between(node, node).is_some()
 }
 
-/// Whether the component of that number has a cycle: it has two nodes or more, or one with an edge to itself.
-pub fn is_cyclic_component(order: &Order, digraph: &Digraph, component: usize) -> bool
+// Returns true if `component` has a cycle: it has at least two nodes, or one node with an edge to itself.
+fn is_cyclic_component(order: &Order, digraph: &Digraph, component: usize) -> bool
     requires { component < order.now.count }
     ensures { result ≡ has_cycle digraph.now.edges order.now component }
 {
@@ -33,8 +29,9 @@ pub fn is_cyclic_component(order: &Order, digraph: &Digraph, component: usize) -
     }
 }
 
-/// Whether two nodes lie on a common cycle: a nonempty path leads from the first to the other, and one back. So a node lies
-/// on a cycle with itself only if it has an edge to itself or shares its component.
+/// Returns true if `a` and `b` are on a common cycle: paths of at least one edge lead both ways.
+///
+/// So a node is on a cycle with itself only if it has an edge to itself or its component has another node.
 pub fn is_cyclic(order: &Order, digraph: &Digraph, a: usize, b: usize) -> bool
     requires order { IsOrderOf digraph.now order.now }
     requires a { a < digraph.now.nodes }
@@ -51,7 +48,7 @@ pub fn is_cyclic(order: &Order, digraph: &Digraph, a: usize, b: usize) -> bool
     }
 }
 
-// Notes the component of an edge from a node to itself.
+// Adds the component of `edge` to `looped` if the edge leads from a node to itself.
 fn note_loop(order: &Order, edge: Edge, looped: &mut IxBitSet)
     requires size { length looped.old ≡ order.now.count }
     ensures size { length looped.new ≡ order.now.count }
@@ -64,7 +61,7 @@ fn note_loop(order: &Order, edge: Edge, looped: &mut IxBitSet)
     }
 }
 
-// The components of nodes with an edge to themselves.
+// Returns the components that have a node with an edge to itself. An allocation failure is the only error.
 fn looped_components(
     alloc: Global,
     order: &Order,
@@ -81,7 +78,7 @@ fn looped_components(
     Ok(looped)
 }
 
-// Whether the component has two nodes or more, or is noted.
+// Returns true if `component` has at least two nodes or is in `noted`.
 fn is_large_or_noted(order: &Order, noted: &IxBitSet, component: usize) -> bool
     requires component { component < order.now.count }
     requires size { length noted.now ≡ order.now.count }
@@ -90,8 +87,11 @@ fn is_large_or_noted(order: &Order, noted: &IxBitSet, component: usize) -> bool
     order.component_nodes(component).len() > 1 || noted.contains(component)
 }
 
-/// The numbers of the components that have a cycle, the last in the order first: those of two nodes or more, and those of a
-/// node with an edge to itself. It takes one pass over the edges and one over the components.
+/// Returns the components that have a cycle, the last in the order first. They are those of at least two nodes,
+/// and those of one node with an edge to itself.
+///
+/// Takes one pass over the edges and one over the components. `AllocError` is returned when an allocation
+/// fails.
 pub fn cyclic_components(
     alloc: Global,
     order: &Order,
@@ -110,57 +110,3 @@ pub fn cyclic_components(
     }
     Ok(cyclic)
 }
-
-/// The numbers of the components that have a cycle, the last in the order first. Their nodes are
-/// `Order::component_nodes`. It is seen as the list of those that are left.
-#[derive(Debug, Drop)]
-pub struct CyclicComponents<'a> {
-    order: &'a Order,
-    digraph: &'a Digraph,
-    // the components from this one on are passed
-    end: usize,
-}
-
-impl<'a> Model for CyclicComponents<'a> {
-    ghost use Rattle.std.specs.Prelude.{List, ℕ, ◌≤◌};
-    ghost use Rattle.order_views.specs.inner.Cursors.{cyclic_below};
-
-    ghost Value = { List ℕ };
-
-    ghost view = { λ it. cyclic_below it.digraph.now.edges it.order.now it.end };
-
-    ghost invariant = { λ it. it.end ≤ it.order.now.count };
-}
-
-impl<'a> CyclicComponents<'a> {
-    /// The components of this order of the digraph.
-    pub fn new(order: &'a Order, digraph: &'a Digraph) -> Self
-        ensures { result ≡ cyclic_components digraph.now.edges order.now }
-    {
-        CyclicComponents {
-            order,
-            digraph,
-            end: order.component_count(),
-        }
-    }
-}
-
-impl<'a> Iterator for CyclicComponents<'a> {
-    type Item = usize;
-
-    ghost next_gives = { YieldsFirst (λ rest. rest) };
-
-    ghost remaining = { item_count (λ rest. rest) };
-
-    fn next(&mut self) -> Option<usize> {
-        while self.end > 0 {
-            self.end -= 1;
-            if is_cyclic_component(self.order, self.digraph, self.end) {
-                return Some(self.end);
-            }
-        }
-        None
-    }
-}
-
-impl<'a> FusedIterator for CyclicComponents<'a> {}

@@ -7,7 +7,7 @@ ghost use Rattle.order_views.specs.inner.Search.{Finds};
 use guppy_support::{Digraph, IxBitSet};
 use std::alloc::{AllocError, Global};
 
-// Puts the node into the set and on the list, unless it was found before.
+// Inserts `node` into `found` and appends it to `waiting`, unless it was found before.
 fn find(found: &mut IxBitSet, waiting: &mut Vec<usize>, node: usize) -> Result<(), AllocError>
     requires { node < length found.old }
     ensures found { found.new ≡ slice_set found.old node true }
@@ -20,7 +20,7 @@ fn find(found: &mut IxBitSet, waiting: &mut Vec<usize>, node: usize) -> Result<(
     Ok(())
 }
 
-// Finds the targets of the node's edges.
+// Finds the targets of the edges that leave `node`.
 fn follow(
     digraph: &Digraph,
     node: usize,
@@ -39,7 +39,7 @@ fn follow(
     Ok(())
 }
 
-// The search begins: the node was found, and waits.
+// Returns the first state of a search: only `node` is found, and it waits.
 fn begin(alloc: Global, nodes: usize, node: usize) -> Result<(IxBitSet, Vec<usize>), AllocError>
     requires { node < nodes }
     ensures found { IfOk result (λ p. p.0 ≡ slice_set (replicate nodes false) node true) }
@@ -52,9 +52,10 @@ fn begin(alloc: Global, nodes: usize, node: usize) -> Result<(IxBitSet, Vec<usiz
     Ok((found, waiting))
 }
 
-/// Whether a path, possibly empty, leads from the first node to the other. It stops when the other is found.
+/// Returns true if a path, possibly empty, leads from `a` to `b`. The search stops when `b` is found.
 ///
-/// Memory is taken for a bit a node and for the nodes that are found; the error is want of it.
+/// Allocates one bit per node, and a list of the nodes found. `AllocError` is returned when an allocation
+/// fails.
 pub fn depends_on(alloc: Global, digraph: &Digraph, a: usize, b: usize) -> Result<bool, AllocError>
     requires a { a < digraph.now.nodes }
     requires b { b < digraph.now.nodes }

@@ -11,13 +11,14 @@ use guppy_support::IxBitSet;
 use std::iter::FusedIterator;
 use std::marker::Model;
 
-/// The members of a set in the order of its nodes, or backwards. It is seen as the list of those that are left.
+/// An iterator over the members of a set, in the order of its nodes or in reverse. Its value in contracts is
+/// the list of the remaining members.
 #[derive(Debug, Drop)]
 pub struct InOrder<'a> {
     list: &'a [usize],
     members: &'a IxBitSet,
     reading: Reading,
-    // how many nodes of the list are passed, as it is read
+    // the number of nodes passed, in the direction of `reading`
     passed: usize,
     left: usize,
 }
@@ -37,7 +38,7 @@ impl<'a> Model for InOrder<'a> {
 }
 
 impl<'a> InOrder<'a> {
-    /// The members in the order, or, read backwards, in exactly the reverse of it.
+    /// Returns an iterator over `members` in `order`; for `Backward`, in exactly the reverse order.
     pub fn new(order: &'a Order, members: &'a IxBitSet, reading: Reading) -> Self
         requires { length members.now ≡ length order.now.list }
         ensures { result ≡ in_order reading order.now.list members.now }
@@ -53,7 +54,7 @@ impl<'a> InOrder<'a> {
     }
 }
 
-// The node at the place of the list as it is read.
+// Returns the node at `place`, counted in the direction of `reading`.
 fn node_at(list: &[usize], reading: Reading, place: usize) -> usize
     requires { place < length list.now }
     ensures { result ≡ slice_index (as_read reading list.now) place }
@@ -64,7 +65,7 @@ fn node_at(list: &[usize], reading: Reading, place: usize) -> usize
     }
 }
 
-// The place of the first member from that place on, in the list as it is read.
+// Returns the place of the first member from place `from` on, counted in the direction of `reading`.
 fn next_place(list: &[usize], members: &IxBitSet, reading: Reading, from: usize) -> Option<usize>
     requires from { from ≤ length list.now }
     requires nodes { (i : ℕ) → i < length list.now → slice_index list.now i < length members.now }

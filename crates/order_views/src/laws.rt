@@ -1,4 +1,4 @@
-//! Laws of the views. Each function does nothing: its contract is the law.
+//! Laws of the views. Each function does nothing; its contract is the law.
 ghost use Rattle.order_views.specs.Laws.{MembersComeOnce, LinksComeOnce, MembersAreNodes, LinksAreEdges, RootsAreNodes, CyclesAreNumbered, OneList, CyclicByCycles};
 
 /// The members in order are exactly the members, each once.
@@ -11,7 +11,7 @@ pub fn links_come_once()
     ensures { LinksComeOnce }
 {}
 
-/// Each member, link, root and component that a view shows is a number of its kind.
+/// Each member, link, root and component in a view is a number of its kind.
 pub fn views_stay_within()
     ensures members { MembersAreNodes }
     ensures links { LinksAreEdges }
@@ -26,7 +26,7 @@ pub fn one_list()
     digraph_orders::laws::one_order();
 }
 
-/// A node's component has a cycle exactly if the node lies on one.
+/// A node's component has a cycle exactly if the node is on one.
 pub fn cyclic_by_cycles()
     ensures { CyclicByCycles }
 {

@@ -1,5 +1,5 @@
-//! What an order shows of a set of nodes: the members, the edges between them, their roots; the components that have a
-//! cycle; and which node depends on which. Nodes and edges are numbers.
+//! Views of a set of nodes in an order: its members, the edges between them, and their roots. Also the
+//! components that have a cycle, and whether one node depends on another. Nodes and edges are numbers.
 #![tactic(auto)]
 
 mod cycles;
@@ -10,7 +10,7 @@ mod links_in_order;
 mod reading;
 mod root_nodes;
 
-pub use cycles::{CyclicComponents, cyclic_components, is_cyclic, is_cyclic_component};
+pub use cycles::{cyclic_components, is_cyclic};
 pub use depending::depends_on;
 pub use in_order::InOrder;
 pub use links_in_order::LinksInOrder;

@@ -11,17 +11,18 @@ use guppy_support::{Digraph, IxBitSet};
 use std::iter::FusedIterator;
 use std::marker::Model;
 
-/// The numbers of the edges whose two ends are members: by the place of the edge's start in the members' order of the same
-/// reading, and those of one start by the ascending number of the other end. It is seen as the list of those that are left.
+/// An iterator over the numbers of the edges whose ends are both members. Edges are sorted by the place of
+/// their start among the members, as `reading` lists them, and then by the number of the other end. Its value
+/// in contracts is the list of the remaining edges.
 #[derive(Debug, Drop)]
 pub struct LinksInOrder<'a> {
     digraph: &'a Digraph,
     members: &'a IxBitSet,
     reading: Reading,
-    // the members that come after the one at hand
+    // the members after the current one, `start`
     nodes: InOrder<'a>,
     start: Option<usize>,
-    // how many edges of the member at hand are passed
+    // the number of edges of the current member that are passed
     passed: usize,
 }
 
@@ -40,7 +41,8 @@ impl<'a> Model for LinksInOrder<'a> {
 }
 
 impl<'a> LinksInOrder<'a> {
-    /// The edges of the digraph with both ends among the members. The order need not be that digraph's own.
+    /// Returns an iterator over the edges of `digraph` between `members`, by the place of their start in `order`,
+    /// which needn't be an order of `digraph`. `reading` decides the direction, and which end is the start.
     pub fn new(
         order: &'a Order,
         digraph: &'a Digraph,
@@ -64,7 +66,7 @@ impl<'a> LinksInOrder<'a> {
     }
 }
 
-// The number at a place of a list.
+// Returns the number at `place`.
 fn number_at(numbers: &[u32], place: usize) -> Option<usize>
     ensures number { result ≡ slice_get numbers.now place }
     ensures few { IfSome result (λ _. place + 1 < 2 ^ 64) }
@@ -76,7 +78,7 @@ fn number_at(numbers: &[u32], place: usize) -> Option<usize>
     }
 }
 
-// The edge at that place of those that start at the node.
+// Returns the edge at `place` among those that start at `node`.
 fn edge_at(digraph: &Digraph, reading: Reading, node: usize, place: usize) -> Option<usize>
     requires { node < digraph.now.nodes }
     ensures edge { result ≡ slice_get (starting reading digraph.now.edges node) place }
@@ -95,7 +97,7 @@ fn edge_at(digraph: &Digraph, reading: Reading, node: usize, place: usize) -> Op
     }
 }
 
-/// The nodes at which the edge starts and ends.
+/// Returns the nodes at which `edge` starts and ends.
 pub(crate) fn ends_of(digraph: &Digraph, reading: Reading, edge: usize) -> (usize, usize)
     requires { edge < length digraph.now.edges }
     ensures start { result.0 ≡ start_of reading digraph.now.edges edge }
@@ -108,7 +110,7 @@ pub(crate) fn ends_of(digraph: &Digraph, reading: Reading, edge: usize) -> (usiz
     }
 }
 
-// The first edge of the node, from that place on, that ends at a member, and the place after it.
+// Returns the first edge of `node` from place `from` on that ends at a member, and the place after it.
 fn next_link(
     digraph: &Digraph,
     members: &IxBitSet,

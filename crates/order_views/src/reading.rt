@@ -1,6 +1,6 @@
-//! The two ways to read an order.
+//! The two directions in which an order is read.
 
-/// Which way an order is read, and with it which end of an edge is its start.
+/// The direction in which an order is read. It also decides which end of an edge is its start.
 #[derive(Clone, Copy, Debug, PartialEq, Eq)]
 pub enum Reading {
     /// From the first node to the last; an edge starts at its source.

@@ -1,4 +1,4 @@
-//! The roots of a set.
+//! The roots of a set of nodes.
 ghost use Rattle.std.specs.Prelude.{◌≡◌, ◌<◌, ◌||◌, ℕ, length, IfOk};
 ghost use Rattle.std.specs.List.{list_any};
 ghost use Rattle.guppy_support.specs.Bits.{has};
@@ -11,7 +11,7 @@ use digraph_orders::Order;
 use guppy_support::{Digraph, IxBitSet};
 use std::alloc::{AllocError, Global};
 
-// Notes the component that the edge leaves, if it leads to another.
+// Adds the component of `edge`'s start to `left` if the edge ends in another component.
 fn note(order: &Order, digraph: &Digraph, reading: Reading, edge: usize, left: &mut IxBitSet)
     requires edge { edge < length digraph.now.edges }
     requires order { length order.now.list ≡ digraph.now.nodes }
@@ -29,7 +29,7 @@ fn note(order: &Order, digraph: &Digraph, reading: Reading, edge: usize, left: &
     }
 }
 
-// The components that an edge between members leads out of.
+// Returns the components from which an edge between members leads into another component.
 fn left_components(
     alloc: Global,
     order: &Order,
@@ -50,11 +50,12 @@ fn left_components(
     Ok(left)
 }
 
-/// The roots of the set, in the order of its members of the same reading: each member such that no edge between members
-/// starts in its component and ends outside of it.
+/// Returns the roots among `members`, in the order that `reading` decides. A member is a root if no edge
+/// between members starts in its component and ends outside it.
 ///
-/// So read forward, a root's component depends on no other member; read backward, no other member depends on it. Components
-/// are those of the order. Memory is taken for a bit a component and for the list; the error is want of it.
+/// Read forward, a root's component depends on no other member; read backward, no other member depends on it.
+/// Components are those of `order`. Allocates one bit per component, and the list. `AllocError` is returned
+/// when an allocation fails.
 pub fn roots(
     alloc: Global,
     order: &Order,

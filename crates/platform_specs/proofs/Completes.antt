@@ -1,4 +1,4 @@
--- Whatever has been read as the beginning of an expression, some expression goes on so.
+-- Every beginning of an expression that was read can be completed.
 use Rattle.std.proofs.Common.{◌≡◌, ℕ, ◌⊎◌, Bool, true, false, cond, ◌||◌, List, [], ◌∷◌, ◌++◌, Some, None, refl, ap, ◌∙◌, inl, inr}
 use Rattle.std.specs.Prelude.{codes}
 use Rattle.std.specs.Str.{bytes_eq}
@@ -14,18 +14,18 @@ use Rattle.platform_specs.proofs.Runs.{run_cons}
 use Rattle.platform_specs.proofs.FactRuns.{raw_step, begin_step}
 use Rattle.platform_specs.proofs.ReadRuns.{at_place, settled, settled_fact, settled_step, lift_step, first_step}
 
--- some characters finish the expression
+-- some characters complete the expression
 pub record Completes (r : Reading) : Type 0 where
   pub more : List ℕ
   pub state : Reading
   pub reads : read_run more r ≡ Some state
   pub ends : state.place ≡ finished
 
--- one character before those
+-- one more character in front of those
 complete_by : (c : ℕ) (r s : Reading) → read_step r c ≡ Some s → Completes s → Completes r
 complete_by c r s e k = record { more = c ∷ k.more; state = k.state; reads = run_cons read_step c k.more r s e ∙ k.reads; ends = k.ends }
 
--- where an expression may end, ')' for each open bracket
+-- an expression that may end is completed by ')' for each open bracket
 pub close_all : (ops : List Operator) (place : Place) (ps qs : List Part) → settled place ps ≡ Some qs → Completes (at_place place ops ps)
 close_all [] place ps qs e = record {
   more = 41 ∷ [];
@@ -37,7 +37,7 @@ close_all (op ∷ ops) place ps qs e =
     complete_by 41 (at_place place (op ∷ ops) ps) (at_place closed ops (qs ++ Join op ∷ Close ∷ [])) (settled_step place (op ∷ ops) ps qs 41 refl refl refl e)
     (close_all ops closed (qs ++ Join op ∷ Close ∷ []) _ refl)
 
--- where an expression begins, a name
+-- at the beginning of an expression a name completes it
 begin_completes : (may_close : Bool) (ops : List Operator) (ps : List Part) → Completes (at_place (beginning may_close) ops ps)
 begin_completes may_close ops ps =
     complete_by 97 (at_place (beginning may_close) ops ps) _ (first_step may_close ops ps 97 refl) (close_all ops (item (naming false (97 ∷ []))) ps _ refl)
@@ -51,7 +51,7 @@ operator_found false false false e = cc
 operator_of : (n : List ℕ) → is_operator n ≡ true → (op : Operator) × (operator_named n ≡ Some op)
 operator_of n e = operator_found (bytes_eq n (codes "all")) (bytes_eq n (codes "any")) (bytes_eq n (codes "not")) e
 
--- behind an operator's word, '('
+-- after an operator's word a '(' goes on
 word_completes : (ops : List Operator) (ps : List Part) (s : FactState) (op : Operator) → operator_at s ≡ Some op → Completes (at_place (item s) ops ps)
 word_completes ops ps s op e =
     complete_by 40 (at_place (item s) ops ps) (at_place (beginning (is_list op)) (op ∷ ops) (ps ++ Open op ∷ [])) (ap (past_word ops ps s) e)
@@ -88,7 +88,7 @@ item_completes ops ps (quoted raw n v) =
     (close_all ops (item (whole raw n v)) ps _ refl)
 item_completes ops ps (whole raw n v) = close_all ops (item (whole raw n v)) ps _ refl
 
--- from any place
+-- every position can be completed
 pub completes : (place : Place) (ops : List Operator) (ps : List Part) → Completes (at_place place ops ps)
 completes (beginning may_close) ops ps = begin_completes may_close ops ps
 completes (item s) ops ps = item_completes ops ps s

@@ -9,7 +9,7 @@ use Rattle.platform_specs.specs.Grammar.{AllAre, is_space, begins_name, continue
 use Rattle.platform_specs.specs.FactReading.{FactState, waiting, after_raw, naming, named, valued, quoted, whole, is_taken, past_name, fact_step, fact_end, fact_run}
 use Rattle.platform_specs.proofs.Runs.{run_cons, run_past, run_stays, differs, same_char, continues_ascii, begins_ascii}
 
--- which bare names are no facts
+-- the bare names that are no facts
 abbrev pub reserved_names : Bool → List ℕ → Bool
 reserved_names true = is_operator
 reserved_names false = is_never
@@ -22,7 +22,7 @@ pub taken_raw : (r : Bool) (name : List ℕ) → is_taken r true name ≡ false
 taken_raw true name = refl
 taken_raw false name = refl
 
--- one character
+-- one character of a name
 naming_step : (r raw : Bool) (n : List ℕ) (c : ℕ) → continues_name c ≡ true → fact_step r (naming raw n) c ≡ Some (naming raw (n ++ c ∷ []))
 naming_step r raw n c h =
     ap (λ b. cond b (Some (naming raw (n ++ encode_utf8 c))) (cond (c == 35) (cond (not raw && bytes_eq n (codes "r")) (Some after_raw) None) (past_name r raw n c))) h
@@ -65,7 +65,7 @@ quoted_run r raw n v (c ∷ cs) h =
     ∙ quoted_run r raw n (v ++ encode_utf8 c) cs h.1
     ∙ ap (λ m. Some (quoted raw n m)) (append_assoc v (encode_utf8 c) (encode_utf8_all cs))
 
--- a name, behind `r#` or bare
+-- a name, after `r#` or bare
 pub record NameRead (r : Bool) (name text : List ℕ) : Type 0 where
   pub raw : Bool
   pub reads : fact_run r text waiting ≡ Some (naming raw name)
@@ -89,7 +89,7 @@ name_run r name text h = elim h.1 [
   | inr marked ↦ record { raw = true; reads = ap (λ t. fact_run r t waiting) marked ∙ mark_run r name ∙ raw_run r name h.0; free = taken_raw r name }
 ]
 
--- spaces behind a name
+-- spaces after a name
 pub record GapRead (r raw : Bool) (name gap : List ℕ) : Type 0 where
   pub state : FactState
   pub reads : fact_run r gap (naming raw name) ≡ Some state
@@ -104,21 +104,21 @@ gap_run r raw name (c ∷ cs) h = record {
   is = inr refl;
 }
 
--- '=' behind a name
+-- '=' after a name
 equals_step : (r raw : Bool) (name : List ℕ) (s : FactState) → (s ≡ naming raw name) ⊎ (s ≡ named raw name) → is_taken r raw name ≡ false → fact_step r s 61 ≡ Some (valued raw name)
 equals_step r raw name s is free = elim is [
   | inl e ↦ ap (λ t. fact_step r t 61) e ∙ ap (λ b. cond b None (Some (valued raw name))) free
   | inr e ↦ ap (λ t. fact_step r t 61) e ∙ ap (λ b. cond b None (Some (valued raw name))) free
 ]
 
--- a value behind '='
+-- a value after '='
 value_run : (r raw : Bool) (name gap cs : List ℕ) → AllAre is_space gap → AllAre is_in_string cs
     → fact_run r (gap ++ (codes "\"" ++ (cs ++ codes "\""))) (valued raw name) ≡ Some (whole raw name (encode_utf8_all cs))
 value_run r raw name gap cs g h =
     run_past (fact_step r) gap _ (valued raw name) (valued raw name) (run_stays (fact_step r) is_space (valued raw name) (space_step r (valued raw name) _ refl) gap g)
     ∙ run_past (fact_step r) cs (codes "\"") (quoted raw name []) _ (quoted_run r raw name [] cs h)
 
--- a fact, to where it may end
+-- a fact, up to a position where it may end
 pub record FactRead (r : Bool) (f : FactText) (text : List ℕ) : Type 0 where
   pub state : FactState
   pub reads : fact_run r text waiting ≡ Some state
@@ -145,7 +145,7 @@ item_run r name (Some value) text (word, gap, rest, whole_text, spells, g, (gap'
       ends = refl;
     }
 
--- spaces behind a fact
+-- spaces after a fact
 end_stays : (r : Bool) (f : FactText) (s : FactState) (cs : List ℕ) → fact_end r s ≡ Some f → AllAre is_space cs → (t : FactState) × (fact_run r cs s ≡ Some t) × (fact_end r t ≡ Some f)
 end_stays r f waiting cs e h = cc
 end_stays r f after_raw cs e h = cc
@@ -164,7 +164,7 @@ fact_read r f text h = item_run r f.name f.value text h
 pub fact_end_stays : (r : Bool) (f : FactText) (s : FactState) (cs : List ℕ) → fact_end r s ≡ Some f → AllAre is_space cs → (t : FactState) × (fact_run r cs s ≡ Some t) × (fact_end r t ≡ Some f)
 fact_end_stays = end_stays
 
--- with spaces around it
+-- a fact with spaces around it
 pub spaced_fact_read : (r : Bool) (f : FactText) (text : List ℕ) → Spaced (SpellsFact (reserved_names r) f) text → FactRead r f text
 spaced_fact_read r f text (before, inner, after, parts, b, spells, a) =
     let k = fact_read r f inner spells in

@@ -1,4 +1,4 @@
--- What is read as a fact spells that fact.
+-- The characters that are read as a fact spell that fact.
 use Rattle.std.proofs.Common.{◌≡◌, ℕ, Bool, true, false, cond, not, ◌&&◌, List, [], ◌∷◌, ◌++◌, Option, Some, None, refl, ap, sym, subst, ◌∙◌, inl, inr, append-nil, append_assoc}
 use Rattle.std.specs.Prelude.{◌==◌, codes}
 use Rattle.std.proofs.lemmas.Str.{encode_ascii, encodes-append}
@@ -19,7 +19,7 @@ identifier_snoc : (n : List ℕ) (c : ℕ) → IsIdentifier n → continues_name
 identifier_snoc [] c h t = absurd h
 identifier_snoc (d ∷ ds) c h t = (h.0, all_snoc continues_name ds c h.1 t)
 
--- spaces, and then a text that has P
+-- spaces, then a text with the property `P`
 pub record After (P : List ℕ → Type 0) (p : List ℕ) : Type 0 where
   pub before : List ℕ
   pub word : List ℕ
@@ -37,7 +37,7 @@ after_more P Q p c h more = record {
   has = more h.word h.has;
 }
 
--- how a name is written
+-- the text of a name, raw or bare
 abbrev pub marked : Bool → List ℕ → List ℕ
 marked false n = n
 marked true n = 114 ∷ 35 ∷ n
@@ -96,7 +96,7 @@ to_state r s t p e h = let P : FactState → Type 0 = λ u. LeadsTo r u p in sub
     same : Some s ≡ Some t → s ≡ t
     same k = cc
 
--- no state is behind a character that isn't read
+-- the state after a character that can't be read
 abbrev nothing : Option FactState
 nothing = None
 
@@ -112,7 +112,7 @@ name_sound r raw t p c h e = elim (chosen (begins_name c) _ _ _ e) [
       (after_more (λ w. w ++ c ∷ [] ≡ marked raw (c ∷ [])) (NameText raw (c ∷ [])) p c h (λ w i. record { is_name = (k.0, tt); is = i }))
 ]
 
--- behind a name
+-- a character after a name
 past_name_sound : (r raw : Bool) (n : List ℕ) (t : FactState) (p : List ℕ) (c : ℕ) → After (NamedText raw n) p → past_name r raw n c ≡ Some t → LeadsTo r t (p ++ c ∷ [])
 past_name_sound r raw n t p c h e = elim (chosen (is_space c) _ _ _ e) [
   | inl k ↦ to_state r (named raw n) t _ k.1 (after_more (NamedText raw n) (NamedText raw n) p c h (λ w i. record {
@@ -149,7 +149,7 @@ after_named raw n p h = record {
   has = record { word = h.word; gap = []; parts = sym (append-nil h.word); name = h.has; spaces = tt };
 }
 
--- `r` may be the beginning of `r#`
+-- the name `r` may be the beginning of `r#`
 bare_r : (raw : Bool) (n : List ℕ) → (not raw && bytes_eq n (codes "r")) ≡ true → marked raw n ≡ codes "r"
 bare_r true n e = absurd (clash e)
   where
@@ -207,7 +207,7 @@ valued_sound r raw n t p c h e = elim (chosen (is_space c) _ _ _ e) [
 in_string : (c : ℕ) → (c == 34) ≡ false → is_in_string c ≡ true
 in_string c e = ap (λ b. cond b false true) e
 
--- the words of a fact
+-- the name of a fact is spelled
 pub spells_name : (r raw : Bool) (n w : List ℕ) → NameText raw n w → is_taken r raw n ≡ false → SpellsName (reserved_names r) n w
 spells_name r false n w h free = (h.is_name, inl (h.is, sym (taken_bare r n) ∙ free))
 spells_name r true n w h free = (h.is_name, inr h.is)
@@ -254,7 +254,7 @@ whole_sound r raw n v t p c (before, inner, after, parts, b, spells, a) e = elim
       (before, inner, after ++ c ∷ [], ap (λ l. l ++ c ∷ []) parts ∙ simp append_assoc, b, spells, all_snoc is_space after c a k.0)
 ]
 
--- each character that is read
+-- each step keeps the spelling
 pub step_sound : (r : Bool) (s t : FactState) (p : List ℕ) (c : ℕ) → LeadsTo r s p → fact_step r s c ≡ Some t → LeadsTo r t (p ++ c ∷ [])
 step_sound r waiting t p c h e = elim (chosen (is_space c) _ _ _ e) [
   | inl k ↦ to_state r waiting t _ k.1 (all_snoc is_space p c h k.0)
@@ -274,7 +274,7 @@ run_sound r cs t e = run_keeps (fact_step r) (LeadsTo r) (λ s u front c h k. st
 abbrev no_fact : Option FactText
 no_fact = None
 
--- a name alone
+-- a name without a value
 bare_fact : (r raw : Bool) (n p : List ℕ) (f : FactText) → After (NamedText raw n) p
     → cond (is_taken r raw n) None (Some (record { name = n; value = None })) ≡ Some f → Spaced (SpellsFact (reserved_names r) f) p
 bare_fact r raw n p f h e = elim (chosen (is_taken r raw n) _ _ _ e) [
@@ -289,7 +289,7 @@ bare_fact r raw n p f h e = elim (chosen (is_taken r raw n) _ _ _ e) [
     same : {g : FactText} → Some g ≡ Some f → g ≡ f
     same k = cc
 
--- where a fact may end, the characters spell it
+-- if a fact may end, the characters spell it
 pub end_sound : (r : Bool) (s : FactState) (p : List ℕ) (f : FactText) → LeadsTo r s p → fact_end r s ≡ Some f → Spaced (SpellsFact (reserved_names r) f) p
 end_sound r waiting p f h e = cc
 end_sound r after_raw p f h e = cc

@@ -43,13 +43,13 @@ one_list ([] ∷ ls) fs gs h k = one_list ls fs gs h k
 one_list ((b ∷ bs) ∷ ls) fs gs (f, fs', fs_is, f_line, fs_lines) (g, gs', gs_is, g_line, gs_lines) =
     fs_is ∙ ap (λ x. x ∷ fs') (one_line (b ∷ bs) f g f_line g_line) ∙ ap (λ xs. g ∷ xs) (one_list ls fs' gs' fs_lines gs_lines) ∙ sym gs_is
 
--- a triple and a cfg text make at most one target
+-- a triple and a cfg text describe at most one target
 pub one_target : (triple text : List ℕ) (s t : Target) → IsTarget triple text s → IsTarget triple text t → s ≡ t
 one_target triple text s t h k =
     ap (λ x. record { triple = x; facts = s.facts }) (h.0 ∙ sym k.0)
     ∙ ap (λ xs. record { triple = t.triple; facts = xs }) (one_list (lines_of text) s.facts t.facts h.1 k.1)
 
--- a line on which the reader stopped
+-- a line at which the reader stops spells no fact
 pub stopped_line : (line : List ℕ) (left : ℕ) → Stopped (fact_step false) waiting line left → (f : FactText) → SpellsLine f line → ⊥
 stopped_line line left h f k =
     let a : FactRead false f (chars line) = spaced_fact_read false f (chars line) k in
@@ -61,7 +61,7 @@ stopped_line line left h f k =
     none : Option FactState
     none = None
 
--- a line that was read
+-- a line that was read spells the fact at its end, or none
 pub ended_line : (line : List ℕ) (s : FactState) (o : Option FactText) → ReadAll (fact_step false) waiting line s → o ≡ fact_end false s
     → MatchOption o ((f : FactText) → SpellsLine f line → ⊥) (λ f. SpellsLine f line)
 ended_line line s (Some f) h e = end_sound false s (chars line) f (run_sound false (chars line) s h.reads) (sym e)
@@ -77,7 +77,7 @@ ended_line line s None h e = λ f k.
     same : {t : FactState} → Some s ≡ Some t → s ≡ t
     same q = cc
 
--- the facts so far, and the number of lines that are read
+-- the facts so far, and the number of lines that were read
 pub record LinesRead (ls rest : List (List ℕ)) (number : ℕ) (facts : List FactText) : Type 0 where
   pub on : (tail : List FactText) → SpellsLines rest tail → SpellsLines ls (facts ++ tail)
   pub fault : (n : ℕ) → IsFirstMalformed rest n → IsFirstMalformed ls (number + n)
@@ -112,7 +112,7 @@ malformed_line ls rest line number facts h n k = h.fault 1 (inl (refl, (n, k)))
 pub all_lines : (ls : List (List ℕ)) (number : ℕ) (facts : List FactText) → LinesRead ls [] number facts → SpellsLines ls facts
 all_lines ls number facts h = let P : List FactText → Type 0 = λ xs. SpellsLines ls xs in subst P (append-nil facts) (h.on [] refl)
 
--- a target that is spelled is read, unless memory runs out
+-- lines that spell facts have no malformed line
 no_fault : (ls : List (List ℕ)) (fs : List FactText) (n : ℕ) → SpellsLines ls fs → IsFirstMalformed ls n → ⊥
 no_fault [] fs n h k = k
 no_fault ([] ∷ ls) fs n h (inl k) = k.1.0 refl
@@ -126,12 +126,12 @@ only_target triple text (Ok found) h k t s = inl (ap Ok (one_target triple text 
 only_target triple text (Err Memory) h k t s = inr refl
 only_target triple text (Err (Malformed line)) h k t s = absurd (no_fault (lines_of text) t.facts line s.1 k)
 
--- the bytes that are left, and one for the line that they begin
+-- the number of remaining bytes, plus one for the line that they begin
 abbrev pub size_left : Option (Bor (List ℕ)) → ℕ
 size_left None = 0
 size_left (Some rest) = length rest.now + 1
 
--- a line that was read
+-- one more line was read
 pub line_next : (ls rest : List (List ℕ)) (line : List ℕ) (number : ℕ) (old new : List FactText) → LinesRead ls (line ∷ rest) number old → ReadsLine true line old new → LinesRead ls rest (number + 1) new
 line_next ls rest line number old new h (inl k) = let P : List FactText → Type 0 = λ xs. LinesRead ls rest (number + 1) xs in subst P (sym k.1) (empty_line ls rest line number old h k.0)
 line_next ls rest line number old new h (inr k) = let P : List FactText → Type 0 = λ xs. LinesRead ls rest (number + 1) xs in subst P (sym k.1.2) (fact_line ls rest line number old k.1.0 h k.0 k.1.1)
@@ -139,11 +139,11 @@ line_next ls rest line number old new h (inr k) = let P : List FactText → Type
 pub line_fault : (ls rest : List (List ℕ)) (line : List ℕ) (number : ℕ) (old new : List FactText) → LinesRead ls (line ∷ rest) number old → ReadsLine false line old new → IsFirstMalformed ls (number + 1)
 line_fault ls rest line number old new h k = malformed_line ls rest line number old h k.0 k.1
 
--- a text without a line feed
+-- a text without a line feed is one piece
 pub one_part : (bs : List ℕ) → position_or_len (λ b. b == 10) bs ≡ length bs → slice_split (λ b. b == 10) bs ≡ bs ∷ []
 one_part bs e = slice_split_none (λ b. b == 10) bs (λ k d lt. fails_before_first (λ b. b == 10) bs k d (omega (arith, e, lt)))
 
--- what stands before the first line feed, and what follows it
+-- the text before the first line feed, and the text after it
 pub first_pieces : (bs line rest : List ℕ) → position_or_len (λ b. b == 10) bs < length bs → line ≡ before_first (λ b. b == 10) bs → rest ≡ after_first (λ b. b == 10) bs
     → slice_split (λ b. b == 10) bs ≡ line ∷ slice_split (λ b. b == 10) rest
 first_pieces bs line rest lt a b = slice_split_first (λ b. b == 10) bs 0 lt ∙ ap (λ l. l ∷ slice_split (λ b. b == 10) (after_first (λ b. b == 10) bs)) (sym a) ∙ ap (λ l. line ∷ slice_split (λ b. b == 10) l) (sym b)
@@ -152,11 +152,11 @@ lines_of_pieces : (r : Option (Bor (List ℕ))) → map without_return (pieces_b
 lines_of_pieces None = refl
 lines_of_pieces (Some rest) = refl
 
--- the first line, and those behind it
+-- the first line, and the lines after it
 pub first_lines : (bs piece line : List ℕ) (rest : Option (Bor (List ℕ))) → slice_split (λ b. b == 10) bs ≡ piece ∷ pieces_behind rest → line ≡ without_return piece → lines_of bs ≡ line ∷ lines_behind rest
 first_lines bs piece line rest e w = ap (map without_return) e ∙ ap (λ l. without_return piece ∷ l) (lines_of_pieces rest) ∙ ap (λ l. l ∷ lines_behind rest) (sym w)
 
--- the carriage return at the end of a line
+-- the carriage return at the end of a line is removed
 taken : (rest : List ℕ) → without_return (rest ++ 13 ∷ []) ≡ rest
 taken [] = refl
 taken (b ∷ []) = refl
@@ -173,7 +173,7 @@ return_lacking [] n = refl
 return_lacking (b ∷ []) n = no_return b n
 return_lacking (b ∷ c ∷ bs) n = ap (λ l. b ∷ l) (return_lacking (c ∷ bs) (λ front e. n (b ∷ front) (ap (λ l. b ∷ l) e)))
 
--- a turn of the loop over lines
+-- one turn of the loop over lines
 pub lines_step : (ls : List (List ℕ)) (r : Option (Bor (List ℕ))) (current : Bor (List ℕ)) (line : List ℕ) (behind : Option (Bor (List ℕ))) (number : ℕ) (old new : List FactText) (is_read : Bool)
     → LinesRead ls (lines_behind r) number old → r ≡ Some current → lines_of current.now ≡ line ∷ lines_behind behind → ReadsLine is_read line old new → is_read ≡ true
     → LinesRead ls (lines_behind behind) (number + 1) new

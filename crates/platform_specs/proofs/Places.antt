@@ -1,4 +1,4 @@
--- How far a reader is in a text.
+-- The position of a reader in a text.
 use Rattle.std.proofs.Common.{◌≡◌, ℕ, ◌≤◌, List, [], ◌∷◌, ◌++◌, length, Option, Some, None, refl, ap, sym, ◌∙◌, append_assoc, append-nil, arith, length-append}
 use Rattle.std.proofs.lemmas.Str.{encodes-chars, cons_from_encodes, length-le-encodes, encodes-append}
 use Rattle.std.specs.Char.{encode_utf8}
@@ -8,7 +8,7 @@ use Rattle.platform_specs.specs.Positions.{Stopped, ReadAll}
 use Rattle.platform_specs.proofs.Runs.{run_cons, run_past}
 
 module _ {S : Type 0} (step : S → ℕ → Option S) (start : S) where
-  -- the reader has read all but the rest, which has `left` bytes
+  -- the reader has read all but `rest`, which has `left` bytes
   pub record At (text rest : List ℕ) (left : ℕ) (state : S) : Type 0 where
     pub front : List ℕ
     pub cs : List ℕ

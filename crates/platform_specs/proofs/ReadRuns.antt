@@ -18,7 +18,7 @@ use Rattle.platform_specs.proofs.FactRuns.{FactRead, fact_read, fact_end_stays, 
 abbrev pub at_place : Place → List Operator → List Part → Reading
 at_place place ops ps = record { place = place; open_ones = ops; parts = ps }
 
--- the parts, where an expression may end
+-- the parts, if the expression may end here
 abbrev pub settled_fact : List Part → Option FactText → Option (List Part)
 settled_fact ps None = None
 settled_fact ps (Some f) = Some (ps ++ leaf f ∷ [])
@@ -29,7 +29,7 @@ settled (item s) ps = settled_fact ps (fact_end true s)
 settled closed ps = Some ps
 settled finished ps = None
 
--- a fact doesn't go on where something else is meant
+-- no fact goes on with a '(' after an operator's word
 op_stuck : (s : FactState) (op : Operator) → operator_at s ≡ Some op → fact_step true s 40 ≡ None
 op_stuck waiting op e = cc
 op_stuck after_raw op e = cc
@@ -68,7 +68,7 @@ lift_end : (s t : FactState) (ops : List Operator) (ps : List Part) (c : ℕ) �
 lift_end s t ops ps c stuck None h e = ap (in_item ops ps) e
 lift_end s t ops ps c stuck (Some f) h e = let k = stuck f h in cc
 
--- an expression goes on with what its fact goes on with
+-- a step of the fact is a step of the expression
 pub lift_step : (ops : List Operator) (ps : List Part) (s t : FactState) (c : ℕ) → fact_step true s c ≡ Some t → step_at (item s) ops ps c ≡ Some (at_place (item t) ops ps)
 lift_step ops ps s t c e =
     let P : ℕ → Type 0 = λ d. fact_step true s d ≡ Some t → step_at (item s) ops ps d ≡ Some (at_place (item t) ops ps) in
@@ -129,7 +129,7 @@ word_begins may_close ops ps text s h e =
     ∙ lift_run ops ps h.cs (naming false (h.c ∷ [])) s
     (sym (run_cons (fact_step true) h.c h.cs waiting _ (begin_step true h.c h.begins)) ∙ ap (λ t. fact_run true t waiting) (sym h.is) ∙ e)
 
--- an operator's word
+-- the word of an operator
 abbrev pub word_of : Operator → List ℕ
 word_of All = codes "all"
 word_of Any = codes "any"
@@ -146,7 +146,7 @@ open_step ops ps All s is = elim is [ inl e ↦ ap (λ t. step_at (item t) ops p
 open_step ops ps Any s is = elim is [ inl e ↦ ap (λ t. step_at (item t) ops ps 40) e | inr e ↦ ap (λ t. step_at (item t) ops ps 40) e ]
 open_step ops ps Not s is = elim is [ inl e ↦ ap (λ t. step_at (item t) ops ps 40) e | inr e ↦ ap (λ t. step_at (item t) ops ps 40) e ]
 
--- an operator's word and '('
+-- an operator's word and '(' are read
 pub open_read : (may_close : Bool) (ops : List Operator) (ps : List Part) (op : Operator) (gap rest : List ℕ) → AllAre is_space gap
     → read_run (word_of op ++ (gap ++ (40 ∷ rest))) (at_place (beginning may_close) ops ps) ≡ read_run rest (at_place (beginning (is_list op)) (op ∷ ops) (ps ++ Open op ∷ []))
 open_read may_close ops ps op gap rest g =
@@ -156,7 +156,7 @@ open_read may_close ops ps op gap rest g =
     ∙ run_past read_step gap (40 ∷ rest) _ _ (lift_run ops ps gap (naming false (word_of op)) k.state k.reads)
     ∙ run_cons read_step 40 rest (at_place (item k.state) ops ps) _ (open_step ops ps op k.state k.is)
 
--- ',' or ')' where an expression may end
+-- ',' or ')' after an expression that may end
 settled_past_fact : (ops : List Operator) (ps qs : List Part) (s : FactState) (c : ℕ) (o : Option FactText) → settled_fact ps o ≡ Some qs → past_fact ops ps s c o ≡ past_part ops qs c
 settled_past_fact ops ps qs s c None e = cc
 settled_past_fact ops ps qs s c (Some f) e = ap (λ l. past_part ops l c) (same e)
@@ -178,14 +178,14 @@ settled_step closed ops ps qs c f t n e =
     same k = cc
 settled_step finished ops ps qs c f t n e = cc
 
--- an expression read, to where it may end
+-- an expression was read, up to a position where it may end
 pub record Ended (text : List ℕ) (may_close : Bool) (ops : List Operator) (ps qs : List Part) : Type 0 where
   pub place : Place
   pub left : List Part
   pub reads : read_run text (at_place (beginning may_close) ops ps) ≡ Some (at_place place ops left)
   pub settles : settled place left ≡ Some qs
 
--- spaces behind an expression
+-- spaces after an expression
 settled_spaces_fact : (ops : List Operator) (ps qs : List Part) (s : FactState) (cs : List ℕ) → AllAre is_space cs → (o : Option FactText) → fact_end true s ≡ o → settled_fact ps o ≡ Some qs
     → (place : Place) × (read_run cs (at_place (item s) ops ps) ≡ Some (at_place place ops ps)) × (settled place ps ≡ Some qs)
 settled_spaces_fact ops ps qs s cs a None h e = cc
@@ -220,7 +220,7 @@ spaced_read P text may_close ops ps qs one (before, inner, after, parts, b, h, a
       settles = l.2;
     }
 
--- a fact or a constant
+-- a fact or a constant is read
 leaf_read : (f : FactText) (text : List ℕ) (may_close : Bool) (ops : List Operator) (ps : List Part) (p : Part) → SpellsFact is_operator f text → leaf f ≡ p → Ended text may_close ops ps (ps ++ p ∷ [])
 leaf_read f text may_close ops ps p h e =
     let k : FactRead true f text = fact_read true f text h in
@@ -240,7 +240,7 @@ comma_past ops ps All h = refl
 comma_past ops ps Any h = refl
 comma_past ops ps Not h = cc
 
--- an operator over what its brackets hold
+-- an operator with its brackets is read
 applied_read : (op : Operator) (P : List ℕ → Type 0) (text : List ℕ) (may_close : Bool) (ops : List Operator) (ps qs : List Part)
     → ((inner : List ℕ) → P inner → read_run (inner ++ codes ")") (at_place (beginning (is_list op)) (op ∷ ops) (ps ++ Open op ∷ [])) ≡ Some (at_place closed ops qs))
     → Applied (word_of op) P text → Ended text may_close ops ps qs
@@ -253,14 +253,14 @@ applied_read op P text may_close ops ps qs one (gap, inner, parts, g, h) = recor
   settles = refl;
 }
 
--- the ')' behind the last part
+-- the ')' after the last part
 bracket_read : (op : Operator) (inner : List ℕ) (may_close : Bool) (ops : List Operator) (ps qs : List Part) → Ended inner may_close (op ∷ ops) ps qs
     → read_run (inner ++ codes ")") (at_place (beginning may_close) (op ∷ ops) ps) ≡ Some (at_place closed ops (qs ++ Join op ∷ Close ∷ []))
 bracket_read op inner may_close ops ps qs k =
     run_past read_step inner (codes ")") _ _ k.reads
     ∙ run_cons read_step 41 [] (at_place k.place (op ∷ ops) k.left) _ (settled_step k.place (op ∷ ops) k.left qs 41 refl refl refl k.settles)
 
--- the last part of a list, and a part with a ',' behind it
+-- the last part of a list, and a part with a ',' after it
 last_read : (op : Operator) (e : Expression) (ops : List Operator) (ps : List Part) (first : List ℕ) → Ended first true (op ∷ ops) ps (ps ++ parts_of e)
     → read_run ((first ++ []) ++ codes ")") (at_place (beginning true) (op ∷ ops) ps) ≡ Some (at_place closed ops (ps ++ (joined op (part e no_more) ++ Close ∷ [])))
 last_read op e ops ps first k =
@@ -286,7 +286,7 @@ none_read : (op : Operator) (inner : List ℕ) (ops : List Operator) (ps : List 
 none_read op inner ops ps h =
     run_past read_step inner (codes ")") _ _ (run_stays read_step is_space (at_place (beginning true) (op ∷ ops) ps) (beginning_space true (op ∷ ops) ps) inner h)
 
--- what follows a part: nothing, or ',' and the other parts
+-- a part, then nothing or ',' and the other parts
 part_read : (op : Operator) (e : Expression) (es : Expressions) (inner first rest : List ℕ) (ops : List Operator) (ps : List Part) → is_list op ≡ true → inner ≡ first ++ rest
     → Ended first true (op ∷ ops) ps (ps ++ parts_of e)
     → ((more : List ℕ) (qs : List Part) → SpellsParts es more → read_run (more ++ codes ")") (at_place (beginning true) (op ∷ ops) qs) ≡ Some (at_place closed ops (qs ++ (joined op es ++ Close ∷ []))))
@@ -325,7 +325,7 @@ mutual
       (λ more qs k. parts_read es op more ops qs list k)
       after
 
--- the whole expression, and the ')' behind it
+-- the whole expression, and the ')' after it
 pub expression_read : (e : Expression) (inner : List ℕ) → Spaced (Spells e) inner → read_run (inner ++ codes ")") at_first ≡ Some (at_place finished [] (parts_of e))
 expression_read e inner h =
     let k : Ended inner false [] [] (parts_of e) = spaced_read (Spells e) inner false [] [] _ (λ t l. spells_read e t false [] [] l) h in

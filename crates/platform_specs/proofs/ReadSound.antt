@@ -1,4 +1,4 @@
--- What is read as an expression spells that expression.
+-- The characters that are read as an expression spell that expression.
 use Rattle.std.proofs.Common.{◌≡◌, ℕ, Bool, true, false, cond, ◌||◌, List, [], ◌∷◌, ◌++◌, Option, Some, None, refl, ap, sym, subst, ◌∙◌, inl, inr, append-nil, append_assoc}
 use Rattle.std.specs.Prelude.{◌==◌, codes}
 use Rattle.std.specs.Str.{bytes_eq}
@@ -22,7 +22,7 @@ abbrev pub snoc : Expressions → Expression → Expressions
 snoc no_more e = part e no_more
 snoc (part d es) e = part d (snoc es e)
 
--- expressions with a ',' behind each
+-- expressions with a ',' after each
 abbrev pub ListSoFar : Expressions → List ℕ → Type 0
 ListSoFar no_more text = text ≡ []
 ListSoFar (part e es) text = (first rest : List ℕ) × (text ≡ first ++ (44 ∷ rest)) × Spaced (Spells e) first × ListSoFar es rest
@@ -46,14 +46,14 @@ joined_snoc : (op : Operator) (es : Expressions) (e : Expression) → joined op 
 joined_snoc op no_more e = refl
 joined_snoc op (part d es) e = ap (λ l. parts_of d ++ (Join op ∷ l)) (joined_snoc op es e) ∙ sym (append_assoc (parts_of d) (Join op ∷ joined op es) (parts_of e ++ Join op ∷ []))
 
--- what stands behind an operator's '(' where an expression may begin
+-- the text after an operator's '(' where an expression may begin
 abbrev pub InBrackets : Operator → Expressions → List ℕ → Type 0
 InBrackets All es items = ListSoFar es items
 InBrackets Any es items = ListSoFar es items
 InBrackets Not no_more items = items ≡ []
 InBrackets Not (part e es) items = ⊥
 
--- Outer, and then an operator's word, '(' and what stands behind it
+-- text with the property `Outer`, then an operator's word, '(' and the text after it
 pub record Inside (op : Operator) (Outer : List ℕ → List Part → Type 0) (p : List ℕ) (ps : List Part) : Type 0 where
   pub front : List ℕ
   pub before : List ℕ
@@ -68,7 +68,7 @@ pub record Inside (op : Operator) (Outer : List ℕ → List Part → Type 0) (p
   pub gap_spaces : AllAre is_space gap
   pub list : InBrackets op so_far items
 
--- an expression may begin behind the characters, where these brackets are open
+-- an expression may begin after the characters, with these brackets open
 abbrev pub Ready : List Operator → List ℕ → List Part → Type 0
 Ready [] p ps = (p ≡ []) × (ps ≡ [])
 Ready (op ∷ ops) p ps = Inside op (Ready ops) p ps
@@ -92,7 +92,7 @@ pub record InItem (s : FactState) (ops : List Operator) (ps : List Part) (p : Li
   pub ready : Ready ops front ps
   pub leads : LeadsTo true s word
 
--- an expression ends
+-- an expression ends here
 pub record Done (ops : List Operator) (qs : List Part) (p : List ℕ) : Type 0 where
   pub front : List ℕ
   pub text : List ℕ
@@ -142,7 +142,7 @@ regroup_join outer j e o m = simp append_assoc
 regroup_close : (outer j e : List Part) (o m n : Part) → ((outer ++ (o ∷ j)) ++ e) ++ m ∷ n ∷ [] ≡ outer ++ (o ∷ ((j ++ (e ++ m ∷ [])) ++ n ∷ []))
 regroup_close outer j e o m n = simp append_assoc
 
--- ',' behind a part of a list
+-- ',' after a part of a list
 comma_ready : (op : Operator) (ops : List Operator) (qs : List Part) (p : List ℕ) → is_list op ≡ true → Done (op ∷ ops) qs p → Ready (op ∷ ops) (p ++ 44 ∷ []) (qs ++ Join op ∷ [])
 comma_ready op ops qs p list d = let i = d.ready in record {
   front = i.front;
@@ -165,7 +165,7 @@ comma_ready op ops qs p list d = let i = d.ready in record {
     more Any es e items t k h s = list_more es e items t h s
     more Not es e items t k h s = cc
 
--- ')' behind a part
+-- ')' after a part
 bracket_spells : (op : Operator) (es : Expressions) (e : Expression) (gap items t : List ℕ) → AllAre is_space gap → InBrackets op es items → Spaced (Spells e) t
     → Spells (applied op (snoc es e)) (word_of op ++ (gap ++ (40 ∷ ((items ++ t) ++ codes ")"))))
 bracket_spells All es e gap items t g h s = (gap, items ++ t, refl, g, list_end es e items t h s)
@@ -231,7 +231,7 @@ part_past ops qs p c r d e =
       ]
     ]
 
--- ')' behind a ',' or '('
+-- ')' after a ',' or '('
 list_spells : (op : Operator) (es : Expressions) (gap items s : List ℕ) → is_list op ≡ true → AllAre is_space gap → InBrackets op es items → AllAre is_space s
     → Spells (applied op es) (word_of op ++ (gap ++ (40 ∷ ((items ++ s) ++ codes ")"))))
 list_spells All es gap items s k g h a = (gap, items ++ s, refl, g, list_spaces es items s h a)
@@ -268,7 +268,7 @@ list_read : (ops : List Operator) (ps : List Part) (p : List ℕ) (r : Reading) 
 list_read [] ps p r b e = cc
 list_read (op ∷ ops) ps p r b e = to_reading _ r _ e (list_done op ops ps p b)
 
--- an operator's word, by its name
+-- the operator's name is its word
 named_word : (n : List ℕ) (op : Operator) → operator_named n ≡ Some op → n ≡ word_of op
 named_word n op e = elim (chosen (bytes_eq n (codes "all")) _ _ _ e) [
   | inl k ↦ (bytes_eq-Decides n (codes "all")).0 k.0 ∙ ap word_of (same k.1)
@@ -461,7 +461,7 @@ place_read closed ops ps p c r h e = elim (chosen (is_space c) _ _ _ e) [
 ]
 place_read finished ops ps p c r h e = cc
 
--- what has been read, behind any characters
+-- after any characters that can be read, the reader's state says how they are spelled
 pub read_sound : (cs : List ℕ) (r : Reading) → read_run cs at_first ≡ Some r → IsRead r cs
 read_sound cs r e = run_keeps read_step IsRead (λ s t front c h k. place_read s.place s.open_ones s.parts front c t h k) cs [] at_first r
     (record { front = []; gap = []; parts = refl; ready = (refl, refl); spaces = tt; closes = refl }) e

@@ -16,12 +16,12 @@ module _ {S : Type 0} (step : S → ℕ → Option S) where
   past_option cs b u rest None e = cc
   past_option cs b u rest (Some s) e = rest s e
 
-  -- a run over two parts, by a run over the first
+  -- a run over two texts, from the run over the first
   pub run_past : (a b : List ℕ) (s u : S) → run step a s ≡ Some u → run step (a ++ b) s ≡ run step b u
   run_past [] b s u e = cc
   run_past (c ∷ cs) b s u e = past_option cs b u (λ t. run_past cs b t u) (step s c) e
 
-  -- characters that change nothing
+  -- characters that don't change the state
   pub run_stays : (p : ℕ → Bool) (s : S) → ((c : ℕ) → p c ≡ true → step s c ≡ Some s) → (cs : List ℕ) → AllAre p cs → run step cs s ≡ Some s
   run_stays p s one [] h = refl
   run_stays p s one (c ∷ cs) h = run_cons c cs s s (one c h.0) ∙ run_stays p s one cs h.1
@@ -32,7 +32,7 @@ module _ {S : Type 0} (step : S → ℕ → Option S) where
   keeps_option P c cs front u rest None one e = cc
   keeps_option P c cs front u rest (Some t) one e = let P' : List ℕ → Type 0 = λ l. P u l in subst P' (append_assoc front (c ∷ []) cs) (rest t (one t refl) e)
 
-  -- what each step keeps of the characters so far, a run keeps
+  -- a property that each step keeps is kept by a run
   pub run_keeps : (P : S → List ℕ → Type 0) → ((s t : S) (front : List ℕ) (c : ℕ) → P s front → step s c ≡ Some t → P t (front ++ c ∷ []))
       → (cs front : List ℕ) (s u : S) → P s front → run step cs s ≡ Some u → P u (front ++ cs)
   run_keeps P one [] front s u h e = let P' : List ℕ → Type 0 = λ l. P u l in subst P' (sym (append-nil front)) (let Q : S → Type 0 = λ v. P v front in subst Q (some_same e) h)
@@ -42,14 +42,14 @@ module _ {S : Type 0} (step : S → ℕ → Option S) where
   run_keeps P one (c ∷ cs) front s u h e =
       keeps_option P c cs front u (λ t k r. run_keeps P one cs (front ++ c ∷ []) t u k r) (step s c) (λ t k. one s t front c h k) e
 
--- a character that passes the test isn't one that fails it
+-- a character that passes a test differs from one that fails it
 pub differs : (p : ℕ → Bool) (d c : ℕ) → p d ≡ false → p c ≡ true → (c == d) ≡ false
 differs p d c f t = elim (eqb_tells c d) [ inl h ↦ absurd (clash (sym t ∙ ap p h.1 ∙ f)) | inr h ↦ h.0 ]
   where
     clash : true ≡ false → ⊥
     clash e = cc
 
--- which way a choice went
+-- the branch that a choice took
 pub chosen : {A : Type 0} (b : Bool) (x y z : A) → cond b x y ≡ z → ((b ≡ true) × (x ≡ z)) ⊎ ((b ≡ false) × (y ≡ z))
 chosen true x y z e = inl (refl, e)
 chosen false x y z e = inr (refl, e)
@@ -60,7 +60,7 @@ same_char c d t = elim (eqb_tells c d) [ inl h ↦ h.1 | inr h ↦ absurd (clash
     clash : true ≡ false → ⊥
     clash e = cc
 
--- characters of names are ASCII
+-- the characters of names are ASCII
 pub continues_ascii : (c : ℕ) → continues_name c ≡ true → c < 128
 continues_ascii c t = grind (arith, nat_tests)
 
@@ -85,7 +85,7 @@ run_lifts step step' other one [] s u e = ap Some (ap other (same e))
 run_lifts step step' other one (c ∷ cs) s u e =
     lifts_option step step' other one c cs s u (λ t k. run_lifts step step' other one cs t u k) (step s c) refl e
 
--- what a reader returned
+-- a reader that returned true went on
 pub went : {S : Type 0} (b : Bool) (next : Option S) (now : S) → GoesOn b next now → b ≡ true → next ≡ Some now
 went true next now h e = h
 went false next now h e = cc

@@ -1,4 +1,4 @@
--- The texts of specs: what is read is what they spell, and nothing else is spelled.
+-- The texts of specs: the reader returns exactly the specs that they spell.
 use Rattle.std.proofs.Common.{◌≡◌, ℕ, ◌-◌, ◌⊎◌, Bool, true, false, cond, List, [], ◌∷◌, ◌++◌, length, Option, Some, None, refl, ap, sym, subst, ◌∙◌, inl, inr, append_assoc, append-nil, arith, length-append}
 use Rattle.std.specs.Prelude.{codes, Result, Ok, Err, IfOk, IfErr}
 use Rattle.std.proofs.lemmas.Str.{encodes-chars, encodes-append, chars-append, IsUtf8-from_is_utf8}
@@ -29,7 +29,7 @@ use Rattle.platform_specs.proofs.ReadRuns.{expression_read, at_place}
 use Rattle.platform_specs.proofs.ReadSound.{Whole, ReadAt, read_sound}
 use Rattle.platform_specs.proofs.Completes.{Completes, completes}
 
--- '(' is in no name of a platform; 'c', 'f' and 'g' may be
+-- '(' is in no platform name; 'c', 'f' and 'g' may be
 not_in_platform : is_in_platform 40 ≡ false
 unfolding is_alphabetic is_numeric in_ranges alphabetic_ranges numeric_ranges
 not_in_platform = refl
@@ -57,7 +57,7 @@ cfg_own_chars = refl
 same_reading : (a b : Reading) → Some a ≡ Some b → a ≡ b
 same_reading a b q = cc
 
--- two expressions of one text are one
+-- one text spells one expression
 same_parts : (a b : Expression) (x y : List ℕ) → x ≡ y → Spaced (Spells a) x → Spaced (Spells b) y → a ≡ b
 same_parts a b x y e h k =
     let p : Some (at_place finished [] (parts_of a)) ≡ Some (at_place finished [] (parts_of b)) =
@@ -75,7 +75,7 @@ last_same (a ∷ xs) (b ∷ ys) c e = let k = last_same xs ys c (tails e) in let
     tails : a ∷ (xs ++ c ∷ []) ≡ b ∷ (ys ++ c ∷ []) → xs ++ c ∷ [] ≡ ys ++ c ∷ []
     tails q = cc
 
--- a name has no '('
+-- a platform name has no '('
 no_bracket : (front rest : List ℕ) → AllAre is_in_platform (99 ∷ 102 ∷ 103 ∷ 40 ∷ rest) → ⊥
 no_bracket front rest h = let e : true ≡ false = sym h.1.1.1.0 ∙ not_in_platform in cc
 
@@ -85,18 +85,18 @@ cfg_no_name text inner e h = no_bracket [] inner (let P : List ℕ → Type 0 = 
 behind : {x y : List ℕ} → codes "cfg(" ++ x ≡ codes "cfg(" ++ y → x ≡ y
 behind e = cc
 
--- THE GRAMMAR IS UNAMBIGUOUS
+-- the grammar is unambiguous
 pub one_spec : (text : List ℕ) (a b : Spec) → SpellsSpec a text → SpellsSpec b text → a ≡ b
 one_spec text (platform m) (platform n) h k = ap platform (h.1 ∙ sym k.1)
 one_spec text (platform m) (cfg e) h k = absurd (cfg_no_name text (k.0 ++ codes ")") k.1 h.0)
 one_spec text (cfg e) (platform m) h k = absurd (cfg_no_name text (h.0 ++ codes ")") h.1 k.0)
 one_spec text (cfg a) (cfg b) h k = ap cfg (same_parts a b h.0 k.0 (last_same h.0 k.0 41 (behind (sym h.1 ∙ k.1))) h.2 k.2)
 
--- the characters of a text behind `cfg(`
+-- the characters of a text after `cfg(`
 pub cfg_chars : (text rest : List ℕ) → text ≡ codes "cfg(" ++ rest → chars text ≡ codes "cfg(" ++ chars rest
 cfg_chars text rest e = ap chars e ∙ chars-append (codes "cfg(") rest (IsUtf8-from_is_utf8 (codes "cfg(") cfg_is_utf8) ∙ ap (λ l. l ++ chars rest) cfg_own_chars
 
--- what was read behind `cfg(`
+-- the expression read after `cfg(` is the text's spec
 pub found_cfg : (text rest : List ℕ) (ps : List Part) → text ≡ codes "cfg(" ++ rest → SpelledBy rest ps → IsSpecText text (cfg (expression_of ps))
 found_cfg text rest ps e h = (h.inner, cfg_chars text rest e ∙ ap (λ l. codes "cfg(" ++ l) h.parts, h.spells)
 
@@ -112,7 +112,7 @@ spelled_by text r e f =
       marks = ap parts_of back ∙ sym w.marks;
     }
 
--- what has been read begins a spec
+-- the text of some spec begins with the characters that were read
 begins_cfg : (front : List ℕ) (r : Reading) → read_run front at_first ≡ Some r → BeginsSpec (codes "cfg(" ++ front)
 begins_cfg front r e =
     let k : Completes r = completes r.place r.open_ones r.parts in
@@ -121,7 +121,7 @@ begins_cfg front r e =
     let w : Whole k.state.parts (front ++ k.more) = subst P k.ends (read_sound (front ++ k.more) k.state all) in
     (k.more, cfg w.e, (w.inner, ap (λ l. codes "cfg(" ++ l) w.parts, w.spells))
 
--- what can't be read on begins none
+-- if the reader can't go on, no spec's text does
 ends_cfg : (front more : List ℕ) (c : ℕ) (r : Reading) (spec : Spec) → read_run front at_first ≡ Some r → read_step r c ≡ None → SpellsSpec spec (codes "cfg(" ++ (front ++ c ∷ more)) → ⊥
 ends_cfg front more c r (platform name) e n h = no_bracket [] (front ++ c ∷ more) h.0
 ends_cfg front more c r (cfg x) e n (inner, parts, h) =
@@ -175,7 +175,7 @@ unfinished_cfg text rest u e h =
       unread = λ spec k. unfinished_spec (chars rest) h.state spec h.reads h.open_yet (let P : List ℕ → Type 0 = SpellsSpec spec in subst P (cfg_chars text rest e) k);
     }
 
--- names of platforms
+-- a text whose characters are all read is a platform name
 name_option : (c : ℕ) (cs : List ℕ) → (run platform_step cs tt ≡ Some tt → AllAre is_in_platform cs) → (b : Bool) → is_in_platform c ≡ b
     → option_and_then (run platform_step cs) (cond b (Some tt) None) ≡ Some tt → AllAre is_in_platform (c ∷ cs)
 name_option c cs rest true t k = (t, rest k)
@@ -192,7 +192,7 @@ all_middle : (front more : List ℕ) (c : ℕ) → AllAre is_in_platform (front 
 all_middle [] more c h = h.0
 all_middle (d ∷ ds) more c h = all_middle ds more c h.1
 
--- where `cfg(` begins behind characters of a name
+-- a text that leaves the platform names inside `cfg(` does so at its '('
 cfg_front : (front more ys : List ℕ) (c : ℕ) → AllAre is_in_platform front → is_in_platform c ≡ false → front ++ c ∷ more ≡ codes "cfg(" ++ ys → (front ≡ codes "cfg") × (c ≡ 40)
 cfg_front [] more ys c h n e = absurd (clash c_in_platform n (firsts e))
   where
@@ -243,7 +243,7 @@ fails : (b : Bool) → read_if b ≡ not_read → b ≡ false
 fails true e = cc
 fails false e = refl
 
--- the character is not one of a name
+-- a character that can't be read isn't one of a platform name
 stops_at : (c : ℕ) → platform_step tt c ≡ None → is_in_platform c ≡ false
 stops_at c e = fails (is_in_platform c) e
 
@@ -268,7 +268,7 @@ stopped_name text left u other h =
       unread = λ spec k. ends_name text h.front h.rest h.rest h.c spec u other h.parts all n (let P : List ℕ → Type 0 = SpellsSpec spec in subst P h.parts k);
     }
 
--- a spec that is spelled is read, unless memory runs out
+-- a spec that the text spells is returned, unless an allocation fails
 pub only_spec : (text : List ℕ) (result : Result Spec SpecFault) → IfOk result (λ spec. IsSpecText text spec) → IfErr result (λ fault. IsSpecFault text fault)
     → (spec : Spec) → IsSpecText text spec → (result ≡ Ok spec) ⊎ (result ≡ Err Memory)
 only_spec text (Ok found) h k spec s = inl (ap Ok (one_spec (chars text) found spec h s))
@@ -281,7 +281,7 @@ place_finished Item f e = cc
 place_finished Closed f e = cc
 place_finished Finished f e = refl
 
--- the fault of a text behind `cfg(`
+-- the fault of a text that begins with `cfg(`
 pub unread_cfg : (text rest : List ℕ) (u : Unread) (left : ℕ) → IsUtf8 text → text ≡ codes "cfg(" ++ rest → IsUnread rest u → u ≡ Left left → IsMalformedAt text (length text - left)
 unread_cfg text rest reader_faults.Memory left u e h is = cc
 unread_cfg text rest (Left k) left u e h is =

@@ -12,11 +12,11 @@ use Rattle.platform_specs.specs.declared.parts.Operator.TheVariants.{All, Any, N
 use Rattle.platform_specs.specs.declared.parts.Part.{Part}
 use Rattle.platform_specs.specs.declared.parts.Part.TheVariants.{Open, Constant, Fact, Join, Close}
 
--- where n + 1 operators are skipped to their `Close`
+-- the walk that skips n + 1 operators up to their `Close`
 abbrev at : Bool → ℕ → Walk
 at v n = record { value = v; skipped = suc n }
 
--- a part that is skipped
+-- a skipped part only changes the count
 skip_step : (known : List FactText) (p : Part) (v : Bool) (n : ℕ) → walk_step known p (at v n) ≡ record { value = v; skipped = skip_part p (suc n) }
 skip_step known p v n = ap (λ b. cond b (read_part known p v) (record { value = v; skipped = skip_part p (suc n) })) (eqb-suc-zero n)
 
@@ -33,7 +33,7 @@ skip_last : (known : List FactText) (ps : List Part) (v : Bool) → walk_over kn
 skip_last known ps v = skip_one known Close ps v 0 0 refl
 
 mutual
-  -- the parts of an expression that is skipped change nothing
+  -- the parts of a skipped expression change nothing
   skip_parts : (known : List FactText) (e : Expression) (ps : List Part) (v : Bool) (n : ℕ) → walk_over known (parts_of e ++ ps) (at v n) ≡ walk_over known ps (at v n)
   skip_parts known (fact f) ps v n = skip_one known (Fact f) ps v n _ refl
   skip_parts known (constant b) ps v n = skip_one known (Constant b) ps v n _ refl
@@ -62,20 +62,20 @@ mutual
       ∙ skip_one known (Join op) (joined op es ++ ps) v n _ refl
       ∙ skip_joined known op es ps v n
 
--- behind a part of `all`
+-- after a part of `all`
 at_all : (known : List FactText) (es : Expressions) (ps : List Part) → walk_over known (joined All es ++ (Close ∷ ps)) (walking true) ≡ walk_over known ps (walking (every_holds known es))
     → (b : Bool) → walk_over known (joined All es ++ (Close ∷ ps)) (at_join All b) ≡ walk_over known ps (walking (b && every_holds known es))
 at_all known es ps rest true = rest
 at_all known es ps rest false = skip_joined known All es (Close ∷ ps) false 0 ∙ skip_last known ps false
 
--- behind a part of `any`
+-- after a part of `any`
 at_any : (known : List FactText) (es : Expressions) (ps : List Part) → walk_over known (joined Any es ++ (Close ∷ ps)) (walking false) ≡ walk_over known ps (walking (some_holds known es))
     → (b : Bool) → walk_over known (joined Any es ++ (Close ∷ ps)) (at_join Any b) ≡ walk_over known ps (walking (b || some_holds known es))
 at_any known es ps rest true = skip_joined known Any es (Close ∷ ps) true 0 ∙ skip_last known ps true
 at_any known es ps rest false = rest
 
 mutual
-  -- behind its parts stands the truth of an expression
+  -- after an expression's parts, the value is its truth
   pub walk_past : (known : List FactText) (e : Expression) (ps : List Part) (v : Bool) → walk_over known (parts_of e ++ ps) (walking v) ≡ walk_over known ps (walking (truth_in known e))
   walk_past known (fact f) ps v = refl
   walk_past known (constant b) ps v = refl
@@ -103,10 +103,10 @@ mutual
       ∙ walk_past known e (Join Any ∷ (joined Any es ++ (Close ∷ ps))) false
       ∙ at_any known es ps (walk_past_any known es ps) (truth_in known e)
 
--- the truth of an expression, by a walk over its parts
+-- the walk over an expression's parts computes its truth
 pub walk_truth : (known : List FactText) (e : Expression) → (walk_over known (parts_of e) (walking true)).value ≡ truth_in known e
 walk_truth known e = ap (λ ps. (walk_over known ps (walking true)).value) (sym (append-nil (parts_of e))) ∙ ap (λ (w : Walk). w.value) (walk_past known e [] true)
 
--- the same for parts that are those of an expression
+-- the same for parts that are an expression's
 pub walk_expression : (known : List FactText) (ps : List Part) → parts_of (expression_of ps) ≡ ps → (walk_over known ps (walking true)).value ≡ truth_in known (expression_of ps)
 walk_expression known ps h = ap (λ qs. (walk_over known qs (walking true)).value) (sym h) ∙ walk_truth known (expression_of ps)

@@ -1,4 +1,4 @@
--- A code for `Spec`: its expression is stored as the list of its parts, which gives it back.
+-- The storage of a `Spec`: an expression is stored as the list of its parts, from which it can be read back.
 use Rattle.std.specs.Prelude.{◌≡◌, ℕ, List, [], ◌∷◌, ◌++◌, ◌⊎◌, refl}
 use Rattle.std.specs.Coded.{Coded, code_by, coded⊎, coded_list, coded_ℕ}
 use Rattle.std.proofs.Common.{ap, sym, ◌∙◌, append_assoc, inl, inr, append-nil}
@@ -10,7 +10,7 @@ use Rattle.platform_specs.specs.declared.parts.Part.{Part}
 use Rattle.platform_specs.specs.declared.parts.Part.TheVariants.{Join, Close}
 
 mutual
-  -- the parts of an expression give it, and then what follows
+  -- the parts of an expression, then other parts, read back as the expression, then the others
   pub levels_past : (e : Expression) (ps : List Part) → levels_of (parts_of e ++ ps) ≡ with_part e (levels_of ps)
   levels_past (fact f) ps = refl
   levels_past (constant b) ps = refl
@@ -29,7 +29,7 @@ mutual
       ∙ levels_past e (Join op ∷ (joined op es ++ Close ∷ ps))
       ∙ ap (with_part e) (levels_past_all op es ps)
 
--- an expression is that of its parts
+-- an expression is read back from its parts
 pub expression_of-parts_of : (e : Expression) → expression_of (parts_of e) ≡ e
 expression_of-parts_of e = ap (λ ps. first_of_them (levels_of ps).here) (sym (append-nil (parts_of e)))
     ∙ ap (λ (l : Levels). first_of_them l.here) (levels_past e [])

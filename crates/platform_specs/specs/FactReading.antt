@@ -1,4 +1,4 @@
--- How a fact is read, character by character. Where operators are reserved, their bare words are no facts.
+-- The reader of facts, character by character. If operators are reserved, their bare words are no facts.
 use Rattle.std.specs.Prelude.{◌≡◌, ℕ, Bool, true, false, not, ◌&&◌, ◌==◌, List, [], ◌++◌, Option, Some, None, codes, if◌then◌else◌, string_bytes}
 use Rattle.std.specs.Char.{encode_utf8}
 use Rattle.std.specs.Str.{bytes_eq}
@@ -9,12 +9,12 @@ use Rattle.platform_specs.specs.declared.fact_reader.FactReader.{FactReader}
 use Rattle.platform_specs.specs.declared.fact_reader.Stage.{Stage}
 use Rattle.platform_specs.specs.declared.fact_reader.Stage.TheVariants.{Waiting, Raw, Naming, Named, Valued, Quoted, Whole}
 
--- what has been read of a fact
+-- the part of a fact that has been read
 pub data FactState : Type 0 where
-  -- nothing, or `r#`
+  -- nothing yet, or `r#`
   waiting : FactState
   after_raw : FactState
-  -- a name behind `r#` or bare, that may go on; then with spaces behind it; then '='; then '"' and the value so far
+  -- a name, after `r#` or bare; then spaces after it; then '='; then '"' and the value so far
   naming : Bool → List ℕ → FactState
   named : Bool → List ℕ → FactState
   valued : Bool → List ℕ → FactState
@@ -22,11 +22,11 @@ pub data FactState : Type 0 where
   -- a name and a value
   whole : Bool → List ℕ → List ℕ → FactState
 
--- the bare word of an operator, where those are reserved
+-- the bare word of an operator, if these are reserved
 abbrev pub is_taken : Bool → Bool → List ℕ → Bool
 is_taken reserved raw name = reserved && (not raw && is_operator name)
 
--- behind a name
+-- a character after a name
 abbrev pub past_name : Bool → Bool → List ℕ → ℕ → Option FactState
 past_name reserved raw name c =
     if is_space c then Some (named raw name)
@@ -36,7 +36,7 @@ past_name reserved raw name c =
 abbrev pub name_step : Bool → ℕ → Option FactState
 name_step raw c = if begins_name c then Some (naming raw (encode_utf8 c)) else None
 
--- one more character, if a fact goes on with it
+-- one more character, if a fact can go on with it
 abbrev pub fact_step : Bool → FactState → ℕ → Option FactState
 fact_step reserved waiting c =
     if is_space c then Some waiting else name_step false c
@@ -52,18 +52,18 @@ fact_step reserved (quoted raw name value) c =
     if c == 34 then Some (whole raw name value) else Some (quoted raw name (value ++ encode_utf8 c))
 fact_step reserved (whole raw name value) c = if is_space c then Some (whole raw name value) else None
 
--- the fact that stands there where it may end there
+-- the fact read so far, if it may end here
 abbrev pub fact_end : Bool → FactState → Option FactText
 fact_end reserved (naming raw name) = if is_taken reserved raw name then None else Some (record { name = name; value = None })
 fact_end reserved (named raw name) = if is_taken reserved raw name then None else Some (record { name = name; value = None })
 fact_end reserved (whole raw name value) = Some (record { name = name; value = Some value })
 fact_end reserved _ = None
 
--- the characters in turn
+-- all characters in turn
 abbrev pub fact_run : Bool → List ℕ → FactState → Option FactState
 fact_run reserved = run (fact_step reserved)
 
--- where a reader is
+-- the state of a reader
 abbrev pub fact_state_at : Stage → Bool → List ℕ → List ℕ → FactState
 fact_state_at Waiting raw name value = waiting
 fact_state_at Raw raw name value = after_raw
@@ -76,7 +76,7 @@ fact_state_at Whole raw name value = whole raw name value
 abbrev pub fact_state : FactReader → FactState
 fact_state r = fact_state_at r.stage r.is_raw (string_bytes r.name) (string_bytes r.value)
 
--- what a reader that may go on returns, and where it is then
+-- the result of a reader's step, and its state after the step if it is true
 abbrev pub GoesOn : {S : Type 0} → Bool → Option S → S → Type 0
 GoesOn true next now = next ≡ Some now
 GoesOn false next now = next ≡ None

@@ -1,4 +1,4 @@
--- What a clause sees of a `Fact`.
+-- Facts as values.
 use Rattle.std.specs.Prelude.{Some, None, string_bytes}
 use Rattle.platform_specs.specs.Facts.{FactText}
 use Rattle.platform_specs.specs.declared.fact.Fact.TheInside.{Inside}

@@ -1,4 +1,4 @@
--- Which fault a text has.
+-- The fault of a malformed text.
 use Rattle.std.specs.Prelude.{◌≡◌, ◌≢◌, ℕ, suc, ◌⊎◌, List, [], ◌∷◌, ◌++◌, length}
 use Rattle.std.specs.Str.{chars, encode_utf8_all}
 use Rattle.platform_specs.specs.Facts.{FactText}
@@ -9,17 +9,17 @@ use Rattle.platform_specs.specs.declared.fault.SpecFault.TheVariants.{Malformed,
 use Rattle.platform_specs.specs.declared.fault.CfgFault.{CfgFault}
 use Rattle.platform_specs.specs.declared.fault.CfgFault.TheVariants as cfg_faults
 
--- some spec's text begins with these characters
+-- the text of some spec begins with these characters
 abbrev pub BeginsSpec : List ℕ → Type 0
 BeginsSpec front = (more : List ℕ) × (spec : Spec) × SpellsSpec spec (front ++ more)
 
--- no spec's text begins with these characters and the next
+-- no spec's text begins with these characters and the next one
 abbrev pub EndsThere : List ℕ → List ℕ → Type 0
 EndsThere front [] = Unit {0}
 EndsThere front (c ∷ rest) = BeginsSpec (front ++ c ∷ []) → ⊥
 
--- The text spells no spec. It has whole characters before the byte `at` that begin one, and with the next
--- character none; or a spec begins with all of it.
+-- The text spells no spec. Some spec's text begins with the characters before the byte `at`, and none begins
+-- with the next character too, if there is one.
 pub record IsMalformedAt (text : List ℕ) (at : ℕ) : Type 0 where
   pub front : List ℕ
   pub rest : List ℕ
@@ -33,7 +33,7 @@ abbrev pub IsSpecFault : List ℕ → SpecFault → Type 0
 IsSpecFault text (Malformed at) = IsMalformedAt text at
 IsSpecFault text Memory = Unit {0}
 
--- the line spells no fact, and isn't empty
+-- the line isn't empty, and spells no fact
 abbrev pub IsMalformedLine : List ℕ → Type 0
 IsMalformedLine line = (line ≢ []) × ((f : FactText) → SpellsLine f line → ⊥)
 
@@ -41,7 +41,7 @@ IsMalformedLine line = (line ≢ []) × ((f : FactText) → SpellsLine f line �
 abbrev pub IsCfgLine : List ℕ → Type 0
 IsCfgLine line = (line ≡ []) ⊎ ((f : FactText) × SpellsLine f line)
 
--- the first malformed line is this one, counted from 1
+-- the first malformed line has this number, from 1
 abbrev pub IsFirstMalformed : List (List ℕ) → ℕ → Type 0
 IsFirstMalformed [] n = ⊥
 IsFirstMalformed (line ∷ others) n = ((n ≡ 1) × IsMalformedLine line)

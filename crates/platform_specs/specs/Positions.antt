@@ -1,4 +1,4 @@
--- Where a reader stops in a text.
+-- The position at which a reader stops in a text.
 use Rattle.std.specs.Prelude.{◌≡◌, ℕ, ◌≤◌, ◌⊎◌, List, ◌∷◌, ◌++◌, length, Option, Some, None, codes, if◌then◌else◌}
 use Rattle.std.specs.Str.{chars, encode_utf8_all}
 use Rattle.platform_specs.specs.Grammar.{Spaced, Spells, is_in_platform}
@@ -9,7 +9,7 @@ use Rattle.platform_specs.specs.declared.expression_reader.Unread.{Unread}
 use Rattle.platform_specs.specs.declared.expression_reader.Unread.TheVariants.{Left, Memory}
 use Rattle.platform_specs.specs.declared.parts.Part.{Part}
 
--- the reader can't go on with the text's last `left` bytes
+-- the reader can't go on at `left` bytes before the text's end
 pub record Stopped {S : Type 0} (step : S → ℕ → Option S) (start : S) (text : List ℕ) (left : ℕ) : Type 0 where
   pub front : List ℕ
   pub c : ℕ
@@ -20,11 +20,11 @@ pub record Stopped {S : Type 0} (step : S → ℕ → Option S) (start : S) (tex
   pub reads : run step front start ≡ Some state
   pub stops : step state c ≡ None
 
--- the reader has read the text
+-- the reader has read the whole text
 pub record ReadAll {S : Type 0} (step : S → ℕ → Option S) (start : S) (text : List ℕ) (state : S) : Type 0 where
   pub reads : run step (chars text) start ≡ Some state
 
--- the text is behind `cfg(`: an expression of these parts, and its ')'
+-- the text is an expression with these parts, then ')'
 pub record SpelledBy (text : List ℕ) (ps : List Part) : Type 0 where
   pub inner : List ℕ
   pub parts : chars text ≡ inner ++ codes ")"
@@ -41,6 +41,6 @@ abbrev pub IsUnread : List ℕ → Unread → Type 0
 IsUnread text (Left left) = (left ≤ length text) × (Stopped read_step at_first text left ⊎ ((left ≡ 0) × Unfinished text))
 IsUnread text Memory = Unit {0}
 
--- a reader of a platform's name
+-- the step of a reader of platform names
 abbrev pub platform_step : Unit {0} → ℕ → Option (Unit {0})
 platform_step s c = if is_in_platform c then Some tt else None

@@ -1,4 +1,4 @@
--- What a clause sees of a `PlatformSpec`.
+-- Platform specs as values.
 use Rattle.std.specs.Prelude.{◌≡◌, string_bytes}
 use Rattle.platform_specs.specs.Expressions.{Spec, platform, cfg}
 use Rattle.platform_specs.specs.Parts.{parts_of, expression_of}
@@ -9,7 +9,7 @@ abbrev pub spec_of : SpecKind → Spec
 spec_of (Platform name) = platform (string_bytes name)
 spec_of (Cfg ps) = cfg (expression_of ps.items)
 
--- the parts are those of an expression
+-- the parts are the parts of an expression
 abbrev pub IsSpecKind : SpecKind → Type 0
 IsSpecKind (Platform name) = Unit {0}
 IsSpecKind (Cfg ps) = parts_of (expression_of ps.items) ≡ ps.items

@@ -1,4 +1,4 @@
--- How the parts of an expression give its truth, from the first to the last.
+-- The truth of an expression, by a walk over its parts from first to last.
 use Rattle.std.specs.Prelude.{ℕ, ◌+◌, ◌-◌, Bool, true, false, not, ◌==◌, List, [], ◌∷◌, if◌then◌else◌}
 use Rattle.platform_specs.specs.Facts.{FactText}
 use Rattle.platform_specs.specs.Truth.{is_known}
@@ -8,11 +8,11 @@ use Rattle.platform_specs.specs.declared.parts.Part.{Part}
 use Rattle.platform_specs.specs.declared.parts.Part.TheVariants.{Open, Constant, Fact, Join, Close}
 use Rattle.platform_specs.specs.declared.walk.Walk.{Walk}
 
--- the truth so far, read on
+-- the truth so far, with nothing skipped
 abbrev pub walking : Bool → Walk
 walking value = record { value = value; skipped = 0 }
 
--- the operator's truth is the value so far: the rest up to its `Close` is skipped
+-- the truth of the operator is decided, and its remaining parts are skipped up to its `Close`
 abbrev pub skipping : Bool → Walk
 skipping value = record { value = value; skipped = 1 }
 
@@ -23,7 +23,7 @@ at_join Any true = skipping true
 at_join Any false = walking false
 at_join Not value = walking (not value)
 
--- of no parts
+-- the truth of an operator without parts
 abbrev pub at_open : Operator → Bool
 at_open All = true
 at_open Any = false
@@ -36,7 +36,7 @@ read_part known (Fact f) value = walking (is_known known f)
 read_part known (Join op) value = at_join op value
 read_part known Close value = walking value
 
--- how many `Close` are skipped to
+-- the number of `Close` parts to skip to, after one more part
 abbrev pub skip_part : Part → ℕ → ℕ
 skip_part (Open op) n = n + 1
 skip_part (Constant b) n = n

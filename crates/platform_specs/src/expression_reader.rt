@@ -1,4 +1,4 @@
-//! Reads an expression, character by character, from behind `cfg(` to the `)` that closes it.
+//! Reads an expression, character by character, from after `cfg(` to the closing `)`.
 ghost use Rattle.std.specs.Prelude.{◌≡◌, ◌∷◌, [], ◌++◌, reverse, IfOk, OnOk, Some, None, true};
 ghost use Rattle.platform_specs.specs.FactReading.{fact_state, fact_step, fact_end, GoesOn};
 ghost use Rattle.platform_specs.specs.Reading.{beginning, item, operator_named, operator_at, is_list, leaf, past_comma, past_bracket, past_part, past_list, past_word, past_fact, in_item, step_at, read_step, reading, at_first};
@@ -8,23 +8,23 @@ use crate::fact_reader::{self, FactReader};
 use crate::parts::{Operator, Part};
 use std::alloc::{AllocError, Global};
 
-/// Where a reader is.
+/// The position of a reader within an expression.
 #[derive(Clone, Copy)]
 pub enum Stage {
-    /// An expression begins, or if true its list is closed.
+    /// An expression begins; if true, its list may end here instead.
     Beginning(bool),
-    /// In a fact, or an operator's word.
+    /// In a fact, or in an operator's word.
     Item,
-    /// Behind an operator's `)`.
+    /// After an operator's `)`.
     Closed,
-    /// Behind the last `)`.
+    /// After the last `)`.
     Finished,
 }
 
-/// Why a text was not read.
+/// The reason why a text was not read.
 #[derive(Clone, Copy)]
 pub enum Unread {
-    /// It can't go on with the text's last bytes, so many of them.
+    /// No expression goes on at this many bytes before the text's end.
     Left(usize),
     Memory,
 }
@@ -39,7 +39,7 @@ impl From<AllocError> for Unread {
     }
 }
 
-/// An expression that is being read: the operators whose brackets are open, and the parts so far.
+/// An expression that is being read: the operators with open brackets, and the parts so far.
 #[derive(Drop)]
 pub struct ExpressionReader {
     pub stage: Stage,
@@ -64,7 +64,7 @@ fn operator_named(name: &str) -> Option<Operator>
     None
 }
 
-/// Returns the operator whose word has been read.
+/// Returns the operator whose word has just been read.
 fn operator_at(fact: &FactReader) -> Option<Operator>
     ensures { result ≡ operator_at (fact_state fact.now) }
 {
@@ -79,7 +79,7 @@ fn operator_at(fact: &FactReader) -> Option<Operator>
     }
 }
 
-/// Returns the fact as a part, or the constant that it spells.
+/// Returns the fact as a part; `true` and `false` are constants.
 fn leaf(fact: Fact) -> Part
     ensures { result ≡ leaf fact }
 {
@@ -101,7 +101,7 @@ impl ExpressionReader {
         }
     }
 
-    /// Reads a ',' behind a part.
+    /// Reads a ',' after a part.
     fn pass_comma(&mut self) -> Result<bool, AllocError>
         ensures { IfOk result (λ went_on. GoesOn went_on
             (past_comma (reverse self.old.operators.items) self.old.parts.items) (reading self.new)) }
@@ -116,7 +116,7 @@ impl ExpressionReader {
         }
     }
 
-    /// Reads a ')' behind a part.
+    /// Reads a ')' after a part.
     fn pass_bracket(&mut self) -> Result<bool, AllocError>
         ensures { IfOk result (λ went_on. GoesOn went_on
             (past_bracket (reverse self.old.operators.items) self.old.parts.items) (reading self.new)) }
@@ -132,7 +132,7 @@ impl ExpressionReader {
         Ok(true)
     }
 
-    /// Reads `c` behind a part.
+    /// Reads `c` after a part.
     fn pass_part(&mut self, c: char) -> Result<bool, AllocError>
         ensures { IfOk result (λ went_on. GoesOn went_on
             (past_part (reverse self.old.operators.items) self.old.parts.items c) (reading self.new)) }
@@ -146,7 +146,7 @@ impl ExpressionReader {
         Ok(false)
     }
 
-    /// Reads a ')' behind no part.
+    /// Reads a ')' where a part may begin.
     fn pass_list(&mut self) -> Result<bool, AllocError>
         ensures { IfOk result (λ went_on. GoesOn went_on
             (past_list (reverse self.old.operators.items) self.old.parts.items) (reading self.new)) }
@@ -161,7 +161,7 @@ impl ExpressionReader {
         }
     }
 
-    /// Reads a '(' behind the operator's word.
+    /// Reads a '(' after the operator's word.
     fn open(&mut self, operator: Operator) -> Result<(), AllocError>
         ensures { OnOk result (past_word (reverse self.old.operators.items) self.old.parts.items
             (fact_state self.old.fact) (Some operator) ≡ Some (reading self.new)) }
@@ -172,7 +172,7 @@ impl ExpressionReader {
         Ok(())
     }
 
-    /// Reads `c` in a fact.
+    /// Reads `c` as part of a fact.
     fn go_on(&mut self, c: char) -> Result<bool, AllocError>
         ensures { IfOk result (λ went_on. GoesOn went_on (in_item (reverse self.old.operators.items)
             self.old.parts.items (fact_step true (fact_state self.old.fact) c)) (reading self.new)) }
@@ -182,7 +182,7 @@ impl ExpressionReader {
         Ok(went_on)
     }
 
-    /// Reads a '(' behind a word, or in a value.
+    /// Reads a '(' after a word, or in a value.
     fn pass_word(&mut self) -> Result<bool, AllocError>
         ensures { IfOk result (λ went_on. GoesOn went_on (past_word (reverse self.old.operators.items)
             self.old.parts.items (fact_state self.old.fact) (operator_at (fact_state self.old.fact))) (reading self.new)) }
@@ -194,7 +194,7 @@ impl ExpressionReader {
         Ok(true)
     }
 
-    /// Reads a ',' or ')' behind a fact, or in a value.
+    /// Reads a ',' or ')' after a fact, or in a value.
     fn pass_fact(&mut self, alloc: Global, c: char) -> Result<bool, AllocError>
         ensures { IfOk result (λ went_on. GoesOn went_on (past_fact (reverse self.old.operators.items)
             self.old.parts.items (fact_state self.old.fact) c (fact_end true (fact_state self.old.fact))) (reading self.new)) }
@@ -206,7 +206,7 @@ impl ExpressionReader {
         self.pass_part(c)
     }
 
-    /// Reads `c` where a fact goes on, or an operator's word.
+    /// Reads `c` in a fact or in an operator's word, or after one.
     fn pass_item(&mut self, alloc: Global, c: char) -> Result<bool, AllocError>
         ensures { IfOk result (λ went_on. GoesOn went_on (step_at (item (fact_state self.old.fact))
             (reverse self.old.operators.items) self.old.parts.items c) (reading self.new)) }
@@ -237,7 +237,8 @@ impl ExpressionReader {
         self.go_on(c)
     }
 
-    /// Reads `c`, and returns true if an expression goes on with it.
+    /// Reads `c`, and returns true if an expression can go on with it. An allocation that fails is the only
+    /// error.
     pub fn step(&mut self, alloc: Global, c: char) -> Result<bool, AllocError>
         ensures { IfOk result (λ went_on. GoesOn went_on (read_step (reading self.old) c) (reading self.new)) }
     {

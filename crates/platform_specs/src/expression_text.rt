@@ -1,4 +1,4 @@
-//! Reads the text of an expression to its end.
+//! Reads a whole text as an expression, or as the name of a platform.
 ghost use Rattle.std.specs.Prelude.{◌≡◌, IfOk, ◌≤◌, IfErr, IfSome, MatchOption, length};
 ghost use Rattle.platform_specs.specs.Positions.{Stopped, ReadAll, SpelledBy, IsUnread, platform_step};
 ghost use Rattle.platform_specs.specs.Grammar.{is_in_platform};
@@ -7,7 +7,8 @@ use crate::expression_reader::{ExpressionReader, Stage, Unread};
 use crate::parts::Part;
 use std::alloc::Global;
 
-/// Returns the parts of the expression that `text` is, with the `)` behind it.
+/// Returns the parts of the expression that `text` spells before its last `)`. The error is `Left` with the
+/// number of remaining bytes at which no expression goes on, or `Memory`.
 pub fn read_parts(alloc: Global, text: &str) -> Result<Vec<Part>, Unread>
     ensures found { IfOk result (λ parts. SpelledBy text.now parts.items) }
     ensures unread { IfErr result (λ unread. IsUnread text.now unread) }
@@ -27,14 +28,15 @@ pub fn read_parts(alloc: Global, text: &str) -> Result<Vec<Part>, Unread>
     }
 }
 
-/// Returns true if `c` may stand in the name of a platform.
+/// Returns true if `c` may be in the name of a platform.
 fn is_in_platform(c: char) -> bool
     ensures { result ≡ is_in_platform c }
 {
     c.is_alphanumeric() || matches!(c, '_' | '-' | '.')
 }
 
-/// Returns how many bytes of `text` are left where it is no name of a platform.
+/// Returns the number of bytes from the first character on that isn't allowed in a platform name; `None` if
+/// all are.
 pub fn unread_name(text: &str) -> Option<usize>
     ensures read { MatchOption result (ReadAll platform_step tt text.now tt) (λ left. Stopped platform_step tt text.now left) }
     ensures within { IfSome result (λ left. left ≤ length text.now) }

@@ -1,4 +1,4 @@
-//! A fact: a name, and the value where one is written.
+//! Facts: a name, and a value if one is written.
 ghost use Rattle.std.specs.Prelude.{◌≡◌, IfOk, IfSome, IsSome, Some, None, option_map};
 ghost use Rattle.platform_specs.specs.Grammar.{constant_at, constant_named};
 ghost use Rattle.platform_specs.specs.Truth.{same_fact};
@@ -38,7 +38,7 @@ fn constant_named(name: &str) -> Option<bool>
 }
 
 impl Fact {
-    /// Returns the constant that stands where this fact would stand.
+    /// Returns the constant that this fact spells: `true` or `false` without a value.
     pub(crate) fn constant(&self) -> Option<bool>
         ensures { result ≡ constant_at self.now.name self.now.value }
     {
@@ -48,7 +48,7 @@ impl Fact {
         }
     }
 
-    /// Returns true if the names are equal, and the values too, or neither has one.
+    /// Returns true if the names are equal, and so are the values, or neither fact has one.
     pub fn is_same(&self, other: &Fact) -> bool
         ensures { result ≡ same_fact self.now other.now }
     {
@@ -64,7 +64,7 @@ impl Fact {
 }
 
 impl fmt::Display for Fact {
-    /// The fact as a spec writes it; `r#` stands before the name of an operator.
+    /// Writes the fact as in a spec, with `r#` before the name of an operator.
     fn fmt<W: fmt::Write>(&self, f: &mut fmt::Formatter<W>) -> fmt::Result {
         let name = self.name.as_str();
         if is_operator(name) {

@@ -7,21 +7,21 @@ use crate::fact::Fact;
 use std::alloc::{AllocError, Global};
 use std::mem;
 
-/// What has been read of a fact.
+/// The position of a reader within a fact.
 #[derive(Clone, Copy)]
 pub enum Stage {
     Waiting,
-    /// `r#`
+    /// After `r#`.
     Raw,
-    /// A name that may go on.
+    /// In a name, or at its end.
     Naming,
-    /// A name, and spaces.
+    /// In the spaces after a name.
     Named,
-    /// A name and `=`.
+    /// After a name and `=`.
     Valued,
-    /// A name, `=` and a part of the value.
+    /// In the value after a name and `=`.
     Quoted,
-    /// A name and a value.
+    /// After a name and its value.
     Whole,
 }
 
@@ -64,21 +64,21 @@ impl FactReader {
         }
     }
 
-    /// Begins the next fact.
+    /// Starts the next fact.
     pub fn restart(&mut self)
         ensures { fact_state self.new ≡ waiting }
     {
         self.stage = Stage::Waiting;
     }
 
-    /// Returns true if the name is an operator's bare word, and those are reserved.
+    /// Returns true if the name is a bare operator's word and `reserved` is true.
     fn is_taken(&self, reserved: bool) -> bool
         ensures { result ≡ is_taken reserved self.now.is_raw (string_bytes self.now.name) }
     {
         reserved && !self.is_raw && is_operator(self.name.as_str())
     }
 
-    /// Begins the name with `c`.
+    /// Begins the name with `c`; returns false if no name begins with it.
     fn begin_name(&mut self, c: char, is_raw: bool) -> Result<bool, AllocError>
         ensures { IfOk result (λ went_on. GoesOn went_on (name_step is_raw c) (fact_state self.new)) }
     {
@@ -92,7 +92,7 @@ impl FactReader {
         Ok(true)
     }
 
-    /// Reads `c` behind the name.
+    /// Reads `c` after the name.
     fn pass_name(&mut self, c: char, reserved: bool) -> bool
         ensures { GoesOn result (past_name reserved self.old.is_raw (string_bytes self.old.name) c) (fact_state self.new) }
     {
@@ -107,7 +107,7 @@ impl FactReader {
         false
     }
 
-    /// Reads `c` in the name or behind it.
+    /// Reads `c` in the name or after it.
     fn go_on_name(&mut self, c: char, reserved: bool) -> Result<bool, AllocError>
         ensures { IfOk result (λ went_on. GoesOn went_on
             (fact_step reserved (naming self.old.is_raw (string_bytes self.old.name)) c) (fact_state self.new)) }
@@ -139,7 +139,8 @@ impl FactReader {
         Ok(true)
     }
 
-    /// Reads `c`, and returns true if a fact goes on with it. `reserved` says whether operators' words are none.
+    /// Reads `c`, and returns true if a fact can go on with it. If `reserved` is true, operators' bare words
+    /// aren't facts. An allocation that fails is the only error.
     pub fn step(&mut self, c: char, reserved: bool) -> Result<bool, AllocError>
         ensures { IfOk result (λ went_on. GoesOn went_on (fact_step reserved (fact_state self.old) c) (fact_state self.new)) }
     {
@@ -166,7 +167,7 @@ impl FactReader {
         }
     }
 
-    /// Takes the fact out, if one may end here.
+    /// Takes the fact if it may end here.
     pub fn take(&mut self, alloc: Global, reserved: bool) -> Option<Fact>
         ensures taken { result ≡ fact_end reserved (fact_state self.old) }
         ensures left { IfNone result (fact_state self.new ≡ fact_state self.old) }

@@ -1,14 +1,14 @@
-//! Why a text is no platform spec, or no cfg text.
+//! The faults of platform specs and of cfg texts.
 ghost use Rattle.std.specs.Prelude.{◌≡◌};
 
 use std::alloc::{AllocError, AllocFailed};
 use thiserror::Error;
 
-/// Why there is no platform spec.
+/// The reason why a text is no platform spec.
 #[derive(Debug, Drop, Error)]
 pub enum SpecFault {
-    /// The text is in no platform spec's form. A spec begins as the text does up to the byte `at`, and none
-    /// goes on as the text does there.
+    /// The text isn't a platform spec. Some spec begins with the first `at` bytes of the text. If a character
+    /// is next, no spec begins with this one too.
     #[error("malformed platform spec at byte {at}")]
     Malformed { at: usize },
     /// An allocation failed.
@@ -26,10 +26,10 @@ impl From<AllocError> for SpecFault {
     }
 }
 
-/// Why there is no target.
+/// The reason why a cfg text describes no target.
 #[derive(Debug, Drop, Error)]
 pub enum CfgFault {
-    /// The line, counted from 1, is not empty and is no fact; each line before it is empty or a fact.
+    /// Line `line`, counted from 1, is neither empty nor a fact; it is the first such line.
     #[error("malformed cfg line {line}")]
     Malformed { line: usize },
     /// An allocation failed.

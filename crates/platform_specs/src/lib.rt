@@ -1,4 +1,4 @@
-//! Platform specs: `cfg(..)` expressions and names of platforms, and whether they hold for a target.
+//! Platform specs: `cfg(..)` expressions and platform names, and whether they hold for a target.
 #![tactic(auto)]
 
 mod expression_reader;

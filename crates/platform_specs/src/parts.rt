@@ -11,7 +11,7 @@ pub enum Operator {
     Not,
 }
 
-/// A part of an expression. An operator is `Open`, its parts with a `Join` behind each, and `Close`.
+/// A part of an expression. An operator is `Open`, then its parts with a `Join` after each, then `Close`.
 #[derive(Debug, Drop)]
 pub enum Part {
     Open(Operator),
@@ -22,7 +22,7 @@ pub enum Part {
 }
 
 impl fmt::Display for Operator {
-    /// The operator's word.
+    /// Writes the operator's word.
     fn fmt<W: fmt::Write>(&self, f: &mut fmt::Formatter<W>) -> fmt::Result {
         match self {
             Operator::All => write!(f, "all"),
@@ -32,7 +32,7 @@ impl fmt::Display for Operator {
     }
 }
 
-/// Writes the expression of these parts.
+/// Writes the expression with these parts.
 pub fn write_parts<W: fmt::Write>(f: &mut fmt::Formatter<W>, parts: &[Part]) -> fmt::Result {
     let mut rest = parts;
     while let [part, behind @ ..] = rest {

@@ -12,14 +12,14 @@ use std::alloc::Global;
 use std::fmt;
 use std::marker::Model;
 
-/// What a platform spec is made of.
+/// The two kinds of platform specs.
 #[derive(Debug, Drop)]
 pub enum SpecKind {
     Platform(String),
     Cfg(Vec<Part>),
 }
 
-/// A platform spec as Cargo reads it. A contract sees it as a `Spec`: the name of a platform, or an expression.
+/// A platform spec as Cargo reads it. A contract sees it as a `Spec`: a platform name, or an expression.
 #[derive(Debug, Drop)]
 pub struct PlatformSpec {
     kind: SpecKind,
@@ -41,7 +41,7 @@ impl Model for PlatformSpec {
     ghost invariant = { λ spec. IsSpecKind spec.kind };
 }
 
-/// Returns what stands behind `cfg(` in `text`.
+/// Returns the text after `cfg(`, or `None` if `text` doesn't begin with it.
 fn behind_cfg(text: &str) -> Option<&str>
     ensures { MatchOption result ((rest : List ℕ) → text.now ≡ codes "cfg(" ++ rest → ⊥) (λ rest. text.now ≡ codes "cfg(" ++ rest.now) }
 {
@@ -53,13 +53,13 @@ impl PlatformSpec {
     ghost use Rattle.platform_specs.specs.Faults.{IsSpecFault};
     ghost use Rattle.platform_specs.specs.Truth.{truth_of};
 
-    /// Reads a platform spec as Cargo does; see `specs/Grammar.antt`. `Malformed` has the first byte where no
-    /// spec goes on as the text does; `Memory` if an allocation fails.
+    /// Reads a platform spec as Cargo does; `specs/Grammar.antt` has the grammar. The error is `Malformed`
+    /// with the first byte at which no spec goes on, or `Memory`.
     pub fn parse(alloc: Global, text: &str) -> Result<PlatformSpec, SpecFault>
-        // What is read is what the text spells.
+        // A spec that is returned is the one that the text spells.
         ensures found { IfOk result (λ spec. IsSpecText text.now spec) }
 
-        // What the text spells is read, unless memory runs out.
+        // If the text spells a spec, it is returned unless an allocation fails.
         ensures only { (spec : Spec) → IsSpecText text.now spec → (result ≡ Ok spec) ⊎ (result ≡ Err SpecFault.Memory) }
         ensures fault { IfErr result (λ fault. IsSpecFault text.now fault) }
     {
@@ -77,7 +77,7 @@ impl PlatformSpec {
         }
     }
 
-    /// Reads the expression `text`, where `rest` stands behind its `cfg(`.
+    /// Reads the expression in `text`, which is `cfg(` and `rest`.
     fn read_cfg(alloc: Global, text: &str, rest: &str) -> Result<PlatformSpec, SpecFault>
         requires { text.now ≡ codes "cfg(" ++ rest.now }
         ensures found { IfOk result (λ spec. IsSpecText text.now spec) }
@@ -94,7 +94,7 @@ impl PlatformSpec {
         }
     }
 
-    /// Reads the name of a platform.
+    /// Reads a platform name.
     fn read_name(alloc: Global, text: &str) -> Result<PlatformSpec, SpecFault>
         requires { (rest : List ℕ) → text.now ≡ codes "cfg(" ++ rest → ⊥ }
         ensures found { IfOk result (λ spec. IsSpecText text.now spec) }
@@ -112,8 +112,8 @@ impl PlatformSpec {
     }
 
     #[tactic(auto, using(crate::proofs::Walks::walk_expression))]
-    /// Returns true if the spec holds for `target`: the name of a platform if it is the triple, an expression
-    /// if it is true of the target's facts.
+    /// Returns true if the spec holds for `target`. A platform name holds if it is the triple, and an
+    /// expression if it is true for the target's facts.
     pub fn holds(&self, target: &TargetCfg) -> bool
         ensures { result ≡ truth_of target.now self.now }
     {
@@ -125,7 +125,7 @@ impl PlatformSpec {
 }
 
 impl fmt::Display for PlatformSpec {
-    /// The name, or the expression in `cfg(..)` as Cargo prints it: `cfg(all(unix, not(target_os = "macos")))`.
+    /// Writes the name, or the expression as Cargo prints it: `cfg(all(unix, not(target_os = "macos")))`.
     fn fmt<W: fmt::Write>(&self, f: &mut fmt::Formatter<W>) -> fmt::Result {
         match &self.kind {
             SpecKind::Platform(name) => write!(f, "{name}"),

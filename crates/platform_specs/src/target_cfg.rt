@@ -1,4 +1,4 @@
-//! A target: its triple and its facts.
+//! Targets: a triple and its facts.
 ghost use Rattle.std.specs.Prelude.{◌≡◌, ◌⊎◌, ◌∷◌, ◌<◌, ◌==◌, length, IfOk, IfErr, IfSome, MatchOption};
 ghost use Rattle.std.specs.List.{slice_split};
 ghost use Rattle.platform_specs.specs.LineReading.{pieces_behind, lines_behind, ReadsLine};
@@ -12,7 +12,7 @@ use crate::fault::CfgFault;
 use std::alloc::{AllocError, Global};
 use std::marker::Model;
 
-/// A target, as platform specs ask about it. A contract sees it as a `Target`: the triple and the facts.
+/// A target for which platform specs may hold. A contract sees it as a `Target`: the triple and the facts.
 #[derive(Debug, Drop)]
 pub struct TargetCfg {
     triple: String,
@@ -28,7 +28,7 @@ impl Model for TargetCfg {
     ghost view = { λ t. record { triple = string_bytes t.triple; facts = t.facts.items } };
 }
 
-/// Returns the fact of a line, or None if the line is none.
+/// Returns the fact in a line, or `None` if the line isn't a fact.
 fn fact_in(alloc: Global, line: &str) -> Result<Option<Fact>, AllocError>
     ensures { IfOk result (λ found. MatchOption found ((f : FactText) → SpellsLine f line.now → ⊥) (λ f. SpellsLine f line.now)) }
 {
@@ -45,7 +45,7 @@ fn fact_in(alloc: Global, line: &str) -> Result<Option<Fact>, AllocError>
     Ok(reader.take(alloc, false))
 }
 
-/// Returns what stands before the first line feed of a text, and what follows it.
+/// Returns the text before the first line feed, and the text after it, if any.
 fn first_piece(text: &str) -> (&str, Option<&str>)
     ensures pieces { slice_split (λ b. b == 10) text.now ≡ result.0.now ∷ pieces_behind result.1 }
     ensures shorter { IfSome result.1 (λ rest. length rest.now < length text.now) }
@@ -56,7 +56,7 @@ fn first_piece(text: &str) -> (&str, Option<&str>)
     }
 }
 
-/// Returns a line without the carriage return at its end.
+/// Returns a line without a carriage return at its end.
 fn without_return(line: &str) -> &str
     ensures { result.now ≡ without_return line.now }
 {
@@ -66,7 +66,7 @@ fn without_return(line: &str) -> &str
     }
 }
 
-/// Returns the first line of a text, and what follows its line feed.
+/// Returns the first line of a text, and the text after its line feed, if any.
 fn first_line(text: &str) -> (&str, Option<&str>)
     ensures lines { lines_of text.now ≡ result.0.now ∷ lines_behind result.1 }
     ensures shorter { IfSome result.1 (λ rest. length rest.now < length text.now) }
@@ -75,7 +75,7 @@ fn first_line(text: &str) -> (&str, Option<&str>)
     (without_return(piece), rest)
 }
 
-/// Appends the fact of a line, if the line isn't empty, and returns false if it is malformed.
+/// Appends the fact of a line unless the line is empty. Returns false if the line is malformed.
 fn read_line(alloc: Global, line: &str, facts: &mut Vec<Fact>) -> Result<bool, AllocError>
     ensures { IfOk result (λ is_read. ReadsLine is_read line.now facts.old.items facts.new.items) }
 {
@@ -89,7 +89,7 @@ fn read_line(alloc: Global, line: &str, facts: &mut Vec<Fact>) -> Result<bool, A
     Ok(true)
 }
 
-/// Returns the facts of a cfg text.
+/// Returns the facts of a cfg text. The error is `Malformed` with the first malformed line, or `Memory`.
 fn facts_in(alloc: Global, text: &str) -> Result<Vec<Fact>, CfgFault>
     ensures found { IfOk result (λ facts. SpellsLines (lines_of text.now) facts.items) }
     ensures fault { IfErr result (λ fault. IsCfgFault text.now fault) }
@@ -113,13 +113,13 @@ impl TargetCfg {
     ghost use Rattle.platform_specs.specs.Grammar.{IsTarget};
     ghost use Rattle.platform_specs.specs.Truth.{is_known};
 
-    /// Reads what `rustc --print cfg --target TRIPLE` prints: lines `name` or `name="value"`; empty lines are
-    /// skipped. `Malformed` has the number of the first other line; `Memory` if an allocation fails.
+    /// Reads the output of `rustc --print cfg --target TRIPLE`: lines `name` or `name="value"`; empty lines
+    /// are skipped. The error is `Malformed` with the number of the first other line, or `Memory`.
     pub fn parse(alloc: Global, triple: &str, text: &str) -> Result<TargetCfg, CfgFault>
-        // What is read is what the text spells.
+        // A target that is returned is the one that the text spells.
         ensures found { IfOk result (λ target. IsTarget triple.now text.now target) }
 
-        // What the text spells is read, unless memory runs out.
+        // If the text spells a target, it is returned unless an allocation fails.
         ensures only { (target : Target) → IsTarget triple.now text.now target → (result ≡ Ok target) ⊎ (result ≡ Err CfgFault.Memory) }
         ensures fault { IfErr result (λ fault. IsCfgFault text.now fault) }
     {

@@ -1,18 +1,18 @@
-//! The truth of an expression, by one walk over its parts that needs no memory.
+//! The truth of an expression, by one walk over its parts without allocations.
 ghost use Rattle.std.specs.Prelude.{◌≡◌, ◌^◌, ◌<◌, ◌+◌, ◌≤◌, length, true};
 ghost use Rattle.platform_specs.specs.Walk.{walk_step, walk_over, walking, read_part, at_join};
 
 use crate::parts::{Operator, Part};
 use crate::target_cfg::TargetCfg;
 
-/// The truth so far, and how many operators are skipped to their `Close`.
+/// The truth so far, and the number of open operators whose remaining parts are skipped.
 #[derive(Clone, Copy)]
 pub struct Walk {
     pub value: bool,
     pub skipped: usize,
 }
 
-/// Returns the walk behind a part, whose value is `value`, of the operator.
+/// Returns the walk after a part of the operator with the truth `value`.
 fn at_join(operator: Operator, value: bool) -> Walk
     ensures { result ≡ at_join operator value }
 {
@@ -32,7 +32,7 @@ fn at_join(operator: Operator, value: bool) -> Walk
     }
 }
 
-/// Returns the walk behind `part`, where it isn't skipped.
+/// Returns the walk after a `part` that isn't skipped.
 fn read_part(target: &TargetCfg, part: &Part, value: bool) -> Walk
     ensures { result ≡ read_part target.now.facts part.now value }
 {
@@ -54,7 +54,7 @@ fn read_part(target: &TargetCfg, part: &Part, value: bool) -> Walk
     }
 }
 
-/// Returns the walk behind `part`.
+/// Returns the walk after `part`.
 fn walk_step(target: &TargetCfg, part: &Part, walk: Walk) -> Walk
     requires { walk.skipped + 1 < 2 ^ 64 }
     ensures step { result ≡ walk_step target.now.facts part.now walk }
@@ -74,7 +74,7 @@ fn walk_step(target: &TargetCfg, part: &Part, walk: Walk) -> Walk
     }
 }
 
-/// Returns the walk behind all of `parts`.
+/// Returns the walk after all of `parts`.
 pub fn walk_over(target: &TargetCfg, parts: &[Part]) -> Walk
     ensures { result ≡ walk_over target.now.facts parts.now (walking true) }
 {

@@ -1,4 +1,4 @@
--- The first item of which f gives nothing, and what f gives of each where there is none.
+-- The first item for which `f` is `None`, and the values of `f` if there is none.
 use Rattle.std.proofs.Common.{◌≡◌, ℕ, zero, suc, ◌+◌, ◌<◌, Bool, true, false, cond, List, [], ◌∷◌, Result, Ok, Err, Option, None, Some, find, is_none, length, drop, add-one, drop-cons, sym, ap, ◌∙◌, refl, arith}
 use Rattle.std.proofs.lemmas.Option.{get_or_from_slice_get, slice_get_within}
 use Rattle.std.specs.Prelude.{slice_get}
@@ -7,7 +7,7 @@ use Rattle.std.specs.Option.{option_map, option_map_or}
 use Rattle.row_files.specs.FirstFault.{each_or}
 use Rattle.row_files.specs.FirstFaultLaws.{with_first, each_or-cons}
 
--- the item of which f gives this
+-- The item that has this value.
 item : {A B : Type 0} (f : A → B) (o : Option A) (y : B) → option_map f o ≡ Some y → (x : A) × (o ≡ Some x) × (f x ≡ y)
 item f None y e = absurd (cc)
 item f (Some x) y e = let same : f x ≡ y = cc in (x, refl, same)
@@ -15,9 +15,9 @@ item f (Some x) y e = let same : f x ≡ y = cc in (x, refl, same)
 drop_item : {X : Type 0} (xs : List X) (i : ℕ) (x : X) → slice_get xs i ≡ Some x → drop i xs ≡ x ∷ drop (i + 1) xs
 drop_item xs i x h = rw (add-one, drop-cons xs i x (slice_get_within xs i x h), get_or_from_slice_get xs i x x h)
 
--- a loop at i, before which f gave something of each item
+-- A loop at place `i`; before it `f` is `Some` for each item.
 module _ {A B E : Type 0} (f : A → Option B) (fault : A → E) (all : List A) (i : ℕ) (before : find (λ x. is_none (f x)) (drop i all) ≡ find (λ x. is_none (f x)) all) where
-  -- whether it gives nothing of the item there
+  -- Whether `f` is `None` for the item at `i`.
   module _ (b : Bool) (given : option_map (λ x. is_none (f x)) (slice_get all i) ≡ Some b) where
     found : (x : A) × (slice_get all i ≡ Some x) × (find (λ y. is_none (f y)) all ≡ cond b (Some x) (find (λ y. is_none (f y)) (drop (i + 1) all)))
     found =
@@ -40,14 +40,14 @@ first_parts fault None rest ys e = absurd (cc)
 first_parts fault (Some y) (Ok zs) ys e = let same : ys ≡ y ∷ zs = cc in (y, zs, refl, refl, same)
 first_parts fault (Some y) (Err r) ys e = absurd (cc)
 
--- as many as the items
+-- The values are as many as the items.
 pub each_or-length : {A B E : Type 0} (f : A → Option B) (fault : A → E) (xs : List A) (ys : List B) → each_or f fault xs ≡ Ok ys → length ys ≡ length xs
 each_or-length f fault [] ys e = let same : [] ≡ ys = cc in sym (ap length same)
 each_or-length f fault (x ∷ xs) ys e =
     let parts = first_parts (fault x) (f x) (each_or f fault xs) ys (sym (each_or-cons f fault x xs) ∙ e) in
     ap length parts.4 ∙ ap suc (each_or-length f fault xs parts.1 parts.3)
 
--- each at the place of its item
+-- Each value is at the place of its item.
 pub each_or-at : {A B E : Type 0} (f : A → Option B) (fault : A → E) (xs : List A) (ys : List B) (i : ℕ) (r : Option B) → each_or f fault xs ≡ Ok ys → option_map f (slice_get xs i) ≡ Some r → slice_get ys i ≡ r
 each_or-at f fault [] ys i r e given = absurd (cc)
 each_or-at f fault (x ∷ xs) ys zero r e given =
@@ -58,7 +58,7 @@ each_or-at f fault (x ∷ xs) ys (suc i) r e given =
     let parts = first_parts (fault x) (f x) (each_or f fault xs) ys (sym (each_or-cons f fault x xs) ∙ e) in
     ap (λ l. slice_get l (suc i)) parts.4 ∙ each_or-at f fault xs parts.1 i r parts.3 given
 
--- what is inside a list is there
+-- A place below the length has an element.
 pub there : {X : Type 0} (xs : List X) (i : ℕ) → i < length xs → slice_get xs i ≡ None → ⊥
 there [] i h e = omega arith
 there (x ∷ xs) zero h e = cc

@@ -1,4 +1,4 @@
--- The fields of a line, back from its form and what is kept of them.
+-- The fields of a line are determined by its form and its kept fields.
 use Rattle.std.proofs.Common.{◌≡◌, ◌≤◌, ◌<◌, List, [], ◌∷◌, Bool, true, false, None, Some, if◌then◌else◌, codes, get_or, length, sym, ap, ◌∙◌, refl, arith}
 use Rattle.std.proofs.lemmas.Slice.Eq.{bytes_eq-Decides}
 use Rattle.std.specs.Str.{bytes_eq}
@@ -14,7 +14,7 @@ use Rattle.row_files.specs.inner.KeptFields.{kept_of}
 same_text : (xs ys : Text) → bytes_eq xs ys ≡ true → xs ≡ ys
 same_text xs ys e = (bytes_eq-Decides xs ys).0 e
 
--- the word of a choice
+-- The word of a choice.
 chosen : (true_word false_word word : Text) (b : Bool) → Some b ≡ choice true_word false_word word → word ≡ word_of true_word false_word b
 chosen true_word false_word word b e = by (bytes_eq word true_word) (bytes_eq word false_word) refl refl e
   where
@@ -27,7 +27,7 @@ chosen true_word false_word word b e = by (bytes_eq word true_word) (bytes_eq wo
         same_text word false_word is_false ∙ ap (word_of true_word false_word) same
     by false false is_true is_false e = absurd (cc)
 
--- the word of a kind
+-- The word of a kind.
 kind_chosen : (word : Text) (kind : DependencyKind) → Some kind ≡ kind_of word → word ≡ kind_word kind
 kind_chosen word kind e = by (bytes_eq word (codes "normal")) (bytes_eq word (codes "build")) (bytes_eq word (codes "dev")) refl refl refl e
   where

@@ -8,7 +8,7 @@ use Rattle.std.specs.List.{All}
 use Rattle.memchr.specs.Find.{is_byte2, places_from, places_between}
 use Rattle.row_files.proofs.CutLemmas.{is_plain}
 
--- of the places from i on, x is the first, at which a field ends
+-- `x` is the first place from `i` on at which a field ends.
 pub record Ends (text : List ℕ) (i x : ℕ) : Type 0 where
   pub low : i ≤ x
   pub high : x < length text
@@ -77,21 +77,21 @@ module _ (text : List ℕ) where
       rw at (All-cons is_plain (slice_index text i) (drop (i + 1) text) (plain_byte _ no_is) others))
       (cases_Bool (is_byte2 9 10 (slice_index text i)))
 
-  -- the places that are left, of which x is the first
+  -- `x` is the first of the remaining places.
   pub next_end : (i x : ℕ) (rest : List ℕ) → i ≤ length text → places_between (is_byte2 9 10) text i (length text) ≡ x ∷ rest → Ends text i x × (rest ≡ places_between (is_byte2 9 10) text (x + 1) (length text))
   next_end i x rest le e = next_end_from i (length text - i) x rest (omega arith) e
 
-  -- no place is left
+  -- No place is left, so the rest of the text has no tab and no line feed.
   pub no_end : (i : ℕ) → i ≤ length text → places_between (is_byte2 9 10) text i (length text) ≡ [] → All is_plain (drop i text)
   no_end i le e = no_end_from i (length text - i) (omega arith) e
 
-  -- what is left of the text: a field, the byte that ends it, and the rest
+  -- The rest of the text is a field, the byte that ends it, and the rest after that.
   pub parted : (i x : ℕ) → Ends text i x → drop i text ≡ take (x - i) (drop i text) ++ slice_index text x ∷ drop (x + 1) text
   parted i x e =
       let there : i + (x - i) ≡ x = omega (arith, e.low) in
       sym (take-append-drop (x - i) (drop i text)) ∙ ap (λ l. take (x - i) (drop i text) ++ l) (drop-drop (x - i) i text ∙ ap (λ k. drop k text) there ∙ rw add-one (drop-cons text x 0 e.high))
 
--- a byte that ends a field is ASCII
+-- A byte that ends a field is ASCII.
 pub ended_by_ascii : (b : ℕ) → is_byte2 9 10 b ≡ true → b < 128
 ended_by_ascii b e = by (b == 9) (b == 10) refl refl e
   where
@@ -100,7 +100,7 @@ ended_by_ascii b e = by (b == 9) (b == 10) refl refl e
     by false true tab feed e = omega (arith, eqb-true b 10 feed)
     by false false tab feed e = absurd (cc)
 
--- one that is no line feed is a tab
+-- A byte that ends a field is a tab if it is no line feed.
 pub is_tab : (b : ℕ) → is_byte2 9 10 b ≡ true → (b ≡ 10 → ⊥) → b ≡ 9
 is_tab b e other = by (b == 9) (b == 10) refl refl e
   where

@@ -1,4 +1,4 @@
--- The forms of lines: how all fields of a line come from those that are kept.
+-- The forms of lines: the fields of a line are determined by its form and its kept fields.
 use Rattle.std.specs.Prelude.{ℕ, List, [], ◌∷◌, Bool, true, false, codes, map}
 use Rattle.std.specs.List.{slice_range}
 use Rattle.guppy_packages.specs.Rows.{Text}
@@ -8,7 +8,7 @@ use Rattle.row_files.specs.declared.line.Form.{Form}
 use Rattle.row_files.specs.declared.line.Form.TheVariants as form
 use Rattle.row_files.specs.declared.line.Line.{Line}
 
--- one of two words
+-- One of two words.
 abbrev pub word_of : Text → Text → Bool → Text
 word_of true_word false_word true = true_word
 word_of true_word false_word false = false_word
@@ -18,7 +18,7 @@ kind_word Normal = codes "normal"
 kind_word Build = codes "build"
 kind_word Development = codes "dev"
 
--- the fields of a line of this form
+-- All fields of a line of this form, from its kept fields.
 abbrev pub fields_of : Form → List Text → List Text
 fields_of form.Malformed kept = kept
 fields_of (form.Package in_workspace) (id ∷ []) = codes "package" ∷ id ∷ word_of (codes "workspace") (codes "external") in_workspace ∷ []
@@ -29,7 +29,7 @@ fields_of (form.PlatformDep kind optional defaults) (name ∷ target ∷ platfor
     codes "dep" ∷ name ∷ target ∷ kind_word kind ∷ word_of (codes "optional") (codes "required") optional ∷ platform ∷ word_of (codes "default") (codes "nodefault") defaults ∷ features
 fields_of _ _ = []
 
--- a line whose kept fields stand at its places among those of all lines
+-- The number and all fields of a line, from the list of kept fields of all lines.
 abbrev pub line_text : List Text → Line → ℕ × List Text
 line_text kept line = (line.number, fields_of line.form (slice_range kept line.start line.end))
 

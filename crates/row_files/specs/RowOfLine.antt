@@ -5,7 +5,7 @@ use Rattle.guppy_packages.specs.Rows.{Text, RowText, a_package, a_feature, a_dep
 use Rattle.guppy_packages.specs.declared.row.DependencyKind.{DependencyKind}
 use Rattle.guppy_packages.specs.declared.row.DependencyKind.TheVariants.{Normal, Build, Development}
 
--- one of two words
+-- Whether the word is the first or the second of two words; `None` if it is neither.
 abbrev pub choice : Text → Text → Text → Option Bool
 choice true_word false_word word = if bytes_eq word true_word then Some true else (if bytes_eq word false_word then Some false else None)
 
@@ -15,7 +15,7 @@ kind_of word =
     else (if bytes_eq word (codes "build") then Some Build
     else (if bytes_eq word (codes "dev") then Some Development else None))
 
--- `*` is every platform
+-- The platform; `*` is every platform.
 abbrev pub platform_of : Text → Option Text
 platform_of text = if bytes_eq text (codes "*") then None else Some text
 
@@ -40,7 +40,7 @@ dep_row (name ∷ target ∷ kind ∷ need ∷ platform ∷ defaults ∷ feature
   Some (a_dep name target (record { kind = k; optional = o; platform = platform_of platform; default_features = d; features = features }))
 dep_row _ = None
 
--- the row of a line's fields, unless they are malformed
+-- The row of a line's fields, or `None` if they are malformed.
 abbrev pub row_of : List Text → Option RowText
 row_of [] = None
 row_of (word ∷ fields) =

@@ -5,10 +5,10 @@ use Rattle.guppy_packages.specs.Rows.{Text, RowText}
 use Rattle.row_files.specs.RowOfLine.{row_of}
 use Rattle.row_files.specs.RowFile.{rows_of}
 
--- the rows of the lines that give one
+-- The rows of the lines that have one.
 abbrev pub rows_in : List (ℕ × List Text) → List RowText
 rows_in = filter_map (λ line. row_of line.1)
 
--- no line is malformed
+-- No line is malformed.
 abbrev pub AreWellFormed : List (ℕ × List Text) → Type 0
 AreWellFormed lines = rows_of lines ≡ Ok (rows_in lines)

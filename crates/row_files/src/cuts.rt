@@ -1,9 +1,9 @@
-//! Which lines are skipped.
+//! Lines that are skipped.
 ghost use Rattle.std.specs.Prelude.{◌≡◌};
 ghost use Rattle.guppy_packages.specs.Rows.{texts};
 ghost use Rattle.row_files.specs.inner.CutLines.{skips_fields};
 
-/// Whether a line with these fields is empty or a comment.
+/// Returns true if a line with these fields is empty or a comment.
 pub fn skips(fields: &[&str]) -> bool
     ensures { result ≡ skips_fields (texts fields.now) }
 {

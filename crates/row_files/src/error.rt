@@ -1,17 +1,17 @@
-//! Why the bytes of a row file give no package graph.
+//! Errors of reading a row file.
 use guppy_packages::RowFault;
 use std::alloc::{AllocError, AllocFailed};
 
-/// Why the bytes of a row file give no package graph; lines are counted from 1.
+/// Reasons why the bytes of a row file aren't a package graph. Lines are counted from 1.
 #[derive(Clone, Copy, PartialEq, Eq, Debug)]
 pub enum RowFileError {
-    /// The bytes are no UTF-8.
+    /// The bytes aren't UTF-8.
     NotText,
-    /// The fields of a line are no row's.
+    /// The fields of this line aren't those of a row.
     Malformed { line: usize },
-    /// The row in this line is at fault.
+    /// The row in this line has a fault.
     Row { line: usize, fault: RowFault },
-    /// Memory ran out.
+    /// An allocation failed.
     Memory,
 }
 

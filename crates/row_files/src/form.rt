@@ -49,7 +49,7 @@ fn kind(word: &str) -> Option<DependencyKind>
     }
 }
 
-/// The form of a line of these fields after the word `package`.
+/// Returns the form of a line with these fields after the word `package`.
 fn package(fields: &[&str]) -> Form
     ensures fields { fields_of result (kept_of result (codes "package" ∷ texts fields.now)) ≡ codes "package" ∷ texts fields.now }
     ensures row { form_row result (kept_of result (codes "package" ∷ texts fields.now)) ≡ package_row (texts fields.now) }
@@ -64,7 +64,7 @@ fn package(fields: &[&str]) -> Form
     }
 }
 
-/// The form of a line of these fields after the word `feature`.
+/// Returns the form of a line with these fields after the word `feature`.
 fn feature(fields: &[&str]) -> Form
     ensures fields { fields_of result (kept_of result (codes "feature" ∷ texts fields.now)) ≡ codes "feature" ∷ texts fields.now }
     ensures row { form_row result (kept_of result (codes "feature" ∷ texts fields.now)) ≡ feature_row (texts fields.now) }
@@ -77,7 +77,7 @@ fn feature(fields: &[&str]) -> Form
     }
 }
 
-/// The form of a line of these fields after the word `dep`.
+/// Returns the form of a line with these fields after the word `dep`.
 fn dep(fields: &[&str]) -> Form
     ensures fields { fields_of result (kept_of result (codes "dep" ∷ texts fields.now)) ≡ codes "dep" ∷ texts fields.now }
     ensures row { form_row result (kept_of result (codes "dep" ∷ texts fields.now)) ≡ dep_row (texts fields.now) }
@@ -106,7 +106,7 @@ fn dep(fields: &[&str]) -> Form
     }
 }
 
-/// The form of a line with these fields.
+/// Returns the form of a line with these fields.
 pub(crate) fn form_of(fields: &[&str]) -> Form
     ensures fields { fields_of result (kept_of result (texts fields.now)) ≡ texts fields.now }
     ensures row { form_row result (kept_of result (texts fields.now)) ≡ row_of (texts fields.now) }

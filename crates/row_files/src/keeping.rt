@@ -1,4 +1,4 @@
-//! Keeping the fields of a line that its row speaks of.
+//! The fields of a line that are kept for its row.
 ghost use Rattle.std.specs.Prelude.{◌≡◌, ◌++◌, length, take, OnOk};
 ghost use Rattle.guppy_packages.specs.Rows.{texts};
 ghost use Rattle.row_files.specs.inner.KeptFields.{dep_kept, kept_of, platform_dep_kept};
@@ -6,7 +6,8 @@ ghost use Rattle.row_files.specs.inner.KeptFields.{dep_kept, kept_of, platform_d
 use crate::line::Form;
 use std::alloc::AllocError;
 
-/// Adds the fields of a dependency on every platform.
+/// Appends the kept fields of a dependency on every platform. An allocation failure is the only
+/// error.
 fn keep_dep<'t>(kept: &mut Vec<&'t str>, fields: &[&'t str]) -> Result<(), AllocError>
     ensures added { OnOk result (texts kept.new.items ≡ texts kept.old.items ++ dep_kept (texts fields.now)) }
     ensures grows { take (length kept.old.items) kept.new.items ≡ kept.old.items }
@@ -21,7 +22,8 @@ fn keep_dep<'t>(kept: &mut Vec<&'t str>, fields: &[&'t str]) -> Result<(), Alloc
     kept.extend_from_slice(features)
 }
 
-/// Adds the fields of a dependency on some platforms.
+/// Appends the kept fields of a dependency on some platforms. An allocation failure is the only
+/// error.
 fn keep_platform_dep<'t>(kept: &mut Vec<&'t str>, fields: &[&'t str]) -> Result<(), AllocError>
     ensures added { OnOk result (texts kept.new.items ≡ texts kept.old.items ++ platform_dep_kept (texts fields.now)) }
     ensures grows { take (length kept.old.items) kept.new.items ≡ kept.old.items }
@@ -36,7 +38,7 @@ fn keep_platform_dep<'t>(kept: &mut Vec<&'t str>, fields: &[&'t str]) -> Result<
     kept.extend_from_slice(features)
 }
 
-/// Adds what is kept of the fields of a line of this form.
+/// Appends the kept fields of a line of this form. An allocation failure is the only error.
 pub(crate) fn keep<'t>(
     kept: &mut Vec<&'t str>,
     form: Form,

@@ -1,4 +1,5 @@
-//! Row files: from bytes to lines, to fields, to rows, and to the package graph or the first fault.
+//! Row files: bytes are split into lines and fields, read as rows, and made into the package graph or
+//! the first fault.
 #![tactic(auto)]
 
 mod cuts;

@@ -1,27 +1,28 @@
-//! What is kept of a line.
+//! A line and its kept fields.
 ghost use Rattle.std.specs.Prelude.{◌≡◌, ℕ, IfOk};
 
 use guppy_packages::DependencyKind;
 use std::alloc::AllocError;
 
-/// What the kept fields of a line are.
+/// The form of a line. It says which fields are kept, and stores the others.
 #[derive(Clone, Copy)]
 pub enum Form {
-    /// All fields of a line that is no row.
+    /// A line that is no row. All its fields are kept.
     Malformed,
-    /// A package's id.
+    /// A package. Its id is kept.
     Package {
         in_workspace: bool,
     },
-    /// A feature's name and its items.
+    /// A feature. Its name and its items are kept.
     Feature,
-    /// The name of a dependency on every platform, its target, and the features that it asks for.
+    /// A dependency on every platform. Its name, its target and its listed features are kept.
     Dep {
         kind: DependencyKind,
         optional: bool,
         default_features: bool,
     },
-    /// The name of a dependency on some platforms, its target, which platforms, and the features that it asks for.
+    /// A dependency on some platforms. Its name, its target, the platforms and its listed features
+    /// are kept.
     PlatformDep {
         kind: DependencyKind,
         optional: bool,
@@ -32,7 +33,7 @@ pub enum Form {
 impl Form {
     ghost use Rattle.row_files.specs.inner.KeptFields.{is_malformed};
 
-    /// Whether the line is no row.
+    /// Returns true if the line is no row.
     pub(crate) fn is_malformed(self) -> bool
         ensures { result ≡ is_malformed self }
     {
@@ -40,8 +41,8 @@ impl Form {
     }
 }
 
-/// A line that is not skipped: its number, and where its kept fields stand among those of all lines. There are many, so a line takes
-/// 16 bytes.
+/// A line that isn't skipped: its number, and the range of its kept fields in the list for all lines.
+/// A line takes only 16 bytes, because there are many.
 #[derive(Clone, Copy)]
 pub struct Line {
     pub(crate) number: u32,
@@ -50,10 +51,10 @@ pub struct Line {
     pub(crate) form: Form,
 }
 
-/// Numbers beyond this one don't fit in 32 bits.
+/// The last number that fits in 32 bits.
 const LAST_NUMBER: usize = 4294967295;
 
-/// The number, in 32 bits. One that doesn't fit is answered as want of memory.
+/// Returns the number in 32 bits, or `AllocError` if it doesn't fit.
 fn narrow(number: usize) -> Result<u32, AllocError>
     ensures { IfOk result (λ narrow. narrow ≡ number) }
 {
@@ -66,7 +67,8 @@ fn narrow(number: usize) -> Result<u32, AllocError>
 impl Line {
     ghost use Rattle.row_files.specs.declared.line.Line.{Line};
 
-    /// The line of this number, whose kept fields stand there.
+    /// Returns the line with this number, whose kept fields are `start..end`. Returns `AllocError` if
+    /// a number doesn't fit in 32 bits.
     pub(crate) fn new(
         number: usize,
         start: usize,

@@ -10,7 +10,7 @@ use crate::line::Line;
 use memchr::memchr2_iter;
 use std::alloc::{AllocError, Global};
 
-/// The lines that are not skipped, and what is kept of their fields, all in one list.
+/// The lines that aren't skipped, and the kept fields of all of them in one list.
 #[derive(Drop)]
 pub struct Lines<'t> {
     pub(crate) kept: Vec<&'t str>,
@@ -26,7 +26,8 @@ impl<'t> Lines<'t> {
     ghost use Rattle.row_files.specs.RowFile.{line_of, lines_of};
     ghost use Rattle.row_files.specs.inner.CutLines.{kept_line};
 
-    /// Adds a line.
+    /// Appends a line. Returns `AllocError` if an allocation fails or a number doesn't fit in 32
+    /// bits.
     fn push(&mut self, number: usize, fields: &[&'t str]) -> Result<(), AllocError>
         ensures { OnOk result (lines_of self.new ≡ lines_of self.old ++ (number, texts fields.now) ∷ []) }
     {
@@ -40,7 +41,7 @@ impl<'t> Lines<'t> {
         }
     }
 
-    /// Adds a line that has ended, unless it is skipped.
+    /// Appends a line that has ended, unless it is skipped. The errors are those of `push`.
     fn end_line(&mut self, number: usize, fields: &[&'t str]) -> Result<(), AllocError>
         ensures { OnOk result (lines_of self.new ≡ lines_of self.old ++ kept_line number (texts fields.now)) }
     {
@@ -51,7 +52,8 @@ impl<'t> Lines<'t> {
         }
     }
 
-    /// Adds a field that has ended to those of its line, and the line, if it ends there too. Tells the number of the line that goes on.
+    /// Appends a field to those of its line. If `ends`, also appends the line, and clears `fields`.
+    /// Returns the number of the line that the next field belongs to. The errors are those of `push`.
     #[inline(always)]
     fn end_field(
         &mut self,
@@ -74,7 +76,8 @@ impl<'t> Lines<'t> {
         Ok(number)
     }
 
-    /// The lines that count, with their numbers and fields.
+    /// Splits `text` into lines and fields, without the lines that are skipped. Returns `AllocError`
+    /// if an allocation fails or a number doesn't fit in 32 bits.
     pub fn of(alloc: Global, text: &'t str) -> Result<Self, AllocError>
         ensures { IfOk result (λ l. lines_of l ≡ kept_lines 1 (lines_in text.now)) }
     {
@@ -95,14 +98,14 @@ impl<'t> Lines<'t> {
         Ok(lines)
     }
 
-    /// How many lines there are.
+    /// Returns the number of lines that aren't skipped.
     pub(crate) fn line_count(&self) -> usize
         ensures { result ≡ length (lines_of self.now) }
     {
         self.lines.len()
     }
 
-    /// Whether the line at this place is no row.
+    /// Returns true if the line at place `at` is no row.
     pub(crate) fn is_malformed(&self, at: usize) -> bool
         requires { at < length (lines_of self.now) }
         ensures { option_map (λ line. is_none (row_of line.1)) (slice_get (lines_of self.now) at) ≡ Some result }
@@ -110,7 +113,7 @@ impl<'t> Lines<'t> {
         self.lines[at].form.is_malformed()
     }
 
-    /// The number of the line at this place.
+    /// Returns the number of the line at place `at`, counted from 1 in the whole text.
     pub(crate) fn line_number(&self, at: usize) -> usize
         requires { at < length (lines_of self.now) }
         ensures { result ≡ line_of (lines_of self.now) at }

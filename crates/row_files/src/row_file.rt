@@ -9,7 +9,8 @@ use crate::rows::LineRows;
 use guppy_packages::{PackageGraph, RowFault};
 use std::alloc::{AllocError, Global};
 
-/// The package graph of the lines that count, or the first fault: malformed lines come before rows.
+/// Builds the package graph of `lines`. Returns `Malformed` for the first malformed line. If there is
+/// none, returns `Row` for the first fault of the rows. Returns `Memory` if an allocation fails.
 pub fn graph_of_lines(alloc: Global, lines: &Lines) -> Result<PackageGraph, RowFileError>
     ensures { Gives (λ graph. graph) result (tables_of_lines (lines_of lines.now)) }
 {
@@ -26,7 +27,8 @@ pub fn graph_of_lines(alloc: Global, lines: &Lines) -> Result<PackageGraph, RowF
     }
 }
 
-/// The package graph of a row file's bytes, or the first fault.
+/// Builds the package graph of a row file's bytes. Returns `NotText` if they aren't UTF-8, and
+/// otherwise the errors of [`graph_of_lines`].
 pub fn graph_of(alloc: Global, bytes: &[u8]) -> Result<PackageGraph, RowFileError>
     ensures { Gives (λ graph. graph) result (tables_in bytes.now) }
 {

@@ -1,4 +1,4 @@
-//! The rows of lines, from what is kept of their fields.
+//! The rows of lines, from their kept fields.
 ghost use Rattle.std.specs.Prelude.{◌≡◌, ◌<◌, Some, false, is_none, length, slice_get};
 ghost use Rattle.std.specs.Option.{option_map};
 ghost use Rattle.guppy_packages.specs.Rows.{texts, row_text};
@@ -12,7 +12,7 @@ use crate::line::Form;
 use crate::lines::Lines;
 use guppy_packages::{DependencyKind, Row, RowSource};
 
-/// The row of the kept fields of a dependency on every platform.
+/// Returns the row of a dependency on every platform, from its kept fields.
 #[inline(always)]
 fn dep<'a>(
     kind: DependencyKind,
@@ -37,7 +37,7 @@ fn dep<'a>(
     }
 }
 
-/// The row of the kept fields of a dependency on some platforms.
+/// Returns the row of a dependency on some platforms, from its kept fields.
 #[inline(always)]
 fn platform_dep<'a>(
     kind: DependencyKind,
@@ -62,8 +62,8 @@ fn platform_dep<'a>(
     }
 }
 
-/// The row of what is kept of a line's fields. This and its callers are inlined, so that who asks for a row and matches on it
-/// matches on the form.
+/// Returns the row of a line of this form, from its kept fields. This function and its callers are
+/// inlined, so that a caller's match on the row becomes a match on the form.
 #[inline(always)]
 fn row<'a>(form: Form, kept: &'a [&'a str]) -> Row<'a>
     requires { is_none (form_row form (texts kept.now)) ≡ false }
@@ -92,7 +92,7 @@ fn row<'a>(form: Form, kept: &'a [&'a str]) -> Row<'a>
     }
 }
 
-/// The row of the line at this place.
+/// Returns the row of the line at place `at`.
 #[inline(always)]
 fn row_at<'l>(lines: &'l Lines<'_>, at: usize) -> Row<'l>
     requires within { at < length (lines_of lines.now) }
@@ -106,7 +106,7 @@ fn row_at<'l>(lines: &'l Lines<'_>, at: usize) -> Row<'l>
     )
 }
 
-/// The rows of lines that are all well-formed. Each row is made when it is asked for.
+/// The rows of lines that are all well-formed. Each row is made when it is read.
 #[derive(Drop)]
 pub struct LineRows<'l, 't> {
     lines: &'l Lines<'t>,
@@ -116,7 +116,7 @@ pub struct LineRows<'l, 't> {
 impl<'l, 't> LineRows<'l, 't> {
     ghost use Rattle.std.specs.Prelude.{Ok, Err, IfErr, IfOk};
 
-    /// The rows of the lines, or the first malformed line.
+    /// Returns the rows of `lines`, or `Malformed` for the first malformed line.
     pub fn of(lines: &'l Lines<'t>) -> Result<Self, RowFileError>
         ensures ok { IfOk result (λ rows. rows.lines.now ≡ lines.now) }
         ensures rows { IfOk result (λ rows. rows_of (lines_of lines.now) ≡ Ok (rows_in (lines_of rows.lines.now))) }

@@ -1,4 +1,4 @@
--- What is reached from the nodes of one name, or from others of which something is said.
+-- Reach from the nodes of one name, and from nodes with a property.
 use Rattle.std.proofs.Common.{◌≡◌, ℕ, zero, suc, Bool, true, false, not, ◌&&◌, List, [], ◌∷◌, Some, refl, subst}
 use Rattle.std.specs.Prelude.{◌↔◌, IsTrue, slice_get}
 use Rattle.guppy_support.specs.Bits.{has}
@@ -11,7 +11,7 @@ use Rattle.feature_core.specs.Pairs.{Along, LeadsTo, Reach}
 use Rattle.feature_sets.specs.Names.{HoldsExactly}
 use Rattle.feature_sets.specs.Values.{Query}
 
--- the only name of a list of one
+-- The only name of a list of one.
 only : (name other : Text × LabelName) (k : ℕ) → slice_get (name ∷ []) k ≡ Some other → other ≡ name
 only name other zero h = cc
 only name other (suc k) h = cc
@@ -22,7 +22,7 @@ named_alone t name members exact n = (
   (λ h. (exact.exact n).1 (0, name, refl, h)),
 )
 
--- where the initial nodes are those of S, what is reached is at the end of a path from one of S
+-- If the initial nodes are those of S, a reached node is at the end of a path from one of S.
 pub reached_from : (t : Tables) (d : DependencyDirection) (S : ℕ → Type 0) (q : Query) (members : List Bool) → q.graph.tables ≡ t → q.direction ≡ d → ((n : ℕ) → IsTrue (has q.initials n) ↔ S n)
     → ((n : ℕ) → IsTrue (has members n) ↔ Reach q.graph.tables q.direction (has q.initials) n) → (n : ℕ) → IsTrue (has members n) ↔ ((m : ℕ) × S m × Along (LeadsTo t d) m n)
 reached_from t d S q members graph direction exact reach n =
@@ -32,7 +32,7 @@ reached_from t d S q members graph direction exact reach n =
       (λ h. here.1 (h.0, (exact h.0).1 h.1, h.2)),
     )
 
--- what the first holds and the second doesn't
+-- The nodes of the first set that aren't in the second.
 pub without : (a b c : Bool) (P Q : Type 0) → c ≡ (a && not b) → IsTrue a ↔ P → IsTrue b ↔ Q → IsTrue c ↔ (P × ¬ Q)
 without true true c P Q same p q = ((λ h. cc), (λ h. absurd (h.1 (q.0 refl))))
 without true false c P Q same p q = ((λ h. (p.0 refl, λ r. let clash : false ≡ true = q.1 r in cc)), (λ h. same))

@@ -1,4 +1,4 @@
--- What a workspace query starts from, where a filter accepts what is on by default and the named features of a list.
+-- The initials of a workspace query, if a filter accepts the features on by default and the named ones of a list.
 use Rattle.std.proofs.Common.{◌≡◌, ℕ, zero, suc, ◌⊎◌, inl, inr, ⊎_elim, Bool, true, false, List, [], ◌∷◌, map, Option, Some, refl, sym, ◌∙◌, ap, subst, arith}
 use Rattle.std.specs.Prelude.{◌↔◌, IsTrue, slice_get, Contains}
 use Rattle.std.specs.Option.{option_map_or}
@@ -17,7 +17,7 @@ use Rattle.feature_sets.specs.Names.{TellsDefault}
 use Rattle.feature_sets.specs.Values.{Graph}
 use Rattle.uses.specs.Answers.{IsSelected}
 
--- the name is accepted exactly where it is on by default, or listed
+-- The name is accepted exactly if it is on by default or listed.
 pub record Rules (t : Tables) (names : List Text) (name : Text × LabelName) (answer : Bool) : Type 0 where
   pub own : Bool
   pub default : TellsDefault t name own
@@ -33,7 +33,7 @@ at_contains [] x (k, below, same) = absurd (omega arith)
 at_contains (y ∷ xs) x (zero, below, same) = (0, ap Some same)
 at_contains (y ∷ xs) x (suc k, below, same) = let rest = at_contains xs x (k, omega arith, same) in (suc rest.0, rest.1)
 
--- a question with its answer
+-- A question with its answer.
 abbrev Asked : Type 0
 Asked = (Text × LabelName) × Bool
 
@@ -43,14 +43,14 @@ first_is x y a b h = ap (λ (o : Option Asked). option_map_or (λ (p : Asked). p
 answer_is : (x y : Text × LabelName) (a b : Bool) → ◌≡◌ {A = Option Asked} (Some (x, a)) (Some (y, b)) → a ≡ b
 answer_is x y a b h = ap (λ (o : Option Asked). option_map_or (λ (p : Asked). p.1) o a) h
 
--- an accepted name was asked for
+-- An accepted name was asked for.
 asked : (run : Run) (k : ℕ) (name : Text × LabelName) → slice_get (accepted run) k ≡ Some name → (j : ℕ) × (slice_get run j ≡ Some (name, true))
 asked [] k name h = cc
 asked ((other, true) ∷ run) zero name h = let same : other ≡ name = cc in (0, ap (λ x. Some (x, true)) same)
 asked ((other, true) ∷ run) (suc k) name h = let rest = asked run k name h in (suc rest.0, rest.1)
 asked ((other, false) ∷ run) k name h = let rest = asked run k name h in (suc rest.0, rest.1)
 
--- a name that was asked for with the answer yes is accepted
+-- A name that was asked for, with the answer yes, is accepted.
 stands : (run : Run) (k : ℕ) (name : Text × LabelName) → slice_get run k ≡ Some (name, true) → (j : ℕ) × (slice_get (accepted run) j ≡ Some name)
 stands [] k name h = cc
 stands ((other, true) ∷ run) zero name h = (0, ap Some (first_is other name true true h))
@@ -73,7 +73,7 @@ same_listed xs ys same base = ((λ h. h), (λ h. h))
 same_listed xs ys same (named name) = same name
 same_listed xs ys same (optional name) = ((λ h. h), (λ h. h))
 
--- while P holds, each answer is by the rule, and P goes on
+-- While P holds, each answer is by the rule, and P holds after it.
 module _ {S : Type 0} (gives : S → Graph → Text × LabelName → Bool → S → Type 0) (g : Graph) (P : S → Type 0) (listed : List Text) (step : (s : S) (name : Text × LabelName) (answer : Bool) (t : S) → P s → gives s g name answer t → P t × Rules g.tables listed name answer) where
   ruled : (run : Run) (s t : S) (k : ℕ) (name : Text × LabelName) (answer : Bool) → P s → Ran gives g s run t → slice_get run k ≡ Some (name, answer) → Rules g.tables listed name answer
   ruled [] s t k name answer holds ran h = cc
@@ -105,12 +105,12 @@ module _ {S : Type 0} (gives : S → Graph → Text × LabelName → Bool → S 
         (sel.exact.exact n).1 (there.0, h.name, there.1, h.named)),
   )
 
--- what the filter may do, where its base is a standard filter
+-- The steps of the filter, if its base is a standard filter.
 abbrev pub Gives : NamedFeatureFilter StandardFeatures → Graph → Text × LabelName → Bool → NamedFeatureFilter StandardFeatures → Type 0
 Gives s g i r t =
     (listed_names t ≡ listed_names s) × AddsToBase (λ (p : StandardFeatures) h j b q. (q ≡ p) × StandardAccepts p h.tables j b) (base_of_names s) g i r (base_of_names t) (ListsLabel (listed_names s) i.1)
 
--- it keeps its base and its list
+-- It keeps its base and its list.
 abbrev pub IsDefaultWith : List Text → NamedFeatureFilter StandardFeatures → Type 0
 IsDefaultWith listed s = (base_of_names s ≡ Default) × (listed_names s ≡ listed)
 

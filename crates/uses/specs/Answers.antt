@@ -1,4 +1,4 @@
--- What the examples answer.
+-- The results of the examples.
 use Rattle.std.specs.Prelude.{◌⊎◌, ℕ, Bool, true, false, not, List, Contains}
 use Rattle.std.specs.List.{list_any}
 use Rattle.std.specs.Option.{option_map_or}
@@ -21,36 +21,35 @@ use Rattle.feature_sets.specs.LinkValues.{Link, facts_of, status_for}
 use Rattle.feature_sets.specs.Values.{Graph}
 use Rattle.feature_sets.specs.Visits.{offered}
 
--- a path of edges, as the direction follows them, leads from the feature of this name to the node; the empty path leads to the
--- feature itself
+-- A path of edges in this direction, possibly empty, leads from the feature of this name to the node.
 abbrev pub IsLedTo : Tables → DependencyDirection → Text × LabelName → ℕ → Type 0
 IsLedTo t direction name n = (m : ℕ) × NodeNamed t m name × Along (LeadsTo t direction) m n
 
--- the node is a feature of a package of the workspace that is on by default in its package, or a named one of these names
+-- The node is a feature of a workspace package that is on by default there, or a named one in the list.
 pub record IsSelected (t : Tables) (names : List Text) (n : ℕ) : Type 0 where
   pub name : Text × LabelName
   pub named : NodeNamed t n name
   pub in_workspace : Contains (workspace_names t) name
   pub chosen : IsDefault t n ⊎ ListsLabel names name.1
 
--- a path of edges, possibly empty, leads from such a feature to the node
+-- A path of edges, possibly empty, leads from such a feature to the node.
 abbrev pub IsSelectedOrNeeded : Tables → List Text → ℕ → Type 0
 IsSelectedOrNeeded t names n = (m : ℕ) × IsSelected t names m × Along (LeadsTo t Forward) m n
 
--- whether a status holds on the platform of this spec
+-- Whether a status holds on the platform of this spec.
 abbrev pub holds_on : Text → Status → Bool
 holds_on spec never_status = false
 holds_on spec always_status = true
 holds_on spec (spec_status specs) = list_any (λ s. bytes_eq s spec) specs
 
--- whether the link is for this kind of dependency on the platform of this spec
+-- Whether the link is for this kind of dependency on the platform of this spec.
 abbrev pub is_on_platform : Text → DependencyKind → Link → Bool
 is_on_platform spec kind l = option_map_or (λ facts. holds_on spec (status_for kind facts)) (facts_of l) false
 
--- whether the link is for more than development
+-- Whether the link is not only for development.
 abbrev pub is_shipped : Link → Bool
 is_shipped l = option_map_or (λ facts. not (is_dev_link facts)) (facts_of l) false
 
--- a test of links as a test of the offers of a graph
+-- A test of links as a test of the offers of a graph.
 abbrev pub by_links : (Link → Bool) → Graph → ℕ → Half → Bool
 by_links test g e h = test (offered g e h)

@@ -1,4 +1,4 @@
-//! What a feature brings in, and who brings it in.
+//! The features that a feature turns on, and those that turn it on.
 ghost use Rattle.std.specs.Prelude.{◌≡◌, ◌↔◌, ℕ, IsTrue, IfOk};
 ghost use Rattle.guppy_support.specs.Bits.{has};
 ghost use Rattle.feature_labels.specs.Names.{id_of};
@@ -12,7 +12,7 @@ use guppy_features::{
 };
 use std::alloc::Global;
 
-/// The features to which a feature leads over edges, whatever platforms these are for; the feature itself is among them.
+/// Returns the features to which `id` leads over all edges, for every platform, with `id` itself.
 pub fn brings_in<'g, 'a>(
     alloc: Global,
     graph: FeatureGraph<'g>,
@@ -25,7 +25,7 @@ pub fn brings_in<'g, 'a>(
     query.resolve(alloc)
 }
 
-/// The features that lead to a feature over edges: why it is on. The feature itself is among them.
+/// Returns the features that lead to `id` over all edges, with `id` itself.
 pub fn brought_in_by<'g, 'a>(
     alloc: Global,
     graph: FeatureGraph<'g>,
@@ -38,7 +38,7 @@ pub fn brought_in_by<'g, 'a>(
     query.resolve(alloc)
 }
 
-/// Both, for two features.
+/// Prints both sets, for two features.
 pub fn show(out: &mut Out, alloc: Global, graph: FeatureGraph<'_>) -> Result<(), Failure> {
     let main = PackageId::new(alloc, "main")?;
     let union = FeatureId::new(&main, FeatureLabel::Named("smallvec-union"));
@@ -49,7 +49,7 @@ pub fn show(out: &mut Out, alloc: Global, graph: FeatureGraph<'_>) -> Result<(),
     show_reverse(out, alloc, graph)
 }
 
-/// The features that bring in one of a dependency.
+/// Prints the features that lead to the base of a dependency.
 fn show_reverse(out: &mut Out, alloc: Global, graph: FeatureGraph<'_>) -> Result<(), Failure> {
     let sv = PackageId::new(alloc, "sv")?;
     let base = FeatureId::new(&sv, FeatureLabel::Base);

@@ -1,4 +1,4 @@
-//! What differs between two sets: what default features bring in besides, package by package.
+//! The difference of two sets: the features that default features add, package by package.
 ghost use Rattle.std.specs.Prelude.{◌↔◌, ℕ, IsTrue, IfOk};
 ghost use Rattle.guppy_support.specs.Bits.{has};
 ghost use Rattle.feature_labels.specs.Names.{id_of};
@@ -13,7 +13,7 @@ use guppy_features::{
 };
 use std::alloc::Global;
 
-/// The features that the first feature brings in, and the second doesn't.
+/// Returns the features to which `first` leads and `second` doesn't.
 pub fn besides<'g, 'a>(
     alloc: Global,
     graph: FeatureGraph<'g>,
@@ -29,7 +29,7 @@ pub fn besides<'g, 'a>(
     with.difference(alloc, &without)
 }
 
-/// The features of a set, a line for each package of which it has one.
+/// Prints the features of `set`, a line for each package that has one.
 fn show_by_package(out: &mut Out, alloc: Global, set: &FeatureSet<'_>) -> Result<(), Failure> {
     for list in set.packages_with_features(alloc, DependencyDirection::Forward) {
         let list = list?;
@@ -40,7 +40,7 @@ fn show_by_package(out: &mut Out, alloc: Global, set: &FeatureSet<'_>) -> Result
     Ok(())
 }
 
-/// What an application's default features bring in besides what it brings in without a feature.
+/// Prints the features that an application's default features add.
 pub fn show(out: &mut Out, alloc: Global, graph: FeatureGraph<'_>) -> Result<(), Failure> {
     let app = PackageId::new(alloc, "app")?;
     let default = FeatureId::new(&app, FeatureLabel::Named("default"));

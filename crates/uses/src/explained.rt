@@ -1,4 +1,4 @@
-//! An explanation, and its check: a right one, and one that leaves out what an optional half waits for.
+//! An explanation and its check: a right one, and one without the gate of an optional half.
 use crate::failure::Failure;
 use crate::out::Out;
 use guppy_features::{
@@ -7,7 +7,7 @@ use guppy_features::{
 };
 use std::alloc::Global;
 
-/// Writes an id and why it is on.
+/// Prints an id and the reason why it is on.
 fn show_step(out: &mut Out, id: FeatureId<'_>, reason: Reason<'_>) {
     out.part("step:");
     out.id(id);
@@ -30,7 +30,7 @@ fn show_step(out: &mut Out, id: FeatureId<'_>, reason: Reason<'_>) {
     }
 }
 
-/// What a weak item brings in, explained, and checked by someone who need not trust who explained it.
+/// Prints the features that a weak item turns on, with their explanation and its check.
 pub fn show(out: &mut Out, alloc: Global, graph: FeatureGraph<'_>) -> Result<(), Failure> {
     let main = PackageId::new(alloc, "main")?;
     let sv = PackageId::new(alloc, "sv")?;
@@ -38,7 +38,7 @@ pub fn show(out: &mut Out, alloc: Global, graph: FeatureGraph<'_>) -> Result<(),
     show_wrong(out, alloc, graph, &main, &sv)
 }
 
-/// The explanation that a resolve gives, which is accepted.
+/// Prints the explanation of a resolve, which the check accepts.
 fn show_right(
     out: &mut Out,
     alloc: Global,
@@ -57,7 +57,7 @@ fn show_right(
     Ok(())
 }
 
-/// One that is refused: the weak item's optional half isn't a reason where its optional dependency isn't on.
+/// Prints an explanation that the check refuses: the optional half of a weak item is no reason if its dependency is off.
 fn show_wrong<'g>(
     out: &mut Out,
     alloc: Global,

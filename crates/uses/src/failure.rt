@@ -1,16 +1,16 @@
-//! Why an example has no answer.
+//! The error of an example.
 use guppy_features::Error;
 use row_files::RowFileError;
 use std::alloc::{AllocError, AllocFailed};
 
-/// Why an example has no answer. A user's program would say more.
+/// The error of an example. A user's program would say more.
 #[derive(Clone, Copy, PartialEq, Eq, Debug)]
 pub enum Failure {
-    /// The text is no row file.
+    /// The text isn't a row file.
     Rows,
-    /// The graph lacks a feature or a package that was named.
+    /// The graph lacks a feature or a package.
     Unknown,
-    /// Memory was refused.
+    /// An allocation failed.
     Memory,
 }
 

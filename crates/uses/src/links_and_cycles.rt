@@ -1,10 +1,10 @@
-//! The links between features, and the cycles among these.
+//! The links between features, and their cycles.
 use crate::failure::Failure;
 use crate::out::Out;
 use guppy_features::{DependencyDirection, FeatureGraph, FeatureId};
 use std::alloc::Global;
 
-/// The features of a cycle, on a line.
+/// Prints the features of a cycle on a line.
 fn show_cycle(out: &mut Out, ids: &[FeatureId<'_>]) {
     out.part("cycle:");
     for id in ids {
@@ -13,8 +13,8 @@ fn show_cycle(out: &mut Out, ids: &[FeatureId<'_>]) {
     out.line("");
 }
 
-/// Each conditional link of the graph, with the features at its ends, and whether it is for development alone. An edge
-/// within a package, as from a feature to its base, is no such link.
+/// Prints each conditional link of the graph with its ends, and whether it is only for development. An edge within a
+/// package, as from a feature to its base, is no conditional link.
 fn show_links(out: &mut Out, alloc: Global, graph: FeatureGraph<'_>) -> Result<(), Failure> {
     let all = graph.resolve_all(alloc)?;
     for link in all.conditional_links(DependencyDirection::Forward) {
@@ -31,7 +31,7 @@ fn show_links(out: &mut Out, alloc: Global, graph: FeatureGraph<'_>) -> Result<(
     Ok(())
 }
 
-/// The links, and then the cycles.
+/// Prints the links, and then the cycles.
 pub fn show(out: &mut Out, alloc: Global, graph: FeatureGraph<'_>) -> Result<(), Failure> {
     show_links(out, alloc, graph)?;
     for cycle in graph.cycles().all_cycles(alloc) {

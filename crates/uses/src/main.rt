@@ -1,13 +1,13 @@
-//! The library in use: examples, one file each, over small texts of rows. The program runs them all, and prints what they answer.
+//! Examples of the library, one file each, over small texts of rows. The program runs them all and prints their results.
 //!
-//! - `brings_in`: from rows to a graph, what a feature brings in, and who brings it in.
-//! - `workspace`: what the workspace selects by default and by names, and what that brings in.
+//! - `brings_in`: from rows to a graph; the features that a feature turns on, and those that turn it on.
+//! - `workspace`: the features that the workspace selects by default and by names, and those that they turn on.
 //! - `one_platform`: a visitor that follows the links of one platform.
-//! - `one_test`: a visitor that counts, in each form in which a visitor can be handed over.
-//! - `links_and_cycles`: the links between features, and the cycles among these.
-//! - `difference`: what default features bring in besides, package by package.
-//! - `counted`: a filter that counts what it is asked, under the filters over lists.
-//! - `explained`: why features are on, and checks of a right explanation and of a wrong one.
+//! - `one_test`: a visitor that counts, in each form of a visitor.
+//! - `links_and_cycles`: the links between features, and their cycles.
+//! - `difference`: the features that default features add, package by package.
+//! - `counted`: a filter that counts its questions, below the filters over lists.
+//! - `explained`: why features are on, and checks of a right and a wrong explanation.
 //! - `linter`: which forbidden features a build for a platform turns on, and why.
 #![tactic(auto)]
 
@@ -31,7 +31,7 @@ use row_files::graph_of;
 use std::alloc::Global;
 use std::process::ExitCode;
 
-/// Which example.
+/// The name of an example.
 #[derive(Clone, Copy)]
 enum Example {
     BringsIn,
@@ -79,8 +79,8 @@ fn show_over(
     }
 }
 
-/// Makes the graph of a text of rows, and runs an example over it. A row file's bytes are read in the same way. Whoever has
-/// rows of his own hands them to `PackageGraph::from_rows` in place of `graph_of`.
+/// Makes the graph of a text of rows, and runs an example over it. The bytes of a row file are read in the same way. For
+/// rows of your own call `PackageGraph::from_rows` in place of `graph_of`.
 fn show(out: &mut Out, alloc: Global, example: Example, text: &str) -> Result<(), Failure> {
     let packages = graph_of(alloc, text.as_bytes())?;
     let built = FeatureGraphData::build(alloc, &packages, 1)?;

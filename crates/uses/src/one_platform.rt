@@ -17,15 +17,15 @@ use guppy_features::{
 };
 use std::alloc::Global;
 
-/// A platform, by the text of the one spec that holds on it, and the kind of dependency that is looked at. A program that
-/// knows more specs of its platform has a list of them here.
+/// A platform with one spec that holds on it, and the kind of dependency that is followed. Most platforms have a list of
+/// such specs; `PlatformVisitor` takes one.
 #[derive(Clone, Copy)]
 pub struct OnePlatform<'s> {
     pub spec: &'s str,
     pub kind: DependencyKind,
 }
 
-/// Whether a spec is among these.
+/// Returns true if `spec` is the text of one of `specs`.
 fn is_among(spec: &str, specs: &[Spec]) -> bool
     ensures { result ≡ list_any (λ s. bytes_eq (spec_text s) spec.now) specs.now }
 {
@@ -33,7 +33,7 @@ fn is_among(spec: &str, specs: &[Spec]) -> bool
 }
 
 impl<'s> OnePlatform<'s> {
-    /// Whether a status holds on the platform: always, or it lists the platform's spec.
+    /// Returns true if `status` holds on the platform: it is always, or has the platform's spec.
     fn meets(&self, status: PlatformStatus<'_>) -> bool
         ensures { result ≡ holds_on self.now.spec.now (status_of status.entry) }
     {
@@ -46,10 +46,10 @@ impl<'s> OnePlatform<'s> {
 }
 
 impl<'g, 's> FeatureLinkVisitor<'g> for OnePlatform<'s> {
-    // it may be shown every link
+    // every link may be shown
     ghost can_visit = { λ _ _ _. Unit {0} };
 
-    // it stays as it is, and its answer is a test of the link alone
+    // the visitor doesn't change, and its result depends on the link alone
     ghost visit_gives = { λ s _ l answer t. (t ≡ s) × (answer ≡ is_on_platform s.spec.now s.kind l) };
 
     fn visit_link(&mut self, _: &FeatureLinkContext<'g>, link: ConditionalLink<'g>) -> bool {
@@ -57,9 +57,8 @@ impl<'g, 's> FeatureLinkVisitor<'g> for OnePlatform<'s> {
     }
 }
 
-/// The features that a query brings in on one platform: the least set that holds the initial ones and is closed under
-/// edges that aren't conditional and under the links of this platform and kind. In whatever order the links came up, the
-/// answer is this set.
+/// Returns the features that a query turns on for one platform: the least set that holds the initial ones and is closed
+/// under unconditional edges and the links of this platform and kind, in whatever order the links are shown.
 pub fn on_platform<'g>(
     alloc: Global,
     query: FeatureQuery<'g>,
@@ -72,7 +71,7 @@ pub fn on_platform<'g>(
     query.resolve_with(alloc, &mut platform)
 }
 
-/// What a feature brings in on two platforms, and for build scripts.
+/// Prints the features that a feature turns on for two platforms, and for build scripts.
 pub fn show(out: &mut Out, alloc: Global, graph: FeatureGraph<'_>) -> Result<(), Failure> {
     let main = PackageId::new(alloc, "main")?;
     let id = FeatureId::new(&main, FeatureLabel::Named("serde"));
@@ -87,7 +86,7 @@ pub fn show(out: &mut Out, alloc: Global, graph: FeatureGraph<'_>) -> Result<(),
     show_on(out, alloc, graph, id, platform)
 }
 
-/// What a feature brings in on one platform.
+/// Prints the features that a feature turns on for one platform.
 fn show_on(
     out: &mut Out,
     alloc: Global,

@@ -3,7 +3,7 @@ use guppy_features::{FeatureId, FeatureSet};
 use std::fmt;
 use std::io::{Stdout, Write};
 
-/// Standard output, and whether a write to it has failed.
+/// Standard output, with a mark if a write to it has failed.
 #[derive(Clone, Copy)]
 pub struct Out {
     stdout: Stdout,
@@ -11,7 +11,7 @@ pub struct Out {
 }
 
 impl Out {
-    /// Standard output, to which nothing was written yet.
+    /// Returns standard output, with no failed write.
     pub fn new(stdout: Stdout) -> Self {
         Out {
             stdout,
@@ -19,7 +19,7 @@ impl Out {
         }
     }
 
-    /// Whether a write has failed.
+    /// Returns true if a write has failed.
     pub fn has_failed(&self) -> bool {
         self.has_failed
     }

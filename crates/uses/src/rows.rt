@@ -10,7 +10,7 @@ package\tsv\texternal
 feature\tunion
 ";
 
-/// The same, where the dependency needs the package for its tests: a cycle.
+/// The same with a cycle: the tests of the dependency need the package.
 pub const CYCLE_BY_TESTS: &str = "package\tmain\tworkspace
 feature\tsmallvec\tdep:smallvec\tfoo
 feature\tsmallvec-union\tsmallvec?/union
@@ -21,7 +21,7 @@ feature\tunion
 dep\tm\tmain\tdev\trequired\t*\tnodefault\tsmallvec
 ";
 
-/// One name for two packages, one of them for one platform alone.
+/// One name for two packages, one of them for only one platform.
 pub const TWO_PLATFORMS: &str = "package\tmain\tworkspace
 feature\tserde\tdep:serde\tserde/std
 dep\tserde\tserde_core\tnormal\toptional\t*\tnodefault

@@ -1,4 +1,4 @@
-//! What the workspace selects, and what that brings in: what `cargo build` asks for, without and with `--features`.
+//! The features that `cargo build` selects in the workspace, without and with `--features`, and those that they turn on.
 ghost use Rattle.std.specs.Prelude.{◌≡◌, ◌↔◌, ℕ, IsTrue, IfOk, map};
 ghost use Rattle.guppy_support.specs.Bits.{has};
 ghost use Rattle.feature_sets.specs.Views.{graph_of, tables_of_graph};
@@ -12,8 +12,8 @@ use guppy_features::{
 };
 use std::alloc::Global;
 
-/// The query that starts from those features of the workspace's packages that are on by default, and from their named
-/// features of these names.
+/// Returns the query that starts from the features of the workspace's packages that are on by default, and from their
+/// named features in `names`.
 pub fn selected<'g>(
     alloc: Global,
     graph: FeatureGraph<'g>,
@@ -27,7 +27,7 @@ pub fn selected<'g>(
     graph.query_workspace(alloc, &mut filter)
 }
 
-/// These features, and what they bring in.
+/// Returns the features of that query and those that they turn on.
 pub fn build<'g>(
     alloc: Global,
     graph: FeatureGraph<'g>,
@@ -39,7 +39,7 @@ pub fn build<'g>(
     query.resolve(alloc)
 }
 
-/// What the workspace selects and brings in, by default and with a name.
+/// Prints the selected features and those that they turn on, by default and with a name.
 pub fn show(out: &mut Out, alloc: Global, graph: FeatureGraph<'_>) -> Result<(), Failure> {
     out.set("default build", &build(alloc, graph, &[])?);
     let query = selected(alloc, graph, &["color"])?;

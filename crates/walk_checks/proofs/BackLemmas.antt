@@ -18,7 +18,7 @@ use Rattle.walk_checks.proofs.Bools.{decide, clash, or_cases, or_left, or_right,
 use Rattle.walk_checks.proofs.Numbers.{take_snoc, take_past, has_within, marked_is}
 use Rattle.walk_checks.proofs.Steps.{explained_none, explained_snoc, explained_at, take_nodes, reason_node}
 
--- whether the node of the step is in the set
+-- Whether the node of the step is in the set.
 abbrev pub keeps : (ℕ → Bool) → Step → Bool
 keeps S step = S step.node
 
@@ -39,7 +39,7 @@ filter_same S T (s ∷ steps) f =
     let rest = filter_same S T steps (λ j step h. f (suc j) step h) in
     elim (decide (S s.node)) [ inl t ↦ rw (t, f 0 s refl ∙ t) (ap (λ xs. s ∷ xs) rest) | inr n ↦ rw (n, f 0 s refl ∙ n) rest ]
 
--- what a reason leans on stands before it
+-- A reason leans only on nodes that are before it.
 leans_before : (c : Content) (I : ℕ → Bool) (A : ℕ → Half → Bool) (before : List ℕ) (n : ℕ) (r : StepReason) (m : ℕ) → IsReason c I A before n r → Leans c r m → IsTrue (is_in before m)
 leans_before c I A before n Initial m reason lean = absurd lean
 leans_before c I A before n (Edge e) m (w, is, ask, far, start) (v, isv, at) =
@@ -52,13 +52,13 @@ leans_before c I A before n (Offer e h) m (w, is, half, a, far, start, gate) (v,
       | inr p ↦ subst (λ (k : ℕ). IsTrue (is_in before k)) (ap (λ (x : Way). x.gate) same ∙ p.1) (gate (subst (λ (x : Way). IsTrue (has_gate x.ask h)) (sym same) p.0))
     ]
 
--- the reason of a step holds by those nodes before it on which it leans
+-- A reason holds by the earlier nodes on which it leans.
 reason_part : (c : Content) (I : ℕ → Bool) (A : ℕ → Half → Bool) (before part : List ℕ) (n : ℕ) (r : StepReason) → IsReason c I A before n r → ((m : ℕ) → Leans c r m → IsTrue (is_in part m)) → IsReason c I A part n r
 reason_part c I A before part n Initial t f = t
 reason_part c I A before part n (Edge e) (w, is, ask, far, start) f = (w, is, ask, far, f w.start (w, is, refl))
 reason_part c I A before part n (Offer e h) (w, is, half, a, far, start, gate) f = (w, is, half, a, far, f w.start (w, is, inl refl), λ g. f w.gate (w, is, inr (g, refl)))
 
--- the steps of a supported set's nodes are an explanation
+-- The steps of a supported set's nodes are an explanation.
 part_step : (c : Content) (I : ℕ → Bool) (A : ℕ → Half → Bool) (S : ℕ → Bool) (steps : List Step) → IsExplanation c I A steps → IsSupported c steps S → (k : ℕ) → IsExplanation c I A (filter (keeps S) (take k steps)) → (o : Option Step) → slice_get steps k ≡ o → IsExplanation c I A (filter (keeps S) (take (suc k) steps))
 part_step c I A S steps ok supported k earlier None q = subst (λ (xs : List Step). IsExplanation c I A (filter (keeps S) xs)) (sym (take_past steps k q)) earlier
 part_step c I A S steps ok supported k earlier (Some s) q =
@@ -99,7 +99,7 @@ slice_get-drop xs zero j x h = let e : 0 + j ≡ j = omega arith in rw e h
 slice_get-drop [] (suc k) j x h = absurd (cc)
 slice_get-drop (y ∷ xs) (suc k) j x h = let e : suc k + j ≡ suc (k + j) = omega arith in rw e (slice_get-drop xs k j x h)
 
--- what stands among the first few stands among the first
+-- A member of a prefix is a member of each longer prefix.
 first_more : (xs : List ℕ) (p j n : ℕ) → p ≤ j → IsTrue (is_in (take p xs) n) → IsTrue (is_in (take j xs) n)
 first_more xs zero j n l t = absurd (clash t refl)
 first_more [] (suc p) j n l t = absurd (clash t refl)
@@ -109,7 +109,7 @@ first_more (x ∷ xs) (suc p) (suc j) n l t = elim (or_cases (x == n) (is_in (ta
   | inr q ↦ or_right (x == n) (is_in (take j xs) n) (first_more xs p j n (omega arith) q)
 ]
 
--- what a step leans on makes no later step needed
+-- The nodes on which a step leans make no later step needed.
 later_needed : (c : Content) (I : ℕ → Bool) (A : ℕ → Half → Bool) (steps : List Step) (p j : ℕ) (s step : Step) (N N' : ℕ → Bool) → IsExplanation c I A steps → IsReason c I A (nodes_of (take p steps)) s.node s.reason → ((n : ℕ) → IsTrue (N' n) ↔ (IsTrue (N n) ⊎ Leans c s.reason n)) → p ≤ j → slice_get steps j ≡ Some step → IsTrue (N' step.node) → IsTrue (N step.node)
 later_needed c I A steps p j s step N N' ok reason more past h t =
     elim ((more step.node).0 t) [
@@ -121,7 +121,7 @@ later_needed c I A steps p j s step N N' ok reason more past h t =
           absurd (clash late (explained_at c I A steps j step ok h).0)
     ]
 
--- before any step was read
+-- The invariant holds before any step was read.
 pub back_none : (c : Content) (steps : List Step) (node k : ℕ) (N : ℕ → Bool) → length steps ≤ k → ((n : ℕ) → IsTrue (N n) ↔ (n ≡ node)) → IsBack c steps node k N []
 back_none c steps node k N long only =
     record {
@@ -134,7 +134,7 @@ back_none c steps node k N long only =
       };
     }
 
--- a step that isn't needed is passed over
+-- Skipping a step that isn't needed keeps the invariant.
 pub back_skip : (c : Content) (steps : List Step) (node k p : ℕ) (d : Step) (N : ℕ → Bool) (kept : List Step) → k ≡ p + 1 → p < length steps → IsFalse (N (slice_index_or steps p d).node) → IsBack c steps node k N kept → IsBack c steps node p N kept
 back_skip c steps node k p d N kept next inside out back =
     let s = slice_index_or steps p d in
@@ -160,12 +160,12 @@ begun_more : (node : ℕ) (N N' : ℕ → Bool) (kept : List Step) (s : Step) �
 begun_more node N N' [] s t begun = begun s.node t
 begun_more node N N' (x ∷ kept) s t begun = begun
 
--- the same under other names
+-- The invariant depends only on the values.
 pub back_moved : (c : Content) (steps : List Step) (node p q : ℕ) (N M : List Bool) (kept more : List Step) → p ≡ q → M ≡ N → more ≡ kept → IsBack c steps node p (has N) kept → IsBack c steps node q (has M) more
 back_moved c steps node p q N M kept more same needed listed back =
     subst (λ (i : ℕ). IsBack c steps node i (has M) more) same (subst (λ (S : List Bool). IsBack c steps node p (has S) more) (sym needed) (subst (λ (xs : List Step). IsBack c steps node p (has N) xs) (sym listed) back))
 
--- a needed step is kept, and what it leans on is needed
+-- Keeping a needed step, and needing the nodes on which it leans, keeps the invariant.
 pub back_keep : (c : Content) (steps : List Step) (node k p : ℕ) (d : Step) (N N' : ℕ → Bool) (kept : List Step) → k ≡ p + 1 → p < length steps → IsTrue (N (slice_index_or steps p d).node) → ((n : ℕ) → IsTrue (N' n) ↔ (IsTrue (N n) ⊎ Leans c (slice_index_or steps p d).reason n)) → IsBack c steps node k N kept → IsBack c steps node p N' (kept ++ slice_index_or steps p d ∷ [])
 back_keep c steps node k p d N N' kept next inside here more back =
     let s = slice_index_or steps p d in
@@ -203,7 +203,7 @@ step_of (s ∷ steps) n t =
       | inr p ↦ let r = step_of steps n p in (suc r.0, r.1, r.2, r.3)
     ]
 
--- after all steps were read
+-- After all steps were read, the needed nodes are a supported set.
 supported_all : (c : Content) (steps : List Step) (N : ℕ → Bool) (kept : List Step) → IsKept c steps 0 N kept → IsSupported c steps N
 supported_all c steps N kept was = λ k step h t m lean. was.supported k step (omega arith) h t m lean
 
@@ -223,7 +223,7 @@ back_why c I A steps node N s kept ok back =
       exactly = λ n. (back.sound n, λ rests. rests N supported back.held);
     }
 
--- where nothing was kept the node isn't listed
+-- If no step was kept, the node isn't listed.
 pub back_unlisted : (c : Content) (I : ℕ → Bool) (A : ℕ → Half → Bool) (steps : List Step) (node : ℕ) (N : ℕ → Bool) → IsExplanation c I A steps → IsBack c steps node 0 N [] → IsFalse (is_in (nodes_of steps) node)
 back_unlisted c I A steps node N ok back =
     let was = back.explained I A ok in
@@ -232,7 +232,7 @@ back_unlisted c I A steps node N ok back =
     let kept : IsTrue (is_in (nodes_of (filter (keeps N) steps)) node) = filter_in N steps node ∙ and_intro (N node) (is_in (nodes_of steps) node) back.held t in
     clash (subst (λ (xs : List Step). IsTrue (is_in (nodes_of xs) node)) (sym listing) kept) refl)
 
--- the nodes of an explanation are nodes
+-- Each node of an explanation is below the number of nodes.
 pub listed_node : (c : Content) (I : List Bool) (A : ℕ → Half → Bool) (steps : List Step) (n : ℕ) → EndsAreNodes c → length I ≡ c.nodes → IsExplanation c (has I) A steps → IsTrue (is_in (nodes_of steps) n) → n < c.nodes
 listed_node c I A steps n ends size ok t =
     let at = step_of steps n t in
@@ -252,7 +252,7 @@ blank zero n = refl
 blank (suc size) zero = refl
 blank (suc size) (suc n) = blank size n
 
--- the node alone
+-- The set has only `node`.
 pub node_alone : (set new : List Bool) (size node : ℕ) → set ≡ replicate size false → node < length set → new ≡ slice_set set node true → (n : ℕ) → IsTrue (has new n) ↔ (n ≡ node)
 node_alone set new size node is inside put n =
     let same : has new n ≡ (node == n) = ap (λ (s : List Bool). has s n) put ∙ (marked_is set node n inside ∙ ap (λ (b : Bool). b || (node == n)) (ap (λ (s : List Bool). has s n) is ∙ blank size n)) in

@@ -1,4 +1,4 @@
--- Explanations that leave nothing out, as far as a check has come.
+-- Explanations that leave nothing out, as far as a check has read.
 use Rattle.std.proofs.Common.{◌≡◌, ℕ, zero, suc, ◌+◌, ◌<◌, ◌≤◌, Bool, ◌||◌, not, List, [], ◌∷◌, ◌++◌, Some, None, length, take, refl, sym, ◌∙◌, ap, subst, inl, inr, arith, add-one}
 use Rattle.std.specs.Prelude.{IsTrue, IsFalse, slice_get, slice_index_or, ◌==◌, ◌↔◌}
 use Rattle.std.proofs.lemmas.Bool.{eqb-true, eq-eqb}
@@ -16,7 +16,7 @@ use Rattle.walk_checks.proofs.Bools.{or_cases}
 use Rattle.walk_checks.proofs.Numbers.{is_in-append, is_in_at, take_snoc, snoc_cases, number_place, number_way}
 use Rattle.walk_checks.proofs.Steps.{nodes_more, node_at, explained_snoc, explained_only, explained_grows, names_only, explained_in}
 
--- one more step
+-- The first `i + 1` steps are the first `i` and one more.
 pub take_step : (steps : List Step) (i : ℕ) (d : Step) → i < length steps → take (i + 1) steps ≡ take i steps ++ slice_index_or steps i d ∷ []
 take_step steps i d l = rw add-one (take_snoc steps i (slice_index_or steps i d) (slice_get-get_or steps i d l))
 
@@ -26,7 +26,7 @@ explained_step c I steps i d l ok new reason = subst (λ (xs : List Step). IsExp
 pub listed_step : (steps : List Step) (i : ℕ) (d : Step) (n : ℕ) → i < length steps → is_in (nodes_of (take (i + 1) steps)) n ≡ (is_in (nodes_of (take i steps)) n || ((slice_index_or steps i d).node == n))
 listed_step steps i d n l = ap (λ (xs : List Step). is_in (nodes_of xs) n) (take_step steps i d l) ∙ (ap (λ (xs : List ℕ). is_in xs n) (nodes_more (take i steps) (slice_index_or steps i d)) ∙ is_in-append (nodes_of (take i steps)) (slice_index_or steps i d).node n)
 
--- no step names a refused offer
+-- One more step names no refused offer.
 pub spared_step : (A : ℕ → Half → Bool) (steps : List Step) (i : ℕ) (d : Step) → i < length steps → NamesOnly A (take i steps) → KeepsReason A (slice_index_or steps i d).reason → NamesOnly A (take (i + 1) steps)
 spared_step A steps i d l earlier now =
     subst (NamesOnly A) (sym (take_step steps i d l)) (λ k step h. elim (snoc_cases (take i steps) (slice_index_or steps i d) k step h) [
@@ -34,7 +34,7 @@ spared_step A steps i d l earlier now =
       | inr p ↦ subst (λ (s : Step). KeepsReason A s.reason) p.1 now
     ])
 
--- the edges of a node are kept
+-- All edges of a node are kept if each one read is.
 pub kept_all : (c : Content) (A : ℕ → Half → Bool) (L : ℕ → Bool) (node q : ℕ) → ((k : ℕ) → k < q → (e : ℕ) → slice_get (starting c node) k ≡ Some e → (w : Way) → IsWay c e w → Keeps A L e w) → ((k e : ℕ) → k ≤ e → e < length c.ways → slice_get (starting c node) k ≡ Some e → k < q) → (e : ℕ) (w : Way) → IsWay c e w → w.start ≡ node → Keeps A L e w
 kept_all c A L node q passed within e w is start =
     let r = number_place (λ (v : Way). v.start == node) 0 c.ways e w is (eq-eqb w.start node start) in
@@ -54,7 +54,7 @@ kept_until c A L node q past passed = kept_all c A L node q passed (λ k e _ _ h
 pub kept_whole : (c : Content) (A : ℕ → Half → Bool) (L : ℕ → Bool) (node q : ℕ) → length c.ways ≤ q → ((k : ℕ) → k < q → (e : ℕ) → slice_get (starting c node) k ≡ Some e → (w : Way) → IsWay c e w → Keeps A L e w) → (e : ℕ) (w : Way) → IsWay c e w → w.start ≡ node → Keeps A L e w
 kept_whole c A L node q long passed = kept_all c A L node q passed (λ k e below inside here. omega arith)
 
--- what stands among the edges of a node is an edge that starts there
+-- Each edge in the list of a node's edges starts at the node.
 pub starts_at : (c : Content) (node k e : ℕ) → slice_get (starting c node) k ≡ Some e → (w : Way) × IsWay c e w × (w.start ≡ node)
 starts_at c node k e h =
     let n = number_way (λ (v : Way). v.start == node) 0 c.ways k e h in
@@ -67,7 +67,7 @@ kept_more_at c A L node q e h now f g = let same : e ≡ f = (let r : Some e ≡
 pub kept_more : (c : Content) (A : ℕ → Half → Bool) (L : ℕ → Bool) (node q e : ℕ) → slice_get (starting c node) q ≡ Some e → ((w : Way) → IsWay c e w → Keeps A L e w) → ((k : ℕ) → k < q → (f : ℕ) → slice_get (starting c node) k ≡ Some f → (w : Way) → IsWay c f w → Keeps A L f w) → (k : ℕ) → k < q + 1 → (f : ℕ) → slice_get (starting c node) k ≡ Some f → (w : Way) → IsWay c f w → Keeps A L f w
 kept_more c A L node q e h now earlier = below_more (λ k. (f : ℕ) → slice_get (starting c node) k ≡ Some f → (w : Way) → IsWay c f w → Keeps A L f w) q earlier (kept_more_at c A L node q e h now)
 
--- the edges of one more step's node are kept
+-- The edges of one more step's node are kept.
 pub closed_step : (c : Content) (A : ℕ → Half → Bool) (L : ℕ → Bool) (steps : List Step) (i : ℕ) (d : Step) → i < length steps → ((e : ℕ) (w : Way) → IsWay c e w → IsTrue (is_in (nodes_of (take i steps)) w.start) → Keeps A L e w) → ((e : ℕ) (w : Way) → IsWay c e w → w.start ≡ (slice_index_or steps i d).node → Keeps A L e w) → (e : ℕ) (w : Way) → IsWay c e w → IsTrue (is_in (nodes_of (take (i + 1) steps)) w.start) → Keeps A L e w
 closed_step c A L steps i d l earlier now e w is t =
     elim (or_cases (is_in (nodes_of (take i steps)) w.start) ((slice_index_or steps i d).node == w.start) (sym (listed_step steps i d w.start l) ∙ t)) [
@@ -75,18 +75,18 @@ closed_step c A L steps i d l earlier now e w is t =
       | inr p ↦ now e w is (sym (eqb-true (slice_index_or steps i d).node w.start p))
     ]
 
--- the node of a step is listed
+-- The node of a step is listed.
 pub step_listed : (steps : List Step) (i : ℕ) (d : Step) → i < length steps → IsTrue (is_in (nodes_of steps) (slice_index_or steps i d).node)
 step_listed steps i d l = is_in_at (nodes_of steps) i (slice_index_or steps i d).node (node_at steps i (slice_index_or steps i d) (slice_get-get_or steps i d l))
 
--- marks that say what is refused, of the edges that there are
+-- The marks are the refused offers, for all edges that exist.
 abbrev pub MarksAre : Content → Refusals → List (ℕ × Half) → Type 0
 MarksAre c r refused = (e : ℕ) (h : Half) → e < length c.ways → has_mark r e h ≡ is_refused refused e h
 
 marks_at : (c : Content) (r : Refusals) (refused : List (ℕ × Half)) → MarksAre c r refused → (e : ℕ) (h : Half) (w : Way) → IsWay c e w → unmarked r e h ≡ all_but refused e h
 marks_at c r refused marks e h w is = ap not (marks e h (slice_get_within c.ways e w is))
 
--- the four parts of a check make an exact explanation
+-- The four parts of a check make an exact explanation.
 pub exact_by : (c : Content) (I : ℕ → Bool) (L : ℕ → Bool) (r : Refusals) (refused : List (ℕ × Half)) (steps : List Step) → MarksAre c r refused → IsExplanation c I every steps → ((n : ℕ) → L n ≡ is_in (nodes_of steps) n) → NamesOnly (unmarked r) steps → ((n : ℕ) → IsTrue (I n) → IsTrue (L n)) → ((e : ℕ) (w : Way) → IsWay c e w → IsTrue (L w.start) → Keeps (unmarked r) L e w) → IsExact c I refused steps
 exact_by c I L r refused steps marks ok listed spared initial closed =
     let out = λ (n : ℕ) (t : IsTrue (is_in (nodes_of steps) n)). listed n ∙ t in
@@ -101,7 +101,7 @@ exact_by c I L r refused steps marks ok listed spared initial closed =
       };
     }
 
--- and an exact explanation has the four parts
+-- An exact explanation meets the four parts.
 pub exact_explained : (c : Content) (I : ℕ → Bool) (refused : List (ℕ × Half)) (steps : List Step) → IsExact c I refused steps → IsExplanation c I every steps
 exact_explained c I refused steps ok = explained_grows c I (all_but refused) every steps (λ _ _ _ _ _. refl) ok.explanation
 
@@ -120,7 +120,7 @@ exact_closed c I L r refused steps marks listed ok e w is s =
       offered = λ h half a g. out w.far (ok.closed.offered e h w is half (sym (marks_at c r refused marks e h w is) ∙ a) (into w.start s) (λ q. into w.gate (g q)));
     }
 
--- the nodes of an exact explanation are the least set
+-- The nodes of an exact explanation are the least set.
 pub exact_least : (c : Content) (I : ℕ → Bool) (refused : List (ℕ × Half)) (steps : List Step) → IsExact c I refused steps → (n : ℕ) → IsTrue (is_in (nodes_of steps) n) ↔ Least c I (all_but refused) n
 exact_least c I refused steps ok n =
     (λ t S closed. explained_in c I (all_but refused) S steps ok.explanation closed n t, λ least. least (is_in (nodes_of steps)) ok.closed)

@@ -42,7 +42,7 @@ not_before (x ∷ xs) (suc place) e (d, ds) h =
       | inr f ↦ rw f (not_before xs place e ds h)
     ]
 
--- where a number stands in a list
+-- A number in a list has a place.
 pub place_of : (xs : List ℕ) (n : ℕ) → IsTrue (is_in xs n) → (k : ℕ) × (slice_get xs k ≡ Some n)
 place_of [] n t = absurd (clash t refl)
 place_of (x ∷ xs) n t =
@@ -68,7 +68,7 @@ snoc_cases [] x (suc k) y h = absurd (cc)
 snoc_cases (v ∷ xs) x zero y h = inl h
 snoc_cases (v ∷ xs) x (suc k) y h = elim (snoc_cases xs x k y h) [ inl p ↦ inl p | inr p ↦ inr (ap suc p.0, p.1) ]
 
--- what stands among the first stands in the list
+-- An element of a prefix is an element of the list, at the same place.
 pub slice_get-take : {X : Type 0} (xs : List X) (n k : ℕ) (x : X) → slice_get (take n xs) k ≡ Some x → slice_get xs k ≡ Some x
 slice_get-take xs zero k x h = absurd (cc)
 slice_get-take [] (suc n) k x h = absurd (cc)
@@ -81,7 +81,7 @@ slice_get-within_take [] (suc n) k x l h = absurd (cc)
 slice_get-within_take (y ∷ xs) (suc n) zero x l h = h
 slice_get-within_take (y ∷ xs) (suc n) (suc k) x l h = slice_get-within_take xs n k x (omega arith) h
 
--- the number of a way that passes stands in the list, at a place below its own
+-- The number of a way that passes is in the list, at a place not above its own.
 pub number_place : (p : Way → Bool) (first : ℕ) (ws : List Way) (i : ℕ) (w : Way) → slice_get ws i ≡ Some w → IsTrue (p w) → (k : ℕ) × (k ≤ i) × (slice_get (numbers_where p first ws) k ≡ Some (first + i))
 number_place p first [] i w h t = absurd (cc)
 number_place p first (v ∷ ws) zero w h t =
@@ -97,7 +97,7 @@ number_place p first (v ∷ ws) (suc i) w h t =
       | inr x ↦ (r.0, omega (arith, r.1), rw x (r.2 ∙ ap Some e))
     ]
 
--- what stands in the list of numbers is the number of a way that passes
+-- `e` is the number of a way that passes.
 abbrev pub Numbers : (Way → Bool) → ℕ → List Way → ℕ → Type 0
 Numbers p first ws e = (i : ℕ) × (e ≡ first + i) × ((w : Way) × (slice_get ws i ≡ Some w) × IsTrue (p w))
 

@@ -1,4 +1,4 @@
--- Walks that are explained.
+-- Explained walks.
 use Rattle.std.proofs.Common.{◌≡◌, ℕ, Bool, true, false, ◌||◌, ◌&&◌, not, List, [], ◌∷◌, ◌++◌, ◌+◌, ◌<◌, length, take, add-one, refl, sym, ◌∙◌, ap, subst, inl, inr}
 use Rattle.std.specs.Prelude.{IsTrue, IsFalse, ◌==◌, ◌↔◌, slice_index_or}
 use Rattle.std.proofs.lemmas.Bool.{eqb-true, eq-eqb}
@@ -34,7 +34,7 @@ is_refused-append : (xs : List (ℕ × Half)) (k : ℕ) (j : Half) (e : ℕ) (h 
 is_refused-append [] k j e h = elim (decide ((k == e) && is_half j h)) [ inl p ↦ rw p refl | inr p ↦ rw p refl ]
 is_refused-append (x ∷ xs) k j e h = elim (decide ((x.0 == e) && is_half x.1 h)) [ inl p ↦ rw p refl | inr p ↦ rw p (is_refused-append xs k j e h) ]
 
--- what a call adds to the refused
+-- A call adds its offer to the refused ones exactly if the answer is false.
 refused_call : (call : Call) (before : List Call) (e : ℕ) (h : Half) → is_refused (refused_of (call ∷ before)) e h ≡ (is_refused (refused_of before) e h || (not call.answer && is_of call e h))
 refused_call call before e h =
     elim (decide call.answer) [
@@ -57,14 +57,14 @@ agrees_same A B (call ∷ before) f (agree, agrees) = (
   agrees_same A B before (λ e h t. f e h (or_right (is_of call e h) (was_made before e h) t)) agrees,
 )
 
--- an offer that was made before a call is another one
+-- An offer that was made before a call is another one.
 not_again : (call : Call) (before : List Call) (e : ℕ) (h : Half) → IsFalse (was_made before call.edge call.half) → IsTrue (was_made before e h) → IsFalse (is_of call e h)
 not_again call before e h fresh made = not_true (is_of call e h) (λ t.
     let both = and_both (call.edge == e) (is_half call.half h) t in
     let made' : IsTrue (was_made before call.edge h) = subst (λ (k : ℕ). IsTrue (was_made before k h)) (sym (eqb-true call.edge e both.0)) made in
     clash (subst (λ (j : Half). IsTrue (was_made before call.edge j)) (sym (is_half_same call.half h both.1)) made') fresh)
 
--- all offers but the refused agree with a legal run
+-- All offers except the refused agree with a legal run.
 pub refused_agrees : (c : Content) (I : ℕ → Bool) (run : List Call) → IsLegal c I run → Agrees (all_but (refused_of run)) run
 refused_agrees c I [] legal = tt
 refused_agrees c I (call ∷ before) (due, legal) = (
@@ -74,7 +74,7 @@ refused_agrees c I (call ∷ before) (due, legal) = (
       (refused_agrees c I before legal),
 )
 
--- an accepted offer is in each set with which the run agrees
+-- If a run agrees with `A`, each accepted offer is in `A`.
 accepted_in : (A : ℕ → Half → Bool) (run : List Call) → Agrees A run → (e : ℕ) (h : Half) → IsTrue (was_accepted run e h) → IsTrue (A e h)
 accepted_in A [] agrees e h t = absurd (clash t refl)
 accepted_in A (call ∷ before) (agree, agrees) e h t =
@@ -87,7 +87,7 @@ accepted_in A (call ∷ before) (agree, agrees) e h t =
       | inr p ↦ accepted_in A before agrees e h p
     ]
 
--- the least set is closed
+-- The least set is closed.
 least_closed : (c : Content) (I : ℕ → Bool) (A : ℕ → Half → Bool) → IsClosed c I A (Least c I A)
 least_closed c I A =
     record {
@@ -117,7 +117,7 @@ walk_exact c I gives s t M steps refused walk =
     } in
     subst (λ (xs : List (ℕ × Half)). IsExact c I xs steps) (sym walk.refused_in_order) exact
 
--- one more entry
+-- One more entry of the refused offers.
 pub refused_step : (refused : List (ℕ × Half)) (i : ℕ) (d : ℕ × Half) (e : ℕ) (h : Half) → i < length refused → is_refused (take (i + 1) refused) e h ≡ (is_refused (take i refused) e h || (((slice_index_or refused i d).0 == e) && is_half (slice_index_or refused i d).1 h))
 refused_step refused i d e h l =
     let x = slice_index_or refused i d in

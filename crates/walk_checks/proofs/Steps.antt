@@ -29,7 +29,7 @@ take_nodes k steps = take-map (λ (s : Step). s.node) k steps
 pub explained_none : (c : Content) (I : ℕ → Bool) (A : ℕ → Half → Bool) → IsExplanation c I A []
 explained_none c I A = record { once = tt; reasons = λ k step h. absurd (cc) }
 
--- one more step, whose reason holds by those before
+-- Appending a step whose reason holds by the steps before it.
 pub explained_snoc : (c : Content) (I : ℕ → Bool) (A : ℕ → Half → Bool) (steps : List Step) (step : Step) → IsExplanation c I A steps → IsFalse (is_in (nodes_of steps) step.node) → IsReason c I A (nodes_of steps) step.node step.reason → IsExplanation c I A (steps ++ step ∷ [])
 explained_snoc c I A steps step ok new reason =
     let all = nodes_more steps step in
@@ -47,7 +47,7 @@ explained_snoc c I A steps step ok new reason =
       ];
     }
 
--- what an explanation says of a step, by the steps before it
+-- Step `k` of an explanation is new, and its reason holds by the steps before it.
 pub explained_at : (c : Content) (I : ℕ → Bool) (A : ℕ → Half → Bool) (steps : List Step) (k : ℕ) (step : Step) → IsExplanation c I A steps → slice_get steps k ≡ Some step → IsFalse (is_in (nodes_of (take k steps)) step.node) × IsReason c I A (nodes_of (take k steps)) step.node step.reason
 explained_at c I A steps k step ok h =
     let same = take_nodes k steps in (
@@ -55,13 +55,13 @@ explained_at c I A steps k step ok h =
       subst (λ (xs : List ℕ). IsReason c I A xs step.node step.reason) same (ok.reasons k step h),
     )
 
--- the node of a reason that holds is a node
+-- If a reason holds for `n`, then `n` is below the number of nodes.
 pub reason_node : (c : Content) (I : ℕ → Bool) (A : ℕ → Half → Bool) (before : List ℕ) (n : ℕ) (r : StepReason) → EndsAreNodes c → ((k : ℕ) → IsTrue (I k) → k < c.nodes) → IsReason c I A before n r → n < c.nodes
 reason_node c I A before n Initial ends within t = within n t
 reason_node c I A before n (Edge e) ends within (w, is, ask, far, start) = let q = (ends e w is).1 in omega arith
 reason_node c I A before n (Offer e h) ends within (w, is, half, a, far, start, gate) = let q = (ends e w is).1 in omega arith
 
--- by fewer offers, where the reasons name these alone
+-- A reason that names only offers in `B` holds by `B`.
 pub reason_only : (c : Content) (I : ℕ → Bool) (A B : ℕ → Half → Bool) (before : List ℕ) (n : ℕ) (r : StepReason) → IsReason c I A before n r → KeepsReason B r → IsReason c I B before n r
 reason_only c I A B before n Initial t k = t
 reason_only c I A B before n (Edge e) t k = t
@@ -71,7 +71,7 @@ pub explained_only : (c : Content) (I : ℕ → Bool) (A B : ℕ → Half → Bo
 explained_only c I A B steps ok only =
     record { once = ok.once; reasons = λ k step h. reason_only c I A B (take k (nodes_of steps)) step.node step.reason (ok.reasons k step h) (only k step h) }
 
--- an offer that a reason names is of a way, and in A
+-- The offer that a reason names belongs to a way and is in `A`.
 pub reason_keeps : (c : Content) (I : ℕ → Bool) (A B : ℕ → Half → Bool) (before : List ℕ) (n : ℕ) (r : StepReason) → ((e : ℕ) (h : Half) (w : Way) → IsWay c e w → IsTrue (A e h) → IsTrue (B e h)) → IsReason c I A before n r → KeepsReason B r
 reason_keeps c I A B before n Initial f t = tt
 reason_keeps c I A B before n (Edge e) f t = tt
@@ -80,7 +80,7 @@ reason_keeps c I A B before n (Offer e h) f (w, is, half, a, far, start, gate) =
 pub names_only : (c : Content) (I : ℕ → Bool) (A B : ℕ → Half → Bool) (steps : List Step) → ((e : ℕ) (h : Half) (w : Way) → IsWay c e w → IsTrue (A e h) → IsTrue (B e h)) → IsExplanation c I A steps → NamesOnly B steps
 names_only c I A B steps f ok = λ k step h. reason_keeps c I A B (take k (nodes_of steps)) step.node step.reason f (ok.reasons k step h)
 
--- by more offers
+-- An explanation stays one by more offers.
 pub explained_grows : (c : Content) (I : ℕ → Bool) (A B : ℕ → Half → Bool) (steps : List Step) → ((e : ℕ) (h : Half) (w : Way) → IsWay c e w → IsTrue (A e h) → IsTrue (B e h)) → IsExplanation c I A steps → IsExplanation c I B steps
 explained_grows c I A B steps f ok = explained_only c I A B steps ok (names_only c I A B steps f ok)
 
@@ -94,7 +94,7 @@ named_at [] k step q e h t = absurd (cc)
 named_at (s ∷ steps) zero step q e h t = let same : s ≡ step = cc in or_left (names s.reason e h) (named_in steps e h) (subst (λ (x : Step). IsTrue (names x.reason e h)) (sym same) t)
 named_at (s ∷ steps) (suc k) step q e h t = or_right (names s.reason e h) (named_in steps e h) (named_at steps k step q e h t)
 
--- an explanation is one by the offers that it names
+-- An explanation is one by the offers that it names.
 pub explained_named : (c : Content) (I : ℕ → Bool) (steps : List Step) → IsExplanation c I every steps → IsExplanation c I (named_in steps) steps
 explained_named c I steps ok = explained_only c I every (named_in steps) steps ok (λ k step h. keeps_named step.reason (named_in steps) (named_at steps k step h))
 
@@ -117,6 +117,6 @@ first_in : (c : Content) (I : ℕ → Bool) (A : ℕ → Half → Bool) (S : ℕ
 first_in c I A S steps ok closed zero n t = absurd (clash t refl)
 first_in c I A S steps ok closed (suc k) n t = first_step c I A S steps ok closed k n (first_in c I A S steps ok closed k) (slice_get steps k) refl t
 
--- each node of an explanation is in each closed set
+-- Each node of an explanation is in each closed set.
 pub explained_in : (c : Content) (I : ℕ → Bool) (A : ℕ → Half → Bool) (S : ℕ → Bool) (steps : List Step) → IsExplanation c I A steps → IsClosed c I A (λ k. IsTrue (S k)) → (n : ℕ) → IsTrue (is_in (nodes_of steps) n) → IsTrue (S n)
 explained_in c I A S steps ok closed n t = first_in c I A S steps ok closed (length steps) n (subst (λ (xs : List Step). IsTrue (is_in (nodes_of xs) n)) (sym (take_all (length steps) steps (omega arith))) t)

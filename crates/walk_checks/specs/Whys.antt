@@ -1,4 +1,4 @@
--- Why a node is listed.
+-- The reason why a node is listed.
 use Rattle.std.specs.Prelude.{◌≡◌, ◌⊎◌, ◌↔◌, ℕ, Bool, List, [], ◌∷◌, ◌++◌, Some, slice_get, filter, IsTrue}
 use Rattle.walk_engine.specs.declared.walks.Half.{Half}
 use Rattle.walk_engine.specs.declared.walks.Step.{Step}
@@ -7,21 +7,22 @@ use Rattle.walk_engine.specs.declared.walks.StepReason.TheVariants.{Initial, Edg
 use Rattle.walk_engine.specs.Walks.{Content, Way, IsWay, has_gate}
 use Rattle.walk_engine.specs.Explanations.{IsExplanation}
 
--- the reason leans on the node: the start of its edge, or the gate where its half waits for one
+-- The reason leans on node `m`: the start of its edge, or the gate if its half waits for one.
 abbrev pub Leans : Content → StepReason → ℕ → Type 0
 Leans c Initial m = ⊥
 Leans c (Edge e) m = (w : Way) × IsWay c e w × (w.start ≡ m)
 Leans c (Offer e h) m = (w : Way) × IsWay c e w × ((w.start ≡ m) ⊎ (IsTrue (has_gate w.ask h) × (w.gate ≡ m)))
 
--- a set that holds, with the node of a step, each node on which its reason leans
+-- A supported set: with the node of a step, it has each node on which the step's reason leans.
 abbrev pub IsSupported : Content → List Step → (ℕ → Bool) → Type 0
 IsSupported c steps S = (k : ℕ) (step : Step) → slice_get steps k ≡ Some step → IsTrue (S step.node) → (m : ℕ) → Leans c step.reason m → IsTrue (S m)
 
--- the first node rests on the second: each such set that holds the first holds the second
+-- Node `n` rests on `m`: each supported set that has `n` has `m`.
 abbrev pub RestsOn : Content → List Step → ℕ → ℕ → Type 0
 RestsOn c steps n m = (S : ℕ → Bool) → IsSupported c steps S → IsTrue (S n) → IsTrue (S m)
 
--- the steps, in their order, of the nodes on which the node rests: an explanation whose last step is the node's own
+-- The steps of the nodes on which `node` rests, in their order. They are an explanation that ends with the
+-- node's own step.
 pub record IsWhy (c : Content) (I : ℕ → Bool) (A : ℕ → Half → Bool) (steps : List Step) (node : ℕ) (kept : List Step) : Type 0 where
   pub explanation : IsExplanation c I A kept
   pub last : (before : List Step) × (step : Step) × (kept ≡ before ++ step ∷ []) × (step.node ≡ node)

@@ -1,4 +1,4 @@
-//! Whether an explanation leaves nothing out.
+//! Whether an explanation is exact: it names no refused offer, and leaves nothing out.
 
 ghost use Rattle.std.specs.Prelude.{◌≡◌, ◌<◌, ◌↔◌, ℕ, Some, IsTrue, IfOk, length, slice_get, not};
 ghost use Rattle.guppy_support.specs.Bits.{has};
@@ -16,7 +16,7 @@ use guppy_support::IxBitSet;
 use std::alloc::{AllocError, Global};
 use walk_engine::{Half, Step, StepReason};
 
-/// Whether the reason names no refused offer.
+/// Returns true if `reason` names no refused offer.
 fn is_spared(refusals: &Refusals, reason: StepReason) -> bool
     ensures { IsTrue result ↔ KeepsReason (unmarked refusals.now) reason }
 {
@@ -27,7 +27,7 @@ fn is_spared(refusals: &Refusals, reason: StepReason) -> bool
     }
 }
 
-/// Whether no step names a refused offer.
+/// Returns true if no step names a refused offer.
 fn are_spared(refusals: &Refusals, steps: &[Step]) -> bool
     ensures { IsTrue result ↔ NamesOnly (unmarked refusals.now) steps.now }
 {
@@ -39,7 +39,7 @@ fn are_spared(refusals: &Refusals, steps: &[Step]) -> bool
     true
 }
 
-/// Whether each initial node is listed.
+/// Returns true if each initial node is listed.
 fn are_listed(initials: &IxBitSet, listed: &IxBitSet) -> bool
     ensures { IsTrue result ↔ ((n : ℕ) → IsTrue (has initials.now n) → IsTrue (has listed.now n)) }
 {
@@ -51,7 +51,7 @@ fn are_listed(initials: &IxBitSet, listed: &IxBitSet) -> bool
     true
 }
 
-/// Whether the half of the edge can be offered once its start is listed, and isn't refused.
+/// Returns true if `half` of the edge is offered once its start is listed, and isn't refused.
 fn is_open(
     refusals: &Refusals,
     listed: &IxBitSet,
@@ -64,8 +64,8 @@ fn is_open(
     is_offered(edge, half, listed) && !refusals.has(number, half)
 }
 
-/// Whether the edge has to be followed once its start is listed: nothing is asked, or a half can be offered that isn't
-/// refused.
+/// Returns true if the edge must be followed once its start is listed: it is unconditional, or some half is
+/// offered and isn't refused.
 fn leads_on(refusals: &Refusals, listed: &IxBitSet, number: usize, edge: TableEdge) -> bool
     ensures { result ≡ leads_on (unmarked refusals.now) (has listed.now) number edge }
 {
@@ -75,7 +75,7 @@ fn leads_on(refusals: &Refusals, listed: &IxBitSet, number: usize, edge: TableEd
         || is_open(refusals, listed, number, edge, Half::Optional)
 }
 
-/// Whether the edge's far end is listed where the edge has to be followed.
+/// Returns true if the far end of edge `number` is listed, or the edge needn't be followed.
 fn is_kept<T: EdgeTable>(table: &T, refusals: &Refusals, listed: &IxBitSet, number: usize) -> bool
     ensures { (w : Way) → IsWay (T.content table.now) number w
         → IsTrue result ↔ Keeps (unmarked refusals.now) (has listed.now) number w }
@@ -86,7 +86,7 @@ fn is_kept<T: EdgeTable>(table: &T, refusals: &Refusals, listed: &IxBitSet, numb
     }
 }
 
-/// Whether all edges that start at the node are kept.
+/// Returns true if all edges that start at `node` are kept.
 fn are_kept<T: EdgeTable>(table: &T, refusals: &Refusals, listed: &IxBitSet, node: usize) -> bool
     requires { node < (T.content table.now).nodes }
     ensures { IsTrue result ↔ ((e : ℕ) (w : Way) → IsWay (T.content table.now) e w → w.start ≡ node
@@ -105,7 +105,7 @@ fn are_kept<T: EdgeTable>(table: &T, refusals: &Refusals, listed: &IxBitSet, nod
     true
 }
 
-/// Whether all edges that start at listed nodes are kept.
+/// Returns true if all edges that start at listed nodes are kept.
 fn is_closed<T: EdgeTable>(
     table: &T,
     refusals: &Refusals,
@@ -125,7 +125,7 @@ fn is_closed<T: EdgeTable>(
     true
 }
 
-/// Whether no step names a refused offer, and the listed nodes are closed for all others.
+/// Returns true if no step names a refused offer, and the listed nodes are closed for all other offers.
 fn is_complete<T: EdgeTable>(
     table: &T,
     initials: &IxBitSet,
@@ -143,13 +143,14 @@ fn is_complete<T: EdgeTable>(
         && is_closed(table, refusals, listed, steps)
 }
 
-/// Whether the steps are an explanation that names no refused offer, and lists a set that is closed for all offers but the
-/// refused: it holds the initial nodes, the far end of each unconditional edge whose start it holds, and that of each
-/// offer that isn't refused whose start, and gate where it waits for one, it holds.
+/// Returns true if `steps` are an explanation that names no refused offer, and list a set that is closed for
+/// all other offers. Closed means that the set has the initial nodes, and the far end of each unconditional
+/// edge that starts in it. The far end of an offer that isn't refused is in the set if its start is, and its
+/// gate too where it waits for one.
 ///
-/// Whoever made the steps isn't trusted. A refused entry that is no offer refuses nothing. Linear in the steps, the refused
-/// entries and the edges of the listed nodes; memory is taken for a bit a node and three bits an edge, and the error is
-/// want of it.
+/// The steps aren't trusted. An entry of `refused` that is no offer refuses nothing. The time is linear in the
+/// steps, the refused entries and the edges of the listed nodes. Allocates one bit per node and three bits per
+/// edge. `AllocError` is returned when an allocation fails.
 pub fn check_exact_steps<T: EdgeTable>(
     alloc: Global,
     table: &T,

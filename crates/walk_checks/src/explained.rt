@@ -11,7 +11,7 @@ use guppy_support::IxBitSet;
 use std::alloc::{AllocError, Global};
 use walk_engine::{Step, StepReason};
 
-/// Whether the step's reason holds, where the listed nodes stand before it.
+/// Returns true if the reason of `step` holds, where `listed` are the nodes of the steps before it.
 fn has_reason<T: EdgeTable>(table: &T, initials: &IxBitSet, listed: &IxBitSet, step: Step) -> bool
     ensures { (before : List ℕ) → ((n : ℕ) → has listed.now n ≡ is_in before n)
         → IsTrue result ↔ IsReason (T.content table.now) (has initials.now) every before step.node step.reason }
@@ -29,7 +29,7 @@ fn has_reason<T: EdgeTable>(table: &T, initials: &IxBitSet, listed: &IxBitSet, s
     }
 }
 
-/// Whether the step may come next: its node isn't listed yet, and its reason holds.
+/// Returns true if `step` is valid as the next one: its node isn't listed yet, and its reason holds.
 fn is_next<T: EdgeTable>(table: &T, initials: &IxBitSet, listed: &IxBitSet, step: Step) -> bool
     requires ends { EndsAreNodes (T.content table.now) }
     requires initials { length initials.now ≡ (T.content table.now).nodes }
@@ -44,7 +44,7 @@ fn is_next<T: EdgeTable>(table: &T, initials: &IxBitSet, listed: &IxBitSet, step
         && has_reason(table, initials, listed, step)
 }
 
-/// Whether the steps are an explanation; if so, their nodes are listed.
+/// Returns true if `steps` are an explanation. In that case their nodes are inserted into `listed`.
 pub(crate) fn explains<T: EdgeTable>(
     table: &T,
     initials: &IxBitSet,
@@ -69,11 +69,12 @@ pub(crate) fn explains<T: EdgeTable>(
     true
 }
 
-/// Whether the steps are an explanation, by offers of any kind: no node twice, and for each a reason that holds by the
-/// steps before it.
+/// Returns true if `steps` are an explanation, by offers of any kind: no node is listed twice, and each has a
+/// reason that holds by the steps before it.
 ///
-/// Whoever made the steps isn't trusted: a number that is no node or no edge, or a half that the edge lacks, gives false.
-/// Linear in the steps; memory is taken for a bit a node, and the error is want of it.
+/// The steps aren't trusted: the result is false for a number that is no node or no edge, or for a half that
+/// the edge lacks. The time is linear in the steps. Allocates one bit per node. `AllocError` is returned when
+/// an allocation fails.
 pub fn check_steps<T: EdgeTable>(
     alloc: Global,
     table: &T,

@@ -1,4 +1,4 @@
-//! Laws of explanations. Each function's contract is the law: they do nothing, and speak of the definitions alone.
+//! Laws of explanations. Each function does nothing; its contract is the law, about the definitions alone.
 
 ghost use Rattle.std.specs.Prelude.{◌≡◌, ◌↔◌, ℕ, Bool, List, IsTrue};
 ghost use Rattle.walk_engine.specs.Walks.{Content, Least, is_in};
@@ -16,13 +16,13 @@ pub fn explained_in_least()
         → (n : ℕ) → IsTrue (is_in (nodes_of steps) n) → Least c I (named_in steps) n }
 {}
 
-/// The nodes of an exact explanation are the least set for all offers but the refused.
+/// The nodes of an exact explanation are the least set for all offers except the refused.
 pub fn exact_is_least()
     ensures { (c : Content) (I : ℕ → Bool) (refused : List (ℕ × Half)) (steps : List Step)
         → IsExact c I refused steps → (n : ℕ) → IsTrue (is_in (nodes_of steps) n) ↔ Least c I (all_but refused) n }
 {}
 
-/// The steps that a walk gives are an explanation, and exact for the refused offers that it gives.
+/// The steps of an explained walk are an explanation, and exact for the refused offers of the walk.
 pub fn walk_is_exact<O: Offerer>()
     ensures explained { (c : Content) (I : ℕ → Bool) (s t : O) (M : ℕ → Bool) (steps : List Step)
         (refused : List (ℕ × Half)) → IsExplainedWalk c I O.gives s t M steps refused
@@ -32,7 +32,7 @@ pub fn walk_is_exact<O: Offerer>()
         → IsExact c I refused steps }
 {}
 
-/// So are the steps of any walk that is explained, whoever answered its offers.
+/// The steps of any explained walk are an exact explanation, for every offerer.
 pub fn run_is_exact()
     ensures explained { (c : Content) (I : ℕ → Bool) (M : ℕ → Bool) (steps : List Step) (refused : List (ℕ × Half))
         → IsExplainedRun c I M steps refused → IsExplanation c I every steps }

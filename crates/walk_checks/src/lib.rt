@@ -1,5 +1,5 @@
-//! Checks of explanations: whether steps explain their nodes, whether they leave nothing out, and the steps on which one
-//! node rests. They trust nobody who made the steps, and look edges up by number.
+//! Checks of explanations: whether steps explain their nodes, whether they leave nothing out, and the steps on
+//! which one node rests. The steps aren't trusted, and edges are looked up by number.
 #![tactic(auto)]
 
 mod exact;

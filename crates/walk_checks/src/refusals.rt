@@ -12,7 +12,7 @@ use guppy_support::IxBitSet;
 use std::alloc::{AllocError, Global};
 use walk_engine::Half;
 
-/// Puts the number into the set, where it is below its bound.
+/// Inserts `number` into `set` if it is below the set's bound.
 fn put(set: &mut IxBitSet, number: usize)
     ensures size { length set.new ≡ length set.old }
     ensures put { (k : ℕ) → k < length set.old → has set.new k ≡ (has set.old k || (number == k)) }
@@ -22,7 +22,7 @@ fn put(set: &mut IxBitSet, number: usize)
     }
 }
 
-/// The edges of which each half is refused.
+/// For each half, the edges whose half is refused.
 #[derive(Drop)]
 pub(crate) struct Refusals {
     full: IxBitSet,
@@ -31,7 +31,7 @@ pub(crate) struct Refusals {
 }
 
 impl Refusals {
-    /// No refusals, of so many edges.
+    /// Returns an empty table of refusals for `edge_count` edges.
     fn none(alloc: Global, edge_count: usize) -> Result<Refusals, AllocError>
         ensures sized { IfOk result (AreSized edge_count) }
         ensures blank { IfOk result (λ r. (e : ℕ) (h : Half) → has_mark r e h ≡ false) }
@@ -43,7 +43,7 @@ impl Refusals {
         })
     }
 
-    /// Notes that the half of the edge is refused, where there is such an edge.
+    /// Marks `half` of `edge` as refused. An edge past the table's size is ignored.
     fn note(&mut self, edge: usize, half: Half)
         ensures { (count : ℕ) → AreSized count self.old → AreSized count self.new
             × ((e : ℕ) (h : Half) → e < count → has_mark self.new e h
@@ -56,7 +56,7 @@ impl Refusals {
         }
     }
 
-    /// The refusals of a list, of so many edges. What is said of other edges is passed over.
+    /// Returns the refusals in `refused`. Entries for edges from `edge_count` on are ignored.
     pub(crate) fn of(
         alloc: Global,
         edge_count: usize,
@@ -72,7 +72,7 @@ impl Refusals {
         Ok(refusals)
     }
 
-    /// Whether the half of the edge is refused.
+    /// Returns true if `half` of `edge` is refused.
     pub(crate) fn has(&self, edge: usize, half: Half) -> bool
         ensures { result ≡ has_mark self.now edge half }
     {

@@ -13,7 +13,7 @@ use guppy_support::IxBitSet;
 use std::alloc::{AllocError, Global};
 use walk_engine::{Step, StepReason};
 
-/// Puts the nodes on which the reason leans into the set.
+/// Inserts the nodes on which `reason` leans into `needed`.
 fn need<T: EdgeTable>(table: &T, needed: &mut IxBitSet, reason: StepReason)
     requires ends { EndsAreNodes (T.content table.now) }
     requires size { length needed.old ≡ (T.content table.now).nodes }
@@ -39,7 +39,8 @@ fn need<T: EdgeTable>(table: &T, needed: &mut IxBitSet, reason: StepReason)
     }
 }
 
-/// The steps of needed nodes, the last first, with the nodes on which their reasons lean needed too.
+/// Returns the steps of needed nodes, the last first. The nodes on which their reasons lean are inserted into
+/// `needed`.
 fn needed_steps<T: EdgeTable>(
     alloc: Global,
     table: &T,
@@ -63,11 +64,13 @@ fn needed_steps<T: EdgeTable>(
     Ok(kept)
 }
 
-/// The steps of an explanation on which a node rests, in order and each once: its own step, the last, and with each step those
-/// of the start and the gate that its reason names, back to initial nodes. None where the node isn't listed.
+/// Returns the steps on which `node` rests, in the order of `steps`, or `None` if `node` isn't listed. Its own
+/// step is the last. With each step are those of the start, and of the gate, that its reason names, back to
+/// initial nodes.
 ///
-/// They are an explanation of the same edges, initials and offers. Linear in the steps; memory is taken for a bit a node and
-/// for the list, and the error is want of it. Of steps that are no explanation nothing is said.
+/// The result is an explanation for the same edges, initial nodes and offers. If `steps` aren't an explanation,
+/// the result is unspecified. The time is linear in the steps. Allocates one bit per node, and the list.
+/// `AllocError` is returned when an allocation fails.
 pub fn why<T: EdgeTable>(
     alloc: Global,
     table: &T,

@@ -12,48 +12,49 @@ use walk_engine::{Ask, Half};
 /// An edge as one direction follows it.
 #[derive(Clone, Copy, Debug, PartialEq, Eq)]
 pub struct TableEdge {
-    /// The node that it starts at.
+    /// The node at which it starts.
     pub start: usize,
-    /// The node that it leads to.
+    /// The node to which it leads.
     pub far: usize,
-    /// What is asked before it is followed.
+    /// The offers that it needs before it is followed.
     pub ask: Ask,
-    /// The node that its optional half waits for, where it is gated; else any number.
+    /// The node that its optional half waits for, if it is gated; otherwise any number.
     pub gate: usize,
 }
 
-/// Edges as one direction follows them, each of which is looked up by its number. No call changes them.
+/// A table of edges as one direction follows them, looked up by number. No call changes it.
 pub trait EdgeTable {
-    /// The nodes, and the ways by edge number.
+    /// The number of nodes, and the ways by edge number.
     ghost content: { Self → Content };
 
-    /// How many nodes there are.
+    /// Returns the number of nodes.
     fn node_count(&self) -> usize
         ensures count { result ≡ (content self.now).nodes }
         ensures ends { EndsAreNodes (content self.now) };
 
-    /// How many edges there are.
+    /// Returns the number of edges.
     fn edge_count(&self) -> usize
         ensures { result ≡ length (content self.now).ways };
 
-    /// The edge of this number, where there is one.
+    /// Returns the edge with this number, or `None` if there is none.
     fn edge(&self, number: usize) -> Option<TableEdge>
         ensures { Tells (slice_get (content self.now).ways number) result };
 
-    /// The number of the edge at this place, from 0, among those that start at the node, ascending.
+    /// Returns the number of the edge at `place`, from 0, among those that start at `start`, ascending. `None`
+    /// is returned past the last.
     fn edge_from(&self, start: usize, place: usize) -> Option<usize>
         requires { start < (content self.now).nodes }
         ensures { result ≡ slice_get (starting (content self.now) start) place };
 }
 
-/// Whether the set has the number; a number from its bound on it lacks.
+/// Returns true if `number` is in `set`; false for a number that isn't below its bound.
 pub(crate) fn holds(set: &IxBitSet, number: usize) -> bool
     ensures { result ≡ has set.now number }
 {
     number < set.size() && set.contains(number)
 }
 
-/// Whether nothing is asked.
+/// Returns true if the edge is unconditional.
 pub(crate) fn is_unasked(ask: Ask) -> bool
     ensures { result ≡ is_unasked ask }
 {
@@ -67,7 +68,7 @@ pub(crate) fn is_unasked(ask: Ask) -> bool
     }
 }
 
-/// Whether the half is offered of an edge of which this is asked.
+/// Returns true if `half` is offered for an edge with this `ask`.
 fn has_half(ask: Ask, half: Half) -> bool
     ensures { result ≡ has_half ask half }
 {
@@ -86,7 +87,7 @@ fn has_half(ask: Ask, half: Half) -> bool
     }
 }
 
-/// Whether the half of an edge of which this is asked waits for the edge's gate.
+/// Returns true if `half` of an edge with this `ask` waits for the edge's gate.
 pub(crate) fn has_gate(ask: Ask, half: Half) -> bool
     ensures { result ≡ has_gate ask half }
 {
@@ -101,14 +102,14 @@ pub(crate) fn has_gate(ask: Ask, half: Half) -> bool
     }
 }
 
-/// Whether the edge leads to the node from a listed one.
+/// Returns true if `edge` leads from a listed node to `node`.
 pub(crate) fn leads_to(edge: TableEdge, listed: &IxBitSet, node: usize) -> bool
     ensures { result ≡ leads_to edge (has listed.now) node }
 {
     edge.far == node && holds(listed, edge.start)
 }
 
-/// Whether the edge has the half, and its gate, where it waits for one, is listed.
+/// Returns true if the edge has `half`, and its gate is listed if `half` waits for it.
 pub(crate) fn is_offered(edge: TableEdge, half: Half, listed: &IxBitSet) -> bool
     ensures { result ≡ is_offered edge half (has listed.now) }
 {

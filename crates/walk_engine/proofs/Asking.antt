@@ -15,13 +15,13 @@ offers_before : (c : Content) (run : List Call) (e : ℕ) (h : Half) (b : Bool) 
 offers_before c [] e h b w is half a = ((w, is, half), tt)
 offers_before c (call ∷ before) e h b w is half (one, a) = (one, offers_before c before e h b w is half a)
 
--- after an offer each offer may be made still
+-- After an offer each offer may still be made.
 pub may_after : {O : Type 0} (can : O → ℕ → Half → Type 0) (gives : O → ℕ → Half → Bool → O → Type 0) (c : Content) (want : Bool) (e : ℕ) (h : Half) (far : ℕ) (s : O) (f : Findings) (t : O) (g : Findings) (w : Way) → IsWay c e w → (IsTrue want → IsTrue (has_half w.ask h)) → Asks gives want e h far s f t g → MayAsk can gives c s → MayAsk can gives c t
 may_after can gives c false e h far s f t g w is half (p, q) may = subst (λ x. MayAsk can gives c x) (sym p) may
 may_after can gives c true e h far s f t g w is half (b, step, q) may =
     λ run u offers steps. may (run ++ call_of e h b ∷ []) u (offers_before c run e h b w is (half refl) offers) (steps_before gives s e h b t run u step steps)
 
--- what is told of the edge at a place
+-- The parts of an edge that was looked up at a place.
 abbrev pub Seen : Content → (Way → Bool) → ℕ → Taken → Type 0
 Seen c p place taken = (start : ℕ) × (gate : ℕ) × (slice_get (numbers_where p 0 c.ways) place ≡ Some taken.edge) × IsWay c taken.edge (record { start = start; far = taken.far; ask = taken.ask; gate = gate }) × IsTrue (p (record { start = start; far = taken.far; ask = taken.ask; gate = gate }))
 
@@ -55,6 +55,6 @@ none_at c p place (Some e) q h =
 pub unseen : (c : Content) (p : Way → Bool) (place : ℕ) → told c (slice_get (numbers_where p 0 c.ways) place) ≡ None → slice_get (numbers_where p 0 c.ways) place ≡ None
 unseen c p place h = none_at c p place (slice_get (numbers_where p 0 c.ways) place) refl h
 
--- what is told of an edge leads to a node
+-- The far end of an edge that was looked up is a node.
 pub far_within : (c : Content) (p : Way → Bool) (place : ℕ) (taken : Taken) → EndsAreNodes c → told c (slice_get (numbers_where p 0 c.ways) place) ≡ Some taken → taken.far < c.nodes
 far_within c p place taken ends h = let k = seen c p place taken h in (ends taken.edge _ k.3).1

@@ -10,7 +10,7 @@ use Rattle.walk_engine.specs.Laws.{every, only, Leads, AreReverse, IsUngated}
 use Rattle.walk_engine.proofs.Answered.{clash, or_left, or_right, or_cases, and_both, and_intro}
 use Rattle.walk_engine.proofs.Reaches.{reach_in, open_cases}
 
--- whether a path over these ways, taken as edges from start to far, leads from a to b
+-- Whether a path over these ways, all of them open, leads from `a` to `b`.
 abbrev pub leads : List Way → ℕ → ℕ → Bool
 leads [] a b = a == b
 leads (w ∷ ws) a b = leads ws a b || (leads ws a w.start && leads ws w.far b)
@@ -44,7 +44,7 @@ leads_edge (v ∷ vs) zero w h =
     (or_right (leads vs v.start v.far) (leads vs v.start v.start && leads vs v.far v.far) (and_intro (leads vs v.start v.start) (leads vs v.far v.far) (leads_refl vs v.start) (leads_refl vs v.far)))
 leads_edge (v ∷ vs) (suc e) w h = or_left (leads vs w.start w.far) (leads vs w.start v.start && leads vs v.far w.far) (leads_edge vs e w h)
 
--- one path after another
+-- Two paths in a row are a path.
 pub path_append : (c : Content) (A : ℕ → Half → Bool) (a : ℕ) (es : List ℕ) (b : ℕ) (fs : List ℕ) (d : ℕ) → Path c A a es b → Path c A b fs d → (gs : List ℕ) × Path c A a gs d
 path_append c A a [] b fs d p q = (fs, subst (λ (x : ℕ). Path c A x fs d) (sym p) q)
 path_append c A a (e ∷ es) b fs d (w, is, st, op, rest) q = let r = path_append c A w.far es b fs d rest q in (e ∷ r.0, (w, is, st, op, r.1))
@@ -69,7 +69,7 @@ leads_path c (w ∷ ws) within a b t =
           path_append c every a one.0 w.start (e.0 ∷ two.0) b one.1 step
     ]
 
--- the test: an initial node, or one to which the end of some way leads that starts at an initial node
+-- The test: a node that is reached from the start of a way that is initial.
 abbrev from_some : (ℕ → Bool) → List Way → List Way → ℕ → Bool
 from_some I every [] n = false
 from_some I every (w ∷ ws) n = (I w.start && leads every w.start n) || from_some I every ws n
@@ -88,7 +88,7 @@ from_get I every (v ∷ vs) n t = elim (or_cases (I v.start && leads every v.sta
   | inr p ↦ from_get I every vs n p
 ]
 
--- a way more
+-- Going on by a path keeps the test true.
 from_more : (I : ℕ → Bool) (every ws : List Way) (n m : ℕ) → IsTrue (leads every n m) → IsTrue (from_some I every ws n) → IsTrue (from_some I every ws m)
 from_more I every [] n m q t = absurd (clash t refl)
 from_more I every (v ∷ vs) n m q t = elim (or_cases (I v.start && leads every v.start n) (from_some I every vs n) t) [
@@ -96,7 +96,7 @@ from_more I every (v ∷ vs) n m q t = elim (or_cases (I v.start && leads every 
   | inr p ↦ or_right (I v.start && leads every v.start m) (from_some I every vs m) (from_more I every vs n m q p)
 ]
 
--- each least set is within the reach over all edges
+-- Each least set is within the reach over all edges.
 pub least_within : (c : Content) (I : ℕ → Bool) (A : ℕ → Half → Bool) (n : ℕ) → Least c I A n → Reach c I every n
 least_within c I A n least =
     let S = λ (k : ℕ). I k || from_some I c.ways c.ways k in
@@ -115,7 +115,7 @@ least_within c I A n least =
       | inr p ↦ let g = from_get I c.ways c.ways n p in let q = leads_path c c.ways (λ i w h. (i, h)) g.0 n g.2 in (g.0, q.0, g.1, q.1)
     ]
 
--- a path back over the reverse edges
+-- A path can be followed back over the reverse edges.
 leads_back : (c d : Content) → AreReverse c d → (a : ℕ) (es : List ℕ) (b : ℕ) → Path c every a es b → Leads d b a
 leads_back c d r a [] b p = ([], sym p)
 leads_back c d r a (e ∷ es) b (w, is, st, op, rest) =
@@ -166,7 +166,7 @@ least_again c I M A m n = (
   (λ least S closed. closed.initial n ((m n).1 least)),
 )
 
--- no half of an ungated ask waits
+-- No half of an ungated ask waits.
 no_wait : (ask : Ask) (h : Half) → IsFalse (is_gated ask) → IsTrue (has_gate ask h) → ⊥
 no_wait asks.Nobody h f t = clash t refl
 no_wait asks.Full h f t = clash t refl

@@ -7,7 +7,7 @@ use Rattle.walk_engine.specs.declared.walks.Ask.TheVariants as asks
 use Rattle.walk_engine.specs.Walks.{Content, Way, IsWay, has_half, is_open, Path, Reach}
 use Rattle.walk_engine.proofs.Answered.{or_cases, or_left, or_right, and_both, and_intro, clash}
 
--- a number has one way
+-- A number has at most one way.
 pub same_way : (c : Content) (e : ℕ) (v w : Way) → IsWay c e v → IsWay c e w → v ≡ w
 same_way c e v w p q = let r : Some v ≡ Some w = sym p ∙ q in cc
 
@@ -15,7 +15,7 @@ pub path_more : (c : Content) (A : ℕ → Half → Bool) (a : ℕ) (es : List �
 path_more c A a [] b e w p is st op = (w, is, st ∙ sym p, op, refl)
 path_more c A a (f ∷ es) b e w (v, iv, sv, ov, rest) is st op = (v, iv, sv, ov, path_more c A v.far es b e w rest is st op)
 
--- one more open way
+-- Going on over an open way stays within the reach.
 pub reach_more : (c : Content) (I : ℕ → Bool) (A : ℕ → Half → Bool) (e : ℕ) (w : Way) → IsWay c e w → IsTrue (is_open A e w.ask) → Reach c I A w.start → Reach c I A w.far
 reach_more c I A e w is op (a, es, i, p) = (a, es ++ e ∷ [], i, path_more c A a es w.start e w p is refl op)
 
@@ -23,11 +23,11 @@ pub path_in : (c : Content) (A : ℕ → Half → Bool) (S : ℕ → Type 0) →
 path_in c A S f a [] b p s = subst S p s
 path_in c A S f a (e ∷ es) b (w, is, st, op, rest) s = path_in c A S f w.far es b rest (f e w is op (subst S (sym st) s))
 
--- what holds the initial nodes and is closed along open ways holds what is reached
+-- A set that has the initial nodes and is closed along open ways has each reached node.
 pub reach_in : (c : Content) (I : ℕ → Bool) (A : ℕ → Half → Bool) (S : ℕ → Type 0) → ((n : ℕ) → IsTrue (I n) → S n) → ((e : ℕ) (w : Way) → IsWay c e w → IsTrue (is_open A e w.ask) → S w.start → S w.far) → (n : ℕ) → Reach c I A n → S n
 reach_in c I A S i f n (a, es, start, p) = path_in c A S f a es n p (i a start)
 
--- an open way is open because nobody is asked or an offer is accepted
+-- A way is open because it is unconditional, or because an offer of it is accepted.
 pub open_cases : (A : ℕ → Half → Bool) (e : ℕ) (ask : Ask) → IsTrue (is_open A e ask) → (ask ≡ asks.Nobody) ⊎ ((h : Half) × IsTrue (has_half ask h) × IsTrue (A e h))
 open_cases A e asks.Nobody t = inl refl
 open_cases A e asks.Full t = inr (Full, refl, t)
@@ -49,7 +49,7 @@ open_by A e (asks.Weak required gated) Optional given a = or_right (required && 
 pub open_nobody : (A : ℕ → Half → Bool) (e : ℕ) (ask : Ask) → ask ≡ asks.Nobody → IsTrue (is_open A e ask)
 open_nobody A e ask p = subst (λ (k : Ask). IsTrue (is_open A e k)) (sym p) refl
 
--- more accepted offers open more
+-- More accepted offers open at least the same ways.
 pub open_grows : (A B : ℕ → Half → Bool) → ((e : ℕ) (h : Half) → IsTrue (A e h) → IsTrue (B e h)) → (e : ℕ) (ask : Ask) → IsTrue (is_open A e ask) → IsTrue (is_open B e ask)
 open_grows A B f e ask t =
     elim (open_cases A e ask t) [

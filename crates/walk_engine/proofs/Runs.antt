@@ -9,7 +9,7 @@ use Rattle.walk_engine.specs.Laws.{AnswersBy}
 use Rattle.walk_engine.proofs.Answered.{decide, or_cases, or_left, or_right, and_both, and_intro, clash, is_of_same}
 use Rattle.walk_engine.proofs.Reaches.{same_way, reach_more, reach_in, open_cases, open_by, open_nobody}
 
--- what a legal run accepted leads into each set that is closed for offers that agree with it
+-- The far end of each accepted offer of a legal run is in each closed set of offers that agree with the run.
 pub accepted_in : (c : Content) (I : ℕ → Bool) (A : ℕ → Half → Bool) (S : ℕ → Type 0) → IsClosed c I A S → (run : List Call) → IsLegal c I run → Agrees A run → (e : ℕ) (h : Half) (w : Way) → IsTrue (was_accepted run e h) → IsWay c e w → S w.far
 accepted_in c I A S closed [] legal agrees e h w t is = absurd (clash t refl)
 accepted_in c I A S closed (call ∷ before) (due, legal) (agree, agrees) e h w t is =
@@ -28,7 +28,7 @@ accepted_in c I A S closed (call ∷ before) (due, legal) (agree, agrees) e h w 
       | inr p ↦ earlier e h w p is
     ]
 
--- what a legal run reached is in each set that is closed for offers that agree with it
+-- Each node that a legal run reached is in each closed set of offers that agree with the run.
 pub reach_closed : (c : Content) (I : ℕ → Bool) (A : ℕ → Half → Bool) (S : ℕ → Type 0) → IsClosed c I A S → (run : List Call) → IsLegal c I run → Agrees A run → (n : ℕ) → Reach c I (was_accepted run) n → S n
 reach_closed c I A S closed run legal agrees =
     reach_in c I (was_accepted run) S closed.initial (λ f v isv op s. elim (open_cases (was_accepted run) f v.ask op) [
@@ -36,7 +36,7 @@ reach_closed c I A S closed run legal agrees =
       | inr p ↦ accepted_in c I A S closed run legal agrees f p.0 v p.2 isv
     ])
 
--- an offer that was made and is in A was accepted
+-- An offer that was made and is in `A` was accepted.
 pub made_accepted : (A : ℕ → Half → Bool) (run : List Call) → Agrees A run → (e : ℕ) (h : Half) → IsTrue (was_made run e h) → IsTrue (A e h) → IsTrue (was_accepted run e h)
 made_accepted A [] agrees e h t a = absurd (clash t refl)
 made_accepted A (call ∷ before) (agree, agrees) e h t a =
@@ -53,12 +53,12 @@ no_gate asks.Nobody t = clash t refl
 no_gate asks.Full t = clash t refl
 no_gate (asks.Weak required gated) t = clash t refl
 
--- a required half that was never offered is due
+-- A required half that was never offered is due.
 pub required_due : (c : Content) (I : ℕ → Bool) (run : List Call) (e : ℕ) (w : Way) → IsWay c e w → IsTrue (has_half w.ask Required) → Reach c I (was_accepted run) w.start → IsFalse (was_made run e Required) → IsDue c I run e Required
 required_due c I run e w is half start fresh =
     record { way = w; is_way = is; half = half; start = start; gate = λ t. absurd (no_gate w.ask t); fresh = fresh; turn = λ t. absurd (clash t refl) }
 
--- after a complete run each offer with its start and gate reached was made
+-- After a complete run, each offer whose start and gate are reached was made.
 pub due_made : (c : Content) (I : ℕ → Bool) (run : List Call) → IsComplete c I run → (e : ℕ) (h : Half) (w : Way) → IsWay c e w → IsTrue (has_half w.ask h) → Reach c I (was_accepted run) w.start → (IsTrue (has_gate w.ask h) → Reach c I (was_accepted run) w.gate) → (IsTrue (has_turn w.ask h) → IsTrue (was_made run e Required)) → IsTrue (was_made run e h)
 due_made c I run complete e h w is half start gate turn =
     elim (decide (was_made run e h)) [
@@ -72,7 +72,7 @@ all_made c I run complete e Required w is half start gate = due_made c I run com
 all_made c I run complete e Optional w is half start gate =
     due_made c I run complete e Optional w is half start gate (λ t. due_made c I run complete e Required w is t start (λ g. absurd (no_gate w.ask g)) (λ u. absurd (clash u refl)))
 
--- what a complete run reached is closed for all offers that agree with it
+-- The reach of a complete run is closed for all offers that agree with it.
 pub closed_reach : (c : Content) (I : ℕ → Bool) (A : ℕ → Half → Bool) (run : List Call) → IsComplete c I run → Agrees A run → IsClosed c I A (Reach c I (was_accepted run))
 closed_reach c I A run complete agrees =
     record {
@@ -81,7 +81,7 @@ closed_reach c I A run complete agrees =
       offered = λ e h w is half a s g. reach_more c I (was_accepted run) e w is (open_by (was_accepted run) e w.ask h half (made_accepted A run agrees e h (all_made c I run complete e h w is half s g) a)) s;
     }
 
--- what a complete legal run reached is the least closed set
+-- The reach of a complete legal run is the least closed set.
 pub members_least : (c : Content) (I : ℕ → Bool) (M : ℕ → Bool) (run : List Call) → IsLegal c I run → IsComplete c I run → ((n : ℕ) → IsTrue (M n) ↔ Reach c I (was_accepted run) n) → (A : ℕ → Half → Bool) → Agrees A run → (n : ℕ) → IsTrue (M n) ↔ Least c I A n
 members_least c I M run legal complete members A agrees n =
     let closed = closed_reach c I A run complete agrees in
@@ -95,12 +95,12 @@ members_least c I M run legal complete members A agrees n =
       }),
     )
 
--- two runs with which one set agrees: what the one reached, the other did
+-- If one set agrees with two runs, the second reached each node that the first did.
 pub one_result_lem : (c : Content) (I : ℕ → Bool) (A : ℕ → Half → Bool) (run other : List Call) → IsLegal c I run → IsComplete c I other → Agrees A run → Agrees A other → (n : ℕ) → Reach c I (was_accepted run) n → Reach c I (was_accepted other) n
 one_result_lem c I A run other legal complete agrees agrees' =
     reach_closed c I A (Reach c I (was_accepted other)) (closed_reach c I A other complete agrees') run legal agrees
 
--- a run of answers that are those of a test
+-- If the answers are those of a test, the test agrees with the run.
 pub agrees_along : {O : Type 0} (gives : O → ℕ → Half → Bool → O → Type 0) (A : ℕ → Half → Bool) (s : O) → AnswersBy gives A s → (run : List Call) (t : O) → GoesAlong gives s run t → Agrees A run
 agrees_along gives A s answers [] t along = tt
 agrees_along gives A s answers (call ∷ before) t (m, along, given) = (sym (answers before m t call.edge call.half call.answer along given), agrees_along gives A s answers before m along)

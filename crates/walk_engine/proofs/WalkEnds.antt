@@ -34,7 +34,7 @@ in_at (x ∷ xs) e t = elim (or_cases (x == e) (is_in xs e) t) [
   | inr p ↦ let r = in_at xs e p in (suc r.0, r.1)
 ]
 
--- an edge of the list has a way that passes
+-- Each number in the list has a way that passes.
 way_of : (c : Content) (p : Way → Bool) (e : ℕ) → IsTrue (is_in (numbers_where p 0 c.ways) e) → (w : Way) × IsWay c e w × IsTrue (p w)
 way_of c p e t =
     let at' = in_at (numbers_where p 0 c.ways) e t in
@@ -81,7 +81,7 @@ listed order order' next node k (more, q) here =
     ap (λ (xs : List ℕ). is_in (take (suc next) xs) k) q ∙ (ap (λ (xs : List ℕ). is_in xs k) (take-append-le (suc next) order more h') ∙ (take_is_in order next node k here ∙ ap (λ (b : Bool). is_in (take next order) k || b) (eqb_swap node k)))
 
 module _ {O : Type 0} (c : Content) (I : ℕ → Bool) (gives : O → ℕ → Half → Bool → O → Type 0) (s0 : O) where
-  -- the edges of a member that is next were not taken or released yet
+  -- The edges of the next member aren't taken or released yet.
   untaken : (xs : List ℕ) (node : ℕ) → IsFalse (is_in xs node) → (e : ℕ) → IsTrue (is_in (starting c node) e) → IsFalse (passes c (λ w. is_in xs w.start) e)
   untaken xs node out e q =
       let way = way_of c (λ (w : Way). w.start == node) e q in
@@ -93,14 +93,14 @@ module _ {O : Type 0} (c : Content) (I : ℕ → Bool) (gives : O → ℕ → Ha
       let both = and_both (is_gated way.0.ask) (way.0.gate == node) way.2 in
       passes_way c (λ (w : Way). is_gated w.ask && is_in xs w.gate) e way.0 way.1 ∙ and_none (is_gated way.0.ask) (is_in xs way.0.gate) (ap (is_in xs) (eqb-true way.0.gate node both.1) ∙ out)
 
-  -- the member that is next
+  -- The next node in the order is a member.
   is_member : (s : O) (f : Findings) (met : List Bool) (next node : ℕ) → slice_get f.order next ≡ Some node → IsDone c I gives s0 (take next f.order) s f met → IsTrue (has f.members node)
   is_member s f met next node here done = done.core.ordered node ∙ is_in_at f.order next node here
 
   is_new : (s : O) (f : Findings) (met : List Bool) (next node : ℕ) → slice_get f.order next ≡ Some node → IsDone c I gives s0 (take next f.order) s f met → IsFalse (is_in (take next f.order) node)
   is_new s f met next node here done = not_before f.order next node done.core.distinct here
 
-  -- one more member is done
+  -- One more member is done.
   pub done_more : (s t u : O) (f g h : Findings) (met met' met'' : List Bool) (next node : ℕ) → slice_get f.order next ≡ Some node → IsDone c I gives s0 (take next f.order) s f met → FollowsAll Start (starting c node) c gives node s f met t g met' → FollowsAll Gate (releasing c node) c gives node t g met' u h met'' → Extends f h → IsDone c I gives s0 (take (suc next) h.order) u h met''
   done_more s t u f g h met met' met'' next node here done takes frees grown =
       let xs = take next f.order in
@@ -120,7 +120,7 @@ module _ {O : Type 0} (c : Content) (I : ℕ → Bool) (gives : O → ℕ → Ha
       ∙ sym (ap (λ (b : Bool). b || G e) (number_in (λ (v : Way). is_gated v.ask && (v.gate == node)) 0 c.ways e e w (omega arith) is) ∙ ap (λ (b : Bool). (is_gated w.ask && (w.gate == node)) || b) (passes_way c (λ (v : Way). is_gated v.ask && is_in xs v.gate) e w is)))))
       two.1
 
-  -- where it stops at a member's edges, what was called is a legal run
+  -- If the walk stops at a member's edges, the calls made are a legal run.
   pub stopped_taking : (s t : O) (f : Findings) (met : List Bool) (next node : ℕ) → slice_get f.order next ≡ Some node → IsDone c I gives s0 (take next f.order) s f met → FollowsStopped Start c gives node s f met t → LegalRun c I gives s0 t
   stopped_taking s t f met next node here done stopped =
       let xs = take next f.order in
@@ -135,7 +135,7 @@ module _ {O : Type 0} (c : Content) (I : ℕ → Bool) (gives : O → ℕ → Ha
       let one = takes I s0 T G (untaken xs node out) (is_member s f met next node here done) done in
       stopped I s0 (λ e. is_in (starting c node) e || T e) G (unfreed xs node out) one.0 one.1
 
-  -- when all members are done, the walk is whole
+  -- When all members are done, the walk is complete.
   pub finished : (s : O) (f : Findings) (met : List Bool) → IsDone c I gives s0 f.order s f met → IsWalk c I gives s0 s (has f.members)
   finished s f met done =
       let run = done.run in
@@ -204,7 +204,7 @@ length_more [] next node h = absurd (cc)
 length_more (x ∷ xs) zero node h = refl
 length_more (x ∷ xs) (suc next) node h = let r : length (take (suc next) xs) ≡ length (take next xs) + 1 = length_more xs next node h in omega arith
 
--- one more member costs its edges and the two reads that answer None
+-- One more member costs its edges and the two reads that return `None`.
 pub reads_more : (c : Content) (order : List ℕ) (next node : ℕ) → Distinct order → slice_get order next ≡ Some node → reads_of c (take (suc next) order) ≡ reads_of c (take next order) + (length (starting c node) + 1) + (length (releasing c node) + 1)
 reads_more c order next node d here =
     let xs = take next order in
@@ -221,7 +221,7 @@ reads_more c order next node d here =
     let r : length (releasing c node) ≡ count_by (λ (w : Way). is_gated w.ask && (w.gate == node)) c.ways = length-numbers (λ (w : Way). is_gated w.ask && (w.gate == node)) 0 c.ways in
     omega arith
 
--- a marked number is within the list
+-- A marked number is below the length of the list.
 pub marked_within : (marks : List Bool) (n : ℕ) → IsTrue (has marks n) → n < length marks
 marked_within [] n t = absurd (clash t refl)
 marked_within (b ∷ marks) zero t = omega arith
@@ -250,7 +250,7 @@ member_in set n t = in_filter (λ (k : ℕ). has set k) (range_with_len 0 (lengt
 pub in_member : (set : List Bool) (n : ℕ) → IsTrue (is_in (members set) n) → IsTrue (has set n)
 in_member set n t = (and_both (has set n) (is_in (range_with_len 0 (length set)) n) (sym (in_filter (λ (k : ℕ). has set k) (range_with_len 0 (length set)) n) ∙ t)).0
 
--- the initial nodes but those that are left were noted, and no others
+-- The initial nodes that aren't left are members, and no others.
 pub record BegunBut (I : List Bool) (rest : List ℕ) (f : Findings) : Type 0 where
   pub named : IsTrue f.explains → f.order ≡ nodes_of f.steps
   pub reasons : IsTrue f.explains → (k : ℕ) (step : Step) → slice_get f.steps k ≡ Some step → (step.reason ≡ Initial) × IsTrue (has I step.node)
@@ -271,7 +271,7 @@ noted_reasons I f i x t b =
       ])
     ]
 
--- before the first
+-- Before the first initial node.
 pub begun_none : (I : List Bool) (f : Findings) → Begun (λ _. false) f → BegunBut I (members I) f
 begun_none I f b =
     record {
@@ -285,7 +285,7 @@ begun_none I f b =
       silent = b.silent;
     }
 
--- the next that is left
+-- The next one that is left is an initial node.
 pub next_initial : (I : List Bool) (i : ℕ) (rest : List ℕ) (f : Findings) → BegunBut I (i ∷ rest) f → IsTrue (has I i)
 next_initial I i rest f b = b.left i (or_left (i == i) (is_in rest i) (eq-eqb i i refl))
 
@@ -309,7 +309,7 @@ begun_note I i rest f h b =
       silent = b.silent;
     }
 
--- after the last
+-- After the last initial node.
 pub begun_all : (I : List Bool) (f : Findings) → BegunBut I [] f → Begun (has I) f
 begun_all I f b =
     record { named = b.named; reasons = b.reasons; initial = λ n m. elim (b.initial n m) [ inl p ↦ p | inr p ↦ absurd (clash p refl) ]; only = b.only; ordered = b.ordered; distinct = b.distinct; silent = b.silent }
@@ -320,7 +320,7 @@ take_extends f g k h x = ap (take k) x.order ∙ take-append-le k f.order x.more
 pub longer : (f g : Findings) → Extends f g → length f.order ≤ length g.order
 longer f g x = omega (arith, length-append f.order x.more, ap length x.order)
 
--- a bound on the reads
+-- A bound on the reads.
 pub reads_bound : (c : Content) (order : List ℕ) (next : ℕ) → reads_of c (take next order) ≤ 2 * next + 2 * length c.ways
 reads_bound c order next =
     omega (arith, length-take next order, count_by-le-length (λ (w : Way). is_in (take next order) w.start) c.ways, count_by-le-length (λ (w : Way). is_gated w.ask && is_in (take next order) w.gate) c.ways)
@@ -336,7 +336,7 @@ no_count p f (w ∷ ws) =
 pub reads_none : (c : Content) → reads_of c [] ≡ 0
 reads_none c = omega (arith, no_count (λ (w : Way). false) (λ w. refl) c.ways, no_count (λ (w : Way). is_gated w.ask && false) (λ w. and_none (is_gated w.ask) false refl) c.ways)
 
--- the reads by the members in place of their list
+-- The number of reads, from the set of members in place of their list.
 pub reads_members : (c : Content) (M : ℕ → Bool) (order : List ℕ) → ((n : ℕ) → M n ≡ is_in order n) → reads_of c order ≡ 2 * length order + edges_from c M + edges_gated_by c M
 reads_members c M order same =
     omega (

@@ -39,7 +39,7 @@ extends_asks gives false e h far s f t g (p, q) = subst (Extends f) (sym q) (ext
 extends_asks gives true e h far s f t g (true, step, q) = subst (Extends f) (sym q) (extends_noted f far (Offer e h))
 extends_asks gives true e h far s f t g (false, step, q) = subst (Extends f) (sym q) (record { explains = refl; more = []; order = sym (append-nil f.order) })
 
--- the only asks that wait for a gate
+-- Only the ask of a weak edge waits for a gate.
 pub gated_weak : (ask : Ask) → IsTrue (is_gated ask) → (required : Bool) × (ask ≡ asks.Weak required true)
 gated_weak asks.Nobody q = absurd (clash q refl)
 gated_weak asks.Full q = absurd (clash q refl)
@@ -62,7 +62,7 @@ or_none true b p q = p
 or_none false b p q = q
 
 module _ {O : Type 0} (c : Content) (gives : O → ℕ → Half → Bool → O → Type 0) where
-  -- tests that agree on the edges hold the same
+  -- The invariant depends on `T` and `G` only at edges.
   pub at_same : (I : ℕ → Bool) (s0 : O) (T G T' G' : ℕ → Bool) (s : O) (f : Findings) (met : List Bool) → ((e : ℕ) (w : Way) → IsWay c e w → T' e ≡ T e) → ((e : ℕ) (w : Way) → IsWay c e w → G' e ≡ G e) → IsAt c I gives s0 T G s f met → IsAt c I gives s0 T' G' s f met
   at_same I s0 T G T' G' s f met p q at' =
       record {
@@ -76,7 +76,7 @@ module _ {O : Type 0} (c : Content) (gives : O → ℕ → Half → Bool → O �
         came = λ e w is g. rw (p e w is, q e w is) (at'.came e w is g);
       }
 
-  -- more edges that are followed
+  -- An edge that isn't among those followed stays new.
   fresh_with : (by : Condition) (more T G : ℕ → Bool) (e : ℕ) → IsFalse (more e) → IsFalse (followed by T G e) → IsFalse (followed by (taken_too by more T) (freed_too by more G) e)
   fresh_with Start more T G e out new = or_none (more e) (T e) out new
   fresh_with Gate more T G e out new = or_none (more e) (G e) out new
@@ -100,13 +100,13 @@ module _ {O : Type 0} (c : Content) (gives : O → ℕ → Half → Bool → O �
   freed_more Start more more' G e k p = refl
   freed_more Gate more more' G e k p = one_more more more' G e k p
 
-  -- the node of an edge that was followed is a member
+  -- The node of an edge that was followed is a member.
   node_there : (by : Condition) (node e : ℕ) (w : Way) (I : ℕ → Bool) (s0 : O) (T G : ℕ → Bool) (u : O) (h : Findings) (met : List Bool) → IsWay c e w → IsTrue (at_node by node w) → IsAt c I gives s0 (taken_too by (λ k. k == e) T) (freed_too by (λ k. k == e) G) u h met → IsTrue (has h.members node)
   node_there Start node e w I s0 T G u h met is pass at' = subst (λ (n : ℕ). IsTrue (has h.members n)) (eqb-true w.start node pass) (at'.started e w is (with_here c I gives s0 T e))
   node_there Gate node e w I s0 T G u h met is pass at' = subst (λ (n : ℕ). IsTrue (has h.members n)) (eqb-true w.gate node (and_both (is_gated w.ask) (w.gate == node) pass).1) (at'.freed e w is (with_here c I gives s0 G e))
 
   module _ (by : Condition) (node : ℕ) (s : O) (f : Findings) (met : List Bool) where
-    -- the edges up to a place
+    -- The edges up to a place are followed.
     abbrev pub FollowsFirst : ℕ → O → Findings → List Bool → Type 0
     FollowsFirst place t g met' = FollowsAll by (take place (edges_by by c node)) c gives node s f met t g met'
 
@@ -133,7 +133,7 @@ module _ {O : Type 0} (c : Content) (gives : O → ℕ → Half → Bool → O �
     pub follows_whole : (place : ℕ) (t : O) (g : Findings) (met' : List Bool) → FollowsFirst place t g met' → take place (edges_by by c node) ≡ edges_by by c node → FollowsAll by (edges_by by c node) c gives node s f met t g met'
     follows_whole place t g met' first whole = subst (λ (xs : List ℕ). FollowsAll by xs c gives node s f met t g met') whole first
 
-    -- where it stops between two edges, what was called is a legal run
+    -- If the walk stops between two edges, the calls made are a legal run.
     pub follows_stopped : (place : ℕ) (t : O) (g : Findings) (met' : List Bool) → FollowsFirst place t g met' → FollowsStopped by c gives node s f met t
     follows_stopped place t g met' first I s0 T G new st at' = let r = first I s0 T G new st at' in (r.1.run, r.1.core.calls, r.1.core.legal)
 

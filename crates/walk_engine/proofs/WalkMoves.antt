@@ -73,7 +73,7 @@ noted_explained c I A f n r x named reason ex =
       ])
     ]
 
--- more accepted offers explain as much
+-- Reasons stay valid when more offers are accepted.
 reason_grows : (c : Content) (I : ℕ → Bool) (A B : ℕ → Half → Bool) → ((e : ℕ) (h : Half) → IsTrue (A e h) → IsTrue (B e h)) → (before : List ℕ) (n : ℕ) (r : StepReason) → IsReason c I A before n r → IsReason c I B before n r
 reason_grows c I A B f before n Initial q = q
 reason_grows c I A B f before n (Edge e) q = q
@@ -108,7 +108,7 @@ module _ {O : Type 0} (c : Content) (I : ℕ → Bool) (gives : O → ℕ → Ha
         told = told;
       }
 
-  -- one more offer that was due, and its far end noted where it was accepted
+  -- Making an offer that is due keeps the invariant. If it is accepted, its far end becomes a member.
   pub core_ask : (run : List Call) (s t : O) (f : Findings) (e : ℕ) (h : Half) (b : Bool) (w : Way) → Core c I gives s0 run s f → Follows c run f → IsWay c e w → IsDue c I run e h → IsTrue (has_half w.ask h) → IsTrue (has f.members w.start) → (IsTrue (has_gate w.ask h) → IsTrue (has f.members w.gate)) → w.far < length f.members → gives s e h b t → Core c I gives s0 (call_of e h b ∷ run) t (answered f w.far e h b) × Follows c (call_of e h b ∷ run) (answered f w.far e h b) × Grows f (answered f w.far e h b)
   core_ask run s t f e h true w core follows is due half st gt fits g =
       let core' : Core c I gives s0 (call_of e h true ∷ run) t f = core_call run s t f e h true f.refused core due g core.told in
@@ -133,7 +133,7 @@ module _ {O : Type 0} (c : Content) (I : ℕ → Bool) (gives : O → ℕ → Ha
     (λ k m. m),
   )
 
-  -- one edge was taken or released, and all else stays
+  -- Taking or releasing one edge keeps the invariant for all others.
   pub moved : (T G T' G' : ℕ → Bool) (s t : O) (f g : Findings) (met met' : List Bool) (e : ℕ) (w : Way) (run' : List Call) (at' : IsAt c I gives s0 T G s f met) → IsWay c e w → Core c I gives s0 run' t g → Follows c run' g → Grows f g
       → ((k : ℕ) → k ≢ e → (T' k ≡ T k) × (G' k ≡ G k))
       → ((k : ℕ) (h : Half) → k ≢ e → was_made run' k h ≡ was_made at'.run k h)
@@ -188,7 +188,7 @@ module _ {O : Type 0} (c : Content) (I : ℕ → Bool) (gives : O → ℕ → Ha
   pub with_other : (T : ℕ → Bool) (e k : ℕ) → k ≢ e → with_edge T e k ≡ T k
   with_other T e k ne = elim (eqb_tells k e) [ inl p ↦ absurd (ne p.1) | inr p ↦ rw p.0 refl ]
 
-  -- what one offer, made where it is wanted, adds
+  -- The effect of one offer, made if it is wanted.
   pub record Stage (want : Bool) (run : List Call) (f : Findings) (e : ℕ) (h : Half) (t : O) (g : Findings) : Type 0 where
     pub after : List Call
     pub core : Core c I gives s0 after t g
@@ -268,7 +268,7 @@ module _ {O : Type 0} (c : Content) (I : ℕ → Bool) (gives : O → ℕ → Ha
       (λ h given. sg.made e h ∙ subst (λ (a : Ask). ((true && ((e == e) && is_half Full h)) || was_made at'.run e h) ≡ (with_edge T e e && (not (has_gate a h) || G e))) (sym ask) (full_made T G e (was_made at'.run e h) h (subst (λ (a : Ask). IsTrue (has_half a h)) ask given)))
       (λ q. absurd (clash (subst (λ (a : Ask). IsTrue (is_gated a)) ask q) refl))
 
-  -- the half is free at its start exactly where it has no gate or its gate came
+  -- At its start the half is free exactly if it has no gate or its gate was met.
   start_open : (gated : Bool) (e : ℕ) (met met' : List Bool) (ready : Bool) (g : Bool) → Comes gated e met ready met' → (IsTrue gated → has met e ≡ (false || g)) → ready ≡ (not gated || g)
   start_open false e met met' ready g (t, q) m = t
   start_open true e met met' ready g (t, q) m = t ∙ m refl
@@ -345,7 +345,7 @@ module _ {O : Type 0} (c : Content) (I : ℕ → Bool) (gives : O → ℕ → Ha
       (λ q. let q' : IsTrue gated = off (λ a. IsTrue (is_gated a)) q in
       came_here gated e met met' ready inside comes q' ∙ sym (or_left (with_edge T e e) (G e) (with_here T e)))
 
-  -- the half is free at its gate exactly where its start came
+  -- At its gate the half is free exactly if its start was met.
   gate_open : (e : ℕ) (met met' : List Bool) (ready : Bool) (t : Bool) → Comes true e met ready met' → has met e ≡ (t || false) → ready ≡ t
   gate_open e met met' ready true (q, r) m = q ∙ m
   gate_open e met met' ready false (q, r) m = q ∙ m

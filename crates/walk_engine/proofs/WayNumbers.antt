@@ -40,7 +40,7 @@ distinct_more (x ∷ xs) n (d, ds) f =
           (is_in-append xs n x ∙ (ap (λ (b : Bool). b || (n == x)) d ∙ ne), distinct_more xs n ds f')
     ]
 
--- a number of a way that passes
+-- `e` is the number of a way that passes.
 abbrev pub Numbers : (Way → Bool) → ℕ → List Way → ℕ → Type 0
 Numbers p first ws e = (i : ℕ) × (e ≡ first + i) × ((w : Way) × (slice_get ws i ≡ Some w) × IsTrue (p w))
 
@@ -51,7 +51,7 @@ number_first : (p : Way → Bool) (first : ℕ) (w : Way) (ws : List Way) (k e :
 number_first p first w ws zero e t later h = let q : first ≡ e = cc in (0, omega arith, (w, refl, t))
 number_first p first w ws (suc k) e t later h = number_later p first w ws e (later k h)
 
--- what stands in the list of numbers is the number of a way that passes
+-- Each number in the list is that of a way that passes.
 pub number_way : (p : Way → Bool) (first : ℕ) (ws : List Way) (k e : ℕ) → slice_get (numbers_where p first ws) k ≡ Some e → Numbers p first ws e
 number_way p first [] k e h = absurd (cc)
 number_way p first (w ∷ ws) k e h =
@@ -172,7 +172,7 @@ either_one true false f = refl
 either_one false true f = refl
 either_one false false f = refl
 
--- two tests that never pass together
+-- If two tests never pass together, the count of either is the sum of their counts.
 pub count_by_either : (p q : Way → Bool) → ((w : Way) → IsTrue (q w) → IsFalse (p w)) → (ws : List Way) → count_by (λ w. p w || q w) ws ≡ count_by p ws + count_by q ws
 count_by_either p q f [] = refl
 count_by_either p q f (w ∷ ws) =

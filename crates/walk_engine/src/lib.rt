@@ -1,5 +1,5 @@
-//! Walks over edges that are followed unconditionally, or where an offer of them is accepted: sets of numbers, ways and
-//! offers alone.
+//! Walks over numbered edges. An edge is followed unconditionally, or if an offer of it is accepted. Nodes,
+//! ways and offers are numbers; packages and features play no part.
 #![tactic(auto)]
 
 pub mod laws;

@@ -1,4 +1,4 @@
-//! Walks over the edges of a source, which ask an offerer before they follow a conditional edge.
+//! Walks over the edges of a source. Before a walk follows a conditional edge, it asks an offerer.
 
 ghost use Rattle.std.specs.Prelude.{◌≡◌, ◌+◌, ◌*◌, ◌^◌, ◌<◌, ◌≤◌, ℕ, Bool, List, IfOk, OnErr, length, slice_get, count_by};
 ghost use Rattle.guppy_support.specs.Bits.{has};
@@ -12,7 +12,7 @@ use guppy_support::IxBitSet;
 use progress::walk_found;
 use std::alloc::{AllocError, Global};
 
-/// What is offered of a conditional edge: its full link, or a half of a weak edge.
+/// The part of a conditional edge that an offer is about: its full link, or a half of a weak edge.
 #[derive(Clone, Copy, Debug, PartialEq, Eq)]
 pub enum Half {
     /// The full link of an edge that isn't weak.
@@ -23,19 +23,19 @@ pub enum Half {
     Optional,
 }
 
-/// What is asked before an edge is followed.
+/// The offers that an edge needs before it is followed.
 #[derive(Clone, Copy, Debug, PartialEq, Eq)]
 pub enum Ask {
-    /// Nothing: the edge is unconditional.
+    /// None: the edge is unconditional.
     Nobody,
-    /// The full link.
+    /// One offer: the full link.
     Full,
-    /// The halves of a weak edge: the required half where it has one, and the optional half, which waits for the
-    /// edge's gate where it is gated.
+    /// The offers of a weak edge. Its required half is offered if `required`; its optional half always, and
+    /// after the edge's gate is reached if `gated`.
     Weak { required: bool, gated: bool },
 }
 
-/// What a source tells of an edge: its number, the end that it leads to, and what is asked.
+/// An edge as a source returns it: its number, its far end, and the offers it needs.
 #[derive(Clone, Copy, Debug, PartialEq, Eq)]
 pub struct Taken {
     pub edge: usize,
@@ -43,34 +43,35 @@ pub struct Taken {
     pub ask: Ask,
 }
 
-/// Who answers the offers of a walk.
+/// Accepts or refuses the offers of a walk.
 pub trait Offerer {
-    /// The offer may be made.
+    /// The offer may be made in this state.
     ghost can_offer: { Self → ℕ → Half → Type 0 };
 
-    /// The answer that an offer may get, and the state after it.
+    /// The results that an offer may have, and the state after each.
     ghost gives: { Self → ℕ → Half → Bool → Self → Type 0 };
 
-    /// Whether the offer is accepted.
+    /// Returns true if `half` of `edge` is accepted.
     fn offer(&mut self, edge: usize, half: Half) -> bool
         requires { can_offer self.old edge half }
         ensures { gives self.old edge half result self.new };
 }
 
-/// Edges as one direction follows them. Each call of `take` and of `release` is one read.
+/// The edges of a graph as one direction follows them. Each call of `take` or `release` is one read.
 pub trait EdgeSource {
-    /// The nodes, and the ways by edge number. No call changes it.
+    /// The number of nodes, and the ways by edge number. No call changes it.
     ghost content: { Self → Content };
 
-    /// How many reads there were.
+    /// The number of reads so far.
     ghost reads: { Self → ℕ };
 
-    /// How many edges there are.
+    /// Returns the number of edges.
     fn edge_count(&self) -> usize
         ensures count { result ≡ length (content self.now).ways }
         ensures nodes { EndsAreNodes (content self.now) };
 
-    /// The edge at this place, from 0, among those that start at the node, by ascending number.
+    /// Returns the edge at `place`, from 0, among those that start at `start`, by ascending number. `None` is
+    /// returned past the last.
     fn take(&mut self, start: usize, place: usize) -> Option<Taken>
         requires node { start < (content self.old).nodes }
         requires few { reads self.old < 2 ^ 100 }
@@ -78,7 +79,8 @@ pub trait EdgeSource {
         ensures read { reads self.new ≡ reads self.old + 1 }
         ensures taken { result ≡ told (content self.old) (slice_get (starting (content self.old) start) place) };
 
-    /// The edge at this place, from 0, among those whose gate is the node, by ascending number.
+    /// Returns the edge at `place`, from 0, among those whose gate is `gate`, by ascending number. `None` is
+    /// returned past the last.
     fn release(&mut self, gate: usize, place: usize) -> Option<Taken>
         requires node { gate < (content self.old).nodes }
         requires few { reads self.old < 2 ^ 100 }
@@ -87,35 +89,35 @@ pub trait EdgeSource {
         ensures taken { result ≡ told (content self.old) (slice_get (releasing (content self.old) gate) place) };
 }
 
-/// What a walk reached.
+/// The result of a walk.
 #[derive(Drop)]
 pub struct Walk {
     /// The nodes that were reached.
     pub members: IxBitSet,
 }
 
-/// Why a node is a member.
+/// The reason why a node is a member.
 #[derive(Clone, Copy, Debug, PartialEq, Eq)]
 pub enum StepReason {
     /// It is an initial node.
     Initial,
-    /// An unconditional edge, by its number, leads to it from an earlier node.
+    /// The unconditional edge with this number leads to it from an earlier member.
     Edge(usize),
-    /// An accepted offer, by its edge's number and its half, leads to it from an earlier node.
+    /// The accepted offer of this edge and half leads to it from an earlier member.
     Offer(usize, Half),
 }
 
-/// A member, and why it is one.
+/// A member, and the reason why it is one.
 #[derive(Clone, Copy, Debug, PartialEq, Eq)]
 pub struct Step {
     pub node: usize,
     pub reason: StepReason,
 }
 
-/// Walks from the initial nodes, and explains the members.
+/// Walks from `initials`, and explains the members. The offers make a complete legal run.
 ///
-/// The offers make a complete legal run. Gives the walk, a step for each member in the order in which they were
-/// reached, and the refused offers in the order of the run. On want of memory the offers made are a legal run.
+/// Returns the walk, a step for each member in the order of reaching them, and the refused offers in the order
+/// of the run. `AllocError` is returned when an allocation fails; the offers made until then are a legal run.
 pub fn walk_explained<S: EdgeSource, O: Offerer>(
     alloc: Global,
     source: &mut S,
@@ -140,10 +142,10 @@ pub fn walk_explained<S: EdgeSource, O: Offerer>(
     Ok((walk, found.steps, found.refused))
 }
 
-/// Walks from the initial nodes.
+/// Walks from `initials`. The offers make a complete legal run, and the members are exactly the nodes that its
+/// accepted offers reach.
 ///
-/// The offers make a complete legal run, and the members are exactly what its accepted offers reach. On want of
-/// memory the offers made are a legal run.
+/// `AllocError` is returned when an allocation fails; the offers made until then are a legal run.
 pub fn walk_over<S: EdgeSource, O: Offerer>(
     alloc: Global,
     source: &mut S,

@@ -1,4 +1,4 @@
--- What the walk along the edges knows on the way.
+-- The state of the walk that finds components.
 use Rattle.std.specs.Prelude.{◌≡◌, ◌≢◌, ℕ, ◌+◌, ◌-◌, ◌*◌, ◌<◌, ◌≤◌, ◌==◌, List, length, sum_by, slice_index}
 use Rattle.guppy_support.specs.Paths.{HasEdge, Path, SameComponent}
 use Rattle.guppy_support.specs.Graph.{Graph, sources}
@@ -7,12 +7,13 @@ use Rattle.digraph_orders.specs.inner.Counts.{count_below}
 use Rattle.digraph_orders.specs.inner.NodeEdges.{target_at}
 use Rattle.digraph_orders.specs.declared.components.walk.Walk.{Walk}
 
--- how many of the first n nodes weren't entered
+-- The number of nodes below `n` that aren't entered.
 abbrev pub unentered : ℕ → List ℕ → ℕ
 unentered n marks = count_below (λ v. slice_index marks v == 0) n
 
--- the mark of a node is 0 before it is entered; its place among the pending nodes and one more; and then the rank of its component,
--- above the number of nodes. From each bound to the next, pending nodes are of one component, and lead to all later ones
+-- The invariant of the walk. A mark is 0 before its node is entered, then one plus its place in `pending`, and
+-- then the rank of its component. Ranks are above the number of nodes. Pending nodes from one bound up to the
+-- next are in one component, and lead to all later ones.
 pub record IsWalking (g : Graph) (marks pending bounds opened left : List ℕ) (rank : ℕ) : Type 0 where
   pub marks_long : length marks ≡ g.nodes
   pub left_long : length left ≡ length opened
@@ -32,7 +33,7 @@ pub record IsWalking (g : Graph) (marks pending bounds opened left : List ℕ) (
       → Path g.edges (slice_index pending (slice_index bounds i)) (slice_index pending j)
   pub behind : (i j : ℕ) → i < length bounds → j < length pending → (i + 1 < length bounds → j < slice_index bounds (i + 1))
       → Path g.edges (slice_index pending j) (slice_index pending (slice_index bounds i))
-  -- an edge that was passed doesn't lead behind a bound
+  -- An edge that was passed doesn't lead behind a bound that is before its source.
   pub passed : (i k b : ℕ) → i < length opened → k + slice_index left i < length (places (slice_index opened i) (sources g.edges))
       → b < length bounds → slice_index bounds b < slice_index marks (slice_index opened i)
       → slice_index bounds b < slice_index marks (target_at g.edges (slice_index opened i) k)
@@ -46,23 +47,23 @@ pub record IsWalking (g : Graph) (marks pending bounds opened left : List ℕ) (
 abbrev pub IsWalk : Graph → Walk → Type 0
 IsWalk g w = IsWalking g w.marks.items w.pending.items w.bounds.items w.opened.items w.left.items w.rank
 
--- how many steps may still come
+-- A bound on the number of steps left.
 abbrev pub steps_left : Graph → Walk → ℕ
 steps_left g w = unentered g.nodes w.marks.items * (length g.edges + 2) + (sum_by (λ k. k) w.left.items + length w.opened.items)
 
--- the marks of the pending nodes from a place on are a rank, and the other marks stay
+-- The marks of the pending nodes from a place on are now `rank`, and the other marks are unchanged.
 pub record AreGiven (old new : List ℕ) (from to rank : ℕ) : Type 0 where
   pub given : (v : ℕ) → from < slice_index old v → slice_index old v ≤ to → slice_index new v ≡ rank
   pub low : (v : ℕ) → slice_index old v ≤ from → slice_index new v ≡ slice_index old v
   pub high : (v : ℕ) → to < slice_index old v → slice_index new v ≡ slice_index old v
 
--- a list and one number more
+-- `new` is `old` with `x` appended.
 pub record IsMore (old new : List ℕ) (x : ℕ) : Type 0 where
   pub long : length new ≡ length old + 1
   pub kept : (i : ℕ) → i < length old → slice_index new i ≡ slice_index old i
   pub last : slice_index new (length old) ≡ x
 
--- the front of a list
+-- `new` is a prefix of `old`.
 pub record IsFrontOf (old new : List ℕ) : Type 0 where
   pub shorter : length new ≤ length old
   pub kept : (i : ℕ) → i < length new → slice_index new i ≡ slice_index old i

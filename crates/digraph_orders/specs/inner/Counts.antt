@@ -1,22 +1,22 @@
--- How many edges that are left count for a component or a node.
+-- Counts of the remaining edges for each component and for each node.
 use Rattle.std.specs.Prelude.{◌≡◌, ℕ, zero, suc, ◌+◌, ◌<◌, Bool, false, cond, ◌&&◌, ◌==◌, not, List, length, map, slice_index, slice_index_or}
 use Rattle.guppy_support.specs.declared.digraph.Edge.{Edge}
 use Rattle.guppy_support.specs.Graph.{sources, targets}
 
--- how many numbers below n pass the test
+-- The number of `k` below `n` that pass the test.
 abbrev pub count_below : (ℕ → Bool) → ℕ → ℕ
 count_below test zero = 0
 count_below test (suc n) = cond (test n) 1 0 + count_below test n
 
--- for each c, how many of the first n that are left count for it
+-- Each count `c` is the number of `i` below `n` that are left and count for `c`.
 abbrev pub IsTally : List ℕ → ℕ → (ℕ → Bool) → (ℕ → ℕ → Bool) → Type 0
 IsTally counts n left test = (c : ℕ) → c < length counts → slice_index counts c ≡ count_below (λ i. left i && test c i) n
 
--- edge i leads from another component to that of rank c
+-- Edge `i` leads from another component into the one of rank `c`.
 abbrev pub enters : List Edge → List ℕ → ℕ → ℕ → Bool
 enters es ranks c i = (slice_index ranks (slice_index (targets es) i) == c) && not (slice_index ranks (slice_index (sources es) i) == c)
 
--- edge i is firm and leads from another node of v's component to v
+-- Edge `i` holds `v`: it isn't dev-only, and leads to `v` from another node of its component.
 abbrev pub holds : List Edge → List ℕ → ℕ → ℕ → Bool
 holds es ranks v i =
     (slice_index_or (map (λ e. e.non_dev) es) i false && (slice_index (targets es) i == v))

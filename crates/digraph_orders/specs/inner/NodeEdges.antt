@@ -4,10 +4,10 @@ use Rattle.guppy_support.specs.declared.digraph.Edge.{Edge}
 use Rattle.guppy_support.specs.Graph.{sources, targets, source_of, target_of}
 use Rattle.guppy_support.specs.Rows.{places}
 
--- the target of the k-th edge that leaves v
+-- The target of the `k`-th edge that leaves `v`.
 abbrev pub target_at : List Edge → ℕ → ℕ → ℕ
 target_at es v k = target_of es (slice_index (places v (sources es)) k)
 
--- the source of the k-th edge that enters v
+-- The source of the `k`-th edge that enters `v`.
 abbrev pub source_at : List Edge → ℕ → ℕ → ℕ
 source_at es v k = source_of es (slice_index (places v (targets es)) k)

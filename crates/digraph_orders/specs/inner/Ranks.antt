@@ -3,7 +3,7 @@ use Rattle.std.specs.Prelude.{◌≡◌, ℕ, ◌<◌, ◌≤◌, List, length, 
 use Rattle.guppy_support.specs.Paths.{HasEdge, SameComponent}
 use Rattle.guppy_support.specs.Graph.{Graph}
 
--- numbers that never fall along an edge, and that two nodes share only inside one component
+-- Ranks never fall along an edge, and two nodes have one rank only if they are in one component.
 pub record IsRanking (g : Graph) (ranks : List ℕ) : Type 0 where
   pub long : length ranks ≡ g.nodes
   pub ascends : (a b : ℕ) → HasEdge g.edges a b → slice_index ranks a ≤ slice_index ranks b

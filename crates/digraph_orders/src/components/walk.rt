@@ -1,4 +1,4 @@
-//! Components, by one walk along the edges.
+//! The depth-first walk that finds components.
 ghost use Rattle.std.specs.Prelude.{◌≡◌, ◌≢◌, ℕ, ◌+◌, ◌-◌, ◌*◌, ◌^◌, ◌<◌, ◌≤◌, length, IfOk, OnOk, slice_index};
 ghost use Rattle.guppy_support.specs.Graph.{sources};
 ghost use Rattle.guppy_support.specs.Paths.{HasEdge, Path};
@@ -9,24 +9,24 @@ ghost use Rattle.digraph_orders.specs.inner.ComponentWalk.{IsWalk, IsFrontOf, Ar
 use guppy_support::{Digraph, zeroes};
 use std::alloc::{AllocError, Global};
 
-/// A walk along the edges of a digraph.
+/// The state of the walk. It keeps its own stack, so deep graphs don't overflow the call stack.
 #[derive(Drop)]
 pub(crate) struct Walk {
-    /// Of each node: 0 before it is entered; its place among the pending nodes and one more; and then its component's rank.
+    /// Per node: 0 before it is entered, then one plus its place in `pending`, then its component's rank.
     pub(crate) marks: Vec<u32>,
-    /// The nodes that were entered and whose component isn't known, in that order.
+    /// The entered nodes whose component isn't known yet, in the order of entry.
     pub(crate) pending: Vec<u32>,
-    /// The places at which components of pending nodes begin, as far as is known.
+    /// The places in `pending` at which components begin, as far as is known.
     pub(crate) bounds: Vec<u32>,
-    /// The open nodes, each of which leads to the next.
+    /// The open nodes. Each leads to the next.
     pub(crate) opened: Vec<u32>,
-    /// How many edges of each open node are left.
+    /// The number of edges left to look at, for each open node.
     pub(crate) left: Vec<u32>,
-    /// The rank of the next component.
+    /// The rank of the next component. Ranks are assigned downwards.
     pub(crate) rank: u32,
 }
 
-/// Gives the pending nodes from that place on the rank.
+/// Sets the mark of each pending node from place `from` on to `rank`.
 fn give(marks: &mut Vec<u32>, pending: &[u32], from: usize, rank: u32)
     requires from { from ≤ length pending.now }
     requires placed { (i : ℕ) → i < length pending.now → (slice_index pending.now i < length marks.old.items) × (slice_index marks.old.items (slice_index pending.now i) ≡ i + 1) }
@@ -39,7 +39,7 @@ fn give(marks: &mut Vec<u32>, pending: &[u32], from: usize, rank: u32)
     }
 }
 
-/// Lets go of the last bounds, as far as they aren't below the mark.
+/// Removes the last bounds while they are at least `mark`.
 fn fold(bounds: &mut Vec<u32>, mark: u32)
     requires mark { 0 < mark }
     requires first { (0 < length bounds.old.items) × (slice_index bounds.old.items 0 ≡ 0) }
@@ -54,7 +54,8 @@ fn fold(bounds: &mut Vec<u32>, mark: u32)
 }
 
 impl Walk {
-    /// Enters a node to which each pending node leads.
+    /// Enters `node`, which isn't entered and is reachable from each pending node. An allocation failure is the
+    /// only error.
     fn enter(&mut self, graph: &Digraph, node: usize) -> Result<(), AllocError>
         requires narrow { (2 * graph.now.nodes < 2 ^ 32) × (length graph.now.edges < 2 ^ 32) }
         requires walk { IsWalk graph.now self.old }
@@ -77,7 +78,8 @@ impl Walk {
         Ok(())
     }
 
-    /// Closes the last open node, none of whose edges is left. A component that begins with it is known.
+    /// Closes the last open node `top`, which has no edges left. If a component begins with it, the component
+    /// gets its rank.
     fn close(&mut self, graph: &Digraph, top: usize)
         requires narrow { 2 * graph.now.nodes < 2 ^ 32 }
         requires walk { IsWalk graph.now self.old }
@@ -101,7 +103,7 @@ impl Walk {
         self.rank -= 1;
     }
 
-    /// Passes an edge that leads to a node that was entered.
+    /// Passes an edge of `top` that leads to `node`, which was entered earlier.
     fn pass(&mut self, graph: &Digraph, top: usize, node: usize)
         requires walk { IsWalk graph.now self.old }
         requires opened { 0 < length self.old.opened.items }
@@ -121,7 +123,7 @@ impl Walk {
         self.left[last] -= 1;
     }
 
-    /// The end of the next edge of the last open node.
+    /// Returns the target of the next edge of the last open node `top`.
     fn next(&self, graph: &Digraph, top: usize) -> usize
         requires walk { IsWalk graph.now self.now }
         requires opened { 0 < length self.now.opened.items }
@@ -139,7 +141,7 @@ impl Walk {
             .to
     }
 
-    /// The node that was opened last.
+    /// Returns the node that was opened last.
     fn last(&self, graph: &Digraph) -> usize
         requires walk { IsWalk graph.now self.now }
         requires opened { 0 < length self.now.opened.items }
@@ -150,7 +152,8 @@ impl Walk {
         self.opened[self.opened.len() - 1] as usize
     }
 
-    /// Looks at the next edge of the last open node: enters the node at its end, or passes it. With no edge left, closes the node.
+    /// Looks at the next edge of the last open node: enters its target, or passes the edge if the target was
+    /// entered. If no edge is left, closes the node. An allocation failure is the only error.
     fn step(&mut self, graph: &Digraph) -> Result<(), AllocError>
         requires narrow { (2 * graph.now.nodes < 2 ^ 32) × (length graph.now.edges < 2 ^ 32) }
         requires walk { IsWalk graph.now self.old }
@@ -172,7 +175,8 @@ impl Walk {
         Ok(())
     }
 
-    /// Enters `root` if it wasn't entered, and walks until no node is open.
+    /// Enters `root` if it wasn't entered, and walks until no node is open. An allocation failure is the only
+    /// error.
     fn visit(&mut self, graph: &Digraph, root: usize) -> Result<(), AllocError>
         requires narrow { (2 * graph.now.nodes < 2 ^ 32) × (length graph.now.edges < 2 ^ 32) }
         requires walk { IsWalk graph.now self.old }
@@ -212,7 +216,7 @@ fn fresh(alloc: Global, graph: &Digraph) -> Result<Walk, AllocError>
     })
 }
 
-/// The walk from each node, at its end: no node is pending.
+/// Returns the finished walk from every node: each mark is a rank. An allocation failure is the only error.
 pub(crate) fn walked(alloc: Global, graph: &Digraph) -> Result<Walk, AllocError>
     requires narrow { (2 * graph.now.nodes < 2 ^ 32) × (length graph.now.edges < 2 ^ 32) }
     ensures walk { IfOk result (λ w. IsWalk graph.now w) }
@@ -225,7 +229,7 @@ pub(crate) fn walked(alloc: Global, graph: &Digraph) -> Result<Walk, AllocError>
     Ok(walk)
 }
 
-/// Numbers less the base.
+/// Subtracts `base` from each number.
 pub(crate) fn lowered(numbers: Vec<u32>, base: u32) -> Vec<u32>
     requires { (i : ℕ) → i < length numbers.items → base ≤ slice_index numbers.items i }
     ensures long { length result.items ≡ length numbers.items }

@@ -1,4 +1,5 @@
-//! The edges are counted before the first node of an order: those that enter each component, and those that hold each node.
+//! Counts made before the first node is listed: the edges that enter each component, and those that hold each
+//! node.
 ghost use Rattle.std.specs.Prelude.{◌≡◌, ◌≢◌, ℕ, [], ◌+◌, ◌<◌, ◌≤◌, length, slice_index, IfOk, OnOk, false, replicate};
 ghost use Rattle.guppy_support.specs.Graph.{IsDigraph};
 ghost use Rattle.guppy_support.specs.Rows.{places};
@@ -11,7 +12,7 @@ use crate::order::queue::Queue;
 use guppy_support::{Digraph, Edge, IxBitSet, zeroes};
 use std::alloc::{AllocError, Global};
 
-/// The edge of that number.
+/// Returns the edge with this number.
 fn edge_at(graph: &Digraph, number: usize) -> Edge
     requires { number < length graph.now.edges }
     ensures { IsEdge graph.now number result.from result.to result.non_dev }
@@ -20,7 +21,7 @@ fn edge_at(graph: &Digraph, number: usize) -> Edge
     graph.edge(number)
 }
 
-/// Counts an edge for the component that it enters, or for the node that it holds.
+/// Counts edge `number` in `outside` if it enters another component, or in `held` if it holds its target.
 fn count_edge(
     outside: &mut Vec<u32>,
     held: &mut Vec<u32>,
@@ -51,7 +52,7 @@ fn count_edge(
     held[edge.to] += 1;
 }
 
-/// Adds the first node of the component of that rank, if there is one and no edge enters it.
+/// Adds the first node of component `rank` to `starts`, if the component isn't empty and no edge enters it.
 fn add_start(
     starts: &mut Queue,
     members: &[u32],
@@ -77,7 +78,7 @@ fn add_start(
     Ok(())
 }
 
-/// How many edges enter each component, and how many hold each node.
+/// Returns the number of edges that enter each component, and the number that hold each node.
 fn count_edges(
     alloc: Global,
     graph: &Digraph,
@@ -95,7 +96,7 @@ fn count_edges(
     Ok((outside, held))
 }
 
-/// The first nodes of the components that no edge enters.
+/// Returns the first nodes of the components that no edge enters.
 fn first_starts(
     alloc: Global,
     nodes: usize,
@@ -118,7 +119,7 @@ fn first_starts(
     Ok(starts)
 }
 
-/// An empty list with room for `nodes`, and the empty set of numbers below `nodes`.
+/// Returns an empty list with room for `nodes` nodes, and the empty set of bound `nodes`.
 fn nothing_listed(alloc: Global, nodes: usize) -> Result<(Vec<usize>, IxBitSet), AllocError>
     ensures list { IfOk result (λ nothing. nothing.0.items ≡ []) }
     ensures set { IfOk result (λ nothing. nothing.1 ≡ replicate nodes false) }
@@ -128,7 +129,7 @@ fn nothing_listed(alloc: Global, nodes: usize) -> Result<(Vec<usize>, IxBitSet),
     Ok((list, done))
 }
 
-/// The plan in which no node is listed.
+/// Returns the plan in which no node is listed.
 pub(crate) fn first_plan(
     alloc: Global,
     graph: &Digraph,

@@ -10,13 +10,13 @@ use std::alloc::{AllocError, Global};
 /// The nodes of each component.
 #[derive(Drop)]
 pub(crate) struct Groups {
-    /// The nodes of the component of each rank.
+    /// The nodes of each component: row `r` is the component of rank `r`.
     pub(crate) rows: Rows,
-    /// The ranks of the components of one node.
+    /// The ranks of the components that have one node.
     pub(crate) alone: IxBitSet,
 }
 
-/// The row of the component of that rank.
+/// Returns the nodes of component `rank`, ascending.
 fn row<'a>(rows: &'a Rows, ranks: &[u32], rank: usize, nodes: usize) -> &'a [u32]
     requires rank { rank < nodes }
     requires packed { IsPacked nodes ranks.now rows.now.begins.items rows.now.numbers.items }
@@ -25,7 +25,7 @@ fn row<'a>(rows: &'a Rows, ranks: &[u32], rank: usize, nodes: usize) -> &'a [u32
     &rows.numbers[rows.begins[rank] as usize..rows.begins[rank + 1] as usize]
 }
 
-/// The ranks of the components of one node.
+/// Returns the ranks of the components that have one node.
 fn alone_of(alloc: Global, rows: &Rows, ranks: &[u32], nodes: usize) -> Result<IxBitSet, AllocError>
     requires packed { IsPacked nodes ranks.now rows.now.begins.items rows.now.numbers.items }
     ensures { IfOk result (AreAlone nodes ranks.now) }
@@ -41,7 +41,7 @@ fn alone_of(alloc: Global, rows: &Rows, ranks: &[u32], nodes: usize) -> Result<I
 }
 
 impl Groups {
-    /// The nodes of each component, from the rank of each node's.
+    /// Groups the nodes by the rank of their component.
     pub(crate) fn new(alloc: Global, ranks: &[u32], nodes: usize) -> Result<Groups, AllocError>
         requires { (v : ℕ) → v < length ranks.now → slice_index ranks.now v < nodes }
         ensures { IfOk result (AreGroups nodes ranks.now) }
@@ -51,7 +51,7 @@ impl Groups {
         Ok(Groups { rows, alone })
     }
 
-    /// Whether the component of that rank has one node.
+    /// Returns true if component `rank` has exactly one node.
     pub(crate) fn is_alone(&self, ranks: &[u32], rank: usize, nodes: usize) -> bool
         requires rank { rank < nodes }
         requires groups { AreGroups nodes ranks.now self.now }
@@ -60,7 +60,7 @@ impl Groups {
         self.alone.contains(rank)
     }
 
-    /// The nodes of the component of that rank.
+    /// Returns the nodes of component `rank`, ascending.
     pub(crate) fn row(&self, ranks: &[u32], rank: usize, nodes: usize) -> &[u32]
         requires rank { rank < nodes }
         requires groups { AreGroups nodes ranks.now self.now }

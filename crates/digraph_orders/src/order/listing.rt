@@ -1,4 +1,4 @@
-//! The nodes are listed one by one: what is known between two of them, and the steps.
+//! The state between two nodes of the order, and the steps that list the next one.
 ghost use Rattle.std.specs.Prelude.{◌≡◌, ◌≢◌, ℕ, [], ◌∷◌, ◌++◌, ◌+◌, ◌-◌, ◌<◌, ◌≤◌, length, slice_index, slice_set, IfSome, IfNone, IfOk, OnOk, Contains, set, true};
 ghost use Rattle.guppy_support.specs.Graph.{IsDigraph, sources};
 ghost use Rattle.guppy_support.specs.Rows.{places};
@@ -13,26 +13,26 @@ use crate::order::queue::Queue;
 use guppy_support::{Digraph, Edge, IxBitSet};
 use std::alloc::AllocError;
 
-/// What is known between two nodes of the order.
+/// The state between two nodes of the order.
 #[derive(Drop)]
 pub(crate) struct Plan {
     /// The nodes listed so far.
     pub(crate) listed: Vec<usize>,
-    /// Which nodes are listed.
+    /// The same nodes as a set.
     pub(crate) done: IxBitSet,
-    /// How many edges from nodes that aren't listed enter each component.
+    /// Per component: the number of edges that enter it from nodes that aren't listed.
     pub(crate) outside: Vec<u32>,
-    /// How many edges hold each node.
+    /// Per node: the number of edges that hold it.
     pub(crate) held: Vec<u32>,
-    /// The heads of the components that may begin.
+    /// The heads of the components that are free to begin.
     pub(crate) starts: Queue,
-    /// The nodes of the component at hand that aren't held.
+    /// The nodes of the current component that aren't held.
     pub(crate) ready: Queue,
-    /// The place in the row of the component at hand before which each node is listed.
+    /// A place in the row of the current component. Each node before it is listed.
     pub(crate) next: usize,
 }
 
-/// Takes the least number that isn't done.
+/// Removes numbers from `queue` up to the least that isn't in `done`, and returns that one.
 fn pop_fresh(queue: &mut Queue, done: &IxBitSet) -> Option<usize>
     requires { (y : ℕ) → Contains queue.old y → y < length done.now }
     ensures none { IfNone result ((y : ℕ) → Contains queue.old y → IsDone done.now y) }
@@ -47,7 +47,7 @@ fn pop_fresh(queue: &mut Queue, done: &IxBitSet) -> Option<usize>
     None
 }
 
-/// The first place of the row, from that one on, at which a node stands that isn't done.
+/// Returns the first place from `from` on whose node isn't in `done`.
 fn fresh_from(row: &[u32], from: usize, done: &IxBitSet) -> Option<usize>
     requires nodes { (j : ℕ) → j < length row.now → slice_index row.now j < length done.now }
     ensures some { IfSome result (IsFreshPlace row.now done.now from) }
@@ -61,7 +61,7 @@ fn fresh_from(row: &[u32], from: usize, done: &IxBitSet) -> Option<usize>
     None
 }
 
-/// The first node of the row with no hold, or else the first.
+/// Returns the first node of `row` that isn't held, or the first node if all are.
 pub(crate) fn first_of(row: &[u32], held: &[u32]) -> usize
     requires some { 0 < length row.now }
     requires nodes { (j : ℕ) → j < length row.now → slice_index row.now j < length held.now }
@@ -75,7 +75,7 @@ pub(crate) fn first_of(row: &[u32], held: &[u32]) -> usize
     row[0] as usize
 }
 
-/// The first node of that node's component with no hold, or else its first. A node that is alone is the first.
+/// Returns the first node of `node`'s component that isn't held, or its first node if all are.
 fn head_of(groups: &Groups, ranks: &[u32], held: &[u32], node: usize, nodes: usize) -> usize
     requires node { node < length ranks.now }
     requires small { slice_index ranks.now node < nodes }
@@ -90,7 +90,8 @@ fn head_of(groups: &Groups, ranks: &[u32], held: &[u32], node: usize, nodes: usi
     first_of(groups.row(ranks, rank, nodes), held)
 }
 
-/// One edge less enters the node's component; when it was the last, its head joins the starts.
+/// Subtracts one edge that enters `node`'s component. After the last one, the component's head is added to
+/// `starts`.
 fn leave_outside(
     outside: &mut Vec<u32>,
     starts: &mut Queue,
@@ -118,7 +119,7 @@ fn leave_outside(
     Ok(())
 }
 
-/// One hold less; when it was the last, the node is ready.
+/// Subtracts one hold on `node`. After the last one, the node is added to `ready`.
 fn leave_held(held: &mut Vec<u32>, ready: &mut Queue, node: usize) -> Result<(), AllocError>
     requires node { node < length held.old.items }
     requires positive { 0 < slice_index held.old.items node }
@@ -133,7 +134,7 @@ fn leave_held(held: &mut Vec<u32>, ready: &mut Queue, node: usize) -> Result<(),
     Ok(())
 }
 
-/// The edge at that place of those that leave the node.
+/// Returns the edge at `place` among those that leave `node`.
 fn out_edge(graph: &Digraph, node: usize, place: usize) -> Edge
     requires node { node < graph.now.nodes }
     requires place { place < length (places node (sources graph.now.edges)) }
@@ -144,7 +145,8 @@ fn out_edge(graph: &Digraph, node: usize, place: usize) -> Edge
 }
 
 impl Plan {
-    /// Takes the next node of the component at hand. Where it has one node, that one was taken.
+    /// Returns the next node of the current component, or `None` if all are listed. The only node of a
+    /// component is listed already, as its start.
     fn next_within(
         &mut self,
         graph: &Digraph,
@@ -205,7 +207,7 @@ impl Plan {
         Ok(())
     }
 
-    /// Passes a firm edge inside the component.
+    /// Passes an edge that isn't dev-only, to another node of the same component.
     fn pass_firm(
         &mut self,
         graph: &Digraph,
@@ -230,7 +232,7 @@ impl Plan {
         Ok(())
     }
 
-    /// Passes an edge of a node that was listed.
+    /// Passes the edge at `place` of `node`, which is listed.
     fn pass(
         &mut self,
         graph: &Digraph,
@@ -258,7 +260,7 @@ impl Plan {
         Ok(())
     }
 
-    /// Lists the node.
+    /// Appends `node` to the list and to the set of listed nodes.
     fn mark(&mut self, graph: &Digraph, ranks: &[u32], node: usize) -> Result<(), AllocError>
         requires setup { IsSetup graph.now ranks.now }
         requires chosen { IsChosenIn graph.now ranks.now node self.old }
@@ -272,7 +274,7 @@ impl Plan {
         Ok(())
     }
 
-    /// Lists the node and passes its edges.
+    /// Lists `node` and passes its edges.
     fn list(
         &mut self,
         graph: &Digraph,
@@ -294,7 +296,8 @@ impl Plan {
         Ok(())
     }
 
-    /// Takes the least start, and lets the other nodes of its component wait.
+    /// Returns the least start, or `None` if all nodes are listed. The other nodes of its component that aren't
+    /// held become ready.
     fn begin(
         &mut self,
         graph: &Digraph,
@@ -323,7 +326,7 @@ impl Plan {
         Ok(Some(start))
     }
 
-    /// Lists the other nodes of the component at hand.
+    /// Lists the remaining nodes of the current component.
     fn finish(
         &mut self,
         graph: &Digraph,
@@ -365,7 +368,7 @@ impl Plan {
     }
 }
 
-/// A node with no hold is ready, but for the start.
+/// Adds `node` to `ready` if it isn't held and isn't `start`.
 fn wait(ready: &mut Queue, held: &[u32], node: usize, start: usize) -> Result<(), AllocError>
     requires { node < length held.now }
     ensures { OnOk result (Waits held.now start node ready.old ready.new) }
@@ -376,7 +379,7 @@ fn wait(ready: &mut Queue, held: &[u32], node: usize, start: usize) -> Result<()
     Ok(())
 }
 
-/// The nodes of a row with no hold, but the start, are ready.
+/// Adds the nodes of `row` that aren't held to `ready`, except `start`.
 fn add_ready(ready: &mut Queue, row: &[u32], held: &[u32], start: usize) -> Result<(), AllocError>
     requires nodes { (j : ℕ) → j < length row.now → slice_index row.now j < length held.now }
     requires none { ready.old ≡ [] }
@@ -388,7 +391,7 @@ fn add_ready(ready: &mut Queue, row: &[u32], held: &[u32], start: usize) -> Resu
     Ok(())
 }
 
-/// The nodes of the start's component with no hold, but the start, are ready.
+/// Adds the nodes of `start`'s component that aren't held to `ready`, except `start`.
 fn make_ready(
     ready: &mut Queue,
     groups: &Groups,
@@ -413,7 +416,7 @@ fn make_ready(
     Ok(())
 }
 
-/// The order of the nodes, from the counts.
+/// Completes the plan `first`, and returns the list of all nodes in order.
 pub(crate) fn order_from(
     graph: &Digraph,
     ranks: &[u32],

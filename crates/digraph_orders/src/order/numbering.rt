@@ -1,4 +1,4 @@
-//! Numbers of components along the list of an order, and places.
+//! Numbers of components along the list of an order, and places of nodes.
 ghost use Rattle.std.specs.Prelude.{◌≡◌, ◌≢◌, ℕ, [], ◌∷◌, ◌++◌, ◌+◌, ◌-◌, ◌^◌, ◌<◌, ◌≤◌, length, slice_index, IfOk, OnOk};
 ghost use Rattle.digraph_orders.specs.inner.Apart.{AreApart};
 ghost use Rattle.guppy_support.specs.PackedRows.{AreBegun};
@@ -6,7 +6,7 @@ ghost use Rattle.digraph_orders.specs.inner.Numbering.{AreNumbered, rank_at};
 
 use std::alloc::{AllocError, Global};
 
-/// Lets a component begin at the place, where the node there isn't of the component before.
+/// Appends `place` to `begins` if the node there is in another component than the node before it.
 fn begin_at(
     begins: &mut Vec<u32>,
     list: &[usize],
@@ -28,7 +28,8 @@ fn begin_at(
     Ok(())
 }
 
-/// The number of the component at each place, and where each component begins; the end of the list stands last.
+/// Returns the component number at each place, and the place at which each component begins, followed by the
+/// length of the list.
 pub(crate) fn numbered(
     alloc: Global,
     list: &[usize],
@@ -52,7 +53,7 @@ pub(crate) fn numbered(
     Ok((numbers, begins))
 }
 
-/// For each node the number at its place. It takes the memory of another list.
+/// Returns the number for each node, from the numbers by place. The result reuses the memory of `memory`.
 pub(crate) fn scattered(memory: Vec<u32>, list: &[usize], numbers: &[u32]) -> Vec<u32>
     requires room { length memory.items ≡ length list.now }
     requires long { length numbers.now ≡ length list.now }
@@ -68,7 +69,7 @@ pub(crate) fn scattered(memory: Vec<u32>, list: &[usize], numbers: &[u32]) -> Ve
     numbered
 }
 
-/// For each node its place in the list. It takes the memory of another list.
+/// Returns the place of each node in the list. The result reuses the memory of `memory`.
 pub(crate) fn placed(memory: Vec<u32>, list: &[usize]) -> Vec<u32>
     requires narrow { length list.now < 2 ^ 32 }
     requires room { length memory.items ≡ length list.now }

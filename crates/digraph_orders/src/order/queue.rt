@@ -1,4 +1,4 @@
-//! Numbers, of which the least comes first.
+//! A queue of numbers from which the least is removed first.
 ghost use Rattle.std.specs.Prelude.{◌≡◌, [], IfSome, IfNone, IfOk, OnOk};
 ghost use Rattle.digraph_orders.specs.inner.Queues.{Joins, Leaves};
 
@@ -6,13 +6,14 @@ use guppy_support::IxBitSet;
 use std::alloc::{AllocError, Global};
 use std::marker::Model;
 
-/// Numbers below a bound, of which the least comes first. A number that joins twice stands there once.
+/// Numbers below a bound, from which the least is removed first. A number that is pushed twice is in the queue
+/// once.
 #[derive(Drop)]
 pub(crate) struct Queue {
     numbers: IxBitSet,
-    /// Each word of `numbers` that has a bit, and words that had one.
+    /// Each word of `numbers` that isn't 0. Words that became 0 may be included.
     words: IxBitSet,
-    /// Each word of `words` that has a bit, and words that had one.
+    /// Each word of `words` that isn't 0. Words that became 0 may be included.
     blocks: IxBitSet,
 }
 
@@ -29,7 +30,7 @@ impl Model for Queue {
 }
 
 impl Queue {
-    /// An empty queue of numbers below the bound.
+    /// Returns an empty queue for numbers below `bound`.
     pub(crate) fn empty(alloc: Global, bound: usize) -> Result<Queue, AllocError>
         ensures { IfOk result (λ queue. queue ≡ []) }
     {
@@ -44,7 +45,7 @@ impl Queue {
         })
     }
 
-    /// A number joins. For one that isn't below the bound there is no room.
+    /// Adds `number`. Returns `AllocError` if it isn't below the bound.
     pub(crate) fn push(&mut self, number: usize) -> Result<(), AllocError>
         ensures { OnOk result (Joins self.old number self.new) }
     {
@@ -58,7 +59,8 @@ impl Queue {
         Ok(())
     }
 
-    /// Takes the least number. On the way, words that have no bit are forgotten.
+    /// Removes the least number and returns it. On the way, words that became 0 are removed from the upper
+    /// sets.
     pub(crate) fn pop(&mut self) -> Option<usize>
         ensures none { IfNone result (self.old ≡ []) }
         ensures empty { IfNone result (self.new ≡ []) }

@@ -1,4 +1,4 @@
--- Keys whose edges say the same, as the keys tell.
+-- Keys whose edges are equal, as the keys show.
 use Rattle.std.specs.Prelude.{◌≡◌, ℕ, ◌<◌, ◌⊎◌, List, [], ◌∷◌, ◌++◌, Some, length, map, slice_get, take}
 use Rattle.guppy_packages.specs.Tables.{LinkTable, Tables}
 use Rattle.feature_links.specs.Links.{IsLink}
@@ -7,11 +7,11 @@ use Rattle.feature_core.specs.declared.key.Key.{Key}
 use Rattle.feature_core.specs.declared.edge_table.MadeEdges.{MadeEdges}
 use Rattle.feature_core.specs.inner.Made.{AreValues, IsValueOf, edge_end}
 
--- package link k has one declaration
+-- Package link `k` has exactly one declaration.
 abbrev pub IsSingle : Tables → ℕ → Type 0
 IsSingle t k = (link : LinkTable) → IsLink t k link → length link.declarations ≡ 1
 
--- what the edges of two keys of one rank speak of is the same
+-- Two keys of one rank have the same subject: the node, package link or declaration that determines their edges.
 pub data SharesSubject (t : Tables) (x y : Key) : Type 0 where
   one_end : (y.rank ≡ 3) ⊎ (y.rank ≡ 5) → x.to ≡ y.to → SharesSubject t x y
   one_link : (y.rank ≡ 4) ⊎ (y.rank ≡ 6) → x.source ≡ y.source → SharesSubject t x y
@@ -21,20 +21,20 @@ pub record AreAlike (t : Tables) (x y : Key) : Type 0 where
   pub rank : x.rank ≡ y.rank
   pub subject : SharesSubject t x y
 
--- of these keys, the one at this place is alike, and comes earlier
+-- Key `near` of `kept` is earlier than `ix` and alike to `y`.
 pub record IsAlikeBefore (t : Tables) (kept : List Key) (ix : ℕ) (y : Key) (near : ℕ) : Type 0 where
   pub before : near < ix
   pub x : Key
   pub at : slice_get kept near ≡ Some x
   pub alike : AreAlike t x y
 
--- one edge more, of a key, that says this
+-- The edge `f` of key `x` is appended.
 pub record IsAppended (x : Key) (f : EdgeFacts) (old new : MadeEdges) : Type 0 where
   pub weak : new.weak.entries ≡ old.weak.entries
   pub edges : new.edges ≡ old.edges ++ f ∷ []
   pub ends : new.ends ≡ old.ends ++ edge_end x f ∷ []
 
--- one edge more, of the key x at this place, that says what x tells once what each earlier key of these tells was made
+-- The edge of key `x` at `ix` is appended, and it is correct if the edges of all earlier keys are.
 pub record IsNext (t : Tables) (kept : List Key) (ix : ℕ) (x : Key) (old new : MadeEdges) : Type 0 where
   pub says : EdgeFacts
   pub appended : IsAppended x says old new

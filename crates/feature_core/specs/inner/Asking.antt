@@ -1,4 +1,4 @@
--- What a source of edges asks of them, and what it holds by that.
+-- The offers that a source of edges makes, and its content.
 use Rattle.std.specs.Prelude.{◌≡◌, ℕ, List, Option, None, map, length, slice_get, AllPairs}
 use Rattle.std.specs.Option.{option_map_or}
 use Rattle.guppy_support.specs.Graph.{Graph}
@@ -15,17 +15,17 @@ use Rattle.feature_core.specs.inner.ChosenWays.{ask_where}
 use Rattle.feature_core.specs.Ways.{asked, gate_of, start_of, far_of}
 use Rattle.feature_core.specs.inner.Releases.{AreTied, released_by}
 
--- what is asked of an edge
+-- The offers of an edge.
 abbrev pub ask_in : Asking → DependencyDirection → EdgeFacts → Ask
 ask_in (Offers weak released) direction f = asked direction f
 ask_in (Chosen which) direction f = ask_where (is_chosen which f)
 
--- the gate of an edge, where its optional half waits
+-- The gate of an edge, if its optional half waits.
 abbrev pub gate_in : Asking → EdgeFacts → ℕ
 gate_in (Offers weak released) f = option_map_or (λ gate. gate) (gate_of weak.now.entries f) 0
 gate_in (Chosen which) f = 0
 
--- an edge as the direction follows it
+-- An edge as a way in this direction.
 abbrev pub way_in : Asking → DependencyDirection → ℕ × ℕ × EdgeFacts → Way
 way_in asking direction e = record {
   start = start_of direction e;
@@ -34,21 +34,21 @@ way_in asking direction e = record {
   gate = gate_in asking e.2;
 }
 
--- what the source holds
+-- The content of the source.
 abbrev pub held : Asking → DependencyDirection → ℕ → List (ℕ × ℕ × EdgeFacts) → Content
 held asking direction nodes edges = record { nodes = nodes; ways = map (way_in asking direction) edges }
 
--- each edge says something, and the tables are those of the edges
+-- Each edge has a value, and the tables are those of the edges.
 abbrev pub IsTied : Asking → Graph → List EdgeFacts → Type 0
 IsTied (Offers weak released) g facts = AreTied g facts weak.now.entries released.now
 IsTied (Chosen which) g facts = length facts ≡ length g.edges
 
--- the table of releases ascends
+-- The table of releases is ascending.
 abbrev pub IsOrdered : Asking → Type 0
 IsOrdered (Offers weak released) = AllPairs IsBefore released.now
 IsOrdered (Chosen which) = Unit {0}
 
--- the edge at a place among those that wait for the gate
+-- The edge at a place among those that wait for a gate.
 abbrev pub released_place : Asking → DependencyDirection → ℕ → ℕ → Option ℕ
 released_place (Offers weak released) Forward gate place = slice_get (released_by gate released.now) place
 released_place (Offers weak released) Reverse gate place = None

@@ -1,4 +1,4 @@
--- Chosen edges as ways that are open to all, and the other edges as ways that are offered.
+-- Chosen edges as unconditional ways, and the other edges as offered ways.
 use Rattle.std.specs.Prelude.{ℕ, List, Bool, true, false, map}
 use Rattle.guppy_packages.specs.declared.direction.DependencyDirection.{DependencyDirection}
 use Rattle.feature_links.specs.declared.edge.EdgeChoice.{EdgeChoice}
@@ -9,12 +9,12 @@ use Rattle.feature_core.specs.Choices.{is_chosen}
 use Rattle.walk_engine.specs.Walks.{Way, Content}
 use Rattle.feature_core.specs.Ways.{start_of, far_of}
 
--- nobody is asked of a chosen edge
+-- A chosen edge is unconditional; any other is offered by its full link.
 abbrev pub ask_where : Bool → Ask
 ask_where true = Nobody
 ask_where false = Full
 
--- an edge as the direction follows it
+-- An edge as a way in this direction.
 abbrev pub chosen_way : EdgeChoice → DependencyDirection → ℕ × ℕ × EdgeFacts → Way
 chosen_way which direction e = record {
   start = start_of direction e;
@@ -23,6 +23,6 @@ chosen_way which direction e = record {
   gate = 0;
 }
 
--- what a walk over chosen edges follows, where it accepts no offer
+-- The content of a walk over chosen edges, which accepts no offer.
 abbrev pub chosen_content : EdgeChoice → DependencyDirection → ℕ → List (ℕ × ℕ × EdgeFacts) → Content
 chosen_content which direction nodes edges = record { nodes = nodes; ways = map (chosen_way which direction) edges }

@@ -1,53 +1,53 @@
--- Candidates as keys, and the least of each pair.
+-- Candidates as keys, and the least key of each pair.
 use Rattle.std.specs.Prelude.{◌≡◌, ℕ, ◌<◌, ◌≤◌, ◌⊎◌, List, Contains, AllPairs, Bool, true, ◌==◌, ◌&&◌, ◌||◌, ◌↔◌, nat_lt, nat_le}
 use Rattle.guppy_support.specs.declared.digraph.Edge.{Edge}
 use Rattle.feature_core.specs.declared.key.Key.{Key}
 
--- by from, then to
+-- Sorted by source and then by target.
 abbrev pub IsBefore : Key → Key → Type 0
 IsBefore a b = (a.from < b.from) ⊎ ((a.from ≡ b.from) × (a.to < b.to))
 
 abbrev pub IsPair : Key → Key → Type 0
 IsPair a b = (a.from ≡ b.from) × (a.to ≡ b.to)
 
--- before, or of the same pair and of no higher rank
+-- `a` is before `b`, or of the same pair and of no higher rank.
 abbrev pub IsUpTo : Key → Key → Type 0
 IsUpTo a b = IsBefore a b ⊎ (IsPair a b × (a.rank ≤ b.rank))
 
--- before, or of the same pair and no later by rank, source and place
+-- `a` is before `b`, or of the same pair and no later by rank, source and place.
 abbrev pub IsNoLater : Key → Key → Type 0
 IsNoLater a b = IsBefore a b ⊎ (IsPair a b × ((a.rank < b.rank) ⊎ ((a.rank ≡ b.rank) × ((a.source < b.source) ⊎ ((a.source ≡ b.source) × (a.place ≤ b.place))))))
 
--- whether the key's pair comes before this one, or is no later
+-- Whether the key's pair is before this pair; whether it is no later.
 abbrev pub is_pair_below : ℕ → ℕ → Key → Bool
 is_pair_below from to y = nat_lt y.from from || ((y.from == from) && nat_lt y.to to)
 
 abbrev pub is_pair_up_to : ℕ → ℕ → Key → Bool
 is_pair_up_to from to y = nat_lt y.from from || ((y.from == from) && nat_le y.to to)
 
--- exactly the keys of one pair, in order
+-- `run` has exactly the keys of one pair, in order.
 pub record IsRun (keys : List Key) (from to : ℕ) (run : List Key) : Type 0 where
   pub ordered : AllPairs IsNoLater run
   pub exact : (y : Key) → Contains run y ↔ (Contains keys y × (y.from ≡ from) × (y.to ≡ to))
 
--- one of the keys, and none of its pair has a lower rank
+-- `x` is one of the keys, and none of its pair has a lower rank.
 pub record IsLeast (keys : List Key) (x : Key) : Type 0 where
   pub is_key : Contains keys x
   pub least : (y : Key) → Contains keys y → IsPair x y → x.rank ≤ y.rank
 
--- a kept key of the pair, of no higher rank
+-- A kept key of the pair of `b` has no higher rank.
 pub record IsServed (kept : List Key) (b : Key) : Type 0 where
   pub by : Key
   pub kept_one : Contains kept by
   pub pair : IsPair by b
   pub rank : by.rank ≤ b.rank
 
--- one key of each pair, of least rank, by from, then to
+-- `kept` has one key of each pair, of least rank, sorted by source and then by target.
 pub record AreLeast (keys kept : List Key) : Type 0 where
   pub ascends : AllPairs IsBefore kept
   pub from_keys : (a : Key) → Contains kept a → Contains keys a
   pub each : (b : Key) → Contains keys b → IsServed kept b
 
--- the edge of a key's pair
+-- The digraph's edge of a key's pair.
 abbrev pub edge_of : Key → Edge
 edge_of k = record { from = k.from; to = k.to; non_dev = true }

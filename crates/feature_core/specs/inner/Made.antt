@@ -1,4 +1,4 @@
--- The edges of keys, as they are made.
+-- The edges of keys, as they are built.
 use Rattle.std.specs.Prelude.{◌≡◌, ℕ, ◌<◌, ◌↔◌, List, ◌++◌, Contains, AllPairs, Some, slice_get, length, map, not}
 use Rattle.std.specs.List.{zip}
 use Rattle.guppy_support.specs.declared.digraph.Edge.{Edge as End}
@@ -15,7 +15,8 @@ use Rattle.feature_core.specs.inner.Weak.{AreGates, weak_sources}
 use Rattle.feature_core.specs.declared.edges.Material.{Material}
 use Rattle.feature_core.specs.declared.edge_table.MadeEdges.{MadeEdges}
 
--- what an edge is made of: the numbers of nodes, the links by name, and all keys of the tables that start where one of these does
+-- The input for an edge: the numbers of nodes, the links by name, and, for each source node of a key, all keys of the tables from
+-- that node.
 pub record IsMaterial (m : Material) : Type 0 where
   pub packages : m.packages.now ≡ node_packages m.numbers.graph.now
   pub groups : AreNamedLinks m.numbers.graph.now m.groups.now
@@ -23,42 +24,42 @@ pub record IsMaterial (m : Material) : Type 0 where
   pub of_tables : (y : Key) → Contains m.keys.now y → IsOfTables m.numbers.graph.now y
   pub whole : (x y : Key) → Contains m.keys.now x → IsOfTables m.numbers.graph.now y → y.from ≡ x.from → Contains m.keys.now y
 
--- what is built of the candidate for which the key stands, where these are the weak links
+-- `f` is the built edge of the key's candidate, if `weak` are the weak links.
 pub record IsValueOf (t : Tables) (weak : List ℕ) (x : Key) (f : EdgeFacts) : Type 0 where
   pub edge : Edge
   pub candidate : Candidate t x.from x.to edge
   pub rank : x.rank ≡ rank_of edge
   pub is : f ≡ facts_of t weak edge
 
--- one for each key
+-- `facts` has the built edge of each key.
 pub record AreValues (t : Tables) (weak : List ℕ) (keys : List Key) (facts : List EdgeFacts) : Type 0 where
   pub long : length facts ≡ length keys
   pub each : (i : ℕ) (x : Key) (f : EdgeFacts) → slice_get keys i ≡ Some x → slice_get facts i ≡ Some f → IsValueOf t weak x f
 
--- the least keys of the tables
+-- `kept` are the least keys of the tables.
 pub record IsKept (t : Tables) (kept : List Key) : Type 0 where
   pub keys : List Key
   pub of_tables : (x : Key) → Contains keys x ↔ IsOfTables t x
   pub least : AreLeast keys kept
 
--- the ends of a key's edge, and whether it is more than dev-only
+-- The digraph's edge of a key, which is dev-only if the built edge is.
 abbrev pub edge_end : Key → EdgeFacts → End
 edge_end k f = record { from = k.from; to = k.to; non_dev = not (is_dev_only f) }
 
--- the least keys of the packages before p
+-- `kept` are the least keys of the packages before `p`.
 pub record IsKeptBelow (t : Tables) (p : ℕ) (kept : List Key) : Type 0 where
   pub keys : List Key
   pub of_sources : (x : Key) → Contains keys x ↔ ((q : ℕ) × (q < p) × IsOfSource t q x)
   pub least : AreLeast keys kept
 
--- made of these keys, whatever weak links come later
+-- `m` is built from these keys, for any weak links that follow.
 pub record AreMade (t : Tables) (kept : List Key) (m : MadeEdges) : Type 0 where
   pub links : map (λ e. e.0) m.weak.entries ≡ first_ones (weak_sources kept)
   pub gates : AreGates t m.weak.entries
   pub values : (rest : List ℕ) → AreValues t (map (λ e. e.0) m.weak.entries ++ rest) kept m.edges
   pub ends : m.ends ≡ map (λ p. edge_end p.0 p.1) (zip kept m.edges)
 
--- made of the least keys of the packages before p
+-- `m` is built from the least keys of the packages before `p`.
 pub record AreMadeBelow (t : Tables) (p : ℕ) (m : MadeEdges) : Type 0 where
   pub kept : List Key
   pub is_kept : IsKeptBelow t p kept

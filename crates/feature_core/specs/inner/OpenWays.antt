@@ -1,4 +1,4 @@
--- The edges of a digraph as ways that are open to all.
+-- The edges of a digraph as unconditional ways.
 use Rattle.std.specs.Prelude.{map}
 use Rattle.guppy_support.specs.declared.digraph.Edge.{Edge}
 use Rattle.guppy_support.specs.Graph.{Graph}
@@ -7,11 +7,11 @@ use Rattle.guppy_packages.specs.declared.direction.DependencyDirection.TheVarian
 use Rattle.walk_engine.specs.declared.walks.Ask.TheVariants.{Nobody}
 use Rattle.walk_engine.specs.Walks.{Way, Content}
 
--- an edge as the direction follows it, without asking
+-- An edge as an unconditional way in this direction.
 abbrev pub open_way : DependencyDirection → Edge → Way
 open_way Forward e = record { start = e.from; far = e.to; ask = Nobody; gate = 0 }
 open_way Reverse e = record { start = e.to; far = e.from; ask = Nobody; gate = 0 }
 
--- all edges, as the direction follows them
+-- All edges as unconditional ways in this direction.
 abbrev pub open_ways : DependencyDirection → Graph → Content
 open_ways direction g = record { nodes = g.nodes; ways = map (open_way direction) g.edges }

@@ -1,22 +1,22 @@
--- Edges by number, of which those that say the same may share one place.
+-- Edges by number. Equal edges may share storage.
 use Rattle.std.specs.Prelude.{◌≡◌, ℕ, ◌<◌, ◌≤◌, List, All, Option, None, Some, length, map, slice_get, slice_index_or}
 use Rattle.feature_links.specs.declared.edge.FeatureEdge.{FeatureEdge}
 use Rattle.feature_links.specs.Facts.{EdgeFacts, base_edge, feature_edge, colon_edge, strong_edge, weak_edge, section_edge}
 use Rattle.feature_links.specs.Values.{edge_facts}
 
--- what the edges at the places say
+-- The values of the edges at these indices.
 abbrev pub facts_at : List FeatureEdge → List ℕ → List EdgeFacts
 facts_at pool places = map (λ p. slice_index_or (map edge_facts pool) p base_edge) places
 
--- each place is one of the pool
+-- Each index is within the pool.
 abbrev pub AreWithin : List FeatureEdge → List ℕ → Type 0
 AreWithin pool places = All (λ p. p < length pool) places
 
--- what an edge says stays where it stands
+-- The value of each edge of the old pool is unchanged.
 abbrev pub Keeps : List FeatureEdge → List FeatureEdge → Type 0
 Keeps old new = (p : ℕ) (f : EdgeFacts) → slice_get (map edge_facts old) p ≡ Some f → slice_get (map edge_facts new) p ≡ Some f
 
--- the place that an unconditional edge has in each pool
+-- The index of an unconditional edge, which is the same in each pool.
 abbrev pub fixed_place : EdgeFacts → Option ℕ
 fixed_place base_edge = Some 0
 fixed_place feature_edge = Some 1
@@ -25,7 +25,7 @@ fixed_place (strong_edge l) = None
 fixed_place (weak_edge l halves) = None
 fixed_place (section_edge l) = None
 
--- the unconditional edges stand in their places, and conditional ones after them
+-- The unconditional edges have their fixed indices, and all later edges are conditional.
 pub record IsParted (pool : List FeatureEdge) : Type 0 where
   pub to_base : slice_get (map edge_facts pool) 0 ≡ Some base_edge
   pub to_named : slice_get (map edge_facts pool) 1 ≡ Some feature_edge

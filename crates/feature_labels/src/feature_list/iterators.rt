@@ -1,4 +1,4 @@
-//! The iterators over a list of features. Each is seen as the list of what it has left.
+//! Iterators over a list of features. A contract sees each as the list of its remaining items.
 ghost use Rattle.std.specs.Prelude.{◌≡◌, IsSome, IfSome, Some, length, map};
 ghost use Rattle.std.specs.List.{filter_map};
 ghost use Rattle.std.specs.Iterator.{YieldsFirstBy, UpTo, item_count};
@@ -14,7 +14,7 @@ use std::iter::FusedIterator;
 use std::marker::Model;
 use std::{slice, vec};
 
-/// The ids of a borrowed list, in the order of the labels.
+/// An iterator over the ids of a borrowed list, in the order of the labels.
 #[derive(Drop)]
 pub struct Iter<'g, 'a> {
     package_id: &'g PackageId,
@@ -36,7 +36,7 @@ impl<'g, 'a> Model for Iter<'g, 'a> {
 }
 
 impl<'g, 'a> Iter<'g, 'a> {
-    /// The ids of this list.
+    /// Returns an iterator over the ids of `feature_list`.
     pub fn new(feature_list: &'a FeatureList<'g>) -> Self
         ensures { result ≡ ids_in feature_list.now.package_id feature_list.now.labels }
     {
@@ -89,7 +89,7 @@ impl<'g, 'a> IntoIterator for &'a FeatureList<'g> {
     }
 }
 
-/// The ids of a list that was given up, in the order of the labels.
+/// An iterator over the ids of an owned list, in the order of the labels.
 #[derive(Drop)]
 pub struct IntoIter<'g> {
     package_id: &'g PackageId,
@@ -111,7 +111,7 @@ impl<'g> Model for IntoIter<'g> {
 }
 
 impl<'g> IntoIter<'g> {
-    /// The ids of this list.
+    /// Returns an iterator over the ids of `feature_list`.
     pub fn new(feature_list: FeatureList<'g>) -> Self
         ensures { result ≡ ids_in feature_list.entry.package_id feature_list.entry.labels }
     {
@@ -164,7 +164,7 @@ impl<'g> IntoIterator for FeatureList<'g> {
     }
 }
 
-/// The names of the named features of a list, ascending.
+/// An iterator over the names of a list's named features, ascending.
 #[derive(Drop)]
 pub struct NamedFeatures<'g, 'a> {
     labels: slice::Iter<'a, FeatureLabel<'g>>,
@@ -221,7 +221,7 @@ impl<'g, 'a> Iterator for NamedFeatures<'g, 'a> {
 
 impl<'g, 'a> FusedIterator for NamedFeatures<'g, 'a> {}
 
-/// The names of the optional dependencies of a list, ascending.
+/// An iterator over the names of a list's optional dependencies, ascending.
 #[derive(Drop)]
 pub struct OptionalDeps<'g, 'a> {
     labels: slice::Iter<'a, FeatureLabel<'g>>,

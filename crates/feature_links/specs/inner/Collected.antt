@@ -1,4 +1,4 @@
--- What has been collected of the declarations of a link.
+-- The state of a link under construction.
 use Rattle.std.specs.Prelude.{◌≡◌, ℕ, List, None, Some, true, not, Option, map, filter, filter_map, flat_map}
 use Rattle.std.specs.List.{list_any}
 use Rattle.std.specs.Option.{is_some}
@@ -18,27 +18,27 @@ use Rattle.feature_links.specs.Links.{platforms_of, includes, at_places}
 abbrev pub texts_in : {S : Type 0} → IndexSet (Bor (List ℕ)) S → List Text
 texts_in set = map (λ t. t.now) set.keys
 
--- it was given these platforms: one of them is every platform or none is, and it has each spec once, by first appearance
+-- `c` has collected `platforms`: whether one of them is all platforms, and each spec once, by first appearance.
 pub record HasPlatforms (c : StatusCollector) (platforms : List (Option Text)) : Type 0 where
   pub always : c.always ≡ list_any (λ p. not (is_some p)) platforms
   pub specs : texts_in c.specs ≡ firsts bytes_eq (filter_map (λ p. p) platforms)
 
--- each kind was given the platforms of these declarations
+-- Each kind has collected the platforms of its declarations.
 pub record HasKinds (c : KindCollectors) (declarations : List Declared) : Type 0 where
   pub normal : HasPlatforms c.normal (platforms_of Normal declarations)
   pub build : HasPlatforms c.build (platforms_of Build declarations)
   pub dev : HasPlatforms c.dev (platforms_of Development declarations)
 
--- it was given these declarations of package links, and has the package links that gave one
+-- `c` has collected these declarations of package links, and lists the package links that have one.
 pub record HasParts (c : LinkParts) (parts : List (ℕ × List Declared)) : Type 0 where
   pub kinds : HasKinds c.statuses (flat_map (λ x. x.1) parts)
   pub links : c.links.items ≡ map (λ x. x.0) (filter (λ x. list_any (λ d. true) x.1) parts)
 
--- of a package link, the declarations at the places where these are given, and else those that are covered
+-- The declarations of a package link: those at `places` if it is `Some`, and otherwise those that `which` covers.
 abbrev pub wanted : LinkDeclarations → Option (Bor (List ℕ)) → LinkTable → List Declared
 wanted which None link = filter (λ d. includes which d) link.declarations
 wanted which (Some places) link = at_places link.declarations places.now
 
--- of package links, beside the number of each
+-- The same for several package links, each with its number.
 abbrev pub wanted_parts : LinkDeclarations → Option (Bor (List ℕ)) → List (ℕ × LinkTable) → List (ℕ × List Declared)
 wanted_parts which places links = map (λ l. (l.0, wanted which places l.1)) links

@@ -21,14 +21,14 @@ use smallvec::SmallVec;
 use std::alloc::{AllocError, Global};
 use std::slice::from_ref;
 
-/// A link so far: the statuses of its declarations, and the package links that have one of them.
+/// A link under construction: the statuses of its declarations so far, and the package links that have one of them.
 #[derive(Drop)]
 struct LinkParts<'g> {
     statuses: KindCollectors<'g>,
     links: SmallVec<usize, 2>,
 }
 
-/// Whether a declaration is covered.
+/// Returns whether `which` covers `declaration`.
 fn is_included(which: LinkDeclarations, declaration: &Declaration) -> bool
     ensures { result ≡ includes which (declared declaration.now) }
 {
@@ -39,7 +39,7 @@ fn is_included(which: LinkDeclarations, declaration: &Declaration) -> bool
     }
 }
 
-/// Whether a declaration is covered by some.
+/// Returns whether `which` covers one of `declarations`.
 pub fn is_any_included(which: LinkDeclarations, declarations: &[Declaration]) -> bool
     ensures { result ≡ list_any (λ d. includes which (declared d)) declarations.now }
 {
@@ -51,7 +51,7 @@ pub fn is_any_included(which: LinkDeclarations, declarations: &[Declaration]) ->
     false
 }
 
-/// Adds a declaration if it is covered, and says whether it is.
+/// Adds `declaration` to `statuses` if `which` covers it, and returns whether it does.
 fn add_included<'g>(
     statuses: &mut KindCollectors<'g>,
     declaration: &'g Declaration,
@@ -67,7 +67,7 @@ fn add_included<'g>(
     Ok(false)
 }
 
-/// Adds the declarations that are covered, and says whether there is one.
+/// Adds the declarations that `which` covers to `statuses`, and returns whether there is one.
 fn add_all_included<'g>(
     statuses: &mut KindCollectors<'g>,
     declarations: &'g [Declaration],
@@ -84,7 +84,7 @@ fn add_all_included<'g>(
     Ok(any)
 }
 
-/// Adds the declaration at a place, where there is one, and says whether there is.
+/// Adds declaration `place` to `statuses` if there is one, and returns whether there is.
 fn add_at<'g>(
     statuses: &mut KindCollectors<'g>,
     declarations: &'g [Declaration],
@@ -100,7 +100,7 @@ fn add_at<'g>(
     Ok(false)
 }
 
-/// Adds the declarations at places, in their order, and says whether there is one.
+/// Adds the declarations at `places` to `statuses`, in that order, and returns whether there is one.
 fn add_all_at<'g>(
     statuses: &mut KindCollectors<'g>,
     declarations: &'g [Declaration],
@@ -118,7 +118,7 @@ fn add_all_at<'g>(
 }
 
 impl<'g> LinkParts<'g> {
-    /// No declaration yet.
+    /// Returns a link with no declarations.
     fn new(alloc: Global) -> Self
         ensures { HasParts result [] }
     {
@@ -128,7 +128,7 @@ impl<'g> LinkParts<'g> {
         }
     }
 
-    /// Notes a package link of which a declaration was added.
+    /// Appends `link_ix` to the package links if `added` is true: one of its declarations was added.
     fn note(&mut self, link_ix: usize, added: bool) -> Result<(), AllocError>
         ensures links { OnOk result (self.new.links.items ≡ (if added then self.old.links.items ++ link_ix ∷ [] else self.old.links.items)) }
         ensures statuses { self.new.statuses ≡ self.old.statuses }
@@ -139,7 +139,7 @@ impl<'g> LinkParts<'g> {
         Ok(())
     }
 
-    /// Adds the covered declarations of a package link.
+    /// Adds the declarations of `link` that `which` covers.
     fn add_link(&mut self, link: PackageLink<'g>, which: LinkDeclarations) -> Result<(), AllocError>
         ensures { OnOk result ((before : List (ℕ × List Declared)) → HasParts self.old before → HasParts self.new (before ++ (link.entry.link_ix, filter (λ d. includes which d) (link_table_of link.entry).declarations) ∷ [])) }
     {
@@ -147,7 +147,7 @@ impl<'g> LinkParts<'g> {
         self.note(link.link_ix(), added)
     }
 
-    /// Adds the declarations of a package link at places.
+    /// Adds the declarations of `link` at `places`.
     fn add_places(&mut self, link: PackageLink<'g>, places: &[usize]) -> Result<(), AllocError>
         ensures { OnOk result ((before : List (ℕ × List Declared)) → HasParts self.old before → HasParts self.new (before ++ (link.entry.link_ix, at_places (link_table_of link.entry).declarations places.now) ∷ [])) }
     {
@@ -155,7 +155,7 @@ impl<'g> LinkParts<'g> {
         self.note(link.link_ix(), added)
     }
 
-    /// The link, as one that covers these.
+    /// Returns the finished link; `which` is recorded as the declarations that it covers.
     fn to_link(
         &self,
         alloc: Global,
@@ -177,7 +177,7 @@ impl<'g> LinkParts<'g> {
         Ok(ConditionalLinkImpl { held })
     }
 
-    /// Adds the wanted declarations of a package link: those at the places where these are given, and else the covered ones.
+    /// Adds declarations of `link`: those at `places` if it is `Some`, and otherwise those that `which` covers.
     fn add(
         &mut self,
         link: PackageLink<'g>,
@@ -192,7 +192,7 @@ impl<'g> LinkParts<'g> {
         }
     }
 
-    /// The link over the wanted declarations of package links, where none is added yet.
+    /// Adds the declarations of each of `links`, as `add` does, and returns the finished link.
     fn over(
         &mut self,
         alloc: Global,
@@ -211,7 +211,7 @@ impl<'g> LinkParts<'g> {
     }
 }
 
-/// The link over the wanted declarations of package links, all of which are collected.
+/// Collects the declarations of `links`, as `add` does, and returns the link over them.
 fn collected(
     alloc: Global,
     graph: &PackageGraph,
@@ -226,7 +226,7 @@ fn collected(
     parts.over(alloc, graph, links, which, places)
 }
 
-/// The status for a kind, of one declaration: its platform where it's of this kind, and else none.
+/// Returns the status of `kind` over one declaration: its platforms if its kind is `kind`, and otherwise never.
 fn status_of_one(
     alloc: Global,
     declaration: &Declaration,
@@ -241,7 +241,7 @@ fn status_of_one(
     Ok(PlatformStatusImpl::Specs(Vec::new(alloc)))
 }
 
-/// The link over one declaration of a package link that applies on all platforms.
+/// Returns the link over one declaration of package link `link_ix`, with the kind `kind`, that applies on all platforms.
 fn link_everywhere(
     link_ix: usize,
     which: LinkDeclarations,
@@ -260,7 +260,7 @@ fn link_everywhere(
     }
 }
 
-/// The link over one declaration of a package link.
+/// Returns the link over one declaration of package link `link_ix`.
 fn link_over_one(
     alloc: Global,
     link_ix: usize,
@@ -286,7 +286,7 @@ fn link_over_one(
     Ok(ConditionalLinkImpl { held })
 }
 
-/// The one declaration of these, where there is no other and it's covered.
+/// Returns the declaration if there is exactly one and `which` covers it.
 fn only_included(which: LinkDeclarations, declarations: &[Declaration]) -> Option<&Declaration>
     ensures { IfSome result (λ d. filter (λ d. includes which d) (map declared declarations.now) ≡ declared d.now ∷ []) }
 {
@@ -299,7 +299,7 @@ fn only_included(which: LinkDeclarations, declarations: &[Declaration]) -> Optio
     None
 }
 
-/// The link over the covered declarations of package links. One declaration is not collected.
+/// Returns the link over the declarations of `links` that `which` covers. A single declaration is not collected.
 fn links_over(
     alloc: Global,
     graph: &PackageGraph,
@@ -318,7 +318,7 @@ fn links_over(
     collected(alloc, graph, links, which, None)
 }
 
-/// The link over the covered declarations of one package link.
+/// Returns the link over the declarations of package link `link_ix` that `which` covers. `AllocError` is the only error.
 pub fn link_of(
     alloc: Global,
     graph: &PackageGraph,
@@ -332,7 +332,8 @@ pub fn link_of(
     links_over(alloc, graph, &links, which)
 }
 
-/// One half of a weak edge over a package link.
+/// Returns the half of a weak edge over the declarations of package link `link_ix` that `which` covers. `AllocError` is the only
+/// error.
 pub fn half_of(
     alloc: Global,
     graph: &PackageGraph,
@@ -349,7 +350,8 @@ pub fn half_of(
     Ok(EnabledLink { link: Some(link) })
 }
 
-/// The link over the covered declarations of all links of a package under a name.
+/// Returns the link over the declarations that `which` covers, of all links that leave package `package_ix` under `name`.
+/// `AllocError` is the only error.
 pub fn named_link(
     alloc: Global,
     graph: &PackageGraph,
@@ -365,7 +367,8 @@ pub fn named_link(
     links_over(alloc, graph, links, which)
 }
 
-/// The link over those declarations of one package link that pass a test, where these are their places. One declaration is not collected.
+/// Returns the link over the declarations at `places` of package link `link_ix`. A single declaration is not collected.
+/// `AllocError` is the only error.
 pub fn section_link(
     alloc: Global,
     graph: &PackageGraph,

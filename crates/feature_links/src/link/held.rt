@@ -1,4 +1,4 @@
-//! What a link says, in little room.
+//! The compact storage of a link.
 ghost use Rattle.std.specs.Prelude.{◌≡◌, IfOk, IfSome};
 ghost use Rattle.guppy_packages.specs.Platform.{impl_status, status_of};
 ghost use Rattle.feature_links.specs.Values.{full_facts, held_facts, plain_status};
@@ -8,10 +8,10 @@ use guppy_packages::{PlatformStatus, PlatformStatusImpl};
 use smallvec::SmallVec;
 use std::alloc::{AllocError, Global};
 
-/// A link: which declarations it covers, its status for each kind, and its package links.
+/// A link: the declarations that it covers, its status for each kind, and its package links.
 #[derive(Drop)]
 pub(crate) enum HeldLink {
-    /// Over one package link, where each kind is on all platforms or on none: whether it's on all.
+    /// A link over one package link, with each kind on all platforms (`true`) or on none (`false`).
     Plain {
         declarations: LinkDeclarations,
         normal: bool,
@@ -23,7 +23,7 @@ pub(crate) enum HeldLink {
     Full(Box<FullLink>),
 }
 
-/// A link with its statuses and its package links.
+/// A link with one status for each kind and its package links.
 #[derive(Drop)]
 pub(crate) struct FullLink {
     pub(crate) declarations: LinkDeclarations,
@@ -33,7 +33,7 @@ pub(crate) struct FullLink {
     pub(crate) package_link_ixs: SmallVec<usize, 2>,
 }
 
-/// The status on all platforms, or on none.
+/// Returns the status on all platforms if `always` is true, and otherwise on none.
 pub(crate) fn status_where(always: bool) -> PlatformStatus<'static>
     ensures { status_of result ≡ plain_status always }
 {
@@ -44,7 +44,7 @@ pub(crate) fn status_where(always: bool) -> PlatformStatus<'static>
     }
 }
 
-/// Whether a status is on all platforms, where it's on all or on none.
+/// Returns whether `status` is on all platforms, or `None` if it depends on the platform.
 fn plain_of(status: &PlatformStatusImpl) -> Option<bool>
     ensures { IfSome result (λ always. plain_status always ≡ impl_status status.now) }
 {
@@ -56,7 +56,7 @@ fn plain_of(status: &PlatformStatusImpl) -> Option<bool>
 }
 
 impl FullLink {
-    /// The link in no allocation, where it's over one package link and each kind is on all platforms or on none.
+    /// Returns the link as `Plain`, or `None` if it has several package links or a status that depends on the platform.
     fn plain(&self) -> Option<HeldLink>
         ensures { IfSome result (λ held. held_facts held ≡ full_facts self.now) }
     {
@@ -75,7 +75,7 @@ impl FullLink {
         })
     }
 
-    /// An equal link. It fails only where memory is refused.
+    /// Returns an equal link. `AllocError` is the only error.
     fn try_clone(&self, alloc: Global) -> Result<FullLink, AllocError>
         ensures { IfOk result (λ full. full_facts full ≡ full_facts self.now) }
     {
@@ -94,7 +94,7 @@ impl FullLink {
 }
 
 impl HeldLink {
-    /// The link that says this.
+    /// Returns the link `full`, in the smallest form.
     pub(crate) fn new(alloc: Global, full: FullLink) -> Result<HeldLink, AllocError>
         ensures { IfOk result (λ held. held_facts held ≡ full_facts full) }
     {
@@ -104,7 +104,7 @@ impl HeldLink {
         }
     }
 
-    /// An equal link. It fails only where memory is refused.
+    /// Returns an equal link. `AllocError` is the only error.
     pub(crate) fn try_clone(&self, alloc: Global) -> Result<HeldLink, AllocError>
         ensures { IfOk result (λ held. held_facts held ≡ held_facts self.now) }
     {

@@ -1,4 +1,4 @@
-//! The statuses of declarations, one for each kind of dependency, as they are collected.
+//! Collecting the statuses of declarations, one for each kind of dependency.
 ghost use Rattle.std.specs.Prelude.{◌≡◌, ◌++◌, ◌∷◌, [], List, Option, map, IfOk, OnOk};
 ghost use Rattle.std.specs.Option.{option_map};
 ghost use Rattle.std.specs.Str.{bytes_eq};
@@ -14,17 +14,17 @@ use indexmap::IndexSet;
 use std::alloc::{AllocError, Global};
 use std::hash::{BuildHasherDefault, DefaultHasher};
 
-/// A set of texts from outside, by SipHash with a fixed key: texts that collide have to be searched for.
+/// A set of texts from outside. It hashes by SipHash with a fixed key, so collisions don't follow a simple pattern.
 type TextSet<T> = IndexSet<T, BuildHasherDefault<DefaultHasher>>;
 
-/// Platforms so far: whether one of them is every platform, and the specs by first appearance.
+/// The platforms so far: whether a declaration applies on all, and the specs in the order of first appearance.
 #[derive(Drop)]
 pub(crate) struct StatusCollector<'g> {
     always: bool,
     specs: TextSet<&'g str>,
 }
 
-/// Adds the specs that are not in the set.
+/// Inserts the texts of `specs` into `set`.
 fn insert_all<'g>(set: &mut TextSet<&'g str>, specs: &'g [Spec]) -> Result<(), AllocError>
     ensures { OnOk result ((before : List Text) → texts_in set.old ≡ firsts bytes_eq before → texts_in set.new ≡ firsts bytes_eq (before ++ map spec_text specs.now)) }
 {
@@ -34,7 +34,7 @@ fn insert_all<'g>(set: &mut TextSet<&'g str>, specs: &'g [Spec]) -> Result<(), A
     Ok(())
 }
 
-/// A spec for each text of the set.
+/// Returns a spec for each text of `set`.
 fn specs_of(alloc: Global, set: &TextSet<&str>) -> Result<Vec<Spec>, AllocError>
     ensures { IfOk result (λ specs. map spec_text specs.items ≡ texts_in set.now) }
 {
@@ -47,7 +47,7 @@ fn specs_of(alloc: Global, set: &TextSet<&str>) -> Result<Vec<Spec>, AllocError>
 }
 
 impl<'g> StatusCollector<'g> {
-    /// No platform yet.
+    /// Returns a collector with no platforms.
     fn new(alloc: Global) -> Self
         ensures { HasPlatforms result [] }
     {
@@ -57,7 +57,7 @@ impl<'g> StatusCollector<'g> {
         }
     }
 
-    /// Adds the platform of a declaration.
+    /// Adds the platforms of a declaration.
     fn add(&mut self, platform: &'g PlatformStatusImpl) -> Result<(), AllocError>
         ensures { OnOk result ((p : Option Text) (before : List (Option Text)) → platform_specs platform.now ≡ option_map (λ spec. spec ∷ []) p → HasPlatforms self.old before → HasPlatforms self.new (before ++ p ∷ [])) }
     {
@@ -70,7 +70,7 @@ impl<'g> StatusCollector<'g> {
         }
     }
 
-    /// The status that joins the platforms. Where it is always, no text is copied.
+    /// Returns the status that joins the platforms. If it is `Always`, no text is copied.
     pub(crate) fn status(&self, alloc: Global) -> Result<PlatformStatusImpl, AllocError>
         ensures { IfOk result (λ status. (platforms : List (Option Text)) → HasPlatforms self.now platforms → impl_status status ≡ joined platforms) }
     {
@@ -82,7 +82,7 @@ impl<'g> StatusCollector<'g> {
     }
 }
 
-/// The statuses of declarations so far, one for each kind.
+/// The statuses of the declarations so far, one for each kind.
 #[derive(Drop)]
 pub(crate) struct KindCollectors<'g> {
     pub(crate) normal: StatusCollector<'g>,
@@ -91,7 +91,7 @@ pub(crate) struct KindCollectors<'g> {
 }
 
 impl<'g> KindCollectors<'g> {
-    /// No declaration yet.
+    /// Returns collectors with no declarations.
     pub(crate) fn new(alloc: Global) -> Self
         ensures { HasKinds result [] }
     {
@@ -102,7 +102,7 @@ impl<'g> KindCollectors<'g> {
         }
     }
 
-    /// Adds a declaration, to those of its kind.
+    /// Adds the platforms of `declaration` to its kind.
     pub(crate) fn add(&mut self, declaration: &'g Declaration) -> Result<(), AllocError>
         ensures { OnOk result ((before : List Declared) → HasKinds self.old before → HasKinds self.new (before ++ declared declaration.now ∷ [])) }
     {

@@ -1,4 +1,4 @@
--- The cycles that an iterator has left.
+-- The cycles that an iterator hasn't returned yet.
 use Rattle.std.specs.Prelude.{◌≡◌, ◌<◌, ◌≤◌, ℕ, List, All, length, map}
 use Rattle.digraph_orders.specs.Sequences.{Sequence, IsSequence}
 use Rattle.order_views.specs.Cycles.{nodes_of}
@@ -12,7 +12,7 @@ use Rattle.feature_sets.specs.Names.{names_of_nodes}
 abbrev pub cycles_left : Tables → Sequence → List ℕ → List (List (Text × LabelName))
 cycles_left t o components = map (λ c. names_of_nodes t (nodes_of o c)) components
 
--- the order lists the nodes, the components are numbers of its components, and at most all are passed
+-- the order lists the nodes, the components are components of the order, and `passed` is within their list
 pub record AreCycles (t : Tables) (o : Sequence) (passed : ℕ) (components : List ℕ) : Type 0 where
   pub order : IsSequence o
   pub long : length o.list ≡ length (nodes t)

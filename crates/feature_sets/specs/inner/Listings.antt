@@ -1,4 +1,4 @@
--- Steps and offers that a graph can tell.
+-- Steps and offers that have names in a graph.
 use Rattle.std.specs.Prelude.{◌≡◌, ℕ, Bool, List, IsTrue, All, length}
 use Rattle.std.specs.Option.{is_some}
 use Rattle.guppy_support.specs.Bits.{has}
@@ -12,14 +12,14 @@ use Rattle.walk_checks.specs.Exact.{IsExplainedRun}
 use Rattle.feature_sets.specs.Told.{offer_told}
 use Rattle.feature_sets.specs.Values.{Graph}
 
--- each offer has its names
+-- each offer has a name
 abbrev pub AreOffered : Graph → List (ℕ × Half) → Type 0
 AreOffered g offers = All (λ offer. IsTrue (is_some (offer_told g offer))) offers
 
--- the steps explain, from some initial nodes and by some offers
+-- the steps are an explanation, from some initial nodes and by some offers
 abbrev pub IsBacked : Graph → DependencyDirection → List Step → Type 0
 IsBacked g direction steps = (initials : List Bool) × (A : ℕ → Half → Bool) × (length initials ≡ length (nodes g.tables)) × IsExplanation (content_of direction g.built) (has initials) A steps
 
--- a walk from some initial nodes was explained so, whoever answered its offers
+-- the steps and refused offers explain a walk from some initial nodes
 abbrev pub IsExplainedBy : Graph → DependencyDirection → (ℕ → Bool) → List Step → List (ℕ × Half) → Type 0
 IsExplainedBy g direction M steps refused = (initials : List Bool) × (length initials ≡ length (nodes g.tables)) × IsExplainedRun (content_of direction g.built) (has initials) M steps refused

@@ -1,4 +1,4 @@
--- The answers of a callback between two calls, and the two sets that are filled by them.
+-- The state between two calls of a callback, and the two sets that its results fill.
 use Rattle.std.specs.Prelude.{◌≡◌, ◌↔◌, ◌++◌, ◌⊎◌, ℕ, Bool, List, IsTrue, Contains, map, length}
 use Rattle.std.specs.List.{FoldsTo}
 use Rattle.guppy_support.specs.Bits.{has}
@@ -7,12 +7,12 @@ use Rattle.feature_core.specs.Nodes.{nodes}
 use Rattle.feature_sets.specs.Parts.{CallsAt}
 use Rattle.feature_sets.specs.declared.metadata.FeatureMetadata.{FeatureMetadata}
 
--- the nodes of the calls that passed the test
+-- the nodes of the calls whose results pass the test
 pub record IsFilled {A : Type 0} (test : A → Bool) (calls : List (ℕ × A)) (size : ℕ) (members : List Bool) : Type 0 where
   pub long : length members ≡ size
   pub exact : (n : ℕ) → IsTrue (has members n) ↔ ((a : A) × Contains calls (n, a) × IsTrue (test a))
 
--- the features of the nodes before the rest were called for
+-- the callback was called for the features of all nodes before `rest`
 pub record HasCalled {F A : Type 0} (step : F → FeatureMetadata → A → F → Type 0) (first second : A → Bool) (t : Tables) (all rest : List ℕ) (f g : F) (one other : List Bool) : Type 0 where
   pub calls : List (ℕ × A)
   pub each : map (λ x. x.0) calls ++ rest ≡ all
@@ -20,7 +20,7 @@ pub record HasCalled {F A : Type 0} (step : F → FeatureMetadata → A → F �
   pub one_filled : IsFilled first calls (length (nodes t)) one
   pub other_filled : IsFilled second calls (length (nodes t)) other
 
--- the node is added where the test says so
+-- the node is inserted if `say` is true
 pub record IsPut (say : Bool) (node : ℕ) (old new : List Bool) : Type 0 where
   pub size : length new ≡ length old
   pub adds : (n : ℕ) → IsTrue (has new n) ↔ (IsTrue (has old n) ⊎ ((n ≡ node) × IsTrue say))

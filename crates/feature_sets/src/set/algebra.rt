@@ -1,4 +1,4 @@
-//! Sets as values: equality, and sets that two sets make.
+//! Operations on sets: equality, and combinations of two sets.
 ghost use Rattle.std.specs.Prelude.{◌≡◌, ◌↔◌, ◌&&◌, ◌||◌, IsTrue, IfOk, IfErr};
 ghost use Rattle.std.specs.Cmp.{partial_equiv_from_equiv};
 ghost use Rattle.guppy_support.specs.Bits.{one_alone};
@@ -11,22 +11,22 @@ use guppy_packages::DependencyDirection;
 use std::alloc::Global;
 
 impl<'g> FeatureSet<'g> {
-    /// Whether the graphs of two sets count as one: they were built under one stamp, and have the same features in the same
-    /// order. Where they lie in memory doesn't matter.
+    /// Returns true if the graphs of the two sets count as one: they were built under one stamp, and have the same
+    /// features in the same order. Their addresses in memory don't matter.
     pub fn same_graph(&self, other: &FeatureSet<'_>) -> bool
         ensures { IsTrue result ↔ SameGraph self.now.graph other.now.graph }
     {
         self.graph.is_same(&other.graph)
     }
 
-    /// Whether the sets have the same features, and their graphs count as one.
+    /// Returns true if the sets have the same features, and their graphs count as one.
     fn is_equal(&self, other: &FeatureSet<'_>) -> bool
         ensures { IsTrue result ↔ AreEqualSets self.now other.now }
     {
         self.members == other.members && self.same_graph(other)
     }
 
-    /// The features that either set has, over this set's graph. The only error is want of memory.
+    /// Returns the features that are in either set, over this set's graph; `Memory` is the only error.
     pub fn union(
         &self,
         alloc: Global,
@@ -40,7 +40,7 @@ impl<'g> FeatureSet<'g> {
         Ok(FeatureSet::new(self.graph, members))
     }
 
-    /// The features that both sets have, over this set's graph. The only error is want of memory.
+    /// Returns the features that are in both sets, over this set's graph; `Memory` is the only error.
     pub fn intersection(
         &self,
         alloc: Global,
@@ -54,7 +54,7 @@ impl<'g> FeatureSet<'g> {
         Ok(FeatureSet::new(self.graph, members))
     }
 
-    /// The features of this set that the other lacks, over this set's graph. The only error is want of memory.
+    /// Returns the features of this set that are not in `other`, over this set's graph; `Memory` is the only error.
     pub fn difference(
         &self,
         alloc: Global,
@@ -68,7 +68,7 @@ impl<'g> FeatureSet<'g> {
         Ok(FeatureSet::new(self.graph, members))
     }
 
-    /// The features that exactly one of the sets has, over this set's graph. The only error is want of memory.
+    /// Returns the features that are in exactly one of the sets, over this set's graph; `Memory` is the only error.
     pub fn symmetric_difference(
         &self,
         alloc: Global,
@@ -82,7 +82,7 @@ impl<'g> FeatureSet<'g> {
         Ok(FeatureSet::new(self.graph, members))
     }
 
-    /// An equal set over the same graph. The only error is want of memory.
+    /// Returns an equal set over the same graph; `Memory` is the only error.
     pub fn try_clone(&self, alloc: Global) -> Result<FeatureSet<'g>, Error<'static>>
         ensures same { IfOk result (λ set. set ≡ self.now) }
         ensures refused { IfErr result (λ e. e ≡ Error.Memory) }
@@ -91,7 +91,7 @@ impl<'g> FeatureSet<'g> {
         Ok(FeatureSet::new(self.graph, members))
     }
 
-    /// The query that starts from the set's features and follows edges this way. The only error is want of memory.
+    /// Returns the query from the set's features in `direction`; `Memory` is the only error.
     pub fn to_feature_query(
         &self,
         alloc: Global,
@@ -105,7 +105,7 @@ impl<'g> FeatureSet<'g> {
     }
 }
 
-/// Sets are equal where their graphs count as one, and they have the same features.
+/// Two sets are equal if they have the same features and their graphs count as one.
 impl PartialEq for FeatureSet<'_> {
     ghost eq = { set_eq };
 

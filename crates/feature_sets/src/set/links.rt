@@ -23,7 +23,7 @@ use std::marker::Model;
 use walk_engine::Half;
 
 impl<'g> FeatureSet<'g> {
-    /// The numbers of the edges between the set's features, in order.
+    /// Returns the numbers of the edges between the set's features, in order.
     fn edges_in_order(&self, direction: DependencyDirection) -> LinksInOrder<'_>
         ensures order { AtOrder self.now.graph (λ o. result ≡ ordered_edges direction self.now o) }
         ensures within { All (λ k. k < length self.now.graph.built.edges) result }
@@ -38,10 +38,11 @@ impl<'g> FeatureSet<'g> {
         )
     }
 
-    /// The edges whose two features the set has, each as the ids of the feature that asks and of the one that is asked for,
-    /// with what the edge says. They come in the order of the features that they start at, which is forward that of
-    /// `feature_ids` and the feature that asks, and in reverse the reverse order and the feature that is asked for; those that
-    /// start at one feature come by the number of the other one.
+    /// Returns an iterator over the edges with both features in the set, each as the ids of its source and target, with
+    /// the edge.
+    ///
+    /// The edges are in the order of the features that they start at, which is that of `feature_ids(direction)`. In
+    /// reverse, an edge starts at its target. Edges with the same start are by the node number of the other feature.
     pub fn links(&self, direction: DependencyDirection) -> Links<'g, '_>
         ensures { AtOrder self.now.graph (λ o. result ≡ edges_said self.now.graph (ordered_edges direction self.now o)) }
     {
@@ -51,8 +52,8 @@ impl<'g> FeatureSet<'g> {
         }
     }
 
-    /// The full links of the conditional edges among `links`, each once and in the same order: a weak edge isn't split into
-    /// its halves.
+    /// Returns an iterator over the full links of the conditional edges among `links(direction)`, in the same order.
+    /// Each edge is returned once; a weak edge isn't split into its halves.
     pub fn conditional_links(&self, direction: DependencyDirection) -> ConditionalLinks<'g, '_>
         ensures { AtOrder self.now.graph (λ o. result ≡ full_links self.now.graph (ordered_edges direction self.now o)) }
     {
@@ -63,7 +64,7 @@ impl<'g> FeatureSet<'g> {
     }
 }
 
-/// The features of an edge, and what it says.
+/// Returns the features of edge `number`, and the edge.
 fn edge_at<'g>(
     graph: FeatureGraph<'g>,
     number: usize,
@@ -76,7 +77,7 @@ fn edge_at<'g>(
     (graph.id(from), graph.id(to), edge)
 }
 
-/// The full link of an edge, where it is conditional.
+/// Returns the full link of edge `number` if it is conditional.
 fn full_link_at<'g>(graph: FeatureGraph<'g>, number: usize) -> Option<ConditionalLink<'g>>
     requires { number < length (built_of graph).edges }
     ensures { MatchOption result (IsFalse (has_facts (offered (graph_of graph.entry) number Full)))
@@ -89,7 +90,7 @@ fn full_link_at<'g>(graph: FeatureGraph<'g>, number: usize) -> Option<Conditiona
     }
 }
 
-/// The edges between a set's features that are left, each with the ids of its two features.
+/// An iterator over the edges between a set's features, each with the ids of its source and target.
 #[derive(Drop)]
 pub struct Links<'g, 'a> {
     graph: FeatureGraph<'g>,
@@ -127,7 +128,7 @@ impl<'g, 'a> Iterator for Links<'g, 'a> {
 
 impl<'g, 'a> FusedIterator for Links<'g, 'a> {}
 
-/// The full links of the conditional edges between a set's features that are left.
+/// An iterator over the full links of the conditional edges between a set's features.
 #[derive(Drop)]
 pub struct ConditionalLinks<'g, 'a> {
     graph: FeatureGraph<'g>,

@@ -1,4 +1,4 @@
-//! The features that a set has of one package.
+//! The members of a set that belong to one package.
 ghost use Rattle.std.specs.Prelude.{◌≡◌, ◌<◌, ◌≤◌, IfOk, IfErr, OnOk, Contains, ◌↔◌, ◌+◌, length, map};
 ghost use Rattle.feature_core.specs.Errors.{refusal_of};
 ghost use Rattle.feature_core.specs.Nodes.{first_node};
@@ -14,7 +14,7 @@ use guppy_packages::PackageId;
 use std::alloc::{AllocError, Global};
 
 impl<'g> FeatureSet<'g> {
-    /// Appends the label of the package's node, where the set has it.
+    /// Appends the label of `node`, a node of the package, if it is in the set.
     fn push_label(
         &self,
         package_ix: usize,
@@ -32,7 +32,7 @@ impl<'g> FeatureSet<'g> {
         Ok(())
     }
 
-    /// The labels of the package's features that the set has.
+    /// Returns the labels of the package's features that are in the set.
     fn labels_of(
         &self,
         alloc: Global,
@@ -49,7 +49,7 @@ impl<'g> FeatureSet<'g> {
         Ok(labels)
     }
 
-    /// The package's features that the set has, as a list.
+    /// Returns the list of the package's features that are in the set.
     pub(crate) fn list_of(
         &self,
         alloc: Global,
@@ -63,8 +63,8 @@ impl<'g> FeatureSet<'g> {
         FeatureList::new(alloc, package, labels.as_slice())
     }
 
-    /// The set's features of the package, sorted, or none where it has none of them; it is an error where no package has
-    /// the id, and otherwise where memory is refused.
+    /// Returns the set's features of a package, sorted, or `None` if it has none of them. The error is
+    /// `UnknownPackageId` if no package has this id, or `Memory`.
     pub fn features_for<'a>(
         &self,
         alloc: Global,

@@ -1,4 +1,4 @@
-//! The features of a set in the order of its graph.
+//! The features of a set, in the order of its graph.
 ghost use Rattle.std.specs.Prelude.{◌≡◌, ◌<◌, IfSome, Some, All, length};
 ghost use Rattle.std.specs.Iterator.{YieldsFirstBy, UpTo, item_count};
 ghost use Rattle.std.specs.Iterator.SizeHint.{IsWithinCount};
@@ -17,7 +17,7 @@ use order_views::{InOrder, Reading};
 use std::iter::FusedIterator;
 use std::marker::Model;
 
-/// Which way a direction reads the order of a graph.
+/// Returns the reading of the graph's order for a direction.
 pub(crate) fn reading(direction: DependencyDirection) -> Reading
     ensures { result ≡ reading_of direction }
 {
@@ -28,7 +28,7 @@ pub(crate) fn reading(direction: DependencyDirection) -> Reading
 }
 
 impl<'g> FeatureSet<'g> {
-    /// The nodes of the set's features in order.
+    /// Returns the nodes of the set's features, in order.
     pub(crate) fn nodes_in_order(&self, direction: DependencyDirection) -> InOrder<'_>
         ensures order { AtOrder self.now.graph (λ o. result ≡ ordered_nodes direction self.now o) }
         ensures within { All (λ n. n < length (nodes self.now.graph.tables)) result }
@@ -37,8 +37,8 @@ impl<'g> FeatureSet<'g> {
         InOrder::new(self.graph.built.order(), &self.members, reading(direction))
     }
 
-    /// The ids of the set's features: forward in the order of the graph, in which a feature comes before those that it
-    /// leads to as far as cycles allow, and in reverse exactly backwards.
+    /// Returns an iterator over the ids of the set's features. Forward, they are in the order of the graph: a feature
+    /// is before its dependencies, except within cycles. In reverse, they are exactly backwards.
     pub fn feature_ids(&self, direction: DependencyDirection) -> FeatureIds<'g, '_>
         ensures { AtOrder self.now.graph (λ o. result ≡ ordered_names direction self.now o) }
     {
@@ -48,7 +48,7 @@ impl<'g> FeatureSet<'g> {
         }
     }
 
-    /// The set's features, in the order of `feature_ids`.
+    /// Returns an iterator over the set's features, in the order of `feature_ids`.
     pub fn features(&self, direction: DependencyDirection) -> Features<'g, '_>
         ensures { AtOrder self.now.graph (λ o. result ≡ features_named self.now.graph.tables (ordered_names direction self.now o)) }
     {
@@ -59,7 +59,7 @@ impl<'g> FeatureSet<'g> {
     }
 }
 
-/// The ids of a set's features that are left, in the order of the graph or backwards.
+/// An iterator over the ids of a set's features, in the order of the graph or backwards.
 #[derive(Drop)]
 pub struct FeatureIds<'g, 'a> {
     graph: FeatureGraph<'g>,
@@ -112,7 +112,7 @@ impl<'g, 'a> ExactSizeIterator for FeatureIds<'g, 'a> {
 
 impl<'g, 'a> FusedIterator for FeatureIds<'g, 'a> {}
 
-/// The features of a set that are left, in the order of the graph or backwards.
+/// An iterator over the features of a set, in the order of the graph or backwards.
 #[derive(Drop)]
 pub struct Features<'g, 'a> {
     graph: FeatureGraph<'g>,

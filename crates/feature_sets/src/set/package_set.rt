@@ -1,4 +1,4 @@
-//! The packages of a set, as a set.
+//! The packages of a set of features, as a set of packages.
 ghost use Rattle.std.specs.Prelude.{◌≡◌, IfOk, IfErr};
 ghost use Rattle.feature_sets.specs.MemberPackages.{AreMemberPackages};
 
@@ -10,7 +10,7 @@ use guppy_support::IxBitSet;
 use std::alloc::{AllocError, Global};
 
 impl<'g> FeatureSet<'g> {
-    /// The numbers of the packages that the set has a feature of.
+    /// Returns the numbers of the packages with a feature in the set.
     fn package_numbers(&self, alloc: Global) -> Result<IxBitSet, AllocError>
         ensures { IfOk result (λ packages. AreMemberPackages self.now.graph.tables self.now.members packages) }
     {
@@ -22,7 +22,7 @@ impl<'g> FeatureSet<'g> {
         Ok(packages)
     }
 
-    /// The packages that the set has a feature of, their bases among the features. The only error is want of memory.
+    /// Returns the set of the packages with a feature in the set, the base included; `Memory` is the only error.
     pub fn to_package_set(&self, alloc: Global) -> Result<PackageSet<'g>, Error<'static>>
         ensures graph { IfOk result (λ packages. packages.tables ≡ self.now.graph.tables) }
         ensures members { IfOk result (λ packages. AreMemberPackages self.now.graph.tables self.now.members packages.members) }

@@ -1,4 +1,4 @@
-//! The packages that a set has features of.
+//! The packages with a feature in a set.
 ghost use Rattle.std.specs.Prelude.{◌≡◌, ◌+◌, ◌^◌, ◌<◌, ◌≤◌, ◌∷◌, [], IfSome, MatchOption, MatchResult, Some, length};
 ghost use Rattle.std.specs.Iterator.{YieldsFirstBy, UpTo, item_count};
 ghost use Rattle.std.specs.Iterator.SizeHint.{IsWithinCount};
@@ -12,7 +12,7 @@ use std::iter::FusedIterator;
 use std::marker::Model;
 
 impl<'g> FeatureSet<'g> {
-    /// Whether the set has a feature of the package of this number.
+    /// Returns true if the package with this number has a feature in the set.
     pub(crate) fn has_member_of(&self, package_ix: usize) -> bool
         requires { package_ix < length self.now.graph.tables.packages }
         ensures { result ≡ has_member_of self.now.graph.tables self.now.members package_ix }
@@ -26,7 +26,7 @@ impl<'g> FeatureSet<'g> {
         false
     }
 
-    /// The least number of a package, from `from` on, that the set has a feature of.
+    /// Returns the least number, from `from` on, of a package with a feature in the set.
     fn next_package_from(&self, from: usize) -> Option<usize>
         requires { from ≤ length self.now.graph.tables.packages }
         ensures fits { length self.now.graph.tables.packages < 2 ^ 64 }
@@ -44,7 +44,7 @@ impl<'g> FeatureSet<'g> {
         None
     }
 
-    /// How many packages the set has a feature of.
+    /// Returns the number of packages with a feature in the set.
     fn package_count(&self) -> usize
         ensures { result ≡ length (member_packages self.now.graph.tables self.now.members) }
     {
@@ -58,7 +58,7 @@ impl<'g> FeatureSet<'g> {
         found
     }
 
-    /// The packages that the set has a feature of.
+    /// Returns an iterator over the packages with a feature in the set.
     pub(crate) fn member_packages(&self) -> InitialPackages<'g, '_>
         ensures { result ≡ numbered self.now.graph.tables (member_packages self.now.graph.tables self.now.members) }
     {
@@ -69,7 +69,7 @@ impl<'g> FeatureSet<'g> {
         }
     }
 
-    /// Whether the set has a feature of the package, or an error where no package has the id.
+    /// Returns true if the package has a feature in the set, or `UnknownPackageId` if no package has this id.
     pub fn contains_package<'a>(&self, package_id: &'a PackageId) -> Result<bool, Error<'a>>
         ensures { MatchResult result
             (λ answer. TellsPackage self.now.graph.tables self.now.members package_id.now answer)
@@ -82,7 +82,7 @@ impl<'g> FeatureSet<'g> {
     }
 }
 
-/// The packages of a query's initial features that are left, in the order of their numbers.
+/// An iterator over the packages of a query's initial features, by number.
 #[derive(Drop)]
 pub struct InitialPackages<'g, 'a> {
     initials: &'a FeatureSet<'g>,

@@ -1,4 +1,4 @@
-//! The features of a set, package by package.
+//! The features of a set, by package.
 ghost use Rattle.std.specs.Prelude.{◌≡◌, ◌<◌, All, IfSome, length};
 ghost use Rattle.std.specs.Iterator.{YieldsFirst, item_count};
 ghost use Rattle.feature_sets.specs.PackageViews.{IsOfPackage, ListsByPackage, as_read, with_members};
@@ -13,7 +13,7 @@ use std::iter::FusedIterator;
 use std::marker::Model;
 use std::slice;
 
-/// The numbers of an order that are left, as a direction reads it.
+/// An iterator over the numbers of an order, reversed for `Reverse`.
 #[derive(Drop)]
 struct PackageNumbers<'g> {
     numbers: slice::Iter<'g, usize>,
@@ -31,7 +31,7 @@ impl<'g> Model for PackageNumbers<'g> {
 }
 
 impl<'g> PackageNumbers<'g> {
-    /// The numbers of this order.
+    /// Returns an iterator over the numbers of `order` in `direction`.
     fn new(order: &'g [usize], direction: DependencyDirection) -> Self
         ensures { result ≡ as_read direction order.now }
     {
@@ -58,7 +58,7 @@ impl<'g> Iterator for PackageNumbers<'g> {
 }
 
 impl<'g> FeatureSet<'g> {
-    /// The first of these packages that the set has a feature of. It and those before it are passed.
+    /// Returns the first package of `numbers` with a feature in the set. It and those before it are consumed.
     fn next_member(&self, numbers: &mut PackageNumbers<'_>) -> Option<usize>
         requires { All (λ p. p < length self.now.graph.tables.packages) numbers.old }
         ensures first { YieldsFirst (with_members self.now) numbers.old result numbers.new }
@@ -73,8 +73,8 @@ impl<'g> FeatureSet<'g> {
         None
     }
 
-    /// The set's features as lists, one for each package of which it has a feature: forward in the order of packages, and in
-    /// reverse exactly backwards. Memory is taken for each item alone.
+    /// Returns an iterator over the set's features as lists, one for each package with a feature in the set. The
+    /// packages are in the order of the package graph, reversed for `Reverse`. Each item allocates on its own.
     pub fn packages_with_features(
         &self,
         alloc: Global,
@@ -92,13 +92,13 @@ impl<'g> FeatureSet<'g> {
     }
 }
 
-/// The packages of a set that are left, each as the list of the set's features of it, in the order of packages or backwards.
-/// After an error, which comes where memory is refused, none is left.
+/// An iterator over the packages of a set, each as the list of the set's features in it, in the order of packages or
+/// backwards. It ends after an error, which is `Memory`.
 #[derive(Drop)]
 pub struct PackagesWithFeatures<'g, 'a> {
     alloc: Global,
     set: &'a FeatureSet<'g>,
-    // none after an error
+    // `None` after an error
     numbers: Option<PackageNumbers<'g>>,
 }
 

@@ -1,4 +1,4 @@
-//! Parts of a set, by the answers of a callback.
+//! Parts of a set, by the results of a callback.
 ghost use Rattle.std.specs.Prelude.{◌≡◌, ◌<◌, [], IfOk, IfErr, length, not, replicate, false, All};
 ghost use Rattle.feature_core.specs.Nodes.{nodes};
 ghost use Rattle.feature_sets.specs.Parts.{Calls, IsPart, is_yes, says_first, says_second};
@@ -15,7 +15,7 @@ use guppy_support::IxBitSet;
 use order_views::InOrder;
 use std::alloc::Global;
 
-/// An answer of a callback: it says which of two parts a feature goes to.
+/// The result of a callback, which chooses the part that a feature goes to.
 trait Answer {
     ghost use Rattle.std.specs.Prelude.{Bool};
 
@@ -23,11 +23,11 @@ trait Answer {
 
     ghost second: { Self → Bool };
 
-    /// Whether the feature goes to the first part.
+    /// Returns true if the feature goes to the first part.
     fn is_first(&self) -> bool
         ensures { result ≡ first self.now };
 
-    /// Whether the feature goes to the second part.
+    /// Returns true if the feature goes to the second part.
     fn is_second(&self) -> bool
         ensures { result ≡ second self.now };
 }
@@ -66,7 +66,7 @@ impl Answer for Option<bool> {
     }
 }
 
-/// Puts the node into the set, where it is to be.
+/// Inserts `node` into `members` if `say` is true.
 pub(crate) fn put(members: &mut IxBitSet, node: usize, say: bool)
     requires { node < length members.old }
     ensures { IsPut say node members.old members.new }
@@ -76,7 +76,8 @@ pub(crate) fn put(members: &mut IxBitSet, node: usize, say: bool)
     }
 }
 
-/// Calls the callback for the feature of each of these nodes, and puts the nodes into the two sets by its answers.
+/// Calls `f` for the feature of each of the nodes `numbers`, and inserts the nodes into `one` and `other` by the
+/// results.
 fn call_each<'g, A: Answer + Drop, F: FnMut(FeatureMetadata<'g>) -> A>(
     graph: FeatureGraph<'g>,
     mut numbers: InOrder<'_>,
@@ -98,7 +99,7 @@ fn call_each<'g, A: Answer + Drop, F: FnMut(FeatureMetadata<'g>) -> A>(
 }
 
 impl<'g> FeatureSet<'g> {
-    /// A set of no feature, over the graph of this one.
+    /// Returns an empty bit set with one bit for each feature of this set's graph.
     fn empty_part(&self, alloc: Global) -> Result<IxBitSet, Error<'static>>
         ensures empty { IfOk result (λ part. part ≡ replicate (length (nodes self.now.graph.tables)) false) }
         ensures refused { IfErr result (λ e. e ≡ Error.Memory) }
@@ -107,7 +108,7 @@ impl<'g> FeatureSet<'g> {
         Ok(part)
     }
 
-    /// The features of the first part and those of the second, by the callback's answers. It is called as by `filter`.
+    /// Returns the features of the first part and those of the second. Calls `f` as `filter` does.
     fn parted<A: Answer + Drop, F: FnMut(FeatureMetadata<'g>) -> A>(
         &self,
         alloc: Global,
@@ -129,8 +130,8 @@ impl<'g> FeatureSet<'g> {
         ))
     }
 
-    /// The features for which the callback answers true. It is called once for each feature of the set, in the order of
-    /// `features`, after all memory was taken. The only error is want of memory, and the callback wasn't called then.
+    /// Returns the features for which `f` returns true. Calls `f` once for each feature of the set, in the order of
+    /// `features`, after all allocations. `Memory` is the only error, and then `f` wasn't called.
     pub fn filter<F: FnMut(FeatureMetadata<'g>) -> bool>(
         &self,
         alloc: Global,
@@ -146,7 +147,8 @@ impl<'g> FeatureSet<'g> {
         Ok(kept)
     }
 
-    /// The features for which the callback answers true, and those for which it answers false. It is called as by `filter`.
+    /// Returns the features for which `f` returns true, and those for which it returns false. Calls `f` as `filter`
+    /// does.
     pub fn partition<F: FnMut(FeatureMetadata<'g>) -> bool>(
         &self,
         alloc: Global,
@@ -161,8 +163,8 @@ impl<'g> FeatureSet<'g> {
         self.parted(alloc, direction, f)
     }
 
-    /// The features for which the callback answers that they are of the first part, and those for which it answers that they
-    /// aren't; those for which it answers nothing are in neither. It is called as by `filter`.
+    /// Returns the features for which `f` returns `Some(true)`, and those for which it returns `Some(false)`. The
+    /// features with `None` are in neither. Calls `f` as `filter` does.
     pub fn filter_partition<F: FnMut(FeatureMetadata<'g>) -> Option<bool>>(
         &self,
         alloc: Global,

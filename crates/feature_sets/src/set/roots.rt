@@ -23,7 +23,7 @@ use std::marker::Model;
 use std::vec;
 
 impl<'g> FeatureSet<'g> {
-    /// The nodes of the set's roots, in order.
+    /// Returns the nodes of the set's roots, in order.
     fn root_nodes(
         &self,
         alloc: Global,
@@ -43,10 +43,10 @@ impl<'g> FeatureSet<'g> {
         )
     }
 
-    /// The ids of the set's roots, in the order of `feature_ids`. Forward, a feature is a root where no edge leads from its
-    /// component to one of the set's features outside of it; in reverse, where none leads from such a feature to its component.
-    /// So a root is needed by all others that it is tied to, or needs them. Components are those of the whole graph. The only
-    /// error is want of memory.
+    /// Returns an iterator over the ids of the set's roots, in the order of `feature_ids`; `Memory` is the only error.
+    ///
+    /// A feature is a root if its component has no edge to a feature of the set outside of the component. In reverse,
+    /// it is a root if its component has no edge from such a feature. The components are those of the whole graph.
     pub fn root_ids(
         &self,
         alloc: Global,
@@ -62,7 +62,7 @@ impl<'g> FeatureSet<'g> {
         })
     }
 
-    /// The set's roots, in the order of `root_ids`. The only error is want of memory.
+    /// Returns an iterator over the set's roots, in the order of `root_ids`; `Memory` is the only error.
     pub fn root_features(
         &self,
         alloc: Global,
@@ -79,7 +79,7 @@ impl<'g> FeatureSet<'g> {
     }
 }
 
-/// The ids of a set's roots that are left.
+/// An iterator over the ids of a set's roots.
 #[derive(Drop)]
 pub struct RootIds<'g> {
     graph: FeatureGraph<'g>,
@@ -133,7 +133,7 @@ impl<'g> ExactSizeIterator for RootIds<'g> {
 
 impl<'g> FusedIterator for RootIds<'g> {}
 
-/// The roots of a set that are left.
+/// An iterator over the roots of a set.
 #[derive(Drop)]
 pub struct RootFeatures<'g> {
     graph: FeatureGraph<'g>,

@@ -1,17 +1,17 @@
--- Where the links of each package begin: links stand in the order of the packages that they leave.
+-- The number of each package's first link. Links are ordered by the packages that they leave.
 use Rattle.std.specs.Prelude.{◌≡◌, ◌↔◌, ◌<◌, ◌≤◌, ◌+◌, ℕ, List, Some, length, slice_get, slice_index}
 use Rattle.guppy_packages.specs.Tables.{LinkTable}
 
--- exactly the links before this place leave packages before this one
+-- Exactly the links before `place` leave packages before `from`.
 pub record IsBegin (links : List LinkTable) (from place : ℕ) : Type 0 where
   pub within : place ≤ length links
   pub before : (k : ℕ) (l : LinkTable) → slice_get links k ≡ Some l → (k < place) ↔ (l.from < from)
 
--- the packages that have a begin
+-- Each entry of `begins` is the number of its package's first link.
 abbrev pub AreBegun : List LinkTable → List ℕ → Type 0
 AreBegun links begins = (p : ℕ) → p < length begins → IsBegin links p (slice_index begins p)
 
--- each of so many packages has a begin, and the end of all stands behind them
+-- `begins` has an entry for each package, followed by the end of all links.
 pub record AreAllBegun (packages : ℕ) (links : List LinkTable) (begins : List ℕ) : Type 0 where
   pub long : length begins ≡ packages + 1
   pub begun : AreBegun links begins

@@ -8,6 +8,6 @@ abbrev pub held_items : {T : Type 0} → Held T → List T
 held_items (Few v) = v.items
 held_items (Many b) = b.value.keys
 
--- no two items are equal: each was inserted in turn
+-- No two items are equal: inserting them in turn yields the same list.
 abbrev pub IsSet : {T : Type 0} → (T → T → Bool) → List T → Type 0
 IsSet eq items = insert_all eq [] items ≡ items

@@ -1,4 +1,4 @@
--- Texts that are pushed behind one another.
+-- Texts that are appended to one another.
 use Rattle.std.specs.Prelude.{◌≡◌, ℕ, ◌+◌, List, [], ◌∷◌, ◌++◌, length}
 use Rattle.std.specs.List.{AllByRecursion}
 use Rattle.std.specs.Str.{IsUtf8}
@@ -8,12 +8,12 @@ abbrev pub joined : List Text → Text
 joined [] = []
 joined (x ∷ xs) = x ++ joined xs
 
--- where each text ends that is joined to one of this length
+-- The end of each text, if the first begins at `from`.
 abbrev pub ends_from : ℕ → List Text → List ℕ
 ends_from from [] = []
 ends_from from (x ∷ xs) = (from + length x) ∷ ends_from (from + length x) xs
 
--- these texts were added, and end at these places
+-- The texts `added` were appended to `old`, and they end at `ends`.
 pub record IsPushed (old : Text) (added : List Text) (new : Text) (ends : List ℕ) : Type 0 where
   pub text : new ≡ old ++ joined added
   pub places : ends ≡ ends_from (length old) added

@@ -1,8 +1,8 @@
--- Edges in two columns of numbers: where each comes from; and twice where it leads, and one more if it isn't dev-only.
+-- Edges in two columns: sources, and ends. An end is twice the target, plus one if the edge isn't dev-only.
 use Rattle.std.specs.Prelude.{ℕ, ◌/◌, ◌%◌, ◌==◌, List, [], ◌∷◌}
 use Rattle.guppy_support.specs.declared.digraph.Edge.{Edge}
 
--- the edge that two numbers are
+-- The edge that a source and an end encode.
 abbrev pub edge_of : ℕ → ℕ → Edge
 edge_of source end = record { from = source; to = end / 2; non_dev = end % 2 == 1 }
 

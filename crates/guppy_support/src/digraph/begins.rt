@@ -1,4 +1,4 @@
-//! Where the edges of each source begin: the edges ascend by source.
+//! The first edge of each source, found in one pass because edges ascend by source.
 ghost use Rattle.std.specs.Prelude.{◌≡◌, ℕ, ◌+◌, ◌<◌, ◌≤◌, length, slice_index, max, IfOk, OnOk};
 ghost use Rattle.guppy_support.specs.Graph.{IsDigraph, sources};
 ghost use Rattle.guppy_support.specs.PackedRows.{AreAllBegun};
@@ -6,10 +6,10 @@ ghost use Rattle.guppy_support.specs.PackedRows.{AreAllBegun};
 use crate::digraph::columns::EdgeColumns;
 use std::alloc::{AllocError, Global};
 
-/// Places beyond this one don't fit in 32 bits.
+/// The last place that fits in 32 bits.
 const LAST_PLACE: usize = 4294967295;
 
-/// Lets the rows up to that of the node begin at the place, where they have no begin.
+/// Sets the begins of all rows up to `node` that have none to `place`.
 fn begin_up_to(begins: &mut Vec<u32>, node: usize, place: u32) -> Result<(), AllocError>
     ensures long { OnOk result (length begins.new.items ≡ max (length begins.old.items) (node + 1)) }
     ensures kept { OnOk result ((v : ℕ) → v < length begins.old.items → slice_index begins.new.items v ≡ slice_index begins.old.items v) }
@@ -21,7 +21,8 @@ fn begin_up_to(begins: &mut Vec<u32>, node: usize, place: u32) -> Result<(), All
     Ok(())
 }
 
-/// Where the edges of each source begin. Too many edges are answered as want of memory.
+/// Returns the number of the first edge of each source, and at the end the number of edges. Returns
+/// `AllocError` if an allocation fails or there are more than 4294967295 edges.
 pub(crate) fn source_begins(
     alloc: Global,
     nodes: usize,

@@ -1,21 +1,21 @@
-//! Edges in two narrow columns.
+//! Edges stored in two columns of 32-bit numbers.
 ghost use Rattle.std.specs.Prelude.{◌≡◌, ◌++◌, ◌∷◌, [], ◌<◌, length, slice_get, Some, IfOk, OnOk, OnErr};
 
 use crate::digraph::Edge;
 use std::alloc::{AllocError, Global};
 use std::marker::Model;
 
-/// Sources beyond this one don't fit in 32 bits.
+/// The last source that fits in 32 bits.
 const LAST_SOURCE: usize = 4294967295;
 
-/// Targets beyond this one don't fit in 31 bits.
+/// The last target that fits in 31 bits.
 const LAST_TARGET: usize = 2147483647;
 
-/// A list of edges, of eight bytes each: where each edge comes from, and where it leads beside its `non_dev`.
+/// A list of edges, eight bytes each: a column of sources, and a column of targets combined with `non_dev`.
 #[derive(Debug, Drop)]
 pub struct EdgeColumns {
     sources: Vec<u32>,
-    // twice the target, and one more if the edge isn't dev-only
+    // twice the target, plus one if `non_dev`
     ends: Vec<u32>,
 }
 
@@ -32,7 +32,7 @@ impl Model for EdgeColumns {
 }
 
 impl EdgeColumns {
-    /// No edge, with room for so many.
+    /// Returns an empty list with room for `room` edges.
     pub fn with_capacity(alloc: Global, room: usize) -> Result<EdgeColumns, AllocError>
         ensures { IfOk result (λ columns. columns ≡ []) }
     {
@@ -41,7 +41,8 @@ impl EdgeColumns {
         Ok(EdgeColumns { sources, ends })
     }
 
-    /// These edges. An end whose number doesn't fit is answered as want of memory.
+    /// Returns a copy of `edges`. Returns `AllocError` if an allocation fails or a number doesn't fit, as
+    /// `push` does.
     pub(crate) fn copied(alloc: Global, edges: &[Edge]) -> Result<EdgeColumns, AllocError>
         ensures { IfOk result (λ columns. columns ≡ edges.now) }
     {
@@ -52,7 +53,8 @@ impl EdgeColumns {
         Ok(columns)
     }
 
-    /// Appends an edge. A source from 4294967296 on, or a target from 2147483648 on, doesn't fit, and is answered as want of memory; after that the list is as it was.
+    /// Appends an edge. Returns `AllocError`, and leaves the list unchanged, if an allocation fails, if the
+    /// source is over 4294967295, or if the target is over 2147483647.
     pub fn push(&mut self, edge: Edge) -> Result<(), AllocError>
         ensures pushed { OnOk result (self.new ≡ self.old ++ edge ∷ []) }
         ensures untouched { OnErr result (self.new ≡ self.old) }
@@ -69,14 +71,14 @@ impl EdgeColumns {
         Ok(())
     }
 
-    /// How many edges there are.
+    /// Returns the number of edges.
     pub fn len(&self) -> usize
         ensures { result ≡ length self.now }
     {
         self.sources.len()
     }
 
-    /// The edge of that number.
+    /// Returns the edge with this number.
     pub fn edge(&self, number: usize) -> Edge
         requires { number < length self.now }
         ensures { slice_get self.now number ≡ Some result }

@@ -1,4 +1,4 @@
--- What is kept of a line's fields, and the row that it gives.
+-- The kept fields of a line, and the row that they determine.
 use Rattle.std.specs.Prelude.{◌≡◌, ◌≤◌, List, [], ◌∷◌, Bool, true, false, Option, None, Some, is_none, length}
 use Rattle.std.specs.List.{slice_range}
 use Rattle.guppy_packages.specs.Rows.{Text, RowText, a_package, a_feature, a_dep}
@@ -9,17 +9,17 @@ use Rattle.row_files.specs.declared.line.Form.{Form}
 use Rattle.row_files.specs.declared.line.Form.TheVariants as form
 use Rattle.row_files.specs.declared.line.Line.{Line}
 
--- the kept ones of the fields of a dependency on every platform
+-- The kept fields of a dependency on every platform.
 abbrev pub dep_kept : List Text → List Text
 dep_kept (word ∷ name ∷ target ∷ of_kind ∷ need ∷ platform ∷ with_defaults ∷ features) = name ∷ target ∷ features
 dep_kept _ = []
 
--- the kept ones of the fields of a dependency on some platforms
+-- The kept fields of a dependency on some platforms.
 abbrev pub platform_dep_kept : List Text → List Text
 platform_dep_kept (word ∷ name ∷ target ∷ of_kind ∷ need ∷ platform ∷ with_defaults ∷ features) = name ∷ target ∷ platform ∷ features
 platform_dep_kept _ = []
 
--- the kept ones of these fields
+-- The kept fields of a line of this form.
 abbrev pub kept_of : Form → List Text → List Text
 kept_of form.Malformed fields = fields
 kept_of (form.Package in_workspace) (word ∷ id ∷ place ∷ []) = id ∷ []
@@ -28,19 +28,19 @@ kept_of (form.Dep kind optional defaults) fields = dep_kept fields
 kept_of (form.PlatformDep kind optional defaults) fields = platform_dep_kept fields
 kept_of _ _ = []
 
--- the row of the kept fields of a dependency on every platform
+-- The row of a dependency on every platform, from its kept fields.
 abbrev pub dep_row_of : DependencyKind → Bool → Bool → List Text → Option RowText
 dep_row_of kind optional defaults (name ∷ target ∷ features) =
     Some (a_dep name target (record { kind = kind; optional = optional; platform = None; default_features = defaults; features = features }))
 dep_row_of _ _ _ _ = None
 
--- the row of the kept fields of a dependency on some platforms
+-- The row of a dependency on some platforms, from its kept fields.
 abbrev pub platform_dep_row_of : DependencyKind → Bool → Bool → List Text → Option RowText
 platform_dep_row_of kind optional defaults (name ∷ target ∷ platform ∷ features) =
     Some (a_dep name target (record { kind = kind; optional = optional; platform = Some platform; default_features = defaults; features = features }))
 platform_dep_row_of _ _ _ _ = None
 
--- the row of the kept fields
+-- The row of a line of this form, from its kept fields.
 abbrev pub form_row : Form → List Text → Option RowText
 form_row (form.Package in_workspace) (id ∷ []) = Some (a_package id in_workspace)
 form_row form.Feature (name ∷ items) = Some (a_feature name items)
@@ -52,7 +52,7 @@ abbrev pub is_malformed : Form → Bool
 is_malformed form.Malformed = true
 is_malformed _ = false
 
--- The line's kept fields lie among these, and give the row of its fields.
+-- The line's kept fields are a range of `kept`, and determine the row of the line's fields.
 pub record IsKept (kept : List Text) (line : Line) : Type 0 where
   pub ordered : line.start ≤ line.end
   pub within : line.end ≤ length kept

@@ -1,4 +1,4 @@
--- What the parts of a check look at.
+-- The tests that a check consists of.
 use Rattle.std.specs.Prelude.{◌≡◌, ℕ, Bool, true, false, not, List, Some, slice_get, length, IsTrue, ◌&&◌, ◌||◌, ◌==◌}
 use Rattle.guppy_support.specs.Bits.{has}
 use Rattle.walk_engine.specs.declared.walks.Half.{Half}
@@ -12,48 +12,48 @@ use Rattle.walk_engine.specs.Walks.{Content, Way, IsWay, has_half, has_gate}
 use Rattle.walk_checks.specs.declared.table.TableEdge.{TableEdge}
 use Rattle.walk_checks.specs.declared.refusals.Refusals.{Refusals}
 
--- whether nothing is asked
+-- Whether the edge is unconditional.
 abbrev pub is_unasked : Ask → Bool
 is_unasked asks.Nobody = true
 is_unasked asks.Full = false
 is_unasked (asks.Weak required gated) = false
 
--- whether the edge leads to the node from one of L
+-- Whether the edge leads from a node of `L` to `n`.
 abbrev pub leads_to : TableEdge → (ℕ → Bool) → ℕ → Bool
 leads_to edge L n = (edge.far == n) && L edge.start
 
--- whether the edge has the half, and its gate, where it waits for one, is in L
+-- Whether the edge has the half, and its gate is in `L` if the half waits for it.
 abbrev pub is_offered : TableEdge → Half → (ℕ → Bool) → Bool
 is_offered edge h L = has_half edge.ask h && (not (has_gate edge.ask h) || L edge.gate)
 
--- whether it can be offered so, and is in A
+-- Whether the half is offered, and is in `A`.
 abbrev pub is_open_by : (ℕ → Half → Bool) → (ℕ → Bool) → ℕ → TableEdge → Half → Bool
 is_open_by A L e edge h = is_offered edge h L && A e h
 
--- whether the edge has to be followed once its start is in L
+-- Whether the edge must be followed once its start is in `L`.
 abbrev pub leads_on : (ℕ → Half → Bool) → (ℕ → Bool) → ℕ → TableEdge → Bool
 leads_on A L e edge = is_unasked edge.ask || is_open_by A L e edge Full || is_open_by A L e edge Required || is_open_by A L e edge Optional
 
--- the far end is in L where the way has to be followed
+-- The far end is in `L` if the way must be followed.
 pub record Keeps (A : ℕ → Half → Bool) (L : ℕ → Bool) (e : ℕ) (w : Way) : Type 0 where
   pub unasked : w.ask ≡ asks.Nobody → IsTrue (L w.far)
   pub offered : (h : Half) → IsTrue (has_half w.ask h) → IsTrue (A e h) → (IsTrue (has_gate w.ask h) → IsTrue (L w.gate)) → IsTrue (L w.far)
 
--- an offer that the reason names is in A
+-- The offer that the reason names, if any, is in `A`.
 abbrev pub KeepsReason : (ℕ → Half → Bool) → StepReason → Type 0
 KeepsReason A Initial = Unit {0}
 KeepsReason A (Edge e) = Unit {0}
 KeepsReason A (Offer e h) = IsTrue (A e h)
 
--- so it is of each step
+-- Each offer that a step names is in `A`.
 abbrev pub NamesOnly : (ℕ → Half → Bool) → List Step → Type 0
 NamesOnly A steps = (k : ℕ) (step : Step) → slice_get steps k ≡ Some step → KeepsReason A step.reason
 
--- the steps name offers in A alone, and L, their nodes, is closed for these
+-- The steps name only offers in `A`, and their nodes, `L`, are closed for `A`.
 abbrev pub IsComplete : (ℕ → Half → Bool) → Content → (ℕ → Bool) → (ℕ → Bool) → List Step → Type 0
 IsComplete A c I L steps = NamesOnly A steps × ((n : ℕ) → IsTrue (I n) → IsTrue (L n)) × ((e : ℕ) (w : Way) → IsWay c e w → IsTrue (L w.start) → Keeps A L e w)
 
--- whether the half of the edge is marked
+-- Whether the half of the edge is marked as refused.
 abbrev pub has_mark : Refusals → ℕ → Half → Bool
 has_mark r e Full = has r.full e
 has_mark r e Required = has r.required e
@@ -62,7 +62,7 @@ has_mark r e Optional = has r.optional e
 abbrev pub unmarked : Refusals → ℕ → Half → Bool
 unmarked r e h = not (has_mark r e h)
 
--- marks of so many edges
+-- The table has marks for `count` edges.
 pub record AreSized (count : ℕ) (r : Refusals) : Type 0 where
   pub full : length r.full ≡ count
   pub required : length r.required ≡ count

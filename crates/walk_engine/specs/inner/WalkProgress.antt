@@ -1,4 +1,4 @@
--- What holds while a walk is under way.
+-- The state while a walk is under way.
 use Rattle.std.specs.Prelude.{◌≡◌, ◌+◌, ◌*◌, ℕ, Bool, true, false, List, [], ◌∷◌, ◌++◌, Option, Some, None, slice_get, slice_set, IsTrue, IsFalse, ◌&&◌, ◌||◌, ◌==◌, not, ◌<◌, ◌≤◌, if◌then◌else◌, length, count_by, All, vec_len, vec_capacity}
 use Rattle.guppy_support.specs.Bits.{has}
 use Rattle.walk_engine.specs.declared.walks.Half.{Half}
@@ -12,7 +12,8 @@ use Rattle.walk_engine.specs.declared.walks.StepReason.TheVariants.{Initial, Off
 use Rattle.walk_engine.specs.Walks.{Content, Way, Call, IsWay, numbers_where, has_half, has_gate, is_gated, Reach, was_made, was_accepted, IsLegal, GoesAlong, LegalRun, is_in}
 use Rattle.walk_engine.specs.Explanations.{HasReasons, Distinct, nodes_of, refused_of}
 
--- what was found so far: the members, as a set and in order; and where the walk explains, their reasons and the refused offers
+-- The findings so far: the members, as a set and in order. If the walk explains, also their reasons and the
+-- refused offers.
 pub record Findings : Type 0 where
   pub members : List Bool
   pub order : List ℕ
@@ -23,12 +24,12 @@ pub record Findings : Type 0 where
 abbrev pub findings : Found → Findings
 findings found = record { members = found.members; order = found.order.items; explains = found.explains; steps = found.steps.items; refused = found.refused.items }
 
--- one more where they are kept
+-- The list with `x` appended, if the list is kept.
 abbrev pub kept : {X : Type 0} → Bool → List X → X → List X
 kept true xs x = xs ++ x ∷ []
 kept false xs x = xs
 
--- the node is listed where it was no member yet
+-- The findings with the node added, if it isn't a member yet.
 abbrev pub noted : Findings → ℕ → StepReason → Findings
 noted f n r = record {
   members = slice_set f.members n true;
@@ -38,37 +39,37 @@ noted f n r = record {
   refused = f.refused;
 }
 
--- the offer is listed as refused
+-- The findings with the offer added to the refused ones.
 abbrev pub refusing : Findings → ℕ → Half → Findings
 refusing f e h = record { members = f.members; order = f.order; explains = f.explains; steps = f.steps; refused = kept f.explains f.refused (e, h) }
 
--- what an answer leaves
+-- The findings after an answer.
 abbrev pub answered : Findings → ℕ → ℕ → Half → Bool → Findings
 answered f far e h true = noted f far (Offer e h)
 answered f far e h false = refusing f e h
 
--- each member is listed once
+-- Each member is listed once.
 pub record IsListed (f : Findings) : Type 0 where
   pub counted : count_by (λ b. b) f.members ≡ length f.order
   pub within : All (λ n. n < length f.members) f.order
 
--- k more members and k more refused offers take no memory
+-- Adding `k` more members and `k` more refused offers needs no allocation.
 pub record HasRoom (k : ℕ) (found : Found) : Type 0 where
   pub order : vec_len found.order + k ≤ vec_capacity found.order
   pub steps : IsTrue found.explains → vec_len found.steps + k ≤ vec_capacity found.steps
   pub refused : IsTrue found.explains → vec_len found.refused + k ≤ vec_capacity found.refused
 
--- one offer where it is wanted, and nothing else
+-- One offer is made if it is wanted, and nothing else changes.
 abbrev pub Asks : {O : Type 0} → (O → ℕ → Half → Bool → O → Type 0) → Bool → ℕ → Half → ℕ → O → Findings → O → Findings → Type 0
 Asks gives false e h far s f t g = (t ≡ s) × (g ≡ f)
 Asks gives true e h far s f t g = (answer : Bool) × gives s e h answer t × (g ≡ answered f far e h answer)
 
--- one of the two conditions of a gated half comes; whether the other came before it
+-- One of the two conditions of a gated half is met; `ready` is true if the other was met before.
 abbrev pub Comes : Bool → ℕ → List Bool → Bool → List Bool → Type 0
 Comes false e old ready new = IsTrue ready × (new ≡ old)
 Comes true e old ready new = (ready ≡ has old e) × (new ≡ slice_set old e true)
 
--- what holds between two offers
+-- The invariant between two offers.
 pub record Core {O : Type 0} (c : Content) (I : ℕ → Bool) (gives : O → ℕ → Half → Bool → O → Type 0) (s0 : O) (run : List Call) (s : O) (f : Findings) : Type 0 where
   pub calls : GoesAlong gives s0 run s
   pub legal : IsLegal c I run
@@ -80,7 +81,7 @@ pub record Core {O : Type 0} (c : Content) (I : ℕ → Bool) (gives : O → ℕ
   pub explained : IsTrue f.explains → HasReasons c I (was_accepted run) f.order f.steps
   pub told : IsTrue f.explains → f.refused ≡ refused_of run
 
--- what holds when the edges of T were taken and those of G released
+-- The invariant after the edges of `T` were taken and those of `G` released.
 pub record IsAt {O : Type 0} (c : Content) (I : ℕ → Bool) (gives : O → ℕ → Half → Bool → O → Type 0) (s0 : O) (T G : ℕ → Bool) (s : O) (f : Findings) (met : List Bool) : Type 0 where
   pub run : List Call
   pub core : Core c I gives s0 run s f
@@ -94,21 +95,21 @@ pub record IsAt {O : Type 0} (c : Content) (I : ℕ → Bool) (gives : O → ℕ
 abbrev pub with_edge : (ℕ → Bool) → ℕ → ℕ → Bool
 with_edge T e k = (k == e) || T k
 
--- whether the node is the one that this condition of the way names
+-- Whether this condition of the way names the node.
 abbrev pub at_node : Condition → ℕ → Way → Bool
 at_node Start n = λ w. w.start == n
 at_node Gate n = λ w. is_gated w.ask && (w.gate == n)
 
--- the edges of which this condition comes with the node
+-- The edges whose condition the node meets.
 abbrev pub edges_by : Condition → Content → ℕ → List ℕ
 edges_by by c n = numbers_where (at_node by n) 0 c.ways
 
--- the edges that were followed by this condition, of those taken and those released
+-- The edges that were followed by this condition.
 abbrev pub followed : Condition → (ℕ → Bool) → (ℕ → Bool) → ℕ → Bool
 followed Start T G = T
 followed Gate T G = G
 
--- those taken and those released, with more edges that are followed by this condition
+-- The edges taken and the edges released, after more were followed by this condition.
 abbrev pub taken_too : Condition → (ℕ → Bool) → (ℕ → Bool) → ℕ → Bool
 taken_too Start more T = λ e. more e || T e
 taken_too Gate more T = T
@@ -117,25 +118,25 @@ abbrev pub freed_too : Condition → (ℕ → Bool) → (ℕ → Bool) → ℕ �
 freed_too Start more G = G
 freed_too Gate more G = λ e. more e || G e
 
--- what following the edge does to what holds
+-- Following the edge keeps the invariant, with the edge taken or released.
 abbrev pub FollowsEdge : {O : Type 0} → Condition → Content → (O → ℕ → Half → Bool → O → Type 0) → ℕ → ℕ → O → Findings → List Bool → O → Findings → List Bool → Type 0
 FollowsEdge {O} by c gives node e s f met t g met' = (I : ℕ → Bool) (s0 : O) (T G : ℕ → Bool) → IsFalse (followed by T G e) → IsTrue (has f.members node) → IsAt c I gives s0 T G s f met → IsAt c I gives s0 (taken_too by (λ k. k == e) T) (freed_too by (λ k. k == e) G) t g met'
 
--- what was listed stays listed, in its place
+-- Listed members stay listed, in the same places.
 pub record Extends (f g : Findings) : Type 0 where
   pub explains : g.explains ≡ f.explains
   pub more : List ℕ
   pub order : g.order ≡ f.order ++ more
 
--- what following these edges of a member does to what holds
+-- Following these edges of a member keeps the invariant, with the edges taken or released.
 abbrev pub FollowsAll : {O : Type 0} → Condition → List ℕ → Content → (O → ℕ → Half → Bool → O → Type 0) → ℕ → O → Findings → List Bool → O → Findings → List Bool → Type 0
 FollowsAll {O} by xs c gives node s f met t g met' = (I : ℕ → Bool) (s0 : O) (T G : ℕ → Bool) → ((e : ℕ) → IsTrue (is_in (edges_by by c node) e) → IsFalse (followed by T G e)) → IsTrue (has f.members node) → IsAt c I gives s0 T G s f met → IsTrue (has g.members node) × IsAt c I gives s0 (taken_too by (is_in xs) T) (freed_too by (is_in xs) G) t g met'
 
--- following the edges of a member stopped for want of memory: the calls made are a legal run
+-- An allocation failed while the edges of a member were followed: the calls made are a legal run.
 abbrev pub FollowsStopped : {O : Type 0} → Condition → Content → (O → ℕ → Half → Bool → O → Type 0) → ℕ → O → Findings → List Bool → O → Type 0
 FollowsStopped {O} by c gives node s f met t = (I : ℕ → Bool) (s0 : O) (T G : ℕ → Bool) → ((e : ℕ) → IsTrue (is_in (edges_by by c node) e) → IsFalse (followed by T G e)) → IsTrue (has f.members node) → IsAt c I gives s0 T G s f met → LegalRun c I gives s0 t
 
--- whether the way of a number passes
+-- Whether the way with a number passes.
 abbrev pub of_way : (Way → Bool) → Option Way → Bool
 of_way p None = false
 of_way p (Some w) = p w
@@ -143,15 +144,15 @@ of_way p (Some w) = p w
 abbrev pub passes : Content → (Way → Bool) → ℕ → Bool
 passes c p e = of_way p (slice_get c.ways e)
 
--- the reads that the edges of these members cost
+-- The number of reads that the edges of these members cost.
 abbrev pub reads_of : Content → List ℕ → ℕ
 reads_of c done = 2 * length done + count_by (λ w. is_in done w.start) c.ways + count_by (λ w. is_gated w.ask && is_in done w.gate) c.ways
 
--- what holds when the edges of these members were taken and released
+-- The invariant after the edges of these members were taken and released.
 abbrev pub IsDone : {O : Type 0} → Content → (ℕ → Bool) → (O → ℕ → Half → Bool → O → Type 0) → O → List ℕ → O → Findings → List Bool → Type 0
 IsDone c I gives s0 done s f met = IsAt c I gives s0 (passes c (λ w. is_in done w.start)) (passes c (λ w. is_gated w.ask && is_in done w.gate)) s f met
 
--- the initial nodes are noted, and no others
+-- Exactly the initial nodes are members.
 pub record Begun (I : ℕ → Bool) (f : Findings) : Type 0 where
   pub named : IsTrue f.explains → f.order ≡ nodes_of f.steps
   pub reasons : IsTrue f.explains → (k : ℕ) (step : Step) → slice_get f.steps k ≡ Some step → (step.reason ≡ Initial) × IsTrue (I step.node)

@@ -1,4 +1,4 @@
-//! A walk under way: what it found, and the conditions of its edges that have come.
+//! The state of a walk: its findings, and the conditions of edges that are met so far.
 
 ghost use Rattle.std.specs.Prelude.{Some, None, ◌≡◌, ◌+◌, ◌^◌, ◌<◌, ◌≤◌, ℕ, suc, Bool, false, List, IsTrue, IsFalse, IfOk, OnOk, OnErr, length, slice_get};
 ghost use Rattle.guppy_support.specs.Bits.{has};
@@ -11,15 +11,15 @@ use super::{Ask, EdgeSource, Half, Offerer, Step, StepReason};
 use guppy_support::IxBitSet;
 use std::alloc::{AllocError, Global};
 
-/// What comes of an edge with a node: the edge starts there, or the node is its gate.
+/// The condition of an edge that a node meets: the edge starts there, or the node is its gate.
 #[derive(Clone, Copy)]
 enum Condition {
     Start,
     Gate,
 }
 
-/// What a walk found: the members, as a set and in the order in which they were reached. Where it explains, it keeps
-/// what first reached each, and the refused offers.
+/// The findings of a walk: the members, as a set and in the order in which they were reached. If `explains`,
+/// also the reason for each member, and the refused offers.
 #[derive(Drop)]
 pub(super) struct Found {
     pub(super) members: IxBitSet,
@@ -29,7 +29,7 @@ pub(super) struct Found {
     pub(super) refused: Vec<(usize, Half)>,
 }
 
-/// Makes room for what one edge can add.
+/// Reserves room for the findings of one edge. An allocation failure is the only error.
 fn make_room(found: &mut Found) -> Result<(), AllocError>
     ensures room { OnOk result (HasRoom 2 found.new) }
     ensures same { findings found.new ≡ findings found.old }
@@ -42,7 +42,7 @@ fn make_room(found: &mut Found) -> Result<(), AllocError>
     Ok(())
 }
 
-/// Lists the node where it is no member yet.
+/// Adds `node` with `reason`, if it isn't a member yet.
 fn note(found: &mut Found, node: usize, reason: StepReason)
     requires node { node < length found.old.members }
     requires listed { IsListed (findings found.old) }
@@ -62,7 +62,7 @@ fn note(found: &mut Found, node: usize, reason: StepReason)
     }
 }
 
-/// Makes the offer where it is wanted, and lists the far end, or the refusal.
+/// Makes the offer if `wanted`. Then adds `far` to the members, or the offer to the refused ones.
 fn offer_if<O: Offerer>(
     wanted: bool,
     offerer: &mut O,
@@ -91,8 +91,8 @@ fn offer_if<O: Offerer>(
     }
 }
 
-/// Notes that the start or the gate of an edge was reached, where its optional half waits for both; whether nothing
-/// is missing now.
+/// Notes that the start or the gate of `edge` was reached, if its optional half waits for both. Returns true if
+/// nothing is missing now.
 fn is_ready(met: &mut IxBitSet, edge: usize, gated: bool) -> bool
     requires { edge < length met.old }
     ensures { Comes gated edge met.old result met.new }
@@ -105,7 +105,8 @@ fn is_ready(met: &mut IxBitSet, edge: usize, gated: bool) -> bool
     ready
 }
 
-/// Takes one edge of a member and makes the offers that are due by it; whether there was one.
+/// Takes the edge at `place` of the member `node`, and makes the offers that are due because of it. Returns
+/// false if there is no such edge.
 fn take_one<S: EdgeSource, O: Offerer>(
     source: &mut S,
     offerer: &mut O,
@@ -160,7 +161,8 @@ fn take_one<S: EdgeSource, O: Offerer>(
     }
 }
 
-/// Releases one edge of a gate and makes the offer that is due by it; whether there was one.
+/// Releases the edge at `place` of the gate `node`, and makes the offer that is due because of it. Returns
+/// false if there is no such edge.
 fn release_one<S: EdgeSource, O: Offerer>(
     source: &mut S,
     offerer: &mut O,
@@ -201,8 +203,8 @@ fn release_one<S: EdgeSource, O: Offerer>(
     }
 }
 
-/// Follows one edge of which the condition comes with the node, and makes the offers that are due by it; whether there was
-/// one.
+/// Follows the edge at `place` whose `condition` the member `node` meets, and makes the offers that are due
+/// because of it. Returns false if there is no such edge.
 fn follow_one<S: EdgeSource, O: Offerer>(
     condition: Condition,
     source: &mut S,
@@ -240,7 +242,7 @@ fn follow_one<S: EdgeSource, O: Offerer>(
     }
 }
 
-/// Follows all edges of which the condition comes with the node.
+/// Follows all edges whose `condition` the member `node` meets. An allocation failure is the only error.
 fn follow_all<S: EdgeSource, O: Offerer>(
     condition: Condition,
     source: &mut S,
@@ -279,7 +281,7 @@ fn follow_all<S: EdgeSource, O: Offerer>(
     Ok(())
 }
 
-/// Notes the initial nodes.
+/// Adds the initial nodes to the members. An allocation failure is the only error.
 fn begin(found: &mut Found, initials: &IxBitSet) -> Result<(), AllocError>
     requires members { length found.old.members ≡ length initials.now }
     requires listed { IsListed (findings found.old) }
@@ -296,7 +298,8 @@ fn begin(found: &mut Found, initials: &IxBitSet) -> Result<(), AllocError>
     Ok(())
 }
 
-/// Takes and releases the edges of each member, in the order in which the members were reached.
+/// Takes and releases the edges of each member, in the order in which the members were reached. An allocation
+/// failure is the only error.
 fn walk_members<S: EdgeSource, O: Offerer>(
     source: &mut S,
     initials: &IxBitSet,
@@ -336,7 +339,8 @@ fn walk_members<S: EdgeSource, O: Offerer>(
     Ok(())
 }
 
-/// Walks from the initial nodes; what was found.
+/// Walks from `initials` and returns the findings, with reasons if `explains`. An allocation failure is the
+/// only error.
 pub(super) fn walk_found<S: EdgeSource, O: Offerer>(
     alloc: Global,
     source: &mut S,

@@ -3,7 +3,7 @@ use Rattle.std.specs.Prelude.{OnErr, Result, Ok, Err}
 use Rattle.std.proofs.KnownBytes.{Consumes-trans}
 use Rattle.byte_devices.proofs.whole.read_all.Goals as goal
 
--- what holds in any case
+-- A property that holds anyway holds after an error.
 in_any_case : {X E P : Type 0} (r : Result X E) → P → OnErr r P
 in_any_case (Ok x) p = tt
 in_any_case (Err e) p = p

@@ -8,7 +8,7 @@ pub returns-in_default-clause-beginning : goal.returns-in_default-clause-beginni
 returns-in_default-clause-beginning g c =
     (take c.loop-done.done c.args.text.now, drop c.loop-done.done c.args.text.now, sym (take-append-drop c.loop-done.done c.args.text.now), Appends-kept _ _ _ _ c.loop-done.invariant.front c.in_default.ensures.bytes)
 
--- One more write, into what was left.
+-- One more write appends the next part of the text.
 grown : (a b d : Option (List ℕ)) (text : List ℕ) (done n rest : ℕ) → n ≤ rest → Appends a b (take done text) → Appends b d (take n (take rest (drop done text))) → Appends a d (take (done + n) text)
 grown a b d text done n rest fits p q =
     let e : take n (take rest (drop done text)) ≡ take n (drop done text) = grind (arith, common_steps) in

@@ -4,6 +4,6 @@ use Rattle.cargo_documents.specs.Fields.{all_texts}
 use Rattle.cargo_documents.proofs.Texts.{after}
 use Rattle.cargo_documents.proofs.fields.texts_of.Given as goal
 
--- The texts so far and those of the items to come are the texts of all items.
+-- The texts so far, then the texts of the items to come, are the texts of all items.
 abbrev pub invariant-loop-item : goal.invariant-loop-item
 invariant-loop-item l = all_texts (items_view l.items.items) ≡ after (map (λ s. s.now) l.texts.items) (all_texts (items_view (drop l.item-index l.item-items)))

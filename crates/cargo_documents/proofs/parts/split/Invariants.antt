@@ -6,7 +6,7 @@ use Rattle.json.specs.Value.{value_view, members_view}
 use Rattle.cargo_documents.specs.Faults.{Text}
 use Rattle.cargo_documents.proofs.parts.split.Given as goal
 
--- what was taken, or else is left to take; and the other fields, of which those behind stand in reverse
+-- the packages found so far, or still to be found, and the other fields; those kept so far are in reverse
 abbrev pub invariant-fields : goal.invariant-fields
 invariant-fields l = record {
   taken : later_or (option_map value_view l.packages) (get_member (codes "packages") (members_view l.fields.items)) ≡ get_member (codes "packages") (members_view l.fn.fields.items);

@@ -12,7 +12,7 @@ decreases-read_items l = 2 * l.depth + 1
 abbrev pub decreases-read_members : goal.decreases-read_members
 decreases-read_members l = 2 * l.depth + 1
 
--- the items so far and those to come are all items, in so many turns
+-- the items so far, then the items to come, are all items, in the remaining turns
 abbrev pub invariant-read_items-items : goal.invariant-read_items-items
 invariant-read_items-items l =
     (n : ℕ) × (length l.reader ≤ n) × (items (value l.depth) (length l.initial.reader) l.initial.reader ≡ parse_map (items_before l.found.items) (items (value l.depth) n l.reader))

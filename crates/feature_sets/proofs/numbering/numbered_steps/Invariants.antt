@@ -5,7 +5,7 @@ use Rattle.feature_sets.specs.Views.{graph_of}
 use Rattle.feature_sets.specs.inner.Numbered.{AreNumbered}
 use Rattle.feature_sets.proofs.numbering.numbered_steps.Given as goal
 
--- what was read is numbered, and in one way
+-- the steps read so far are numbered, in only one way
 abbrev pub invariant-loop-id : goal.invariant-loop-id
 invariant-loop-id l = record {
   numbered : AreNumbered (graph_of l.graph) (take l.id-index (map step_name l.fn.told)) l.steps.items;

@@ -7,7 +7,7 @@ use Rattle.guppy_packages.specs.Tables.{has_feature}
 use Rattle.guppy_packages.proofs.Lists.{list_any-map}
 use Rattle.guppy_packages.proofs.from_rows.push_feature.Goals as goal
 
--- whether a key was there, by whether it was added
+-- whether a key was present, by whether it was added
 was_there : (there added : Bool) → added ≡ not there → there ≡ not added
 was_there true added h = ap not (sym h)
 was_there false added h = ap not (sym h)

@@ -7,7 +7,7 @@ use Rattle.guppy_packages.specs.Rows.{Text}
 use Rattle.guppy_packages.proofs.Lists.{list_any-map}
 use Rattle.guppy_packages.proofs.from_rows.push_name.Goals as goal
 
--- the texts of the names, where one more was added or not
+-- the texts of the names, with or without one more
 texts_if : {X : Type 0} (f : X → Text) (b : Bool) (names : List X) (name : X) (text : Text) → f name ≡ text → (if b then map f names else map f names ++ text ∷ []) ≡ map f (if b then names else names ++ name ∷ [])
 texts_if f true names name text h = refl
 texts_if f false names name text h = ap (λ t. map f names ++ t ∷ []) (sym h) ∙ sym (map-append f names (name ∷ []))

@@ -4,7 +4,7 @@ use Rattle.guppy_packages.specs.Stored.{link_tables, package_tables}
 use Rattle.guppy_packages.specs.inner.Noted.{AreNoted}
 use Rattle.guppy_packages.proofs.from_rows.take_links.Given as goal
 
--- the links so far are those of the rows so far, none of which has a fault
+-- the links so far are those of the rows so far, which have no fault
 abbrev pub invariant-loop-row : goal.invariant-loop-row
 invariant-loop-row g l =
     let rows = g.S.RowSource.rows l.source in

@@ -3,7 +3,7 @@ use Rattle.guppy_packages.specs.Graph.{faults_by, packages_of, row_fault}
 use Rattle.guppy_packages.specs.Stored.{package_tables}
 use Rattle.guppy_packages.proofs.from_rows.take_packages.Given as goal
 
--- the packages so far are those of the rows so far, none of which has a fault
+-- the packages so far are those of the rows so far, which have no fault
 abbrev pub invariant-loop-row : goal.invariant-loop-row
 invariant-loop-row g l =
     let rows = g.S.RowSource.rows l.source in

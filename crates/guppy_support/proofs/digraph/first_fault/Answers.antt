@@ -24,7 +24,7 @@ returns-then-edge-nodes-clause-some c =
       | then-edge-nodes-via-else-edge-nodes+then-edge-nodes-2 w ↦ omega (arith, to, j.to, w.if-edge-nodes-2.true)
     ])
 
--- the ends are nodes, where neither test held
+-- Both ends are nodes if neither test holds.
 ends : (n : ℕ) (es : List Edge) (k : ℕ) → k < length es → (get_or es k no_edge).from < n → (get_or es k no_edge).to < n → JoinsNodes n es k
 ends n es k l f t = record { from = omega (arith, source_read es k no_edge l); to = omega (arith, target_read es k no_edge l) }
 

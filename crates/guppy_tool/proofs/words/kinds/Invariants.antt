@@ -9,7 +9,7 @@ use Rattle.row_files.specs.FirstFault.{each_or}
 use Rattle.row_files.specs.FirstFaultLaws.{with_front}
 use Rattle.guppy_tool.proofs.words.kinds.Given as goal
 
--- The kinds so far, before those of the parts to come, are the kinds of the word.
+-- The kinds so far, then the kinds of the parts to come, are the kinds of the word.
 abbrev pub invariant-loop-part : goal.invariant-loop-part
 invariant-loop-part l =
     (parts : List Text)

@@ -3,7 +3,7 @@ use Rattle.order_views.specs.Cycles.{cyclic_components}
 use Rattle.order_views.specs.inner.Cursors.{cyclic_below}
 use Rattle.order_views.proofs.cycles.cyclic_components.Given as goal
 
--- those that are listed, and those to come
+-- The components listed so far, and the remaining ones, are the whole list.
 abbrev pub invariant-loop-component : goal.invariant-loop-component
 invariant-loop-component l = record {
   within : l.component ≤ l.order.count;

@@ -5,7 +5,7 @@ use Rattle.guppy_support.specs.Bits.{has}
 use Rattle.order_views.specs.Cycles.{nodes_of, has_loop}
 use Rattle.order_views.proofs.cycles.looped_components.Given as goal
 
--- the components that are noted, and those that the edges to come will note
+-- The components found so far, and those of the remaining edges, are all.
 abbrev pub invariant-loop-number : goal.invariant-loop-number
 invariant-loop-number l = record {
   size : length l.looped ≡ l.order.count;

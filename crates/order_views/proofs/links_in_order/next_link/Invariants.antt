@@ -3,7 +3,7 @@ use Rattle.order_views.specs.Views.{starting}
 use Rattle.order_views.specs.inner.Cursors.{links_after}
 use Rattle.order_views.proofs.links_in_order.next_link.Given as goal
 
--- no link stands between
+-- No link is between `from` and `place`.
 abbrev pub invariant-loop-edge : goal.invariant-loop-edge
 invariant-loop-edge l = links_after l.reading l.digraph.edges l.members l.node l.from ≡ links_after l.reading l.digraph.edges l.members l.node l.place
 

@@ -5,7 +5,7 @@ use Rattle.guppy_support.specs.Bits.{has}
 use Rattle.order_views.specs.Views.{leaves, links_in_order}
 use Rattle.order_views.proofs.root_nodes.left_components.Given as goal
 
--- the components that are noted, and those that the links to come leave
+-- The components found so far, and those that the remaining links leave, are all.
 abbrev pub invariant-loop-edge : goal.invariant-loop-edge
 invariant-loop-edge l = record {
   size : length l.left ≡ l.order.count;

@@ -3,7 +3,7 @@ use Rattle.std.specs.Prelude.{filter}
 use Rattle.order_views.specs.Views.{is_root, roots_in_order}
 use Rattle.order_views.proofs.root_nodes.roots.Given as goal
 
--- the roots so far, and those to come
+-- The roots so far, and those of the remaining members, are the whole list.
 abbrev pub invariant-loop-node : goal.invariant-loop-node
 invariant-loop-node l = record {
   within : All (λ v. v < length l.order.list) l.node-iterator;

@@ -4,7 +4,7 @@ use Rattle.platform_specs.specs.LineReading.{lines_behind}
 use Rattle.platform_specs.proofs.Lines.{LinesRead, size_left}
 use Rattle.platform_specs.proofs.target_cfg.facts_in.Given as goal
 
--- the facts of the lines so far, of which there are at most as many as bytes
+-- the facts of the lines so far; there are at most as many lines as bytes
 abbrev pub invariant-lines : goal.invariant-lines
 invariant-lines l = record {
   read : LinesRead (lines_of l.text) (lines_behind l.rest) l.number l.facts.items;

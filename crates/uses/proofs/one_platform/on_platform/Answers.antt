@@ -8,7 +8,7 @@ use Rattle.uses.specs.declared.one_platform.OnePlatform.{OnePlatform}
 use Rattle.uses.proofs.Tests.{answers_by}
 use Rattle.uses.proofs.one_platform.on_platform.Goals as goal
 
--- The visitor stays as it is, so each answer is the test of the link.
+-- The visitor doesn't change, so each answer is the test of the link.
 pub returns : goal.returns
 returns c =
     let platform = c.args.platform in

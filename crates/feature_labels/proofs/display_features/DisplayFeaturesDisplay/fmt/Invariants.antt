@@ -1,4 +1,4 @@
--- After the first label, `, ` and a label for each label that was passed.
+-- The text written is `, ` and a label, for each label passed after the first.
 use Rattle.std.proofs.Common.{flat_map, take, codes, ◌++◌}
 use Rattle.std.specs.Fmt.{HasWritten, IsPlainFormatter}
 use Rattle.feature_labels.specs.Names.{label_of, label_text}

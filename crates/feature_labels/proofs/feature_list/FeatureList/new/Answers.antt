@@ -2,7 +2,7 @@ use Rattle.std.proofs.Common.{◌≡◌, rules}
 use Rattle.feature_labels.proofs.Made.{IsKept, kept_labels}
 use Rattle.feature_labels.proofs.feature_list.FeatureList.new.Goals as goal
 
--- The vector has the given labels, so what is kept of it is kept of them.
+-- the vector contains the given labels, so the kept ones are those of `labels`
 kept : (c : goal.After-dedup) → IsKept c.args.labels.now c.dedup.new.self.items
 kept c =
     let copied : c.in_ok-labels.labels.items ≡ c.args.labels.now = search rules in

@@ -5,7 +5,7 @@ use Rattle.guppy_packages.specs.Rows.{Text}
 use Rattle.guppy_packages.specs.Stored.{declared}
 use Rattle.feature_links.proofs.link.from_declarations.link_over_one.Goals as goal
 
--- what has no spec is every platform
+-- a declaration without a spec applies on all platforms
 everywhere : (p : Option Text) → None ≡ option_map (λ (spec : Text). spec ∷ []) p → p ≡ None
 everywhere None e = refl
 everywhere (Some t) e = cc

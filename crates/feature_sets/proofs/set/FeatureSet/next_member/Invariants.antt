@@ -1,4 +1,4 @@
--- Each turn passes over a package without a member, so those with one stay the same.
+-- Each turn skips a package without a member, so the remaining packages with a member stay the same.
 use Rattle.std.proofs.Common.{◌≡◌, ◌<◌, length, All}
 use Rattle.feature_sets.specs.PackageViews.{with_members}
 use Rattle.feature_sets.proofs.set.FeatureSet.next_member.Given as goal

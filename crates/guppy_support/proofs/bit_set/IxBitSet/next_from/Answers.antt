@@ -5,7 +5,7 @@ use Rattle.guppy_support.specs.inner.Words.{AreWords, bits_of, word_bit}
 use Rattle.guppy_support.proofs.BitLemmas.{size_is, IsNext, next_in_first, next_in_later, none_in_first, none_in_later, next_none}
 use Rattle.guppy_support.proofs.bit_set.IxBitSet.next_from.Goals as goal
 
--- the number in the first word, where the code finds one
+-- If the shifted first word isn't 0, the code finds the next member in it.
 in_first : (n : ℕ) (words : List ℕ) (now : List Bool) (from read : ℕ) → AreWords n words → bits_of n words ≡ now → from ≤ length now → read ≡ get_or words (from / 64) read → read < 2 ^ 64 → (read / 2 ^ (from % 64) ≡ 0 → ⊥) → (from % 64 + trailing_zeros w64 (read / 2 ^ (from % 64)) < 64) × IsNext now from (from + trailing_zeros w64 (read / 2 ^ (from % 64)))
 in_first n words now from read a e le is fits some =
     let size = size_is n words now e in
@@ -13,7 +13,7 @@ in_first n words now from read a e le is fits some =
     let read_is : read ≡ get_or words (from / 64) 0 = get_or_read words (from / 64) read inside is 0 in
     next_in_first n words now from (read / 2 ^ (from % 64)) a e (rw read_is at fits) (ap (λ (x : ℕ). x / 2 ^ (from % 64)) read_is) (omega arith)
 
--- the number in a later word
+-- If the first nonzero word is a later one, the code finds the next member in it.
 in_later : (n : ℕ) (words : List ℕ) (now : List Bool) (from place read : ℕ) → AreWords n words → bits_of n words ≡ now → place < length words → read ≡ get_or words place read → read < 2 ^ 64 → from / 64 < place → ((j : ℕ) → from ≤ j → j < place * 64 → word_bit words j ≡ 0) → (read ≡ 0 → ⊥) → (trailing_zeros w64 read < 64) × IsNext now from (place * 64 + trailing_zeros w64 read)
 in_later n words now from place read a e inside is fits after none some =
     let read_is : read ≡ get_or words place 0 = get_or_read words place read inside is 0 in

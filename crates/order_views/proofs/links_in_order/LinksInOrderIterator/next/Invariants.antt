@@ -11,6 +11,6 @@ invariant-loop-self l = record {
   left : links_left l.self-inside.reading l.self-inside.digraph.now.edges l.self-inside.members.now l.self-inside.start l.self-inside.passed l.self-inside.nodes ≡ l.fn.self;
 }
 
--- the node at hand and those after it
+-- The number of nodes from the current one on decreases.
 abbrev pub decreases-loop-self : goal.decreases-loop-self
 decreases-loop-self l = length (option_to_list l.self-inside.start) + length l.self-inside.nodes

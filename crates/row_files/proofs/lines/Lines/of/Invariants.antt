@@ -7,7 +7,8 @@ use Rattle.row_files.specs.RowFile.{lines_of}
 use Rattle.row_files.proofs.CutLemmas.{cut, keep, onto}
 use Rattle.row_files.proofs.lines.Lines.of.Given as goal
 
--- The lines so far, and those of the rest of the text with the fields so far in front, are the lines of the text.
+-- The lines so far, and those of the rest of the text with the fields so far prepended, are all
+-- lines.
 abbrev pub invariant-loop-end : goal.invariant-loop-end
 invariant-loop-end l =
     (l.end-iterator ≡ places_between (is_byte2 9 10) l.text l.start (length l.text))

@@ -13,7 +13,7 @@ use Rattle.walk_engine.proofs.WalkMoves.{free_weak}
 use Rattle.walk_engine.proofs.WalkLoops.{extends_asks, extends_refl, gated_weak}
 use Rattle.walk_engine.proofs.walks.progress.release_one.Goals as goal
 
--- what was seen, by its parts
+-- A gated ask has an optional half.
 has_optional : (ask : Ask) → IsTrue (is_gated ask) → IsTrue (has_half ask Optional)
 has_optional ask q = let w = gated_weak ask q in subst (λ (a : Ask). IsTrue (has_half a Optional)) (sym w.1) refl
 

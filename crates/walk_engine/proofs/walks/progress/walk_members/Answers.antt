@@ -14,7 +14,7 @@ use Rattle.walk_engine.proofs.walks.progress.walk_members.Goals as goal
 sum_up : (start before used mid a after b used' : ℕ) → before ≡ start + used → mid ≡ before + a → after ≡ mid + b → used' ≡ used + a + b → after ≡ start + used'
 sum_up start before used mid a after b used' p q r t = omega arith
 
--- the node that is read is the next of the list
+-- The node that is read is the next of the list.
 next_listed : (found : Found) (next len node : ℕ) → next < len → len ≡ vec_len found.order → node ≡ slice_index_or found.order.items next node → slice_get (findings found).order next ≡ Some node
 next_listed found next len node h l q = slice_get_read found.order.items (length found.order.items) next node refl (omega (arith, found.order.ok.0)) q
 

@@ -1,4 +1,4 @@
--- Each turn passes over a label that is no optional dependency, so the names to come stay the same.
+-- Each iteration skips a label that is no optional dependency, so the remaining names are unchanged.
 use Rattle.std.proofs.Common.{◌≡◌, length, map}
 use Rattle.std.specs.List.{filter_map}
 use Rattle.feature_labels.specs.Names.{label_of}

@@ -1,4 +1,4 @@
--- Each turn passes over an edge that isn't conditional, so the links to come stay the same.
+-- Each turn skips an unconditional edge, so the remaining links stay the same.
 use Rattle.std.proofs.Common.{◌≡◌, ◌<◌, length, All}
 use Rattle.feature_sets.specs.Ordered.{full_links}
 use Rattle.feature_sets.specs.Views.{built_of, graph_of}
