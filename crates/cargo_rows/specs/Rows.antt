@@ -5,13 +5,14 @@ use Rattle.std.specs.Option.{unwrap_or}
 use Rattle.std.specs.Str.{bytes_eq}
 use Rattle.std.specs.Char.{is_ascii_control}
 use Rattle.json.specs.Json.{Json}
-use Rattle.cargo_rows.specs.declared.packages.Kind.{Kind}
-use Rattle.cargo_rows.specs.declared.packages.Kind.TheVariants as kind
+use Rattle.cargo_workspaces.specs.declared.package.Kind.{Kind}
+use Rattle.cargo_workspaces.specs.declared.package.Kind.TheVariants as kind
 use Rattle.cargo_documents.specs.Faults.{Text, Refusal, control, ◌>>=◌}
-use Rattle.cargo_rows.specs.Lists.{joined, ById, at_id}
-use Rattle.cargo_rows.specs.Packages.{FeatureText, PackageText, packages_in}
-use Rattle.cargo_rows.specs.Nodes.{DepText, NodeText, no_node, resolved_in}
-use Rattle.cargo_rows.specs.Dependencies.{DependencyText, name_of, dependencies_of, agree}
+use Rattle.workspace_documents.specs.Lists.{joined, ById, at_id}
+use Rattle.cargo_workspaces.specs.Workspaces.{FeatureText}
+use Rattle.workspace_documents.specs.Packages.{PackageText, packages_in}
+use Rattle.workspace_documents.specs.Nodes.{DepText, NodeText, no_node, resolved_in}
+use Rattle.workspace_documents.specs.Dependencies.{DependencyText, name_of, dependencies_of, agree}
 
 -- whether a text has a control character, so that it can't stand in a row
 abbrev pub has_control : Text → Bool
@@ -43,7 +44,7 @@ member_word false = codes "external"
 abbrev pub kind_word : Kind → Text
 kind_word kind.Normal = codes "normal"
 kind_word kind.Build = codes "build"
-kind_word kind.Dev = codes "dev"
+kind_word kind.Development = codes "dev"
 
 abbrev pub need_word : Bool → Text
 need_word true = codes "optional"
@@ -88,10 +89,6 @@ package_rows is_member deps p =
     feature_rows p.features >>= λ features.
     led_rows deps p >>= λ dependencies.
     Ok ((first ++ features) ++ dependencies)
-
--- the node of the package with this id
-abbrev pub node_of : Text → ById NodeText → NodeText
-node_of id nodes = unwrap_or (at_id id nodes) no_node
 
 -- the rows of each package
 abbrev pub all_rows : List Text → ById NodeText → ById PackageText → Result Text Refusal

@@ -1,3 +1,2 @@
 -- What private functions alone speak of: the texts that their types hold.
 pub mod Views
-pub mod Picks

@@ -3,16 +3,20 @@ ghost use Rattle.std.specs.Prelude.{◌≡◌, ◌++◌, List, IfOk, OnOk, map, 
 ghost use Rattle.std.specs.List.{list_any};
 ghost use Rattle.std.specs.Str.{bytes_eq};
 ghost use Rattle.cargo_documents.specs.Faults.{Text};
-ghost use Rattle.cargo_rows.specs.Nodes.{no_node};
+ghost use Rattle.workspace_documents.specs.Nodes.{no_node};
 ghost use Rattle.cargo_rows.specs.Warnings as spec;
-ghost use Rattle.cargo_rows.specs.inner.Views.{HasTexts, text_view, declaration_view, feature_view, node_view, package_view, entries_view};
+ghost use Rattle.cargo_workspaces.specs.Views.{feature_text};
+ghost use Rattle.workspace_documents.specs.Views.{text_view, declaration_view, node_view, package_view, entries_view};
+ghost use Rattle.cargo_rows.specs.inner.Views.{HasTexts};
 
-use crate::dependencies::{Found, choice, name_of};
-use crate::nodes::{Node, Nodes, node_at, set_of};
-use crate::packages::{Declaration, Feature, Package, Packages};
+use crate::sets::set_of;
+use cargo_workspaces::Feature;
 use std::alloc::{AllocError, Global};
 use std::collections::BTreeSet;
 use std::fmt;
+use workspace_documents::{
+    Declaration, Found, Node, Nodes, Package, Packages, choice, name_of, node_at,
+};
 
 /// A declaration of a workspace package that leads to no package. `Display` prints the line for standard error.
 #[derive(Debug, Drop)]
@@ -71,7 +75,7 @@ fn names(name: &str, item: &str) -> bool
 
 /// Returns whether an item of `feature` names the dependency `name`.
 fn feature_names(name: &str, feature: &Feature<'_>) -> bool
-    ensures { result ≡ spec.feature_names name.now (feature_view feature.now) }
+    ensures { result ≡ spec.feature_names name.now (feature_text feature.now) }
 {
     for item in &feature.items {
         if names(name, item) {
@@ -83,7 +87,7 @@ fn feature_names(name: &str, feature: &Feature<'_>) -> bool
 
 /// Returns whether an item of one of `features` names the dependency `name`.
 fn is_named(name: &str, features: &[Feature<'_>]) -> bool
-    ensures { result ≡ spec.is_named name.now (map feature_view features.now) }
+    ensures { result ≡ spec.is_named name.now (map feature_text features.now) }
 {
     for feature in features {
         if feature_names(name, feature) {
@@ -107,7 +111,7 @@ fn is_among(text: &str, texts: &[&str]) -> bool
 
 /// Returns whether an enabled feature, one whose name is in `on`, has an item that names the dependency `name`.
 fn is_turned_on(on: &[&str], name: &str, features: &[Feature<'_>]) -> bool
-    ensures { result ≡ spec.is_turned_on (map text_view on.now) name.now (map feature_view features.now) }
+    ensures { result ≡ spec.is_turned_on (map text_view on.now) name.now (map feature_text features.now) }
 {
     for feature in features {
         if feature_names(name, feature) && is_among(feature.name, on) {
