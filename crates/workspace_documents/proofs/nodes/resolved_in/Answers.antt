@@ -4,7 +4,7 @@ use Rattle.workspace_documents.proofs.nodes.resolved_in.Goals as goal
 
 pub returns-in_err-members : goal.returns-in_err-members
 returns-in_err-members c =
-    let p = err_from_is_err_and c.from_residual-in_err-members.result c.from_residual-in_err-members.ensures.1 in
+    let p = err_from_is_err_and c.from_residual.result c.from_residual.ensures.1 in
     rw (p.1, p.2) (no_members _ _ _ c.in_err-members.ensures)
 
 pub returns-in_err-nodes : goal.returns-in_err-nodes
