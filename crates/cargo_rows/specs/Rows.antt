@@ -1,17 +1,16 @@
 -- The rows of a document.
 use Rattle.std.specs.Prelude.{◌||◌, ◌++◌, List, [], ◌∷◌, flat_map, codes, Option, Some, None, Bool, true, false, Result, Ok, Err, if◌then◌else◌, ⊤}
 use Rattle.std.specs.List.{list_any}
-use Rattle.std.specs.Option.{unwrap_or}
 use Rattle.std.specs.Str.{bytes_eq}
 use Rattle.std.specs.Char.{is_ascii_control}
 use Rattle.json.specs.Json.{Json}
 use Rattle.cargo_workspaces.specs.declared.package.Kind.{Kind}
 use Rattle.cargo_workspaces.specs.declared.package.Kind.TheVariants as kind
 use Rattle.cargo_documents.specs.Faults.{Text, Refusal, control, ◌>>=◌}
-use Rattle.workspace_documents.specs.Lists.{joined, ById, at_id}
+use Rattle.workspace_documents.specs.Lists.{joined, ById}
 use Rattle.cargo_workspaces.specs.Workspaces.{FeatureText}
 use Rattle.workspace_documents.specs.Packages.{PackageText, packages_in}
-use Rattle.workspace_documents.specs.Nodes.{DepText, NodeText, no_node, resolved_in}
+use Rattle.workspace_documents.specs.Nodes.{DepText, NodeText, node_of, resolved_in}
 use Rattle.workspace_documents.specs.Dependencies.{DependencyText, name_of, dependencies_of, agree}
 
 -- whether a text has a control character, so that it can't stand in a row
