@@ -1,12 +1,12 @@
-# What ./features and ./rows share. Each sets `top`, the repository's folder, and calls `launch`.
+# Functions for ./features and ./rows. Each sets `top`, the repository's folder, and calls `launch`.
 #
-# A program that ./build proved and built is run. Where there is none, or where a source file is newer than it, the answer comes from `rt try`:
-# the same program with checks while it runs in place of proofs. What it prints, its faults and its exit status are the same.
+# `launch` runs the program that ./build proved and built. If there is none, or a source file is newer than it, `launch` runs the
+# same program by `rt try`, with checks at run time in place of proofs. Its output, faults and exit status are the same.
 
-# The exit status where no answer can be given: `rt` is missing, or a limit of `rt try` is met.
+# The exit status if the program can't be run to its end: `rt` is missing, or a limit of `rt try` is met.
 NO_ANSWER=70
 
-# Prints the crates on which a crate of the repository stands, and the crate itself.
+# Prints a crate of the repository and those on which it depends.
 crates_of() {
   awk -v name="$1" '
     /^#/ { next }
@@ -22,7 +22,7 @@ crates_of() {
   ' "$top/crates.txt"
 }
 
-# Prints why the proved program of a crate can't be run, or nothing where it can.
+# Prints why the proved program of a crate can't be run, or nothing if it can.
 why_not_current() {
   local name=$1 program=$top/crates/$1/out/$1 crate file
   if [ ! -x "$program" ]; then
@@ -42,20 +42,21 @@ why_not_current() {
   done
 }
 
-# Says on standard error why there is no answer, and ends.
+# Prints on standard error why there is no output, and exits.
 no_answer() {
   echo "$1: $2" >&2
   exit "$NO_ANSWER"
 }
 
-# Answers by `rt try`. The arguments are the program's crate and its words, the first of which names the input: a file, or - for standard input.
+# Runs a program by `rt try`. The arguments are its crate and its own arguments; the first of those is the input, a file or - for
+# standard input.
 try_unproved() {
   local name=$1 input=$2 given=() status=0 last
   shift 2
   command -v rt >/dev/null || no_answer "$name" "the command rt of the kit is not in PATH"
   room=$(mktemp -d)
   trap 'rm -rf -- "$room"' EXIT
-  # The program runs in a folder of its own, so its input is copied there. Input that can't be read stays a name without a file.
+  # The program runs in a folder of its own, so its input is copied there. If it can't be read, the name has no file there.
   if [ "$input" = - ]; then
     cat >"$room/input" 2>/dev/null && given=(--data "input=$room/input")
   elif [ -n "$input" ]; then
@@ -67,7 +68,7 @@ try_unproved() {
     "run=ended status=$status "*) ;;
     *) no_answer "$name" "the unproved build met a limit of rt try ($(limit_of "$room/faults")); ./build makes the proved program, which has none" ;;
   esac
-  # The last two lines are those of rt try.
+  # The last two lines are from rt try.
   head -n -2 -- "$room/faults" >&2
   if [ -s "$room/output" ] && ! cat -- "$room/output" 2>/dev/null; then
     echo "cannot write" >&2
@@ -76,12 +77,13 @@ try_unproved() {
   exit "$status"
 }
 
-# Prints in short which limit of rt try was met: the last line of what it said that isn't empty.
+# Prints the limit of rt try that was met, in short: the last line of its output that isn't empty.
 limit_of() {
   grep -v '^$' -- "$1" | tail -n 1 | cut -c 1-200
 }
 
-# Runs a program on its words: its crate, how many words it needs to read its input, and the words.
+# Runs a program. The arguments are its crate, the number of arguments without which it doesn't read its input, and its own
+# arguments.
 launch() {
   local name=$1 needs=$2 why
   shift 2
@@ -91,7 +93,7 @@ launch() {
   fi
   echo "$name: $why: this answer comes from a build that is checked while it runs and is not proved; ./build proves it, in some 70 processor minutes" >&2
   if ! printf '%s\n' "$@" | iconv -f UTF-8 -t UTF-8 >/dev/null 2>&1; then
-    # rt try takes no words that aren't UTF-8. The programs refuse these as they refuse two unknown words.
+    # rt try accepts only arguments in UTF-8. The programs refuse others as they refuse two unknown arguments.
     try_unproved "$name" "" bad words
   elif [ $# -lt "$needs" ]; then
     try_unproved "$name" "" "$@"

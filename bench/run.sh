@@ -1,10 +1,10 @@
 #!/usr/bin/env bash
-# bench/run.sh FILE...: times the built program on row files, the smallest first, and prints a line for each:
-# the file, its lines, the least wall time of three runs in milliseconds, the peak of memory in kilobytes, and the ratios
+# bench/run.sh FILE...: times the built program on row files, which are given from the smallest to the largest. It prints a line
+# for each: the file, its lines, the least wall time of three runs in milliseconds, the peak memory in kilobytes, and the ratios
 # of lines, time and memory to those of the file before.
 #
-# A run is `resolve forward` from the base of the file's first package; ID='a/b' in the environment takes another
-# feature. RUNS is the number of runs.
+# A run is `resolve forward` from the base of the file's first package. In the environment, ID='a/b' is another feature to start
+# from, and RUNS another number of runs.
 set -eu
 
 top=$(cd -P -- "$(dirname -- "${BASH_SOURCE[0]}")/.." && pwd)
@@ -20,12 +20,12 @@ if [ ! -x "$program" ]; then
   exit 1
 fi
 
-# Prints the id of the file's first package, with its base.
+# Prints the id of the base of the file's first package.
 first_base() {
   awk -F '\t' '$1 == "package" { print $2 "/[base]"; exit }' "$1"
 }
 
-# Runs the program once. Prints the milliseconds, and the peak of memory in kilobytes, or 0 without GNU time.
+# Runs the program once. Prints the milliseconds and the peak memory in kilobytes, which is 0 without GNU time.
 once() {
   local begun ended memory=0 told
   told=$(mktemp)

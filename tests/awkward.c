@@ -1,9 +1,9 @@
-/* Loaded before the C library (LD_PRELOAD): a standard input that gives little and a standard output that takes little, that are
-   interrupted, and that fail. In the environment, each for reads as READ_.. and for writes as WRITE_..:
-   MOST         how many bytes a call gives or takes at the most
-   INTERRUPTED  how many calls are interrupted first
-   FAILS        the number of the call that fails, from 0; those after it fail too, unless ONCE is there
-   COUNTS names a file for how many calls were made, of reads and of writes. */
+/* Loaded before the C library (LD_PRELOAD): makes standard input and output transfer few bytes, be interrupted, or fail. These
+   variables of the environment begin with READ_ for reads and with WRITE_ for writes:
+   MOST         the largest number of bytes that a call transfers
+   INTERRUPTED  the number of first calls that are interrupted
+   FAILS        the number of the call that fails, from 0; all later ones fail too, unless ONCE is set
+   COUNTS names a file, to which the numbers of reads and of writes are written at the end. */
 #define _GNU_SOURCE
 #include <errno.h>
 #include <stdio.h>
@@ -24,7 +24,7 @@ static unsigned long number(const char *name, unsigned long otherwise) {
   return text == 0 ? otherwise : strtoul(text, 0, 10);
 }
 
-/* How many of so many bytes the next call is for, or -1 where it doesn't go well. */
+/* Returns how many of `size` bytes the next call transfers, or -1 if it is interrupted or fails. */
 static ssize_t begun(struct device *it, size_t size) {
   unsigned long call = it->calls++;
   unsigned long fails = number(it->fails, -1ul);

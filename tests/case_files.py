@@ -1,50 +1,60 @@
-"""Files of cases: what they hold, and what a run of a program over a case prints.
+"""Reads files of cases, and checks the output of a program's run over a case.
 
-A file of cases has, line by line:
+A file of cases has these lines:
 
     # ..               a comment
-    program NAME       the program of the cases below is that of the crate NAME; before such a line it is `features`
-    rows               begins a row file: the lines that follow, as they stand, up to the line 'end'. It is the input of
-                       the cases below, up to the next such block
+    program NAME       the cases below run the program of the crate NAME; before such a line they run `features`
+    rows               begins a row file: the lines that follow, unchanged, up to the line 'end'. It is the input of the
+                       cases below, up to the next such block
     rows escaped       the same, but the lines are joined without line feeds, and \\n, \\r, \\t, \\0, \\\\ and \\xNN stand for
                        bytes
-    rows of PATH       the row file is the file of this path, from the top of the repository
-    rows chain N       one package with features from 0 to N, each of which but the last has the next one as its item
-    $ WORDS            begins a case: the words after the program's name, as in a shell, with the escapes of above. The
-                       word FILE stands for the row file: the case runs twice, with the file's path, and with '-' and the
-                       file as standard input
+    rows of PATH       the row file is the file PATH, from the top of the repository
+    rows chain N       one package with the features 0 to N; each except the last has the next one as its item
+    $ WORDS            begins a case: the program's arguments, as in a shell, with the escapes from above. The word FILE is
+                       the row file: the case runs twice, with the file's path, and with '-' and the file as standard
+                       input
     with WHAT          closed stdin, empty stdin, closed stdout, or full stdout
-    > LINE             a line that must be printed, in order; none: nothing is printed
-    > of PATH          (as the only one) what must be printed is the file of this path
-    !N LINE            what must stand on standard error, and the exit status N; else nothing and 0. Several such lines are all
-                       printed there, in order
-    !N                 the exit status N, and whatever stands on standard error
-    steps NODES        (of `build`) what is printed explains these nodes, with spaces between, in steps that judge_build.py finds
-                       right, whichever they are
+    > LINE             a line that must be printed, in order. Without such lines nothing may be printed
+    > of PATH          (as the only one) the output must be the contents of the file PATH
+    !N LINE            a line on standard error, in order, and the exit status N. Without such lines standard error must be
+                       empty and the status 0
+    !N                 the exit status N; standard error isn't compared
+    steps NODES        (of `build`) the output explains these nodes, which are separated by spaces. Any steps are right that
+                       judge_build.py accepts
 
-For a program of calls (surface_calls, layer_calls, graph_calls, explained_calls) the word FILE stands for the path alone, and LAST for that of the
-row file before. Such a case has also:
+In a program of calls (surface_calls, layer_calls, graph_calls, platform_calls) the word FILE is the path alone, and LAST is the path of the
+row file before. Such a case also has these lines:
 
-    < CALL             a line of standard input, which the program repeats. The word FORM in it stands for each of the four
-                       forms of visitors and filters, and BY, EDGES, OVER and ANY for each of the words below: the case runs as
-                       often, and must print the same
-    or                 other lines may be printed after the last call, in place of those above: they follow
-    each DIRECTION     (of graph_calls and explained_calls, with no other call) walks in this direction from each two nodes, by
+    < CALL             a line of standard input, which the program repeats. The word FORM in it is replaced by each of the
+                       four forms of visitors and filters, and BY, EDGES, OVER and ANY by each of the words below. The case
+                       runs once for each, and must print the same
+    or                 begins other lines that may be printed after the last call, in place of those above
+    each DIRECTION     (of graph_calls and surface_calls, with no other call) walks in this direction from each two nodes, by
                        each of four rules
     answers N DIRECTION NODES
-                       (the same) a walk from these nodes for each set of accepted offers; there are N complete runs of offers
-                       with these answers in all, of which what was offered is one, and all have the result of the walk
+                       (the same) a walk from these nodes for each set of accepted offers. These sets have N complete runs in
+                       all; the walk's offers must be one of them, and all must have the walk's result
     edits DIRECTION IDS
-                       (of explained_calls, with no other call) checks of explanations from these features, and of each small
-                       change of them: a step left out, repeated, in another place, or by another reason; another refused link
+                       (of surface_calls, with no other call) checks explanations from these features, and each small change
+                       of them: a step left out, repeated, moved, or with another reason; another refused link
     platforms DIRECTION SPECS
-                       (the same) what each platform has of these specs, from each two features
+                       (the same) the features on each platform, described by some of these specs, from each two features
 
-Lines that begin with '- ' are what a visitor was asked. Those that stand together may come in any order; in the order in
-which they came they must be a run of offers by the rules (judge.py). What a walk read, and what is printed after a call of
-`each`, `answers`, `edits` and `platforms`, is left to the judge alone; so are, where a case of explained_calls has none of
-them, the lines that begin with `step ` or `refused ` (judge_explained.py). The programs of the names `judge` and
-`judge_build` are judge.py and judge_build.py, whose standard input is the row file.
+A case of platform_calls has a triple as its first word, and a cfg text as its second, FILE or LAST. These lines add calls, with what
+platform_model.py says of them:
+
+    specs of PATH      each spec of this table, whose lines are a spec and the triples for which cargo uses it
+    random N SEED      N random specs, about half of which are damaged
+    changes of SPEC    the spec cut at each character and changed there
+    deep N OPERATOR    N operators in one another
+    specs held         the spec texts of the row file that hold
+    on KINDS: IDS      what is on from these features
+
+Lines that begin with '- ' are the questions to a visitor. Consecutive ones may be printed in any order, but the printed order
+must be a run of offers by the rules (judge.py). Only the judge checks the reads of a walk, and the output of `each`, `answers`,
+`edits` and `platforms`. If a case explains and has no line `step ` or `refused `, only judge_explained.py checks the printed
+lines that begin with these words. The programs `judge` and `judge_build` are judge.py and judge_build.py, whose standard input
+is the row file.
 """
 import codecs
 import glob
@@ -59,15 +69,17 @@ import tempfile
 import judge
 import judge_build
 import judge_explained
+import platform_model
 
 TOP = os.path.dirname(os.path.dirname(os.path.abspath(__file__)))
-# What words of calls stand for.
+# The replacements for words of calls.
 FORMS = {b'FORM': ('generic', 'lent', 'boxed', 'closure'), b'BY': ('generic', 'lent', 'boxed'), b'EDGES': ('edges', 'copies'), b'OVER': ('graph', 'source', 'list'),
          b'ANY': ('graph', 'source', 'list', 'explained')}
 RULES = ('all', 'none', 'alternate', 'first 2')
-# The same rules, by places of calls.
+# The same rules, by the numbers of calls.
 PLACES = ('all', 'none', f'only {0x5555555555555555}', 'only 3')
-# What begins lines of explained_calls that may be left to the judge.
+# The calls that explain or check explanations, and the first words of lines that may be left to the judge.
+EXPLAINED = ('check', 'check-exact', 'platform', 'explain', 'checked', 'shown', 'same')
 STEPS = (b'step ', b'refused ')
 SECONDS = 60
 
@@ -82,12 +94,12 @@ def content(path):
 
 
 def chain(last):
-    """The row file of one package with a long chain of features."""
+    """Returns the row file of one package with the features 0 to `last` in a chain."""
     return ''.join(['package\tp\tworkspace\n', *(f'feature\t{it}\t{it + 1}\n' for it in range(last)), f'feature\t{last}\n']).encode()
 
 
 def program_of(name):
-    """The path of a crate's program; PROGRAM in the environment names another one than that of `features`."""
+    """Returns the path of a crate's program. PROGRAM in the environment replaces that of `features`."""
     if name in ('judge', 'judge_build'):
         return f'{TOP}/tests/{name}.py'
     built = f'{TOP}/crates/{name}/out/{name}'
@@ -98,19 +110,25 @@ class Case:
     def __init__(self, place, program, words, rows, last=b''):
         self.place, self.program, self.words, self.rows, self.last = place, program, words, rows, last
         self.given, self.calls, self.of_file = None, [], None
-        # the lists of lines that may be printed
+        # the alternative lists of lines that may be printed
         self.printed = [[]]
         self.line, self.status = '', 0
-        # whether the judge alone looks at what calls print, and how many complete runs there are
+        # whether only the judge checks the output of calls, and how many complete runs there are
         self.is_judged, self.runs = False, None
-        # the nodes that the steps of `build` list
+        # the nodes that the steps of `build` must list
         self.nodes = None
 
     def has_calls(self):
         return self.program.endswith('_calls')
 
+    def is_explained(self):
+        """Returns whether the case explains or checks explanations."""
+        return self.program == 'surface_calls' and any(call.split(':')[0].split(' ')[0] in EXPLAINED for call in self.calls)
+
     def outs(self):
-        """The texts that may be printed."""
+        """Returns the texts that may be printed: only the empty one if standard output can't be written."""
+        if self.given in ('closed stdout', 'full stdout'):
+            return [b'']
         if self.of_file:
             return [content(self.of_file)]
         return [''.join(f'{line}\n' for line in lines).encode() for lines in self.printed]
@@ -121,11 +139,11 @@ class Case:
             lines.append(f'< {line}')
 
     def add_each(self, direction):
-        """Walks from each two nodes."""
+        """Adds walks from each two nodes."""
         self.is_judged = True
         graph = judge.Graph(self.rows)
         nodes = range(len(graph.nodes))
-        if self.program == 'explained_calls':
+        if self.program == 'surface_calls':
             for rule, node, other in itertools.product(PLACES, map(graph.text, nodes), map(graph.text, nodes)):
                 self.add_call(f'checked {direction} BY {rule}: {node} {other}')
                 self.add_call(f'same {direction} BY {rule}: {node} {other}')
@@ -134,25 +152,61 @@ class Case:
             self.add_call(f'walk ANY {direction} {rule}: {node} {other}')
 
     def add_answers(self, runs, direction, nodes):
-        """A walk for each set of accepted offers."""
+        """Adds a walk for each set of accepted offers."""
         self.is_judged, self.runs = True, int(runs)
         for accepted in judge.answers_of(self.rows, direction):
             self.add_call(f'walk ANY {direction} these {",".join(accepted)}'.rstrip() + f': {nodes}')
 
     def add_judged(self, calls):
-        """Calls that the judge alone looks at."""
+        """Adds calls whose output only the judge checks."""
         self.is_judged = True
         for call in calls:
             self.add_call(call)
 
+    def target(self):
+        """The target of a case of platform_calls."""
+        text = self.rows if self.words[1] == b'FILE' else self.last
+        return platform_model.Target(self.words[0].decode(), text.decode())
+
+    def add_spec(self, spec, answer):
+        self.add_call(f'spec {spec}')
+        self.printed[-1].append(answer)
+
+    def add_platform(self, word, rest):
+        """Calls of platform_calls, with the answers of the model."""
+        target = self.target()
+        if word == 'specs' and rest == 'held':
+            self.add_call('held')
+            self.printed[-1] += judge_build.specs_held(self.rows, target)
+        elif word == 'specs':
+            for spec, triples in platform_model.table_of(f'{TOP}/{rest[3:]}').items():
+                answer = 'true' if target.triple in triples else 'false'
+                self.add_spec(spec, f'{answer} {platform_model.spec_shown(platform_model.parse(spec))}'.rstrip())
+        elif word == 'random':
+            for spec in platform_model.random_specs(*map(int, rest.split())):
+                self.add_spec(spec, target.answer(spec))
+        elif word == 'changes':
+            for spec in platform_model.changes_of(rest[3:]):
+                self.add_spec(spec, target.answer(spec))
+        elif word == 'deep':
+            self.add_deep(*rest.split())
+        else:
+            self.add_call(f'on {rest}')
+            self.printed[-1].append(judge_build.on_for(self.rows, target, *rest.split(': ')))
+
+    def add_deep(self, count, operator):
+        """Operators in one another over a fact that doesn't hold."""
+        spec = f'cfg({f"{operator}(" * int(count)}no_fact{")" * int(count)})'
+        self.add_spec(spec, f'{"true" if operator == "not" and int(count) % 2 else "false"} {spec}')
+
     def add_other(self):
-        """The lines up to the last call may go on otherwise."""
+        """Adds an alternative that begins with the lines up to the last call."""
         lines = self.printed[-1]
         last = max(place for place, line in enumerate(lines) if line.startswith('< '))
         self.printed.append(lines[:last + 1])
 
     def takes(self, line):
-        """Adds a line that belongs to the case; false where it means nothing."""
+        """Adds a line of the case. Returns false if the line means nothing."""
         word, _, rest = line.partition(' ')
         if word == 'with':
             self.given = rest
@@ -160,6 +214,8 @@ class Case:
             self.add_call(rest)
         elif word in ('each', 'answers', 'edits', 'platforms'):
             self.add_directive(word, rest)
+        elif word in ('specs', 'random', 'changes', 'deep', 'on') and self.program == 'platform_calls':
+            self.add_platform(word, rest)
         elif word == 'steps':
             self.nodes = [int(it) for it in rest.split()]
         elif word == 'or':
@@ -190,7 +246,7 @@ def all_paths():
 
 
 def cases_of(path):
-    """The cases of one file."""
+    """Returns the cases of the file `path`."""
     cases, rows, last, program, name = [], b'', b'', 'features', os.path.relpath(path, TOP)
     with open(path, encoding='utf-8', newline='\n') as it:
         lines = it.read().split('\n')
@@ -216,23 +272,23 @@ def cases_of(path):
 
 
 def forms_of(text):
-    """What the words of the text that have forms stand for, for each run; at most one of these words is there."""
+    """Returns the replacements in `text` for each run. At most one word of `text` may have replacements."""
     return [{word: form} for word in FORMS if word in text.split() for form in FORMS[word]] or [{}]
 
 
 def in_form(text, form):
-    """The text with what the words of a form stand for."""
+    """Returns `text` with the replacements of `form`."""
     return b'\n'.join(b' '.join(form[it].encode() if it in form else it for it in line.split(b' ')) for line in text.split(b'\n'))
 
 
 class Run:
-    """A run of a case: its words, its standard input, and what may be printed."""
+    """A run of a case: its arguments, its standard input, and the texts that may be printed."""
 
     def __init__(self, case, words, stdin, outs):
         self.case, self.words, self.stdin, self.outs = case, words, stdin, outs
 
     def outcome(self, room, environment=None):
-        """What it prints, says and ends with."""
+        """Runs the program, and returns its standard output, its standard error and its exit status."""
         given = self.case.given
         closes = {'closed stdin': 0, 'closed stdout': 1}.get(given)
         with tempfile.TemporaryFile() as source, open('/dev/full', 'wb') as full:
@@ -245,7 +301,7 @@ class Run:
         return ran.stdout or b'', ran.stderr, ran.returncode
 
     def fault(self, printed, said, status):
-        """Why this isn't the wanted outcome, or None."""
+        """Returns why this isn't the wanted outcome, or None."""
         line = said if self.case.line is None else self.case.line.encode()
         if self.case.nodes is not None and (said, status) == (line, self.case.status):
             return self.fault_of_steps(printed.decode())
@@ -256,28 +312,28 @@ class Run:
         return self.fault_of_offers(printed.decode().split('\n')[:-1])
 
     def fault_of_steps(self, printed):
-        """Why these aren't the lines of steps to the wanted nodes, or None."""
+        """Returns why these aren't the lines of steps to the wanted nodes, or None."""
         *lines, rest = printed.split('\n')
         words = [word.decode() for word in self.words[2:]]
         fault = judge_build.fault_of(self.case.rows, words, lines, self.case.nodes)
         return f'{words}: {rest or fault}: {lines}' if rest or fault else None
 
     def seen(self, printed, wanted):
-        """What of a printed text is compared with a wanted one."""
+        """Returns the part of a printed text that is compared with a wanted one."""
         if not self.case.has_calls():
             return printed
         unseen = (b'read ', b'reads ') if self.case.program == 'graph_calls' else ()
-        if self.case.program == 'explained_calls' and not any(it.startswith(STEPS) for it in wanted.split(b'\n')):
+        if self.case.is_explained() and not any(it.startswith(STEPS) for it in wanted.split(b'\n')):
             unseen = STEPS
         lines = [it for it in printed.split(b'\n') if not it.startswith(unseen) and (it[:2] == b'< ' or not self.case.is_judged)]
         return sorted_runs(b'\n'.join(lines))
 
     def fault_of_offers(self, lines):
-        """Why what a visitor was asked isn't a run by the rules, or None."""
+        """Returns why the questions to a visitor aren't a run by the rules, or None."""
+        if self.case.is_explained():
+            return judge_explained.fault_of(self.case.rows, lines)
         if self.case.program == 'surface_calls':
             return judge.fault_of(self.case.rows, lines)
-        if self.case.program == 'explained_calls':
-            return judge_explained.fault_of(self.case.rows, lines)
         if self.case.program != 'graph_calls':
             return None
         fault = judge.fault_of_walks(self.case.rows, lines)
@@ -287,7 +343,7 @@ class Run:
 
 
 def sorted_runs(text):
-    """The text with lines that begin with '- ' and stand together sorted."""
+    """Returns `text` with consecutive lines that begin with '- ' sorted."""
     lines, run = [], []
     for line in [*text.split(b'\n'), None]:
         if line is not None and line.startswith(b'- '):
@@ -299,7 +355,7 @@ def sorted_runs(text):
 
 
 def runs_of(case, path):
-    """The runs of a case, whose row file is at this path, and the one before it beside it."""
+    """Returns the runs of `case`, whose row file is at `path` and the row file before it at `path` with `.last` appended."""
     paths = {b'FILE': path.encode(), b'LAST': f'{path}.last'.encode()}
     words = [paths.get(word, word) for word in case.words]
     if case.has_calls():

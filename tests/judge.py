@@ -1,37 +1,37 @@
 #!/usr/bin/env python3
-"""What the rules say of a run of offers, by plain functions over paths.
+"""Checks runs of offers against the rules, by plain functions over paths.
 
-`fault_of(rows, printed)` looks at what surface_calls printed over a row file, and judges each run of offers in it: each
-line that begins with '- ' is an offer with its answer, in the order in which the visitor was asked. `fault_of_walks` does so
-with graph_calls, where an offer is the number of an edge and a letter: F for its full link, R and O for the halves of a weak
-edge.
+`fault_of(rows, printed)` checks each run of offers in the output of surface_calls over a row file, except in calls that
+explain: each line that begins with '- ' is an offer with its answer, in the order of the questions. `fault_of_walks` checks the
+output of graph_calls, where an offer is the number of an edge and a letter: F for its full link, R and O for the halves of a
+weak edge.
 
-As a program it reads a row file from standard input, and shows what it takes for true:
+As a program it reads a row file from standard input, and prints its own results:
 
-    judge.py ways DIRECTION                      the edges as the direction follows them: the ends, the letters of what is
-                                                 offered, and after an @ the gate that the optional half waits for
-    judge.py reads DIRECTION MEMBERS             how many reads a complete walk with these members makes, at least and at most
-    judge.py run DIRECTION NODES OFFERS          what is wrong with a run from these nodes, with commas between them, that
-                                                 accepts these offers, with commas between them
+    judge.py ways DIRECTION                      the edges as the direction follows them: the ends, the letters of the
+                                                 offers, and after an @ the gate of the optional half
+    judge.py reads DIRECTION MEMBERS             the least and the largest number of reads of a complete walk with these members
+    judge.py run DIRECTION NODES OFFERS          what is wrong with a run from these nodes that accepts these offers; commas
+                                                 separate the nodes and the offers
 """
 import sys
 from collections import namedtuple
 
-# One declaration of a package link: `platform` is None where it is for every one.
+# One declaration of a package link; `platform` is None for every platform.
 Declaration = namedtuple('Declaration', 'kind optional platform default features')
-# A link between packages: the declarations of one ordered pair, under one name.
+# A link between packages: the declarations of one ordered pair under one name.
 Link = namedtuple('Link', 'source target name declarations')
 # A package: its named features with their items, and the names of its optional dependencies, in order.
 Package = namedtuple('Package', 'name features optional')
-# What is asked of an edge: the word for the declarations that it covers, these by package link, and the gate, a node or None.
+# An offer of an edge: the word for the declarations that it covers, these declarations by package link, and the gate or None.
 Asked = namedtuple('Asked', 'word covered gate')
 
 BASE = ('base', '')
 
 
 class Graph:
-    """The nodes and edges of a row file. A node is a place in `nodes`, of pairs of a package and a label; `edges` has what
-    is asked of each pair of nodes that has an edge, nothing where it is unconditional."""
+    """The nodes and edges of a row file. A node is an index into `nodes`, of pairs of a package and a label. `edges` has the
+    offers of each pair of nodes that has an edge; they are empty if the edge is unconditional."""
 
     def __init__(self, rows):
         self.packages, self.links = tables_of(rows)
@@ -44,26 +44,26 @@ class Graph:
         self.edges = {pair: asked for pair, (_, asked) in sorted(least.items())}
 
     def node(self, package, label):
-        """The node of this label of the package, or None."""
+        """Returns the node with this label in `package`, or None."""
         return self.places.get((package, label))
 
     def text(self, node):
-        """The id of a node, as it is printed."""
+        """Returns the id of `node` as it is printed."""
         package, (kind, name) = self.nodes[node]
         label = {'base': '[base]', 'named': name, 'optional': f'dep:{name}'}[kind]
         return f'{self.packages[package].name}/{label}'
 
     def named_links(self, package, name):
-        """The numbers of the package's links of this name."""
+        """Returns the numbers of the package's links with this name."""
         return [number for number, link in enumerate(self.links) if (link.source, link.name) == (package, name)]
 
     def cover(self, numbers, test):
-        """The declarations of these links that pass the test, by link; a link that has none is left out."""
+        """Returns the declarations of these links that pass `test`, by link. A link without one is left out."""
         covered = [(number, [it for it in self.links[number].declarations if test(it)]) for number in numbers]
         return [(number, declarations) for number, declarations in covered if declarations]
 
     def candidates(self):
-        """Each pair of nodes that an item or a declaration joins, with its rank and what is asked of it."""
+        """Yields each pair of nodes that an item or a declaration joins, with its rank and its offers."""
         for package, its in enumerate(self.packages):
             for label in labels_of(its)[1:]:
                 yield (self.node(package, label), self.node(package, BASE)), 1, []
@@ -121,7 +121,7 @@ class Graph:
                     yield (self.node(link.source, label), far), 7, [Asked(word, covered, None)]
 
     def requests(self, link, declaration, node):
-        """Whether a declaration of the link asks for the node."""
+        """Returns whether a declaration of the link requests the node."""
         package, label = self.nodes[node]
         if package != link.target:
             return False
@@ -130,7 +130,7 @@ class Graph:
         return label == BASE or (declaration.default and label == by_default) or label in wanted
 
     def line(self, pair, asked):
-        """What an offer's line says of its link: the ends, the declarations, the platforms of each kind, and the links."""
+        """Returns the text of an offer's line: the ends, the declarations, the platforms for each kind, and the package links."""
         words = ['-', self.text(pair[0]), self.text(pair[1]), asked.word]
         for kind in ('normal', 'build', 'dev'):
             covered = [it.platform for _, declarations in asked.covered for it in declarations if it.kind == kind]
@@ -149,7 +149,7 @@ def labels_of(package):
 
 
 def tables_of(rows):
-    """The packages and the links of a row file that has no fault."""
+    """Returns the packages and the links of a row file without faults."""
     lines = [line.split('\t') for line in rows.decode().split('\n') if line and not line.startswith('#')]
     numbers = {line[1]: place for place, line in enumerate(it for it in lines if it[0] == 'package')}
     packages, links = [], {}
@@ -170,9 +170,9 @@ def tables_of(rows):
 
 
 def ways_of(graph, direction, is_numbered=False):
-    """The edges as a direction follows them: the start and the far end of each unconditional one, and for each offer, by
-    its line or by its edge's number and its letter, the start, the far end, the gate or None, and the offer that comes before
-    it or None."""
+    """Returns the edges as `direction` follows them: the start and the far end of each unconditional one, and of each offer
+    the start, the far end, the gate or None, and the offer before it or None. The key of an offer is its line, or its edge's
+    number and its letter if `is_numbered`."""
     free, offers = [], {}
     for number, (pair, asked) in enumerate(graph.edges.items()):
         start, far = pair if direction == 'forward' else pair[::-1]
@@ -187,12 +187,12 @@ def ways_of(graph, direction, is_numbered=False):
 
 
 def letter_of(asked, it):
-    """The letter of what is offered, one of those that are asked of an edge."""
+    """Returns the letter of `it`, one of the offers `asked` of an edge."""
     return 'O' if it.gate is not None else 'R' if len(asked) > 1 else 'F'
 
 
 def reach(initials, steps):
-    """The ends of paths over these steps."""
+    """Returns the nodes that paths over `steps` reach from `initials`."""
     reached, is_more = set(initials), True
     while is_more:
         found = {far for start, far in steps if start in reached}
@@ -202,8 +202,8 @@ def reach(initials, steps):
 
 
 def least(initials, ways, accepted):
-    """The least set that holds the initial nodes and is closed under unconditional edges and these offers, of which one with a
-    gate leads on once the gate is in the set too."""
+    """Returns the least set that contains the initial nodes and is closed under unconditional edges and these offers. An offer
+    with a gate leads on only if the gate is in the set too."""
     free, offers = ways
     members, is_more = set(initials), True
     while is_more:
@@ -221,20 +221,20 @@ def accepted_in(run):
 
 
 def reached_by(initials, ways, run):
-    """What paths over unconditional edges and the accepted offers of a run reach."""
+    """Returns the nodes that paths over unconditional edges and the accepted offers of a run reach."""
     free, offers = ways
     return reach(initials, free + [offers[it][:2] for it in accepted_in(run)])
 
 
 def due_after(initials, ways, run):
-    """The offers that are due after a run."""
+    """Returns the offers that are due after a run."""
     reached, made = reached_by(initials, ways, run), {name for name, _ in run}
     return [name for name, (start, _, gate, before) in ways[1].items() if name not in made and start in reached and (
         gate is None or gate in reached) and (before is None or before in made)]
 
 
 def fault_of_run(initials, ways, run, is_complete=True):
-    """Why a run isn't one by the rules, or None. The run is a list of pairs of an offer's name and its answer."""
+    """Returns why a run isn't one by the rules, or None. The run is a list of pairs of an offer's name and its answer."""
     for place, (name, _) in enumerate(run):
         if name not in due_after(initials, ways, run[:place]):
             return f'not due at {place}: {name}'
@@ -243,8 +243,8 @@ def fault_of_run(initials, ways, run, is_complete=True):
 
 
 def fault_of_members(initials, ways, run, members):
-    """Why these aren't what a complete run reaches, in order, or None: the ends of paths, and the least set for the accepted
-    offers and for those that it didn't refuse."""
+    """Returns why `members` aren't the nodes that a complete run reaches, in order, or None. They must be the ends of paths,
+    and the least set both for the accepted offers and for those that aren't refused."""
     refused = {name for name, answer in run if not answer}
     for wanted in (reached_by(initials, ways, run), least(initials, ways, accepted_in(run)),
                    least(initials, ways, [it for it in ways[1] if it not in refused])):
@@ -254,7 +254,7 @@ def fault_of_members(initials, ways, run, members):
 
 
 def complete_runs(initials, ways, accepted):
-    """All complete runs in which exactly these offers are accepted."""
+    """Returns all complete runs in which exactly these offers are accepted."""
     whole, begun = [], [[]]
     while begun:
         run = begun.pop()
@@ -265,7 +265,7 @@ def complete_runs(initials, ways, accepted):
 
 
 def run_of(graph, direction, initials, lines):
-    """The offers of these lines with their answers, or the line that is none, as a text."""
+    """Returns the offers of `lines` with their answers, or the text of the first line that isn't right."""
     _, offers = ways_of(graph, direction)
     run = []
     for line in lines:
@@ -280,7 +280,7 @@ def run_of(graph, direction, initials, lines):
 
 
 def told_runs(lines):
-    """The runs that a call tells, each with the line that ends it, and how many calls of the visitor it tells; or None."""
+    """Returns the runs that a call prints, each with the line that ends it, and the printed number of the visitor's calls; or None."""
     runs, shown = [], []
     for line in lines:
         if line.startswith('- '):
@@ -290,12 +290,12 @@ def told_runs(lines):
         else:
             runs.append((shown, line))
             shown = []
-    # what was refused before the visitor was made tells no number
+    # if an allocation failed before the visitor was created, no number is printed
     return (runs, 0) if runs == [([], 'out of memory')] and not shown else None
 
 
 def fault_of_visit(graph, by_text, call, ids, lines):
-    """Why what a call `visit` or `twice` tells isn't runs of offers by the rules, or None."""
+    """Returns why the output of a call `visit` or `twice` isn't runs of offers by the rules, or None."""
     name, _, direction = call.split()[:3]
     initials = {by_text[it] for it in ids}
     told = told_runs(lines)
@@ -320,7 +320,7 @@ def fault_of_visit(graph, by_text, call, ids, lines):
 
 
 def fault_of(rows, printed):
-    """Why a run of offers among these lines isn't one by the rules, or None."""
+    """Returns why a run of offers in `printed` isn't one by the rules, or None."""
     graph = Graph(rows)
     by_text = {graph.text(node): node for node in range(len(graph.nodes))}
     if len(by_text) < len(graph.nodes):
@@ -338,14 +338,14 @@ def fault_of(rows, printed):
 
 
 def is_accepted(rule, before, name):
-    """Whether a rule accepts the offer after so many others."""
+    """Returns whether `rule` accepts the offer `name` after `before` others."""
     word, _, options = rule.partition(' ')
     return {'all': True, 'none': False, 'first': before < int(options or 0) if word == 'first' else None,
             'alternate': before % 2 == 0, 'these': name in options.split(',')}[word]
 
 
 def fault_of_reads(ways, members, read, count):
-    """Why a complete walk with these members doesn't read these nodes, one for each read, or None."""
+    """Returns why a complete walk with `members` doesn't make the reads `read`, or None. Each read is a node."""
     if len(read) != count:
         return f'{count} reads, of which {len(read)} were written down'
     if not set(read) <= set(members):
@@ -355,8 +355,8 @@ def fault_of_reads(ways, members, read, count):
 
 
 def reads_of(ways, members):
-    """How many reads a complete walk with these members makes, at least and at most: one for each edge that starts at one and,
-    beside these, one for each edge whose gate is one, and two for each member, which tell that no edge is left."""
+    """Returns the least and the largest number of reads of a complete walk with `members`: one for each edge from a member; at
+    most also one for each edge whose gate is a member, and two for each member, which find no further edge."""
     free, offers = ways
     edges = [start for start, _ in free] + [start for start, _, _, before in offers.values() if before is None]
     fewest = sum(1 for start in edges if start in members)
@@ -364,8 +364,8 @@ def reads_of(ways, members):
 
 
 def fault_of_explanation(initials, reasons, steps):
-    """Why these steps are no explanation, or None. A step is a node and why it is listed, `initial` or one of `reasons`, which
-    has the start, the far end, and the gate or None, of each edge and each offer."""
+    """Returns why `steps` are no explanation, or None. A step is a node and its reason, `initial` or a key of `reasons`, which
+    has the start, the far end, and the gate or None of each edge and each offer."""
     listed = set()
     for node, why in steps:
         start, far, gate = reasons.get(why, (None, None, None))
@@ -377,7 +377,7 @@ def fault_of_explanation(initials, reasons, steps):
 
 
 def fault_of_steps(initials, reasons, run, members, steps):
-    """Why these steps don't explain the members by edges and accepted offers of a run, or None."""
+    """Returns why `steps` don't explain `members` by edges and accepted offers of a run, or None."""
     fault = fault_of_explanation(initials, reasons, steps)
     offered = [why.partition(' ')[2] for _, why in steps if why.startswith(('offer ', 'link '))]
     if fault is None and not set(offered) <= set(accepted_in(run)):
@@ -386,8 +386,8 @@ def fault_of_steps(initials, reasons, run, members, steps):
 
 
 def parts_of(lines):
-    """The parts of what a walk printed: the nodes that were read, their count or None, and what stands between the lines
-    that have a word of their own, by these words."""
+    """Returns the nodes that a walk read, and the other lines of its output by the word that begins their section. The first
+    section is `offers`."""
     read = [int(line[5:]) for line in lines if line.startswith('read ')]
     parts, word = {'offers': []}, 'offers'
     for line in lines:
@@ -400,7 +400,7 @@ def parts_of(lines):
 
 
 def fault_of_walk(graph, call, lines):
-    """Why these lines aren't those of a walk, or None."""
+    """Returns why `lines` aren't the output of a walk by the rules, or None."""
     options, _, nodes = call.partition(': ')
     _, over, direction, rule = options.split(' ', 3)
     ways, initials = ways_of(graph, direction, True), {int(it) for it in nodes.split()}
@@ -427,7 +427,7 @@ def fault_of_walk(graph, call, lines):
 
 
 def walks_in(printed):
-    """The calls of walks among these lines, each with what follows it."""
+    """Returns the calls of walks in `printed`, each with its output."""
     calls = [place for place, line in enumerate(printed) if line.startswith('< ')]
     for place, end in zip(calls, [*calls[1:], len(printed)]):
         if printed[place].startswith('< walk '):
@@ -435,7 +435,7 @@ def walks_in(printed):
 
 
 def fault_of_walks(rows, printed):
-    """Why a walk among these lines isn't one by the rules, or None."""
+    """Returns why a walk in `printed` isn't one by the rules, or None."""
     walks = list(walks_in(printed))
     graph = Graph(rows) if walks else None
     for call, lines in walks:
@@ -446,7 +446,7 @@ def fault_of_walks(rows, printed):
 
 
 def answers_of(rows, direction):
-    """All sets of offers, each as a list."""
+    """Returns all sets of offers, each as a list."""
     sets = [[]]
     for name in ways_of(Graph(rows), direction, True)[1]:
         sets += [[*one, name] for one in sets]
@@ -454,8 +454,8 @@ def answers_of(rows, direction):
 
 
 def fault_of_all_runs(rows, printed, wanted):
-    """Why the walks of these lines, by lists of offers, aren't each one of all complete runs with its answers, with their one
-    result, or why there are not so many of these runs over all walks; or None."""
+    """Returns why a walk in `printed` isn't a complete run with its accepted offers and their one result, or why there aren't
+    `wanted` of these runs over all walks; or None."""
     graph, count = Graph(rows), 0
     for call, lines in walks_in(printed):
         options, _, nodes = call.partition(': ')
@@ -474,7 +474,7 @@ def fault_of_all_runs(rows, printed, wanted):
 
 
 def text_of_ways(graph, direction):
-    """The edges as a direction follows them, in one line."""
+    """Returns the edges as `direction` follows them, in one line."""
     words = []
     _, offers = ways_of(graph, direction, True)
     for number, pair in enumerate(graph.edges):

@@ -1,9 +1,9 @@
 #!/usr/bin/env python3
-"""What the rules say of the steps that `build` prints, by plain functions over the graph of judge.py.
+"""Checks the steps that `build` prints against the rules, by plain functions over the graph of judge.py.
 
-As a program it reads a row file from standard input, and says what is wrong with steps, or `true`:
+As a program it reads a row file from standard input, and prints what is wrong with steps, or `true`:
 
-    judge_build.py STEPS KINDS ID... [-- SPEC...]      the lines of the steps, and the words after `build`
+    judge_build.py STEPS KINDS ID... [-- SPEC...]      the lines of the steps, and the arguments after `build`
 """
 import sys
 
@@ -11,7 +11,7 @@ import judge
 
 
 def platform_offers(graph, kinds, specs):
-    """The offers that are for one of these kinds, on every platform or on that of one of the specs: each as a pair of nodes
+    """Returns the offers for one of these kinds, on every platform or on that of one of the specs: each as a pair of nodes
     and the word for its declarations."""
     def is_met(it):
         return it.kind in kinds and (it.platform is None or it.platform in specs)
@@ -21,14 +21,28 @@ def platform_offers(graph, kinds, specs):
 
 
 def least(graph, initials, offers):
-    """The least set that holds the initial nodes and is closed under unconditional edges and these offers."""
+    """Returns the least set that contains the initial nodes and is closed under unconditional edges and these offers."""
     accepted = [f'{number}{judge.letter_of(asked, it)}' for number, (pair, asked) in enumerate(graph.edges.items())
                 for it in asked if (pair, it.word) in offers]
     return judge.least(initials, judge.ways_of(graph, 'forward', True), accepted)
 
 
+def specs_held(rows, target):
+    """The spec texts of a row file that hold for a target, each once, in the order of the links and their declarations."""
+    texts = [it.platform for link in judge.Graph(rows).links for it in link.declarations if it.platform is not None]
+    return [text for text in dict.fromkeys(texts) if target.holds(text)]
+
+
+def on_for(rows, target, kinds, ids):
+    """What is on for a target from these features: how many, and their ids in the order of nodes."""
+    graph = judge.Graph(rows)
+    initials = {node for node in range(len(graph.nodes)) if graph.text(node) in ids.split()}
+    members = sorted(least(graph, initials, platform_offers(graph, kinds.split(','), specs_held(rows, target))))
+    return ' '.join([f'{len(members)}:', *map(graph.text, members)])
+
+
 def is_reason(graph, nodes, initials, offers, node, words, before):
-    """Whether these words say why the node is on, where these nodes stand before it."""
+    """Returns whether `words` are a right reason for `node`, if the nodes `before` are listed before it."""
     if words == ['initial']:
         return node in initials
     start = nodes.get(words[1]) if len(words) > 1 else None
@@ -43,8 +57,8 @@ def is_reason(graph, nodes, initials, offers, node, words, before):
 
 
 def fault_of(rows, words, lines, wanted=None):
-    """Why these lines aren't the steps to the features that the words after `build` ask for, or None. `wanted` are the nodes,
-    where they are known."""
+    """Returns why these lines aren't the steps for the arguments after `build`, or None. `wanted` are the nodes,
+    if they are known."""
     graph = judge.Graph(rows)
     nodes = {graph.text(node): node for node in range(len(graph.nodes))}
     if len(nodes) < len(graph.nodes):

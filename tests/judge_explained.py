@@ -1,8 +1,8 @@
-"""What the rules say of explanations by ids, by plain functions over steps.
+"""Checks explanations by ids against the rules, by plain functions over steps.
 
-`fault_of(rows, printed)` looks at what explained_calls printed over a row file: the runs of offers (judge.py), the steps, the
-refused links, and the answers of checks. A step is a node and a reason, as a text: `initial`, `edge FROM TO`, or
-`link FROM TO DECLARATIONS`; a refused link is a text, `FROM TO DECLARATIONS`.
+`fault_of(rows, printed)` checks the calls that explain in the output of surface_calls over a row file: the runs of offers
+(judge.py), the steps, the refused links, and the results of checks. A step is a node and a reason, which is the text `initial`,
+`edge FROM TO`, or `link FROM TO DECLARATIONS`. A refused link is the text `FROM TO DECLARATIONS`.
 """
 import itertools
 
@@ -11,13 +11,13 @@ from judge import Graph, fault_of_explanation, fault_of_members, fault_of_run, f
 MEMORY = 'out of memory'
 KINDS = ('normal', 'build', 'dev')
 DECLARATIONS = ('unsplit', 'required', 'optional')
-# How many words of a reason follow on the first.
+# The number of words after the first word of a reason.
 WORDS = {'initial': 0, 'edge': 2, 'link': 3}
 
 
 class Named:
-    """A graph as a direction follows it, by ids: `offers` are those of ways_of, and `reasons` has the start, the far end, and
-    the gate or None, of each edge and each offer, by its reason."""
+    """A graph as a direction follows it, by ids. `offers` are those of `ways_of`; `reasons` has the start, the far end, and the
+    gate or None of each edge and each offer, by its reason."""
 
     def __init__(self, graph, direction):
         self.graph, self.by_text = graph, {graph.text(node): node for node in range(len(graph.nodes))}
@@ -38,7 +38,7 @@ class Named:
         self.ways = (free, self.offers)
 
     def node(self, word):
-        """The node that a word names, or None; a word without a slash names a base."""
+        """Returns the node that `word` names, or None. A word without a slash names a base."""
         return self.by_text.get(full(word))
 
 
@@ -47,7 +47,7 @@ def full(word):
 
 
 def fault_of_exact(initials, named, steps, refused):
-    """Why these steps are no explanation that leaves nothing out but what is refused, or None."""
+    """Returns why `steps` are no explanation that follows all edges and offers except the refused ones, or None."""
     fault = fault_of_explanation(initials, named.reasons, steps)
     listed = {node for node, _ in steps}
     by_refused = [why for _, why in steps if why.startswith('link ') and why[5:] in refused]
@@ -63,7 +63,7 @@ def fault_of_exact(initials, named, steps, refused):
 
 
 def rests_on(named, steps, node):
-    """The nodes on which one rests by these steps, and it."""
+    """Returns `node` and the nodes on which it rests by `steps`."""
     whys, rests, left = dict(steps), set(), [node]
     while left:
         node = left.pop()
@@ -75,7 +75,7 @@ def rests_on(named, steps, node):
 
 
 def fault_of_why(initials, named, steps, node, kept):
-    """Why these aren't the steps on which a listed node rests, in order, or None."""
+    """Returns why `kept` aren't the steps on which the listed `node` rests, in order, or None."""
     rests = rests_on(named, steps, node)
     if kept != [it for it in steps if it[0] in rests] or kept[-1][0] != node:
         return f'not what {node} rests on: {kept}'
@@ -83,7 +83,7 @@ def fault_of_why(initials, named, steps, node, kept):
 
 
 def steps_in(named, lines):
-    """The steps of the lines that tell steps."""
+    """Returns the steps in `lines`."""
     words = [line.split(' ', 2) for line in lines if line.startswith('step ')]
     return [(named.by_text[id], why) for _, id, why in words]
 
@@ -97,7 +97,7 @@ def is_members(line):
 
 
 def run_in(named, lines):
-    """The run of the lines that tell offers."""
+    """Returns the run of offers in `lines`."""
     run = []
     for line in lines:
         name, _, word = line[2:].rpartition(' ')
@@ -108,13 +108,13 @@ def run_in(named, lines):
 
 
 def fault_of_answer(lines, word, fault):
-    """Why the first of the lines isn't the answer for steps with this fault, or None."""
+    """Returns why the first of `lines` isn't the right result of a check for steps with this `fault`, or None."""
     wanted = f'{word} {"true" if fault is None else "false"}'
     return None if lines[:1] == [wanted] else f'{lines[:1]} in place of {wanted}, {fault}'
 
 
 def fault_of_whys(initials, named, steps, lines):
-    """Why these lines aren't those of each feature of the graph, with the steps on which it rests, or None."""
+    """Returns why `lines` aren't the graph's features, each with the steps on which it rests, or None."""
     starts = [place for place, line in enumerate(lines) if line.startswith('why ')]
     blocks = [lines[start:end] for start, end in zip(starts, [*starts[1:], len(lines)])]
     asked = [block[0].split(' ')[1] for block in blocks]
@@ -134,7 +134,7 @@ def fault_of_whys(initials, named, steps, lines):
 
 
 def fault_of_told(initials, named, run, lines):
-    """Why these lines don't tell the set, the steps and the refused links of a run, or None."""
+    """Returns why `lines` aren't the set, the steps and the refused links of `run`, or None."""
     members, steps = members_in(named, lines[0]), steps_in(named, lines[:last_of(lines)])
     refused = [line[8:] for line in lines if line.startswith('refused ')]
     fault = fault_of_run(initials, named.ways, run) or fault_of_members(initials, named.ways, run, members)
@@ -145,12 +145,12 @@ def fault_of_told(initials, named, run, lines):
 
 
 def last_of(lines):
-    """How many lines tell a set, its steps and its refused links."""
+    """Returns the number of lines for a set, its steps and its refused links."""
     return next((place for place, line in enumerate(lines) if place and not line.startswith(('step ', 'refused '))), len(lines))
 
 
 def fault_of_explain(initials, named, name, lines):
-    """Why what a call of a visitor told isn't so by the rules, or None."""
+    """Returns why the output of a call with a visitor isn't right by the rules, or None."""
     shown = list(itertools.takewhile(lambda it: it.startswith('- '), lines))
     run, rest = run_in(named, shown), lines[len(shown):]
     if rest[-1:] != [f'asked {len(shown)}']:
@@ -166,7 +166,7 @@ def fault_of_explain(initials, named, name, lines):
 
 
 def fault_of_same(initials, named, lines):
-    """Why what was told of two runs of one query isn't so by the rules, or None."""
+    """Returns why the output for two runs of one query isn't right by the rules, or None."""
     runs, shown = [], []
     for line in lines:
         if line.startswith('- '):
@@ -189,13 +189,13 @@ def fault_of_same(initials, named, lines):
 
 
 def is_for(asked, kinds, specs):
-    """Whether a link is for one of these kinds of dependency where these specs hold."""
+    """Returns whether a link is for one of `kinds` on a platform where `specs` hold."""
     covered = [it for _, declarations in asked.covered for it in declarations if it.kind in kinds]
     return any(it.platform is None or it.platform in specs for it in covered)
 
 
 def fault_of_platform(initials, named, options, lines):
-    """Why these lines don't tell the least set for the links of a platform, with its explanation, or None."""
+    """Returns why `lines` aren't the least set for the links of a platform with its explanation, or None."""
     kinds, _, specs = options.partition(' ')
     accepted = [name for name, asked in named.asked.items() if is_for(asked, kinds.split(','), specs.split())]
     members, steps, last = members_in(named, lines[0]), steps_in(named, lines), last_of(lines)
@@ -211,7 +211,7 @@ def fault_of_platform(initials, named, options, lines):
 
 
 def words_in(text):
-    """The words of the parts of a call, which stand between semicolons."""
+    """Returns the words of each part of a call; semicolons separate the parts."""
     parts = [[]]
     for word in text.split():
         if word == ';':
@@ -222,7 +222,7 @@ def words_in(text):
 
 
 def steps_of(named, words):
-    """The steps that a call gives."""
+    """Returns the steps in the words of a call."""
     steps, at = [], 0
     while at < len(words):
         end = at + 2 + WORDS[words[at + 1]]
@@ -233,12 +233,12 @@ def steps_of(named, words):
 
 
 def links_of(words):
-    """The refused links that a call gives."""
+    """Returns the refused links in the words of a call."""
     return [' '.join([full(words[at]), full(words[at + 1]), words[at + 2]]) for at in range(0, len(words), 3)]
 
 
 def fault_of_check(named, name, rest, lines):
-    """Why a check of steps doesn't answer so, or None."""
+    """Returns why `lines` aren't the right result of a check of steps, or None."""
     ids, steps, refused = words_in(rest)
     initials, steps = [named.node(id) for id in ids], steps_of(named, steps)
     if name == 'check':
@@ -247,7 +247,7 @@ def fault_of_check(named, name, rest, lines):
 
 
 def fault_of_call(by_direction, call, lines):
-    """Why these lines aren't what a call tells by the rules, or None."""
+    """Returns why `lines` aren't the right output of `call`, or None."""
     before, _, rest = call.partition(': ')
     name, _, options = before.partition(' ')
     direction, _, options = options.partition(' ')
@@ -268,7 +268,7 @@ def by_directions(rows):
 
 
 def explanation_of(initials, named, accepted):
-    """Steps for what the initial nodes reach over edges and these offers, and the offers that come up beside these."""
+    """Returns steps for the nodes that the initial ones reach over edges and accepted offers, and the other offers that are due."""
     steps, listed = [(node, 'initial') for node in dict.fromkeys(initials)], set(initials)
     is_more = True
     while is_more:
@@ -284,7 +284,7 @@ def explanation_of(initials, named, accepted):
 
 
 def other_reasons(named, node, why):
-    """Reasons in place of one: each that leads to the node, and each that is another word for the same ends."""
+    """Returns reasons in place of `why`: each that leads to `node`, and each other one with the same ends."""
     others = ['initial', *(name for name, (_, far, _) in named.reasons.items() if far == node)]
     if why != 'initial':
         ends = ' '.join(why.split(' ')[1:3])
@@ -293,7 +293,7 @@ def other_reasons(named, node, why):
 
 
 def edits_of(named, steps, refused):
-    """The steps and refused offers, and each small change of them."""
+    """Yields the steps and the refused offers, and each small change of them."""
     places = range(len(steps))
     yield steps, refused
     for place in places:
@@ -311,7 +311,7 @@ def edits_of(named, steps, refused):
 
 
 def edited_calls(rows, direction, ids):
-    """Checks of each small change of explanations from these ids: where all offers are accepted, none, and each other one."""
+    """Yields checks of each small change of explanations from `ids`, for all offers accepted, none, and every second one."""
     named = by_directions(rows)[direction]
     offers, texts = list(named.offers), list(named.by_text)
     for accepted in (offers, [], offers[::2], offers[1::2]):
@@ -326,7 +326,7 @@ def subsets(words):
 
 
 def platform_calls(rows, direction, specs):
-    """What each platform has of these specs, from each two features."""
+    """Yields calls for the features on each platform, described by some of `specs`, from each two features."""
     texts = list(by_directions(rows)[direction].by_text)
     for kinds, chosen, one, other in itertools.product(subsets(KINDS), subsets(specs.split()), texts, texts):
         if one <= other:
@@ -334,7 +334,7 @@ def platform_calls(rows, direction, specs):
 
 
 def fault_of(rows, printed):
-    """Why a call among these lines isn't answered by the rules, or None."""
+    """Returns why the output of a call in `printed` isn't right by the rules, or None."""
     by_direction = by_directions(rows)
     calls = [place for place, line in enumerate(printed) if line.startswith('< ')]
     for place, end in zip(calls, [*calls[1:], len(printed)]):

@@ -1,14 +1,14 @@
 #!/usr/bin/env python3
-"""A reference model of the program `features`: what it must print, by plain functions over paths and sets.
+"""A reference model of the program `features`: computes its output by plain functions over paths and sets.
 
-tests/reference.py           compares the values in tests/cases/{random,small,published}.cases with those of the model. The last line
-                             is 'N passed, M failed', and the status 1 where a case differs
-tests/reference.py --write   writes the model's values into these files, in place of those that stand there
+tests/reference.py           compares the values in tests/cases/{random,small,published}.cases with those of the model. The last
+                             line is 'N passed, M failed'; the exit status is 1 if a case differs
+tests/reference.py --write   replaces the values in these files by those of the model
 
-The model follows docs/FORMAT.md and docs/DEFINITIONS.md, and nothing else: each rule here stands there in words. It is written to be
-read. An edge is a pair of nodes in a dictionary, a node is reached if a path leads to it, and the order of a graph asks of each
-next node whether it is available. The model has the commands of the three files (`resolve`, `order` and `cycles`) and all faults
-of a row file.
+The model follows docs/FORMAT.md and docs/DEFINITIONS.md alone: each of its rules is described there. It is written to be read,
+not to be fast. An edge is a pair of nodes in a dictionary, a node is reached if a path leads to it, and the order takes the first
+available node each time. The model has the commands of the three files (`resolve`, `order` and `cycles`) and all faults of a
+row file.
 """
 import functools
 import os
@@ -24,7 +24,7 @@ BASE = '[base]'
 
 
 class Fault(Exception):
-    """Why there is no answer: a line of standard error. The exit status is 1."""
+    """A fault of the row file or the arguments: a line on standard error. The exit status is 1."""
 
 
 # Rows (docs/FORMAT.md, "The row file" and "Faults")
@@ -37,7 +37,7 @@ class Declaration(NamedTuple):
 
 
 class Link(NamedTuple):
-    """All declarations of one pair of packages, under one name."""
+    """All declarations of one pair of packages under one name."""
     name: str
     declarations: list
 
@@ -50,7 +50,7 @@ class Package(NamedTuple):
 
 
 def is_row(word, fields):
-    """Whether a line of these fields is well formed."""
+    """Returns whether a line with this first word and these fields is well formed."""
     if word == 'package':
         return len(fields) == 2 and fields[1] in ('workspace', 'external')
     if word == 'feature':
@@ -60,7 +60,7 @@ def is_row(word, fields):
 
 
 def rows_of(text):
-    """The rows of a file, each with the number of its line."""
+    """Returns the rows of a file, each with the number of its line."""
     try:
         lines = text.decode().split('\n')
     except UnicodeDecodeError:
@@ -73,9 +73,9 @@ def rows_of(text):
 
 
 def packages_of(rows):
-    """The packages by their ids, in the order of their rows."""
+    """Returns the packages by their ids, in the order of their rows."""
     packages, last = {}, None
-    # the faults of a row by itself come first, wherever their rows stand
+    # faults of single rows come first, wherever these rows are in the file
     for number, (word, *fields) in rows:
         if word == 'package':
             if fields[0] in packages:
@@ -96,7 +96,7 @@ def packages_of(rows):
 
 
 def declare(packages, package, number, fields):
-    """Joins the declaration of a row to the link of its pair of packages."""
+    """Adds the declaration of a row to the link of its pair of packages."""
     name, target, kind, need, _platform, defaults, *features = fields
     if target not in packages:
         raise Fault(f'line {number}: unknown target')
@@ -116,12 +116,12 @@ class Node(NamedTuple):
     name: str = ''
 
     def text(self):
-        """The id, as it is printed."""
+        """Returns the id as it is printed."""
         return f'{self.package}/' + {'base': BASE, 'named': self.name, 'optional': f'dep:{self.name}'}[self.kind]
 
 
 def nodes_of(packages):
-    """The nodes by their numbers: package by package the base, the named features, and the optional names."""
+    """Returns the nodes by their numbers: for each package the base, the named features, and the optional names."""
     return [node for id, package in packages.items() for node in [
         Node(id, 'base'), *(Node(id, 'named', it) for it in package.features), *(Node(id, 'optional', it) for it in package.optional)]]
 
@@ -130,12 +130,12 @@ class Candidate(NamedTuple):
     start: Node
     end: Node
     rank: int
-    # the declarations that its link covers; None where it has no link
+    # the declarations that its link covers; None if it has no link
     covered: list
 
 
 def candidates_of(packages):
-    """Every candidate, by the table of docs/DEFINITIONS.md."""
+    """Yields every candidate, by the table of docs/DEFINITIONS.md."""
     for id, package in packages.items():
         for node in nodes_of({id: package})[1:]:
             yield Candidate(node, Node(id, 'base'), 1, None)
@@ -160,7 +160,7 @@ def candidates_of_item(packages, id, feature, item):
 
 
 def candidates_over(packages, id, feature, name, wanted, is_weak):
-    """Those of an item that names a dependency and a feature of it."""
+    """Yields the candidates of an item that names a dependency and a feature of it."""
     package, start = packages[id], Node(id, 'named', feature)
     for target, link in package.links.items():
         if link.name == name and wanted in packages[target].features:
@@ -182,12 +182,12 @@ def candidates_of_link(packages, id, target, link):
 
 
 def declarations_of(package, name):
-    """All declarations of a package's links of this name."""
+    """Returns all declarations of a package's links with this name."""
     return [it for link in package.links.values() if link.name == name for it in link.declarations]
 
 
 def requested(packages, target, declaration):
-    """The nodes of the target that a declaration requests."""
+    """Returns the nodes of `target` that `declaration` requests."""
     features = packages[target].features
     nodes = {Node(target, 'base')} | {Node(target, 'named', it) for it in declaration.features if it in features}
     if declaration.has_default_features and 'default' in features:
@@ -196,7 +196,7 @@ def requested(packages, target, declaration):
 
 
 def edges_of(packages):
-    """The edges: of each pair of nodes the candidate of least rank."""
+    """Returns the edges: for each pair of nodes the candidate of least rank."""
     edges = {}
     for it in candidates_of(packages):
         edge = edges.setdefault((it.start, it.end), it)
@@ -212,7 +212,7 @@ def is_dev_only(edge):
 # Paths, components and the order (docs/DEFINITIONS.md, "Reach over all edges" and "Digraphs, orders and components")
 
 def reached(pairs, initials):
-    """The ends of paths, possibly empty, that start at one of these."""
+    """Returns the ends of paths, possibly empty, from one of `initials`."""
     ends = {}
     for start, end in pairs:
         ends.setdefault(start, set()).add(end)
@@ -225,7 +225,7 @@ def reached(pairs, initials):
 
 
 def components_of(nodes, pairs):
-    """The component of each node: those to which paths lead from it and back."""
+    """Returns the component of each node: the nodes to which paths lead from it and back."""
     back = {(end, start) for start, end in pairs}
     components = {}
     for node in nodes:
@@ -236,7 +236,7 @@ def components_of(nodes, pairs):
 
 
 def order_of(nodes, edges):
-    """The order: each next node is the least-numbered available one."""
+    """Returns the nodes in order: each next node is the least-numbered available one."""
     components = components_of(nodes, edges)
     outside = {it: {start for start, end in edges if end in it and start not in it} for it in set(components.values())}
     holders = {node: set() for node in nodes}
@@ -254,7 +254,7 @@ def order_of(nodes, edges):
 
 
 def is_available(node, component, outside, holders, listed, begun):
-    """Whether an unlisted node may come next. `begun` has the components that are listed in part."""
+    """Returns whether an unlisted node may be listed next. `begun` has the components that are listed in part."""
     def is_held(it):
         return bool(holders[it] - listed - {it})
     return begun <= {component} and outside <= listed and (not is_held(node) or all(map(is_held, component - listed)))
@@ -263,7 +263,7 @@ def is_available(node, component, outside, holders, listed, begun):
 # Commands (docs/FORMAT.md, "The command line")
 
 def node_of(nodes, id):
-    """The node that an id names: it is cut at its last slash."""
+    """Returns the node that `id` names; the id is cut at its last slash."""
     package, _, label = id.rpartition('/')
     if label == BASE:
         node = Node(package, 'base')
@@ -277,7 +277,7 @@ def node_of(nodes, id):
 
 
 def resolve(nodes, edges, direction, ids):
-    """The features to which these lead, by their numbers."""
+    """Returns the features that those of `ids` reach in `direction`, in the order of their numbers."""
     pairs = edges if direction == 'forward' else {(end, start) for start, end in edges}
     known = set(nodes)
     members = reached(pairs, [node_of(known, id) for id in ids])
@@ -285,7 +285,7 @@ def resolve(nodes, edges, direction, ids):
 
 
 def cycles(nodes, edges):
-    """The components that have a cycle, the last in the order first, and an empty line between two."""
+    """Returns the components that have a cycle, the last in the order first, with an empty line between two."""
     components = components_of(nodes, edges)
     groups = {}
     for node in order_of(nodes, edges):
@@ -296,13 +296,13 @@ def cycles(nodes, edges):
 
 @functools.lru_cache(maxsize=1)
 def graph_of(text):
-    """The nodes and the edges of a row file."""
+    """Returns the nodes and the edges of a row file."""
     packages = packages_of(rows_of(text))
     return nodes_of(packages), edges_of(packages)
 
 
 def answer(text, command, words):
-    """The lines that a command prints over the bytes of a row file."""
+    """Returns the lines that a command prints over the bytes of a row file."""
     nodes, edges = graph_of(text)
     if command == 'resolve':
         return resolve(nodes, edges, words[0], words[1:])
@@ -317,7 +317,7 @@ def answer(text, command, words):
 # Files of cases
 
 def values_of(case):
-    """The lines of a file of cases that say what a case must print."""
+    """Returns the lines of a file of cases for the output of `case`."""
     _, command, *words = [word.decode() for word in case.words]
     try:
         lines = answer(case.rows, command, words)
@@ -331,7 +331,7 @@ def values_of(case):
 
 
 def compared(path, is_written):
-    """How many cases of a file agree with the model, and a line on each other one."""
+    """Returns how many cases of a file agree with the model, and a line for each other one."""
     with open(path, encoding='utf-8', newline='\n') as it:
         lines = it.read().split('\n')
     passed, faults, written, kept = 0, [], [], 0

@@ -1,6 +1,6 @@
-/* Loaded before the C library (LD_PRELOAD): the program's own request for memory of number REFUSE, from 1, gets none. Each
-   refusal is told on standard error. Requests that the C library makes for itself are none of the program's, and a block that is
-   made smaller is no request: the program gives memory back then. */
+/* Loaded before the C library (LD_PRELOAD): the program's allocation number REFUSE, from 1, fails, and a line `refused` is written
+   to standard error. The C library's own allocations aren't counted, and neither is a block that is made smaller, since that
+   frees memory. */
 #define _GNU_SOURCE
 #include <dlfcn.h>
 #include <errno.h>
@@ -17,7 +17,7 @@ extern void *__libc_memalign(size_t alignment, size_t size);
 static uintptr_t begin, end;
 static unsigned long asked;
 
-/* How many bytes were last asked for at each place. */
+/* The size of the last allocation at each address. */
 #define PLACES (1ul << 20)
 static struct { void *at; size_t size; } sizes[PLACES];
 
@@ -33,7 +33,7 @@ static void *noted(void *at, size_t size) {
   return at;
 }
 
-/* The first object is the program. */
+/* Sets `begin` and `end` to the bounds of the first loaded object, the program. */
 static int see(struct dl_phdr_info *info, size_t size, void *unused) {
   (void)size;
   (void)unused;
@@ -48,7 +48,7 @@ static int see(struct dl_phdr_info *info, size_t size, void *unused) {
   return 1;
 }
 
-/* Whether the request from this place is the one to be refused. */
+/* Returns whether the allocation that the code at `from` requests is the one that must fail. */
 static int refused(void *from) {
   static const char told[] = "refused\n";
   if (end == 0) dl_iterate_phdr(see, 0);

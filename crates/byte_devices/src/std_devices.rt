@@ -50,10 +50,12 @@ pub struct FromReader<R> {
 }
 
 impl<R: Read> FromReader<R> {
+    ghost use Rattle.byte_devices.specs.StdDevices.{reader_of, read_failed};
+
     /// Wraps `reader`. No read counts as failed yet.
     pub fn new(reader: R) -> Self
-        ensures reader { result.reader ≡ reader }
-        ensures fresh { result.has_failed ≡ false }
+        ensures reader { reader_of result ≡ reader }
+        ensures fresh { read_failed result ≡ false }
     {
         FromReader {
             reader,
@@ -63,9 +65,11 @@ impl<R: Read> FromReader<R> {
 }
 
 impl<R: Read> ByteInput for FromReader<R> {
-    ghost left = { λ s. R.remaining s.reader };
+    ghost use Rattle.byte_devices.specs.StdDevices.{reader_of, read_failed};
 
-    ghost failed = { λ s. s.has_failed };
+    ghost left = { λ s. R.remaining (reader_of s) };
+
+    ghost failed = { λ s. read_failed s };
 
     fn read(&mut self, buf: &mut [u8]) -> Result<usize, Failed> {
         let read = read_once(&mut self.reader, buf);
@@ -84,10 +88,12 @@ pub struct ToWriter<W> {
 }
 
 impl<W: Write> ToWriter<W> {
+    ghost use Rattle.byte_devices.specs.StdDevices.{writer_of, write_failed};
+
     /// Wraps `writer`. No write counts as failed yet.
     pub fn new(writer: W) -> Self
-        ensures writer { result.writer ≡ writer }
-        ensures fresh { result.has_failed ≡ false }
+        ensures writer { writer_of result ≡ writer }
+        ensures fresh { write_failed result ≡ false }
     {
         ToWriter {
             writer,
@@ -97,9 +103,11 @@ impl<W: Write> ToWriter<W> {
 }
 
 impl<W: Write> ByteOutput for ToWriter<W> {
-    ghost held = { λ s. W.contents s.writer };
+    ghost use Rattle.byte_devices.specs.StdDevices.{writer_of, write_failed};
 
-    ghost failed = { λ s. s.has_failed };
+    ghost held = { λ s. W.contents (writer_of s) };
+
+    ghost failed = { λ s. write_failed s };
 
     fn write(&mut self, buf: &[u8]) -> Result<usize, Failed> {
         let written = write_once(&mut self.writer, buf);

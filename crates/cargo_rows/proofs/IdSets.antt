@@ -30,7 +30,7 @@ or_none : (a : Bool) → (a || false) ≡ a
 or_none true = refl
 or_none false = refl
 
--- one more text, where the set answers for those before
+-- inserting the text at `i` into a set of the first `i` texts
 pub text_more : (ids : List (Bor Text)) (i : ℕ) (z : Bor Text) (q : Text) (old new : Bool) → i < length ids → new ≡ cond (is_eq (id_cmp (get_or ids i z).now q)) true old → old ≡ list_any (bytes_eq q) (map text_view (take i ids)) → new ≡ list_any (bytes_eq q) (map text_view (take (i + 1) ids))
 text_more ids i z q old new within grown was =
     let x = (get_or ids i z).now in

@@ -1,4 +1,4 @@
--- The rows of packages, one package after the other.
+-- The rows of packages, step by step.
 use Rattle.std.proofs.Common.{◌≡◌, ◌∙◌, sym, ap, refl, List, ◌∷◌, ◌++◌, Bool, append_assoc, Bor}
 use Rattle.std.specs.Prelude.{Result, Ok, Err}
 use Rattle.std.specs.List.{list_any}

@@ -1,4 +1,4 @@
--- The warnings of packages, one after the other.
+-- The warnings for packages, step by step.
 use Rattle.std.proofs.Common.{◌≡◌, ◌∙◌, sym, ap, refl, ℕ, ◌+◌, ◌<◌, List, [], ◌∷◌, ◌++◌, map, length, drop, get_or, true, false, append_assoc, add-one, drop-cons, Bor}
 use Rattle.std.specs.Prelude.{filter, is_some}
 use Rattle.std.specs.List.{list_any}
@@ -16,7 +16,7 @@ use Rattle.workspace_documents.specs.Views.{declaration_view, package_view, entr
 abbrev pub warnings_from : List Text → PackageText → NodeText → List DeclarationText → List WarningText
 warnings_from libraries p node ds = map (warning_of p.id) (filter (is_lost libraries p node) ds)
 
--- appends a declaration, by whether it leads nowhere although it should lead to a package
+-- one more declaration: a warning is appended if it should lead to a package but doesn't
 module _ (libraries : List Text) (p : PackageText) (node : NodeText) (ds : List Declaration) (i : ℕ) (d : Declaration) (so_far whole : List WarningText) (within : i < length ds) (is : d ≡ get_or ds i d) (so : whole ≡ so_far ++ warnings_from libraries p node (map declaration_view (drop i ds))) where
   here : map declaration_view (drop i ds) ≡ declaration_view d ∷ map declaration_view (drop (i + 1) ds)
   here =
@@ -32,7 +32,7 @@ module _ (libraries : List Text) (p : PackageText) (node : NodeText) (ds : List 
 abbrev pub packages_of : ById PackageText → List PackageText
 packages_of es = map (λ e. e.1) es
 
--- appends a package, by whether it has a library
+-- one more package: its name is appended if it has a library
 module _ (left rest : List (Bor Text × Package)) (id : Bor Text) (p : Package) (so_far whole : List Text) (is : left ≡ (id, p) ∷ rest) (so : whole ≡ so_far ++ libraries_of (packages_of (entries_view package_view left))) where
   pub no_library : is_some (package_view p).library ≡ false → whole ≡ so_far ++ libraries_of (packages_of (entries_view package_view rest))
   no_library e = so ∙ rw (is, e) refl
@@ -40,7 +40,7 @@ module _ (left rest : List (Bor Text × Package)) (id : Bor Text) (p : Package) 
   pub one_library : is_some (package_view p).library ≡ true → whole ≡ (so_far ++ p.name.now ∷ []) ++ libraries_of (packages_of (entries_view package_view rest))
   one_library e = so ∙ rw (is, e) (sym (append_assoc so_far (p.name.now ∷ []) (libraries_of (packages_of (entries_view package_view rest)))))
 
--- appends a package, by whether it is a workspace member
+-- one more package: its warnings are appended if it is a workspace member
 module _ (libraries members : List Text) (nodes : ById NodeText) (left rest : List (Bor Text × Package)) (id : Bor Text) (p : Package) (so_far whole : List WarningText) (is : left ≡ (id, p) ∷ rest) (so : whole ≡ so_far ++ all_warnings libraries members nodes (entries_view package_view left)) where
   pub no_member : list_any (bytes_eq id.now) members ≡ false → whole ≡ so_far ++ all_warnings libraries members nodes (entries_view package_view rest)
   no_member e = so ∙ rw (is, e) refl

@@ -13,17 +13,17 @@ use Rattle.workspace_documents.specs.Packages.{PackageText, packages_in}
 use Rattle.workspace_documents.specs.Nodes.{DepText, NodeText, node_of, resolved_in}
 use Rattle.workspace_documents.specs.Dependencies.{DependencyText, name_of, dependencies_of, agree}
 
--- whether a text has a control character, so that it can't stand in a row
+-- whether a text has an ASCII control character, so that a row can't contain it
 abbrev pub has_control : Text → Bool
 has_control [] = false
 has_control (b ∷ rest) = is_ascii_control b || has_control rest
 
--- the first text that may not stand in a row is refused
+-- no text has a control character, or the fault of the first that has one
 abbrev pub allowed : List Text → Result ⊤ Refusal
 allowed [] = Ok tt
 allowed (s ∷ rest) = if has_control s then Err (control s) else allowed rest
 
--- fields, a tab before each
+-- the fields, with a tab before each
 abbrev pub fields_text : List Text → Text
 fields_text fields = flat_map (λ s. 9 ∷ s) fields
 
@@ -34,7 +34,7 @@ row_text word fields = (word ++ fields_text fields) ++ 10 ∷ []
 unfoldable pub row : Text → List Text → Result Text Refusal
 row word fields = allowed fields >>= λ _. Ok (row_text word fields)
 
--- the word for a package of the workspace, or for another one
+-- the word for a workspace member, or for any other package
 abbrev pub member_word : Bool → Text
 member_word true = codes "workspace"
 member_word false = codes "external"
@@ -53,7 +53,7 @@ abbrev pub defaults_word : Bool → Text
 defaults_word true = codes "default"
 defaults_word false = codes "nodefault"
 
--- the platform's text; `*` for every one
+-- the platform's text; `*` for every platform
 abbrev pub platform_text : Option Text → Text
 platform_text None = codes "*"
 platform_text (Some platform) = platform

@@ -1,4 +1,4 @@
--- How a run ends, and what it has written.
+-- How a run ends, and the bytes that it has written.
 use Rattle.std.specs.Prelude.{◌≡◌, ◌++◌, List, Bool, true, false, Option, None, Ok, Err, IfSome, IsSomeAnd}
 use Rattle.std.specs.Str.{IsUtf8}
 use Rattle.std.specs.Io.KnownBytes.{Keeps, Appends}
@@ -17,7 +17,7 @@ AreRows bytes text = IsUtf8 bytes × IsSomeAnd (document bytes) (λ d. rows_of d
 abbrev pub AreWarnings : Text → List WarningText → Type 0
 AreWarnings bytes warnings = IsUtf8 bytes × IsSomeAnd (document bytes) (λ d. warnings_of d ≡ Ok warnings)
 
--- Why these bytes have no rows: they aren't text, or not JSON, or are a document whose first fault is this one.
+-- The bytes have no rows, for the reason `fault`: they aren't UTF-8, aren't JSON, or are a document with this first fault.
 abbrev pub Refuses : Text → Fault → Type 0
 Refuses bytes fault.NotText = ¬ (IsUtf8 bytes)
 Refuses bytes (fault.NotJson line column) = IsUtf8 bytes × (document bytes ≡ None)
@@ -27,8 +27,8 @@ Refuses bytes fault.Usage = ⊥
 Refuses bytes fault.CannotRead = ⊥
 Refuses bytes fault.CannotWrite = ⊥
 
--- A run over these bytes ended with this fault: what was written, and which device failed. Only where a write failed,
--- something may have been written, and then a beginning of the rows.
+-- A run over the bytes `left` ended with this fault, with the output `old` before it and `new` after it. If a write failed, a
+-- beginning of the rows may have been written; otherwise nothing was.
 abbrev pub Ends : Fault → Option Text → Option Text → Option Text → Bool → Bool → Type 0
 Ends fault.CannotRead left old new read_failed write_failed = Keeps old new × (read_failed ≡ true) × (write_failed ≡ false)
 Ends fault.CannotWrite left old new read_failed write_failed = (read_failed ≡ false) × (write_failed ≡ true) × IfSome left (λ bytes. (front : Text) × (rest : Text) × AreRows bytes (front ++ rest) × Appends old new front)

@@ -13,11 +13,11 @@ use Rattle.workspace_documents.specs.Nodes.{NodeText, resolved_in}
 use Rattle.workspace_documents.specs.Dependencies.{FoundPackage, nothing, one, several, name_of, choice}
 use Rattle.workspace_documents.specs.Nodes.{node_of}
 
--- what follows a beginning of a text, where the text begins so
+-- the rest of `text` after `front`, if `text` begins with `front`
 abbrev pub rest_after : Text → Text → Option Text
 rest_after front text = if bytes_eq (take (length front) text) front then Some (drop (length front) text) else None
 
--- whether it begins with `/` or `?/`
+-- whether the rest begins with `/` or `?/`
 abbrev pub is_cut : Option Text → Bool
 is_cut None = false
 is_cut (Some rest) = is_some (rest_after (codes "/") rest) || is_some (rest_after (codes "?/") rest)
@@ -34,11 +34,11 @@ names name item = is_cut (rest_after name item) || is_text name (rest_after (cod
 abbrev pub feature_names : Text → FeatureText → Bool
 feature_names name f = list_any (names name) f.items
 
--- whether an item of one of the features does
+-- whether an item of one of the features names the dependency
 abbrev pub is_named : Text → List FeatureText → Bool
 is_named name features = list_any (feature_names name) features
 
--- whether an item of an enabled one does
+-- whether an item of an enabled feature names the dependency; `on` has the names of the enabled features
 abbrev pub is_turned_on : List Text → Text → List FeatureText → Bool
 is_turned_on on name features = list_any (λ f. feature_names name f && list_any (bytes_eq f.name) on) features
 
@@ -59,7 +59,7 @@ is_nothing several = false
 unfoldable pub is_lost : List Text → PackageText → NodeText → DeclarationText → Bool
 is_lost libraries p node d = is_nothing (choice p.id d node.deps) && is_expected libraries p node d
 
--- a package's id, and the name of a dependency that it declares
+-- a warning: a package's id, and the name by which it calls the dependency
 pub record WarningText : Type 0 where
   pub owner : Text
   pub dependency : Text
@@ -67,11 +67,11 @@ pub record WarningText : Type 0 where
 abbrev pub warning_view : Warning → WarningText
 warning_view w = record { owner = string_bytes w.package; dependency = string_bytes w.dependency }
 
--- the warning of a declaration of the package with this id
+-- the warning for a declaration of package `id`
 abbrev pub warning_of : Text → DeclarationText → WarningText
 warning_of id d = record { owner = id; dependency = name_of d }
 
--- the warnings of a package, in the order of its declarations
+-- the warnings for a package, in the order of its declarations
 unfoldable pub package_warnings : List Text → PackageText → NodeText → List WarningText
 package_warnings libraries p node = map (warning_of p.id) (filter (is_lost libraries p node) p.declarations)
 
@@ -79,7 +79,7 @@ package_warnings libraries p node = map (warning_of p.id) (filter (is_lost libra
 abbrev pub libraries_of : List PackageText → List Text
 libraries_of packages = map (λ p. p.name) (filter (λ p. is_some p.library) packages)
 
--- the warnings of the packages of the workspace
+-- the warnings for the workspace members, in the order of their ids
 abbrev pub all_warnings : List Text → List Text → ById NodeText → ById PackageText → List WarningText
 all_warnings libraries members nodes packages = flat_map (λ e. if list_any (bytes_eq e.0) members then package_warnings libraries e.1 (node_of e.0 nodes) else []) packages
 

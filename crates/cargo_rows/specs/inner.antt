@@ -1,2 +1,2 @@
--- What private functions alone speak of: the texts that their types hold.
+-- Definitions that only contracts of private functions use.
 pub mod Views

@@ -1,4 +1,4 @@
-//! From what `cargo metadata` writes to the rows of a row file.
+//! Turns the output of `cargo metadata` into the rows of a row file.
 #![tactic(auto)]
 
 mod engine;

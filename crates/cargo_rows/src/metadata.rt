@@ -1,4 +1,4 @@
-//! The rows of a document.
+//! Parses a document and builds the text of its rows.
 ghost use Rattle.std.specs.Prelude.{◌≡◌, ℕ, List, Some, None, Ok, IfOk, IfErr, map, string_bytes};
 ghost use Rattle.std.specs.Str.{IsUtf8};
 ghost use Rattle.json.specs.Value.{value_view};
@@ -23,7 +23,7 @@ use workspace_documents::{
     packages_of, resolved_in,
 };
 
-/// How deep arrays and objects may nest.
+/// The depth to which arrays and objects may nest.
 const MAX_DEPTH: usize = 127;
 
 /// Adds the rows of the declarations of a package that uses these.
@@ -82,9 +82,9 @@ fn rows_of_packages<'p, 'v>(
 /// The rows and the warnings of a document.
 #[derive(Drop)]
 pub(crate) struct Rows {
-    /// The text of its rows.
+    /// The text of the rows.
     pub(crate) text: String,
-    /// The declarations of workspace packages that lead to no package.
+    /// The declarations of workspace packages that should lead to a package but don't.
     pub(crate) warnings: Vec<Warning>,
 }
 
@@ -117,7 +117,7 @@ fn rows_of_document(alloc: Global, document: Value<'_>) -> Result<Rows, Document
     rows_over(alloc, &packages, &resolved)
 }
 
-/// The fault that the text is no document; the place is where its reader stopped.
+/// Returns `NotJson` with the line and the column, in bytes, of `offset`, where the reader of `text` stopped.
 fn not_json(text: &str, offset: usize) -> Fault
     ensures { (bytes : List ℕ) → IsUtf8 bytes → document bytes ≡ None → Refuses bytes result }
 {
@@ -137,7 +137,8 @@ fn not_json(text: &str, offset: usize) -> Fault
     Fault::NotJson { line, column }
 }
 
-/// The document that the text is.
+/// Parses `text` as one document. Returns `NotJson` if it isn't one or nests deeper than `MAX_DEPTH`, and `Memory` if an
+/// allocation fails.
 fn document_of<'t>(
     alloc: Global,
     text: &'t str,
@@ -162,7 +163,7 @@ fn document_of<'t>(
     }
 }
 
-/// The rows of the document that the bytes are.
+/// Returns the rows and the warnings of the document in `bytes`, or the first fault.
 pub(crate) fn rows_of_bytes(alloc: Global, bytes: Vec<u8>) -> Result<Rows, Fault>
     ensures ok { IfOk result (λ rows. AreRows bytes.items (string_bytes rows.text)) }
     ensures warnings { IfOk result (λ rows. AreWarnings bytes.items (map warning_view rows.warnings.items)) }

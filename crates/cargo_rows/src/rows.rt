@@ -1,4 +1,4 @@
-//! The text of rows.
+//! Writes rows as text.
 ghost use Rattle.std.specs.Prelude.{◌≡◌, ◌++◌, [], ◌∷◌, codes, map, option_map, IfOk, OnOk, string_bytes};
 ghost use Rattle.cargo_documents.specs.Faults.{Gives};
 ghost use Rattle.cargo_rows.specs.Rows as spec;
@@ -11,7 +11,7 @@ use cargo_workspaces::{Feature, Kind};
 use std::alloc::{AllocError, Global};
 use workspace_documents::{Dependency, Package};
 
-/// Whether one of the bytes is a control character.
+/// Returns whether one of `bytes` is an ASCII control character.
 fn has_control(bytes: &[u8]) -> bool
     ensures { result ≡ spec.has_control bytes.now }
 {
@@ -23,7 +23,7 @@ fn has_control(bytes: &[u8]) -> bool
     false
 }
 
-/// Refuses the first text that may not stand in a row.
+/// Checks that no text of `fields` has a control character. Returns `Control` with the first that has one.
 fn check_fields(alloc: Global, fields: &[&str]) -> Result<(), DocumentFault>
     ensures { Gives (λ _. tt) result (spec.allowed (map (λ s. s.now) fields.now)) }
 {
@@ -36,7 +36,7 @@ fn check_fields(alloc: Global, fields: &[&str]) -> Result<(), DocumentFault>
     Ok(())
 }
 
-/// Adds the fields, a tab before each.
+/// Appends a tab and the text for each of `fields`.
 fn push_fields(rows: &mut String, fields: &[&str]) -> Result<(), AllocError>
     ensures { OnOk result (string_bytes rows.new ≡ string_bytes rows.old ++ spec.fields_text (map (λ s. s.now) fields.now)) }
 {
@@ -47,7 +47,7 @@ fn push_fields(rows: &mut String, fields: &[&str]) -> Result<(), AllocError>
     Ok(())
 }
 
-/// Adds a row: its word, and its fields.
+/// Appends a row: `word`, the `fields` and a line feed. Returns `Control` if a field has a control character.
 #[tactic(auto, unfolding(crate::specs::Rows::row))]
 fn push_row(
     alloc: Global,
@@ -64,7 +64,7 @@ fn push_row(
     Ok(())
 }
 
-/// Adds the row of a package.
+/// Appends the row of `package`. Returns `Control` if its id has a control character.
 pub(crate) fn push_package(
     alloc: Global,
     rows: &mut String,
@@ -77,7 +77,7 @@ pub(crate) fn push_package(
     push_row(alloc, rows, "package", &[package.id, place])
 }
 
-/// The fields of a feature's row.
+/// Returns the fields of the row of `feature`: its name and its items.
 fn feature_fields<'v>(alloc: Global, feature: &Feature<'v>) -> Result<Vec<&'v str>, AllocError>
     ensures { IfOk result (λ fields. map (λ s. s.now) fields.items ≡ spec.feature_fields (feature_text feature.now)) }
 {
@@ -87,7 +87,7 @@ fn feature_fields<'v>(alloc: Global, feature: &Feature<'v>) -> Result<Vec<&'v st
     Ok(fields)
 }
 
-/// Adds the rows of features.
+/// Appends the rows of `features`. Returns `Control` if a name or an item has a control character.
 pub(crate) fn push_features(
     alloc: Global,
     rows: &mut String,
@@ -102,7 +102,7 @@ pub(crate) fn push_features(
     Ok(())
 }
 
-/// The word for a kind.
+/// Returns the word for `kind` in a row.
 fn kind_word(kind: Kind) -> &'static str
     ensures { result.now ≡ spec.kind_word kind }
 {
@@ -113,7 +113,7 @@ fn kind_word(kind: Kind) -> &'static str
     }
 }
 
-/// The text of a platform; `*` for every one.
+/// Returns the text of `platform`, or `*` for every platform.
 fn platform_text<'v>(platform: Option<&'v str>) -> &'v str
     ensures { result.now ≡ spec.platform_text (option_map text_view platform.entry) }
 {
@@ -123,14 +123,14 @@ fn platform_text<'v>(platform: Option<&'v str>) -> &'v str
     }
 }
 
-/// The word for whether a dependency is optional.
+/// Returns `optional` if `is_optional`, otherwise `required`.
 fn need_word(is_optional: bool) -> &'static str
     ensures { result.now ≡ spec.need_word is_optional }
 {
     if is_optional { "optional" } else { "required" }
 }
 
-/// The word for whether a dependency's default features are asked for.
+/// Returns `default` if `has_default_features`, otherwise `nodefault`.
 fn defaults_word(has_default_features: bool) -> &'static str
     ensures { result.now ≡ spec.defaults_word has_default_features }
 {
@@ -141,7 +141,7 @@ fn defaults_word(has_default_features: bool) -> &'static str
     }
 }
 
-/// The fields of a dependency's row.
+/// Returns the fields of the row of `dependency`, in the order of the row file's format.
 fn dependency_fields<'v>(
     alloc: Global,
     dependency: &Dependency<'_, 'v>,
@@ -160,7 +160,7 @@ fn dependency_fields<'v>(
     Ok(fields)
 }
 
-/// Adds the rows of dependencies.
+/// Appends the rows of `dependencies`. Returns `Control` if a field has a control character.
 pub(crate) fn push_dependencies(
     alloc: Global,
     rows: &mut String,

@@ -1,4 +1,4 @@
-//! Warnings: declarations of workspace packages that lead to no package.
+//! Warnings: declarations of workspace packages that should lead to a package but don't.
 ghost use Rattle.std.specs.Prelude.{◌≡◌, ◌++◌, List, IfOk, OnOk, map, option_map};
 ghost use Rattle.std.specs.List.{list_any};
 ghost use Rattle.std.specs.Str.{bytes_eq};
@@ -18,7 +18,7 @@ use workspace_documents::{
     Declaration, Found, Node, Nodes, Package, Packages, choice, name_of, node_at,
 };
 
-/// A declaration of a workspace package that leads to no package. `Display` prints the line for standard error.
+/// A declaration of a workspace package that should lead to a package but doesn't. `Display` prints the line for standard error.
 #[derive(Debug, Drop)]
 pub struct Warning {
     /// The id of the package.
@@ -37,7 +37,7 @@ impl fmt::Display for Warning {
     }
 }
 
-/// Returns what follows `front` in `text`, or None if `text` doesn't begin with `front`.
+/// Returns the rest of `text` after `front`, or None if `text` doesn't begin with `front`.
 fn rest_after<'t>(front: &[u8], text: &'t [u8]) -> Option<&'t [u8]>
     ensures { option_map text_view result ≡ spec.rest_after front.now text.now }
 {
@@ -109,7 +109,8 @@ fn is_among(text: &str, texts: &[&str]) -> bool
     false
 }
 
-/// Returns whether an enabled feature, one whose name is in `on`, has an item that names the dependency `name`.
+/// Returns whether one of `features` is enabled and has an item that names the dependency `name`. `on` has the names of the
+/// enabled features.
 fn is_turned_on(on: &[&str], name: &str, features: &[Feature<'_>]) -> bool
     ensures { result ≡ spec.is_turned_on (map text_view on.now) name.now (map feature_text features.now) }
 {
@@ -173,7 +174,7 @@ fn warning_of(
     })
 }
 
-/// Appends the warnings for `package`, in the order of its declarations.
+/// Appends the warnings for `package`, in the order of its declarations. The only error is out of memory.
 fn push_warnings(
     alloc: Global,
     warnings: &mut Vec<Warning>,
@@ -191,7 +192,7 @@ fn push_warnings(
     Ok(())
 }
 
-/// Returns the names of the packages that have a library.
+/// Returns the names of the packages that have a library. The only error is out of memory.
 fn libraries_of<'v>(alloc: Global, packages: &Packages<'v>) -> Result<Vec<&'v str>, AllocError>
     ensures { IfOk result (λ names. map text_view names.items ≡ spec.libraries_of (map (λ e. e.1) (entries_view package_view packages.now.entries))) }
 {

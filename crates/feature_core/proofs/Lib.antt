@@ -1,4 +1,5 @@
 pub mod Places
+pub mod PathLemmas
 pub mod Present
 pub mod AddsLemmas
 pub mod KeySays

@@ -250,15 +250,12 @@ impl MadeEdges {
     }
 }
 
-/// Returns no edges, with capacity for one edge per node and four per link, and for two distinct edges per link. Most graphs need
-/// no more, and unused capacity is never touched.
-fn no_edges(alloc: Global, nodes: usize, links: usize) -> Result<MadeEdges, AllocError>
+/// Returns no edges, with capacity for `room` of them and for `own` that differ from each other.
+fn edges_with_capacity(alloc: Global, room: usize, own: usize) -> Result<MadeEdges, AllocError>
     ensures edges { IfOk result (λ made. made.edges ≡ []) }
     ensures ends { IfOk result (λ made. made.ends ≡ []) }
     ensures weak { IfOk result (λ made. made.weak.entries ≡ []) }
 {
-    let own = links.saturating_mul(2);
-    let room = nodes.saturating_add(own.saturating_mul(2));
     let edges = EdgeList::with_capacity(alloc, room, own)?;
     let ends = EdgeColumns::with_capacity(alloc, room)?;
     Ok(MadeEdges {
@@ -266,6 +263,24 @@ fn no_edges(alloc: Global, nodes: usize, links: usize) -> Result<MadeEdges, Allo
         ends,
         weak: IndexMap::new(alloc),
     })
+}
+
+/// The capacity up to which a refused request means that memory ran out.
+const LITTLE_ROOM: usize = 1_024;
+
+/// Returns no edges, with capacity for one edge per node and four per link, and for two distinct edges per link. Most graphs need
+/// no more, and unused capacity is never touched. If that much is refused, the capacity is small.
+fn no_edges(alloc: Global, nodes: usize, links: usize) -> Result<MadeEdges, AllocError>
+    ensures edges { IfOk result (λ made. made.edges ≡ []) }
+    ensures ends { IfOk result (λ made. made.ends ≡ []) }
+    ensures weak { IfOk result (λ made. made.weak.entries ≡ []) }
+{
+    let own = links.saturating_mul(2);
+    let room = nodes.saturating_add(own.saturating_mul(2));
+    match edges_with_capacity(alloc, room, own) {
+        Err(_) if room > LITTLE_ROOM => edges_with_capacity(alloc, 0, 0),
+        made => made,
+    }
 }
 
 /// Returns the edges of the nodes of all packages, and the parts without a warning.

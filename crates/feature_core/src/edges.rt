@@ -12,7 +12,7 @@ ghost use Rattle.feature_core.specs.inner.Keys.{IsLeast, IsNoLater, IsRun};
 ghost use Rattle.feature_core.specs.inner.Made.{IsMaterial, IsValueOf};
 ghost use Rattle.feature_core.specs.Nodes.{NodeAt};
 ghost use Rattle.feature_core.specs.inner.Parts.{IsOfTables};
-ghost use Rattle.feature_links.specs.Values.{link_facts, edge_facts};
+ghost use Rattle.feature_links.specs.Values.{link_facts, edge_facts, weak_number};
 
 use crate::edge_list::EdgeList;
 use crate::key::{Key, run_of};
@@ -123,7 +123,7 @@ fn half_from(material: Material<'_, '_>, ix: usize) -> LinkDeclarations
 
 /// Returns the index of package link `link_ix` among the weak links.
 fn index_in(weak: &IndexMap<usize, usize>, link_ix: usize) -> WeakIndex
-    ensures { result.0 ≡ option_map_or (λ i. i) (position (λ j. link_ix == j) (keys weak.now)) 0 }
+    ensures { weak_number result ≡ option_map_or (λ i. i) (position (λ j. link_ix == j) (keys weak.now)) 0 }
 {
     match weak.get_index_of(&link_ix) {
         Some(index) => WeakIndex::new(index),

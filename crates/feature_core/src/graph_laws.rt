@@ -1,14 +1,15 @@
 //! Laws of built feature graphs. Each function does nothing: its contract is the law, for each build of `graph`.
 
 ghost use Rattle.std.specs.Prelude.{◌≡◌, ◌↔◌, ◌<◌, ℕ, Bool, Some, length, map, slice_get};
+ghost use Rattle.guppy_support.specs.Paths.{Path};
 ghost use Rattle.guppy_packages.specs.Rows.{Text};
 ghost use Rattle.guppy_packages.specs.declared.direction.DependencyDirection.{DependencyDirection};
 ghost use Rattle.guppy_packages.specs.declared.direction.DependencyDirection.TheVariants.{Forward, Reverse};
 ghost use Rattle.feature_labels.specs.Names.{LabelName};
 ghost use Rattle.walk_engine.specs.declared.walks.Half.{Half};
-ghost use Rattle.walk_engine.specs.Laws.{every, AreReverse, IsUngated};
+ghost use Rattle.walk_engine.specs.Laws.{every, only, AreReverse, IsUngated};
 ghost use Rattle.walk_engine.specs.Walks.{EndsAreNodes, Reach as ReachOver};
-ghost use Rattle.feature_core.specs.Built.{Built, IsBuilt, NodeNamed, NamesAreLabels};
+ghost use Rattle.feature_core.specs.Built.{Built, IsBuilt, NodeNamed, NamesAreLabels, digraph_of};
 ghost use Rattle.feature_core.specs.Candidates.{Edge, IsEdge};
 ghost use Rattle.feature_links.specs.Facts.{EdgeFacts, WeakFacts, weak_edge};
 ghost use Rattle.feature_core.specs.Edges.{EdgeSays, facts_of};
@@ -82,6 +83,14 @@ pub fn content_of_graph(graph: &PackageGraph)
 {
     graph.facts();
 }
+
+/// States that the paths of the built digraph are the reach of resolving: forward from a path's start, in reverse from its end.
+pub fn paths_are_reach(graph: &PackageGraph)
+    ensures forward { (b : Built) (a n : ℕ) → IsBuilt graph.now b
+        → Path (digraph_of b).edges a n ↔ Reach graph.now Forward (only a) n }
+    ensures reverse { (b : Built) (a n : ℕ) → IsBuilt graph.now b
+        → Path (digraph_of b).edges n a ↔ Reach graph.now Reverse (only a) n }
+{}
 
 /// States that the package graph determines the ways of each direction: any two builds have the same.
 pub fn one_content(graph: &PackageGraph)

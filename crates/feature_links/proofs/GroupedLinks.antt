@@ -11,7 +11,7 @@ use Rattle.std.proofs.lemmas.Option.{get_or_from_slice_get, slice_get_within}
 use Rattle.guppy_packages.specs.Rows.{Text}
 use Rattle.guppy_packages.specs.Tables.{LinkTable, Tables}
 use Rattle.feature_links.specs.Links.{numbered}
-use Rattle.feature_links.specs.inner.NamedEntries.{numbers_named}
+use Rattle.feature_links.specs.NumbersInRow.{numbers_named}
 use Rattle.feature_links.specs.NamedLinks.{link_numbers}
 
 same_number : (m n : ℕ) → (m == n) ≡ true → m ≡ n

@@ -13,7 +13,8 @@ use Rattle.std.proofs.lemmas.Cmp.{nat_list_cmp_total}
 use Rattle.std.proofs.lemmas.List.{get_or-map, length-map}
 use Rattle.std.proofs.lemmas.List.Sorted.{sorted_far, ranks_by}
 use Rattle.guppy_packages.specs.Rows.{Text}
-use Rattle.feature_links.specs.inner.NamedEntries.{AreOrdered, numbers_named}
+use Rattle.feature_links.specs.inner.NamedEntries.{AreOrdered}
+use Rattle.feature_links.specs.NumbersInRow.{numbers_named}
 
 abbrev Entry : Type 0
 Entry = Bor (List ℕ) × ℕ

@@ -14,7 +14,8 @@ use Rattle.guppy_packages.specs.Rows.{Text}
 use Rattle.guppy_packages.specs.Tables.{Tables, AreTables}
 use Rattle.feature_links.specs.declared.named_row.NamedRows.{NamedRows}
 use Rattle.feature_links.specs.declared.named_row.Span.{Span}
-use Rattle.feature_links.specs.inner.NamedEntries.{AreOrdered, AreRows, IsRow, entries_at, numbers_in_row, numbers_named, part_at}
+use Rattle.feature_links.specs.inner.NamedEntries.{AreOrdered, AreRows, IsRow}
+use Rattle.feature_links.specs.NumbersInRow.{entries_at, numbers_in_row, numbers_named, part_at}
 use Rattle.feature_links.specs.NamedLinks.{link_numbers}
 use Rattle.feature_links.proofs.GroupedLinks.{no_numbers, there}
 use Rattle.feature_links.proofs.NamedEntryLemmas.{names_ordered, zip_parts}

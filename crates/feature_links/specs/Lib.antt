@@ -1,5 +1,6 @@
 pub mod Links
 pub mod Facts
 pub mod Values
+pub mod NumbersInRow
 pub mod NamedLinks
 pub mod inner

@@ -4,7 +4,7 @@ use Rattle.guppy_packages.specs.Rows.{Text}
 use Rattle.guppy_packages.specs.Tables.{Tables}
 use Rattle.feature_links.specs.declared.named_row.OrderedRows.{OrderedRows}
 use Rattle.feature_links.specs.Links.{links_named}
-use Rattle.feature_links.specs.inner.NamedEntries.{numbers_in_row}
+use Rattle.feature_links.specs.NumbersInRow.{numbers_in_row}
 
 -- The numbers of the links that leave package `p` under `name`, ascending.
 abbrev pub link_numbers : Tables → ℕ → Text → List ℕ

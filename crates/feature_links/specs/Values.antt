@@ -1,5 +1,5 @@
 -- Edges and their links as plain values.
-use Rattle.std.specs.Prelude.{[], ◌∷◌, Bool, true, false, Option, None, Some}
+use Rattle.std.specs.Prelude.{ℕ, [], ◌∷◌, Bool, true, false, Option, None, Some}
 use Rattle.std.specs.Option.{option_map}
 use Rattle.guppy_packages.specs.Platform.{Status, always_status, never_status, impl_status}
 use Rattle.feature_links.specs.declared.link.held.HeldLink.{HeldLink}
@@ -7,6 +7,7 @@ use Rattle.feature_links.specs.declared.link.held.HeldLink.TheVariants.{Plain, F
 use Rattle.feature_links.specs.declared.link.held.FullLink.{FullLink}
 use Rattle.feature_links.specs.declared.link.ConditionalLinkImpl.{ConditionalLinkImpl}
 use Rattle.feature_links.specs.declared.link.EnabledLink.{EnabledLink}
+use Rattle.feature_links.specs.declared.edge.WeakIndex.{WeakIndex}
 use Rattle.feature_links.specs.declared.edge.WeakSlashImpl.{WeakSlashImpl}
 use Rattle.feature_links.specs.declared.edge.SlashForm.{SlashForm}
 use Rattle.feature_links.specs.declared.edge.SlashForm.TheVariants.{Strong, Weak}
@@ -45,8 +46,12 @@ link_facts l = held_facts l.held
 abbrev pub half_facts : EnabledLink → Option LinkFacts
 half_facts half = option_map link_facts half.link
 
+-- The number of a weak link.
+abbrev pub weak_number : WeakIndex → ℕ
+weak_number index = index.0
+
 abbrev pub weak_facts_of : WeakSlashImpl → WeakFacts
-weak_facts_of weak = record { index = weak.index.0; required = half_facts weak.required; optional = half_facts weak.optional }
+weak_facts_of weak = record { index = weak_number weak.index; required = half_facts weak.required; optional = half_facts weak.optional }
 
 -- The halves, if the form is weak.
 abbrev pub slash_facts : SlashForm → Option WeakFacts

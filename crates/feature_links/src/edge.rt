@@ -2,7 +2,7 @@
 ghost use Rattle.std.specs.Prelude.{◌≡◌, IfOk, option_copied};
 ghost use Rattle.std.specs.Option.{option_map};
 ghost use Rattle.feature_links.specs.Facts.{full_link, is_dev_only, halves_of, link_at, has_present_link};
-ghost use Rattle.feature_links.specs.Values.{link_facts, half_facts, weak_facts_of, slash_facts, edge_facts};
+ghost use Rattle.feature_links.specs.Values.{link_facts, half_facts, weak_facts_of, weak_number, slash_facts, edge_facts};
 
 use crate::link::{ConditionalLinkImpl, EnabledLink};
 use std::alloc::{AllocError, Global};
@@ -15,14 +15,14 @@ pub struct WeakIndex(usize);
 impl WeakIndex {
     /// Returns the weak link numbered `index`.
     pub fn new(index: usize) -> Self
-        ensures { result.0 ≡ index }
+        ensures { weak_number result ≡ index }
     {
         WeakIndex(index)
     }
 
     /// Returns the number.
     pub fn index(self) -> usize
-        ensures { result ≡ self.0 }
+        ensures { result ≡ weak_number self }
     {
         self.0
     }
@@ -41,7 +41,7 @@ impl WeakSlashImpl {
     pub fn new(required: EnabledLink, optional: EnabledLink, index: WeakIndex) -> Self
         ensures required { (weak_facts_of result).required ≡ half_facts required }
         ensures optional { (weak_facts_of result).optional ≡ half_facts optional }
-        ensures index { (weak_facts_of result).index ≡ index.0 }
+        ensures index { (weak_facts_of result).index ≡ weak_number index }
     {
         WeakSlashImpl {
             required,
@@ -66,7 +66,7 @@ impl WeakSlashImpl {
 
     /// Returns the number of the edge's weak link.
     pub fn index(&self) -> WeakIndex
-        ensures { result.0 ≡ (weak_facts_of self.now).index }
+        ensures { weak_number result ≡ (weak_facts_of self.now).index }
     {
         self.index
     }

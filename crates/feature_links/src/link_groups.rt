@@ -5,7 +5,7 @@ ghost use Rattle.std.specs.Cmp.Lexicographic.{slice_cmp};
 ghost use Rattle.std.specs.Ordering.{nat_cmp};
 ghost use Rattle.guppy_packages.specs.Metadata.{package_graph_of, package_number_of};
 ghost use Rattle.guppy_packages.specs.Rows.{Text};
-ghost use Rattle.feature_links.specs.inner.NamedEntries.{numbers_named};
+ghost use Rattle.feature_links.specs.NumbersInRow.{numbers_named};
 ghost use Rattle.feature_links.specs.NamedLinks.{AreNamedLinks, link_numbers, numbers_under};
 
 use crate::named_row::{NamedRows, OrderedRows};

@@ -5,7 +5,8 @@ ghost use Rattle.std.specs.List.{zip};
 ghost use Rattle.std.specs.Cmp.Lexicographic.{slice_cmp};
 ghost use Rattle.std.specs.Ordering.{is_lt, nat_cmp};
 ghost use Rattle.std.specs.Str.{bytes_eq};
-ghost use Rattle.feature_links.specs.inner.NamedEntries.{AreOrdered, AreRows, numbers_in_row, numbers_named};
+ghost use Rattle.feature_links.specs.inner.NamedEntries.{AreOrdered, AreRows};
+ghost use Rattle.feature_links.specs.NumbersInRow.{numbers_in_row, numbers_named};
 
 use std::alloc::{AllocError, Global};
 

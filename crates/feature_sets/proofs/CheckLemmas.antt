@@ -1,6 +1,7 @@
 -- Checks of named explanations.
-use Rattle.std.proofs.Common.{◌≡◌, ◌∙◌, refl, sym, subst, ℕ, Bool, List, Option, Some, None, length}
-use Rattle.std.specs.Prelude.{◌↔◌, IsTrue, IsFalse, MatchOption, slice_get}
+use Rattle.std.proofs.Common.{◌≡◌, ◌∙◌, ◌++◌, ◌∷◌, [], refl, sym, subst, inl, inr, ℕ, Bool, true, false, cond, ◌||◌, List, Option, Some, None, filter, length}
+use Rattle.std.specs.Prelude.{◌↔◌, ◌==◌, IsTrue, IsFalse, MatchOption, slice_get}
+use Rattle.std.proofs.lemmas.Bool.{eq-eqb}
 use Rattle.std.proofs.lemmas.Option.{none-some, same_Some}
 use Rattle.guppy_support.specs.Bits.{has}
 use Rattle.guppy_packages.specs.declared.direction.DependencyDirection.{DependencyDirection}
@@ -14,17 +15,16 @@ use Rattle.walk_engine.specs.declared.walks.StepReason.{StepReason}
 use Rattle.walk_engine.specs.declared.walks.StepReason.TheVariants.{Initial, Edge, Offer}
 use Rattle.walk_engine.specs.Explanations.{IsReason, IsExplanation, nodes_of}
 use Rattle.walk_engine.specs.Laws.{every}
-use Rattle.walk_engine.specs.Walks.{is_in}
+use Rattle.walk_engine.specs.Walks.{Content, is_in}
 use Rattle.walk_checks.specs.Exact.{all_but, IsExact}
 use Rattle.walk_checks.specs.Whys.{IsWhy}
-use Rattle.feature_sets.specs.Explained.{AreRefused, Explains, ExplainsAll}
+use Rattle.feature_sets.specs.Explained.{AreRefused, Explains, ExplainsAll, IsBacked, ListMembers}
 use Rattle.feature_sets.specs.Names.{HoldsExactly}
 use Rattle.feature_sets.specs.Told.{ReasonName, Explanation}
 use Rattle.feature_sets.specs.Values.{Graph}
-use Rattle.feature_sets.specs.inner.Listings.{IsBacked}
 use Rattle.feature_sets.specs.inner.Numbered.{AreNumbered, IsPossible}
 use Rattle.feature_sets.proofs.Explanations.{exact_same, explanation_grows}
-use Rattle.feature_sets.proofs.NumberedLemmas.{numbered_told, offer_forward, told_numbered}
+use Rattle.feature_sets.proofs.NumberedLemmas.{numbered_told, offer_forward, or_cases, told_numbered}
 use Rattle.feature_sets.proofs.ToldLemmas.{Name}
 
 possible_reason : (g : Graph) (d : DependencyDirection) (I : ℕ → Bool) (A : ℕ → Half → Bool) (before : List ℕ) (n : ℕ) (reason : StepReason) → IsReason (content_of d g.built) I A before n reason → IsPossible g reason
@@ -70,21 +70,56 @@ module _ (g : Graph) (d : DependencyDirection) (names : List Name) (told : List 
           here)),
     )
 
+-- a node in a part of the steps is in all of them
+kept_listed : (p : Step → Bool) (steps : List Step) (n : ℕ) → IsTrue (is_in (nodes_of (filter p steps)) n) → IsTrue (is_in (nodes_of steps) n)
+kept_listed p [] n h = h
+kept_listed p (step ∷ steps) n h =
+    elim (p step) as (λ b. IsTrue (is_in (nodes_of (cond b (step ∷ filter p steps) (filter p steps))) n) → IsTrue ((step.node == n) || is_in (nodes_of steps) n)) [
+      | true ↦ λ k. (or_cases (step.node == n) (is_in (nodes_of steps) n)).1 (elim ((or_cases (step.node == n) (is_in (nodes_of (filter p steps)) n)).0 k) [ inl here ↦ inl here | inr later ↦ inr (kept_listed p steps n later) ])
+      | false ↦ λ k. (or_cases (step.node == n) (is_in (nodes_of steps) n)).1 (inr (kept_listed p steps n k))
+    ]
+    h
+
+last_listed : (before : List Step) (step : Step) → IsTrue (is_in (nodes_of (before ++ step ∷ [])) step.node)
+last_listed [] step = (or_cases (step.node == step.node) false).1 (inl (eq-eqb step.node step.node refl))
+last_listed (x ∷ before) step = (or_cases (x.node == step.node) (is_in (nodes_of (before ++ step ∷ [])) step.node)).1 (inr (last_listed before step))
+
+-- a node with a reason chain is in the explanation
+why_lists : (c : Content) (I : ℕ → Bool) (A : ℕ → Half → Bool) (steps : List Step) (node : ℕ) (kept : List Step) → IsWhy c I A steps node kept → IsTrue (is_in (nodes_of steps) node)
+why_lists c I A steps node kept w =
+    let last = w.last in
+    let there : IsTrue (is_in (nodes_of kept) last.1.node) = subst (λ l. IsTrue (is_in (nodes_of l) last.1.node)) (sym last.2) (last_listed last.0 last.1) in
+    kept_listed (λ step. w.rests step.node) steps node (subst (λ n. IsTrue (is_in (nodes_of (filter (λ step. w.rests step.node) steps)) n)) last.3 (subst (λ l. IsTrue (is_in (nodes_of l) last.1.node)) w.part there))
+
+-- the node is a member, and these steps are its reason chain
+pub record KeptWhy (x : Explanation) (node : ℕ) (kept : List Step) : Type 0 where
+  pub member : IsTrue (has x.members node)
+  pub why : (initials : List Bool) (A : ℕ → Half → Bool) → length initials ≡ length (nodes x.graph.tables) → IsExplanation (content_of x.direction x.graph.built) (has initials) A x.steps → IsWhy (content_of x.direction x.graph.built) (has initials) A x.steps node kept
+
 -- the reason chain of a node, in an explanation given by its parts
 module _ {K : Type 0} (items : K → List Step) where
   abbrev pub TellsWhy : Explanation → Name → Option K → Type 0
-  TellsWhy x name found = (n : ℕ) (initials : List Bool) (A : ℕ → Half → Bool) → NodeNamed x.graph.tables n name → length initials ≡ length (nodes x.graph.tables) → IsExplanation (content_of x.direction x.graph.built) (has initials) A x.steps
-      → MatchOption found (IsFalse (is_in (nodes_of x.steps) n)) (λ kept. IsWhy (content_of x.direction x.graph.built) (has initials) A x.steps n (items kept))
+  TellsWhy x name found = (n : ℕ) → NodeNamed x.graph.tables n name → MatchOption found (IsFalse (has x.members n)) (λ kept. KeptWhy x n (items kept))
 
-  module _ (x : Explanation) (node : ℕ) (found : Option K) (count : length x.graph.built.packages ≡ length (nodes x.graph.tables)) (why : (initials : List Bool) (A : ℕ → Half → Bool) → length initials ≡ length x.graph.built.packages → IsExplanation (content_of x.direction x.graph.built) (has initials) A x.steps → MatchOption found (IsFalse (is_in (nodes_of x.steps) node)) (λ kept. IsWhy (content_of x.direction x.graph.built) (has initials) A x.steps node (items kept))) where
-    pub tells_why : (y : Explanation) (name : Name) → x ≡ y → ((n : ℕ) → (◌≡◌ {A = Option ℕ} (Some node) (Some n)) ↔ NodeNamed x.graph.tables n name) → TellsWhy y name found
-    tells_why y name is named =
+  module _ (x : Explanation) (node : ℕ) (found : Option K) (count : length x.graph.built.packages ≡ length (nodes x.graph.tables)) (why : (initials : List Bool) (A : ℕ → Half → Bool) → length initials ≡ length x.graph.built.packages → IsExplanation (content_of x.direction x.graph.built) (has initials) A x.steps → MatchOption found (IsFalse (is_in (nodes_of x.steps) node)) (λ kept. IsWhy (content_of x.direction x.graph.built) (has initials) A x.steps node (items kept))) (backed : IsBacked x.graph x.direction x.steps) where
+    -- the clause of `why` for one explanation and one result
+    why_at : (o : Option K) → found ≡ o → (initials : List Bool) (A : ℕ → Half → Bool) → length initials ≡ length (nodes x.graph.tables) → IsExplanation (content_of x.direction x.graph.built) (has initials) A x.steps
+        → MatchOption o (IsFalse (is_in (nodes_of x.steps) node)) (λ kept. IsWhy (content_of x.direction x.graph.built) (has initials) A x.steps node (items kept))
+    why_at o is initials A long explained =
+        subst (λ z. MatchOption z (IsFalse (is_in (nodes_of x.steps) node)) (λ kept. IsWhy (content_of x.direction x.graph.built) (has initials) A x.steps node (items kept))) is (why initials A (long ∙ sym count) explained)
+
+    member_why : ListMembers x.members x.steps → (o : Option K) → found ≡ o → MatchOption o (IsFalse (has x.members node)) (λ kept. KeptWhy x node (items kept))
+    member_why listed None is = listed node ∙ why_at None is backed.0 backed.1 backed.2 backed.3
+    member_why listed (Some kept) is = record {
+      member = listed node ∙ why_lists (content_of x.direction x.graph.built) (has backed.0) backed.1 x.steps node (items kept) (why_at (Some kept) is backed.0 backed.1 backed.2 backed.3);
+      why = why_at (Some kept) is;
+    }
+
+    pub tells_why : ListMembers x.members x.steps → (y : Explanation) (name : Name) → x ≡ y → ((n : ℕ) → (◌≡◌ {A = Option ℕ} (Some node) (Some n)) ↔ NodeNamed x.graph.tables n name) → TellsWhy y name found
+    tells_why listed y name is named =
         subst (λ z. TellsWhy z name found) is
-        (λ n initials A at long explained.
-        subst (λ k. MatchOption found (IsFalse (is_in (nodes_of x.steps) k)) (λ kept. IsWhy (content_of x.direction x.graph.built) (has initials) A x.steps k (items kept))) (same_Some node n ((named n).1 at)) (why initials A (long ∙ sym count) explained))
+        (λ n at. subst (λ k. MatchOption found (IsFalse (has x.members k)) (λ kept. KeptWhy x k (items kept))) (same_Some node n ((named n).1 at)) (member_why listed found refl))
 
     -- the kept steps are an explanation themselves
-    pub kept_backed : (kept : K) → found ≡ Some kept → IsBacked x.graph x.direction x.steps → IsBacked x.graph x.direction (items kept)
-    kept_backed kept is (initials, A, long, explained) =
-        let told : IsWhy (content_of x.direction x.graph.built) (has initials) A x.steps node (items kept) = subst (λ o. MatchOption o (IsFalse (is_in (nodes_of x.steps) node)) (λ k. IsWhy (content_of x.direction x.graph.built) (has initials) A x.steps node (items k))) is (why initials A (long ∙ sym count) explained) in
-        (initials, A, long, told.explanation)
+    pub kept_backed : (kept : K) → found ≡ Some kept → IsBacked x.graph x.direction (items kept)
+    kept_backed kept is = (backed.0, backed.1, backed.2, (why_at (Some kept) is backed.0 backed.1 backed.2 backed.3).explanation)

@@ -7,7 +7,7 @@ mod PackageLemmas
 mod SetLemmas
 mod VerifyLemmas
 pub mod MemberNames
-mod Visits
+pub mod Visits
 pub mod WorkspaceLemmas
 pub mod RangeLemmas
 pub mod SameFeatures
@@ -20,5 +20,7 @@ pub mod PackageViewLemmas
 pub mod TiedLemmas
 mod ToldLemmas
 mod NumberedLemmas
-mod Explanations
+pub mod Explanations
 mod CheckLemmas
+mod PassLemmas
+pub mod LentLemmas

@@ -40,10 +40,10 @@ edge_has es k x is =
     let there = slice_get-map end_of es k ∙ ap (option_map end_of) is in
     record { edge = end_of x; listed = (k, slice_get_within (map end_of es) k (end_of x) there, get_or_from_slice_get (map end_of es) k (end_of x) (end_of x) there); from = refl; to = refl }
 
-heads_same : {X : Type 0} (x y : X) (xs ys : List X) → ◌≡◌ {A = List X} (x ∷ xs) (y ∷ ys) → x ≡ y
+pub heads_same : {X : Type 0} (x y : X) (xs ys : List X) → ◌≡◌ {A = List X} (x ∷ xs) (y ∷ ys) → x ≡ y
 heads_same x y xs ys h = cc
 
-tails_same : {X : Type 0} (x y : X) (xs ys : List X) → ◌≡◌ {A = List X} (x ∷ xs) (y ∷ ys) → xs ≡ ys
+pub tails_same : {X : Type 0} (x y : X) (xs ys : List X) → ◌≡◌ {A = List X} (x ∷ xs) (y ∷ ys) → xs ≡ ys
 tails_same x y xs ys h = cc
 
 -- the offered halves of an edge are the same in both directions

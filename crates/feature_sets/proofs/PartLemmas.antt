@@ -11,7 +11,7 @@ use Rattle.feature_core.specs.Built.{NodeNamed}
 use Rattle.feature_core.specs.Nodes.{nodes}
 use Rattle.feature_sets.proofs.ListLemmas.{element_cases}
 use Rattle.feature_sets.specs.Ordered.{AtOrder, ordered_nodes}
-use Rattle.feature_sets.specs.Parts.{CallsAt, Calls, IsPart}
+use Rattle.feature_sets.specs.Parts.{CallsAt, Calls, IsPart, MayCallEach}
 use Rattle.feature_sets.specs.Values.{Set}
 use Rattle.feature_sets.specs.Views.{feature_name_of, feature_tables_of}
 use Rattle.feature_sets.specs.declared.metadata.FeatureMetadata.{FeatureMetadata}
@@ -79,6 +79,14 @@ module _ {F A : Type 0} (step : F → FeatureMetadata → A → F → Type 0) (f
     one_filled = filled_more first before.calls (length (nodes t)) node answer one one_more before.one_filled put;
     other_filled = filled_more second before.calls (length (nodes t)) node answer other other_more before.other_filled put_other;
   }
+
+-- a callback that may be called for a list of nodes may be called for the first, and then for the others
+module _ {F A : Type 0} (pre : F → FeatureMetadata → Type 0) (step : F → FeatureMetadata → A → F → Type 0) (t : Tables) (numbers rest : List ℕ) (node : ℕ) (f : F) (may : MayCallEach pre step t numbers f) (is : numbers ≡ node ∷ rest) where
+  pub may_call : (m : FeatureMetadata) → feature_tables_of m ≡ t → NodeNamed t node (feature_name_of m) → pre f m
+  may_call m of named = may [] f node rest m refl (sym is) of named
+
+  pub may_rest : (answer : A) (g : F) → CallsAt step t f (node, answer) g → MayCallEach pre step t rest g
+  may_rest answer g call calls h n later m folds same of named = may ((node, answer) ∷ calls) h n later m (g, call, folds) (ap (λ l. node ∷ l) same ∙ sym is) of named
 
 -- at the end the callback was called for all features
 pub calls_made : {F A : Type 0} (step : F → FeatureMetadata → A → F → Type 0) (first second : A → Bool) (direction : DependencyDirection) (s : Set) (t : Tables) (numbers : List ℕ) (f g : F) (one other : List Bool) (a b : Set)

@@ -28,7 +28,8 @@ use Rattle.feature_sets.specs.LinkValues.{facts_of}
 use Rattle.feature_sets.specs.Told.{ReasonName, ends_told, offer_told, reason_told, step_told, link, edge}
 use Rattle.feature_sets.specs.Values.{Graph}
 use Rattle.feature_sets.specs.Visits.{offered}
-use Rattle.feature_sets.specs.inner.Listings.{AreOffered, IsBacked}
+use Rattle.feature_sets.specs.Explained.{IsBacked}
+use Rattle.feature_sets.specs.inner.Listings.{AreOffered}
 use Rattle.feature_sets.proofs.Offered.{OffersAreLinks, link_ends}
 use Rattle.feature_sets.proofs.OptionLemmas.{there_some, some_there, bound_is, bound, mapped_is, mapped}
 

@@ -1,6 +1,6 @@
 -- The calls of a filter, node by node.
 use Rattle.std.proofs.Common.{◌≡◌, ◌<◌, ℕ, zero, suc, ◌+◌, ◌++◌, ◌⊎◌, inl, inr, ⊎_elim, Bool, true, false, cond, List, [], ◌∷◌, length, map, filter, take, Some, refl, ap, sym, ◌∙◌, subst, arith, append-nil, replicate}
-use Rattle.std.specs.Prelude.{◌↔◌, IsTrue, slice_get, Contains}
+use Rattle.std.specs.Prelude.{◌↔◌, IsTrue, slice_get}
 use Rattle.std.specs.List.{enumerate_from}
 use Rattle.std.proofs.lemmas.Fn.{FoldsTo-push}
 use Rattle.std.proofs.lemmas.List.{map-append, length-replicate}
@@ -39,21 +39,24 @@ picked-more {X} passes q (y ∷ xs) (suc n) x at =
     ]
     ∙ ap (λ k. picked passes q (take (suc n) (y ∷ xs)) ++ cond (passes k) (x ∷ []) []) (omega arith)
 
--- an element whose index passes is picked
-picked_has : {X : Type 0} (passes : ℕ → Bool) (q : ℕ) (xs : List X) (n : ℕ) (x : X) → slice_get xs n ≡ Some x → passes (q + n) ≡ true → Contains (picked passes q xs) x
+-- an element whose index passes is picked, right after the picked ones before it
+picked_has : {X : Type 0} (passes : ℕ → Bool) (q : ℕ) (xs : List X) (n : ℕ) (x : X) → slice_get xs n ≡ Some x → passes (q + n) ≡ true → (later : List X) × (picked passes q (take n xs) ++ x ∷ later ≡ picked passes q xs)
 picked_has passes q [] n x at h = cc
 picked_has {X} passes q (y ∷ xs) zero x at h =
-    let same : y ≡ x = cc in
+    let same : x ≡ y = cc in
     let here : passes q ≡ true = subst (λ k. passes k ≡ true) (omega arith) h in
     let later = filter (λ p. passes p.0) (enumerate_from (q + 1) xs) in
-    subst (λ b. Contains (map {A = ℕ × X} (λ p. p.1) (cond b ((q, y) ∷ later) later)) x) (sym here) (0, omega arith, same)
+    (map (λ p. p.1) later, ap (λ z. z ∷ map {A = ℕ × X} (λ p. p.1) later) same ∙ ap (λ b. map {A = ℕ × X} (λ p. p.1) (cond b ((q, y) ∷ later) later)) (sym here))
 picked_has {X} passes q (y ∷ xs) (suc n) x at h =
     let rest = picked_has passes (q + 1) xs n x at (subst (λ k. passes k ≡ true) (omega arith) h) in
-    let later = filter (λ p. passes p.0) (enumerate_from (q + 1) xs) in
-    elim (passes q) as (λ b. Contains (map {A = ℕ × X} (λ p. p.1) (cond b ((q, y) ∷ later) later)) x) [
-      | true ↦ (suc rest.0, omega (arith, rest.1), rest.2)
-      | false ↦ rest
-    ]
+    let all = filter (λ p. passes p.0) (enumerate_from (q + 1) xs) in
+    let some = filter (λ p. passes p.0) (enumerate_from (q + 1) (take n xs)) in (
+      rest.0,
+      elim (passes q) as (λ b. map {A = ℕ × X} (λ p. p.1) (cond b ((q, y) ∷ some) some) ++ x ∷ rest.0 ≡ map {A = ℕ × X} (λ p. p.1) (cond b ((q, y) ∷ all) all)) [
+        | true ↦ ap (λ l. y ∷ l) rest.1
+        | false ↦ rest.1
+      ],
+    )
 
 -- an element of the first list keeps its index in the concatenation
 got_before : {X : Type 0} (xs ys : List X) (k : ℕ) (x : X) → slice_get xs k ≡ Some x → slice_get (xs ++ ys) k ≡ Some x
@@ -65,7 +68,7 @@ got_last : {X : Type 0} (xs : List X) (x : X) → slice_get (xs ++ x ∷ []) (le
 got_last [] x = refl
 got_last (y ∷ xs) x = got_last xs x
 
-got_pushed : {X : Type 0} (xs : List X) (x : X) (k : ℕ) (y : X) → slice_get (xs ++ x ∷ []) k ≡ Some y → (slice_get xs k ≡ Some y) ⊎ (x ≡ y)
+pub got_pushed : {X : Type 0} (xs : List X) (x : X) (k : ℕ) (y : X) → slice_get (xs ++ x ∷ []) k ≡ Some y → (slice_get xs k ≡ Some y) ⊎ (x ≡ y)
 got_pushed [] x zero y h = inr (cc)
 got_pushed [] x (suc k) y h = cc
 got_pushed (z ∷ xs) x zero y h = inl h
@@ -198,7 +201,8 @@ module _ {S : Type 0} (gives : S → Graph → Text × LabelName → Bool → S 
   may_ask_node can node t members name may mark h named =
       let passes = has (workspace_marks g.tables) in
       let passing : passes (0 + node) ≡ true = mark_next node true mark in
-      may h.run t h.steps name (picked_has passes 0 (nodes g.tables) node name named passing)
+      let place = picked_has passes 0 (nodes g.tables) node name named passing in
+      may h.run t name place.0 h.steps (ap (λ l. l ++ name ∷ place.0) h.each ∙ place.1)
 
 -- an element of a concatenation is in one of its two lists
 got_apart : {X : Type 0} (xs ys : List X) (n : ℕ) (x : X) → slice_get (xs ++ ys) n ≡ Some x → (slice_get xs n ≡ Some x) ⊎ ((m : ℕ) × (slice_get ys m ≡ Some x))

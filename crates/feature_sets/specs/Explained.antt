@@ -1,20 +1,30 @@
 -- Explanations whose steps are named, and complete ones.
-use Rattle.std.specs.Prelude.{◌≡◌, ◌↔◌, ℕ, Bool, List, Some, IsTrue, map, slice_get}
+use Rattle.std.specs.Prelude.{◌≡◌, ◌↔◌, ℕ, Bool, List, Some, IsTrue, length, map, slice_get}
 use Rattle.guppy_support.specs.Bits.{has}
 use Rattle.guppy_packages.specs.Rows.{Text}
 use Rattle.guppy_packages.specs.declared.direction.DependencyDirection.{DependencyDirection}
 use Rattle.feature_labels.specs.Names.{LabelName}
 use Rattle.feature_labels.specs.declared.link_declarations.LinkDeclarations.{LinkDeclarations}
+use Rattle.feature_core.specs.Nodes.{nodes}
 use Rattle.feature_core.specs.Offers.{content_of, IsOffer}
 use Rattle.walk_engine.specs.declared.walks.Half.{Half}
 use Rattle.walk_engine.specs.declared.walks.Step.{Step}
-use Rattle.walk_engine.specs.Explanations.{IsExplanation}
+use Rattle.walk_engine.specs.Explanations.{IsExplanation, nodes_of}
 use Rattle.walk_engine.specs.Laws.{every}
+use Rattle.walk_engine.specs.Walks.{is_in}
 use Rattle.walk_checks.specs.Exact.{is_refused, IsExact}
 use Rattle.walk_checks.specs.Whys.{IsWhy}
 use Rattle.feature_sets.specs.Names.{HoldsExactly}
 use Rattle.feature_sets.specs.Told.{ReasonName, Explanation, offer_told, step_told}
 use Rattle.feature_sets.specs.Values.{Graph}
+
+-- the steps are an explanation, from some initial features and by some offers
+abbrev pub IsBacked : Graph → DependencyDirection → List Step → Type 0
+IsBacked g direction steps = (initials : List Bool) × (A : ℕ → Half → Bool) × (length initials ≡ length (nodes g.tables)) × IsExplanation (content_of direction g.built) (has initials) A steps
+
+-- the steps list exactly the members
+abbrev pub ListMembers : List Bool → List Step → Type 0
+ListMembers members steps = (n : ℕ) → has members n ≡ is_in (nodes_of steps) n
 
 -- the names of the steps
 abbrev pub AreTold : Graph → List Step → List ((Text × LabelName) × ReasonName) → Type 0
@@ -56,3 +66,14 @@ pub record ExplainsOne (x : Explanation) (initials : List Bool) (A : ℕ → Hal
   pub steps : List Step
   pub are_steps : AreTold x.graph steps told
   pub why : IsWhy (content_of x.direction x.graph.built) (has initials) A x.steps node steps
+
+-- the node is a member, and the named steps are its reason chain, for all initial features and offers that the steps explain
+pub record ExplainsMember (x : Explanation) (node : ℕ) (told : List ((Text × LabelName) × ReasonName)) : Type 0 where
+  pub member : IsTrue (has x.members node)
+  pub why : (initials : List Bool) (A : ℕ → Half → Bool) → length initials ≡ length (nodes x.graph.tables) → IsExplanation (content_of x.direction x.graph.built) (has initials) A x.steps → ExplainsOne x initials A node told
+
+-- the steps and refused offers pass both checks, once they are named
+pub record PassesChecks (g : Graph) (direction : DependencyDirection) (initials : List Bool) (steps : List Step) (refused : List (ℕ × Half)) : Type 0 where
+  pub explains : (names : List (Text × LabelName)) (told : List ((Text × LabelName) × ReasonName)) → HoldsExactly g.tables initials names → AreTold g steps told → Explains g direction names told
+  pub explains_all : (names : List (Text × LabelName)) (told : List ((Text × LabelName) × ReasonName)) (entries : List ((Text × LabelName) × (Text × LabelName) × LinkDeclarations))
+      → HoldsExactly g.tables initials names → AreTold g steps told → OffersAreTold g refused entries → ExplainsAll g direction names told entries

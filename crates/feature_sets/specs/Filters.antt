@@ -1,5 +1,5 @@
 -- Filters over features: calls of a filter for several features, and the standard filters.
-use Rattle.std.specs.Prelude.{◌≡◌, ◌↔◌, ◌⊎◌, ℕ, Bool, List, IsTrue, Contains, map, filter, length}
+use Rattle.std.specs.Prelude.{◌≡◌, ◌↔◌, ◌⊎◌, ◌++◌, ◌∷◌, ℕ, Bool, List, IsTrue, map, filter, length}
 use Rattle.std.specs.List.{FoldsTo}
 use Rattle.guppy_support.specs.Bits.{has}
 use Rattle.guppy_packages.specs.Rows.{Text}
@@ -22,9 +22,9 @@ Run = List ((Text × LabelName) × Bool)
 abbrev pub Ran : {S : Type 0} → (S → Graph → Text × LabelName → Bool → S → Type 0) → Graph → S → Run → S → Type 0
 Ran gives g s run t = FoldsTo (λ p x q. gives p g x.0 x.1 q) s run t
 
--- the filter may be called for each of these names, in every state that such calls lead to
+-- the filter may be called for these names in their order: for each name, in every state that calls for the names before it lead to
 abbrev pub MayAskEach : {S : Type 0} → (S → Graph → Text × LabelName → Type 0) → (S → Graph → Text × LabelName → Bool → S → Type 0) → Graph → List (Text × LabelName) → S → Type 0
-MayAskEach {S} can gives g names s = (run : Run) (t : S) → Ran gives g s run t → (name : Text × LabelName) → Contains names name → can t g name
+MayAskEach {S} can gives g names s = (run : Run) (t : S) (name : Text × LabelName) (later : List (Text × LabelName)) → Ran gives g s run t → map (λ x. x.0) run ++ name ∷ later ≡ names → can t g name
 
 -- the names for which the filter returned true
 abbrev pub accepted : Run → List (Text × LabelName)

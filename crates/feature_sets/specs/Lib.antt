@@ -10,6 +10,7 @@ pub mod Visits
 pub mod Boxed
 pub mod ByClosure
 pub mod Filters
+pub mod Lent
 pub mod Packages
 pub mod PackageLists
 pub mod PackageViews

@@ -1,6 +1,6 @@
 -- The features and packages of a graph by their names, and the errors of look-ups by name.
 use Rattle.std.specs.Prelude.{◌≡◌, ◌↔◌, ◌<◌, ℕ, List, Bool, Some, IsTrue, Contains, filter, map, slice_get, length}
-use Rattle.std.specs.List.{enumerate_from, filter_map}
+use Rattle.std.specs.List.{enumerate_from, filter_map, list_any}
 use Rattle.guppy_support.specs.Bits.{has}
 use Rattle.guppy_packages.specs.Rows.{Text}
 use Rattle.guppy_packages.specs.Tables.{PackageTable, Tables, package_place}
@@ -11,10 +11,15 @@ use Rattle.feature_core.specs.Built.{NodeNamed}
 use Rattle.feature_core.specs.Defaults.{IsDefault}
 use Rattle.feature_core.specs.Pairs.{IsPairList}
 use Rattle.feature_core.specs.Errors.{Refusal, unknown_package, unknown_feature, internal_error, no_memory}
+use Rattle.feature_sets.specs.SetValues.{name_eq}
 
 -- the graph has a feature of this name
 abbrev pub HasFeature : Tables → Text × LabelName → Type 0
 HasFeature t name = (n : ℕ) × NodeNamed t n name
+
+-- true if the graph has a feature of this name
+abbrev pub has_feature : Tables → Text × LabelName → Bool
+has_feature t name = list_any (name_eq name) (nodes t)
 
 -- the graph has a package with this id
 abbrev pub HasPackage : Tables → Text → Type 0

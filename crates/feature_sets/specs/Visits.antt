@@ -24,6 +24,10 @@ showable can q s e h = can s q (offered q.graph e h)
 abbrev pub shown : {V : Type 0} → (V → Query → Link → Bool → V → Type 0) → Query → V → ℕ → Half → Bool → V → Type 0
 shown gives q s e h answer t = gives s q (offered q.graph e h) answer t
 
+-- an offerer without a state, which answers each offer as the test says
+abbrev pub answered : (ℕ → Half → Bool) → Unit {0} → ℕ → Half → Bool → Unit {0} → Type 0
+answered A s e h answer t = answer ≡ A e h
+
 -- the link starts, in the query's direction, at a feature with the name of an initial one
 abbrev pub StartsFromInitial : Query → Link → Type 0
 StartsFromInitial q l = (n : ℕ) × (slice_get (nodes q.graph.tables) n ≡ start_name q.direction l) × IsTrue (has q.initials n)

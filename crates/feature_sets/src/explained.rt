@@ -1,18 +1,13 @@
 //! Explained sets: a resolved set with the reason for each of its features.
-ghost use Rattle.std.specs.Prelude.{◌≡◌, ℕ, Bool, List, Some, IsFalse, IfOk, IfErr, MatchOption, ◌∷◌, [], length, map};
+ghost use Rattle.std.specs.Prelude.{◌≡◌, ℕ, Some, IsFalse, IfOk, IfErr, MatchOption, ◌∷◌, [], map};
 ghost use Rattle.guppy_support.specs.Bits.{has};
 ghost use Rattle.feature_labels.specs.Names.{id_of};
 ghost use Rattle.feature_core.specs.Built.{NodeNamed};
 ghost use Rattle.feature_core.specs.Errors.{refusal_of};
-ghost use Rattle.feature_core.specs.Nodes.{nodes};
-ghost use Rattle.feature_core.specs.Offers.{content_of};
-ghost use Rattle.walk_engine.specs.Explanations.{IsExplanation, nodes_of};
-ghost use Rattle.walk_engine.specs.Walks.{is_in};
-ghost use Rattle.walk_engine.specs.declared.walks.Half.{Half};
-ghost use Rattle.feature_sets.specs.Explained.{AreTold, ExplainsOne, OffersAreTold};
+ghost use Rattle.feature_sets.specs.Explained.{AreTold, ExplainsMember, IsBacked, ListMembers, OffersAreTold};
 ghost use Rattle.feature_sets.specs.Names.{HasFeature, RefusesNames};
 ghost use Rattle.feature_sets.specs.Told.{offer_name, step_name};
-ghost use Rattle.feature_sets.specs.inner.Listings.{AreOffered, IsBacked};
+ghost use Rattle.feature_sets.specs.inner.Listings.{AreOffered};
 
 use crate::set::FeatureSet;
 use crate::telling::{told_offers, told_steps};
@@ -59,8 +54,7 @@ pub struct Explained<'g> {
 impl<'g> Model for Explained<'g> {
     ghost use Rattle.std.specs.Prelude.{map};
     ghost use Rattle.feature_sets.specs.Told.{Explanation, offer_name, step_name};
-    ghost use Rattle.feature_sets.specs.Explained.{AreTold, OffersAreTold};
-    ghost use Rattle.feature_sets.specs.inner.Listings.{IsBacked};
+    ghost use Rattle.feature_sets.specs.Explained.{AreTold, IsBacked, ListMembers, OffersAreTold};
 
     ghost Value = { Explanation };
 
@@ -69,7 +63,8 @@ impl<'g> Model for Explained<'g> {
     ghost invariant = { λ x.
         AreTold x.set.graph x.numbers.items (map step_name x.steps.items)
         × OffersAreTold x.set.graph x.refused_numbers.items (map offer_name x.refused.items)
-        × IsBacked x.set.graph x.direction x.numbers.items };
+        × IsBacked x.set.graph x.direction x.numbers.items
+        × ListMembers x.set.members x.numbers.items };
 }
 
 impl<'g> Explained<'g> {
@@ -82,6 +77,7 @@ impl<'g> Explained<'g> {
         refused_numbers: Vec<(usize, Half)>,
     ) -> Result<Explained<'g>, AllocError>
         requires backed { IsBacked set.graph direction numbers.items }
+        requires listed { ListMembers set.members numbers.items }
         requires offers { AreOffered set.graph refused_numbers.items }
         ensures { IfOk result (λ x. x ≡ record { graph = set.entry.graph; direction = direction; members = set.entry.members; steps = numbers.items; refused = refused_numbers.items }) }
     {
@@ -108,9 +104,11 @@ impl<'g> Explained<'g> {
     }
 
     /// Returns each feature of the set once, with its reason, in the order in which the walk reached them. A reason
-    /// uses only earlier features.
+    /// uses only earlier features. The steps are an explanation, from some initial features and by some links.
     pub fn steps(&self) -> &[(FeatureId<'g>, Reason<'g>)]
-        ensures { AreTold self.now.graph self.now.steps (map step_name result.now) }
+        ensures told { AreTold self.now.graph self.now.steps (map step_name result.now) }
+        ensures listed { ListMembers self.now.members self.now.steps }
+        ensures backed { IsBacked self.now.graph self.now.direction self.now.steps }
     {
         self.steps.as_slice()
     }
@@ -140,11 +138,8 @@ impl<'g> Explained<'g> {
         feature_id: FeatureId<'a>,
     ) -> Result<Option<Vec<(FeatureId<'g>, Reason<'g>)>>, Error<'a>>
         ensures known { IfOk result (λ _. HasFeature self.now.graph.tables (id_of feature_id.entry)) }
-        ensures told { IfOk result (λ found. (n : ℕ) (initials : List Bool) (A : ℕ → Half → Bool)
-            → NodeNamed self.now.graph.tables n (id_of feature_id.entry) → length initials ≡ length (nodes self.now.graph.tables)
-            → IsExplanation (content_of self.now.direction self.now.graph.built) (has initials) A self.now.steps
-            → MatchOption found (IsFalse (is_in (nodes_of self.now.steps) n))
-            (λ told. ExplainsOne self.now initials A n (map step_name told.items))) }
+        ensures told { IfOk result (λ found. (n : ℕ) → NodeNamed self.now.graph.tables n (id_of feature_id.entry)
+            → MatchOption found (IsFalse (has self.now.members n)) (λ why. ExplainsMember self.now n (map step_name why.items))) }
         ensures refused { IfErr result (λ e. RefusesNames self.now.graph.tables (id_of feature_id.entry ∷ []) (refusal_of e)) }
     {
         let graph = *self.set.graph();

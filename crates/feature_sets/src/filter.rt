@@ -3,6 +3,7 @@ ghost use Rattle.std.specs.Prelude.{◌≡◌};
 ghost use Rattle.feature_labels.specs.Names.{id_of};
 ghost use Rattle.feature_labels.specs.declared.feature_id.FeatureId.{FeatureId};
 ghost use Rattle.feature_sets.specs.Boxed.{leaves};
+ghost use Rattle.feature_sets.specs.Lent.{lent_accept};
 ghost use Rattle.feature_sets.specs.Names.{HasFeature};
 ghost use Rattle.feature_sets.specs.Views.{graph_of};
 ghost use Rattle.feature_sets.specs.declared.graph.FeatureGraph.{FeatureGraph};
@@ -32,7 +33,7 @@ pub trait FeatureFilter<'g> {
 impl<'g, T: FeatureFilter<'g>> FeatureFilter<'g> for &mut T {
     ghost can_accept = { λ s g i. T.can_accept s.now g i };
 
-    ghost accept_gives = { λ s g i r t. T.accept_gives s.now g i r t.now };
+    ghost accept_gives = { lent_accept T.accept_gives };
 
     fn accept(&mut self, graph: &FeatureGraph<'g>, feature_id: FeatureId<'g>) -> bool {
         (**self).accept(graph, feature_id)

@@ -1,6 +1,7 @@
 //! Laws of visitors, explanations and parts. Each function does nothing: its contract is the law. The laws of the
 //! crates below are re-exported.
-ghost use Rattle.std.specs.Prelude.{◌↔◌, ℕ, Bool, List, IsTrue};
+ghost use Rattle.std.specs.Borrow.{MutBor};
+ghost use Rattle.std.specs.Prelude.{◌≡◌, ◌↔◌, ℕ, Bool, List, IsTrue};
 ghost use Rattle.guppy_support.specs.Bits.{has};
 ghost use Rattle.walk_engine.specs.declared.walks.Half.{Half};
 ghost use Rattle.walk_checks.specs.Exact.{IsExact};
@@ -8,11 +9,19 @@ ghost use Rattle.walk_engine.specs.Explanations.{IsExplainedWalk, IsExplanation}
 ghost use Rattle.walk_engine.specs.Laws.{AnswersBy, every};
 ghost use Rattle.walk_engine.specs.declared.walks.Step.{Step};
 ghost use Rattle.walk_engine.specs.Walks.{Call, Agrees, GoesAlong, IsWalk, Least};
+ghost use Rattle.feature_sets.specs.Explained.{PassesChecks};
+ghost use Rattle.feature_sets.specs.Filters.{Ran, Run};
+ghost use Rattle.feature_sets.specs.Lent.{lent_accept, lent_visit};
 ghost use Rattle.feature_sets.specs.PartLaws.{FilterIsFirst, PartitionIsSplit};
-ghost use Rattle.feature_sets.specs.Values.{Query};
+ghost use Rattle.feature_sets.specs.Values.{Graph, Query};
+ghost use Rattle.feature_sets.specs.Views.{graph_of};
 ghost use Rattle.feature_sets.specs.Visits.{query_content, shown};
 
+use crate::filter::FeatureFilter;
+use crate::graph::FeatureGraph;
 use crate::visitor::FeatureLinkVisitor;
+pub use feature_core::graph_laws;
+use feature_core::graph_laws::link_names_offer;
 pub use feature_core::laws::{
     agrees_by_answer, common_cycle_symmetric, exact_is_least, explained_in_least, least_monotone,
     links_are_present, one_candidate, one_result, order_respects_edges, reach_additive,
@@ -46,6 +55,29 @@ pub fn resolved_is_exact<'g, V: FeatureLinkVisitor<'g>>()
 {
     run_is_exact();
 }
+
+/// The result of `resolve_explained` over `graph` passes both checks of `graph`: its named steps are an explanation
+/// (`Explains`), and with its named refused links a complete one (`ExplainsAll`).
+pub fn resolved_passes_checks<'g, V: FeatureLinkVisitor<'g>>(graph: FeatureGraph<'g>)
+    ensures { (q : Query) (s t : V) (M : ℕ → Bool) (steps : List Step) (refused : List (ℕ × Half)) → q.graph ≡ graph_of graph.entry
+        → IsExplainedWalk (query_content q) (has q.initials) (shown V.visit_gives q) s t M steps refused
+        → PassesChecks q.graph q.direction q.initials steps refused }
+{
+    link_names_offer(graph.graph);
+    run_is_exact();
+}
+
+/// A visitor that is a `&mut` stays the same reference in each run, and its states are those of the visitor behind it.
+pub fn lent_visitor_stays<'g, V: FeatureLinkVisitor<'g>>()
+    ensures { (q : Query) (s t : MutBor V) (run : List Call) → GoesAlong (shown (lent_visit V.visit_gives) q) s run t
+        → (t.ghost_name ≡ s.ghost_name) × GoesAlong (shown V.visit_gives q) s.now run t.now }
+{}
+
+/// A filter that is a `&mut` stays the same reference in each run, and its states are those of the filter behind it.
+pub fn lent_filter_stays<'g, F: FeatureFilter<'g>>()
+    ensures { (g : Graph) (s t : MutBor F) (run : Run) → Ran (lent_accept F.accept_gives) g s run t
+        → (t.ghost_name ≡ s.ghost_name) × Ran F.accept_gives g s.now run t.now }
+{}
 
 /// If a callback returned true or false once for each feature of a set, the two parts are disjoint and their union is
 /// the set. The same results make the same part, in `filter` and in `partition`.

@@ -1,26 +1,29 @@
 //! Features of a graph, with their packages.
-ghost use Rattle.std.specs.Prelude.{◌≡◌, ◌↔◌, IsSome, IfSome, Contains};
+ghost use Rattle.std.specs.Prelude.{◌≡◌, ◌↔◌, IsSome, IsTrue, IfSome, Contains};
 ghost use Rattle.guppy_packages.specs.Metadata.{package_graph_of, package_id_of, package_table_of};
 ghost use Rattle.feature_labels.specs.Names.{id_of, label_of};
 ghost use Rattle.feature_core.specs.Nodes.{labels_of};
+ghost use Rattle.feature_sets.specs.Names.{HasFeature, has_feature};
 
 use feature_labels::{FeatureId, FeatureLabel};
 use guppy_packages::{PackageId, PackageMetadata};
 use std::fmt;
 
-/// A feature of a graph.
+/// A feature of a graph. The graph has it.
 #[derive(Clone, Copy)]
 pub struct FeatureMetadata<'g> {
     pub(crate) package: PackageMetadata<'g>,
     pub(crate) label: FeatureLabel<'g>,
+    pub ghost stands: { IsTrue (has_feature (package_graph_of «package») (package_id_of «package», label_of label)) },
 }
 
 impl<'g> FeatureMetadata<'g> {
     ghost use Rattle.feature_sets.specs.Views.{feature_name_of, feature_tables_of};
 
-    /// Returns the id of the feature.
+    /// Returns the id of the feature. The graph has the feature.
     pub fn feature_id(&self) -> FeatureId<'g>
-        ensures { id_of result ≡ feature_name_of self.now }
+        ensures name { id_of result ≡ feature_name_of self.now }
+        ensures known { HasFeature (feature_tables_of self.now) (feature_name_of self.now) }
     {
         FeatureId::new(self.package.id(), self.label)
     }

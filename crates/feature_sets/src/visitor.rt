@@ -2,6 +2,7 @@
 ghost use Rattle.std.specs.Prelude.{◌≡◌, Bool};
 ghost use Rattle.feature_sets.specs.Boxed.{leaves};
 ghost use Rattle.feature_sets.specs.ByClosure.{closure_can, closure_gives};
+ghost use Rattle.feature_sets.specs.Lent.{lent_visit};
 ghost use Rattle.feature_sets.specs.LinkValues.{Link};
 ghost use Rattle.feature_sets.specs.LinkViews.{link_of};
 ghost use Rattle.feature_sets.specs.Values.{Query};
@@ -21,16 +22,17 @@ pub trait FeatureLinkVisitor<'g> {
     /// The visitor may return this result for the link, in the context of the query, and be in this state after it.
     ghost visit_gives: { Self → Query → Link → Bool → Self → Type 0 };
 
-    /// Returns true if the link is followed.
+    /// Returns true if the link is followed. The link is one of the query's graph.
     fn visit_link(&mut self, cx: &FeatureLinkContext<'g>, link: ConditionalLink<'g>) -> bool
-        requires { can_visit self.old cx.now (link_of link) }
+        requires of_graph { (link_of link).graph ≡ cx.now.graph }
+        requires allowed { can_visit self.old cx.now (link_of link) }
         ensures { visit_gives self.old cx.now (link_of link.entry) result self.new };
 }
 
 impl<'g, T: FeatureLinkVisitor<'g>> FeatureLinkVisitor<'g> for &mut T {
     ghost can_visit = { λ s q l. T.can_visit s.now q l };
 
-    ghost visit_gives = { λ s q l answer t. T.visit_gives s.now q l answer t.now };
+    ghost visit_gives = { lent_visit T.visit_gives };
 
     fn visit_link(&mut self, cx: &FeatureLinkContext<'g>, link: ConditionalLink<'g>) -> bool {
         (**self).visit_link(cx, link)
@@ -45,9 +47,10 @@ pub trait FeatureLinkObject: Drop {
     /// The visitor may return this result for the link, in the context of the query, and be in this state after it.
     ghost visit_any_gives: { Self → Query → Link → Bool → Self → Type 0 };
 
-    /// Returns true if the link is followed.
+    /// Returns true if the link is followed. The link is one of the query's graph.
     fn visit_any(&mut self, cx: &FeatureLinkContext<'_>, link: ConditionalLink<'_>) -> bool
-        requires { can_visit_any self.old cx.now (link_of link) }
+        requires of_graph { (link_of link).graph ≡ cx.now.graph }
+        requires allowed { can_visit_any self.old cx.now (link_of link) }
         ensures { visit_any_gives self.old cx.now (link_of link.entry) result self.new };
 }
 

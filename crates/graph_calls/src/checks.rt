@@ -11,7 +11,7 @@ use guppy_support::IxBitSet;
 use guppy_vectors::{Failure, Out, cut, direction_of, halves, number};
 use std::alloc::Global;
 
-/// A graph, the direction in which its edges are followed, and the nodes from which they are.
+/// The arguments of a walk: a graph, the direction in which its edges are followed, and the initial nodes.
 #[derive(Clone, Copy)]
 pub struct Start<'s> {
     pub alloc: Global,
@@ -20,8 +20,8 @@ pub struct Start<'s> {
     pub initials: &'s IxBitSet,
 }
 
-/// Tells whether the steps are an explanation.
-fn tell_check(out: Out, start: Start<'_>, steps: &[Step]) -> Result<(), Failure>
+/// Writes whether `steps` are an explanation; `Memory` is the only error.
+fn tell_check(out: &Out, start: Start<'_>, steps: &[Step]) -> Result<(), Failure>
     requires { length start.initials.now ≡ length start.built.now.packages }
 {
     match check_steps(
@@ -38,9 +38,9 @@ fn tell_check(out: Out, start: Start<'_>, steps: &[Step]) -> Result<(), Failure>
     Ok(())
 }
 
-/// Tells whether the steps are an exact explanation.
+/// Writes whether `steps` and `refused` are an exact explanation; `Memory` is the only error.
 fn tell_exact(
-    out: Out,
+    out: &Out,
     start: Start<'_>,
     steps: &[Step],
     refused: &[(usize, Half)],
@@ -62,28 +62,17 @@ fn tell_exact(
     Ok(())
 }
 
-/// Checks steps: the direction and the initial nodes, and the steps.
-pub fn check(
-    out: Out,
-    alloc: Global,
-    built: &FeatureGraphData,
-    words: &str,
-) -> Result<(), Failure> {
-    let (options, steps) = halves(words, ";")?;
-    let (direction, nodes) = cut(options);
-    let initials = initials_of(alloc, built, nodes)?;
-    let steps = steps_of(alloc, steps)?;
-    let start = Start {
-        alloc,
-        built,
-        direction: direction_of(direction),
-        initials: &initials,
-    };
+/// Reads steps from `words` and checks them. `Words` if a word is no step, or `Memory`.
+fn check_from(out: &Out, start: Start<'_>, words: &str) -> Result<(), Failure>
+    requires { length start.initials.now ≡ length start.built.now.packages }
+{
+    let steps = steps_of(start.alloc, words)?;
     tell_check(out, start, &steps)
 }
 
-/// Checks steps and refused offers.
-fn check_exact_from(out: Out, start: Start<'_>, words: &str) -> Result<(), Failure>
+/// Reads steps and, after a `;`, refused offers from `words`, and checks them for exactness. `Words` if these can't be read,
+/// or `Memory`.
+fn check_exact_from(out: &Out, start: Start<'_>, words: &str) -> Result<(), Failure>
     requires { length start.initials.now ≡ length start.built.now.packages }
 {
     let (steps, refused) = halves(words, ";")?;
@@ -92,28 +81,10 @@ fn check_exact_from(out: Out, start: Start<'_>, words: &str) -> Result<(), Failu
     tell_exact(out, start, &steps, &refused)
 }
 
-/// Checks steps for exactness: the direction and the initial nodes, the steps, and the refused offers.
-pub fn check_exact(
-    out: Out,
-    alloc: Global,
-    built: &FeatureGraphData,
-    words: &str,
-) -> Result<(), Failure> {
-    let (options, rest) = halves(words, ";")?;
-    let (direction, nodes) = cut(options);
-    let initials = initials_of(alloc, built, nodes)?;
-    let start = Start {
-        alloc,
-        built,
-        direction: direction_of(direction),
-        initials: &initials,
-    };
-    check_exact_from(out, start, rest)
-}
-
-/// Tells the steps on which a node rests: the direction and the node, and the steps.
+/// Writes the steps that support a node, or `none` if it isn't listed. `words` are the direction and the node, then the steps
+/// after a `;`. `Words` if these can't be read, or `Memory`.
 pub fn tell_why(
-    out: Out,
+    out: &Out,
     alloc: Global,
     built: &FeatureGraphData,
     words: &str,
@@ -129,7 +100,7 @@ pub fn tell_why(
     Ok(())
 }
 
-/// Whether the steps on which a node rests are an explanation, of which the node's own step is the last.
+/// Returns whether the steps that support `node` are an explanation and end with its own step; `Memory` is the only error.
 fn is_why(start: Start<'_>, steps: &[Step], node: usize) -> Result<bool, Failure>
     requires { length start.initials.now ≡ length start.built.now.packages }
 {
@@ -154,35 +125,70 @@ fn is_why(start: Start<'_>, steps: &[Step], node: usize) -> Result<bool, Failure
     }
 }
 
-/// Walks, and checks what explains the walk, and of each node of its steps whether those on which it rests explain it.
-fn check_walk_from(out: Out, start: Start<'_>, offerer: &mut Asked<'_>) -> Result<(), Failure>
+/// Writes whether the steps that support `node` explain it; `Memory` is the only error.
+fn tell_is_why(out: &Out, start: Start<'_>, steps: &[Step], node: usize) -> Result<(), Failure>
     requires { length start.initials.now ≡ length start.built.now.packages }
 {
-    let mut source = Packed::new(start.built, start.direction);
-    let Ok((_, steps, refused)) = walk_explained(start.alloc, &mut source, start.initials, offerer)
-    else {
-        return Err(Failure::Memory);
-    };
-    tell_check(out, start, &steps)?;
-    tell_exact(out, start, &steps, &refused)?;
-    for step in &steps {
-        let explained = is_why(start, &steps, step.node)?;
-        out.number("- why ", step.node);
-        out.answer(" ", explained);
-        out.line("");
+    let explained = is_why(start, steps, node)?;
+    out.number("- why ", node);
+    out.answer_line(" ", explained);
+    Ok(())
+}
+
+/// Checks the explanation of a walk by both checks, and then the steps that support each node in it. `Memory` is the only
+/// error.
+fn tell_walked(
+    out: &Out,
+    start: Start<'_>,
+    steps: &[Step],
+    refused: &[(usize, Half)],
+) -> Result<(), Failure>
+    requires { length start.initials.now ≡ length start.built.now.packages }
+{
+    tell_check(out, start, steps)?;
+    tell_exact(out, start, steps, refused)?;
+    for step in steps {
+        tell_is_why(out, start, steps, step.node)?;
     }
     Ok(())
 }
 
-/// Walks from nodes, and checks what explains the walk: the direction and the rule of its answers, and the nodes.
-pub fn check_walk(
-    out: Out,
+/// Walks by `rule`, and checks the explanation of the walk; `Memory` is the only error.
+fn check_walk_from(out: &Out, start: Start<'_>, rule: &str) -> Result<(), Failure>
+    requires { length start.initials.now ≡ length start.built.now.packages }
+{
+    let mut offerer = Asked {
+        rule: Rule::of(rule),
+        count: 0,
+        out,
+    };
+    let mut source = Packed::new(start.built, start.direction);
+    match walk_explained(start.alloc, &mut source, start.initials, &mut offerer) {
+        Ok((_, steps, refused)) => tell_walked(out, start, &steps, &refused),
+        Err(_) => Err(Failure::Memory),
+    }
+}
+
+/// Makes the call `name`: checks steps (`check`, `check-exact`), or the explanation of a walk (`check-walk`). `Words` if
+/// `words` can't be read, or `Memory`.
+///
+/// For steps, `words` are the direction and initial nodes, then the steps after a `;`, and the refused offers after another.
+/// For a walk, they are the direction and rule, then the initial nodes after a `;`.
+pub fn check(
+    out: &Out,
     alloc: Global,
     built: &FeatureGraphData,
+    name: &str,
     words: &str,
 ) -> Result<(), Failure> {
-    let (options, nodes) = halves(words, ";")?;
-    let (direction, rule) = cut(options);
+    let (options, rest) = halves(words, ";")?;
+    let (direction, others) = cut(options);
+    let is_walk = name == "check-walk";
+    let (nodes, words) = if is_walk {
+        (rest, others)
+    } else {
+        (others, rest)
+    };
     let initials = initials_of(alloc, built, nodes)?;
     let start = Start {
         alloc,
@@ -190,10 +196,9 @@ pub fn check_walk(
         direction: direction_of(direction),
         initials: &initials,
     };
-    let mut offerer = Asked {
-        rule: Rule::of(rule),
-        count: 0,
-        out,
-    };
-    check_walk_from(out, start, &mut offerer)
+    match name {
+        "check" => check_from(out, start, words),
+        "check-exact" => check_exact_from(out, start, words),
+        _ => check_walk_from(out, start, words),
+    }
 }

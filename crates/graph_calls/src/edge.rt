@@ -1,12 +1,12 @@
-//! What an edge says, and equal edges, made anew from their parts.
+//! Edges as text, and copies of edges.
 use feature_core::{ConditionalLinkImpl, EnabledLink, FeatureEdge, SlashForm, WeakSlashImpl};
 use feature_labels::LinkDeclarations;
 use guppy_packages::PlatformStatus;
 use guppy_vectors::Out;
 use std::alloc::{AllocError, Global};
 
-/// Tells a status after a text: `always`, `never`, or the specs.
-fn tell_status(out: Out, before: &str, status: PlatformStatus<'_>) {
+/// Writes `before`, and then `status` as `always`, `never`, or the specs.
+fn tell_status(out: &Out, before: &str, status: PlatformStatus<'_>) {
     out.part(before);
     match status {
         PlatformStatus::Never => out.part("never"),
@@ -21,8 +21,8 @@ fn tell_status(out: Out, before: &str, status: PlatformStatus<'_>) {
     }
 }
 
-/// Tells which declarations a link covers, where for each kind, and the numbers of its package links.
-fn tell_link(out: Out, before: &str, link: &ConditionalLinkImpl) {
+/// Writes `before`, the declarations that `link` covers, its status for each kind, and the numbers of its package links.
+fn tell_link(out: &Out, before: &str, link: &ConditionalLinkImpl) {
     out.part(before);
     out.part(match link.declarations() {
         LinkDeclarations::Unsplit => "unsplit",
@@ -39,16 +39,16 @@ fn tell_link(out: Out, before: &str, link: &ConditionalLinkImpl) {
     }
 }
 
-/// Tells the link of a half, or `none`.
-fn tell_half(out: Out, half: &EnabledLink) {
+/// Writes the link of `half`, or `none`.
+fn tell_half(out: &Out, half: &EnabledLink) {
     match half.get() {
         Some(link) => tell_link(out, "; ", link),
         None => out.part("; none"),
     }
 }
 
-/// Tells what an edge says. Of a weak one this is its index, its full link and the halves.
-pub fn tell_edge(out: Out, edge: &FeatureEdge) {
+/// Writes the kind and link of `edge`; for a weak edge, its index, its full link and both halves.
+pub fn tell_edge(out: &Out, edge: &FeatureEdge) {
     match edge {
         FeatureEdge::FeatureToBase => out.part("base"),
         FeatureEdge::NamedFeature => out.part("feature"),
@@ -66,14 +66,14 @@ pub fn tell_edge(out: Out, edge: &FeatureEdge) {
     }
 }
 
-/// An equal weak edge, of copied halves.
+/// Returns a weak slash with copies of both halves and the same index; `AllocError` if an allocation fails.
 fn copied_weak(alloc: Global, weak: &WeakSlashImpl) -> Result<WeakSlashImpl, AllocError> {
     let required = weak.required().try_clone(alloc)?;
     let optional = weak.optional().try_clone(alloc)?;
     Ok(WeakSlashImpl::new(required, optional, weak.index()))
 }
 
-/// Returns an equal form. A weak form is copied as a whole and by its halves.
+/// Returns a copy of `slash`; a weak form is copied as a whole and then by its halves. `AllocError` if an allocation fails.
 fn copied_form(alloc: Global, slash: &SlashForm) -> Result<SlashForm, AllocError> {
     match slash.try_clone(alloc)? {
         SlashForm::Strong => Ok(SlashForm::Strong),
@@ -84,7 +84,7 @@ fn copied_form(alloc: Global, slash: &SlashForm) -> Result<SlashForm, AllocError
     }
 }
 
-/// An equal edge: a copy of the whole, whose link and form are copied again.
+/// Returns a copy of `edge`; for a slash edge, link and form are copied once more. `AllocError` if an allocation fails.
 pub fn copied(alloc: Global, edge: &FeatureEdge) -> Result<FeatureEdge, AllocError> {
     let copy = edge.try_clone(alloc)?;
     if let FeatureEdge::NamedFeatureWithSlash { link, slash } = &copy {

@@ -1,4 +1,4 @@
-//! All that is built of a package graph.
+//! Calls that write a built feature graph.
 ghost use Rattle.std.specs.Prelude.{◌<◌, length};
 ghost use Rattle.feature_core.specs.Built.{IsBuilt};
 
@@ -10,8 +10,8 @@ use guppy_packages::{PackageGraph, PackageId};
 use guppy_vectors::{Failure, Out, label_of, parts};
 use std::alloc::{AllocError, Global};
 
-/// Tells a place or `none`, after a text.
-fn tell_place(out: Out, before: &str, place: Option<usize>) {
+/// Writes `before`, and then `place` or `none`, as a line.
+fn tell_place(out: &Out, before: &str, place: Option<usize>) {
     match place {
         Some(place) => out.number(before, place),
         None => out.text(before, "none"),
@@ -19,8 +19,8 @@ fn tell_place(out: Out, before: &str, place: Option<usize>) {
     out.line("");
 }
 
-/// Tells the stamp, how many nodes and edges there are, and the first edge whose link is present for no kind.
-pub fn figures(out: Out, built: &FeatureGraphData) -> Result<(), Failure> {
+/// Writes the stamp, the counts of nodes and edges, and the first edge whose link is present for no kind. Returns no error.
+pub fn figures(out: &Out, built: &FeatureGraphData) -> Result<(), Failure> {
     out.part("stamp ");
     out.shown(built.stamp());
     out.number(", nodes ", built.node_count());
@@ -29,26 +29,45 @@ pub fn figures(out: Out, built: &FeatureGraphData) -> Result<(), Failure> {
     Ok(())
 }
 
-/// Tells whether the graph is built from other packages.
+/// Writes whether `built` is a build of `other`; `Memory` is the only error.
 pub fn built_from(
-    out: Out,
+    out: &Out,
     alloc: Global,
     built: &FeatureGraphData,
     other: &PackageGraph,
 ) -> Result<(), Failure> {
     match built.is_built_from(alloc, other) {
         Ok(answer) => {
-            out.answer("", answer);
-            out.line("");
+            out.answer_line("", answer);
             Ok(())
         }
         Err(_) => Err(Failure::Memory),
     }
 }
 
-/// Tells the nodes of features.
+/// Writes the node of the feature that `word` names, or `none`; `Memory` is the only error.
+fn tell_node(
+    out: &Out,
+    alloc: Global,
+    graph: &PackageGraph,
+    built: &FeatureGraphData,
+    word: &str,
+) -> Result<(), Failure>
+    requires { IsBuilt graph.now built.now }
+{
+    let (package, label) = parts(word);
+    let package = PackageId::new(alloc, package)?;
+    tell_place(
+        out,
+        "",
+        built.node(graph, FeatureId::new(&package, label_of(label))),
+    );
+    Ok(())
+}
+
+/// Writes the node of each feature that `words` name, one a line; `Memory` is the only error.
 pub fn nodes(
-    out: Out,
+    out: &Out,
     alloc: Global,
     graph: &PackageGraph,
     built: &FeatureGraphData,
@@ -57,17 +76,14 @@ pub fn nodes(
     requires { IsBuilt graph.now built.now }
 {
     for word in words.split_whitespace() {
-        let (package, label) = parts(word);
-        let package = PackageId::new(alloc, package)?;
-        let id = FeatureId::new(&package, label_of(label));
-        tell_place(out, "", built.node(graph, id));
+        tell_node(out, alloc, graph, built, word)?;
     }
     Ok(())
 }
 
-/// Tells the ids of the nodes in one line, or of those alone that are on by default, with `?` where an id doesn't lead back to
-/// its node.
-fn tell_nodes(out: Out, graph: &PackageGraph, built: &FeatureGraphData, defaults: bool)
+/// Writes the ids of the nodes on one line; if `defaults`, only of those on by default. Marks an id with `?` if looking it up
+/// doesn't return its node.
+fn tell_nodes(out: &Out, graph: &PackageGraph, built: &FeatureGraphData, defaults: bool)
     requires { IsBuilt graph.now built.now }
 {
     out.part(if defaults { "defaults" } else { "nodes" });
@@ -81,8 +97,8 @@ fn tell_nodes(out: Out, graph: &PackageGraph, built: &FeatureGraphData, defaults
     out.line("");
 }
 
-/// Tells the ends of an edge, with `?` where the digraph has others.
-fn tell_ends(out: Out, built: &FeatureGraphData, number: usize)
+/// Writes the ends of edge `number`, with `?` if the digraph has other ends.
+fn tell_ends(out: &Out, built: &FeatureGraphData, number: usize)
     requires { number < length built.now.edges }
 {
     let (from, to, _) = built.edge(number);
@@ -93,9 +109,10 @@ fn tell_ends(out: Out, built: &FeatureGraphData, number: usize)
     out.part(" ");
 }
 
-/// Tells an edge in a line, or an equal one, with `dev-only` where the digraph marks it so.
+/// Writes edge `number` on a line, or its copy if `copies`, with `dev-only` if the digraph marks it so. `AllocError` if an
+/// allocation fails for the copy.
 fn tell_line(
-    out: Out,
+    out: &Out,
     alloc: Global,
     built: &FeatureGraphData,
     number: usize,
@@ -117,8 +134,8 @@ fn tell_line(
     Ok(())
 }
 
-/// Tells the weak links, one a line.
-fn tell_weak_links(out: Out, built: &FeatureGraphData) {
+/// Writes each weak link on a line: its index, its link and its gate.
+fn tell_weak_links(out: &Out, built: &FeatureGraphData) {
     for (number, (link, gate)) in built.weak_links().iter().enumerate() {
         out.number("weak(", number);
         out.number(") link=", *link);
@@ -127,8 +144,8 @@ fn tell_weak_links(out: Out, built: &FeatureGraphData) {
     }
 }
 
-/// Tells a warning.
-fn tell_warning(out: Out, warning: &FeatureGraphWarning) {
+/// Writes `warning`, without the end of the line.
+fn tell_warning(out: &Out, warning: &FeatureGraphWarning) {
     let (word, package_id, feature_name) = match warning {
         FeatureGraphWarning::MissingFeature {
             package_id,
@@ -143,8 +160,8 @@ fn tell_warning(out: Out, warning: &FeatureGraphWarning) {
     out.text(" ", feature_name.as_str());
 }
 
-/// Tells the warnings, one a line, with `again` where an earlier one is equal.
-fn tell_warnings(out: Out, warnings: &[FeatureGraphWarning]) {
+/// Writes each warning on a line, with `again` if an earlier one is equal.
+fn tell_warnings(out: &Out, warnings: &[FeatureGraphWarning]) {
     for (place, warning) in warnings.iter().enumerate() {
         tell_warning(out, warning);
         let mut is_again = false;
@@ -155,9 +172,10 @@ fn tell_warnings(out: Out, warnings: &[FeatureGraphWarning]) {
     }
 }
 
-/// Tells the nodes, edges, weak links, warnings and defaults that are built of the package graph, or equal edges.
+/// Writes the nodes, edges, weak links, warnings and defaults of `built`; if `copies`, copies of the edges. `Memory` is the
+/// only error.
 pub fn edges(
-    out: Out,
+    out: &Out,
     alloc: Global,
     graph: &PackageGraph,
     built: &FeatureGraphData,

@@ -1,4 +1,4 @@
-//! A source whose edges stand in a list.
+//! An edge source that scans a list.
 ghost use Rattle.std.specs.Prelude.{◌≡◌, ◌&&◌, ◌==◌, ◌<◌, IsTrue, IfOk, IfSome, length, map};
 ghost use Rattle.walk_engine.specs.Walks.{is_gated};
 ghost use Rattle.graph_calls.specs.ListedWays.{way_of, AreWithin};
@@ -8,10 +8,10 @@ use feature_core::{FeatureEdge, FeatureGraphData, SlashForm};
 use guppy_packages::DependencyDirection;
 use std::alloc::{AllocError, Global};
 
-/// A way: its start, far end, `Ask` and gate. The gate counts if the ask is gated, else it is 0.
+/// A way: its start, far end, `Ask` and gate. The gate matters only if the ask is gated, and is 0 otherwise.
 type ListedWay = (usize, usize, Ask, usize);
 
-/// A source that scans a list of edges for each read.
+/// An edge source that scans its list of ways for each read.
 #[derive(Drop)]
 pub struct Listed {
     nodes: usize,
@@ -20,6 +20,7 @@ pub struct Listed {
     ghost within: { AreWithin nodes ways.items },
 }
 
+/// Returns whether the ask of `way` is gated and its gate is `gate`.
 fn is_gated_by(way: ListedWay, gate: usize) -> bool
     ensures { result ≡ (is_gated (way_of way).ask && ((way_of way).gate == gate)) }
 {
@@ -30,6 +31,7 @@ fn is_gated_by(way: ListedWay, gate: usize) -> bool
     }
 }
 
+/// Returns true only if each start, far end and gate of `ways` is below `nodes`.
 fn are_within(nodes: usize, ways: &[ListedWay]) -> bool
     ensures { IsTrue result → AreWithin nodes ways.now }
 {
@@ -37,7 +39,7 @@ fn are_within(nodes: usize, ways: &[ListedWay]) -> bool
         .all(|way| way.0 < nodes && way.1 < nodes && way.3 < nodes)
 }
 
-/// What is asked of an edge, and its gate. No half waits in reverse.
+/// Returns the ask of `edge` and its gate, or 0 without one. In reverse, no half waits for a gate.
 fn ask_of(built: &FeatureGraphData, edge: &FeatureEdge, forward: bool) -> (Ask, usize) {
     match edge {
         FeatureEdge::FeatureToBase | FeatureEdge::NamedFeature => (Ask::Nobody, 0),
@@ -59,7 +61,7 @@ fn ask_of(built: &FeatureGraphData, edge: &FeatureEdge, forward: bool) -> (Ask, 
     }
 }
 
-/// The edges of a feature graph by number, as the direction follows them.
+/// Returns the ways of the edges of `built` in `direction`, by edge number; `AllocError` if an allocation fails.
 fn ways_of(
     alloc: Global,
     built: &FeatureGraphData,
@@ -76,7 +78,8 @@ fn ways_of(
     Ok(ways)
 }
 
-/// The edges of a feature graph in a list, as a source that was not read yet, unless an end of one is no node.
+/// Returns a source of the edges of `built` in `direction`, with no reads so far; `None` if an end or a gate is no node.
+/// `AllocError` if an allocation fails.
 pub fn edges_listed(
     alloc: Global,
     built: &FeatureGraphData,
@@ -95,7 +98,7 @@ pub fn edges_listed(
 }
 
 impl Listed {
-    /// How many reads there were.
+    /// Returns the number of reads so far.
     pub fn reads(&self) -> u128 {
         self.reads
     }

@@ -1,23 +1,23 @@
-//! An offerer that answers by a rule and writes down what it is asked.
+//! An offerer that accepts by a rule and logs the offers.
 use feature_core::engine::{Half, Offerer};
 use guppy_vectors::{Out, cut};
 
-/// How an offerer answers.
+/// A rule by which an offerer accepts offers.
 #[derive(Clone, Copy)]
 pub enum Rule<'a> {
-    /// It accepts each offer.
+    /// Accepts each offer.
     All,
-    /// It refuses each offer.
+    /// Refuses each offer.
     Nothing,
-    /// It accepts its first offers, as many as told.
+    /// Accepts this many offers, and refuses the rest.
     First(usize),
-    /// It accepts its first offer, refuses the second, and so on.
+    /// Accepts the first offer, refuses the second, and so on.
     Alternate,
-    /// It accepts the offers of a text, with commas between them.
+    /// Accepts the offers that the text lists, separated by commas.
     These(&'a str),
 }
 
-/// A letter for what is offered of an edge.
+/// Returns the letter for `half`.
 pub fn letter(half: Half) -> &'static str {
     match half {
         Half::Full => "F",
@@ -26,7 +26,7 @@ pub fn letter(half: Half) -> &'static str {
     }
 }
 
-/// Whether one of the words, with commas between them, is the offer: the number of the edge, and the letter.
+/// Returns whether `offers`, separated by commas, contain the number `edge` followed by the letter of `half`.
 fn lists(offers: &str, edge: usize, half: Half) -> bool {
     for word in offers.split(',') {
         if let Some(number) = word.strip_suffix(letter(half)) {
@@ -39,7 +39,7 @@ fn lists(offers: &str, edge: usize, half: Half) -> bool {
 }
 
 impl<'a> Rule<'a> {
-    /// The rule that words name.
+    /// Returns the rule that `words` name; `Nothing` for any other words.
     pub fn of(words: &'a str) -> Self {
         let (name, options) = cut(words);
         match name {
@@ -51,7 +51,7 @@ impl<'a> Rule<'a> {
         }
     }
 
-    /// Whether the offer is accepted after so many others.
+    /// Returns whether an offer is accepted after `before` others.
     fn accepts(self, before: usize, edge: usize, half: Half) -> bool {
         match self {
             Rule::All => true,
@@ -63,12 +63,12 @@ impl<'a> Rule<'a> {
     }
 }
 
-/// Answers by its rule, and writes down each offer.
+/// An offerer that accepts by `rule`, counts the offers in `count`, and writes each to `out`.
 #[derive(Clone, Copy)]
 pub struct Asked<'a> {
     pub rule: Rule<'a>,
     pub count: usize,
-    pub out: Out,
+    pub out: &'a Out,
 }
 
 impl Offerer for Asked<'_> {

@@ -1,10 +1,10 @@
-//! Steps and offers as words, and as they are told.
+//! Parsing and writing of steps and offers.
 use crate::rules::letter;
 use feature_core::engine::{Half, Step, StepReason};
 use guppy_vectors::{Failure, Out, halves, number};
 use std::alloc::Global;
 
-/// The offer that a word is: the number of an edge, a dot, and a letter.
+/// Parses an offer: the number of an edge, a dot, and a letter; `Words` if `word` isn't one.
 fn offer_of(word: &str) -> Result<(usize, Half), Failure> {
     let (edge, letter) = halves(word, ".")?;
     let half = match letter {
@@ -16,7 +16,8 @@ fn offer_of(word: &str) -> Result<(usize, Half), Failure> {
     Ok((number(edge)?, half))
 }
 
-/// The step that a word is: a node, a colon, and a reason, which is `initial`, an offer, or else the number of an edge.
+/// Parses a step: a node, a colon, and a reason. The reason is `initial`, an offer, or the number of an edge; `Words` if
+/// `word` isn't a step.
 fn step_of(word: &str) -> Result<Step, Failure> {
     let (node, reason) = halves(word, ":")?;
     let reason = if reason == "initial" {
@@ -33,7 +34,7 @@ fn step_of(word: &str) -> Result<Step, Failure> {
     })
 }
 
-/// The steps of a text.
+/// Parses each word of `words` as a step. `Words` if one isn't a step, or `Memory`.
 pub fn steps_of(alloc: Global, words: &str) -> Result<Vec<Step>, Failure> {
     let mut steps = Vec::new(alloc);
     for word in words.split_whitespace() {
@@ -42,7 +43,7 @@ pub fn steps_of(alloc: Global, words: &str) -> Result<Vec<Step>, Failure> {
     Ok(steps)
 }
 
-/// The offers of a text.
+/// Parses each word of `words` as an offer. `Words` if one isn't an offer, or `Memory`.
 pub fn offers_of(alloc: Global, words: &str) -> Result<Vec<(usize, Half)>, Failure> {
     let mut offers = Vec::new(alloc);
     for word in words.split_whitespace() {
@@ -51,8 +52,8 @@ pub fn offers_of(alloc: Global, words: &str) -> Result<Vec<(usize, Half)>, Failu
     Ok(offers)
 }
 
-/// Tells steps in a line, as a script has them.
-pub fn tell_script(out: Out, steps: &[Step]) {
+/// Writes `steps` on one line, in the form that `steps_of` parses.
+pub fn tell_script(out: &Out, steps: &[Step]) {
     let mut between = "";
     for step in steps {
         out.number(between, step.node);
@@ -69,8 +70,8 @@ pub fn tell_script(out: Out, steps: &[Step]) {
     out.line("");
 }
 
-/// Tells why each member is one, and the offers that were refused, a line each.
-pub fn tell_steps(out: Out, steps: &[Step], refused: &[(usize, Half)]) {
+/// Writes each step of a walk on a line, then `refused` and each refused offer on a line.
+pub fn tell_steps(out: &Out, steps: &[Step], refused: &[(usize, Half)]) {
     for step in steps {
         out.number("- ", step.node);
         match step.reason {

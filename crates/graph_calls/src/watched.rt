@@ -1,8 +1,8 @@
-//! A source that writes down its reads.
+//! An edge source that logs its reads.
 use feature_core::engine::{EdgeSource, Taken};
 use guppy_vectors::Out;
 
-/// The edges of another source. It writes down of which node each read is.
+/// A source with the edges of `source`, which writes the node of each read to `out`.
 #[derive(Drop)]
 pub struct Watched<S: Drop> {
     pub source: S,

@@ -2,3 +2,14 @@ pub mod Accepted
 pub mod ListedFilters
 pub mod Platforms
 pub mod PlatformViews
+-- the definitions in the contracts, by crate
+pub use Rattle.guppy_support.specs as guppy_support
+pub use Rattle.digraph_orders.specs as digraph_orders
+pub use Rattle.order_views.specs as order_views
+pub use Rattle.walk_engine.specs as walk_engine
+pub use Rattle.walk_checks.specs as walk_checks
+pub use Rattle.guppy_packages.specs as guppy_packages
+pub use Rattle.feature_labels.specs as feature_labels
+pub use Rattle.feature_links.specs as feature_links
+pub use Rattle.feature_core.specs as feature_core
+pub use Rattle.feature_sets.specs as feature_sets

@@ -1,10 +1,12 @@
 //! The feature graph: queries over it and sets of its features, filters with a list of names or ids, and a
-//! visitor for a platform.
+//! visitor for a platform. The crate re-exports every type in its API, and `specs` every definition in its contracts.
 #![tactic(auto)]
 
 mod listed_filters;
 mod platform_visitor;
 
+pub use digraph_orders::Order;
+pub use feature_labels::feature_list::{IntoIter, Iter, NamedFeatures, OptionalDeps};
 pub use feature_sets::{
     AllCycles, ConditionalLink, ConditionalLinkImpl, ConditionalLinks, Cycles, Declaration,
     DependencyDirection, DependencyKind, DisplayFeatures, EdgeChoice, EnabledLink, Error,
@@ -17,7 +19,10 @@ pub use feature_sets::{
     PlatformStatusImpl, Reason, RootFeatures, RootIds, Row, RowError, RowFault, SlashForm, Spec,
     StandardFeatures, UnknownPackageId, WeakIndex, WeakSlashImpl, feature_list, laws,
 };
+pub use guppy_packages::{Packages, RowSource};
+pub use guppy_support::{Digraph, IxBitSet};
 pub use listed_filters::{
     FeatureIdFilter, NamedFeatureFilter, feature_id_filter, named_feature_filter,
 };
 pub use platform_visitor::PlatformVisitor;
+pub use walk_engine::Half;

@@ -36,11 +36,11 @@ pub struct NamedFeatureFilter<'a, B> {
 
 /// Returns the filter that accepts a feature if `base` does, or if it is a named feature whose name is in
 /// `names`. The base is called for every feature. `Memory` is the only error.
-pub fn named_feature_filter<'a, B: Drop>(
+pub fn named_feature_filter<'g, 'a, B: FeatureFilter<'g> + Drop>(
     alloc: Global,
     base: B,
     names: &[&'a str],
-) -> Result<NamedFeatureFilter<'a, B>, Error<'a>>
+) -> Result<NamedFeatureFilter<'a, B>, Error<'static>>
     ensures base { IfOk result (λ filter. base_of_names filter ≡ base) }
     ensures names { IfOk result (λ filter. SameElements (listed_names filter) (map (λ name. name.now) names.now)) }
     ensures refused { IfErr result (λ e. e ≡ Error.Memory) }
@@ -86,11 +86,11 @@ pub struct FeatureIdFilter<'a, B> {
 
 /// Returns the filter that accepts a feature if `base` does, or if its id is in `feature_ids`. The base is
 /// called for every feature. An id that the graph lacks has no effect. `Memory` is the only error.
-pub fn feature_id_filter<'a, B: Drop>(
+pub fn feature_id_filter<'g, 'a, B: FeatureFilter<'g> + Drop>(
     alloc: Global,
     base: B,
     feature_ids: &[FeatureId<'a>],
-) -> Result<FeatureIdFilter<'a, B>, Error<'a>>
+) -> Result<FeatureIdFilter<'a, B>, Error<'static>>
     ensures base { IfOk result (λ filter. base_of_ids filter ≡ base) }
     ensures ids { IfOk result (λ filter. SameElements (listed_ids filter) (map id_of feature_ids.now)) }
     ensures refused { IfErr result (λ e. e ≡ Error.Memory) }

@@ -4,15 +4,16 @@ ghost use Rattle.std.specs.List.{list_any};
 ghost use Rattle.std.specs.Str.{bytes_eq};
 ghost use Rattle.guppy_support.specs.Bits.{has};
 ghost use Rattle.guppy_packages.specs.Platform.{spec_text, status_of};
-ghost use Rattle.walk_engine.specs.Explanations.{IsExplanation, nodes_of};
+ghost use Rattle.walk_engine.specs.Explanations.{IsExplainedWalk, IsExplanation, nodes_of};
 ghost use Rattle.walk_engine.specs.Walks.{Least, is_in};
 ghost use Rattle.walk_checks.specs.Exact.{IsExact};
+ghost use Rattle.feature_sets.specs.Explained.{PassesChecks};
 ghost use Rattle.feature_sets.specs.LinkViews.{link_of};
 ghost use Rattle.guppy_features.specs.Platforms.{holds_where, is_platform_link, platform_offers};
 ghost use Rattle.guppy_features.specs.PlatformViews.{kinds_of, specs_of};
-ghost use Rattle.feature_sets.specs.Visits.{query_content};
+ghost use Rattle.feature_sets.specs.Visits.{answered, query_content};
 
-use feature_sets::laws::{resolved_is_exact, visitor_agrees_by_answer};
+use feature_sets::laws::{resolved_is_exact, resolved_passes_checks, visitor_agrees_by_answer};
 use feature_sets::{
     ConditionalLink, Error, Explained, FeatureLinkContext, FeatureLinkVisitor, FeatureQuery,
 };
@@ -77,8 +78,8 @@ impl<'a> PlatformVisitor<'a> {
     }
 
     /// Resolves the query with this visitor. The result is the least set for the platform's offers, with a
-    /// reason for each feature and with all refused links. The order in which links are visited doesn't
-    /// matter. `Memory` is the only error.
+    /// reason for each feature and with all refused links: those that were visited and aren't for the platform.
+    /// The order in which links are visited doesn't matter. `Memory` is the only error.
     pub fn resolve<'g>(
         self,
         alloc: Global,
@@ -86,6 +87,9 @@ impl<'a> PlatformVisitor<'a> {
     ) -> Result<Explained<'g>, Error<'g>>
         ensures graph { IfOk result (λ x. x.graph ≡ query.entry.graph) }
         ensures direction { IfOk result (λ x. x.direction ≡ query.entry.direction) }
+        ensures walk { IfOk result (λ x. IsExplainedWalk (query_content query.entry) (has query.entry.initials)
+            (answered (platform_offers (kinds_of self.entry) (specs_of self.entry) query.entry.graph)) tt tt (has x.members) x.steps x.refused) }
+        ensures checked { IfOk result (λ x. PassesChecks query.entry.graph query.entry.direction query.entry.initials x.steps x.refused) }
         ensures least { IfOk result (λ x. (n : ℕ) → IsTrue (has x.members n)
             ↔ Least (query_content query.entry) (has query.entry.initials) (platform_offers (kinds_of self.entry) (specs_of self.entry) query.entry.graph) n) }
         ensures explanation { IfOk result (λ x. IsExplanation (query_content query.entry) (has query.entry.initials) (platform_offers (kinds_of self.entry) (specs_of self.entry) query.entry.graph) x.steps) }
@@ -95,6 +99,7 @@ impl<'a> PlatformVisitor<'a> {
     {
         visitor_agrees_by_answer::<PlatformVisitor<'_>>();
         resolved_is_exact::<PlatformVisitor<'_>>();
+        resolved_passes_checks::<PlatformVisitor<'_>>(*query.graph());
         let mut visitor = self;
         query.resolve_explained(alloc, &mut visitor)
     }

@@ -5,7 +5,6 @@ ghost use Rattle.guppy_packages.specs.Parts.{AreEnds, AreEnds-prop, item_ends};
 ghost use Rattle.guppy_packages.specs.Rows.{texts};
 ghost use Rattle.guppy_packages.specs.inner.Pushed.{IsPushed};
 
-use crate::narrow::narrow;
 use crate::pushing::push_to;
 use indexmap::Equivalent;
 use std::alloc::{AllocError, Global};
@@ -19,10 +18,10 @@ use std::hash::{Hash, Hasher};
 #[derive(Drop)]
 pub struct NamedFeature {
     text: String,
-    name_end: u32,
+    name_end: usize,
     has_items: bool,
     // the end of each item but the last, which ends with `text`
-    ends: Vec<u32>,
+    ends: Vec<usize>,
     ghost cut: { AreEnds 0 (name_end ∷ item_ends has_items ends.items (string_bytes text)) (string_bytes text) } by { AreEnds-prop 0 (name_end ∷ item_ends has_items ends.items (string_bytes text)) (string_bytes text) },
 }
 
@@ -36,19 +35,19 @@ fn room_for(name: &str, items: &[&str]) -> usize {
 }
 
 /// Appends each of `items` to `text`, and its end in `text` to `ends`.
-fn push_each(text: &mut String, ends: &mut Vec<u32>, items: &[&str]) -> Result<(), AllocError>
+fn push_each(text: &mut String, ends: &mut Vec<usize>, items: &[&str]) -> Result<(), AllocError>
     requires none { ends.old.items ≡ [] }
     ensures { OnOk result (IsPushed (string_bytes text.old) (texts items.now) (string_bytes text.new) ends.new.items) }
 {
     for item in items {
         text.push_str(item)?;
-        push_to(ends, narrow(text.as_str().len())?)?;
+        push_to(ends, text.as_str().len())?;
     }
     Ok(())
 }
 
 /// Appends `items` to `text` and returns the end of each but the last.
-fn push_items(alloc: Global, text: &mut String, items: &[&str]) -> Result<Vec<u32>, AllocError>
+fn push_items(alloc: Global, text: &mut String, items: &[&str]) -> Result<Vec<usize>, AllocError>
     ensures { IfOk result (λ ends. IsPushed (string_bytes text.old) (texts items.now) (string_bytes text.new) (item_ends (not (length items.now == 0)) ends.items (string_bytes text.new))) }
 {
     let Some((last, before)) = items.split_last() else {
@@ -63,18 +62,16 @@ fn push_items(alloc: Global, text: &mut String, items: &[&str]) -> Result<Vec<u3
 impl NamedFeature {
     ghost use Rattle.guppy_packages.specs.NamedFeature.{feature_table};
 
-    /// Returns the feature `name` with `items`. Returns `AllocError` if an allocation fails, or if the end of `name` or of an
-    /// item before the last doesn't fit in 32 bits.
+    /// Returns the feature `name` with `items`, or `AllocError` if an allocation fails.
     pub(crate) fn new(alloc: Global, name: &str, items: &[&str]) -> Result<NamedFeature, AllocError>
         ensures { IfOk result (λ f. feature_table f ≡ record { name = name.now; items = texts items.now }) }
     {
-        let name_end = narrow(name.len())?;
         let mut text = String::with_capacity(alloc, room_for(name, items))?;
         text.push_str(name)?;
         let ends = push_items(alloc, &mut text, items)?;
         Ok(NamedFeature {
             text,
-            name_end,
+            name_end: name.len(),
             has_items: !items.is_empty(),
             ends,
         })
@@ -84,7 +81,7 @@ impl NamedFeature {
     pub fn name(&self) -> &str
         ensures { result.now ≡ (feature_table self.now).name }
     {
-        &self.text[..self.name_end as usize]
+        &self.text[..self.name_end]
     }
 
     /// Returns the number of items.
@@ -103,9 +100,9 @@ impl NamedFeature {
         ensures { result ≡ slice_index (self.now.name_end ∷ self.now.ends.items) ix }
     {
         if ix == 0 {
-            return self.name_end as usize;
+            return self.name_end;
         }
-        self.ends[ix - 1] as usize
+        self.ends[ix - 1]
     }
 
     /// Returns the end of item `ix` in the text.
@@ -114,7 +111,7 @@ impl NamedFeature {
         ensures { result ≡ slice_index (self.now.ends.items ++ length (string_bytes self.now.text) ∷ []) ix }
     {
         if ix < self.ends.len() {
-            return self.ends[ix] as usize;
+            return self.ends[ix];
         }
         self.text.as_str().len()
     }

@@ -14,7 +14,7 @@ pub enum RowFault {
     UnknownTarget,
     /// A Dep row whose pair of packages already has a link of another name.
     OtherName,
-    /// An allocation failed, or a place in a feature's text or the number of links doesn't fit in 32 bits.
+    /// An allocation failed, or there are 4294967296 package links or more.
     Memory,
 }
 

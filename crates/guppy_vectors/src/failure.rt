@@ -1,15 +1,15 @@
-//! Why a call has no result.
+//! The failure of a call.
 use byte_devices::ReadError;
 use guppy_packages::{RowError, RowFault};
 use row_files::RowFileError;
 use std::alloc::{AllocError, AllocFailed};
 
-/// Why a call has no result.
+/// The reason why a call has no result.
 #[derive(Clone, Copy)]
 pub enum Failure {
-    /// There is no such call, its words don't fit it, or a file can't be read.
+    /// No call has this name, its words don't fit it, or a file can't be read or parsed.
     Words,
-    /// The first fault of the rows.
+    /// The rows have a fault; this is the first.
     Row(RowError),
     /// An allocation failed.
     Memory,

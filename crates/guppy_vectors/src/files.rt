@@ -1,4 +1,4 @@
-//! The row files that the program's words name, and the script on standard input.
+//! The row files that the program's arguments name, and the script on standard input.
 use crate::failure::Failure;
 use byte_devices::{FromReader, read_all};
 use guppy_packages::PackageGraph;
@@ -6,7 +6,7 @@ use row_files::graph_of;
 use std::env;
 use std::fs::File;
 
-/// Returns all bytes of the file of this path. A file that can't be read is `Words`.
+/// Returns all bytes of the file at `path`; `Words` if it can't be read, `Memory` if an allocation fails.
 fn file_bytes(rt: &HostRuntime, path: &str) -> Result<Vec<u8>, Failure> {
     let Ok(file) = File::open(rt, path) else {
         return Err(Failure::Words);
@@ -15,7 +15,8 @@ fn file_bytes(rt: &HostRuntime, path: &str) -> Result<Vec<u8>, Failure> {
     Ok(read_all(rt.alloc(), &mut reader)?)
 }
 
-/// Returns all bytes of the file that the program's word at `place` names; no bytes if there is no such word.
+/// Returns all bytes of the file that the program's argument at `place` names; no bytes without that argument. `Words` if the
+/// file can't be read, `Memory` if an allocation fails.
 pub fn bytes_of(rt: &HostRuntime, place: usize) -> Result<Vec<u8>, Failure> {
     let Ok(mut words) = env::args(rt) else {
         return Err(Failure::Memory);
@@ -26,13 +27,14 @@ pub fn bytes_of(rt: &HostRuntime, place: usize) -> Result<Vec<u8>, Failure> {
     }
 }
 
-/// Returns the package graph of the row file that the program's word at `place` names. A file with a fault is `Words`.
+/// Returns the package graph of the row file that the program's argument at `place` names. `Words` if the file can't be read
+/// or its rows have a fault, `Memory` if an allocation fails.
 pub fn package_graph(rt: &HostRuntime, place: usize) -> Result<PackageGraph, Failure> {
     let bytes = bytes_of(rt, place)?;
     Ok(graph_of(rt.alloc(), &bytes)?)
 }
 
-/// Returns standard input as a text. Bytes that are no text are `Words`.
+/// Returns standard input as a string. `Words` if it can't be read or isn't UTF-8, `Memory` if an allocation fails.
 pub fn script(rt: &HostRuntime) -> Result<String, Failure> {
     let mut reader = FromReader::new(rt.stdin());
     let bytes = read_all(rt.alloc(), &mut reader)?;

@@ -1,11 +1,12 @@
-//! The features that words name.
-use crate::words::{label_of, parts};
+//! Words of a call that name features.
+use crate::failure::Failure;
+use crate::words::{FromWord, label_of, parts};
 use feature_labels::{FeatureId, FeatureLabel};
 use guppy_packages::PackageId;
 use std::alloc::{AllocError, Global};
 use std::slice;
 
-/// A word, and the feature that it names.
+/// A word of a call, and the feature that it names.
 #[derive(Drop)]
 pub struct Given<'a> {
     pub word: &'a str,
@@ -13,29 +14,23 @@ pub struct Given<'a> {
     label: FeatureLabel<'a>,
 }
 
-/// The words that are left of a call.
+/// The words of a call that aren't read yet.
 pub type Words<'a> = slice::Iter<'a, Given<'a>>;
 
-/// Returns a word with its feature.
-fn given_of(alloc: Global, word: &str) -> Result<Given<'_>, AllocError> {
-    let (package, label) = parts(word);
-    Ok(Given {
-        word,
-        package_id: PackageId::new(alloc, package)?,
-        label: label_of(label),
-    })
-}
-
-/// Returns the words of `text`, without a comma at their ends.
-pub fn given_in(alloc: Global, text: &str) -> Result<Vec<Given<'_>>, AllocError> {
-    let mut given = Vec::new(alloc);
-    for word in text.split_whitespace() {
-        given.push(given_of(alloc, word.strip_suffix(',').unwrap_or(word))?)?;
+impl<'a> FromWord<'a> for Given<'a> {
+    /// Reads `word` without a comma at its end; `Memory` is the only error.
+    fn from_word(alloc: Global, word: &'a str) -> Result<Given<'a>, Failure> {
+        let word = word.strip_suffix(',').unwrap_or(word);
+        let (package, label) = parts(word);
+        Ok(Given {
+            word,
+            package_id: PackageId::new(alloc, package)?,
+            label: label_of(label),
+        })
     }
-    Ok(given)
 }
 
-/// Returns the id that the next word names; none at the end and at a semicolon.
+/// Reads the next word and returns the id that it names; `None` at the end of `words` or for the word `;`.
 pub fn next_id<'a>(words: &mut Words<'a>) -> Option<FeatureId<'a>> {
     let given = words.next()?;
     if given.word == ";" {
@@ -45,7 +40,8 @@ pub fn next_id<'a>(words: &mut Words<'a>) -> Option<FeatureId<'a>> {
     }
 }
 
-/// Returns the ids up to the end or a semicolon.
+/// Reads and returns the ids up to the next word `;` or the end of `words`, and reads past the `;`.
+/// `AllocError` if an allocation fails.
 pub fn ids_of<'a>(alloc: Global, words: &mut Words<'a>) -> Result<Vec<FeatureId<'a>>, AllocError> {
     let mut ids = Vec::new(alloc);
     for _ in 0..words.len() {

@@ -1,17 +1,17 @@
-//! What the programs of calls share: their row files and scripts, the words of a call, and standard output. Test programs
-//! alone stand on it, and no claim rests on it.
+//! Shared parts of the test programs that make calls: row files and scripts, the words of a call, and standard output.
+//! Only test programs use this library, so no claim rests on it.
 #![tactic(auto)]
 
 mod failure;
 mod files;
 mod given;
-mod items;
+mod numbers;
 mod out;
 mod words;
 
 pub use failure::Failure;
 pub use files::{bytes_of, package_graph, script};
-pub use given::{Given, Words, given_in, ids_of, next_id};
-pub use items::{insert, tell_end};
+pub use given::{Given, Words, ids_of, next_id};
+pub use numbers::insert;
 pub use out::Out;
-pub use words::{cut, direction_of, halves, label_of, number, parts, words_of};
+pub use words::{FromWord, all_of, cut, direction_of, halves, label_of, number, parts};

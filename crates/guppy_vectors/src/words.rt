@@ -1,15 +1,16 @@
-//! The words of a call.
+//! Parsing of a call's words.
 use crate::failure::Failure;
 use feature_labels::FeatureLabel;
-use guppy_packages::DependencyDirection;
-use std::alloc::{AllocError, Global};
+use guppy_packages::{DependencyDirection, PackageId, Spec};
+use guppy_support::Edge;
+use std::alloc::Global;
 
-/// Returns the text before the first blank, and the text after it.
+/// Returns the parts of `text` before and after its first space; all of `text` and an empty part without a space.
 pub fn cut(text: &str) -> (&str, &str) {
     text.split_once(' ').unwrap_or((text, ""))
 }
 
-/// Returns the two parts of `text` around the first `between`; without one, `Words`.
+/// Returns the parts of `text` before and after the first `between`; `Words` if `text` doesn't contain it.
 pub fn halves<'t>(text: &'t str, between: &str) -> Result<(&'t str, &'t str), Failure> {
     match text.split_once(between) {
         Some(halves) => Ok(halves),
@@ -17,7 +18,7 @@ pub fn halves<'t>(text: &'t str, between: &str) -> Result<(&'t str, &'t str), Fa
     }
 }
 
-/// Returns the number that `word` is; another word is `Words`.
+/// Parses `word` as a number; `Words` if it isn't a `usize`.
 pub fn number(word: &str) -> Result<usize, Failure> {
     match word.parse::<usize>() {
         Ok(number) => Ok(number),
@@ -25,16 +26,7 @@ pub fn number(word: &str) -> Result<usize, Failure> {
     }
 }
 
-/// Returns the words of `text`.
-pub fn words_of(alloc: Global, text: &str) -> Result<Vec<&str>, AllocError> {
-    let mut words = Vec::new(alloc);
-    for word in text.split_whitespace() {
-        words.push(word)?;
-    }
-    Ok(words)
-}
-
-/// Returns the direction that `word` names: `reverse`, and else forward.
+/// Returns `Reverse` if `word` is `reverse`, and `Forward` otherwise.
 pub fn direction_of(word: &str) -> DependencyDirection {
     if word == "reverse" {
         DependencyDirection::Reverse
@@ -43,12 +35,12 @@ pub fn direction_of(word: &str) -> DependencyDirection {
     }
 }
 
-/// Returns the package and the label of an id, around its last slash. A word without a slash names the base of a package.
+/// Splits the id `word` at its last slash into package and label. Without a slash, the label is `[base]`.
 pub fn parts(word: &str) -> (&str, &str) {
     word.rsplit_once('/').unwrap_or((word, "[base]"))
 }
 
-/// Returns the label of `text`: `[base]`, `dep:` and a name, or else a name.
+/// Returns the label that `text` names: the base for `[base]`, an optional dependency after `dep:`, and else a named feature.
 pub fn label_of(text: &str) -> FeatureLabel<'_> {
     if text == "[base]" {
         return FeatureLabel::Base;
@@ -57,4 +49,57 @@ pub fn label_of(text: &str) -> FeatureLabel<'_> {
         Some(name) => FeatureLabel::OptionalDependency(name),
         None => FeatureLabel::Named(text),
     }
+}
+
+/// A value that is read from one word of a call.
+pub trait FromWord<'w>: Drop {
+    /// Parses `word`. `Words` if it names no value, `Memory` if an allocation fails.
+    fn from_word(alloc: Global, word: &'w str) -> Result<Self, Failure>;
+}
+
+impl<'w> FromWord<'w> for &'w str {
+    fn from_word(_: Global, word: &'w str) -> Result<&'w str, Failure> {
+        Ok(word)
+    }
+}
+
+impl<'w> FromWord<'w> for FeatureLabel<'w> {
+    fn from_word(_: Global, word: &'w str) -> Result<FeatureLabel<'w>, Failure> {
+        Ok(label_of(word))
+    }
+}
+
+impl<'w> FromWord<'w> for PackageId {
+    /// Reads `''` as the empty id.
+    fn from_word(alloc: Global, word: &'w str) -> Result<PackageId, Failure> {
+        Ok(PackageId::new(alloc, if word == "''" { "" } else { word })?)
+    }
+}
+
+impl<'w> FromWord<'w> for Spec {
+    fn from_word(alloc: Global, word: &'w str) -> Result<Spec, Failure> {
+        Ok(Spec::new(alloc, word)?)
+    }
+}
+
+impl<'w> FromWord<'w> for Edge {
+    /// Reads `1>0` as an edge from 1 to 0, and `1~0` as a dev-only one.
+    fn from_word(_: Global, word: &'w str) -> Result<Edge, Failure> {
+        let non_dev = word.contains('>');
+        let (from, to) = halves(word, if non_dev { ">" } else { "~" })?;
+        Ok(Edge {
+            from: number(from)?,
+            to: number(to)?,
+            non_dev,
+        })
+    }
+}
+
+/// Parses each word of `text`, in order. `Words` if one names no value, `Memory` if an allocation fails.
+pub fn all_of<'w, T: FromWord<'w>>(alloc: Global, text: &'w str) -> Result<Vec<T>, Failure> {
+    let mut all = Vec::new(alloc);
+    for word in text.split_whitespace() {
+        all.push(T::from_word(alloc, word)?)?;
+    }
+    Ok(all)
 }

@@ -1,11 +1,11 @@
-//! Which call a line asks for.
+//! The calls of a script, by name.
 use crate::{digraphs, ids, lists, long_list, names, packages, sets};
 use guppy_packages::PackageGraph;
 use guppy_vectors::{Failure, Out, cut};
 use std::alloc::Global;
 
-/// Makes the call of a line.
-fn make_call(out: Out, alloc: Global, graph: &PackageGraph, line: &str) -> Result<(), Failure> {
+/// Makes the call of `line`, a name and its words. `Words` if no call has this name, or the failure of the call.
+fn make_call(out: &Out, alloc: Global, graph: &PackageGraph, line: &str) -> Result<(), Failure> {
     let (name, words) = cut(line);
     match name {
         "graph" => packages::graph(out, graph),
@@ -30,8 +30,8 @@ fn make_call(out: Out, alloc: Global, graph: &PackageGraph, line: &str) -> Resul
     }
 }
 
-/// Makes the calls of a script, in order.
-pub fn make_calls(out: Out, alloc: Global, graph: &PackageGraph, script: &str) {
+/// Makes the calls of `script`, one for each line, in order. Writes each line after `< `, then the output of its call.
+pub fn make_calls(out: &Out, alloc: Global, graph: &PackageGraph, script: &str) {
     for line in script.lines() {
         out.text("< ", line);
         out.line("");

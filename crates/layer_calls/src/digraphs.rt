@@ -1,37 +1,17 @@
 //! Calls on digraphs and their orders.
 use digraph_orders::Order;
 use guppy_support::{Digraph, DigraphError, Edge};
-use guppy_vectors::{Failure, Out, cut, halves, number};
+use guppy_vectors::{Failure, Out, all_of, cut, number};
 use std::alloc::Global;
 
-/// The edge of a word: `1>0`, or `1~0` where it is dev-only.
-fn edge_of(word: &str) -> Result<Edge, Failure> {
-    let non_dev = word.contains('>');
-    let (from, to) = halves(word, if non_dev { ">" } else { "~" })?;
-    Ok(Edge {
-        from: number(from)?,
-        to: number(to)?,
-        non_dev,
-    })
-}
-
-/// The edges of a text.
-fn edges_of(alloc: Global, words: &str) -> Result<Vec<Edge>, Failure> {
-    let mut edges = Vec::new(alloc);
-    for word in words.split_whitespace() {
-        edges.push(edge_of(word)?)?;
-    }
-    Ok(edges)
-}
-
-/// The edge as a word.
-fn tell_edge(out: Out, edge: Edge) {
+/// Writes `edge` as a word: `>` marks an ordinary edge, and `~` a dev-only one.
+fn tell_edge(out: &Out, edge: Edge) {
     out.number(" ", edge.from);
     out.number(if edge.non_dev { ">" } else { "~" }, edge.to);
 }
 
-/// What a digraph holds.
-fn tell_digraph(out: Out, graph: &Digraph) {
+/// Writes the counts of nodes and edges, and the edges.
+fn tell_digraph(out: &Out, graph: &Digraph) {
     out.number("", graph.node_count());
     out.number(" nodes, ", graph.edge_count());
     out.part(" edges:");
@@ -41,15 +21,15 @@ fn tell_digraph(out: Out, graph: &Digraph) {
     out.line("");
 }
 
-/// How many nodes an order has, and how many components.
-fn tell_counts(out: Out, order: &Order) {
+/// Writes the counts of nodes and components of `order`.
+fn tell_counts(out: &Out, order: &Order) {
     out.number("", order.list().len());
     out.number(" in ", order.component_count());
     out.part(" components");
 }
 
-/// The nodes in order, each with its component.
-fn tell_order(out: Out, order: &Order) {
+/// Writes the nodes in order, each with its component.
+fn tell_order(out: &Out, order: &Order) {
     order.facts();
     tell_counts(out, order);
     out.part(":");
@@ -62,8 +42,8 @@ fn tell_order(out: Out, order: &Order) {
     out.line("");
 }
 
-/// The numbers of a node's edges, out of it and into it.
-fn tell_edges_at(out: Out, graph: &Digraph, node: usize) {
+/// Writes the numbers of the edges out of `node` and into it.
+fn tell_edges_at(out: &Out, graph: &Digraph, node: usize) {
     if node < graph.node_count() {
         out.number("", node);
         out.part(": out");
@@ -77,8 +57,8 @@ fn tell_edges_at(out: Out, graph: &Digraph, node: usize) {
     }
 }
 
-/// A node's place, and the nodes of its component.
-fn tell_place(out: Out, order: &Order, node: usize) {
+/// Writes the place of `node` in `order`, and the nodes of its component.
+fn tell_place(out: &Out, order: &Order, node: usize) {
     order.facts();
     if node < order.list().len() {
         out.number(", at ", order.place(node));
@@ -90,16 +70,16 @@ fn tell_place(out: Out, order: &Order, node: usize) {
     out.line("");
 }
 
-/// The edge between two nodes, with its number.
-fn tell_between(out: Out, graph: &Digraph, from: usize, to: usize) {
+/// Writes the edge from `from` to `to` with its number, if there is one.
+fn tell_between(out: &Out, graph: &Digraph, from: usize, to: usize) {
     if let Some(number) = graph.edge_between(from, to) {
         tell_edge(out, graph.edge(number));
         out.number("=", number);
     }
 }
 
-/// Two nodes that are in one component.
-fn tell_same(out: Out, order: &Order, one: usize, other: usize) {
+/// Writes `one` and `other` if they are in the same component.
+fn tell_same(out: &Out, order: &Order, one: usize, other: usize) {
     order.facts();
     if one < order.list().len() && other < order.list().len() && order.is_same(one, other) {
         out.number(" ", one);
@@ -107,8 +87,8 @@ fn tell_same(out: Out, order: &Order, one: usize, other: usize) {
     }
 }
 
-/// The edges between each node and each other, and the pairs that are in one component.
-fn tell_pairs(out: Out, graph: &Digraph, order: &Order) {
+/// Writes the edge between each pair of nodes, and then the pairs in the same component.
+fn tell_pairs(out: &Out, graph: &Digraph, order: &Order) {
     let nodes = graph.node_count();
     out.part("edges:");
     for from in 0..nodes {
@@ -125,8 +105,8 @@ fn tell_pairs(out: Out, graph: &Digraph, order: &Order) {
     out.line("");
 }
 
-/// What a digraph and its order say, by the name of the call.
-fn tell(out: Out, name: &str, graph: &Digraph, order: &Order) {
+/// Writes the facts about `graph` and `order` that the call `name` asks for.
+fn tell(out: &Out, name: &str, graph: &Digraph, order: &Order) {
     match name {
         "nodes" => {
             for node in 0..graph.node_count() {
@@ -144,8 +124,9 @@ fn tell(out: Out, name: &str, graph: &Digraph, order: &Order) {
     }
 }
 
-/// What the digraph of so many nodes and these edges and its order say, or why there is no digraph.
-fn tell_given(out: Out, alloc: Global, name: &str, nodes: usize, edges: &[Edge]) {
+/// Builds the digraph of `nodes` nodes and `edges`, and its order, and writes the facts of the call `name`. Writes the error
+/// if there is no digraph or no order.
+fn tell_given(out: &Out, alloc: Global, name: &str, nodes: usize, edges: &[Edge]) {
     match Digraph::new(alloc, nodes, edges) {
         Ok(graph) => {
             match Order::new(alloc, &graph) {
@@ -161,17 +142,18 @@ fn tell_given(out: Out, alloc: Global, name: &str, nodes: usize, edges: &[Edge])
     }
 }
 
-/// Makes a call on the digraph of so many nodes and these edges.
-pub fn given(out: Out, alloc: Global, name: &str, words: &str) -> Result<(), Failure> {
+/// Makes the call `name` on the digraph of `words`: the count of nodes, and the edges. `Words` if these can't be read, or
+/// `Memory`.
+pub fn given(out: &Out, alloc: Global, name: &str, words: &str) -> Result<(), Failure> {
     let (nodes, listed) = cut(words);
     let nodes = number(nodes)?;
-    let edges = edges_of(alloc, listed)?;
+    let edges = all_of(alloc, listed)?;
     tell_given(out, alloc, name, nodes, &edges);
     Ok(())
 }
 
-/// The edges of the shape of this name with so many nodes: one cycle, one path, or cycles of two. Of these each leads to the
-/// one before it, and its way back is dev-only.
+/// Appends the edges of `shape` with `nodes` nodes: `cycle` for one cycle, `cycles` for cycles of two nodes, or else a path.
+/// In `cycles`, each cycle has an edge to the one before it, and its own edge back is dev-only. `Memory` is the only error.
 fn push_shape(edges: &mut Vec<Edge>, shape: &str, nodes: usize) -> Result<(), Failure> {
     let cycles = shape == "cycles";
     for to in 1..nodes {
@@ -200,8 +182,8 @@ fn push_shape(edges: &mut Vec<Edge>, shape: &str, nodes: usize) -> Result<(), Fa
     Ok(())
 }
 
-/// The counts of an order, and the last node's component.
-fn tell_last(out: Out, order: &Order) {
+/// Writes the counts of `order`, and the component of the last node.
+fn tell_last(out: &Out, order: &Order) {
     order.facts();
     tell_counts(out, order);
     let nodes = order.list().len();
@@ -211,8 +193,9 @@ fn tell_last(out: Out, order: &Order) {
     out.line("");
 }
 
-/// Makes a call on a digraph that is too large for a script, of a shape and so many nodes.
-pub fn large(out: Out, alloc: Global, words: &str) -> Result<(), Failure> {
+/// Makes a call on a digraph that is too large to list in a script. `words` are its shape and its count of nodes. `Words` if
+/// the count is no number, or `Memory`.
+pub fn large(out: &Out, alloc: Global, words: &str) -> Result<(), Failure> {
     let (shape, nodes) = cut(words);
     let nodes = number(nodes)?;
     let mut edges = Vec::new(alloc);

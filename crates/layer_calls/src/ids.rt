@@ -1,4 +1,4 @@
-//! Calls on ids of features.
+//! Calls on feature ids.
 use crate::names::sign;
 use feature_labels::{FeatureId, FeatureLabel, LinkDeclarations};
 use guppy_packages::PackageId;
@@ -6,7 +6,7 @@ use guppy_vectors::{Failure, Out, label_of, parts};
 use std::alloc::Global;
 use std::hash::{DefaultHasher, Hash, Hasher};
 
-/// The id as the constructor of its kind makes it.
+/// Returns the id of `package` and `label`, made by the constructor for the kind of `label`.
 fn constructed<'g>(package: &'g PackageId, label: FeatureLabel<'g>) -> FeatureId<'g> {
     match label {
         FeatureLabel::Base => FeatureId::base(package),
@@ -15,45 +15,43 @@ fn constructed<'g>(package: &'g PackageId, label: FeatureLabel<'g>) -> FeatureId
     }
 }
 
-/// An id and its kinds, and whether its parts make it again.
-fn tell_id(out: Out, id: FeatureId<'_>) {
+/// Writes `id` and its kind, and whether two constructors return the same id from its parts.
+fn tell_id(out: &Out, id: FeatureId<'_>) {
     let package = id.package_id();
     out.shown(id);
     out.part_if(id.is_base(), ", base");
     out.part_if(id.is_named(), ", named");
     out.part_if(id.is_optional_dependency(), ", optional");
     out.answer(", again ", constructed(package, id.label()) == id);
-    out.answer(" ", FeatureId::from((package, id.label())) == id);
-    out.line("");
+    out.answer_line(" ", FeatureId::from((package, id.label())) == id);
 }
 
-/// The id of a package and a label.
-pub fn id(out: Out, alloc: Global, word: &str) -> Result<(), Failure> {
+/// Writes the facts about the id that `word` names; `Memory` is the only error.
+pub fn id(out: &Out, alloc: Global, word: &str) -> Result<(), Failure> {
     let (package, label) = parts(word);
     let package = PackageId::new(alloc, package)?;
     tell_id(out, FeatureId::new(&package, label_of(label)));
     Ok(())
 }
 
-/// The hash of an id.
+/// Returns the hash of `id`.
 fn hash_of(id: FeatureId<'_>) -> u64 {
     let mut hasher = DefaultHasher::new();
     id.hash(&mut hasher);
     hasher.finish()
 }
 
-/// How two ids compare, and whether they are equal and hash alike.
-fn tell_compared(out: Out, id: FeatureId<'_>, other: FeatureId<'_>) {
+/// Writes the order of `id` and `other`, and whether they and their hashes are equal.
+fn tell_compared(out: &Out, id: FeatureId<'_>, other: FeatureId<'_>) {
     out.shown(id);
     out.text(sign(id.cmp(&other)), " ");
     out.shown(other);
     out.answer(", equal ", id == other);
-    out.answer(", alike ", hash_of(id) == hash_of(other));
-    out.line("");
+    out.answer_line(", alike ", hash_of(id) == hash_of(other));
 }
 
-/// How two ids compare.
-pub fn compare(out: Out, alloc: Global, words: &str) -> Result<(), Failure> {
+/// Compares the two ids that `words` name, or a single one with itself; `Memory` is the only error.
+pub fn compare(out: &Out, alloc: Global, words: &str) -> Result<(), Failure> {
     let (word, other) = words.split_once(' ').unwrap_or((words, words));
     let (id, label) = parts(word);
     let (other_id, other_label) = parts(other);
@@ -67,8 +65,8 @@ pub fn compare(out: Out, alloc: Global, words: &str) -> Result<(), Failure> {
     Ok(())
 }
 
-/// Which declarations each kind of link covers.
-pub fn covered(out: Out) -> Result<(), Failure> {
+/// Writes the declarations that each kind of link covers. Returns no error.
+pub fn covered(out: &Out) -> Result<(), Failure> {
     for link in [
         LinkDeclarations::Unsplit,
         LinkDeclarations::Required,
@@ -76,8 +74,7 @@ pub fn covered(out: Out) -> Result<(), Failure> {
     ] {
         out.debug(link);
         out.answer(": required ", link.includes_required());
-        out.answer(", optional ", link.includes_optional());
-        out.line("");
+        out.answer_line(", optional ", link.includes_optional());
     }
     Ok(())
 }

@@ -1,12 +1,12 @@
-//! Calls on lists of features.
+//! Calls on feature lists.
 ghost use Rattle.std.specs.Iterator.{IsFinite};
 
 use feature_labels::{FeatureLabel, FeatureList};
 use guppy_packages::{PackageGraph, PackageMetadata, Row};
-use guppy_vectors::{Failure, Out, cut, halves, label_of};
+use guppy_vectors::{Failure, Out, all_of, cut, halves, label_of};
 use std::alloc::Global;
 
-/// The package of this id.
+/// Returns the package with the id `id`, or `Words` if `graph` has none.
 fn package_of<'g>(graph: &'g PackageGraph, id: &str) -> Result<PackageMetadata<'g>, Failure> {
     for ix in 0..graph.package_count() {
         let package = graph.package(ix);
@@ -17,16 +17,7 @@ fn package_of<'g>(graph: &'g PackageGraph, id: &str) -> Result<PackageMetadata<'
     Err(Failure::Words)
 }
 
-/// The labels of a text.
-fn labels_of(alloc: Global, words: &str) -> Result<Vec<FeatureLabel<'_>>, Failure> {
-    let mut labels = Vec::new(alloc);
-    for word in words.split_whitespace() {
-        labels.push(label_of(word))?;
-    }
-    Ok(labels)
-}
-
-/// The list of a text, which has the package's id and labels.
+/// Returns the list of `words`: a package id and labels. `Words` if `graph` lacks the package, or `Memory`.
 fn list_of<'g>(
     alloc: Global,
     graph: &'g PackageGraph,
@@ -34,12 +25,12 @@ fn list_of<'g>(
 ) -> Result<FeatureList<'g>, Failure> {
     let (id, labels) = cut(words);
     let package = package_of(graph, id)?;
-    let labels = labels_of(alloc, labels)?;
+    let labels = all_of::<FeatureLabel<'g>>(alloc, labels)?;
     Ok(FeatureList::new(alloc, package, &labels)?)
 }
 
-/// What a list prints, the names of its named features and of its optional dependencies, and its ids.
-fn tell_list(out: Out, list: &FeatureList<'_>) {
+/// Writes the package of `list`, its `Display` and `Debug` texts, its names by kind, and its ids.
+fn tell_list(out: &Out, list: &FeatureList<'_>) {
     let package = list.package();
     out.number("package ", package.package_ix());
     out.text(" ", package.id().repr());
@@ -57,8 +48,8 @@ fn tell_list(out: Out, list: &FeatureList<'_>) {
     out.line("");
 }
 
-/// How many names are left of an iterator, by its bounds, and the names.
-fn tell_names<'a, I: Iterator<Item = &'a str>>(out: Out, before: &str, names: I)
+/// Writes `before`, the size hint of `names`, and the names.
+fn tell_names<'a, I: Iterator<Item = &'a str>>(out: &Out, before: &str, names: I)
     requires can { I.can_next names }
     requires ends { IsFinite (I.remaining names) }
 {
@@ -70,8 +61,8 @@ fn tell_names<'a, I: Iterator<Item = &'a str>>(out: Out, before: &str, names: I)
     out.line("");
 }
 
-/// A list's copy.
-fn tell_copy(out: Out, alloc: Global, list: &FeatureList<'_>) -> Result<(), Failure> {
+/// Writes whether a copy of `list` is equal to it, and the copy's count of labels; `Memory` is the only error.
+fn tell_copy(out: &Out, alloc: Global, list: &FeatureList<'_>) -> Result<(), Failure> {
     let copy = list.try_clone(alloc)?;
     out.answer("copy ", copy == *list);
     out.number(", labels ", copy.into_labels().len());
@@ -79,8 +70,8 @@ fn tell_copy(out: Out, alloc: Global, list: &FeatureList<'_>) -> Result<(), Fail
     Ok(())
 }
 
-/// What is left of a list that is given up, id by id.
-fn tell_rest(out: Out, list: FeatureList<'_>) {
+/// Consumes `list` and writes each id, with the size hint after it.
+fn tell_rest(out: &Out, list: FeatureList<'_>) {
     let mut ids = list.into_iter();
     out.number("left ", ids.len());
     out.part(" ");
@@ -93,8 +84,8 @@ fn tell_rest(out: Out, list: FeatureList<'_>) {
     out.line("");
 }
 
-/// All that a list says.
-pub fn list(out: Out, alloc: Global, graph: &PackageGraph, words: &str) -> Result<(), Failure> {
+/// Writes all facts about the list of `words`. `Words` if `graph` lacks the package, or `Memory`.
+pub fn list(out: &Out, alloc: Global, graph: &PackageGraph, words: &str) -> Result<(), Failure> {
     let list = list_of(alloc, graph, words)?;
     tell_list(out, &list);
     tell_copy(out, alloc, &list)?;
@@ -102,7 +93,7 @@ pub fn list(out: Out, alloc: Global, graph: &PackageGraph, words: &str) -> Resul
     Ok(())
 }
 
-/// Whether the list has the label, by the question for its kind.
+/// Returns whether `list` has `label`, by the method for its kind.
 fn has(list: &FeatureList<'_>, label: FeatureLabel<'_>) -> bool {
     match label {
         FeatureLabel::Base => list.has_base(),
@@ -111,21 +102,25 @@ fn has(list: &FeatureList<'_>, label: FeatureLabel<'_>) -> bool {
     }
 }
 
-/// Whether a list holds each of some labels, asked in two ways.
-pub fn held(out: Out, alloc: Global, graph: &PackageGraph, words: &str) -> Result<(), Failure> {
-    let (words, asked) = halves(words, ": ")?;
-    let list = list_of(alloc, graph, words)?;
+/// Writes whether `list` has each label of `asked`, by `contains` and by the method for its kind.
+fn tell_held(out: &Out, list: &FeatureList<'_>, asked: &str) {
     for word in asked.split_whitespace() {
         let label = label_of(word);
         out.shown(label);
         out.answer(" ", list.contains(label));
-        out.answer(" ", has(&list, label));
-        out.line("");
+        out.answer_line(" ", has(list, label));
     }
+}
+
+/// Writes whether a list has each label after `: `. `Words` without a `: ` or if `graph` lacks the package, or `Memory`.
+pub fn held(out: &Out, alloc: Global, graph: &PackageGraph, words: &str) -> Result<(), Failure> {
+    let (words, asked) = halves(words, ": ")?;
+    let list = list_of(alloc, graph, words)?;
+    tell_held(out, &list, asked);
     Ok(())
 }
 
-/// The rows of the packages of a graph, in the order from the last to the first.
+/// Returns a package row for each package of `graph`, from the last to the first; `Memory` is the only error.
 fn turned_rows(alloc: Global, graph: &PackageGraph) -> Result<Vec<Row<'_>>, Failure> {
     let mut rows = Vec::new(alloc);
     for ix in (0..graph.package_count()).rev() {
@@ -137,25 +132,38 @@ fn turned_rows(alloc: Global, graph: &PackageGraph) -> Result<Vec<Row<'_>>, Fail
     Ok(rows)
 }
 
-/// Whether a list is equal to that of a text, which may be over another graph.
+/// Writes whether `list` is equal to the list of `words` over `graph`. `Words` if `graph` lacks the package, or `Memory`.
 fn tell_equal(
-    out: Out,
+    out: &Out,
     alloc: Global,
     list: &FeatureList<'_>,
     graph: &PackageGraph,
     words: &str,
 ) -> Result<(), Failure> {
     let other = list_of(alloc, graph, words)?;
-    out.answer("", *list == other);
-    out.line("");
+    out.answer_line("", *list == other);
     Ok(())
 }
 
-/// Whether two lists are equal, over one graph, and where the second is over another graph with the same packages.
-pub fn equal(out: Out, alloc: Global, graph: &PackageGraph, words: &str) -> Result<(), Failure> {
+/// Writes whether `list` is equal to the list of `words` over a graph with the packages of `graph` in reverse order. `Words`
+/// if the package is missing, a fault of the rows, or `Memory`.
+fn tell_turned(
+    out: &Out,
+    alloc: Global,
+    list: &FeatureList<'_>,
+    graph: &PackageGraph,
+    words: &str,
+) -> Result<(), Failure> {
+    let rows = turned_rows(alloc, graph)?;
+    let turned = PackageGraph::from_rows(alloc, &rows)?;
+    tell_equal(out, alloc, list, &turned, words)
+}
+
+/// Writes whether two lists are equal, first over one graph, then with the second over the packages in reverse order. `Words`
+/// without a `: ` or if `graph` lacks a package, or `Memory`.
+pub fn equal(out: &Out, alloc: Global, graph: &PackageGraph, words: &str) -> Result<(), Failure> {
     let (words, other) = halves(words, ": ")?;
     let list = list_of(alloc, graph, words)?;
     tell_equal(out, alloc, &list, graph, other)?;
-    let turned = PackageGraph::from_rows(alloc, &turned_rows(alloc, graph)?)?;
-    tell_equal(out, alloc, &list, &turned, other)
+    tell_turned(out, alloc, &list, graph, other)
 }

@@ -1,10 +1,10 @@
-//! Lists too long for a script.
+//! A call on a feature list that is too long for a script.
 use feature_labels::{FeatureLabel, FeatureList};
 use guppy_packages::PackageGraph;
 use guppy_vectors::{Failure, Out, number};
 use std::alloc::Global;
 
-/// The numbers below a bound, each as a name of five digits at least.
+/// Returns the numbers below `bound` as names of at least five digits; `Memory` is the only error.
 fn names_below(alloc: Global, bound: usize) -> Result<Vec<String>, Failure> {
     let mut names = Vec::new(alloc);
     for number in 0..bound {
@@ -13,7 +13,7 @@ fn names_below(alloc: Global, bound: usize) -> Result<Vec<String>, Failure> {
     Ok(names)
 }
 
-/// The named features of these names, from the last to the first.
+/// Returns the named features of `names`, from the last to the first; `Memory` is the only error.
 fn labels_of(alloc: Global, names: &[String]) -> Result<Vec<FeatureLabel<'_>>, Failure> {
     let mut labels = Vec::new(alloc);
     for name in names.iter().rev() {
@@ -22,9 +22,9 @@ fn labels_of(alloc: Global, names: &[String]) -> Result<Vec<FeatureLabel<'_>>, F
     Ok(labels)
 }
 
-/// How many labels a list has, and the first of the names that doesn't stand in their order, isn't found in the list as a
-/// feature or is found as an optional dependency.
-fn tell_found(out: Out, list: &FeatureList<'_>, names: &[String]) {
+/// Writes the count of labels in `list`. Then writes the first name that is out of order, isn't found as a named feature, or
+/// is found as an optional dependency.
+fn tell_found(out: &Out, list: &FeatureList<'_>, names: &[String]) {
     out.number("", list.labels().len());
     for (name, label) in names.iter().zip(list.labels()) {
         if *label != FeatureLabel::Named(name.as_str())
@@ -37,8 +37,9 @@ fn tell_found(out: Out, list: &FeatureList<'_>, names: &[String]) {
     out.line(" labels, each in order and found");
 }
 
-/// The list of these names, handed over from the last to the first.
-fn tell(out: Out, alloc: Global, graph: &PackageGraph, names: &[String]) -> Result<(), Failure> {
+/// Builds the list of `names` for the first package, passing them from the last to the first, and writes its facts. `Words` if
+/// `graph` is empty, or `Memory`.
+fn tell(out: &Out, alloc: Global, graph: &PackageGraph, names: &[String]) -> Result<(), Failure> {
     if graph.package_count() == 0 {
         return Err(Failure::Words);
     }
@@ -48,8 +49,14 @@ fn tell(out: Out, alloc: Global, graph: &PackageGraph, names: &[String]) -> Resu
     Ok(())
 }
 
-/// The list of the first package with as many features as a number says.
-pub fn long_list(out: Out, alloc: Global, graph: &PackageGraph, word: &str) -> Result<(), Failure> {
+/// Writes the facts about a list of the first package with as many features as the number `word`. `Words` if `word` is no
+/// number or `graph` is empty, or `Memory`.
+pub fn long_list(
+    out: &Out,
+    alloc: Global,
+    graph: &PackageGraph,
+    word: &str,
+) -> Result<(), Failure> {
     let names = names_below(alloc, number(word)?)?;
     tell(out, alloc, graph, &names)
 }

@@ -1,11 +1,11 @@
-//! Calls on the texts of items and on package ids.
+//! Calls on feature items and package ids.
 use guppy_packages::{NamedFeatureDep, PackageId};
-use guppy_vectors::{Failure, Out};
+use guppy_vectors::{Failure, Out, all_of};
 use std::alloc::Global;
 use std::cmp::Ordering;
 
-/// What the text of an item means. Names stand in brackets.
-pub fn item(out: Out, text: &str) -> Result<(), Failure> {
+/// Writes the parts of the feature item `text`, with names in brackets. Returns no error.
+pub fn item(out: &Out, text: &str) -> Result<(), Failure> {
     match NamedFeatureDep::from_cargo_string(text) {
         NamedFeatureDep::NamedFeature(name) => out.text("feature [", name),
         NamedFeatureDep::OptionalDependency(name) => out.text("dependency [", name),
@@ -23,7 +23,7 @@ pub fn item(out: Out, text: &str) -> Result<(), Failure> {
     Ok(())
 }
 
-/// How two values compare, as a sign.
+/// Returns the sign of `order`, after a space.
 pub fn sign(order: Ordering) -> &'static str {
     match order {
         Ordering::Less => " <",
@@ -32,17 +32,8 @@ pub fn sign(order: Ordering) -> &'static str {
     }
 }
 
-/// The package ids of a text; two quotes stand for no text.
-fn ids_of(alloc: Global, words: &str) -> Result<Vec<PackageId>, Failure> {
-    let mut ids = Vec::new(alloc);
-    for word in words.split(' ') {
-        ids.push(PackageId::new(alloc, if word == "''" { "" } else { word })?)?;
-    }
-    Ok(ids)
-}
-
-/// How an id compares with each, and whether its copy is equal to it.
-fn tell_id(out: Out, alloc: Global, id: &PackageId, ids: &[PackageId]) {
+/// Writes the order of `id` and each of `ids`, and whether a copy of `id` is equal to it.
+fn tell_id(out: &Out, alloc: Global, id: &PackageId, ids: &[PackageId]) {
     out.text(id.repr(), ":");
     for other in ids {
         out.part(sign(id.cmp(other)));
@@ -55,9 +46,9 @@ fn tell_id(out: Out, alloc: Global, id: &PackageId, ids: &[PackageId]) {
     out.line("");
 }
 
-/// How each of some package ids compares with each, and whether its copy is equal to it.
-pub fn package_ids(out: Out, alloc: Global, words: &str) -> Result<(), Failure> {
-    let ids = ids_of(alloc, words)?;
+/// Compares each package id of `words` with each, and with its copy; `Memory` is the only error.
+pub fn package_ids(out: &Out, alloc: Global, words: &str) -> Result<(), Failure> {
+    let ids = all_of::<PackageId>(alloc, words)?;
     for id in &ids {
         tell_id(out, alloc, id, &ids);
     }

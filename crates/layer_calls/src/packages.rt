@@ -1,21 +1,21 @@
 //! Calls on package graphs and platform statuses.
 use guppy_packages::{
     Declaration, NamedFeature, PackageGraph, PackageId, PackageLink, PackageMetadata,
-    PlatformStatus, PlatformStatusImpl, Spec,
+    PlatformStatus, PlatformStatusImpl,
 };
-use guppy_vectors::{Failure, Out, cut};
+use guppy_vectors::{Failure, Out, all_of, cut};
 use std::alloc::Global;
 
-/// A text that stands before a place, and the place or `none`.
-fn tell_place(out: Out, before: &str, place: Option<usize>) {
+/// Writes `before`, and then `place` or `none`.
+fn tell_place(out: &Out, before: &str, place: Option<usize>) {
     match place {
         Some(place) => out.number(before, place),
         None => out.text(before, "none"),
     }
 }
 
-/// A named feature and its items.
-fn tell_feature(out: Out, package: PackageMetadata<'_>, feature: &NamedFeature) {
+/// Writes a named feature of `package`, its place and its items.
+fn tell_feature(out: &Out, package: PackageMetadata<'_>, feature: &NamedFeature) {
     out.text("feature ", feature.name());
     tell_place(out, " at ", package.feature_place(feature.name()));
     out.part(":");
@@ -25,8 +25,8 @@ fn tell_feature(out: Out, package: PackageMetadata<'_>, feature: &NamedFeature) 
     out.line("");
 }
 
-/// What a package says of itself.
-fn tell_facts(out: Out, package: PackageMetadata<'_>) {
+/// Writes the number and id of `package`, whether it is in the workspace and has a default feature, and its links.
+fn tell_facts(out: &Out, package: PackageMetadata<'_>) {
     out.number("package ", package.package_ix());
     out.text(" ", package.id().repr());
     out.part(if package.in_workspace() {
@@ -41,8 +41,8 @@ fn tell_facts(out: Out, package: PackageMetadata<'_>) {
     out.line("");
 }
 
-/// A package, its features and its optional names.
-fn tell_package(out: Out, package: PackageMetadata<'_>) {
+/// Writes `package`, its named features and its optional dependencies.
+fn tell_package(out: &Out, package: PackageMetadata<'_>) {
     tell_facts(out, package);
     for feature in package.named_features() {
         tell_feature(out, package, feature);
@@ -54,8 +54,8 @@ fn tell_package(out: Out, package: PackageMetadata<'_>) {
     }
 }
 
-/// A status, with the answers to its three questions.
-fn tell_status(out: Out, status: PlatformStatus<'_>) {
+/// Writes `status` and the results of `is_never`, `is_always` and `is_present`.
+fn tell_status(out: &Out, status: PlatformStatus<'_>) {
     match status {
         PlatformStatus::Never => out.part("nowhere"),
         PlatformStatus::Always => out.part("everywhere"),
@@ -71,8 +71,8 @@ fn tell_status(out: Out, status: PlatformStatus<'_>) {
     out.part_if(status.is_present(), ", present");
 }
 
-/// A declaration of a link.
-fn tell_declaration(out: Out, declaration: &Declaration) {
+/// Writes a declaration of a link on a line.
+fn tell_declaration(out: &Out, declaration: &Declaration) {
     out.debug(declaration.kind());
     out.part(if declaration.optional() {
         ", optional, "
@@ -87,8 +87,8 @@ fn tell_declaration(out: Out, declaration: &Declaration) {
     out.line("");
 }
 
-/// A link and its declarations.
-fn tell_link(out: Out, link: PackageLink<'_>) {
+/// Writes `link` and its declarations.
+fn tell_link(out: &Out, link: PackageLink<'_>) {
     let (from, to) = (link.from(), link.to());
     out.number("link ", link.link_ix());
     out.number(" ", from.package_ix());
@@ -102,8 +102,8 @@ fn tell_link(out: Out, link: PackageLink<'_>) {
     }
 }
 
-/// All that a graph says, a line for each package, feature, optional name, link and declaration.
-pub fn graph(out: Out, graph: &PackageGraph) -> Result<(), Failure> {
+/// Writes a line for each package, feature, optional dependency, link and declaration of `graph`. Returns no error.
+pub fn graph(out: &Out, graph: &PackageGraph) -> Result<(), Failure> {
     for ix in 0..graph.package_count() {
         tell_package(out, graph.package(ix));
     }
@@ -113,8 +113,9 @@ pub fn graph(out: Out, graph: &PackageGraph) -> Result<(), Failure> {
     Ok(())
 }
 
-/// Looks a package up, and a name in it: its places among the features and among the optional names.
-pub fn place(out: Out, alloc: Global, graph: &PackageGraph, words: &str) -> Result<(), Failure> {
+/// Looks up a package by id, and a name in it, and writes their places. Writes the error if `graph` lacks the package.
+/// Returns `Memory` if an allocation fails.
+pub fn place(out: &Out, alloc: Global, graph: &PackageGraph, words: &str) -> Result<(), Failure> {
     let (id, name) = cut(words);
     let id = PackageId::new(alloc, id)?;
     match graph.metadata(&id) {
@@ -130,8 +131,8 @@ pub fn place(out: Out, alloc: Global, graph: &PackageGraph, words: &str) -> Resu
     Ok(())
 }
 
-/// A status that owns its specs, and its copy.
-fn tell_owned(out: Out, alloc: Global, status: &PlatformStatusImpl) -> Result<(), Failure> {
+/// Writes an owned status and its copy; `Memory` is the only error.
+fn tell_owned(out: &Out, alloc: Global, status: &PlatformStatusImpl) -> Result<(), Failure> {
     tell_status(out, PlatformStatus::new(status));
     out.line("");
     let copy = status.try_clone(alloc)?;
@@ -141,22 +142,16 @@ fn tell_owned(out: Out, alloc: Global, status: &PlatformStatusImpl) -> Result<()
     Ok(())
 }
 
-/// The specs of a text.
-fn specs_of(alloc: Global, words: &str) -> Result<Vec<Spec>, Failure> {
-    let mut specs = Vec::new(alloc);
-    for word in words.split_whitespace() {
-        specs.push(Spec::new(alloc, word)?)?;
-    }
-    Ok(specs)
-}
-
-/// The status everywhere.
-pub fn always(out: Out, alloc: Global) -> Result<(), Failure> {
+/// Writes the status `Always` and its copy; `Memory` is the only error.
+pub fn always(out: &Out, alloc: Global) -> Result<(), Failure> {
     tell_owned(out, alloc, &PlatformStatusImpl::Always)
 }
 
-/// The status on the platforms of some specs.
-pub fn specs(out: Out, alloc: Global, words: &str) -> Result<(), Failure> {
-    let specs = specs_of(alloc, words)?;
-    tell_owned(out, alloc, &PlatformStatusImpl::Specs(specs))
+/// Writes the status of the specs in `words`, and its copy; `Memory` is the only error.
+pub fn specs(out: &Out, alloc: Global, words: &str) -> Result<(), Failure> {
+    tell_owned(
+        out,
+        alloc,
+        &PlatformStatusImpl::Specs(all_of(alloc, words)?),
+    )
 }

@@ -1,9 +1,10 @@
-//! Calls on sets of numbers.
+//! Calls on bit sets.
 use guppy_support::IxBitSet;
 use guppy_vectors::{Failure, Out, cut, halves, insert, number};
 use std::alloc::{AllocError, Global};
 
-/// The set of a text, which has the set's bound and its numbers.
+/// Returns the set of `words`: its bound, and its members. `Words` if one is no number or a member isn't below the bound, or
+/// `Memory`.
 fn set_of(alloc: Global, words: &str) -> Result<IxBitSet, Failure> {
     let (size, numbers) = cut(words);
     let mut set = IxBitSet::empty(alloc, number(size)?)?;
@@ -11,8 +12,8 @@ fn set_of(alloc: Global, words: &str) -> Result<IxBitSet, Failure> {
     Ok(set)
 }
 
-/// A set's numbers, counted twice, and its bound.
-fn tell(out: Out, name: &str, set: &IxBitSet) {
+/// Writes `name`, the count of members by `count` and by `ones`, the bound, and the members.
+fn tell(out: &Out, name: &str, set: &IxBitSet) {
     out.part(name);
     out.number(": ", set.count());
     out.number(", ", set.ones().len());
@@ -24,16 +25,16 @@ fn tell(out: Out, name: &str, set: &IxBitSet) {
     out.line("");
 }
 
-/// A set that a call made.
-fn tell_made(out: Out, name: &str, set: Result<IxBitSet, AllocError>) {
+/// Writes `name` and `set`, or that an allocation failed.
+fn tell_made(out: &Out, name: &str, set: Result<IxBitSet, AllocError>) {
     match set {
         Ok(set) => tell(out, name, &set),
         Err(_) => out.failure(Failure::Memory),
     }
 }
 
-/// What the operations give of two sets.
-fn tell_operations(out: Out, alloc: Global, low: &IxBitSet, high: &IxBitSet) {
+/// Writes the results of the four set operations on `low` and `high` if their bounds are equal.
+fn tell_operations(out: &Out, alloc: Global, low: &IxBitSet, high: &IxBitSet) {
     if low.size() == high.size() {
         tell_made(out, "union", low.union(alloc, high));
         tell_made(out, "intersection", low.intersection(alloc, high));
@@ -43,8 +44,9 @@ fn tell_operations(out: Out, alloc: Global, low: &IxBitSet, high: &IxBitSet) {
     }
 }
 
-/// Two sets, after the operations on them.
-pub fn sets(out: Out, alloc: Global, words: &str) -> Result<(), Failure> {
+/// Writes the results of the set operations on two sets, and then both sets. `Words` if `words` aren't two sets around `: `,
+/// or `Memory`.
+pub fn sets(out: &Out, alloc: Global, words: &str) -> Result<(), Failure> {
     let (low, high) = halves(words, ": ")?;
     let low = set_of(alloc, low)?;
     let high = set_of(alloc, high)?;
@@ -54,16 +56,16 @@ pub fn sets(out: Out, alloc: Global, words: &str) -> Result<(), Failure> {
     Ok(())
 }
 
-/// How two sets compare.
-fn tell_equal(out: Out, one: &IxBitSet, other: &IxBitSet) {
+/// Writes whether `one` and `other` are equal, unequal and identical.
+fn tell_equal(out: &Out, one: &IxBitSet, other: &IxBitSet) {
     out.answer("equal ", one == other);
     out.answer(", unequal ", one != other);
-    out.answer(", identical ", one.is_identical(other));
-    out.line("");
+    out.answer_line(", identical ", one.is_identical(other));
 }
 
-/// How two sets compare, and then the first one's copy with it.
-pub fn equal(out: Out, alloc: Global, words: &str) -> Result<(), Failure> {
+/// Compares two sets, and then a copy of the first with the first. `Words` if `words` aren't two sets around `: `, or
+/// `Memory`.
+pub fn equal(out: &Out, alloc: Global, words: &str) -> Result<(), Failure> {
     let (one, other) = halves(words, ": ")?;
     let one = set_of(alloc, one)?;
     tell_equal(out, &one, &set_of(alloc, other)?);
@@ -71,8 +73,9 @@ pub fn equal(out: Out, alloc: Global, words: &str) -> Result<(), Failure> {
     Ok(())
 }
 
-/// The count of a set of all numbers below a bound, and whether it has the last.
-pub fn full(out: Out, alloc: Global, words: &str) -> Result<(), Failure> {
+/// Writes the count of the full set with the bound `words`, and whether it contains the last number. `Words` if `words` is no
+/// number, or `Memory`.
+pub fn full(out: &Out, alloc: Global, words: &str) -> Result<(), Failure> {
     let size = number(words)?;
     let set = IxBitSet::full(alloc, size)?;
     out.number("", set.count());

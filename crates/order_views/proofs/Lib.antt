@@ -8,4 +8,5 @@ pub mod Places
 pub mod Readings
 pub mod RootLemmas
 pub mod SearchLemmas
+pub mod TieLemmas
 pub mod WithinLemmas

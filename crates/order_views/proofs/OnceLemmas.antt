@@ -32,7 +32,7 @@ at_place xs i x e =
     let is : get_or xs i 0 ≡ x = cc in
     (i, h, get_or_default xs i x 0 h ∙ is)
 
-place_of : (xs : List ℕ) (x : ℕ) → Contains xs x → (i : ℕ) × (slice_get xs i ≡ Some x)
+pub place_of : (xs : List ℕ) (x : ℕ) → Contains xs x → (i : ℕ) × (slice_get xs i ≡ Some x)
 place_of xs x h = (h.0, get_some xs h.0 h.1 ∙ ap Some (get_or_default xs h.0 0 x h.1 ∙ h.2))
 
 distinct_append : (xs ys : List ℕ) → IsDistinct nat_eq xs → IsDistinct nat_eq ys → ((q : ℕ) → Contains xs q → ¬ Contains ys q) → IsDistinct nat_eq (xs ++ ys)
@@ -58,12 +58,12 @@ in_flat_map f (x ∷ vs) v k h has =
     ]
 
 -- The source of an element of a flat map.
-record IsFrom (f : ℕ → List ℕ) (vs : List ℕ) (k : ℕ) : Type 0 where
-  node : ℕ
-  listed : Contains vs node
-  has : Contains (f node) k
+pub record IsFrom (f : ℕ → List ℕ) (vs : List ℕ) (k : ℕ) : Type 0 where
+  pub node : ℕ
+  pub listed : Contains vs node
+  pub has : Contains (f node) k
 
-from_flat_map : (f : ℕ → List ℕ) (vs : List ℕ) (k : ℕ) → Contains (flat_map f vs) k → IsFrom f vs k
+pub from_flat_map : (f : ℕ → List ℕ) (vs : List ℕ) (k : ℕ) → Contains (flat_map f vs) k → IsFrom f vs k
 from_flat_map f [] k h = absurd (omega (arith, h.1))
 from_flat_map f (x ∷ vs) k h =
     elim (Contains-append_cases (f x) (flat_map f vs) k h) [
@@ -127,7 +127,7 @@ read_every Backward o ok v h =
     let back : length o.list - 1 - (length o.list - 1 - at.0) ≡ at.0 = omega (arith, at.1) in
     (length o.list - 1 - at.0, omega (arith, there, length-reverse o.list), get_or-reverse o.list (length o.list - 1 - at.0) v there ∙ ap (λ i. get_or o.list i v) back ∙ at.2)
 
-members_distinct : (o : Sequence) (set : List Bool) (r : Reading) → IsSequence o → IsDistinct nat_eq (in_order r o.list set)
+pub members_distinct : (o : Sequence) (set : List Bool) (r : Reading) → IsSequence o → IsDistinct nat_eq (in_order r o.list set)
 members_distinct o set r ok = subst (IsDistinct nat_eq) (left_start r o.list set) (distinct_filter (λ v. has set v) (as_read r o.list) (read_distinct r o ok))
 
 to_member : (o : Sequence) (set : List Bool) (r : Reading) (v : ℕ) → Contains (in_order r o.list set) v → IsTrue (has set v)

@@ -6,7 +6,7 @@ use Rattle.guppy_support.specs.Paths.{OnCycle}
 use Rattle.guppy_support.specs.Bits.{has}
 use Rattle.digraph_orders.specs.Sequences.{Sequence, IsSequence, IsOrderOf, component_of}
 use Rattle.order_views.specs.declared.reading.Reading.{Reading}
-use Rattle.order_views.specs.Views.{in_order, links_in_order, roots_in_order}
+use Rattle.order_views.specs.Views.{in_order, links_in_order, roots_in_order, start_of, end_of}
 use Rattle.order_views.specs.Cycles.{has_cycle, cyclic_components}
 
 -- The list has exactly the numbers of a kind, each once.
@@ -31,6 +31,17 @@ abbrev pub LinksComeOnce : Type 0
 LinksComeOnce =
     (es : List Edge) (o : Sequence) (set : List Bool) (r : Reading) → IsSequence o → length set ≡ length o.list
     → ListsOnce (IsLink es set) (links_in_order r es o.list set)
+
+-- Of two of the links that have one start, the one that ends at the smaller number comes first.
+pub record AscendByEnd (r : Reading) (es : List Edge) (xs : List ℕ) : Type 0 where
+  pub each : (i j : ℕ) → i < j → j < length xs → start_of r es (slice_index xs i) ≡ start_of r es (slice_index xs j)
+      → end_of r es (slice_index xs i) < end_of r es (slice_index xs j)
+
+-- The links in order that have one start ascend by the number of their other end.
+abbrev pub LinksAscend : Type 0
+LinksAscend =
+    (g : Graph) (o : Sequence) (set : List Bool) (r : Reading) → IsDigraph g → IsSequence o
+    → AscendByEnd r g.edges (links_in_order r g.edges o.list set)
 
 -- Each member, link, root and component in a view is a number of its kind.
 abbrev pub MembersAreNodes : Type 0

@@ -1,5 +1,5 @@
 //! Laws of the views. Each function does nothing; its contract is the law.
-ghost use Rattle.order_views.specs.Laws.{MembersComeOnce, LinksComeOnce, MembersAreNodes, LinksAreEdges, RootsAreNodes, CyclesAreNumbered, OneList, CyclicByCycles};
+ghost use Rattle.order_views.specs.Laws.{MembersComeOnce, LinksComeOnce, LinksAscend, MembersAreNodes, LinksAreEdges, RootsAreNodes, CyclesAreNumbered, OneList, CyclicByCycles};
 
 /// The members in order are exactly the members, each once.
 pub fn members_come_once()
@@ -9,6 +9,11 @@ pub fn members_come_once()
 /// The links in order are exactly the edges with both ends in the set, each once.
 pub fn links_come_once()
     ensures { LinksComeOnce }
+{}
+
+/// The links in order that have one start ascend by the number of their other end.
+pub fn links_ascend()
+    ensures { LinksAscend }
 {}
 
 /// Each member, link, root and component in a view is a number of its kind.

@@ -4,8 +4,8 @@ use Rattle.std.specs.Prelude.{codes}
 use Rattle.std.specs.Str.{bytes_eq}
 use Rattle.platform_specs.specs.Facts.{FactText}
 use Rattle.platform_specs.specs.Grammar.{is_operator}
-use Rattle.platform_specs.specs.FactReading.{FactState, waiting, after_raw, naming, named, valued, quoted, whole, is_taken, fact_end}
-use Rattle.platform_specs.specs.Reading.{Place, beginning, item, closed, finished, Reading, operator_named, operator_at, is_list, past_word, read_step, read_run}
+use Rattle.platform_specs.specs.inner.FactReading.{FactState, waiting, after_raw, naming, named, valued, quoted, whole, is_taken, fact_end}
+use Rattle.platform_specs.specs.inner.Reading.{Place, beginning, item, closed, finished, Reading, operator_named, operator_at, is_list, past_word, read_step, read_run}
 use Rattle.platform_specs.specs.declared.parts.Operator.{Operator}
 use Rattle.platform_specs.specs.declared.parts.Operator.TheVariants.{All, Any, Not}
 use Rattle.platform_specs.specs.declared.parts.Part.{Part}

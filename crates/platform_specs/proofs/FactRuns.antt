@@ -6,7 +6,7 @@ use Rattle.std.specs.Char.{encode_utf8}
 use Rattle.std.specs.Str.{encode_utf8_all, bytes_eq}
 use Rattle.platform_specs.specs.Facts.{FactText}
 use Rattle.platform_specs.specs.Grammar.{AllAre, is_space, begins_name, continues_name, is_in_string, is_operator, is_never, IsIdentifier, SpellsName, Spaced, SpellsItem, SpellsFact}
-use Rattle.platform_specs.specs.FactReading.{FactState, waiting, after_raw, naming, named, valued, quoted, whole, is_taken, past_name, fact_step, fact_end, fact_run}
+use Rattle.platform_specs.specs.inner.FactReading.{FactState, waiting, after_raw, naming, named, valued, quoted, whole, is_taken, past_name, fact_step, fact_end, fact_run}
 use Rattle.platform_specs.proofs.Runs.{run_cons, run_past, run_stays, differs, same_char, continues_ascii, begins_ascii}
 
 -- the bare names that are no facts

@@ -7,7 +7,7 @@ use Rattle.std.specs.Char.{encode_utf8}
 use Rattle.std.specs.Str.{encode_utf8_all, bytes_eq}
 use Rattle.platform_specs.specs.Facts.{FactText}
 use Rattle.platform_specs.specs.Grammar.{AllAre, is_space, begins_name, continues_name, is_in_string, IsIdentifier, SpellsName, Spaced, SpellsFact}
-use Rattle.platform_specs.specs.FactReading.{FactState, waiting, after_raw, naming, named, valued, quoted, whole, is_taken, name_step, past_name, fact_step, fact_end, fact_run}
+use Rattle.platform_specs.specs.inner.FactReading.{FactState, waiting, after_raw, naming, named, valued, quoted, whole, is_taken, name_step, past_name, fact_step, fact_end, fact_run}
 use Rattle.platform_specs.proofs.Runs.{run_keeps, chosen, same_char, continues_ascii, begins_ascii}
 use Rattle.platform_specs.proofs.FactRuns.{reserved_names, taken_bare}
 

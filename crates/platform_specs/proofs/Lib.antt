@@ -8,3 +8,4 @@ pub mod Places
 pub mod SpecTexts
 pub mod Lines
 pub mod Walks
+pub mod PartTexts

@@ -5,7 +5,7 @@ use Rattle.std.specs.List.{position_or_len, before_first, after_first, slice_spl
 use Rattle.std.proofs.lemmas.List.Splits.{slice_split_none, slice_split_first}
 use Rattle.std.proofs.lemmas.List.Sums.{fails_before_first}
 use denote.Ref.{Bor}
-use Rattle.platform_specs.specs.LineReading.{ReadsLine, pieces_behind, lines_behind}
+use Rattle.platform_specs.specs.inner.LineReading.{ReadsLine, pieces_behind, lines_behind}
 use Rattle.std.specs.Str.{chars}
 use Rattle.std.proofs.lemmas.Bool.Decides.{eqb_tells}
 use Rattle.std.specs.Option.{option_and_then}
@@ -13,8 +13,8 @@ use Rattle.platform_specs.specs.Facts.{FactText}
 use Rattle.platform_specs.specs.Expressions.{Target}
 use Rattle.platform_specs.specs.Grammar.{SpellsLine, SpellsLines, without_return, lines_of, IsTarget}
 use Rattle.platform_specs.specs.Faults.{IsFirstMalformed, IsCfgFault}
-use Rattle.platform_specs.specs.FactReading.{FactState, waiting, fact_step, fact_end, fact_run}
-use Rattle.platform_specs.specs.Positions.{Stopped, ReadAll}
+use Rattle.platform_specs.specs.inner.FactReading.{FactState, waiting, fact_step, fact_end, fact_run}
+use Rattle.platform_specs.specs.inner.Positions.{Stopped, ReadAll}
 use Rattle.platform_specs.specs.declared.fault.CfgFault.{CfgFault}
 use Rattle.platform_specs.specs.declared.fault.CfgFault.TheVariants.{Malformed, Memory}
 use Rattle.platform_specs.proofs.Runs.{run_past}

@@ -3,8 +3,8 @@ use Rattle.std.proofs.Common.{◌≡◌, ℕ, ◌≤◌, List, [], ◌∷◌, �
 use Rattle.std.proofs.lemmas.Str.{encodes-chars, cons_from_encodes, length-le-encodes, encodes-append}
 use Rattle.std.specs.Char.{encode_utf8}
 use Rattle.std.specs.Str.{chars, encode_utf8_all, IsUtf8}
-use Rattle.platform_specs.specs.Runs.{run}
-use Rattle.platform_specs.specs.Positions.{Stopped, ReadAll}
+use Rattle.platform_specs.specs.inner.Runs.{run}
+use Rattle.platform_specs.specs.inner.Positions.{Stopped, ReadAll}
 use Rattle.platform_specs.proofs.Runs.{run_cons, run_past}
 
 module _ {S : Type 0} (step : S → ℕ → Option S) (start : S) where

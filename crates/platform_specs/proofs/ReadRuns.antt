@@ -5,9 +5,9 @@ use Rattle.std.proofs.lemmas.Bool.Decides.{eqb_tells}
 use Rattle.platform_specs.specs.Facts.{FactText}
 use Rattle.platform_specs.specs.Expressions.{Expression, Expressions, fact, constant, not_of, all_of, any_of, no_more, part}
 use Rattle.platform_specs.specs.Grammar.{AllAre, is_space, begins_name, is_operator, IsIdentifier, SpellsName, Spaced, SpellsItem, SpellsFact, constant_word, Applied, Spells, SpellsParts}
-use Rattle.platform_specs.specs.Parts.{parts_of, joined}
-use Rattle.platform_specs.specs.FactReading.{FactState, waiting, after_raw, naming, named, valued, quoted, whole, fact_step, fact_end, fact_run}
-use Rattle.platform_specs.specs.Reading.{Place, beginning, item, closed, finished, Reading, operator_at, is_list, leaf, leaf_or, past_comma, past_part, past_list, in_item, past_word, past_fact, step_at, read_step, read_run, at_first}
+use Rattle.platform_specs.specs.inner.Parts.{parts_of, joined}
+use Rattle.platform_specs.specs.inner.FactReading.{FactState, waiting, after_raw, naming, named, valued, quoted, whole, fact_step, fact_end, fact_run}
+use Rattle.platform_specs.specs.inner.Reading.{Place, beginning, item, closed, finished, Reading, operator_at, is_list, leaf, leaf_or, past_comma, past_part, past_list, in_item, past_word, past_fact, step_at, read_step, read_run, at_first}
 use Rattle.platform_specs.specs.declared.parts.Operator.{Operator}
 use Rattle.platform_specs.specs.declared.parts.Operator.TheVariants.{All, Any, Not}
 use Rattle.platform_specs.specs.declared.parts.Part.{Part}

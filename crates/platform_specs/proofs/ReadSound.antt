@@ -6,9 +6,9 @@ use Rattle.std.proofs.lemmas.Slice.Eq.{bytes_eq-Decides}
 use Rattle.platform_specs.specs.Facts.{FactText}
 use Rattle.platform_specs.specs.Expressions.{Expression, Expressions, fact, constant, no_more, part}
 use Rattle.platform_specs.specs.Grammar.{AllAre, is_space, is_operator, Spaced, SpellsFact, constant_at, constant_word, Spells, SpellsParts}
-use Rattle.platform_specs.specs.Parts.{parts_of, joined, applied}
-use Rattle.platform_specs.specs.FactReading.{FactState, waiting, after_raw, naming, named, valued, quoted, whole, fact_step, fact_end}
-use Rattle.platform_specs.specs.Reading.{Place, beginning, item, closed, finished, Reading, operator_named, operator_at, is_list, leaf, leaf_or, past_comma, past_bracket, past_part, past_list, in_item, past_word, past_fact, step_at, read_step, read_run, at_first}
+use Rattle.platform_specs.specs.inner.Parts.{parts_of, joined, applied}
+use Rattle.platform_specs.specs.inner.FactReading.{FactState, waiting, after_raw, naming, named, valued, quoted, whole, fact_step, fact_end}
+use Rattle.platform_specs.specs.inner.Reading.{Place, beginning, item, closed, finished, Reading, operator_named, operator_at, is_list, leaf, leaf_or, past_comma, past_bracket, past_part, past_list, in_item, past_word, past_fact, step_at, read_step, read_run, at_first}
 use Rattle.platform_specs.specs.declared.parts.Operator.{Operator}
 use Rattle.platform_specs.specs.declared.parts.Operator.TheVariants.{All, Any, Not}
 use Rattle.platform_specs.specs.declared.parts.Part.{Part}

@@ -4,8 +4,8 @@ use Rattle.std.specs.Prelude.{◌==◌}
 use Rattle.std.proofs.lemmas.Bool.Decides.{eqb_tells, nat_tests}
 use Rattle.std.specs.Option.{option_and_then}
 use Rattle.platform_specs.specs.Grammar.{AllAre, begins_name, continues_name}
-use Rattle.platform_specs.specs.Runs.{run}
-use Rattle.platform_specs.specs.FactReading.{GoesOn}
+use Rattle.platform_specs.specs.inner.Runs.{run}
+use Rattle.platform_specs.specs.inner.FactReading.{GoesOn}
 
 module _ {S : Type 0} (step : S → ℕ → Option S) where
   pub run_cons : (c : ℕ) (cs : List ℕ) (s t : S) → step s c ≡ Some t → run step (c ∷ cs) s ≡ run step cs t

@@ -10,12 +10,12 @@ use Rattle.std.specs.Option.{option_and_then}
 use Rattle.platform_specs.specs.Expressions.{Expression, Spec, platform, cfg}
 use Rattle.platform_specs.specs.Grammar.{AllAre, Spaced, Spells, SpellsSpec, IsSpecText, is_in_platform}
 use Rattle.platform_specs.specs.Faults.{BeginsSpec, IsMalformedAt, IsSpecFault}
-use Rattle.platform_specs.specs.Parts.{parts_of, expression_of}
+use Rattle.platform_specs.specs.inner.Parts.{parts_of, expression_of}
 use Rattle.platform_specs.specs.Codes.{expression_of-parts_of}
-use Rattle.platform_specs.specs.Runs.{run}
-use Rattle.platform_specs.specs.Reading.{Place, Reading, finished, place_at, read_step, read_run, at_first}
-use Rattle.platform_specs.specs.FactReading.{FactState}
-use Rattle.platform_specs.specs.Positions.{Stopped, ReadAll, SpelledBy, Unfinished, IsUnread, platform_step}
+use Rattle.platform_specs.specs.inner.Runs.{run}
+use Rattle.platform_specs.specs.inner.Reading.{Place, Reading, finished, place_at, read_step, read_run, at_first}
+use Rattle.platform_specs.specs.inner.FactReading.{FactState}
+use Rattle.platform_specs.specs.inner.Positions.{Stopped, ReadAll, SpelledBy, Unfinished, IsUnread, platform_step}
 use Rattle.platform_specs.specs.declared.expression_reader.Unread.{Unread}
 use Rattle.platform_specs.specs.declared.expression_reader.Unread.TheVariants.{Left}
 use Rattle.platform_specs.specs.declared.expression_reader.Unread.TheVariants as reader_faults

@@ -3,9 +3,9 @@ use Rattle.std.proofs.Common.{◌≡◌, ℕ, suc, Bool, true, false, ◌&&◌, 
 use Rattle.std.proofs.Math.Dec.{eqb-suc-zero}
 use Rattle.platform_specs.specs.Facts.{FactText}
 use Rattle.platform_specs.specs.Expressions.{Expression, Expressions, fact, constant, not_of, all_of, any_of, no_more, part}
-use Rattle.platform_specs.specs.Parts.{parts_of, joined, expression_of}
+use Rattle.platform_specs.specs.inner.Parts.{parts_of, joined, expression_of}
 use Rattle.platform_specs.specs.Truth.{truth_in, every_holds, some_holds}
-use Rattle.platform_specs.specs.Walk.{walking, walk_step, walk_over, at_join, read_part, skip_part}
+use Rattle.platform_specs.specs.inner.Walk.{walking, walk_step, walk_over, at_join, read_part, skip_part}
 use Rattle.platform_specs.specs.declared.walk.Walk.{Walk}
 use Rattle.platform_specs.specs.declared.parts.Operator.{Operator}
 use Rattle.platform_specs.specs.declared.parts.Operator.TheVariants.{All, Any, Not}

@@ -3,7 +3,7 @@ use Rattle.std.specs.Prelude.{◌≡◌, ℕ, List, [], ◌∷◌, ◌++◌, ◌
 use Rattle.std.specs.Coded.{Coded, code_by, coded⊎, coded_list, coded_ℕ}
 use Rattle.std.proofs.Common.{ap, sym, ◌∙◌, append_assoc, inl, inr, append-nil}
 use Rattle.platform_specs.specs.Expressions.{Expression, Expressions, fact, constant, not_of, all_of, any_of, no_more, part, Spec, platform, cfg}
-use Rattle.platform_specs.specs.Parts.{parts_of, joined, Levels, levels_of, with_part, opened_by, first_of_them, expression_of}
+use Rattle.platform_specs.specs.inner.Parts.{parts_of, joined, Levels, levels_of, with_part, opened_by, first_of_them, expression_of}
 use Rattle.platform_specs.specs.declared.parts.Operator.{Operator}
 use Rattle.platform_specs.specs.declared.parts.Operator.TheVariants.{All, Any, Not}
 use Rattle.platform_specs.specs.declared.parts.Part.{Part}

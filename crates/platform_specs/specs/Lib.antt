@@ -2,14 +2,9 @@ pub mod Facts
 pub mod Expressions
 pub mod Grammar
 pub mod Truth
+pub mod Shown
 pub mod Faults
-pub mod Parts
 pub mod Codes
 pub mod FactView
 pub mod SpecView
-pub mod Runs
-pub mod FactReading
-pub mod Reading
-pub mod Positions
-pub mod LineReading
-pub mod Walk
+pub mod inner

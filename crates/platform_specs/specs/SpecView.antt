@@ -1,7 +1,7 @@
 -- Platform specs as values.
 use Rattle.std.specs.Prelude.{◌≡◌, string_bytes}
 use Rattle.platform_specs.specs.Expressions.{Spec, platform, cfg}
-use Rattle.platform_specs.specs.Parts.{parts_of, expression_of}
+use Rattle.platform_specs.specs.inner.Parts.{parts_of, expression_of}
 use Rattle.platform_specs.specs.declared.platform_spec.SpecKind.{SpecKind}
 use Rattle.platform_specs.specs.declared.platform_spec.SpecKind.TheVariants.{Platform, Cfg}
 

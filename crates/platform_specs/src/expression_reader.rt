@@ -1,7 +1,7 @@
 //! Reads an expression, character by character, from after `cfg(` to the closing `)`.
 ghost use Rattle.std.specs.Prelude.{◌≡◌, ◌∷◌, [], ◌++◌, reverse, IfOk, OnOk, Some, None, true};
-ghost use Rattle.platform_specs.specs.FactReading.{fact_state, fact_step, fact_end, GoesOn};
-ghost use Rattle.platform_specs.specs.Reading.{beginning, item, operator_named, operator_at, is_list, leaf, past_comma, past_bracket, past_part, past_list, past_word, past_fact, in_item, step_at, read_step, reading, at_first};
+ghost use Rattle.platform_specs.specs.inner.FactReading.{fact_state, fact_step, fact_end, GoesOn};
+ghost use Rattle.platform_specs.specs.inner.Reading.{beginning, item, operator_named, operator_at, is_list, leaf, past_comma, past_bracket, past_part, past_list, past_word, past_fact, in_item, step_at, read_step, reading, at_first};
 
 use crate::fact::Fact;
 use crate::fact_reader::{self, FactReader};

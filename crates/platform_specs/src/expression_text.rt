@@ -1,6 +1,6 @@
 //! Reads a whole text as an expression, or as the name of a platform.
 ghost use Rattle.std.specs.Prelude.{◌≡◌, IfOk, ◌≤◌, IfErr, IfSome, MatchOption, length};
-ghost use Rattle.platform_specs.specs.Positions.{Stopped, ReadAll, SpelledBy, IsUnread, platform_step};
+ghost use Rattle.platform_specs.specs.inner.Positions.{Stopped, ReadAll, SpelledBy, IsUnread, platform_step};
 ghost use Rattle.platform_specs.specs.Grammar.{is_in_platform};
 
 use crate::expression_reader::{ExpressionReader, Stage, Unread};

@@ -1,6 +1,7 @@
 //! Facts: a name, and a value if one is written.
 ghost use Rattle.std.specs.Prelude.{◌≡◌, IfOk, IfSome, IsSome, Some, None, option_map};
 ghost use Rattle.platform_specs.specs.Grammar.{constant_at, constant_named};
+ghost use Rattle.platform_specs.specs.Shown.{fact_shown};
 ghost use Rattle.platform_specs.specs.Truth.{same_fact};
 
 use crate::fact_reader::is_operator;
@@ -64,6 +65,8 @@ impl Fact {
 }
 
 impl fmt::Display for Fact {
+    ghost output = { λ f. Some (fact_shown f) };
+
     /// Writes the fact as in a spec, with `r#` before the name of an operator.
     fn fmt<W: fmt::Write>(&self, f: &mut fmt::Formatter<W>) -> fmt::Result {
         let name = self.name.as_str();

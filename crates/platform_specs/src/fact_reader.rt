@@ -1,7 +1,7 @@
 //! Reads a fact, character by character.
 ghost use Rattle.std.specs.Prelude.{◌≡◌, [], IfOk, IfNone, string_bytes, true, false};
 ghost use Rattle.platform_specs.specs.Grammar.{is_space, begins_name, continues_name, is_operator};
-ghost use Rattle.platform_specs.specs.FactReading.{waiting, naming, quoted, is_taken, name_step, past_name, fact_step, fact_end, fact_state, GoesOn};
+ghost use Rattle.platform_specs.specs.inner.FactReading.{waiting, naming, quoted, is_taken, name_step, past_name, fact_step, fact_end, fact_state, GoesOn};
 
 use crate::fact::Fact;
 use std::alloc::{AllocError, Global};

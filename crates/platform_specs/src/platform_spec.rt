@@ -1,11 +1,11 @@
 //! A platform spec: the name of a platform, or an expression over facts.
-ghost use Rattle.std.specs.Prelude.{◌≡◌, ◌⊎◌, ℕ, List, ◌++◌, codes, IfOk, IfErr, MatchOption};
+ghost use Rattle.std.specs.Prelude.{◌≡◌, ◌⊎◌, ℕ, List, ◌++◌, codes, IfOk, IfErr, MatchOption, Some};
 ghost use Rattle.platform_specs.specs.Expressions.{Spec};
 
 use crate::expression_reader::Unread;
 use crate::expression_text::{read_parts, unread_name};
 use crate::fault::SpecFault;
-use crate::parts::{Part, write_parts};
+use crate::parts::{Part, write_cfg};
 use crate::target_cfg::TargetCfg;
 use crate::walk::walk_over;
 use std::alloc::Global;
@@ -125,15 +125,16 @@ impl PlatformSpec {
 }
 
 impl fmt::Display for PlatformSpec {
+    ghost use Rattle.platform_specs.specs.Shown.{spec_shown};
+
+    ghost output = { λ spec. Some (spec_shown spec) };
+
+    #[tactic(auto, using(crate::proofs::PartTexts::text_expression))]
     /// Writes the name, or the expression as Cargo prints it: `cfg(all(unix, not(target_os = "macos")))`.
     fn fmt<W: fmt::Write>(&self, f: &mut fmt::Formatter<W>) -> fmt::Result {
         match &self.kind {
             SpecKind::Platform(name) => write!(f, "{name}"),
-            SpecKind::Cfg(parts) => {
-                write!(f, "cfg(")?;
-                write_parts(f, parts.as_slice())?;
-                write!(f, ")")
-            }
+            SpecKind::Cfg(parts) => write_cfg(f, parts.as_slice()),
         }
     }
 }

@@ -1,7 +1,7 @@
 //! Targets: a triple and its facts.
 ghost use Rattle.std.specs.Prelude.{◌≡◌, ◌⊎◌, ◌∷◌, ◌<◌, ◌==◌, length, IfOk, IfErr, IfSome, MatchOption};
 ghost use Rattle.std.specs.List.{slice_split};
-ghost use Rattle.platform_specs.specs.LineReading.{pieces_behind, lines_behind, ReadsLine};
+ghost use Rattle.platform_specs.specs.inner.LineReading.{pieces_behind, lines_behind, ReadsLine};
 ghost use Rattle.platform_specs.specs.Facts.{FactText};
 ghost use Rattle.platform_specs.specs.Grammar.{SpellsLine, SpellsLines, without_return, lines_of};
 ghost use Rattle.platform_specs.specs.Faults.{IsCfgFault};

@@ -1,6 +1,6 @@
 //! The truth of an expression, by one walk over its parts without allocations.
 ghost use Rattle.std.specs.Prelude.{◌≡◌, ◌^◌, ◌<◌, ◌+◌, ◌≤◌, length, true};
-ghost use Rattle.platform_specs.specs.Walk.{walk_step, walk_over, walking, read_part, at_join};
+ghost use Rattle.platform_specs.specs.inner.Walk.{walk_step, walk_over, walking, read_part, at_join};
 
 use crate::parts::{Operator, Part};
 use crate::target_cfg::TargetCfg;

@@ -5,4 +5,5 @@ pub mod FirstFault
 pub mod FirstFaultLaws
 pub mod RowFile
 pub mod WellFormed
+pub mod RowLines
 pub mod inner

@@ -1,8 +1,7 @@
 //! A line and its kept fields.
-ghost use Rattle.std.specs.Prelude.{◌≡◌, ℕ, IfOk};
+ghost use Rattle.std.specs.Prelude.{◌≡◌};
 
 use guppy_packages::DependencyKind;
-use std::alloc::AllocError;
 
 /// The form of a line. It says which fields are kept, and stores the others.
 #[derive(Clone, Copy)]
@@ -42,46 +41,10 @@ impl Form {
 }
 
 /// A line that isn't skipped: its number, and the range of its kept fields in the list for all lines.
-/// A line takes only 16 bytes, because there are many.
 #[derive(Clone, Copy)]
 pub struct Line {
-    pub(crate) number: u32,
-    pub(crate) start: u32,
-    pub(crate) end: u32,
+    pub(crate) number: usize,
+    pub(crate) start: usize,
+    pub(crate) end: usize,
     pub(crate) form: Form,
-}
-
-/// The last number that fits in 32 bits.
-const LAST_NUMBER: usize = 4294967295;
-
-/// Returns the number in 32 bits, or `AllocError` if it doesn't fit.
-fn narrow(number: usize) -> Result<u32, AllocError>
-    ensures { IfOk result (λ narrow. narrow ≡ number) }
-{
-    if number > LAST_NUMBER {
-        return Err(AllocError);
-    }
-    Ok(number as u32)
-}
-
-impl Line {
-    ghost use Rattle.row_files.specs.declared.line.Line.{Line};
-
-    /// Returns the line with this number, whose kept fields are `start..end`. Returns `AllocError` if
-    /// a number doesn't fit in 32 bits.
-    pub(crate) fn new(
-        number: usize,
-        start: usize,
-        end: usize,
-        form: Form,
-    ) -> Result<Line, AllocError>
-        ensures { IfOk result (λ line. line ≡ record { number = number; start = start; end = end; form = form }) }
-    {
-        Ok(Line {
-            number: narrow(number)?,
-            start: narrow(start)?,
-            end: narrow(end)?,
-            form,
-        })
-    }
 }

@@ -26,15 +26,20 @@ impl<'t> Lines<'t> {
     ghost use Rattle.row_files.specs.RowFile.{line_of, lines_of};
     ghost use Rattle.row_files.specs.inner.CutLines.{kept_line};
 
-    /// Appends a line. Returns `AllocError` if an allocation fails or a number doesn't fit in 32
-    /// bits.
+    /// Appends a line, or returns `AllocError` if an allocation fails.
     fn push(&mut self, number: usize, fields: &[&'t str]) -> Result<(), AllocError>
         ensures { OnOk result (lines_of self.new ≡ lines_of self.old ++ (number, texts fields.now) ∷ []) }
     {
         let form = form_of(fields);
         let start = self.kept.len();
         keep(&mut self.kept, form, fields)?;
-        let line = Line::new(number, start, self.kept.len(), form)?;
+        let end = self.kept.len();
+        let line = Line {
+            number,
+            start,
+            end,
+            form,
+        };
         match self.lines.push(line) {
             Ok(()) => Ok(()),
             Err(_) => Err(AllocError),
@@ -77,7 +82,7 @@ impl<'t> Lines<'t> {
     }
 
     /// Splits `text` into lines and fields, without the lines that are skipped. Returns `AllocError`
-    /// if an allocation fails or a number doesn't fit in 32 bits.
+    /// if an allocation fails.
     pub fn of(alloc: Global, text: &'t str) -> Result<Self, AllocError>
         ensures { IfOk result (λ l. lines_of l ≡ kept_lines 1 (lines_in text.now)) }
     {
@@ -118,6 +123,6 @@ impl<'t> Lines<'t> {
         requires { at < length (lines_of self.now) }
         ensures { result ≡ line_of (lines_of self.now) at }
     {
-        self.lines[at].number as usize
+        self.lines[at].number
     }
 }

@@ -100,10 +100,7 @@ fn row_at<'l>(lines: &'l Lines<'_>, at: usize) -> Row<'l>
     ensures { option_map (λ line. row_of line.1) (slice_get (lines_of lines.now) at) ≡ Some (Some (row_text result)) }
 {
     let line = lines.lines[at];
-    row(
-        line.form,
-        &lines.kept[line.start as usize..line.end as usize],
-    )
+    row(line.form, &lines.kept[line.start..line.end])
 }
 
 /// The rows of lines that are all well-formed. Each row is made when it is read.
@@ -115,11 +112,12 @@ pub struct LineRows<'l, 't> {
 
 impl<'l, 't> LineRows<'l, 't> {
     ghost use Rattle.std.specs.Prelude.{Ok, Err, IfErr, IfOk};
+    ghost use Rattle.row_files.specs.RowLines.{row_lines};
 
     /// Returns the rows of `lines`, or `Malformed` for the first malformed line.
     pub fn of(lines: &'l Lines<'t>) -> Result<Self, RowFileError>
-        ensures ok { IfOk result (λ rows. rows.lines.now ≡ lines.now) }
-        ensures rows { IfOk result (λ rows. rows_of (lines_of lines.now) ≡ Ok (rows_in (lines_of rows.lines.now))) }
+        ensures ok { IfOk result (λ rows. row_lines rows ≡ lines_of lines.now) }
+        ensures rows { IfOk result (λ rows. rows_of (lines_of lines.now) ≡ Ok (rows_in (row_lines rows))) }
         ensures err { IfErr result (λ error. rows_of (lines_of lines.now) ≡ Err error) }
     {
         for at in 0..lines.line_count() {
@@ -133,7 +131,9 @@ impl<'l, 't> LineRows<'l, 't> {
 }
 
 impl RowSource for LineRows<'_, '_> {
-    ghost rows = { λ source. rows_in (lines_of source.lines.now) };
+    ghost use Rattle.row_files.specs.RowLines.{row_lines};
+
+    ghost rows = { λ source. rows_in (row_lines source) };
 
     fn row_count(&self) -> usize {
         self.lines.line_count()

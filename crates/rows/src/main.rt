@@ -1,8 +1,8 @@
 //! The program `rows [FILE]`.
 //!
-//! FILE is what `cargo metadata --format-version 1` wrote; without it, or where it is `-`, that is read from standard
-//! input. The rows go to standard output, and each warning is a line on standard error. A fault is one line on standard error,
-//! and the exit status is 1, or 2 where the words were at fault.
+//! FILE is the output of `cargo metadata --format-version 1`; without FILE, or if it is `-`, standard input is read. The rows are
+//! written to standard output, and each warning is a line on standard error. A fault is one line on standard error; the exit
+//! status is then 1, or 2 if the arguments are wrong.
 #![tactic(auto)]
 
 use cargo_rows::{Fault, FromReader, ToWriter, Warning, run};

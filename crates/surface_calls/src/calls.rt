@@ -1,125 +1,170 @@
-//! Which call a line asks for.
-use crate::given::{cut, given_in, ids_of};
-use crate::out::Out;
-use crate::{
-    cycles, in_set, items, listed, look_ups, pairs, selections, sets, shown, told, visits,
-};
+//! The calls of a script, by name.
+use crate::checks::{Start, check, check_exact};
+use crate::explanations::platform;
+use crate::filters::{select_ids, select_names, select_plain};
+use crate::in_set::in_set;
+use crate::look_ups::{figures, look_ups, verify, warnings};
+use crate::pairs::{cycles, pair, tied};
+use crate::queries::{has, of_query};
+use crate::texts::texts;
+use crate::told::tell_set;
+use crate::visits::visit;
 use guppy_features::{FeatureGraph, FeatureGraphData, FeatureGraphExt, FeatureId, PackageGraph};
-use std::alloc::{AllocError, Global};
+use guppy_vectors::{Failure, Given, Out, Words, all_of, cut, direction_of, ids_of};
+use std::alloc::Global;
 
-/// The stamp of the graph.
+/// The stamp under which the graph is built.
 const STAMP: u64 = 7;
 
-/// Makes a call that takes no features.
+/// Makes the call `name`, which takes no features. `Memory` is the only error.
 fn plain_call(
-    out: &mut Out,
+    out: &Out,
     alloc: Global,
     features: FeatureGraph<'_>,
     name: &str,
     options: &str,
-) -> Result<(), AllocError> {
+) -> Result<(), Failure> {
     match name {
-        "figures" => look_ups::figures(out, features),
-        "warnings" => look_ups::warnings(out, features),
-        "verify" => look_ups::verify(out, features),
-        "all" => told::tell_set(out, features.resolve_all(alloc)),
-        "none" => told::tell_set(out, features.resolve_none(alloc)),
-        "in-all" => in_set::in_set(out, alloc, features.resolve_all(alloc), options)?,
-        "cycles" => cycles::cycles(out, alloc, features),
-        "standard" => selections::standard(out, alloc, features, options),
-        "select" => selections::select(out, alloc, features, options),
-        "select-names" => listed::select_names(out, alloc, features, options)?,
+        "figures" => figures(out, features),
+        "warnings" => warnings(out, features),
+        "verify" => verify(out, features),
+        "all" => tell_set(out, "", features.resolve_all(alloc)),
+        "none" => tell_set(out, "", features.resolve_none(alloc)),
+        "in-all" => return in_set(out, alloc, features.resolve_all(alloc), options),
+        "cycles" => cycles(out, alloc, features),
+        "select-names" => return select_names(out, alloc, features, name, options),
+        "select" | "standard" => select_plain(out, alloc, features, name, options),
         _ => out.line("no such call"),
     }
     Ok(())
 }
 
-/// Makes a call of one feature.
-fn feature_call(
-    out: &mut Out,
-    alloc: Global,
-    features: FeatureGraph<'_>,
-    name: &str,
-    id: FeatureId<'_>,
-) {
-    match name {
-        "contains" => look_ups::contains(out, features, id),
-        "metadata" => look_ups::metadata(out, features, id),
-        "default" => look_ups::default(out, features, id),
-        "list" => look_ups::list(out, alloc, features, id),
-        _ => out.line("no such call"),
-    }
-}
-
-/// Makes a call of one feature for each of the features.
-fn feature_calls(
-    out: &mut Out,
-    alloc: Global,
-    features: FeatureGraph<'_>,
-    name: &str,
-    ids: &[FeatureId<'_>],
-) {
-    for id in ids {
-        feature_call(out, alloc, features, name, *id);
-    }
-}
-
-/// Makes a call that takes features.
+/// Makes the call `name` on the features `ids`. `Memory` is the only error.
 fn call(
-    out: &mut Out,
+    out: &Out,
+    alloc: Global,
+    features: FeatureGraph<'_>,
+    name: &str,
+    options: &str,
+    ids: &[FeatureId<'_>],
+) -> Result<(), Failure> {
+    match name {
+        "set" => tell_set(out, "", features.resolve_ids(alloc, ids)),
+        "has" => has(out, alloc, features, ids),
+        "texts" => texts(out, alloc, features, ids),
+        "pair" => pair(out, alloc, features, options, ids),
+        "tied" => tied(out, alloc, features, ids),
+        "in-set" => return in_set(out, alloc, features.resolve_ids(alloc, ids), options),
+        "select-ids" => select_ids(out, alloc, features, name, options, ids),
+        "forward" | "reverse" | "directed" | "packages" | "of-package" | "copy" | "items" => {
+            of_query(out, alloc, features, name, options, ids);
+        }
+        _ => look_ups(out, alloc, features, name, ids),
+    }
+    Ok(())
+}
+
+/// Makes a call that checks or writes an explanation from `start`. `options` are the words after the direction, and `words`
+/// those after the initial features. `Memory` is the only error.
+fn explained_call(
+    out: &Out,
+    start: Start<'_, '_>,
+    name: &str,
+    options: &str,
+    words: &mut Words<'_>,
+) -> Result<(), Failure> {
+    match name {
+        "check" => return check(out, start, words),
+        "check-exact" => return check_exact(out, start, words),
+        "platform" => return platform(out, start, options),
+        _ => {
+            let (form, rule) = cut(options);
+            visit(out, start, name, form, rule, words);
+        }
+    }
+    Ok(())
+}
+
+/// Makes the call of `words`, a name and its options. The features are the ids of `rest` up to the first `;`; the call reads
+/// the words after it. `Memory` is the only error.
+fn call_of(
+    out: &Out,
     alloc: Global,
     features: FeatureGraph<'_>,
     words: &str,
-    ids: &[FeatureId<'_>],
-) -> Result<(), AllocError> {
+    rest: &mut Words<'_>,
+) -> Result<(), Failure> {
     let (name, options) = cut(words);
+    let ids = ids_of(alloc, rest)?;
     match name {
-        "set" => sets::set(out, alloc, features, ids),
-        "has" => sets::has(out, alloc, features, ids),
-        "forward" => sets::forward(out, alloc, features, ids),
-        "reverse" => sets::reverse(out, alloc, features, ids),
-        "directed" => sets::directed(out, alloc, features, options, ids),
-        "packages" => sets::packages(out, alloc, features, ids),
-        "of-package" => sets::of_package(out, alloc, features, ids),
-        "copy" => sets::clone(out, alloc, features, options, ids),
-        "shown" => shown::shown(out, alloc, features, ids),
-        "visit" | "twice" => visits::visit(out, alloc, features, words, ids),
-        "select-ids" => listed::select_ids(out, alloc, features, options, ids),
-        "items" => items::items(out, alloc, features, ids),
-        "pair" => pairs::pair(out, alloc, features, options, ids),
-        "tied" => pairs::tied(out, alloc, features, ids),
-        "in-set" => in_set::in_set(out, alloc, features.resolve_ids(alloc, ids), options)?,
-        _ => feature_calls(out, alloc, features, name, ids),
+        "visit" | "twice" => {
+            let (form, others) = cut(options);
+            let (direction, rule) = cut(others);
+            let start = Start {
+                alloc,
+                features,
+                direction: direction_of(direction),
+                initials: &ids,
+            };
+            visit(out, start, name, form, rule, rest);
+            Ok(())
+        }
+        "check" | "check-exact" | "platform" | "explain" | "checked" | "shown" | "same" => {
+            let (direction, others) = cut(options);
+            let start = Start {
+                alloc,
+                features,
+                direction: direction_of(direction),
+                initials: &ids,
+            };
+            explained_call(out, start, name, others, rest)
+        }
+        _ => call(out, alloc, features, name, options, &ids),
     }
-    Ok(())
 }
 
-/// Makes the call of a line.
+/// Makes the call of `line`. Features and further words follow the first `: `. `Memory` is the only error.
 fn make_call(
-    out: &mut Out,
+    out: &Out,
     alloc: Global,
     features: FeatureGraph<'_>,
     line: &str,
-) -> Result<(), AllocError> {
-    let Some((words, rest)) = line.split_once(": ") else {
-        let (name, options) = cut(line);
-        return plain_call(out, alloc, features, name, options);
-    };
-    let given = given_in(alloc, rest)?;
-    let ids = ids_of(alloc, &given)?;
-    call(out, alloc, features, words, &ids)
+) -> Result<(), Failure> {
+    match line.split_once(": ") {
+        Some((words, rest)) => {
+            let given = all_of::<Given<'_>>(alloc, rest)?;
+            call_of(out, alloc, features, words, &mut given.iter())
+        }
+        None => {
+            let (name, options) = cut(line);
+            plain_call(out, alloc, features, name, options)
+        }
+    }
 }
 
-/// Makes the calls of a script, in order.
-pub fn make_calls(out: &mut Out, alloc: Global, graph: &PackageGraph, script: &str) {
-    let Ok(built) = FeatureGraphData::build(alloc, graph, STAMP) else {
-        return out.line("out of memory");
-    };
-    let features = graph.feature_graph(&built);
+/// Makes the calls of `script`, one for each line, in order. Writes each line after `< `, then the output of its call.
+fn make_each(out: &Out, alloc: Global, features: FeatureGraph<'_>, script: &str) {
     for line in script.lines() {
-        out.line(format_args!("< {line}"));
-        if make_call(out, alloc, features, line).is_err() {
-            out.line("out of memory");
+        out.text("< ", line);
+        out.line("");
+        if let Err(failure) = make_call(out, alloc, features, line) {
+            out.failure(failure);
         }
+    }
+}
+
+/// Builds the feature graph of `graph` and makes the calls of `script` on it; `Memory` if the build runs out of memory.
+pub fn make_calls(
+    out: &Out,
+    alloc: Global,
+    graph: &PackageGraph,
+    script: &str,
+) -> Result<(), Failure> {
+    match FeatureGraphData::build(alloc, graph, STAMP) {
+        Ok(built) => {
+            make_each(out, alloc, graph.feature_graph(&built), script);
+            Ok(())
+        }
+        Err(_) => Err(Failure::Memory),
     }
 }

@@ -1,15 +1,17 @@
-//! Calls on a set.
-use crate::given::cut;
-use crate::out::Out;
-use crate::sets::{direction_of, tell};
+//! Calls on a feature set.
+use crate::items::{tell_counted, tell_end, tell_ends, tell_items};
+use crate::links::{tell_edge, tell_ends as tell_link_ends, tell_rest};
+use crate::look_ups::tell_list;
+use crate::parts::parts;
+use crate::queries::tell;
 use crate::told::{tell_error, tell_members};
-use crate::{ends, orders, parts};
 use guppy_features::{DependencyDirection, Error, FeatureList, FeatureSet, PackageId, PackageSet};
-use std::alloc::{AllocError, Global};
+use guppy_vectors::{Failure, Out, cut, direction_of};
+use std::alloc::Global;
 
-/// A copy of the set, and whether it is equal.
-fn copy(out: &mut Out, alloc: Global, set: &FeatureSet<'_>) {
-    match set.try_clone(alloc) {
+/// Writes whether `copy` is equal to `set`, and its members, or the error.
+fn tell_copy(out: &Out, set: &FeatureSet<'_>, copy: Result<FeatureSet<'_>, Error<'_>>) {
+    match copy {
         Ok(copy) => {
             out.answer("equal ", copy == *set);
             out.part(", ");
@@ -19,68 +21,94 @@ fn copy(out: &mut Out, alloc: Global, set: &FeatureSet<'_>) {
     }
 }
 
-/// Tells a list of features, or that there is none, or the error.
-fn tell_list(out: &mut Out, list: Result<Option<FeatureList<'_>>, Error<'_>>) {
-    match list {
-        Ok(Some(list)) => out.line(list.display_features()),
+/// Writes the features in `set` of the package `id`, `none` without any, or the error. Returns `Memory` if an allocation
+/// fails for the id.
+fn features_for(out: &Out, alloc: Global, set: &FeatureSet<'_>, id: &str) -> Result<(), Failure> {
+    let id = PackageId::new(alloc, id)?;
+    match set.features_for(alloc, &id) {
+        Ok(Some(list)) => tell_list(out, Ok(list)),
         Ok(None) => out.line("none"),
         Err(error) => tell_error(out, error),
     }
-}
-
-/// The set's features of a package.
-fn features_for(
-    out: &mut Out,
-    alloc: Global,
-    set: &FeatureSet<'_>,
-    id: &str,
-) -> Result<(), AllocError> {
-    let id = PackageId::new(alloc, id)?;
-    tell_list(out, set.features_for(alloc, &id));
     Ok(())
 }
 
-/// The packages of a set, with their count.
-fn tell_packages(out: &mut Out, packages: &PackageSet<'_>, direction: DependencyDirection) {
-    out.number("", packages.len());
-    out.part(":");
-    for package in packages.packages(direction) {
-        out.part(" ");
-        out.part(package.id().repr());
-    }
-    out.line("");
-}
-
-/// The packages that the set has a feature of.
-fn packages(out: &mut Out, alloc: Global, set: &FeatureSet<'_>, direction: DependencyDirection) {
-    match set.to_package_set(alloc) {
-        Ok(packages) => tell_packages(out, &packages, direction),
+/// Writes the count of the packages and their ids in `direction`, or the error.
+fn tell_packages(
+    out: &Out,
+    packages: Result<PackageSet<'_>, Error<'_>>,
+    direction: DependencyDirection,
+) {
+    match packages {
+        Ok(packages) => tell_counted(out, ":", packages.packages(direction)),
         Err(error) => tell_error(out, error),
     }
 }
 
-/// Tells the features that a set has of one package, or the error.
-fn tell_of_package(out: &mut Out, list: Result<FeatureList<'_>, Error<'_>>) {
+/// Writes the package of `list` and its features, or the error.
+fn tell_of_package(out: &Out, list: Result<FeatureList<'_>, Error<'_>>) {
     match list {
         Ok(list) => {
-            out.part(list.package().id().repr());
-            out.part(": ");
-            out.line(list.display_features());
+            out.text(list.package().id().repr(), ": ");
+            out.shown(list.display_features());
+            out.line("");
         }
         Err(error) => tell_error(out, error),
     }
 }
 
-/// The set's features, package by package.
-fn by_package(out: &mut Out, alloc: Global, set: &FeatureSet<'_>, direction: DependencyDirection) {
+/// Writes each edge between features of `set` on a line.
+fn links(out: &Out, set: &FeatureSet<'_>, direction: DependencyDirection) {
+    for (from, to, edge) in set.links(direction) {
+        tell_edge(out, from, to, edge);
+    }
+}
+
+/// Writes each conditional link between features of `set` on a line.
+fn conditional_links(out: &Out, set: &FeatureSet<'_>, direction: DependencyDirection) {
+    for link in set.conditional_links(direction) {
+        let (from, to) = link.endpoints();
+        tell_link_ends(out, from.feature_id(), to.feature_id(), link.declarations());
+        tell_rest(out, link);
+        out.line("");
+    }
+}
+
+/// Writes the features of `set`, one line for each package.
+fn by_package(out: &Out, alloc: Global, set: &FeatureSet<'_>, direction: DependencyDirection) {
     for list in set.packages_with_features(alloc, direction) {
         tell_of_package(out, list);
     }
 }
 
-/// Makes a call that takes a direction.
+/// Drops each non-allocating iterator after its first item. Then writes whether the iterators over links return `None` again
+/// after their end.
+fn link_ends(out: &Out, set: &FeatureSet<'_>, direction: DependencyDirection) {
+    let _id = set.feature_ids(direction).next();
+    let _feature = set.features(direction).next();
+    let _edge = set.links(direction).next();
+    let _link = set.conditional_links(direction).next();
+    let mut links = set.links(direction);
+    while let Some(_link) = links.next() {}
+    out.answer_line("links ", links.next().is_none());
+    let mut links = set.conditional_links(direction);
+    while let Some(_link) = links.next() {}
+    out.answer_line("conditional links ", links.next().is_none());
+}
+
+/// Writes whether each iterator over `set` returns `None` after its end, and then the members of `set`.
+fn ends(out: &Out, alloc: Global, set: &FeatureSet<'_>, direction: DependencyDirection) {
+    tell_end(out, "ids ", ", left ", " ", set.feature_ids(direction));
+    tell_end(out, "features ", ", left ", " ", set.features(direction));
+    link_ends(out, set, direction);
+    tell_ends(out, "root ids ", set.root_ids(alloc, direction));
+    tell_ends(out, "roots ", set.root_features(alloc, direction));
+    tell_members(out, set);
+}
+
+/// Makes the call `name` on `set` in `direction`; `word` is the option after the direction.
 fn directed_call(
-    out: &mut Out,
+    out: &Out,
     alloc: Global,
     set: &FeatureSet<'_>,
     name: &str,
@@ -88,47 +116,41 @@ fn directed_call(
     word: &str,
 ) {
     match name {
-        "feature-ids" => orders::feature_ids(out, set, direction),
-        "features" => orders::features(out, set, direction),
-        "links" => orders::links(out, set, direction),
-        "conditional-links" => orders::conditional_links(out, set, direction),
-        "root-ids" => orders::root_ids(out, alloc, set, direction),
-        "root-features" => orders::root_features(out, alloc, set, direction),
-        "filter" => parts::filter(out, alloc, set, direction, word),
-        "partition" => parts::partition(out, alloc, set, direction, word),
-        "filter-partition" => parts::filter_partition(out, alloc, set, direction),
+        "feature-ids" => tell_counted(out, ":", set.feature_ids(direction)),
+        "features" => tell_counted(out, ":", set.features(direction)),
+        "links" => links(out, set, direction),
+        "conditional-links" => conditional_links(out, set, direction),
+        "root-ids" => tell_items(out, set.root_ids(alloc, direction)),
+        "root-features" => tell_items(out, set.root_features(alloc, direction)),
         "query" => tell(out, alloc, set.to_feature_query(alloc, direction)),
-        "packages" => packages(out, alloc, set, direction),
+        "packages" => tell_packages(out, set.to_package_set(alloc), direction),
         "by-package" => by_package(out, alloc, set, direction),
-        "ends" => ends::ends(out, alloc, set, direction),
-        _ => out.line("no such call"),
+        "ends" => ends(out, alloc, set, direction),
+        _ => parts(out, alloc, set, name, direction, word),
     }
 }
 
-/// Makes a call on a set.
-fn set_call(
-    out: &mut Out,
-    alloc: Global,
-    set: &FeatureSet<'_>,
-    words: &str,
-) -> Result<(), AllocError> {
+/// Makes the call of `words` on `set`. `Memory` is the only error.
+fn set_call(out: &Out, alloc: Global, set: &FeatureSet<'_>, words: &str) -> Result<(), Failure> {
     let (name, options) = cut(words);
-    let (direction, word) = cut(options);
     match name {
-        "copy" => copy(out, alloc, set),
-        "for" => features_for(out, alloc, set, options)?,
-        _ => directed_call(out, alloc, set, name, direction_of(direction), word),
+        "copy" => tell_copy(out, set, set.try_clone(alloc)),
+        "for" => return features_for(out, alloc, set, options),
+        _ => {
+            let (direction, word) = cut(options);
+            directed_call(out, alloc, set, name, direction_of(direction), word);
+        }
     }
     Ok(())
 }
 
-/// Makes a call on a set, or tells why there is none.
+/// Makes the call of `words` on `set`, or writes the error of `set`. Returns `Memory` if an allocation of the call fails.
 pub fn in_set(
-    out: &mut Out,
+    out: &Out,
     alloc: Global,
     set: Result<FeatureSet<'_>, Error<'_>>,
     words: &str,
-) -> Result<(), AllocError> {
+) -> Result<(), Failure> {
     match set {
         Ok(set) => set_call(out, alloc, &set, words),
         Err(error) => {

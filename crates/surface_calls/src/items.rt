@@ -1,47 +1,109 @@
-//! Iterators that are left after their first item, and that are asked again after their end.
-use crate::out::Out;
-use crate::told::{tell_error, tell_members};
-use guppy_features::{FeatureGraph, FeatureId, FeatureQuery, FeatureSet};
-use std::alloc::Global;
+//! Iterators over features and packages as text.
+use crate::told::tell_error;
+use guppy_features::{Error, FeatureId, FeatureMetadata, PackageMetadata};
+use guppy_vectors::Out;
 
-/// The features of a set: the first, and then all, with the answers at the end.
-fn ids(out: &mut Out, set: &FeatureSet<'_>) {
-    match set.ids_by_node().next() {
-        Some(id) => out.line(format_args!("first {id}")),
-        None => out.line("no first"),
-    }
-    let mut ids = set.ids_by_node();
-    let count = ids.len();
-    for _step in 0..count {
-        let _id = ids.next();
-    }
-    out.part(format_args!("then {count} and {} left ", ids.len()));
-    out.line(ids.next().is_none());
+/// An item that is written as its id.
+pub trait Named: Copy {
+    /// Writes the id.
+    fn write(self, out: &Out);
 }
 
-/// The packages of a query, in the same way.
-fn packages(out: &mut Out, query: &FeatureQuery<'_>) {
-    match query.initial_packages().next() {
-        Some(package) => out.line(format_args!("first {}", package.id())),
-        None => out.line("no first"),
+impl Named for FeatureId<'_> {
+    fn write(self, out: &Out) {
+        out.shown(self);
     }
-    let mut packages = query.initial_packages();
-    let count = packages.len();
-    for _step in 0..count {
-        let _package = packages.next();
-    }
-    out.part(format_args!("then {count} and {} left ", packages.len()));
-    out.line(packages.next().is_none());
 }
 
-/// The iterators of the query of the features, and the query after them.
-pub fn items(out: &mut Out, alloc: Global, features: FeatureGraph<'_>, given: &[FeatureId<'_>]) {
-    match features.query_forward(alloc, given) {
-        Ok(query) => {
-            ids(out, query.initials());
-            packages(out, &query);
-            tell_members(out, query.initials());
+impl Named for FeatureMetadata<'_> {
+    fn write(self, out: &Out) {
+        out.shown(self.feature_id());
+    }
+}
+
+impl Named for PackageMetadata<'_> {
+    fn write(self, out: &Out) {
+        out.part(self.id().repr());
+    }
+}
+
+/// Writes the count of `items`, `between`, and the items, as one line.
+pub fn tell_counted<T: Named, I: ExactSizeIterator<Item = T>>(
+    out: &Out,
+    between: &str,
+    mut items: I,
+)
+    requires { (items : _) → I.can_next items }
+{
+    let count = items.len();
+    out.number("", count);
+    out.part(between);
+    for _step in 0..count {
+        if let Some(item) = items.next() {
+            out.part(" ");
+            item.write(out);
         }
+    }
+    out.line("");
+}
+
+/// Writes the count of `items` and the items, or the error.
+pub fn tell_items<T: Named, I: ExactSizeIterator<Item = T> + Drop>(
+    out: &Out,
+    items: Result<I, Error<'_>>,
+)
+    requires { (items : _) → I.can_next items }
+{
+    match items {
+        Ok(items) => tell_counted(out, ":", items),
+        Err(error) => tell_error(out, error),
+    }
+}
+
+/// Writes the first item, or `no first`.
+pub fn tell_first<T: Named, I: Iterator<Item = T>>(out: &Out, mut items: I)
+    requires { (items : _) → I.can_next items }
+{
+    match items.next() {
+        Some(item) => {
+            out.part("first ");
+            item.write(out);
+            out.line("");
+        }
+        None => out.line("no first"),
+    }
+}
+
+/// Writes three values: the count of `items`, the count left after reading them all, and whether the next read returns
+/// `None`. The texts `before`, `between` and `after` precede them.
+pub fn tell_end<T: Named, I: ExactSizeIterator<Item = T>>(
+    out: &Out,
+    before: &str,
+    between: &str,
+    after: &str,
+    mut items: I,
+)
+    requires { (items : _) → I.can_next items }
+{
+    let count = items.len();
+    for _step in 0..count {
+        let _item = items.next();
+    }
+    out.number(before, count);
+    out.number(between, items.len());
+    out.answer_line(after, items.next().is_none());
+}
+
+/// Reads `items` to their end and writes the values of `tell_end`, or the error.
+pub fn tell_ends<T: Named, I: ExactSizeIterator<Item = T> + Drop>(
+    out: &Out,
+    before: &str,
+    items: Result<I, Error<'_>>,
+)
+    requires { (items : _) → I.can_next items }
+{
+    match items {
+        Ok(items) => tell_end(out, before, ", left ", " ", items),
         Err(error) => tell_error(out, error),
     }
 }

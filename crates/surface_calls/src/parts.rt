@@ -1,48 +1,40 @@
-//! Calls that split a set by the answers of a callback, which writes down what it is called with.
-use crate::out::Out;
+//! Calls that split a set by a callback, which logs its arguments.
 use crate::told::{tell_error, tell_members, tell_set};
 use guppy_features::{DependencyDirection, Error, FeatureKind, FeatureMetadata, FeatureSet};
+use guppy_vectors::Out;
 use std::alloc::Global;
+use std::cell::Cell;
 
-/// Writes down the features that it is called with, each on a line with `? ` before it, and counts them.
-#[derive(Clone, Copy)]
-struct Asked {
-    out: Out,
-    /// Whether it accepts each other feature, from the first on, and else bases.
+/// A callback that writes each feature it is called with on a line after `? `, and counts its calls.
+#[derive(Drop)]
+struct Asked<'o> {
+    out: &'o Out,
+    /// True to accept every other feature from the first on; false to accept bases.
     each_other: bool,
-    calls: usize,
+    calls: Cell<usize>,
 }
 
-impl Asked {
-    /// A callback that wasn't called yet, and accepts what a word names.
-    fn new(out: Out, word: &str) -> Self {
-        Asked {
-            out,
-            each_other: word == "odd",
-            calls: 0,
-        }
-    }
-
-    /// Writes a call down.
-    fn write(&mut self, feature: FeatureMetadata<'_>) {
-        self.calls = self.calls.saturating_add(1);
+impl Asked<'_> {
+    /// Counts a call and writes its feature.
+    fn write(&self, feature: FeatureMetadata<'_>) {
+        self.calls.set(self.calls.get().saturating_add(1));
         self.out.part("?");
         self.out.id(feature.feature_id());
         self.out.line("");
     }
 
-    /// Whether it accepts the feature.
-    fn accepts(&mut self, feature: FeatureMetadata<'_>) -> bool {
+    /// Logs the call, and returns whether `feature` is accepted.
+    fn accepts(&self, feature: FeatureMetadata<'_>) -> bool {
         self.write(feature);
         if self.each_other {
-            self.calls % 2 == 1
+            self.calls.get() % 2 == 1
         } else {
             feature.feature_id().is_base()
         }
     }
 
-    /// Yes for named features, no for optional dependencies, and nothing for bases.
-    fn is_named(&mut self, feature: FeatureMetadata<'_>) -> Option<bool> {
+    /// Logs the call, and returns true for a named feature, false for an optional dependency and `None` for a base.
+    fn is_named(&self, feature: FeatureMetadata<'_>) -> Option<bool> {
         self.write(feature);
         match feature.label().kind() {
             FeatureKind::Base => None,
@@ -52,28 +44,8 @@ impl Asked {
     }
 }
 
-/// Tells how often a callback was called.
-fn tell_calls(out: &mut Out, calls: usize) {
-    out.number("asked ", calls);
-    out.line("");
-}
-
-/// The features that the callback accepts.
-pub fn filter(
-    out: &mut Out,
-    alloc: Global,
-    set: &FeatureSet<'_>,
-    direction: DependencyDirection,
-    word: &str,
-) {
-    let mut asked = Asked::new(*out, word);
-    let kept = set.filter(alloc, direction, &mut |feature| asked.accepts(feature));
-    tell_set(out, kept);
-    tell_calls(out, asked.calls);
-}
-
-/// Tells two parts, or the error.
-fn tell_parts(out: &mut Out, parts: Result<(FeatureSet<'_>, FeatureSet<'_>), Error<'_>>) {
+/// Writes the members of both parts, or the error.
+fn tell_parts(out: &Out, parts: Result<(FeatureSet<'_>, FeatureSet<'_>), Error<'_>>) {
     match parts {
         Ok((one, other)) => {
             tell_members(out, &one);
@@ -83,29 +55,31 @@ fn tell_parts(out: &mut Out, parts: Result<(FeatureSet<'_>, FeatureSet<'_>), Err
     }
 }
 
-/// The features that the callback accepts, and the others.
-pub fn partition(
-    out: &mut Out,
+/// Splits `set` in `direction`: `filter` and `partition` by the features that a callback accepts, and `filter-partition` into
+/// named features and optional dependencies. Then writes the count of calls.
+pub fn parts(
+    out: &Out,
     alloc: Global,
     set: &FeatureSet<'_>,
+    name: &str,
     direction: DependencyDirection,
     word: &str,
 ) {
-    let mut asked = Asked::new(*out, word);
-    let parts = set.partition(alloc, direction, &mut |feature| asked.accepts(feature));
-    tell_parts(out, parts);
-    tell_calls(out, asked.calls);
-}
-
-/// The named features, and the optional dependencies.
-pub fn filter_partition(
-    out: &mut Out,
-    alloc: Global,
-    set: &FeatureSet<'_>,
-    direction: DependencyDirection,
-) {
-    let mut asked = Asked::new(*out, "");
-    let parts = set.filter_partition(alloc, direction, &mut |feature| asked.is_named(feature));
-    tell_parts(out, parts);
-    tell_calls(out, asked.calls);
+    let asked = Asked {
+        out,
+        each_other: word == "odd",
+        calls: Cell::new(0),
+    };
+    let mut accepts = |feature| asked.accepts(feature);
+    match name {
+        "filter" => tell_set(out, "", set.filter(alloc, direction, &mut accepts)),
+        "partition" => tell_parts(out, set.partition(alloc, direction, &mut accepts)),
+        "filter-partition" => {
+            let mut is_named = |feature| asked.is_named(feature);
+            tell_parts(out, set.filter_partition(alloc, direction, &mut is_named));
+        }
+        _ => return out.line("no such call"),
+    }
+    out.number("asked ", asked.calls.get());
+    out.line("");
 }

@@ -1,9 +1,9 @@
-//! Which links a visitor accepts.
-use crate::given::cut;
+//! Rules by which a visitor accepts links.
 use guppy_features::{ConditionalLink, DependencyKind, PlatformStatus, Spec};
+use guppy_vectors::cut;
 use std::alloc::Global;
 
-/// The spec of this number that a rule may name, or a text that is none. (What a box holds has no texts.)
+/// Returns the spec of this number. A boxed visitor holds no strings, so a rule keeps the number of its spec.
 fn spec_at(number: u8) -> &'static str {
     match number {
         1 => "cfg(unix)",
@@ -14,7 +14,7 @@ fn spec_at(number: u8) -> &'static str {
     }
 }
 
-/// The number of a spec.
+/// Returns the number of the spec `word`, or 0 for any other word.
 fn spec_number(word: &str) -> u8 {
     for number in 1..5 {
         if spec_at(number) == word {
@@ -24,66 +24,55 @@ fn spec_number(word: &str) -> u8 {
     0
 }
 
-/// The kinds and the spec of one platform.
+/// The dependency kinds and the spec of one platform.
 #[derive(Clone, Copy)]
 pub struct Platform {
     normal: bool,
     build: bool,
     dev: bool,
-    /// The number of its spec.
+    /// The number of its spec, for `spec_at`.
     spec: u8,
 }
 
-/// Which links a visitor accepts.
+/// A rule by which a visitor accepts links.
 #[derive(Clone, Copy)]
 pub enum Rule {
-    /// All.
+    /// Accepts all links.
     All,
-    /// All, and a copy of the context answers as it does.
+    /// Accepts all links, and logs a copy of the context.
     Copies(Global),
-    /// All, with the Debug texts of the link and its context.
+    /// Accepts all links, and logs the `Debug` texts of the link and its context.
     Debug,
-    /// None.
+    /// Accepts no link.
     Nothing,
-    /// Those of the calls at these places, counted from 0: bits of the number.
+    /// Accepts a link if the bit of its call is set; calls are counted from 0.
     Only(u64),
-    /// Those that a platform has.
+    /// Accepts the links that are present on a platform.
     On(Platform),
 }
 
-/// Whether a list of kinds, with commas between them, has the kind.
-fn lists(kinds: &str, kind: &str) -> bool {
-    kinds.split(',').any(|one| one == kind)
-}
-
 impl Platform {
-    /// The platform of these words: kinds with commas between them, and then a spec or nothing.
+    /// Returns the platform of `words`: kinds separated by commas, then a spec or nothing.
     fn of(words: &str) -> Self {
         let (kinds, spec) = cut(words);
         Platform {
-            normal: lists(kinds, "normal"),
-            build: lists(kinds, "build"),
-            dev: lists(kinds, "dev"),
+            normal: kinds.contains("normal"),
+            build: kinds.contains("build"),
+            dev: kinds.contains("dev"),
             spec: spec_number(spec),
         }
     }
 
-    /// Whether its spec is among these.
-    fn is_among(self, specs: &[Spec]) -> bool {
-        let spec = spec_at(self.spec);
-        specs.iter().any(|one| one.text() == spec)
-    }
-
-    /// Whether a status holds on it.
+    /// Returns whether `status` holds on the platform.
     fn meets(self, status: PlatformStatus<'_>) -> bool {
         match status {
             PlatformStatus::Never => false,
             PlatformStatus::Always => true,
-            PlatformStatus::PlatformDependent(specs) => self.is_among(specs),
+            PlatformStatus::PlatformDependent(specs) => is_among(spec_at(self.spec), specs),
         }
     }
 
-    /// Whether it has the link, for one of its kinds.
+    /// Returns whether `link` is present on the platform for one of its kinds.
     fn has(self, link: ConditionalLink<'_>) -> bool {
         (self.normal && self.meets(link.status_for_kind(DependencyKind::Normal)))
             || (self.build && self.meets(link.status_for_kind(DependencyKind::Build)))
@@ -91,8 +80,18 @@ impl Platform {
     }
 }
 
+/// Returns whether one of `specs` has the text `text`.
+fn is_among(text: &str, specs: &[Spec]) -> bool {
+    for spec in specs {
+        if spec.text() == text {
+            return true;
+        }
+    }
+    false
+}
+
 impl Rule {
-    /// The rule that words name.
+    /// Returns the rule that `words` name; `Nothing` for any other words.
     pub fn of(alloc: Global, words: &str) -> Self {
         let (name, options) = cut(words);
         match name {
@@ -105,8 +104,8 @@ impl Rule {
         }
     }
 
-    /// The answer to a link that comes up at this place.
-    pub fn accepts(self, place: u64, link: ConditionalLink<'_>) -> bool {
+    /// Returns whether `link` is accepted as call `place`, counted from 0.
+    pub fn accepts(self, place: usize, link: ConditionalLink<'_>) -> bool {
         match self {
             Rule::All | Rule::Copies(_) | Rule::Debug => true,
             Rule::Nothing => false,

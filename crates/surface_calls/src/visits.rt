@@ -1,119 +1,235 @@
-//! Calls that resolve a query with a visitor, in four forms.
-use crate::given::cut;
-use crate::out::Out;
-use crate::recorder::{Recorder, SharedRecorder};
+//! Calls that resolve a query with a visitor in one of four forms, with or without an explanation.
+ghost use Rattle.feature_sets.specs.LinkValues.{Link};
+ghost use Rattle.feature_sets.specs.Values.{Query};
+
+use crate::checks::Start;
+use crate::explanations::tell_as;
+use crate::items::tell_counted;
+use crate::recorder::{BoxedRecorder, Log, Manner, Recorder, answer};
 use crate::rules::Rule;
-use crate::sets::direction_of;
-use crate::told::{tell_error, tell_set};
-use guppy_features::{Error, FeatureGraph, FeatureId, FeatureLinkObject, FeatureQuery, FeatureSet};
+use crate::told::{tell_error, tell_members};
+use guppy_features::{
+    Error, Explained, FeatureLinkObject, FeatureLinkVisitor, FeatureQuery, FeatureSet,
+};
+use guppy_vectors::{Out, Words, cut};
 use std::alloc::Global;
 use std::cell::Cell;
 use std::rc::Rc;
 
-/// A set, or why there is none.
-type Resolved<'g> = Result<FeatureSet<'g>, Error<'g>>;
-
-/// By a visitor that is lent once more.
-fn lent<'g>(alloc: Global, query: FeatureQuery<'g>, recorder: &mut Recorder) -> Resolved<'g> {
-    let mut again = recorder;
-    query.resolve_with(alloc, &mut again)
+/// The result of a query: a set, or an explained one.
+#[derive(Drop)]
+enum Found<'g> {
+    Set(FeatureSet<'g>),
+    Explained(Explained<'g>),
 }
 
-/// By a closure.
-fn by_closure<'g>(alloc: Global, query: FeatureQuery<'g>, recorder: &mut Recorder) -> Resolved<'g> {
-    let mut own = *recorder;
-    let resolved = query.resolve_with_fn(alloc, &mut |cx, link| own.answer(cx, link));
-    *recorder = own;
-    resolved
-}
+/// The result of a query, or its error.
+type Resolved<'g> = Result<Found<'g>, Error<'g>>;
 
-/// By a visitor in a box, whose count is kept outside too.
-fn counted<'g>(
+/// Resolves `query` with `visitor`, with an explanation if `is_explained`; returns the error of the query.
+fn resolve<'g, V: FeatureLinkVisitor<'g>>(
     alloc: Global,
     query: FeatureQuery<'g>,
-    recorder: Recorder,
-    count: &Rc<Cell<u64>>,
-) -> Resolved<'g> {
-    let calls = count.clone()?;
-    let mut visitor: Box<dyn FeatureLinkObject> = Box::new(
-        alloc,
-        SharedRecorder { recorder, calls },
-    )?;
-    query.resolve_with(alloc, &mut visitor)
+    is_explained: bool,
+    visitor: &mut V,
+) -> Resolved<'g>
+    requires { (s : V) (q : Query) (l : Link) → V.can_visit s q l }
+{
+    if is_explained {
+        match query.resolve_explained(alloc, visitor) {
+            Ok(explained) => Ok(Found::Explained(explained)),
+            Err(error) => Err(error),
+        }
+    } else {
+        match query.resolve_with(alloc, visitor) {
+            Ok(set) => Ok(Found::Set(set)),
+            Err(error) => Err(error),
+        }
+    }
 }
 
-/// By a visitor in a box.
-fn boxed<'g>(alloc: Global, query: FeatureQuery<'g>, recorder: &mut Recorder) -> Resolved<'g> {
-    let count = Rc::new(alloc, Cell::new(recorder.calls))?;
-    let resolved = counted(alloc, query, *recorder, &count);
-    recorder.calls = count.get();
+/// Resolves `query` with a closure, without an explanation.
+fn by_closure<'g>(
+    alloc: Global,
+    query: FeatureQuery<'g>,
+    manner: Manner,
+    log: &Log,
+) -> Resolved<'g> {
+    match query.resolve_with_fn(alloc, &mut |cx, link| answer(manner, log, cx, link)) {
+        Ok(set) => Ok(Found::Set(set)),
+        Err(error) => Err(error),
+    }
+}
+
+/// Resolves `query` with a boxed visitor that writes to `shared`.
+fn boxed<'g>(
+    alloc: Global,
+    query: FeatureQuery<'g>,
+    manner: Manner,
+    shared: &Rc<Log>,
+) -> Resolved<'g> {
+    let log = shared.clone()?;
+    let mut visitor: Box<dyn FeatureLinkObject> = Box::new(alloc, BoxedRecorder { manner, log })?;
+    resolve(alloc, query, manner.is_brief, &mut visitor)
+}
+
+/// Resolves `query` with a boxed visitor, and carries its count and failed writes over to `log`.
+fn by_box<'g>(alloc: Global, query: FeatureQuery<'g>, manner: Manner, log: &Log) -> Resolved<'g> {
+    let shared = Rc::new(
+        alloc,
+        Log {
+            out: log.out.another(),
+            calls: Cell::new(log.calls.get()),
+        },
+    )?;
+    let resolved = boxed(alloc, query, manner, &shared);
+    log.calls.set(shared.calls.get());
+    log.out.join(&shared.out);
     resolved
 }
 
-/// By a visitor in the form that a word names.
+/// Resolves `query` with a visitor in the form `form`: `lent`, `boxed`, `closure`, or else by value.
 fn in_form<'g>(
     alloc: Global,
     query: FeatureQuery<'g>,
     form: &str,
-    recorder: &mut Recorder,
+    manner: Manner,
+    log: &Log,
 ) -> Resolved<'g> {
+    let mut recorder = Recorder { manner, log };
     match form {
-        "lent" => lent(alloc, query, recorder),
-        "boxed" => boxed(alloc, query, recorder),
-        "closure" => by_closure(alloc, query, recorder),
-        _ => query.resolve_with(alloc, recorder),
+        "lent" => resolve(alloc, query, manner.is_brief, &mut &mut recorder),
+        "boxed" => by_box(alloc, query, manner, log),
+        "closure" => by_closure(alloc, query, manner, log),
+        _ => resolve(alloc, query, manner.is_brief, &mut recorder),
     }
 }
 
-/// Tells what a query resolves to, and gives what an equal one does by the same visitor, in the state that the first left.
-fn second_run<'g>(
-    out: &mut Out,
-    alloc: Global,
-    query: FeatureQuery<'g>,
-    form: &str,
-    recorder: &mut Recorder,
-) -> Resolved<'g> {
-    let second = query.try_clone(alloc)?;
-    tell_set(out, in_form(alloc, query, form, recorder));
-    in_form(alloc, second, form, recorder)
-}
-
-/// Tells what a query resolves to by a visitor in this form, once or twice, and how often the visitor was asked.
-fn tell_visit(
-    out: &mut Out,
-    alloc: Global,
-    query: FeatureQuery<'_>,
+/// Writes the set or explanation `found`, or the error.
+fn tell_found(
+    out: &Out,
+    start: Start<'_, '_>,
     name: &str,
-    form: &str,
-    recorder: &mut Recorder,
+    found: Resolved<'_>,
+    words: &mut Words<'_>,
 ) {
-    let resolved = if name == "twice" {
-        second_run(out, alloc, query, form, recorder)
-    } else {
-        in_form(alloc, query, form, recorder)
-    };
-    tell_set(out, resolved);
-    out.line(format_args!("asked {}", recorder.calls));
-}
-
-/// What the query of the features resolves to, once or twice by the call's name, by form, direction and rule of its visitor.
-pub fn visit(
-    out: &mut Out,
-    alloc: Global,
-    features: FeatureGraph<'_>,
-    words: &str,
-    ids: &[FeatureId<'_>],
-) {
-    let (name, options) = cut(words);
-    let (form, others) = cut(options);
-    let (direction, rule) = cut(others);
-    let mut recorder = Recorder {
-        rule: Rule::of(alloc, rule),
-        calls: 0,
-        out: *out,
-    };
-    match features.query_directed(alloc, ids, direction_of(direction)) {
-        Ok(query) => tell_visit(out, alloc, query, name, form, &mut recorder),
+    match found {
+        Ok(Found::Set(set)) => tell_members(out, &set),
+        Ok(Found::Explained(explained)) => tell_as(out, start, name, &explained, words),
         Err(error) => tell_error(out, error),
     }
+}
+
+/// Writes `set` and, if `plain` is present, whether both are equal.
+fn tell_equal<'g>(out: &Out, plain: Option<FeatureSet<'g>>, set: FeatureSet<'g>) {
+    tell_counted(out, ":", set.ids_by_node());
+    if let Some(plain) = plain {
+        out.answer_line("same ", set == plain);
+    }
+}
+
+/// Writes the set of `found` and, if `plain` is present, whether both are equal; or the error.
+fn tell_same<'g>(out: &Out, plain: Option<FeatureSet<'g>>, found: Resolved<'g>) {
+    match found {
+        Ok(Found::Explained(explained)) => tell_equal(out, plain, explained.into_set()),
+        Ok(Found::Set(set)) => tell_equal(out, plain, set),
+        Err(error) => tell_error(out, error),
+    }
+}
+
+/// Writes `set`, or the error.
+fn tell_plain(out: &Out, set: &Result<FeatureSet<'_>, Error<'_>>) {
+    match set {
+        Ok(set) => tell_counted(out, ":", set.ids_by_node()),
+        Err(error) => tell_error(out, *error),
+    }
+}
+
+/// Resolves two equal queries with equal visitors: the first without an explanation, the second by `in_form`. Writes both
+/// sets and whether they are equal.
+fn same<'g>(
+    alloc: Global,
+    queries: (FeatureQuery<'g>, FeatureQuery<'g>),
+    form: &str,
+    manner: Manner,
+    log: &Log,
+) {
+    let (copy, query) = queries;
+    let first = Log {
+        out: log.out.another(),
+        calls: Cell::new(0),
+    };
+    let plain = copy.resolve_with(
+        alloc,
+        &mut Recorder {
+            manner,
+            log: &first,
+        },
+    );
+    tell_plain(&log.out, &plain);
+    tell_same(
+        &log.out,
+        plain.ok(),
+        in_form(alloc, query, form, manner, log),
+    );
+    log.calls
+        .set(log.calls.get().saturating_add(first.calls.get()));
+    log.out.join(&first.out);
+}
+
+/// Resolves `query` with the visitor of the call `name` and writes the result. `twice` and `same` resolve a copy too.
+fn run(
+    start: Start<'_, '_>,
+    name: &str,
+    form: &str,
+    manner: Manner,
+    log: &Log,
+    words: &mut Words<'_>,
+    query: FeatureQuery<'_>,
+) {
+    if name != "twice" && name != "same" {
+        let found = in_form(start.alloc, query, form, manner, log);
+        return tell_found(&log.out, start, name, found, words);
+    }
+    match query.try_clone(start.alloc) {
+        Ok(second) if name == "same" => same(start.alloc, (second, query), form, manner, log),
+        Ok(second) => {
+            let found = in_form(start.alloc, query, form, manner, log);
+            tell_found(&log.out, start, name, found, words);
+            let found = in_form(start.alloc, second, form, manner, log);
+            tell_found(&log.out, start, name, found, words);
+        }
+        Err(error) => tell_error(&log.out, error),
+    }
+}
+
+/// Makes the call `name` from `start` with a visitor of `form` and `rule`, then writes how often the visitor was asked.
+/// Without an explanation, the count isn't written if the query fails.
+pub fn visit(
+    out: &Out,
+    start: Start<'_, '_>,
+    name: &str,
+    form: &str,
+    rule: &str,
+    words: &mut Words<'_>,
+) {
+    let log = Log {
+        out: out.another(),
+        calls: Cell::new(0),
+    };
+    let manner = Manner {
+        rule: Rule::of(start.alloc, rule),
+        is_brief: name != "visit" && name != "twice",
+    };
+    let query = start.query();
+    let is_known = query.is_ok();
+    match query {
+        Ok(query) => run(start, name, form, manner, &log, words, query),
+        Err(error) => tell_error(out, error),
+    }
+    if is_known || manner.is_brief {
+        out.number("asked ", log.calls.get());
+        out.line("");
+    }
+    out.join(&log.out);
 }

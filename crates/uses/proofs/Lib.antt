@@ -2,3 +2,4 @@ mod Named
 mod Selected
 mod Tests
 mod Linted
+mod Counting

@@ -1,21 +1,18 @@
 -- Features that a linter names, and those that are off.
-use Rattle.std.proofs.Common.{◌≡◌, ◌∙◌, ◌+◌, ◌<◌, ◌++◌, ◌∷◌, [], ℕ, zero, suc, Bool, List, Some, length, take, get_or, refl, sym, subst, inl, inr}
-use Rattle.std.specs.Prelude.{◌↔◌, All, IsTrue, IsFalse, slice_get}
+use Rattle.std.proofs.Common.{◌≡◌, ◌+◌, ◌<◌, ◌++◌, ◌∷◌, [], ℕ, zero, suc, Bool, List, length, take, get_or, refl, sym, subst, inl, inr}
+use Rattle.std.specs.Prelude.{◌↔◌, All, IsTrue, IsFalse}
 use Rattle.std.proofs.lemmas.List.Elements.{All-more}
 use Rattle.std.proofs.lemmas.Option.{none-some}
-use Rattle.guppy_support.specs.Bits.{has}
-use Rattle.guppy_packages.specs.Rows.{Text}
-use Rattle.feature_core.specs.Built.{NodeNamed}
-use Rattle.feature_core.specs.Nodes.{nodes}
-use Rattle.feature_core.specs.Offers.{content_of}
-use Rattle.feature_labels.specs.Names.{LabelName, id_of}
-use Rattle.feature_labels.specs.declared.feature_id.FeatureId.{FeatureId}
-use Rattle.walk_engine.specs.declared.walks.Half.{Half}
-use Rattle.walk_engine.specs.Explanations.{IsExplanation, nodes_of}
-use Rattle.walk_engine.specs.Walks.{Least, is_in}
-use Rattle.feature_sets.specs.Told.{Explanation}
-use Rattle.feature_sets.specs.Values.{Query}
-use Rattle.feature_sets.specs.Visits.{query_content}
+use Rattle.guppy_features.specs.guppy_support.Bits.{has}
+use Rattle.guppy_features.specs.guppy_packages.Rows.{Text}
+use Rattle.guppy_features.specs.feature_core.Built.{NodeNamed}
+use Rattle.guppy_features.specs.feature_labels.Names.{LabelName, id_of}
+use Rattle.guppy_features.specs.feature_labels.declared.feature_id.FeatureId.{FeatureId}
+use Rattle.guppy_features.specs.walk_engine.declared.walks.Half.{Half}
+use Rattle.guppy_features.specs.walk_engine.Walks.{Least}
+use Rattle.guppy_features.specs.feature_sets.Told.{Explanation}
+use Rattle.guppy_features.specs.feature_sets.Values.{Query}
+use Rattle.guppy_features.specs.feature_sets.Visits.{query_content}
 use Rattle.uses.specs.Linted.{IsCleared, IsNamed}
 
 pub named_grows : (named : List (Text × LabelName)) (x name : Text × LabelName) → IsNamed named name → IsNamed (named ++ x ∷ []) name
@@ -38,16 +35,11 @@ module _ (q : Query) (A : ℕ → Half → Bool) where
       (λ k e l. elim (before k e l) [ inl there ↦ inl (grows (id_of (get_or (take i ids) k e)) there) | inr off ↦ inr off ])
       this
 
-  -- where no step lists a feature, it is off
-  pub off : (x : Explanation) (name : Text × LabelName) → x.graph ≡ q.graph → x.direction ≡ q.direction → length q.initials ≡ length (nodes q.graph.tables) → IsExplanation (query_content q) (has q.initials) A x.steps
-      → ((n : ℕ) → has x.members n ≡ is_in (nodes_of x.steps) n) → ((n : ℕ) → IsTrue (has x.members n) ↔ Least (query_content q) (has q.initials) A n)
-      → ((n : ℕ) (initials : List Bool) (B : ℕ → Half → Bool) → NodeNamed x.graph.tables n name → length initials ≡ length (nodes x.graph.tables) → IsExplanation (content_of x.direction x.graph.built) (has initials) B x.steps → IsFalse (is_in (nodes_of x.steps) n))
-      → (n : ℕ) → NodeNamed q.graph.tables n name → ¬ Least (query_content q) (has q.initials) A n
-  off x name graph direction long explained listed least none n at reached =
-      let here = subst (λ g. NodeNamed g.tables n name) (sym graph) at in
-      let sized = subst (λ g. length q.initials ≡ length (nodes g.tables)) (sym graph) long in
-      let told = subst (λ d. IsExplanation (content_of d x.graph.built) (has q.initials) A x.steps) (sym direction) (subst (λ g. IsExplanation (content_of q.direction g.built) (has q.initials) A x.steps) (sym graph) explained) in
-      clash (is_in (nodes_of x.steps) n) (sym (listed n) ∙ (least n).1 reached) (none n q.initials A here sized told)
+  -- a feature that the set lacks is off
+  pub off : (x : Explanation) (name : Text × LabelName) → x.graph ≡ q.graph → ((n : ℕ) → IsTrue (has x.members n) ↔ Least (query_content q) (has q.initials) A n)
+      → ((n : ℕ) → NodeNamed x.graph.tables n name → IsFalse (has x.members n)) → (n : ℕ) → NodeNamed q.graph.tables n name → ¬ Least (query_content q) (has q.initials) A n
+  off x name graph least none n at reached =
+      clash (has x.members n) ((least n).1 reached) (none n (subst (λ g. NodeNamed g.tables n name) (sym graph) at))
     where
       clash : (b : Bool) → IsTrue b → IsFalse b → ⊥
       clash b t f = cc

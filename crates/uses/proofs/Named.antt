@@ -1,15 +1,15 @@
 -- Reach from the nodes of one name, and from nodes with a property.
 use Rattle.std.proofs.Common.{◌≡◌, ℕ, zero, suc, Bool, true, false, not, ◌&&◌, List, [], ◌∷◌, Some, refl, subst}
 use Rattle.std.specs.Prelude.{◌↔◌, IsTrue, slice_get}
-use Rattle.guppy_support.specs.Bits.{has}
-use Rattle.guppy_packages.specs.Rows.{Text}
-use Rattle.guppy_packages.specs.Tables.{Tables}
-use Rattle.guppy_packages.specs.declared.direction.DependencyDirection.{DependencyDirection}
-use Rattle.feature_labels.specs.Names.{LabelName}
-use Rattle.feature_core.specs.Built.{NodeNamed}
-use Rattle.feature_core.specs.Pairs.{Along, LeadsTo, Reach}
-use Rattle.feature_sets.specs.Names.{HoldsExactly}
-use Rattle.feature_sets.specs.Values.{Query}
+use Rattle.guppy_features.specs.guppy_support.Bits.{has}
+use Rattle.guppy_features.specs.guppy_packages.Rows.{Text}
+use Rattle.guppy_features.specs.guppy_packages.Tables.{Tables}
+use Rattle.guppy_features.specs.guppy_packages.declared.direction.DependencyDirection.{DependencyDirection}
+use Rattle.guppy_features.specs.feature_labels.Names.{LabelName}
+use Rattle.guppy_features.specs.feature_core.Built.{NodeNamed}
+use Rattle.guppy_features.specs.feature_core.Pairs.{Along, LeadsTo, Reach}
+use Rattle.guppy_features.specs.feature_sets.Names.{HoldsExactly}
+use Rattle.guppy_features.specs.feature_sets.Values.{Query}
 
 -- The only name of a list of one.
 only : (name other : Text × LabelName) (k : ℕ) → slice_get (name ∷ []) k ≡ Some other → other ≡ name

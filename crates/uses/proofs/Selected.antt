@@ -2,19 +2,19 @@
 use Rattle.std.proofs.Common.{◌≡◌, ℕ, zero, suc, ◌⊎◌, inl, inr, ⊎_elim, Bool, true, false, List, [], ◌∷◌, map, Option, Some, refl, sym, ◌∙◌, ap, subst, arith}
 use Rattle.std.specs.Prelude.{◌↔◌, IsTrue, slice_get, Contains}
 use Rattle.std.specs.Option.{option_map_or}
-use Rattle.guppy_support.specs.Bits.{has}
-use Rattle.guppy_packages.specs.Rows.{Text}
-use Rattle.guppy_packages.specs.Tables.{Tables}
-use Rattle.feature_labels.specs.Names.{LabelName}
-use Rattle.feature_labels.specs.Names.LabelName.{base, named, optional}
+use Rattle.guppy_features.specs.guppy_support.Bits.{has}
+use Rattle.guppy_features.specs.guppy_packages.Rows.{Text}
+use Rattle.guppy_features.specs.guppy_packages.Tables.{Tables}
+use Rattle.guppy_features.specs.feature_labels.Names.{LabelName}
+use Rattle.guppy_features.specs.feature_labels.Names.LabelName.{base, named, optional}
 use Rattle.guppy_features.specs.ListedFilters.{base_of_names, listed_names}
 use Rattle.guppy_features.specs.declared.listed_filters.NamedFeatureFilter.{NamedFeatureFilter}
-use Rattle.feature_sets.specs.declared.standard_features.StandardFeatures.{StandardFeatures}
-use Rattle.feature_sets.specs.declared.standard_features.StandardFeatures.TheVariants.{Default}
-use Rattle.feature_sets.specs.Filters.{Run, Ran, SelectsByFilter, StandardAccepts, accepted, workspace_names}
+use Rattle.guppy_features.specs.feature_sets.declared.standard_features.StandardFeatures.{StandardFeatures}
+use Rattle.guppy_features.specs.feature_sets.declared.standard_features.StandardFeatures.TheVariants.{Default}
+use Rattle.guppy_features.specs.feature_sets.Filters.{Run, Ran, SelectsByFilter, StandardAccepts, accepted, workspace_names}
 use Rattle.guppy_features.specs.Accepted.{AddsToBase, ListsLabel, SameElements}
-use Rattle.feature_sets.specs.Names.{TellsDefault}
-use Rattle.feature_sets.specs.Values.{Graph}
+use Rattle.guppy_features.specs.feature_sets.Names.{TellsDefault}
+use Rattle.guppy_features.specs.feature_sets.Values.{Graph}
 use Rattle.uses.specs.Answers.{IsSelected}
 
 -- The name is accepted exactly if it is on by default or listed.

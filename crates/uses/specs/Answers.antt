@@ -1,25 +1,27 @@
 -- The results of the examples.
-use Rattle.std.specs.Prelude.{◌⊎◌, ℕ, Bool, true, false, not, List, Contains}
+use Rattle.std.specs.Prelude.{◌≡◌, ◌⊎◌, ◌<◌, ◌+◌, ◌^◌, ℕ, Bool, true, false, not, List, Contains, length}
 use Rattle.std.specs.List.{list_any}
 use Rattle.std.specs.Option.{option_map_or}
 use Rattle.std.specs.Str.{bytes_eq}
-use Rattle.guppy_packages.specs.Platform.{Status, never_status, always_status, spec_status}
-use Rattle.guppy_packages.specs.Rows.{Text}
-use Rattle.guppy_packages.specs.Tables.{Tables}
-use Rattle.guppy_packages.specs.declared.direction.DependencyDirection.{DependencyDirection}
-use Rattle.guppy_packages.specs.declared.direction.DependencyDirection.TheVariants.{Forward}
-use Rattle.guppy_packages.specs.declared.row.DependencyKind.{DependencyKind}
-use Rattle.feature_labels.specs.Names.{LabelName}
-use Rattle.walk_engine.specs.declared.walks.Half.{Half}
-use Rattle.feature_core.specs.Built.{NodeNamed}
-use Rattle.feature_core.specs.Defaults.{IsDefault}
-use Rattle.feature_links.specs.Facts.{is_dev_link}
-use Rattle.feature_core.specs.Pairs.{Along, LeadsTo}
-use Rattle.feature_sets.specs.Filters.{workspace_names}
+use Rattle.guppy_features.specs.guppy_support.Bits.{has}
+use Rattle.guppy_features.specs.guppy_packages.Platform.{Status, never_status, always_status, spec_status}
+use Rattle.guppy_features.specs.guppy_packages.Rows.{Text}
+use Rattle.guppy_features.specs.guppy_packages.Tables.{Tables}
+use Rattle.guppy_features.specs.guppy_packages.declared.direction.DependencyDirection.{DependencyDirection}
+use Rattle.guppy_features.specs.guppy_packages.declared.direction.DependencyDirection.TheVariants.{Forward}
+use Rattle.guppy_features.specs.guppy_packages.declared.row.DependencyKind.{DependencyKind}
+use Rattle.guppy_features.specs.feature_labels.Names.{LabelName}
+use Rattle.guppy_features.specs.walk_engine.declared.walks.Half.{Half}
+use Rattle.guppy_features.specs.walk_engine.Walks.{Agrees, Call, IsComplete, IsLegal}
+use Rattle.guppy_features.specs.feature_core.Built.{NodeNamed}
+use Rattle.guppy_features.specs.feature_core.Defaults.{IsDefault}
+use Rattle.guppy_features.specs.feature_links.Facts.{is_dev_link}
+use Rattle.guppy_features.specs.feature_core.Pairs.{Along, LeadsTo}
+use Rattle.guppy_features.specs.feature_sets.Filters.{workspace_names}
 use Rattle.guppy_features.specs.Accepted.{ListsLabel}
-use Rattle.feature_sets.specs.LinkValues.{Link, facts_of, status_for}
-use Rattle.feature_sets.specs.Values.{Graph}
-use Rattle.feature_sets.specs.Visits.{offered}
+use Rattle.guppy_features.specs.feature_sets.LinkValues.{Link, facts_of, status_for}
+use Rattle.guppy_features.specs.feature_sets.Values.{Graph, Query}
+use Rattle.guppy_features.specs.feature_sets.Visits.{offered, query_content}
 
 -- A path of edges in this direction, possibly empty, leads from the feature of this name to the node.
 abbrev pub IsLedTo : Tables → DependencyDirection → Text × LabelName → ℕ → Type 0
@@ -53,3 +55,19 @@ is_shipped l = option_map_or (λ facts. not (is_dev_link facts)) (facts_of l) fa
 -- A test of links as a test of the offers of a graph.
 abbrev pub by_links : (Link → Bool) → Graph → ℕ → Half → Bool
 by_links test g e h = test (offered g e h)
+
+-- the count grew by as many, where it can hold that
+abbrev pub CountsOn : ℕ → ℕ → ℕ → Type 0
+CountsOn old more new = old + more < 2 ^ 64 → new ≡ old + more
+
+-- each offer of a complete legal run was answered by the test of its link, and counted
+pub record CountsRun (test : Link → Bool) (q : Query) (old new : ℕ) : Type 0 where
+  pub run : List Call
+  pub legal : IsLegal (query_content q) (has q.initials) run
+  pub complete : IsComplete (query_content q) (has q.initials) run
+  pub answers : Agrees (by_links test q.graph) run
+  pub count : CountsOn old (length run) new
+
+-- each feature of the workspace's packages was asked for once, and counted
+abbrev pub CountsWorkspace : Graph → ℕ → ℕ → Type 0
+CountsWorkspace g old new = CountsOn old (length (workspace_names g.tables)) new

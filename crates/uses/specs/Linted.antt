@@ -1,13 +1,13 @@
 -- What a policy linter answers.
 use Rattle.std.specs.Prelude.{◌≡◌, ◌⊎◌, ℕ, Bool, List, Some, slice_get}
-use Rattle.guppy_support.specs.Bits.{has}
-use Rattle.guppy_packages.specs.Rows.{Text}
-use Rattle.feature_labels.specs.Names.{LabelName, id_of}
-use Rattle.feature_core.specs.Built.{NodeNamed}
-use Rattle.walk_engine.specs.declared.walks.Half.{Half}
-use Rattle.walk_engine.specs.Walks.{Least}
-use Rattle.feature_sets.specs.Values.{Query}
-use Rattle.feature_sets.specs.Visits.{query_content}
+use Rattle.guppy_features.specs.guppy_support.Bits.{has}
+use Rattle.guppy_features.specs.guppy_packages.Rows.{Text}
+use Rattle.guppy_features.specs.feature_labels.Names.{LabelName, id_of}
+use Rattle.guppy_features.specs.feature_core.Built.{NodeNamed}
+use Rattle.guppy_features.specs.walk_engine.declared.walks.Half.{Half}
+use Rattle.guppy_features.specs.walk_engine.Walks.{Least}
+use Rattle.guppy_features.specs.feature_sets.Values.{Query}
+use Rattle.guppy_features.specs.feature_sets.Visits.{query_content}
 use Rattle.uses.specs.declared.linter.Finding.{Finding}
 
 -- the feature that was found to be on

@@ -1,9 +1,14 @@
 //! A filter that counts what it is asked, under the filters over lists.
+ghost use Rattle.std.specs.Prelude.{◌≡◌, ◌+◌, ◌-◌, ◌^◌, min, IfOk};
+ghost use Rattle.guppy_features.specs.ListedFilters.{base_of_ids, base_of_names};
+ghost use Rattle.guppy_features.specs.feature_sets.Views.{graph_of};
+ghost use Rattle.uses.specs.Answers.{CountsWorkspace};
+
 use crate::failure::Failure;
 use crate::out::Out;
 use guppy_features::{
-    Error, FeatureFilter, FeatureGraph, FeatureId, FeatureLabel, FeatureQuery, PackageId,
-    StandardFeatures, feature_id_filter, named_feature_filter,
+    Error, FeatureFilter, FeatureGraph, FeatureId, FeatureIdFilter, FeatureLabel, FeatureQuery,
+    NamedFeatureFilter, PackageId, StandardFeatures, feature_id_filter, named_feature_filter,
 };
 use std::alloc::Global;
 
@@ -15,10 +20,10 @@ pub struct Counted<B> {
 }
 
 impl<'g, B: FeatureFilter<'g>> FeatureFilter<'g> for Counted<B> {
-    // it may be asked what its base may be asked, and answers as its base does
+    // it may be asked what its base may be asked, answers as its base does, and counts one more
     ghost can_accept = { λ s g i. B.can_accept s.base g i };
 
-    ghost accept_gives = { λ s g i r t. B.accept_gives s.base g i r t.base };
+    ghost accept_gives = { λ s g i r t. (t.asked ≡ min (s.asked + 1) (2 ^ 64 - 1)) × B.accept_gives s.base g i r t.base };
 
     fn accept(&mut self, graph: &FeatureGraph<'g>, feature_id: FeatureId<'g>) -> bool {
         self.asked = self.asked.saturating_add(1);
@@ -37,7 +42,19 @@ fn by_names<'g>(
     base: &mut CountedBases,
 ) -> Result<FeatureQuery<'g>, Error<'g>> {
     let mut filter = named_feature_filter(alloc, base, names)?;
-    graph.query_workspace(alloc, &mut filter)
+    select_by_names(alloc, graph, &mut filter)
+}
+
+/// Selects by `filter`, whose base stays the same reference.
+fn select_by_names<'g, 'a>(
+    alloc: Global,
+    graph: FeatureGraph<'g>,
+    filter: &mut NamedFeatureFilter<'a, &mut CountedBases>,
+) -> Result<FeatureQuery<'g>, Error<'g>>
+    ensures same_reference { (base_of_names filter.new).ghost_name ≡ (base_of_names filter.old).ghost_name }
+    ensures counted { IfOk result (λ _. CountsWorkspace (graph_of graph.entry) (base_of_names filter.old).now.asked (base_of_names filter.new).now.asked) }
+{
+    graph.query_workspace(alloc, filter)
 }
 
 /// The query of the workspace's bases and of the features of these ids.
@@ -48,7 +65,19 @@ fn by_ids<'g>(
     base: &mut CountedBases,
 ) -> Result<FeatureQuery<'g>, Error<'g>> {
     let mut filter = feature_id_filter(alloc, base, ids)?;
-    graph.query_workspace(alloc, &mut filter)
+    select_by_ids(alloc, graph, &mut filter)
+}
+
+/// Selects by `filter`, whose base stays the same reference.
+fn select_by_ids<'g, 'a>(
+    alloc: Global,
+    graph: FeatureGraph<'g>,
+    filter: &mut FeatureIdFilter<'a, &mut CountedBases>,
+) -> Result<FeatureQuery<'g>, Error<'g>>
+    ensures same_reference { (base_of_ids filter.new).ghost_name ≡ (base_of_ids filter.old).ghost_name }
+    ensures counted { IfOk result (λ _. CountsWorkspace (graph_of graph.entry) (base_of_ids filter.old).now.asked (base_of_ids filter.new).now.asked) }
+{
+    graph.query_workspace(alloc, filter)
 }
 
 /// What is selected by names.

@@ -1,8 +1,8 @@
 //! The difference of two sets: the features that default features add, package by package.
 ghost use Rattle.std.specs.Prelude.{◌↔◌, ℕ, IsTrue, IfOk};
-ghost use Rattle.guppy_support.specs.Bits.{has};
-ghost use Rattle.feature_labels.specs.Names.{id_of};
-ghost use Rattle.feature_sets.specs.Views.{tables_of_graph};
+ghost use Rattle.guppy_features.specs.guppy_support.Bits.{has};
+ghost use Rattle.guppy_features.specs.feature_labels.Names.{id_of};
+ghost use Rattle.guppy_features.specs.feature_sets.Views.{tables_of_graph};
 ghost use Rattle.uses.specs.Answers.{IsLedTo};
 
 use crate::brings_in::brings_in;

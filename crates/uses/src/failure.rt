@@ -1,5 +1,8 @@
 //! The error of an example.
+use byte_devices::ReadError;
+use graph_platforms::PlatformFault;
 use guppy_features::Error;
+use platform_specs::CfgFault;
 use row_files::RowFileError;
 use std::alloc::{AllocError, AllocFailed};
 
@@ -10,8 +13,41 @@ pub enum Failure {
     Rows,
     /// The graph lacks a feature or a package.
     Unknown,
+    /// A file can't be read.
+    Unread,
+    /// The text isn't a cfg text.
+    Cfg,
+    /// The graph has a malformed platform spec.
+    Spec,
     /// An allocation failed.
     Memory,
+}
+
+impl From<ReadError> for Failure {
+    fn from(error: ReadError) -> Failure {
+        match error {
+            ReadError::Failed => Failure::Unread,
+            ReadError::Memory => Failure::Memory,
+        }
+    }
+}
+
+impl From<CfgFault> for Failure {
+    fn from(fault: CfgFault) -> Failure {
+        match fault {
+            CfgFault::Malformed { .. } => Failure::Cfg,
+            CfgFault::Memory => Failure::Memory,
+        }
+    }
+}
+
+impl<'g> From<PlatformFault<'g>> for Failure {
+    fn from(fault: PlatformFault<'g>) -> Failure {
+        match fault {
+            PlatformFault::Malformed { .. } => Failure::Spec,
+            PlatformFault::Memory => Failure::Memory,
+        }
+    }
 }
 
 impl From<RowFileError> for Failure {

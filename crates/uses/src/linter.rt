@@ -1,16 +1,11 @@
 //! A policy linter: which forbidden features a build for a platform turns on, and why.
-ghost use Rattle.std.specs.Prelude.{◌≡◌, ℕ, Bool, List, IsFalse, IfOk, MatchOption, All, length, map};
-ghost use Rattle.guppy_support.specs.Bits.{has};
-ghost use Rattle.feature_core.specs.Built.{NodeNamed};
-ghost use Rattle.feature_core.specs.Nodes.{nodes};
-ghost use Rattle.feature_core.specs.Offers.{content_of};
-ghost use Rattle.feature_labels.specs.Names.{id_of};
-ghost use Rattle.walk_engine.specs.Explanations.{IsExplanation, nodes_of};
-ghost use Rattle.walk_engine.specs.Walks.{is_in};
-ghost use Rattle.walk_engine.specs.declared.walks.Half.{Half};
+ghost use Rattle.std.specs.Prelude.{◌≡◌, ℕ, IsFalse, IfOk, MatchOption, All, map};
+ghost use Rattle.guppy_features.specs.guppy_support.Bits.{has};
+ghost use Rattle.guppy_features.specs.feature_core.Built.{NodeNamed};
+ghost use Rattle.guppy_features.specs.feature_labels.Names.{id_of};
 ghost use Rattle.guppy_features.specs.Platforms.{platform_offers};
 ghost use Rattle.guppy_features.specs.PlatformViews.{kinds_of, specs_of};
-ghost use Rattle.feature_sets.specs.Views.{graph_of};
+ghost use Rattle.guppy_features.specs.feature_sets.Views.{graph_of};
 ghost use Rattle.uses.specs.Linted.{IsCleared, finding_name};
 
 use crate::failure::Failure;
@@ -37,10 +32,7 @@ fn examined<'g>(
 ) -> Result<Option<Finding<'g>>, Error<'g>>
     requires { graph_of graph ≡ explained.now.graph }
     ensures { IfOk result (λ found. MatchOption found
-        ((n : ℕ) (initials : List Bool) (A : ℕ → Half → Bool) → NodeNamed explained.now.graph.tables n (id_of id.entry)
-        → length initials ≡ length (nodes explained.now.graph.tables)
-        → IsExplanation (content_of explained.now.direction explained.now.graph.built) (has initials) A explained.now.steps
-        → IsFalse (is_in (nodes_of explained.now.steps) n))
+        ((n : ℕ) → NodeNamed explained.now.graph.tables n (id_of id.entry) → IsFalse (has explained.now.members n))
         (λ f. finding_name f ≡ id_of id.entry)) }
 {
     if !graph.contains(id) {

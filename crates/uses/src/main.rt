@@ -1,4 +1,5 @@
 //! Examples of the library, one file each, over small texts of rows. The program runs them all and prints their results.
+//! `uses ROWS TRIPLE CFG` also runs the last one, over a row file and the cfg text of a target.
 //!
 //! - `brings_in`: from rows to a graph; the features that a feature turns on, and those that turn it on.
 //! - `workspace`: the features that the workspace selects by default and by names, and those that they turn on.
@@ -9,6 +10,7 @@
 //! - `counted`: a filter that counts its questions, below the filters over lists.
 //! - `explained`: why features are on, and checks of a right and a wrong explanation.
 //! - `linter`: which forbidden features a build for a platform turns on, and why.
+//! - `for_target`: what is on for a target, by its cfg text.
 #![tactic(auto)]
 
 mod brings_in;
@@ -16,6 +18,7 @@ mod counted;
 mod difference;
 mod explained;
 mod failure;
+mod for_target;
 mod links_and_cycles;
 mod linter;
 mod one_platform;
@@ -25,10 +28,12 @@ mod rows;
 mod workspace;
 
 use crate::failure::Failure;
+use crate::for_target::Given;
 use crate::out::Out;
 use guppy_features::{FeatureGraph, FeatureGraphData, FeatureGraphExt};
 use row_files::graph_of;
 use std::alloc::Global;
+use std::env;
 use std::process::ExitCode;
 
 /// The name of an example.
@@ -95,9 +100,29 @@ fn show_all(out: &mut Out, alloc: Global) -> Result<(), Failure> {
     Ok(())
 }
 
+/// Returns the files that the program's words name, if it has three words.
+fn given(rt: &HostRuntime) -> Result<Option<Given>, Failure> {
+    let Ok(mut words) = env::args(rt) else {
+        return Err(Failure::Memory);
+    };
+    match (words.nth(1), words.next(), words.next()) {
+        (Some(rows), Some(triple), Some(cfg)) => Ok(Some(Given { rows, triple, cfg })),
+        _ => Ok(None),
+    }
+}
+
+/// Runs all examples, and the one over files if there are any.
+fn show_each(out: &mut Out, rt: &HostRuntime) -> Result<(), Failure> {
+    show_all(out, rt.alloc())?;
+    if let Some(given) = given(rt)? {
+        for_target::show(out, rt, &given)?;
+    }
+    Ok(())
+}
+
 fn main(rt: HostRuntime) -> ExitCode {
     let mut out = Out::new(rt.stdout());
-    let shown = show_all(&mut out, rt.alloc());
+    let shown = show_each(&mut out, &rt);
     if shown.is_err() || out.has_failed() {
         ExitCode::FAILURE
     } else {

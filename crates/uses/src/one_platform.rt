@@ -2,10 +2,10 @@
 ghost use Rattle.std.specs.Prelude.{◌≡◌, ◌↔◌, ℕ, IsTrue, IfOk};
 ghost use Rattle.std.specs.List.{list_any};
 ghost use Rattle.std.specs.Str.{bytes_eq};
-ghost use Rattle.guppy_support.specs.Bits.{has};
-ghost use Rattle.guppy_packages.specs.Platform.{spec_text, status_of};
-ghost use Rattle.walk_engine.specs.Walks.{Least};
-ghost use Rattle.feature_sets.specs.Visits.{query_content};
+ghost use Rattle.guppy_features.specs.guppy_support.Bits.{has};
+ghost use Rattle.guppy_features.specs.guppy_packages.Platform.{spec_text, status_of};
+ghost use Rattle.guppy_features.specs.walk_engine.Walks.{Least};
+ghost use Rattle.guppy_features.specs.feature_sets.Visits.{query_content};
 ghost use Rattle.uses.specs.Answers.{holds_on, is_on_platform, by_links};
 
 use crate::failure::Failure;

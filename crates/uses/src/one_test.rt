@@ -1,10 +1,10 @@
 //! One visitor in each form in which it can be handed over: itself, lent, in a box among others, as a closure.
-ghost use Rattle.std.specs.Prelude.{◌≡◌, ◌↔◌, ℕ, IsTrue, IfOk};
-ghost use Rattle.guppy_support.specs.Bits.{has};
-ghost use Rattle.walk_engine.specs.Walks.{Least};
-ghost use Rattle.feature_sets.specs.LinkViews.{link_of};
-ghost use Rattle.feature_sets.specs.Visits.{query_content};
-ghost use Rattle.uses.specs.Answers.{is_shipped, by_links};
+ghost use Rattle.std.specs.Prelude.{◌≡◌, ◌↔◌, ◌+◌, ◌-◌, ◌^◌, ℕ, min, IsTrue, IfOk};
+ghost use Rattle.guppy_features.specs.guppy_support.Bits.{has};
+ghost use Rattle.guppy_features.specs.walk_engine.Walks.{Least};
+ghost use Rattle.guppy_features.specs.feature_sets.LinkViews.{link_of};
+ghost use Rattle.guppy_features.specs.feature_sets.Visits.{query_content};
+ghost use Rattle.uses.specs.Answers.{CountsRun, is_shipped, by_links};
 
 use crate::failure::Failure;
 use crate::out::Out;
@@ -24,7 +24,8 @@ pub struct Shipped {
 impl Shipped {
     /// Counts a link, and answers whether it is followed.
     fn answer(&mut self, link: ConditionalLink<'_>) -> bool
-        ensures { result ≡ is_shipped (link_of link.entry) }
+        ensures answer { result ≡ is_shipped (link_of link.entry) }
+        ensures count { self.new.calls ≡ min (self.old.calls + 1) (2 ^ 64 - 1) }
     {
         self.calls = self.calls.saturating_add(1);
         !link.dev_only()
@@ -34,7 +35,8 @@ impl Shipped {
 impl<'g> FeatureLinkVisitor<'g> for Shipped {
     ghost can_visit = { λ _ _ _. Unit {0} };
 
-    ghost visit_gives = { λ _ _ l answer _. answer ≡ is_shipped l };
+    // its answer is a test of the link alone, and it counts one more
+    ghost visit_gives = { λ s _ l answer t. (answer ≡ is_shipped l) × (t.calls ≡ min (s.calls + 1) (2 ^ 64 - 1)) };
 
     fn visit_link(&mut self, _: &FeatureLinkContext<'g>, link: ConditionalLink<'g>) -> bool {
         self.answer(link)
@@ -45,7 +47,7 @@ impl<'g> FeatureLinkVisitor<'g> for Shipped {
 impl FeatureLinkObject for Shipped {
     ghost can_visit_any = { λ _ _ _. Unit {0} };
 
-    ghost visit_any_gives = { λ _ _ l answer _. answer ≡ is_shipped l };
+    ghost visit_any_gives = { λ s _ l answer t. (answer ≡ is_shipped l) × (t.calls ≡ min (s.calls + 1) (2 ^ 64 - 1)) };
 
     fn visit_any(&mut self, _: &FeatureLinkContext<'_>, link: ConditionalLink<'_>) -> bool {
         self.answer(link)
@@ -67,14 +69,15 @@ impl FeatureLinkObject for OfKind {
 }
 
 /// What is shipped of what a query brings in. The visitor's count has no part in its answers, so the set is the same however
-/// often the visitor was asked before.
+/// often the visitor was asked before; it grows by one for each link that came up.
 pub fn by_reference<'g>(
     alloc: Global,
     query: FeatureQuery<'g>,
     visitor: &mut Shipped,
 ) -> Result<FeatureSet<'g>, Error<'g>>
-    ensures { IfOk result (λ set. (n : ℕ) → IsTrue (has set.members n)
+    ensures least { IfOk result (λ set. (n : ℕ) → IsTrue (has set.members n)
         ↔ Least (query_content query.entry) (has query.entry.initials) (by_links is_shipped query.entry.graph) n) }
+    ensures counted { IfOk result (λ _. CountsRun is_shipped query.entry visitor.old.calls visitor.new.calls) }
 {
     laws::visitor_agrees_by_answer::<Shipped>();
     query.resolve_with(alloc, visitor)
@@ -86,12 +89,28 @@ pub fn by_loan<'g>(
     query: FeatureQuery<'g>,
     visitor: &mut Shipped,
 ) -> Result<FeatureSet<'g>, Error<'g>>
-    ensures { IfOk result (λ set. (n : ℕ) → IsTrue (has set.members n)
+    ensures least { IfOk result (λ set. (n : ℕ) → IsTrue (has set.members n)
         ↔ Least (query_content query.entry) (has query.entry.initials) (by_links is_shipped query.entry.graph) n) }
+    ensures counted { IfOk result (λ _. CountsRun is_shipped query.entry visitor.old.calls visitor.new.calls) }
+{
+    let mut lent = visitor;
+    resolve_lent(alloc, query, &mut lent)
+}
+
+/// Resolves `query` with `lent`, which stays the same reference.
+fn resolve_lent<'g>(
+    alloc: Global,
+    query: FeatureQuery<'g>,
+    lent: &mut &mut Shipped,
+) -> Result<FeatureSet<'g>, Error<'g>>
+    ensures same_reference { lent.new.ghost_name ≡ lent.old.ghost_name }
+    ensures least { IfOk result (λ set. (n : ℕ) → IsTrue (has set.members n)
+        ↔ Least (query_content query.entry) (has query.entry.initials) (by_links is_shipped query.entry.graph) n) }
+    ensures counted { IfOk result (λ _. CountsRun is_shipped query.entry lent.old.now.calls lent.new.now.calls) }
 {
     laws::visitor_agrees_by_answer::<&mut Shipped>();
-    let mut lent = visitor;
-    query.resolve_with(alloc, &mut lent)
+    laws::lent_visitor_stays::<Shipped>();
+    query.resolve_with(alloc, lent)
 }
 
 /// The same by a closure, which is a visitor without a name.

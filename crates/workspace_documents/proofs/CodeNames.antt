@@ -1,4 +1,4 @@
--- Names as code has them, byte by byte.
+-- The comparison of a name in code with a package's name, byte by byte.
 use Rattle.std.proofs.Common.{◌≡◌, ◌∙◌, ap, refl, ℕ, ◌+◌, ◌<◌, List, [], length, drop, get_or, Bool, true, false, ◌&&◌, add-one, inl, inr}
 use Rattle.std.specs.Prelude.{◌==◌}
 use Rattle.std.specs.Cmp.Lexicographic.{pointwise}

@@ -1,4 +1,4 @@
--- Each comparator of a requirement, by what its text reads to.
+-- The comparators of a parsed requirement.
 use Rattle.std.proofs.Common.{◌≡◌, ◌∙◌, sym, ap, List, map}
 use Rattle.std.specs.Prelude.{Result, Ok, Some}
 use Rattle.std.specs.List.{list_all}

@@ -1,4 +1,4 @@
--- Maps from ids, as what their entries tell.
+-- Maps from ids, by their entries: look-up, insertion, and reading one more item into them.
 use Rattle.std.proofs.Common.{◌≡◌, ◌∙◌, sym, ap, refl, ℕ, ◌+◌, ◌-◌, ◌<◌, ◌≤◌, arith, length-append, List, [], ◌∷◌, ◌++◌, reverse, length, drop, get_or, Bool, true, false, cond, add-one, drop-cons, Bor}
 use Rattle.std.specs.Prelude.{Option, Some, None, option_map, Result, Ok, Err, is_some}
 use Rattle.std.specs.Ordering.{nat_cmp, is_eq, match_ordering}
@@ -67,11 +67,11 @@ item_at vs i v within is =
     let d : drop i vs ≡ get_or vs i v ∷ drop (i + 1) vs = rw (add-one, drop-cons vs i v within) refl in
     rw d (ap (λ x. item (value_view x) (items_view (drop (i + 1) vs))) (sym is))
 
--- the last one, of a list that is read from its end
+-- the last value of a list is the first item of the reversed list
 pub item_last : (vs all : List (Value Global)) (v : Value Global) → all ≡ vs ++ v ∷ [] → items_view (reverse all) ≡ item (value_view v) (items_view (reverse vs))
 item_last vs all v e = ap (λ xs. items_view (reverse xs)) e ∙ ap items_view (reverse-append vs (v ∷ []))
 
--- what is left of a list that is read from its end, before its last one and after it
+-- popping the last value of a list that is read from its end: the items left before and after
 module _ {Y : Type 0} (read : ℕ → Json → Result (Text × Y) Refusal) (place : ℕ → Place) (count left : ℕ) (all vs : List (Value Global)) (v : Value Global) (is : all ≡ vs ++ v ∷ []) (within : length all ≤ count) (were : left ≡ length vs) where
   longer : length all ≡ length vs + 1
   longer = ap length is ∙ length-append vs (v ∷ [])
@@ -94,7 +94,7 @@ module _ {Y : Type 0} (read : ℕ → Json → Result (Text × Y) Refusal) (plac
 pub package_refused : (n : ℕ) (d : Json) (ds : Items) (xs : ById PackageText) (whole : Result (ById PackageText) Refusal) (e : Refusal) → whole ≡ each_by_id package_with_id place.Package n xs (item d ds) → IfNotMemory e (package_in n d ≡ Err e) → IfNotMemory e (whole ≡ Err e)
 package_refused n d ds xs whole e so refused = if_not_memory e (λ (q : package_in n d ≡ Err e). so ∙ rw q refl) refused
 
--- one more member
+-- one more member moves from the rest into the sorted map
 pub sorted_more : (vs : List (Bor Text × Value Global)) (i : ℕ) (v : Bor Text × Value Global) (w : Bor (Value Global)) (es new : List (Bor Text × Bor (Value Global))) (whole : ById Json) → i < length vs → v ≡ get_or vs i v → w.now ≡ v.1 → new ≡ insert_entry key_cmp es v.0 w → whole ≡ sorted (entries_view shown_value es) (members_view (drop i vs)) → whole ≡ sorted (entries_view shown_value new) (members_view (drop (i + 1) vs))
 sorted_more vs i v w es new whole within is here grown so =
     let d : drop i vs ≡ get_or vs i v ∷ drop (i + 1) vs = rw (add-one, drop-cons vs i v within) refl in

@@ -1,4 +1,4 @@
--- What is found among the used packages, one after the other.
+-- The search among used packages and the declarations that lead to one, step by step.
 use Rattle.std.proofs.Common.{◌≡◌, ◌∙◌, sym, ap, refl, ℕ, ◌+◌, ◌<◌, List, [], ◌∷◌, ◌++◌, map, length, take, drop, get_or, Bool, true, false, add-one, drop-cons}
 use Rattle.std.specs.Prelude.{filter, Result, Ok, Err, Some, None}
 use Rattle.std.proofs.lemmas.List.{take_more, map-append, append-nil}

@@ -10,29 +10,29 @@ use Rattle.workspace_documents.specs.Packages.{DeclarationText, PackageText}
 use Rattle.workspace_documents.specs.Nodes.{DepText}
 use Rattle.workspace_documents.specs.Requirements.{admits}
 
--- the name by which a declaration's package calls the dependency
+-- the name by which the declaring package calls the dependency: its new name, or the package's own if it has none
 abbrev pub name_of : DeclarationText → Text
 name_of d = elim d.rename as (λ _. Text) [ Some name ↦ name | None ↦ d.name ]
 
--- each `-` of a name made `_`, as in code
+-- `_` for `-`, as in code; any other byte unchanged
 abbrev pub in_code : ℕ → ℕ
 in_code byte = if byte == 45 then 95 else byte
 
--- whether both are as long, and each byte is the other one as code has it
+-- whether `name` is `plain` with `_` for each `-`
 unfoldable pub is_in_code : Text → Text → Bool
 is_in_code name plain = pointwise (λ a b. a == in_code b) name plain
 
--- the name that code calls a package by: the new one of the declaration, else its library's, else its own
+-- the name of a package in code: the declaration's new name if it has one, else its library's, else its own
 abbrev pub called : Option Text → PackageText → Text
 called (Some rename) p = rename
 called None p = elim p.library as (λ _. Text) [ Some library ↦ library | None ↦ p.name ]
 
--- The new name that a used package has in the code of the package with this id, if it has one. Cargo ignores the rename of a
--- package that depends on itself.
+-- The new name that a used package has in the code of package `id`, if it has one. Cargo ignores the rename of a package that
+-- depends on itself.
 abbrev pub rename_of : Text → DeclarationText → DepText → Option Text
 rename_of id d dep = if bytes_eq dep.target.id id then None else d.rename
 
--- whether the used package may be the one that the package with this id declares, by its names
+-- whether the used package has the name and the name in code that package `id` declares
 abbrev pub fits : Text → DeclarationText → DepText → Bool
 fits id d dep = bytes_eq dep.target.name d.name && is_in_code dep.extern_name (called (rename_of id d dep) dep.target)
 
@@ -47,11 +47,11 @@ same_platform None None = true
 same_platform (Some a) (Some b) = bytes_eq a b
 same_platform _ _ = false
 
--- whether the package is used for the kind and the platform of the declaration
+-- whether one of the package's uses has the kind and the platform of the declaration
 abbrev pub is_used : DeclarationText → DepText → Bool
 is_used d dep = list_any (λ u. same_kind u.kind d.kind && same_platform u.platform d.platform) dep.uses
 
--- whether the declaration's requirement admits the package
+-- whether the declaration's requirement admits the package's version
 abbrev pub is_admitted : DeclarationText → DepText → Bool
 is_admitted d dep = admits d.requirement dep.target.version
 
@@ -66,7 +66,7 @@ found_of [] = nothing
 found_of (p ∷ []) = one p
 found_of (p ∷ q ∷ ps) = several
 
--- what is found among the used packages that fit the declaration and pass a test
+-- the used packages that fit the declaration and pass the test: none, one or several
 unfoldable pub pick : (DeclarationText → DepText → Bool) → Text → DeclarationText → List DepText → FoundPackage
 pick test id d deps = found_of (map (λ dep. dep.target) (filter (λ dep. fits id d dep && test d dep) deps))
 
@@ -81,12 +81,12 @@ choice_of true nothing by_version by_both = by_version
 choice_of false nothing by_version by_both = nothing
 choice_of optional several by_version by_both = if_nothing by_both several
 
--- What a declaration of the package with this id leads to: the package that is used for it. Where several are, the
--- requirement decides; where none is, it decides for an optional dependency alone.
+-- The package that is used for a declaration of package `id`. Among several, the requirement decides. If none is used, the
+-- requirement decides for an optional dependency, and any other has no package.
 abbrev pub choice : Text → DeclarationText → List DepText → FoundPackage
 choice id d deps = choice_of d.is_optional (pick is_used id d deps) (pick is_admitted id d deps) (pick (λ e dep. is_used e dep && is_admitted e dep) id d deps)
 
--- the same as a package, or nothing, or the fault that the declaration of the package with this id is ambiguous
+-- the package, if there is one; several are the fault that the declaration is ambiguous
 abbrev pub led_to : Text → Text → FoundPackage → Result (Option PackageText) Refusal
 led_to id name nothing = Ok None
 led_to id name (one p) = Ok (Some p)
@@ -95,7 +95,7 @@ led_to id name several = Err (ambiguous id name)
 unfoldable pub target_of : Text → DeclarationText → List DepText → Result (Option PackageText) Refusal
 target_of id d deps = led_to id d.name (choice id d deps)
 
--- a declaration, and the package that it leads to
+-- a declaration and the package that it leads to
 pub record DependencyText : Type 0 where
   pub declaration : DeclarationText
   pub target : PackageText
@@ -104,7 +104,7 @@ abbrev pub with_target : DeclarationText → Option PackageText → List Depende
 with_target d None rest = rest
 with_target d (Some p) rest = record { declaration = d; target = p } ∷ rest
 
--- the declarations that lead to a package, in their order
+-- the declarations that lead to a package, in their order, or the first fault
 abbrev pub led : Text → List DepText → List DeclarationText → Result (List DependencyText) Refusal
 led id deps [] = Ok []
 led id deps (d ∷ ds) = target_of id d deps >>= λ target. led id deps ds >>= λ rest. Ok (with_target d target rest)
@@ -112,7 +112,7 @@ led id deps (d ∷ ds) = target_of id d deps >>= λ target. led id deps ds >>= �
 unfoldable pub dependencies_of : PackageText → List DepText → Result (List DependencyText) Refusal
 dependencies_of p deps = led p.id deps p.declarations
 
--- whether the other one leads to the same package by another name
+-- whether `b` leads to the same package as `a` by another name
 abbrev pub is_other_name : DependencyText → DependencyText → Bool
 is_other_name a b = bytes_eq b.target.id a.target.id && not (bytes_eq (name_of b.declaration) (name_of a.declaration))
 
@@ -120,7 +120,7 @@ abbrev pub agrees : Text → DependencyText → Option DependencyText → Result
 agrees id a None = Ok tt
 agrees id a (Some b) = Err (two_names id a.target.id (name_of a.declaration) (name_of b.declaration))
 
--- each of these has no other name among all, or the first fault
+-- none of these has another name among `all`, or the first fault
 abbrev pub agree : Text → List DependencyText → List DependencyText → Result ⊤ Refusal
 agree id all [] = Ok tt
 agree id all (a ∷ rest) = agrees id a (find (is_other_name a) all) >>= λ _. agree id all rest

@@ -1,4 +1,4 @@
--- Lists of the document, read item by item, and what has an id.
+-- Lists of the document, read item by item, and values by their ids.
 use Rattle.std.specs.Prelude.{ℕ, ◌+◌, List, [], ◌∷◌, ◌++◌, Option, Some, None, Result, Ok, Err, is_some, if◌then◌else◌}
 use Rattle.std.specs.Ordering.{nat_cmp}
 use Rattle.std.specs.Cmp.Lexicographic.{slice_cmp}
@@ -10,17 +10,17 @@ use Rattle.json.specs.Json.{Json, Items, no_items, item}
 use Rattle.cargo_documents.specs.declared.fault.Place.{Place}
 use Rattle.cargo_documents.specs.Faults.{Text, Refusal, repeated, ◌>>=◌}
 
--- what is read of each item, by its place, from place n on; or the first fault
+-- each item as `read` reads it, with places from `n` on; or the first fault
 abbrev pub each : {X : Type 0} → (ℕ → Json → Result X Refusal) → ℕ → Items → Result (List X) Refusal
 each read n no_items = Ok []
 each read n (item d ds) = read n d >>= λ x. each read (n + 1) ds >>= λ xs. Ok (x ∷ xs)
 
--- what is told of each, joined; or the first fault
+-- the texts of the items, joined; or the first fault
 abbrev pub joined : {X : Type 0} → (X → Result Text Refusal) → List X → Result Text Refusal
 joined told [] = Ok []
 joined told (x ∷ xs) = told x >>= λ first. joined told xs >>= λ rest. Ok (first ++ rest)
 
--- the first that is there
+-- the first value that isn't missing
 abbrev pub first_some : {X : Type 0} → List (Option X) → Option X
 first_some [] = None
 first_some (None ∷ xs) = first_some xs
@@ -36,7 +36,8 @@ id_cmp = slice_cmp nat_cmp
 abbrev pub at_id : {X : Type 0} → Text → ById X → Option X
 at_id id xs = lookup (bytes_eq id) xs
 
--- those so far, and what is read of each item, from place n on; the fault where an id comes again is of its item
+-- `xs` and each item as `read` reads it, with places from `n` on; or the first fault. An id that is repeated is a fault of the
+-- later item.
 abbrev pub each_by_id : {X : Type 0} → (ℕ → Json → Result (Text × X) Refusal) → (ℕ → Place) → ℕ → ById X → Items → Result (ById X) Refusal
 each_by_id read place n xs no_items = Ok xs
 each_by_id read place n xs (item d ds) =

@@ -1,4 +1,4 @@
--- The members of the workspace, and what each package uses.
+-- The members of the workspace, and the packages that each package uses.
 use Rattle.std.specs.Prelude.{ℕ, List, [], ◌∷◌, codes, Option, Some, None, Result, Ok, Err, option_and_then, ⊤}
 use Rattle.std.specs.Option.{unwrap_or}
 use Rattle.json.specs.Json.{Json, null, boolean, number, string, array, object}
@@ -11,7 +11,7 @@ use Rattle.workspace_documents.specs.Lists.{each, ById, at_id, each_by_id}
 use Rattle.workspace_documents.specs.Packages.{UseText, use_in, PackageText}
 use Rattle.workspace_documents.specs.Targets.{texts_at}
 
--- the package of this id, or the fault that there is none, of the field that has the id
+-- the package that was found, or the fault that no package has the `id` in the field `name`
 abbrev pub found_or : {X : Type 0} → Place → Text → Text → Option X → Result X Refusal
 found_or at name id (Some p) = Ok p
 found_or at name id None = Err (no_package at name id)
@@ -25,7 +25,7 @@ pub record DepText : Type 0 where
   pub target : PackageText
   pub uses : List UseText
 
--- the used package that the object at place i of node n is
+-- the used package at place `i` of node `n`, or its first fault
 unfoldable pub dep_in : ById PackageText → ℕ → ℕ → Json → Result DepText Refusal
 dep_in packages n i d =
     text_in (place.Dep n i) (codes "name") d >>= λ extern_name.
@@ -35,12 +35,12 @@ dep_in packages n i d =
     each (λ k. use_in (place.DepKind n i k)) 0 kinds >>= λ uses.
     Ok (record { extern_name = extern_name; target = target; uses = uses })
 
--- what Cargo resolved for a package: the enabled features, and the used packages
+-- the node of a package: its enabled features and the packages that it uses
 pub record NodeText : Type 0 where
   pub features : List Text
   pub deps : List DepText
 
--- the node that stands for a missing one
+-- the empty node, for a package that has none
 abbrev pub no_node : NodeText
 no_node = record { features = []; deps = [] }
 
@@ -53,7 +53,7 @@ node_in packages n d =
     each (dep_in packages n) 0 objects >>= λ deps.
     Ok (id, record { features = texts_at (codes "features") d; deps = deps })
 
--- `resolve` is null if the document was made with --no-deps
+-- null is a fault: `resolve` is null if the document was made with --no-deps
 abbrev pub with_deps : Json → Result ⊤ Refusal
 with_deps null = Err no_deps
 with_deps (boolean b) = Ok tt

@@ -15,7 +15,7 @@ use Rattle.cargo_workspaces.specs.Workspaces.{FeatureText, TargetText, is_librar
 use Rattle.workspace_documents.specs.Targets.{text_at, targets_in}
 use Rattle.workspace_documents.specs.Lists.{each, first_some, ById, id_cmp, each_by_id}
 
--- the kind that a text names; null is the normal one
+-- the kind that a text names; null is the normal kind
 abbrev pub kind_of : Place → Option Text → Result Kind Refusal
 kind_of at None = Ok kind.Normal
 kind_of at (Some s) = if bytes_eq s (codes "build") then Ok kind.Build else (if bytes_eq s (codes "dev") then Ok kind.Development else Err (bad_field at (codes "kind")))
@@ -23,7 +23,7 @@ kind_of at (Some s) = if bytes_eq s (codes "build") then Ok kind.Build else (if 
 abbrev pub kind_in : Place → Json → Result Kind Refusal
 kind_in at d = optional_text_in at (codes "kind") d >>= kind_of at
 
--- The platform that a text names; null is every one. The text `*` is refused, since in a row it is every platform.
+-- The platform that a text names; null is every platform. The text `*` is a fault, since a row writes it for every platform.
 abbrev pub platform_of : Place → Option Text → Result (Option Text) Refusal
 platform_of at None = Ok None
 platform_of at (Some s) = if bytes_eq s (codes "*") then Err (every_platform at) else Ok (Some s)
@@ -77,7 +77,7 @@ declaration_in at d =
     texts_in at (codes "features") d >>= λ features.
     Ok (record { name = w.0; rename = w.1.0; requirement = w.1.1; kind = u.kind; platform = u.platform; is_optional = flags.0; has_default_features = flags.1; features = features })
 
--- those so far, and the members, in the order of their names' bytes; of one name the last one
+-- `xs` and the members, in the order of their names' bytes; of a repeated name the last value
 abbrev pub sorted : ById Json → Members → ById Json
 sorted xs no_members = xs
 sorted xs (member name j ms) = sorted (insert_entry id_cmp xs name j) ms
@@ -97,7 +97,7 @@ library_in at d =
     texts_in at (codes "kind") d >>= λ kinds.
     Ok (if list_any is_library_kind kinds then Some name else None)
 
--- the name of the first of a package's targets that is a library, or the first fault of any of them
+-- the name of the first library among the targets of package `n`, or the first fault of any target
 unfoldable pub first_library : ℕ → Items → Result (Option Text) Refusal
 first_library n objects = each (λ i. library_in (place.Target n i)) 0 objects >>= λ names. Ok (first_some names)
 
@@ -141,10 +141,10 @@ package_in n d =
 abbrev pub package_with_id : ℕ → Json → Result (Text × PackageText) Refusal
 package_with_id n d = package_in n d >>= λ p. Ok (p.id, p)
 
--- the packages that a value lists, by their ids
+-- the packages in an array, by their ids, or the first fault
 unfoldable pub packages_at : Option Json → Result (ById PackageText) Refusal
 packages_at found = wanted place.Document (codes "packages") (option_and_then as_array found) >>= each_by_id package_with_id place.Package 0 []
 
--- the packages of the document
+-- the packages of the document, by their ids, or the first fault
 unfoldable pub packages_in : Json → Result (ById PackageText) Refusal
 packages_in d = packages_at (get (codes "packages") d)

@@ -14,7 +14,7 @@ plain_version v = (v.0, v.1, v.2, [], [])
 abbrev pub plain_comparator : Held → Held
 plain_comparator c = (c.0, c.1, c.2, c.3, [])
 
--- a version's numbers; nothing, where the text is no version
+-- the three numbers of a version, or nothing if the text isn't a version
 abbrev pub numbers_in : Result Parts Error → Option Parts
 numbers_in (Ok v) = Some (plain_version v)
 numbers_in (Err e) = None
@@ -24,6 +24,6 @@ admits_numbers cs None = false
 admits_numbers (Ok cs) (Some v) = list_all (λ c. matches_view (plain_comparator c) v) cs
 admits_numbers (Err e) (Some v) = false
 
--- Each comparator of the requirement admits the version. A text that is no requirement, or no version, admits nothing.
+-- Whether each comparator of the requirement admits the version. False if either text is invalid.
 abbrev pub admits : Text → Text → Bool
 admits requirement version = admits_numbers (req_of requirement) (numbers_in (version_parts version))

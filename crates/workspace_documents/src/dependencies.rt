@@ -1,4 +1,4 @@
-//! The package that each declaration leads to.
+//! Finds the package that each declaration leads to.
 ghost use Rattle.std.specs.Prelude.{◌≡◌, IfOk, map, option_map, string_bytes};
 ghost use Rattle.std.specs.List.{find};
 ghost use Rattle.cargo_documents.specs.Faults.{Gives, refusal_of};
@@ -14,7 +14,7 @@ use cargo_documents::DocumentFault;
 use cargo_workspaces::Kind;
 use std::alloc::{AllocError, Global};
 
-/// A declaration, and the package that it leads to.
+/// A declaration and the package that it leads to.
 #[derive(Clone, Copy)]
 pub struct Dependency<'p, 'v> {
     pub declaration: &'p Declaration<'v>,
@@ -43,14 +43,14 @@ pub fn name_of<'v>(declaration: &Declaration<'v>) -> &'v str
     }
 }
 
-/// A byte of a name as code has it.
+/// Returns `_` for `-`, as Rust code spells a package's name, and any other byte unchanged.
 fn in_code(byte: u8) -> u8
     ensures { result ≡ spec.in_code byte }
 {
     if byte == b'-' { b'_' } else { byte }
 }
 
-/// Whether both are as long, and each byte is the other one as code has it.
+/// Returns whether `given` is `plain` with `_` for each `-`.
 #[tactic(auto, using(crate::proofs::CodeNames::in_code_same, crate::proofs::CodeNames::in_code_other, crate::proofs::CodeNames::in_code_long, crate::proofs::CodeNames::in_code_end))]
 fn is_in_code(given: &[u8], plain: &[u8]) -> bool
     ensures { result ≡ spec.is_in_code given.now plain.now }
@@ -66,7 +66,7 @@ fn is_in_code(given: &[u8], plain: &[u8]) -> bool
     true
 }
 
-/// The name that code calls a package by: the new one of the declaration, else its library's, else its own.
+/// Returns the name of `package` in code: `rename` if there is one, else its library's name, else its own.
 fn called<'v>(rename: Option<&'v str>, package: &Package<'v>) -> &'v str
     ensures { result.now ≡ spec.called (option_map text_view rename.entry) (package_view «package».now) }
 {
@@ -77,8 +77,8 @@ fn called<'v>(rename: Option<&'v str>, package: &Package<'v>) -> &'v str
     }
 }
 
-/// Returns the new name that `dep` has in the code of the package `owner`, if it has one. Cargo ignores the rename of a package that
-/// depends on itself.
+/// Returns the new name that `dep` has in the code of the package `owner`, if it has one. Cargo ignores the rename of a package
+/// that depends on itself.
 fn rename_of<'v>(owner: &str, declaration: &Declaration<'v>, dep: &Dep<'_, '_>) -> Option<&'v str>
     ensures { option_map text_view result ≡ spec.rename_of owner.now (declaration_view declaration.now) (dep_view dep.now) }
 {
@@ -100,7 +100,7 @@ fn fits(owner: &str, declaration: &Declaration<'_>, dep: &Dep<'_, '_>) -> bool
         )
 }
 
-/// Whether both kinds are the same.
+/// Returns whether `one` and `other` are the same kind.
 fn same_kind(one: Kind, other: Kind) -> bool
     ensures { result ≡ spec.same_kind one other }
 {
@@ -112,7 +112,7 @@ fn same_kind(one: Kind, other: Kind) -> bool
     )
 }
 
-/// Whether both are every platform, or the same one.
+/// Returns whether `one` and `other` are the same platform, or both every platform.
 fn same_platform(one: Option<&str>, other: Option<&str>) -> bool
     ensures { result ≡ spec.same_platform (option_map text_view one.entry) (option_map text_view other.entry) }
 {
@@ -123,7 +123,7 @@ fn same_platform(one: Option<&str>, other: Option<&str>) -> bool
     }
 }
 
-/// Whether the package is used for the kind and the platform of the declaration.
+/// Returns whether `dep` is used for the kind and the platform of `declaration`.
 fn is_used(declaration: &Declaration<'_>, dep: &Dep<'_, '_>) -> bool
     ensures { result ≡ spec.is_used (declaration_view declaration.now) (dep_view dep.now) }
 {
@@ -137,18 +137,18 @@ fn is_used(declaration: &Declaration<'_>, dep: &Dep<'_, '_>) -> bool
     false
 }
 
-/// What is asked of a package that fits a declaration by its names.
+/// The further condition for a used package that fits a declaration by its names.
 #[derive(Clone, Copy)]
 pub(crate) enum Asked {
-    /// That it is used for the declaration's kind and platform.
+    /// The package is used for the declaration's kind and platform.
     Use,
-    /// That the declaration's requirement admits its version.
+    /// The declaration's requirement admits the package's version.
     Version,
-    /// Both.
+    /// Both conditions.
     Both,
 }
 
-/// Whether what is asked holds of a used package.
+/// Returns whether the condition `asked` holds for `dep`. The only error is out of memory.
 fn answers(
     alloc: Global,
     asked: Asked,
@@ -170,7 +170,7 @@ fn answers(
     }
 }
 
-/// Returns whether the used package fits the declaration and the further condition holds.
+/// Returns whether `dep` fits `declaration` by its names and the condition `asked` holds. The only error is out of memory.
 #[tactic(auto, unfolding(crate::specs::inner::Picks::meets))]
 fn meets(
     alloc: Global,
@@ -188,7 +188,7 @@ fn meets(
     }
 }
 
-/// What was found among packages.
+/// The result of a search among packages: none, one or several.
 #[derive(Clone, Copy)]
 pub enum Found<'p, 'v> {
     Nothing,
@@ -197,7 +197,7 @@ pub enum Found<'p, 'v> {
 }
 
 impl<'p, 'v> Found<'p, 'v> {
-    /// What was found, with one more package.
+    /// Returns the result with `package` added.
     fn with(self, package: &'p Package<'v>) -> Found<'p, 'v>
         ensures { picks.found_view result ≡ picks.with_one (picks.found_view self.entry) (package_view «package».now) }
     {
@@ -208,7 +208,7 @@ impl<'p, 'v> Found<'p, 'v> {
     }
 }
 
-/// What was found, with one more used package where it meets what is asked.
+/// Returns `found` with the target of `dep` added if `dep` meets `declaration` and `asked`. The only error is out of memory.
 fn and_one<'p, 'v>(
     alloc: Global,
     asked: Asked,
@@ -226,7 +226,7 @@ fn and_one<'p, 'v>(
     }
 }
 
-/// What is found among the used packages.
+/// Searches `deps` for the packages that fit `declaration` and meet `asked`. The only error is out of memory.
 #[tactic(auto, using(crate::proofs::Picks::pick_none, crate::proofs::Picks::pick_step))]
 fn pick<'p, 'v>(
     alloc: Global,
@@ -270,7 +270,7 @@ pub fn choice<'p, 'v>(
     }
 }
 
-/// The fault that more than one package meets a declaration.
+/// Returns the fault `Ambiguous` for the declaration `name` of the package `package`.
 fn ambiguous(alloc: Global, package: &str, name: &str) -> Result<DocumentFault, AllocError>
     ensures { IfOk result (λ e. refusal_of e ≡ fault.ambiguous «package».now name.now) }
 {
@@ -280,7 +280,7 @@ fn ambiguous(alloc: Global, package: &str, name: &str) -> Result<DocumentFault, 
     })
 }
 
-/// The package that the declaration leads to, where there is one.
+/// Returns the package that `declaration` of the package `id` leads to, if there is one. Returns `Ambiguous` if there are several.
 #[tactic(auto, unfolding(crate::specs::Dependencies::target_of))]
 pub(crate) fn target_of<'p, 'v>(
     alloc: Global,
@@ -297,7 +297,8 @@ pub(crate) fn target_of<'p, 'v>(
     }
 }
 
-/// The declarations of the package that lead to one, in their order.
+/// Returns the declarations of `package` that lead to a package, in their order. Returns `Ambiguous` for the first declaration that
+/// leads to several.
 #[tactic(auto, unfolding(crate::specs::Dependencies::dependencies_of))]
 pub fn dependencies_of<'p, 'v>(
     alloc: Global,
@@ -318,7 +319,7 @@ pub fn dependencies_of<'p, 'v>(
     Ok(dependencies)
 }
 
-/// The fault that a dependency has two names.
+/// Returns the fault `TwoNames` for `one` and `other`, which lead from `package` to the same package.
 fn two_names(
     alloc: Global,
     package: &str,
@@ -335,7 +336,7 @@ fn two_names(
     })
 }
 
-/// One of these that leads to the same package by another name.
+/// Returns the first of `dependencies` that leads to the same package as `one` by another name.
 fn other_name<'a, 'p, 'v>(
     dependencies: &'a [Dependency<'p, 'v>],
     one: &Dependency<'p, 'v>,

@@ -26,7 +26,7 @@ pub struct Dep<'p, 'v> {
     pub uses: Vec<Use<'v>>,
 }
 
-/// What Cargo resolved for one package.
+/// The node of one package in Cargo's resolution.
 #[derive(Drop)]
 pub struct Node<'p, 'v> {
     /// The enabled features.
@@ -61,7 +61,7 @@ pub struct Resolved<'p, 'v> {
     pub nodes: Nodes<'p, 'v>,
 }
 
-/// The fault that no package has this id.
+/// Returns the fault `NoPackage` for `id`, read from the field `name` at `place`.
 fn no_package(
     alloc: Global,
     place: Place,
@@ -106,7 +106,8 @@ fn uses_of<'v>(
     Ok(uses)
 }
 
-/// One package that the node of this place uses.
+/// Reads the used package `object` at place `dep` of `node`. Returns its first fault, or `NoPackage` if its id isn't in
+/// `packages`.
 #[tactic(auto, unfolding(crate::specs::Nodes::dep_in))]
 fn dep_of<'p, 'v>(
     alloc: Global,
@@ -130,7 +131,7 @@ fn dep_of<'p, 'v>(
     })
 }
 
-/// The packages that the node of this place uses.
+/// Reads the packages `objects` that the node at place `node` uses, or returns the first fault.
 fn deps_of<'p, 'v>(
     alloc: Global,
     packages: &'p Packages<'v>,
@@ -165,7 +166,7 @@ fn node_of<'p, 'v>(
     Ok((id, Node { features, deps }))
 }
 
-/// Refuses a document that was made with `--no-deps`, in which `resolve` is null.
+/// Returns `NoDeps` if `resolve` is null, as in a document that was made with `--no-deps`.
 fn check_deps(resolve: &Value<'_>) -> Result<(), DocumentFault>
     ensures { Gives (λ _. tt) result (spec.with_deps (value_view resolve.now)) }
 {

@@ -29,7 +29,7 @@ pub struct Use<'v> {
     pub platform: Option<&'v str>,
 }
 
-/// One dependency that a package declares.
+/// A dependency that a package declares.
 #[derive(Drop)]
 pub struct Declaration<'v> {
     pub name: &'v str,
@@ -42,7 +42,7 @@ pub struct Declaration<'v> {
     pub features: Vec<&'v str>,
 }
 
-/// One package.
+/// A package of the document.
 #[derive(Drop)]
 pub struct Package<'v> {
     pub id: &'v str,
@@ -61,7 +61,7 @@ pub struct Package<'v> {
 /// Packages by their ids.
 pub type Packages<'v> = BTreeMap<&'v str, Package<'v>>;
 
-/// The kind that a text names, in the object of this place.
+/// Returns the kind `build` or `dev` that `text` names. Any other text is a fault of the field `kind` at `place`.
 fn kind_named(text: &str, place: Place) -> Result<Kind, DocumentFault>
     ensures { Gives (λ k. k) result (spec.kind_of place (Some text.now)) }
 {
@@ -77,7 +77,7 @@ fn kind_named(text: &str, place: Place) -> Result<Kind, DocumentFault>
     }
 }
 
-/// The field `kind` of a declaration or of a way in which a dependency is used.
+/// Reads the field `kind` of a declaration or of a use. Null is the normal kind. Returns `Field` if the text is no kind.
 pub(crate) fn kind_in(object: &Value<'_>, place: Place) -> Result<Kind, DocumentFault>
     ensures { Gives (λ k. k) result (spec.kind_in place (value_view object.now)) }
 {
@@ -87,7 +87,7 @@ pub(crate) fn kind_in(object: &Value<'_>, place: Place) -> Result<Kind, Document
     }
 }
 
-/// Returns the platform `text`. The text `*` is refused, because a row uses it for every platform.
+/// Returns the platform `text`. Returns `EveryPlatform` for `*`, since a row writes `*` for every platform.
 fn platform_named<'v>(text: &'v str, place: Place) -> Result<Option<&'v str>, DocumentFault>
     ensures { Gives (λ o. option_map text_view o) result (spec.platform_of place (Some text.now)) }
 {
@@ -98,7 +98,7 @@ fn platform_named<'v>(text: &'v str, place: Place) -> Result<Option<&'v str>, Do
     }
 }
 
-/// Reads the field `target` of a declaration or of a use. None means every platform.
+/// Reads the field `target` of a declaration or of a use. None is every platform. Returns `EveryPlatform` for the text `*`.
 pub(crate) fn platform_in<'v>(
     object: &Value<'v>,
     place: Place,
@@ -173,7 +173,7 @@ fn declaration_of<'v>(
     })
 }
 
-/// The declarations of the package of this place.
+/// Reads the declarations `objects` of the package at place `package`, or returns the first fault.
 fn declarations_of<'v>(
     alloc: Global,
     objects: &Vec<Value<'v>>,
@@ -192,7 +192,7 @@ fn declarations_of<'v>(
     Ok(declarations)
 }
 
-/// The members of an object, in the order of their names; of one name the last one.
+/// Returns `members` in the order of their names. If a name is repeated, its last value is kept. The only error is out of memory.
 fn sorted<'d, 'v>(
     alloc: Global,
     members: &'d Vec<(&'v str, Value<'v>)>,
@@ -240,7 +240,7 @@ fn features_of<'v>(
     Ok(features)
 }
 
-/// Whether targets of this kind are linked into the packages that depend on theirs.
+/// Returns whether `kind` is the kind of a library target.
 fn is_library_kind(kind: &str) -> bool
     ensures { result ≡ is_library_kind kind.now }
 {
@@ -250,7 +250,7 @@ fn is_library_kind(kind: &str) -> bool
     )
 }
 
-/// Whether one of the kinds is a library's.
+/// Returns whether one of `kinds` is the kind of a library target.
 fn has_library_kind(kinds: &[&str]) -> bool
     ensures { result ≡ list_any is_library_kind (map text_view kinds.now) }
 {
@@ -262,7 +262,7 @@ fn has_library_kind(kinds: &[&str]) -> bool
     false
 }
 
-/// The name of the target, where it is a library.
+/// Returns the name of the target `object` if it is a library, or its first fault.
 #[tactic(auto, unfolding(crate::specs::Packages::library_in))]
 fn library_of<'v>(
     alloc: Global,
@@ -280,7 +280,7 @@ fn library_of<'v>(
     }
 }
 
-/// The name of the first target that is a library, of the package of this place.
+/// Returns the name of the first library among the targets of the package at place `package`, or the first fault of any target.
 #[tactic(auto, unfolding(crate::specs::Packages::first_library))]
 fn first_library<'v>(
     alloc: Global,
@@ -362,7 +362,7 @@ fn package_of<'v>(
     })
 }
 
-/// One package, of an object that is dropped then.
+/// Reads a package as `package_of` does, and drops `object`.
 fn package_from<'v>(
     alloc: Global,
     object: Value<'v>,
@@ -374,7 +374,8 @@ fn package_from<'v>(
     Ok(read)
 }
 
-/// The packages that a document lists, by their ids. Each is dropped from the document once it is read.
+/// Reads the packages in `listed`, by their ids, and drops each object once it is read. Returns `Field` if `listed` isn't an
+/// array, otherwise the first fault of a package, or `Repeated` for an id that an earlier package has.
 #[tactic(auto, unfolding(crate::specs::Packages::packages_at))]
 pub fn packages_of<'v>(
     alloc: Global,

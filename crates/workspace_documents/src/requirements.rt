@@ -1,4 +1,4 @@
-//! Which versions a requirement admits.
+//! Tests whether a version requirement admits a version.
 ghost use Rattle.std.specs.Prelude.{◌≡◌, Some, IfOk, option_map};
 ghost use Rattle.std.specs.List.{list_all};
 ghost use Rattle.semver.specs.Identifiers.{comparator_view, parts_of};
@@ -9,7 +9,7 @@ ghost use Rattle.workspace_documents.specs.Requirements.{plain_comparator, plain
 use semver::{Comparator, Error, Prerelease, Version, VersionReq};
 use std::alloc::{AllocError, Global};
 
-/// Whether the comparator admits the version, with its pre-release left out.
+/// Returns whether `comparator`, without its pre-release, admits `version`.
 fn admits_plainly(comparator: &Comparator, version: &Version) -> bool
     ensures { result ≡ matches_view (plain_comparator (comparator_view comparator.now)) (parts_of version.now) }
 {
@@ -23,7 +23,8 @@ fn admits_plainly(comparator: &Comparator, version: &Version) -> bool
     plain.matches(version)
 }
 
-/// The numbers of a version, with its pre-release left out; None where the text is no version.
+/// Parses `text` as a version, without its pre-release and build metadata; None if it isn't a version. The only error is out of
+/// memory.
 fn numbers_of(alloc: Global, text: &str) -> Result<Option<Version>, AllocError>
     ensures { IfOk result (λ found. option_map parts_of found ≡ numbers_in (version_parts text.now)) }
 {
@@ -34,7 +35,7 @@ fn numbers_of(alloc: Global, text: &str) -> Result<Option<Version>, AllocError>
     }
 }
 
-/// Whether each comparator admits the version, with pre-releases left out.
+/// Returns whether every comparator of `requirement`, without its pre-release, admits `version`.
 fn admits_each(requirement: &VersionReq, version: &Version) -> bool
     ensures { result ≡ list_all (λ c. matches_view (plain_comparator (comparator_view c)) (parts_of version.now)) requirement.now.comparators.items }
 {
@@ -44,7 +45,8 @@ fn admits_each(requirement: &VersionReq, version: &Version) -> bool
         .all(|comparator| admits_plainly(comparator, version))
 }
 
-/// Whether the requirement admits the version, with pre-releases left out. A text that is no requirement admits nothing.
+/// Returns whether `requirement`, without pre-releases, admits `version`. A text that isn't a requirement admits nothing. The
+/// only error is out of memory.
 fn admits_version(alloc: Global, requirement: &str, version: &Version) -> Result<bool, AllocError>
     ensures { IfOk result (λ b. b ≡ admits_numbers (req_of requirement.now) (Some (parts_of version.now))) }
 {
@@ -55,8 +57,8 @@ fn admits_version(alloc: Global, requirement: &str, version: &Version) -> Result
     }
 }
 
-/// Whether the requirement admits the version, with pre-releases left out on both sides. A text that is no
-/// requirement, or no version, admits nothing.
+/// Returns whether `requirement` admits `version`, both without their pre-releases. A text that isn't a requirement admits
+/// nothing, and nothing admits a text that isn't a version. The only error is out of memory.
 pub(crate) fn admits(alloc: Global, requirement: &str, version: &str) -> Result<bool, AllocError>
     ensures { IfOk result (λ b. b ≡ admits requirement.now version.now) }
 {

@@ -2,6 +2,7 @@
 use Rattle.std.specs.Prelude.{◌≡◌, ◌≢◌, ℕ, ◌+◌, ◌<◌, ◌≤◌, ◌⊎◌, Bool, true, false, ◌||◌, ◌==◌, not, List, [], ◌∷◌, length, map, nat_lt, set, take, drop, slice_index, slice_index_or, Contains}
 use Rattle.guppy_support.specs.declared.digraph.Edge.{Edge}
 use Rattle.guppy_support.specs.Graph.{Graph, IsDigraph, sources, targets}
+use Rattle.guppy_support.specs.Bits.{members}
 use Rattle.guppy_support.specs.Rows.{places}
 use Rattle.digraph_orders.specs.inner.Ranks.{IsRanking}
 use Rattle.digraph_orders.specs.inner.Widths.{IsNarrow}
@@ -135,7 +136,7 @@ abbrev pub rest_of : List ℕ → ℕ → Plan → List ℕ
 rest_of ranks c p = drop p.next (places c ranks)
 
 abbrev pub IsAtIn : Graph → List ℕ → ℕ → ℕ → Plan → Type 0
-IsAtIn g ranks node place p = IsAt g ranks node place p.listed.items p.done p.outside.items p.held.items p.starts p.ready (rest_of ranks (slice_index ranks node) p)
+IsAtIn g ranks node place p = IsAt g ranks node place p.listed.items p.done p.outside.items p.held.items (members p.starts) (members p.ready) (rest_of ranks (slice_index ranks node) p)
 
 -- The state between two nodes of component `c`.
 pub record IsWithin (g : Graph) (ranks : List ℕ) (c : ℕ) (listed : List ℕ) (done : List Bool) (outside held starts ready rest : List ℕ) : Type 0 where
@@ -143,7 +144,7 @@ pub record IsWithin (g : Graph) (ranks : List ℕ) (c : ℕ) (listed : List ℕ)
   pub run : IsRun g ranks done held ready rest c
 
 abbrev pub IsWithinIn : Graph → List ℕ → ℕ → Plan → Type 0
-IsWithinIn g ranks c p = IsWithin g ranks c p.listed.items p.done p.outside.items p.held.items p.starts p.ready (rest_of ranks c p)
+IsWithinIn g ranks c p = IsWithin g ranks c p.listed.items p.done p.outside.items p.held.items (members p.starts) (members p.ready) (rest_of ranks c p)
 
 -- `v` is next to be listed, and it is removed from the queues.
 pub record IsChosen (g : Graph) (ranks : List ℕ) (v : ℕ) (listed : List ℕ) (done : List Bool) (outside held starts ready rest : List ℕ) : Type 0 where
@@ -155,7 +156,7 @@ pub record IsChosen (g : Graph) (ranks : List ℕ) (v : ℕ) (listed : List ℕ)
   pub run : IsRun g ranks (set done v true) held ready rest (slice_index ranks v)
 
 abbrev pub IsChosenIn : Graph → List ℕ → ℕ → Plan → Type 0
-IsChosenIn g ranks v p = IsChosen g ranks v p.listed.items p.done p.outside.items p.held.items p.starts p.ready (rest_of ranks (slice_index ranks v) p)
+IsChosenIn g ranks v p = IsChosen g ranks v p.listed.items p.done p.outside.items p.held.items (members p.starts) (members p.ready) (rest_of ranks (slice_index ranks v) p)
 
 -- The state between two components.
 pub record IsPause (g : Graph) (ranks listed : List ℕ) (done : List Bool) (outside held starts : List ℕ) : Type 0 where
@@ -163,7 +164,12 @@ pub record IsPause (g : Graph) (ranks listed : List ℕ) (done : List Bool) (out
   pub whole : (c : ℕ) → IsWholeBut g ranks done c
 
 abbrev pub IsPauseIn : Graph → List ℕ → Plan → Type 0
-IsPauseIn g ranks p = IsPause g ranks p.listed.items p.done p.outside.items p.held.items p.starts × (p.ready ≡ [])
+IsPauseIn g ranks p = IsPause g ranks p.listed.items p.done p.outside.items p.held.items (members p.starts) × (members p.ready ≡ [])
+
+-- Both queues have room for each node that `held` counts.
+pub record HasRoom (p : Plan) : Type 0 where
+  pub starts : length p.held.items ≤ length p.starts
+  pub ready : length p.held.items ≤ length p.ready
 
 -- `ready` has exactly the nodes of component `c` that aren't held; `v` may be missing.
 pub record AreReadyBut (n : ℕ) (ranks held : List ℕ) (c v : ℕ) (ready : List ℕ) : Type 0 where

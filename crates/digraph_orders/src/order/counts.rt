@@ -1,10 +1,11 @@
 //! Counts made before the first node is listed: the edges that enter each component, and those that hold each
 //! node.
-ghost use Rattle.std.specs.Prelude.{◌≡◌, ◌≢◌, ℕ, [], ◌+◌, ◌<◌, ◌≤◌, length, slice_index, IfOk, OnOk, false, replicate};
+ghost use Rattle.std.specs.Prelude.{◌≡◌, ◌≢◌, ℕ, [], ◌+◌, ◌<◌, ◌≤◌, length, slice_index, IfOk, false, replicate};
+ghost use Rattle.guppy_support.specs.Bits.{members};
 ghost use Rattle.guppy_support.specs.Graph.{IsDigraph};
 ghost use Rattle.guppy_support.specs.Rows.{places};
 ghost use Rattle.digraph_orders.specs.inner.Groups.{AreGroups};
-ghost use Rattle.digraph_orders.specs.inner.Plans.{IsSetup, IsPauseIn, IsEdge, AreEntering, AreHolding, AreFirsts};
+ghost use Rattle.digraph_orders.specs.inner.Plans.{IsSetup, IsPauseIn, IsEdge, AreEntering, AreHolding, AreFirsts, HasRoom};
 
 use crate::order::groups::Groups;
 use crate::order::listing::{Plan, first_of};
@@ -55,27 +56,28 @@ fn count_edge(
 /// Adds the first node of component `rank` to `starts`, if the component isn't empty and no edge enters it.
 fn add_start(
     starts: &mut Queue,
-    members: &[u32],
+    row: &[u32],
     ranks: &[u32],
     outside: &[u32],
     held: &[u32],
     rank: usize,
-) -> Result<(), AllocError>
+)
     requires rank { rank < length outside.now }
-    requires members { members.now ≡ places rank ranks.now }
-    requires nodes { (j : ℕ) → j < length members.now → slice_index members.now j < length held.now }
-    requires firsts { AreFirsts ranks.now outside.now held.now rank starts.old }
-    ensures { OnOk result (AreFirsts ranks.now outside.now held.now (rank + 1) starts.new) }
+    requires row { row.now ≡ places rank ranks.now }
+    requires nodes { (j : ℕ) → j < length row.now → slice_index row.now j < length held.now }
+    requires firsts { AreFirsts ranks.now outside.now held.now rank (members starts.old) }
+    requires room { length held.now ≤ length starts.old }
+    ensures firsts { AreFirsts ranks.now outside.now held.now (rank + 1) (members starts.new) }
+    ensures room { length starts.new ≡ length starts.old }
 {
     let _ranks = ranks.len();
     if outside[rank] != 0 {
-        return Ok(());
+        return;
     }
-    if members.is_empty() {
-        return Ok(());
+    if row.is_empty() {
+        return;
     }
-    starts.push(first_of(members, held))?;
-    Ok(())
+    starts.push(first_of(row, held));
 }
 
 /// Returns the number of edges that enter each component, and the number that hold each node.
@@ -109,12 +111,13 @@ fn first_starts(
     requires outside { length outside.now ≡ nodes }
     requires held { length held.now ≡ nodes }
     requires groups { AreGroups nodes ranks.now groups.now }
-    ensures { IfOk result (λ starts. AreFirsts ranks.now outside.now held.now nodes starts) }
+    ensures firsts { IfOk result (λ starts. AreFirsts ranks.now outside.now held.now nodes (members starts)) }
+    ensures room { IfOk result (λ starts. length starts ≡ nodes) }
 {
     let mut starts = Queue::empty(alloc, nodes)?;
     for rank in 0..nodes {
-        let members = groups.row(ranks, rank, nodes);
-        add_start(&mut starts, members, ranks, outside, held, rank)?;
+        let row = groups.row(ranks, rank, nodes);
+        add_start(&mut starts, row, ranks, outside, held, rank);
     }
     Ok(starts)
 }
@@ -138,7 +141,8 @@ pub(crate) fn first_plan(
 ) -> Result<Plan, AllocError>
     requires setup { IsSetup graph.now ranks.now }
     requires groups { AreGroups graph.now.nodes ranks.now groups.now }
-    ensures { IfOk result (λ plan. IsPauseIn graph.now ranks.now plan) }
+    ensures pause { IfOk result (λ plan. IsPauseIn graph.now ranks.now plan) }
+    ensures room { IfOk result (λ plan. HasRoom plan) }
 {
     let nodes = graph.node_count();
     let counts = count_edges(alloc, graph, ranks)?;

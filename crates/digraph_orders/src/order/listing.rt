@@ -1,11 +1,12 @@
 //! The state between two nodes of the order, and the steps that list the next one.
 ghost use Rattle.std.specs.Prelude.{◌≡◌, ◌≢◌, ℕ, [], ◌∷◌, ◌++◌, ◌+◌, ◌-◌, ◌<◌, ◌≤◌, length, slice_index, slice_set, IfSome, IfNone, IfOk, OnOk, Contains, set, true};
 ghost use Rattle.guppy_support.specs.Graph.{IsDigraph, sources};
+ghost use Rattle.guppy_support.specs.Bits.{members};
 ghost use Rattle.guppy_support.specs.Rows.{places};
 ghost use Rattle.digraph_orders.specs.inner.Groups.{AreGroups};
 ghost use Rattle.digraph_orders.specs.Orders.{IsOrder};
 ghost use Rattle.digraph_orders.specs.inner.Heads.{IsDone};
-ghost use Rattle.digraph_orders.specs.inner.Plans.{TakesFresh, IsFirst, IsFreshPlace, StartsGrow, AreReady, Waits, IsSetup, IsOutEdge, IsAtIn, IsWithinIn, IsChosenIn, IsPauseIn, RowWaits};
+ghost use Rattle.digraph_orders.specs.inner.Plans.{TakesFresh, IsFirst, IsFreshPlace, StartsGrow, AreReady, Waits, IsSetup, IsOutEdge, IsAtIn, IsWithinIn, IsChosenIn, IsPauseIn, HasRoom, RowWaits};
 ghost use Rattle.digraph_orders.specs.inner.Queues.{Joins};
 
 use crate::order::groups::Groups;
@@ -34,10 +35,11 @@ pub(crate) struct Plan {
 
 /// Removes numbers from `queue` up to the least that isn't in `done`, and returns that one.
 fn pop_fresh(queue: &mut Queue, done: &IxBitSet) -> Option<usize>
-    requires { (y : ℕ) → Contains queue.old y → y < length done.now }
-    ensures none { IfNone result ((y : ℕ) → Contains queue.old y → IsDone done.now y) }
-    ensures empty { IfNone result (queue.new ≡ []) }
-    ensures some { IfSome result (λ x. TakesFresh done.now queue.old x queue.new) }
+    requires { (y : ℕ) → Contains (members queue.old) y → y < length done.now }
+    ensures none { IfNone result ((y : ℕ) → Contains (members queue.old) y → IsDone done.now y) }
+    ensures empty { IfNone result (members queue.new ≡ []) }
+    ensures some { IfSome result (λ x. TakesFresh done.now (members queue.old) x (members queue.new)) }
+    ensures room { length queue.new ≡ length queue.old }
 {
     while let Some(number) = queue.pop() {
         if !done.contains(number) {
@@ -100,38 +102,40 @@ fn leave_outside(
     ranks: &[u32],
     node: usize,
     nodes: usize,
-) -> Result<(), AllocError>
+)
     requires node { node < length ranks.now }
     requires rank { slice_index ranks.now node < length outside.old.items }
     requires small { slice_index ranks.now node < nodes }
     requires groups { AreGroups nodes ranks.now groups.now }
     requires positive { 0 < slice_index outside.old.items (slice_index ranks.now node) }
     requires nodes { (j : ℕ) → j < length (places (slice_index ranks.now node) ranks.now) → slice_index (places (slice_index ranks.now node) ranks.now) j < length held.now }
-    ensures outside { OnOk result (outside.new.items ≡ set outside.old.items (slice_index ranks.now node) (slice_index outside.old.items (slice_index ranks.now node) - 1)) }
-    ensures starts { OnOk result (StartsGrow (places (slice_index ranks.now node) ranks.now) held.now (slice_index outside.old.items (slice_index ranks.now node) - 1) starts.old starts.new) }
+    requires room { length held.now ≤ length starts.old }
+    ensures outside { outside.new.items ≡ set outside.old.items (slice_index ranks.now node) (slice_index outside.old.items (slice_index ranks.now node) - 1) }
+    ensures starts { StartsGrow (places (slice_index ranks.now node) ranks.now) held.now (slice_index outside.old.items (slice_index ranks.now node) - 1) (members starts.old) (members starts.new) }
+    ensures room { length starts.new ≡ length starts.old }
 {
     let rank = ranks[node] as usize;
     let left = outside[rank] - 1;
     outside[rank] = left;
     if left == 0 {
-        starts.push(head_of(groups, ranks, held, node, nodes))?;
+        starts.push(head_of(groups, ranks, held, node, nodes));
     }
-    Ok(())
 }
 
 /// Subtracts one hold on `node`. After the last one, the node is added to `ready`.
-fn leave_held(held: &mut Vec<u32>, ready: &mut Queue, node: usize) -> Result<(), AllocError>
+fn leave_held(held: &mut Vec<u32>, ready: &mut Queue, node: usize)
     requires node { node < length held.old.items }
     requires positive { 0 < slice_index held.old.items node }
-    ensures held { OnOk result (held.new.items ≡ set held.old.items node (slice_index held.old.items node - 1)) }
-    ensures ready { OnOk result (AreReady (slice_index held.old.items node - 1) node ready.old ready.new) }
+    requires room { length held.old.items ≤ length ready.old }
+    ensures held { held.new.items ≡ set held.old.items node (slice_index held.old.items node - 1) }
+    ensures ready { AreReady (slice_index held.old.items node - 1) node (members ready.old) (members ready.new) }
+    ensures room { length ready.new ≡ length ready.old }
 {
     let left = held[node] - 1;
     held[node] = left;
     if left == 0 {
-        ready.push(node)?;
+        ready.push(node);
     }
-    Ok(())
 }
 
 /// Returns the edge at `place` among those that leave `node`.
@@ -157,6 +161,8 @@ impl Plan {
         requires setup { IsSetup graph.now ranks.now }
         requires groups { AreGroups graph.now.nodes ranks.now groups.now }
         requires within { IsWithinIn graph.now ranks.now rank self.old }
+        requires room { HasRoom self.old }
+        ensures room { HasRoom self.new }
         ensures none { IfNone result (IsPauseIn graph.now ranks.now self.new) }
         ensures some { IfSome result (λ v. IsChosenIn graph.now ranks.now v self.new) }
         ensures done { self.new.done ≡ self.old.done }
@@ -185,15 +191,17 @@ impl Plan {
         node: usize,
         place: usize,
         edge: Edge,
-    ) -> Result<(), AllocError>
+    )
         requires setup { IsSetup graph.now ranks.now }
         requires groups { AreGroups graph.now.nodes ranks.now groups.now }
         requires edge { IsOutEdge graph.now node place edge.to edge.non_dev }
         requires apart { slice_index ranks.now edge.to ≢ slice_index ranks.now node }
         requires at { IsAtIn graph.now ranks.now node place self.old }
-        ensures at { OnOk result (IsAtIn graph.now ranks.now node (place + 1) self.new) }
-        ensures done { OnOk result (self.new.done ≡ self.old.done) }
-        ensures listed { OnOk result (self.new.listed.items ≡ self.old.listed.items) }
+        requires room { HasRoom self.old }
+        ensures at { IsAtIn graph.now ranks.now node (place + 1) self.new }
+        ensures done { self.new.done ≡ self.old.done }
+        ensures listed { self.new.listed.items ≡ self.old.listed.items }
+        ensures room { HasRoom self.new }
     {
         leave_outside(
             &mut self.outside,
@@ -203,69 +211,60 @@ impl Plan {
             ranks,
             edge.to,
             graph.node_count(),
-        )?;
-        Ok(())
+        );
     }
 
     /// Passes an edge that isn't dev-only, to another node of the same component.
-    fn pass_firm(
-        &mut self,
-        graph: &Digraph,
-        ranks: &[u32],
-        node: usize,
-        place: usize,
-        edge: Edge,
-    ) -> Result<(), AllocError>
+    fn pass_firm(&mut self, graph: &Digraph, ranks: &[u32], node: usize, place: usize, edge: Edge)
         requires setup { IsSetup graph.now ranks.now }
         requires edge { IsOutEdge graph.now node place edge.to edge.non_dev }
         requires same { slice_index ranks.now edge.to ≡ slice_index ranks.now node }
         requires other { edge.to ≢ node }
         requires firm { edge.non_dev ≡ true }
         requires at { IsAtIn graph.now ranks.now node place self.old }
-        ensures at { OnOk result (IsAtIn graph.now ranks.now node (place + 1) self.new) }
-        ensures done { OnOk result (self.new.done ≡ self.old.done) }
-        ensures listed { OnOk result (self.new.listed.items ≡ self.old.listed.items) }
+        requires room { HasRoom self.old }
+        ensures at { IsAtIn graph.now ranks.now node (place + 1) self.new }
+        ensures done { self.new.done ≡ self.old.done }
+        ensures listed { self.new.listed.items ≡ self.old.listed.items }
+        ensures room { HasRoom self.new }
     {
         let _nodes = graph.node_count();
         let _ranks = ranks.len();
-        leave_held(&mut self.held, &mut self.ready, edge.to)?;
-        Ok(())
+        leave_held(&mut self.held, &mut self.ready, edge.to);
     }
 
     /// Passes the edge at `place` of `node`, which is listed.
-    fn pass(
-        &mut self,
-        graph: &Digraph,
-        ranks: &[u32],
-        groups: &Groups,
-        node: usize,
-        place: usize,
-    ) -> Result<(), AllocError>
+    fn pass(&mut self, graph: &Digraph, ranks: &[u32], groups: &Groups, node: usize, place: usize)
         requires setup { IsSetup graph.now ranks.now }
         requires groups { AreGroups graph.now.nodes ranks.now groups.now }
         requires node { node < graph.now.nodes }
         requires place { place < length (places node (sources graph.now.edges)) }
         requires at { IsAtIn graph.now ranks.now node place self.old }
-        ensures at { OnOk result (IsAtIn graph.now ranks.now node (place + 1) self.new) }
-        ensures done { OnOk result (self.new.done ≡ self.old.done) }
-        ensures listed { OnOk result (self.new.listed.items ≡ self.old.listed.items) }
+        requires room { HasRoom self.old }
+        ensures at { IsAtIn graph.now ranks.now node (place + 1) self.new }
+        ensures done { self.new.done ≡ self.old.done }
+        ensures listed { self.new.listed.items ≡ self.old.listed.items }
+        ensures room { HasRoom self.new }
     {
         let edge = out_edge(graph, node, place);
         if ranks[edge.to] != ranks[node] {
-            return self.pass_apart(graph, ranks, groups, node, place, edge);
+            self.pass_apart(graph, ranks, groups, node, place, edge);
+            return;
         }
         if edge.non_dev && edge.to != node {
-            return self.pass_firm(graph, ranks, node, place, edge);
+            self.pass_firm(graph, ranks, node, place, edge);
+            return;
         }
-        Ok(())
     }
 
     /// Appends `node` to the list and to the set of listed nodes.
     fn mark(&mut self, graph: &Digraph, ranks: &[u32], node: usize) -> Result<(), AllocError>
         requires setup { IsSetup graph.now ranks.now }
         requires chosen { IsChosenIn graph.now ranks.now node self.old }
+        requires room { HasRoom self.old }
         ensures at { OnOk result (IsAtIn graph.now ranks.now node 0 self.new) }
         ensures longer { OnOk result (length self.new.listed.items ≡ length self.old.listed.items + 1) }
+        ensures room { OnOk result (HasRoom self.new) }
     {
         let _nodes = graph.node_count();
         let _ranks = ranks.len();
@@ -285,34 +284,33 @@ impl Plan {
         requires setup { IsSetup graph.now ranks.now }
         requires groups { AreGroups graph.now.nodes ranks.now groups.now }
         requires chosen { IsChosenIn graph.now ranks.now node self.old }
+        requires room { HasRoom self.old }
         ensures within { OnOk result (IsWithinIn graph.now ranks.now (slice_index ranks.now node) self.new) }
         ensures longer { OnOk result (length self.new.listed.items ≡ length self.old.listed.items + 1) }
+        ensures room { OnOk result (HasRoom self.new) }
     {
         self.mark(graph, ranks, node)?;
         let edges = graph.out_edges(node);
         for place in 0..edges.end - edges.start {
-            self.pass(graph, ranks, groups, node, place)?;
+            self.pass(graph, ranks, groups, node, place);
         }
         Ok(())
     }
 
     /// Returns the least start, or `None` if all nodes are listed. The other nodes of its component that aren't
     /// held become ready.
-    fn begin(
-        &mut self,
-        graph: &Digraph,
-        ranks: &[u32],
-        groups: &Groups,
-    ) -> Result<Option<usize>, AllocError>
+    fn begin(&mut self, graph: &Digraph, ranks: &[u32], groups: &Groups) -> Option<usize>
         requires setup { IsSetup graph.now ranks.now }
         requires groups { AreGroups graph.now.nodes ranks.now groups.now }
         requires pause { IsPauseIn graph.now ranks.now self.old }
-        ensures none { IfOk result (λ found. IfNone found (IsOrder graph.now.edges graph.now.nodes self.new.listed.items)) }
-        ensures some { IfOk result (λ found. IfSome found (λ v. IsChosenIn graph.now ranks.now v self.new)) }
+        requires room { HasRoom self.old }
+        ensures none { IfNone result (IsOrder graph.now.edges graph.now.nodes self.new.listed.items) }
+        ensures some { IfSome result (λ v. IsChosenIn graph.now ranks.now v self.new) }
         ensures listed { self.new.listed.items ≡ self.old.listed.items }
+        ensures room { HasRoom self.new }
     {
         let Some(start) = pop_fresh(&mut self.starts, &self.done) else {
-            return Ok(None);
+            return None;
         };
         make_ready(
             &mut self.ready,
@@ -321,9 +319,9 @@ impl Plan {
             &self.held,
             start,
             graph.node_count(),
-        )?;
+        );
         self.next = 0;
-        Ok(Some(start))
+        Some(start)
     }
 
     /// Lists the remaining nodes of the current component.
@@ -337,6 +335,8 @@ impl Plan {
         requires setup { IsSetup graph.now ranks.now }
         requires groups { AreGroups graph.now.nodes ranks.now groups.now }
         requires within { IsWithinIn graph.now ranks.now start self.old }
+        requires room { HasRoom self.old }
+        ensures room { OnOk result (HasRoom self.new) }
         ensures pause { OnOk result (IsPauseIn graph.now ranks.now self.new) }
         ensures longer { OnOk result (length self.old.listed.items ≤ length self.new.listed.items) }
     {
@@ -358,9 +358,10 @@ impl Plan {
         requires setup { IsSetup graph.now ranks.now }
         requires groups { AreGroups graph.now.nodes ranks.now groups.now }
         requires pause { IsPauseIn graph.now ranks.now self.old }
+        requires room { HasRoom self.old }
         ensures { OnOk result (IsOrder graph.now.edges graph.now.nodes self.new.listed.items) }
     {
-        while let Some(start) = self.begin(graph, ranks, groups)? {
+        while let Some(start) = self.begin(graph, ranks, groups) {
             self.list(graph, ranks, groups, start)?;
             self.finish(graph, ranks, groups, ranks[start] as usize)?;
         }
@@ -369,26 +370,28 @@ impl Plan {
 }
 
 /// Adds `node` to `ready` if it isn't held and isn't `start`.
-fn wait(ready: &mut Queue, held: &[u32], node: usize, start: usize) -> Result<(), AllocError>
-    requires { node < length held.now }
-    ensures { OnOk result (Waits held.now start node ready.old ready.new) }
+fn wait(ready: &mut Queue, held: &[u32], node: usize, start: usize)
+    requires node { node < length held.now }
+    requires room { length held.now ≤ length ready.old }
+    ensures waits { Waits held.now start node (members ready.old) (members ready.new) }
+    ensures room { length ready.new ≡ length ready.old }
 {
     if held[node] == 0 && node != start {
-        ready.push(node)?;
+        ready.push(node);
     }
-    Ok(())
 }
 
 /// Adds the nodes of `row` that aren't held to `ready`, except `start`.
-fn add_ready(ready: &mut Queue, row: &[u32], held: &[u32], start: usize) -> Result<(), AllocError>
+fn add_ready(ready: &mut Queue, row: &[u32], held: &[u32], start: usize)
     requires nodes { (j : ℕ) → j < length row.now → slice_index row.now j < length held.now }
-    requires none { ready.old ≡ [] }
-    ensures { OnOk result (RowWaits row.now held.now start ready.new) }
+    requires none { members ready.old ≡ [] }
+    requires room { length held.now ≤ length ready.old }
+    ensures waits { RowWaits row.now held.now start (members ready.new) }
+    ensures room { length ready.new ≡ length ready.old }
 {
     for place in 0..row.len() {
-        wait(ready, held, row[place] as usize, start)?;
+        wait(ready, held, row[place] as usize, start);
     }
-    Ok(())
 }
 
 /// Adds the nodes of `start`'s component that aren't held to `ready`, except `start`.
@@ -399,21 +402,22 @@ fn make_ready(
     held: &[u32],
     start: usize,
     nodes: usize,
-) -> Result<(), AllocError>
+)
     requires start { start < length ranks.now }
     requires small { slice_index ranks.now start < nodes }
     requires groups { AreGroups nodes ranks.now groups.now }
     requires nodes { (j : ℕ) → j < length (places (slice_index ranks.now start) ranks.now) → slice_index (places (slice_index ranks.now start) ranks.now) j < length held.now }
-    requires none { ready.old ≡ [] }
-    ensures { OnOk result (RowWaits (places (slice_index ranks.now start) ranks.now) held.now start ready.new) }
+    requires none { members ready.old ≡ [] }
+    requires room { length held.now ≤ length ready.old }
+    ensures waits { RowWaits (places (slice_index ranks.now start) ranks.now) held.now start (members ready.new) }
+    ensures room { length ready.new ≡ length ready.old }
 {
     let rank = ranks[start] as usize;
     if groups.is_alone(ranks, rank, nodes) {
-        return Ok(());
+        return;
     }
-    let members = groups.row(ranks, rank, nodes);
-    add_ready(ready, members, held, start)?;
-    Ok(())
+    let row = groups.row(ranks, rank, nodes);
+    add_ready(ready, row, held, start);
 }
 
 /// Completes the plan `first`, and returns the list of all nodes in order.
@@ -426,6 +430,7 @@ pub(crate) fn order_from(
     requires setup { IsSetup graph.now ranks.now }
     requires groups { AreGroups graph.now.nodes ranks.now groups.now }
     requires pause { IsPauseIn graph.now ranks.now first }
+    requires room { HasRoom first }
     ensures { IfOk result (λ list. IsOrder graph.now.edges graph.now.nodes list.items) }
 {
     let mut plan = first;

@@ -1,5 +1,6 @@
 //! A queue of numbers from which the least is removed first.
-ghost use Rattle.std.specs.Prelude.{◌≡◌, [], IfSome, IfNone, IfOk, OnOk};
+ghost use Rattle.std.specs.Prelude.{◌≡◌, ◌<◌, [], false, length, replicate, IfSome, IfNone, IfOk};
+ghost use Rattle.guppy_support.specs.Bits.{members};
 ghost use Rattle.digraph_orders.specs.inner.Queues.{Joins, Leaves};
 
 use guppy_support::IxBitSet;
@@ -18,13 +19,12 @@ pub(crate) struct Queue {
 }
 
 impl Model for Queue {
-    ghost use Rattle.std.specs.Prelude.{ℕ, List};
-    ghost use Rattle.guppy_support.specs.Bits.{members};
+    ghost use Rattle.std.specs.Prelude.{Bool, List};
     ghost use Rattle.digraph_orders.specs.inner.Queues.{IsAbove};
 
-    ghost Value = { List ℕ };
+    ghost Value = { List Bool };
 
-    ghost view = { λ q. members q.numbers };
+    ghost view = { λ q. q.numbers };
 
     ghost invariant = { λ q. IsAbove q.numbers q.words × IsAbove q.words q.blocks };
 }
@@ -32,7 +32,7 @@ impl Model for Queue {
 impl Queue {
     /// Returns an empty queue for numbers below `bound`.
     pub(crate) fn empty(alloc: Global, bound: usize) -> Result<Queue, AllocError>
-        ensures { IfOk result (λ queue. queue ≡ []) }
+        ensures { IfOk result (λ queue. queue ≡ replicate bound false) }
     {
         let word_count = bound / 64 + 1;
         let numbers = IxBitSet::empty(alloc, bound)?;
@@ -45,26 +45,25 @@ impl Queue {
         })
     }
 
-    /// Adds `number`. Returns `AllocError` if it isn't below the bound.
-    pub(crate) fn push(&mut self, number: usize) -> Result<(), AllocError>
-        ensures { OnOk result (Joins self.old number self.new) }
+    /// Inserts `number`, which is below the bound.
+    pub(crate) fn push(&mut self, number: usize)
+        requires { number < length self.old }
+        ensures joins { Joins (members self.old) number (members self.new) }
+        ensures room { length self.new ≡ length self.old }
     {
-        if number >= self.numbers.size() {
-            return Err(AllocError);
-        }
         let word = number / 64;
         self.numbers.insert(number);
         self.words.insert(word);
         self.blocks.insert(word / 64);
-        Ok(())
     }
 
     /// Removes the least number and returns it. On the way, words that became 0 are removed from the upper
     /// sets.
     pub(crate) fn pop(&mut self) -> Option<usize>
-        ensures none { IfNone result (self.old ≡ []) }
-        ensures empty { IfNone result (self.new ≡ []) }
-        ensures some { IfSome result (λ x. Leaves self.old x self.new) }
+        ensures none { IfNone result (members self.old ≡ []) }
+        ensures empty { IfNone result (members self.new ≡ []) }
+        ensures some { IfSome result (λ x. Leaves (members self.old) x (members self.new)) }
+        ensures room { length self.new ≡ length self.old }
     {
         while let Some(block) = self.blocks.next_from(0) {
             if let Some(word) = self.words.first_in(block) {

@@ -7,7 +7,6 @@ use Rattle.feature_core.specs.Nodes.{nodes}
 use Rattle.feature_core.specs.Offers.{content_of}
 use Rattle.walk_engine.specs.declared.walks.Half.{Half}
 use Rattle.walk_engine.specs.declared.walks.Step.{Step}
-use Rattle.walk_engine.specs.Explanations.{IsExplanation}
 use Rattle.walk_checks.specs.Exact.{IsExplainedRun}
 use Rattle.feature_sets.specs.Told.{offer_told}
 use Rattle.feature_sets.specs.Values.{Graph}
@@ -15,10 +14,6 @@ use Rattle.feature_sets.specs.Values.{Graph}
 -- each offer has a name
 abbrev pub AreOffered : Graph → List (ℕ × Half) → Type 0
 AreOffered g offers = All (λ offer. IsTrue (is_some (offer_told g offer))) offers
-
--- the steps are an explanation, from some initial nodes and by some offers
-abbrev pub IsBacked : Graph → DependencyDirection → List Step → Type 0
-IsBacked g direction steps = (initials : List Bool) × (A : ℕ → Half → Bool) × (length initials ≡ length (nodes g.tables)) × IsExplanation (content_of direction g.built) (has initials) A steps
 
 -- the steps and refused offers explain a walk from some initial nodes
 abbrev pub IsExplainedBy : Graph → DependencyDirection → (ℕ → Bool) → List Step → List (ℕ × Half) → Type 0

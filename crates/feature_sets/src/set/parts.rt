@@ -1,7 +1,7 @@
 //! Parts of a set, by the results of a callback.
 ghost use Rattle.std.specs.Prelude.{◌≡◌, ◌<◌, [], IfOk, IfErr, length, not, replicate, false, All};
 ghost use Rattle.feature_core.specs.Nodes.{nodes};
-ghost use Rattle.feature_sets.specs.Parts.{Calls, IsPart, is_yes, says_first, says_second};
+ghost use Rattle.feature_sets.specs.Parts.{Calls, IsPart, MayCall, MayCallEach, is_yes, says_first, says_second};
 ghost use Rattle.feature_sets.specs.Views.{tables_of_graph};
 ghost use Rattle.feature_sets.specs.inner.Sorting.{HasCalled, IsPut};
 
@@ -76,6 +76,14 @@ pub(crate) fn put(members: &mut IxBitSet, node: usize, say: bool)
     }
 }
 
+/// Calls `f` for one feature.
+fn call<'g, A, F: FnMut(FeatureMetadata<'g>) -> A>(f: &mut F, feature: FeatureMetadata<'g>) -> A
+    requires { F.pre f.old feature }
+    ensures { F.step f.old feature.entry result f.new }
+{
+    f(feature)
+}
+
 /// Calls `f` for the feature of each of the nodes `numbers`, and inserts the nodes into `one` and `other` by the
 /// results.
 fn call_each<'g, A: Answer + Drop, F: FnMut(FeatureMetadata<'g>) -> A>(
@@ -85,14 +93,14 @@ fn call_each<'g, A: Answer + Drop, F: FnMut(FeatureMetadata<'g>) -> A>(
     one: &mut IxBitSet,
     other: &mut IxBitSet,
 )
-    requires callable { F.IsAlwaysCallable f.old }
+    requires callable { MayCallEach F.pre F.step (tables_of_graph graph) numbers f.old }
     requires within { All (λ n. n < length (nodes (tables_of_graph graph))) numbers }
     requires one { one.old ≡ replicate (length (nodes (tables_of_graph graph))) false }
     requires other { other.old ≡ replicate (length (nodes (tables_of_graph graph))) false }
     ensures { HasCalled F.step A.first A.second (tables_of_graph graph.entry) numbers.entry [] f.old f.new one.new other.new }
 {
     while let Some(node) = numbers.next() {
-        let answer = f(feature_at(graph, node));
+        let answer = call(f, feature_at(graph, node));
         put(one, node, answer.is_first());
         put(other, node, answer.is_second());
     }
@@ -115,7 +123,7 @@ impl<'g> FeatureSet<'g> {
         direction: DependencyDirection,
         f: &mut F,
     ) -> Result<(FeatureSet<'g>, FeatureSet<'g>), Error<'g>>
-        requires { F.IsAlwaysCallable f.old }
+        requires { MayCall F.pre F.step direction self.now f.old }
         ensures called { IfOk result (λ parts. Calls F.step direction self.now f.old f.new (λ calls. IsPart A.first calls self.now parts.0 × IsPart A.second calls self.now parts.1)) }
         ensures refused { IfErr result (λ e. e ≡ Error.Memory) }
         ensures untouched { IfErr result (λ _. f.new ≡ f.old) }
@@ -131,14 +139,15 @@ impl<'g> FeatureSet<'g> {
     }
 
     /// Returns the features for which `f` returns true. Calls `f` once for each feature of the set, in the order of
-    /// `features`, after all allocations. `Memory` is the only error, and then `f` wasn't called.
+    /// `features`, after all allocations. `f` need not be callable for other features. `Memory` is the only error, and
+    /// then `f` wasn't called.
     pub fn filter<F: FnMut(FeatureMetadata<'g>) -> bool>(
         &self,
         alloc: Global,
         direction: DependencyDirection,
         f: &mut F,
     ) -> Result<FeatureSet<'g>, Error<'g>>
-        requires { F.IsAlwaysCallable f.old }
+        requires { MayCall F.pre F.step direction self.now f.old }
         ensures called { IfOk result (λ set. Calls F.step direction self.now f.old f.new (λ calls. IsPart is_yes calls self.now set)) }
         ensures refused { IfErr result (λ e. e ≡ Error.Memory) }
         ensures untouched { IfErr result (λ _. f.new ≡ f.old) }
@@ -155,7 +164,7 @@ impl<'g> FeatureSet<'g> {
         direction: DependencyDirection,
         f: &mut F,
     ) -> Result<(FeatureSet<'g>, FeatureSet<'g>), Error<'g>>
-        requires { F.IsAlwaysCallable f.old }
+        requires { MayCall F.pre F.step direction self.now f.old }
         ensures called { IfOk result (λ parts. Calls F.step direction self.now f.old f.new (λ calls. IsPart is_yes calls self.now parts.0 × IsPart not calls self.now parts.1)) }
         ensures refused { IfErr result (λ e. e ≡ Error.Memory) }
         ensures untouched { IfErr result (λ _. f.new ≡ f.old) }
@@ -171,7 +180,7 @@ impl<'g> FeatureSet<'g> {
         direction: DependencyDirection,
         f: &mut F,
     ) -> Result<(FeatureSet<'g>, FeatureSet<'g>), Error<'g>>
-        requires { F.IsAlwaysCallable f.old }
+        requires { MayCall F.pre F.step direction self.now f.old }
         ensures called { IfOk result (λ parts. Calls F.step direction self.now f.old f.new (λ calls. IsPart says_first calls self.now parts.0 × IsPart says_second calls self.now parts.1)) }
         ensures refused { IfErr result (λ e. e ≡ Error.Memory) }
         ensures untouched { IfErr result (λ _. f.new ≡ f.old) }

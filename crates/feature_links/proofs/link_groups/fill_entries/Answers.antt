@@ -1,7 +1,7 @@
 use Rattle.std.proofs.Common.{◌≡◌, ◌∙◌, ◌≤◌, Some, ap, sym, subst, arith, refl}
 use Rattle.std.specs.Prelude.{slice_get}
 use Rattle.guppy_packages.specs.Metadata.{package_graph_of, package_number_of, link_table_of}
-use Rattle.feature_links.specs.inner.NamedEntries.{numbers_named}
+use Rattle.feature_links.specs.NumbersInRow.{numbers_named}
 use Rattle.feature_links.proofs.GroupedLinks.{none_before, noted_next, all_before}
 use Rattle.feature_links.proofs.link_groups.fill_entries.Goals as goal
 

@@ -1,7 +1,7 @@
 use Rattle.std.proofs.Common.{◌≡◌}
 use Rattle.guppy_packages.specs.Rows.{Text}
 use Rattle.guppy_packages.specs.Metadata.{package_graph_of, package_number_of}
-use Rattle.feature_links.specs.inner.NamedEntries.{numbers_named}
+use Rattle.feature_links.specs.NumbersInRow.{numbers_named}
 use Rattle.feature_links.proofs.GroupedLinks.{numbers_before}
 use Rattle.feature_links.proofs.link_groups.fill_entries.Given as goal
 

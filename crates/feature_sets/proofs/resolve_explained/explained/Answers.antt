@@ -1,8 +1,9 @@
 use Rattle.std.proofs.Common.{sym, subst}
 use Rattle.walk_engine.specs.Walks.{was_accepted}
 use Rattle.guppy_support.specs.Bits.{has}
+use Rattle.feature_sets.specs.Explained.{IsBacked, ListMembers}
 use Rattle.feature_sets.specs.Views.{graph_of}
-use Rattle.feature_sets.specs.inner.Listings.{AreOffered, IsBacked}
+use Rattle.feature_sets.specs.inner.Listings.{AreOffered}
 use Rattle.feature_sets.proofs.ToldLemmas.{refused_told}
 use Rattle.feature_sets.proofs.resolve_explained.explained.Goals as goal
 
@@ -10,6 +11,9 @@ pub new-requires-2-clause-backed : goal.new-requires-2-clause-backed
 new-requires-2-clause-backed c =
     let run = c.requires.run in
     subst (λ z. IsBacked z c.args.direction c.args.walked.1.items) (sym c.new.ensures.graph) (run.0, was_accepted run.2.walk.run, run.1, run.2.explanation)
+
+pub new-requires-2-clause-listed : goal.new-requires-2-clause-listed
+new-requires-2-clause-listed c = subst (λ m. ListMembers m c.args.walked.1.items) (sym c.new.ensures.members) c.requires.run.2.listed
 
 pub new-requires-2-clause-offers : goal.new-requires-2-clause-offers
 new-requires-2-clause-offers c =

@@ -14,6 +14,6 @@ loop-item-preserved c =
     let item = get_or items ix (record { ref_ptr = (0, 0); now = [] }) in
     let more : texts (take (ix + 1) items) ≡ texts (take ix items) ++ item.now ∷ [] = ap (λ n. texts (take n items)) (add-one ix) ∙ ap texts (take-suc items ix (record { ref_ptr = (0, 0); now = [] }) c.loop-item-test.true) ∙ map-append (λ t. t.now) (take ix items) (item ∷ []) in
     let new = string_bytes c.push_str.new.self in
-    let ends : c.push_to.new.items.items ≡ c.loop-item.ends.items ++ length new ∷ [] = c.in_ok-push_to.ensures ∙ ap (λ n. c.loop-item.ends.items ++ n ∷ []) c.in_ok-narrow.ensures ∙ ap (λ t. c.loop-item.ends.items ++ length t ∷ []) c.as_str.ensures.value in
+    let ends : c.push_to.new.items.items ≡ c.loop-item.ends.items ++ length new ∷ [] = c.in_ok-push_to.ensures ∙ ap (λ t. c.loop-item.ends.items ++ length t ∷ []) c.as_str.ensures.value in
     let pushed = pushed_more (string_bytes c.args.text.now) (texts (take ix items)) (string_bytes c.loop-item.text) c.loop-item.ends.items item.now new c.loop-item.invariant c.in_ok-push_str.ensures.bytes (IsUtf8-string_bytes c.loop-item.text) (IsUtf8-string_bytes c.push_str.new.self) in
     rw (more, ends) pushed

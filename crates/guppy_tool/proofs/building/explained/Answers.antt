@@ -24,7 +24,7 @@ returns c =
     let told = map step_name c.steps.result.now in
     let tables : tables_of_graph c.feature_graph.result ≡ t = ap (λ g. g.tables) c.feature_graph.ensures in
     let tells = tells_query (record { tables = t; built = built }) query found.graph c.args.kinds.now (kinds_of c.new.result) (texts c.args.specs.now) (specs_of c.new.result) found.members found.steps told
-    asked.direction (asked.graph ∙ c.feature_graph.ensures) c.new.ensures.kinds c.new.ensures.specs resolved.graph c.steps.ensures resolved.explanation resolved.least resolved.listed in
+    asked.direction (asked.graph ∙ c.feature_graph.ensures) c.new.ensures.kinds c.new.ensures.specs resolved.graph c.steps.ensures.told resolved.explanation resolved.least resolved.listed in
     record {
       known = subst (λ z. AreKnown z ids) tables asked.known;
       initials = query.initials;

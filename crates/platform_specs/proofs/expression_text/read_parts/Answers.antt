@@ -1,8 +1,8 @@
 use Rattle.std.proofs.Common.{◌≡◌, ◌≤◌, true, false, refl, ap, length, inl, inr, arith}
 use Rattle.std.specs.Str.Iter.{chars_rest}
-use Rattle.platform_specs.specs.FactReading.{fact_state}
-use Rattle.platform_specs.specs.Reading.{read_step, at_first, reading, place_at}
-use Rattle.platform_specs.specs.Positions.{Stopped, ReadAll}
+use Rattle.platform_specs.specs.inner.FactReading.{fact_state}
+use Rattle.platform_specs.specs.inner.Reading.{read_step, at_first, reading, place_at}
+use Rattle.platform_specs.specs.inner.Positions.{Stopped, ReadAll}
 use Rattle.platform_specs.proofs.Runs.{went, stuck}
 use Rattle.platform_specs.proofs.Places.{at_start, at_next, at_stop, at_end, stopped_within}
 use Rattle.platform_specs.proofs.SpecTexts.{spelled_by, place_finished}

@@ -1,6 +1,6 @@
 use Rattle.std.proofs.Common.{length}
 use Rattle.std.specs.Str.Iter.{chars_rest}
-use Rattle.platform_specs.specs.Reading.{read_step, at_first, reading}
+use Rattle.platform_specs.specs.inner.Reading.{read_step, at_first, reading}
 use Rattle.platform_specs.proofs.Places.{At}
 use Rattle.platform_specs.proofs.expression_text.read_parts.Given as goal
 

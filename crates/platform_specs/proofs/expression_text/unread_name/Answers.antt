@@ -1,7 +1,7 @@
 use Rattle.std.proofs.Common.{◌≡◌, true, false, cond, Some, None, refl, ap, length}
 use Rattle.std.specs.Str.Iter.{chars_rest}
 use Rattle.platform_specs.specs.Grammar.{is_in_platform}
-use Rattle.platform_specs.specs.Positions.{platform_step}
+use Rattle.platform_specs.specs.inner.Positions.{platform_step}
 use Rattle.platform_specs.proofs.Places.{at_start, at_next, at_stop, at_end, stopped_within}
 use Rattle.platform_specs.proofs.expression_text.unread_name.Goals as goal
 

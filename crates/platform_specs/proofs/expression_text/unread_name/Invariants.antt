@@ -1,6 +1,6 @@
 use Rattle.std.proofs.Common.{length}
 use Rattle.std.specs.Str.Iter.{chars_rest}
-use Rattle.platform_specs.specs.Positions.{platform_step}
+use Rattle.platform_specs.specs.inner.Positions.{platform_step}
 use Rattle.platform_specs.proofs.Places.{At}
 use Rattle.platform_specs.proofs.expression_text.unread_name.Given as goal
 

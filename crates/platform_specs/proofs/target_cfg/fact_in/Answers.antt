@@ -1,6 +1,6 @@
 use Rattle.std.proofs.Common.{◌≡◌, true, false, refl, ap, length}
 use Rattle.std.specs.Str.Iter.{chars_rest}
-use Rattle.platform_specs.specs.FactReading.{waiting, fact_step, fact_state}
+use Rattle.platform_specs.specs.inner.FactReading.{waiting, fact_step, fact_state}
 use Rattle.platform_specs.proofs.Runs.{went, stuck}
 use Rattle.platform_specs.proofs.Places.{at_start, at_next, at_stop, at_end}
 use Rattle.platform_specs.proofs.Lines.{stopped_line, ended_line}

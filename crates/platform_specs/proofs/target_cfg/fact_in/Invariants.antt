@@ -1,6 +1,6 @@
 use Rattle.std.proofs.Common.{length, false}
 use Rattle.std.specs.Str.Iter.{chars_rest}
-use Rattle.platform_specs.specs.FactReading.{waiting, fact_step, fact_state}
+use Rattle.platform_specs.specs.inner.FactReading.{waiting, fact_step, fact_state}
 use Rattle.platform_specs.proofs.Places.{At}
 use Rattle.platform_specs.proofs.target_cfg.fact_in.Given as goal
 

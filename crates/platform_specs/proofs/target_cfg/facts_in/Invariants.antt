@@ -1,6 +1,6 @@
 use Rattle.std.proofs.Common.{◌≤◌, ◌+◌, length}
 use Rattle.platform_specs.specs.Grammar.{lines_of}
-use Rattle.platform_specs.specs.LineReading.{lines_behind}
+use Rattle.platform_specs.specs.inner.LineReading.{lines_behind}
 use Rattle.platform_specs.proofs.Lines.{LinesRead, size_left}
 use Rattle.platform_specs.proofs.target_cfg.facts_in.Given as goal
 

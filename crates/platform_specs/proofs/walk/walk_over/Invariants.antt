@@ -1,5 +1,5 @@
 use Rattle.std.proofs.Common.{◌≡◌, ◌≤◌, true, drop}
-use Rattle.platform_specs.specs.Walk.{walk_over, walking}
+use Rattle.platform_specs.specs.inner.Walk.{walk_over, walking}
 use Rattle.platform_specs.proofs.walk.walk_over.Given as goal
 
 -- the walk over the remaining parts ends like the walk over all parts

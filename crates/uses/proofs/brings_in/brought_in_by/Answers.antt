@@ -1,9 +1,9 @@
 use Rattle.std.proofs.Common.{ap}
 use Rattle.std.proofs.lemmas.Result.{IfOk-weaker}
-use Rattle.guppy_packages.specs.declared.direction.DependencyDirection.TheVariants.{Reverse}
-use Rattle.feature_core.specs.Built.{NodeNamed}
-use Rattle.feature_labels.specs.Names.{id_of}
-use Rattle.feature_sets.specs.Views.{tables_of_graph}
+use Rattle.guppy_features.specs.guppy_packages.declared.direction.DependencyDirection.TheVariants.{Reverse}
+use Rattle.guppy_features.specs.feature_core.Built.{NodeNamed}
+use Rattle.guppy_features.specs.feature_labels.Names.{id_of}
+use Rattle.guppy_features.specs.feature_sets.Views.{tables_of_graph}
 use Rattle.uses.proofs.Named.{named_alone, reached_from}
 use Rattle.uses.proofs.brings_in.brought_in_by.Goals as goal
 

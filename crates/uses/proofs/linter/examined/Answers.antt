@@ -1,12 +1,11 @@
 use Rattle.std.proofs.Common.{subst}
 use Rattle.std.specs.Prelude.{IsFalse, MatchOption, map}
-use Rattle.walk_engine.specs.Explanations.{nodes_of}
-use Rattle.walk_engine.specs.Walks.{is_in}
-use Rattle.feature_sets.specs.Explained.{ExplainsOne}
-use Rattle.feature_sets.specs.Told.{step_name}
+use Rattle.guppy_features.specs.guppy_support.Bits.{has}
+use Rattle.guppy_features.specs.feature_sets.Explained.{ExplainsMember}
+use Rattle.guppy_features.specs.feature_sets.Told.{step_name}
 use Rattle.uses.proofs.linter.examined.Goals as goal
 
 pub returns-in-None : goal.returns-in-None
-returns-in-None c n initials A at long explained =
+returns-in-None c n at =
     let x = c.args.explained.now in
-    subst (λ o. MatchOption o (IsFalse (is_in (nodes_of x.steps) n)) (λ told. ExplainsOne x initials A n (map step_name told.items))) c.in-None.is (c.in_ok-why.ensures.told n initials A at long explained)
+    subst (λ o. MatchOption o (IsFalse (has x.members n)) (λ why. ExplainsMember x n (map step_name why.items))) c.in-None.is (c.in_ok-why.ensures.told n at)

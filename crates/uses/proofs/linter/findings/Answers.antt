@@ -1,11 +1,10 @@
-use Rattle.std.proofs.Common.{◌≡◌, ◌∙◌, ◌+◌, ◌++◌, ◌∷◌, [], ap, map, take, length, get_or, refl, sym, subst, inl, inr, arith}
+use Rattle.std.proofs.Common.{◌≡◌, ◌∙◌, ◌+◌, ◌++◌, ◌∷◌, [], ap, map, take, sym, subst, inl, inr, arith}
 use Rattle.std.proofs.lemmas.List.{map-append, take_all}
 use Rattle.std.proofs.lemmas.Option.{MatchOption-at_none, MatchOption-at_some}
-use Rattle.feature_core.specs.Nodes.{nodes}
-use Rattle.feature_labels.specs.Names.{id_of}
+use Rattle.guppy_features.specs.feature_labels.Names.{id_of}
 use Rattle.guppy_features.specs.Platforms.{platform_offers}
 use Rattle.guppy_features.specs.PlatformViews.{kinds_of, specs_of}
-use Rattle.feature_sets.specs.Values.{Graph, Set}
+use Rattle.guppy_features.specs.feature_sets.Values.{Set}
 use Rattle.uses.specs.Linted.{IsCleared, IsNamed, finding_name}
 use Rattle.uses.proofs.Linted.{AreCleared, cleared_more, named_grows, named_last, off}
 use Rattle.uses.proofs.linter.findings.Goals as goal
@@ -24,7 +23,6 @@ loop-id-preserved c =
     let x = c.in_ok-explained.explained in
     let e = c.in_ok-explained.ensures in
     let named = map finding_name c.loop-id.found.items in
-    let long = subst (λ (s : Set). length s.members ≡ length (nodes s.graph.tables)) c.initials.ensures c.graph-graph.ensures.size in
     elim c.match-branch-3.branch [
       | in-Some+in_ok-push w ↦
           let one = w.in-Some.one in
@@ -37,7 +35,7 @@ loop-id-preserved c =
           let none = MatchOption-at_none _ _ w.in_default.is c.in_ok-one.ensures in
           subst (λ v. AreCleared q A (map finding_name v.items) (take (i + 1) ids)) (sym w.found-is)
           (cleared_more q A named named ids i id (omega (arith, c.loop-id-test.true)) (λ name h. h) c.loop-id.invariant
-          (subst (λ z. IsCleared q A named (id_of z)) c.id-item.is (inr (off q A x (id_of id) e.graph e.direction long e.explanation e.listed e.least none))))
+          (subst (λ z. IsCleared q A named (id_of z)) c.id-item.is (inr (off q A x (id_of id) e.graph e.least none))))
     ]
 
 pub returns : goal.returns

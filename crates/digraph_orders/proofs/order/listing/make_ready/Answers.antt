@@ -2,8 +2,8 @@ use Rattle.std.proofs.Common.{[], Contains, arith, refl, get_or}
 use Rattle.digraph_orders.proofs.GroupLemmas.{row_alone}
 use Rattle.digraph_orders.proofs.order.listing.make_ready.Goals as goal
 
-pub returns-then-is_alone : goal.returns-then-is_alone
-returns-then-is_alone c =
+pub returns-then-is_alone-clause-waits : goal.returns-then-is_alone-clause-waits
+returns-then-is_alone-clause-waits c =
     let v = c.args.start in
     let ranks = c.args.ranks.now in
     record {

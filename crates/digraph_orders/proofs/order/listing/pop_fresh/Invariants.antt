@@ -1,13 +1,15 @@
-use Rattle.std.proofs.Common.{ℕ, length, Contains}
+use Rattle.std.proofs.Common.{◌≡◌, ℕ, length, Contains}
+use Rattle.guppy_support.specs.Bits.{members}
 use Rattle.digraph_orders.specs.inner.Heads.{IsDone}
 use Rattle.digraph_orders.proofs.order.listing.pop_fresh.Given as goal
 
 abbrev pub invariant-loop-number : goal.invariant-loop-number
 invariant-loop-number l =
     record {
-      kept : (y : ℕ) → Contains l.initial.queue y → ¬ IsDone l.done y → Contains l.queue y;
-      only : (y : ℕ) → Contains l.queue y → Contains l.initial.queue y;
+      kept : (y : ℕ) → Contains (members l.initial.queue) y → ¬ IsDone l.done y → Contains (members l.queue) y;
+      room : length l.queue ≡ length l.initial.queue;
+      only : (y : ℕ) → Contains (members l.queue) y → Contains (members l.initial.queue) y;
     }
 
 abbrev pub decreases-loop-number : goal.decreases-loop-number
-decreases-loop-number l = length l.queue
+decreases-loop-number l = length (members l.queue)

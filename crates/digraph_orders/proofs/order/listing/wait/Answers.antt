@@ -1,9 +1,9 @@
 use Rattle.std.proofs.Common.{inl, inr}
 use Rattle.digraph_orders.proofs.order.listing.wait.Goals as goal
 
-pub returns-in_ok-push : goal.returns-in_ok-push
-returns-in_ok-push c =
-    let j = c.in_ok-push.ensures in
+pub returns-then-node-start-clause-waits : goal.returns-then-node-start-clause-waits
+returns-then-node-start-clause-waits c =
+    let j = c.push.ensures.joins in
     record {
       kept = j.kept;
       now = λ z ne. j.has;

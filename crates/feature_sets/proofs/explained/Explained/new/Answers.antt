@@ -1,9 +1,9 @@
 use Rattle.std.proofs.Common.{sym, subst}
 use Rattle.std.specs.Prelude.{All, IsTrue}
 use Rattle.std.specs.Option.{is_some}
+use Rattle.feature_sets.specs.Explained.{IsBacked}
 use Rattle.feature_sets.specs.Told.{step_told}
 use Rattle.feature_sets.specs.Views.{graph_of}
-use Rattle.feature_sets.specs.inner.Listings.{IsBacked}
 use Rattle.feature_sets.proofs.ToldLemmas.{backed_told}
 use Rattle.feature_sets.proofs.explained.Explained.new.Goals as goal
 

@@ -1,7 +1,19 @@
-use Rattle.std.proofs.Common.{◌∙◌, ap}
+use Rattle.std.proofs.Common.{◌∙◌, ap, refl, rules, sym, subst}
+use Rattle.feature_sets.specs.Parts.{MayCallEach}
 use Rattle.feature_sets.specs.Views.{tables_of_graph}
 use Rattle.feature_sets.proofs.PartLemmas.{calls_made}
 use Rattle.feature_sets.proofs.set.FeatureSet.parted.Goals as goal
+
+pub call_each-requires : goal.call_each-requires
+call_each-requires g c κs =
+    let order = c.nodes_in_order-numbers.ensures.order in (
+      (refl, tt),
+      (
+        subst (λ t. MayCallEach (goal.F-pre g) (goal.F-step g) t c.nodes_in_order-numbers.result c.args.f.now) (sym (ap (λ s. s.graph.tables) c.self.view_is))
+            (subst (λ l. MayCallEach (goal.F-pre g) (goal.F-step g) c.args.self.now.graph.tables l c.args.f.now) (sym order.2) (c.requires order.0 order.1)),
+        (search rules, (search rules, search rules)),
+      ),
+    )
 
 pub returns-clause-called : goal.returns-clause-called
 returns-clause-called g c =

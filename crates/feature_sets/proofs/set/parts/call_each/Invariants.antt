@@ -1,12 +1,13 @@
 use Rattle.std.proofs.Common.{◌<◌, length, All}
 use Rattle.feature_core.specs.Nodes.{nodes}
+use Rattle.feature_sets.specs.Parts.{MayCallEach}
 use Rattle.feature_sets.specs.Views.{tables_of_graph}
 use Rattle.feature_sets.specs.inner.Sorting.{HasCalled}
 use Rattle.feature_sets.proofs.set.parts.call_each.Given as goal
 
 abbrev pub invariant-loop-node : goal.invariant-loop-node
 invariant-loop-node g l = record {
-  callable : goal.F-IsAlwaysCallable g l.f;
+  callable : MayCallEach (goal.F-pre g) (goal.F-step g) (tables_of_graph l.graph) l.numbers l.f;
   within : All (λ n. n < length (nodes (tables_of_graph l.graph))) l.numbers;
   called : HasCalled (goal.F-step g) g.A.Answer.first g.A.Answer.second (tables_of_graph l.graph) l.fn.numbers l.numbers l.fn.f l.f l.one l.other;
 }

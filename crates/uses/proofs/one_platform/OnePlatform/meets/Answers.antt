@@ -1,6 +1,6 @@
 use Rattle.std.proofs.Common.{sym, ◌∙◌, ap}
 use Rattle.std.specs.Str.{bytes_eq}
-use Rattle.guppy_packages.specs.Platform.{spec_text, status_of}
+use Rattle.guppy_features.specs.guppy_packages.Platform.{spec_text, status_of}
 use Rattle.uses.specs.Answers.{holds_on}
 use Rattle.uses.proofs.Tests.{any_of_made}
 use Rattle.uses.proofs.one_platform.OnePlatform.meets.Goals as goal

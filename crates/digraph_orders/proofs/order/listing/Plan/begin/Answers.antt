@@ -1,4 +1,5 @@
 use Rattle.std.proofs.Common.{length, arith, ap, get_or}
+use Rattle.guppy_support.specs.Bits.{members}
 use Rattle.digraph_orders.proofs.PlaceLemmas.{places_within}
 use Rattle.digraph_orders.proofs.ChoiceLemmas.{choose_start, order_end, filled}
 use Rattle.digraph_orders.proofs.order.listing.Plan.begin.Goals as goal
@@ -10,7 +11,7 @@ pop_fresh-requires c =
     omega (arith, o, c.requires.pause.0.plan.done_long)
 
 pub returns-in_default-clause-none : goal.returns-in_default-clause-none
-returns-in_default-clause-none c = order_end c.args.graph.now c.args.ranks.now c.requires.setup c.args.self.now.listed.items c.args.self.now.done c.args.self.now.outside.items c.args.self.now.held.items c.args.self.now.starts c.requires.pause.0 c.in_default.ensures.none
+returns-in_default-clause-none c = order_end c.args.graph.now c.args.ranks.now c.requires.setup c.args.self.now.listed.items c.args.self.now.done c.args.self.now.outside.items c.args.self.now.held.items (members c.args.self.now.starts) c.requires.pause.0 c.in_default.ensures.none
 
 pub make_ready-requires-clause-start : goal.make_ready-requires-clause-start
 make_ready-requires-clause-start c = omega (arith, c.requires.pause.0.plan.starts_nodes _ c.in-Some.ensures.some.was, c.requires.setup.ranking.long)
@@ -25,7 +26,7 @@ make_ready-requires-clause-nodes c =
 pub returns-clause-some : goal.returns-clause-some
 returns-clause-some c =
     let p = c.args.self.now in
-    choose_start c.args.graph.now c.args.ranks.now c.requires.setup p.listed.items p.done p.outside.items p.held.items p.starts c.requires.pause.0 c.in-Some.start c.pop_fresh.new.queue c.make_ready.new.ready
+    choose_start c.args.graph.now c.args.ranks.now c.requires.setup p.listed.items p.done p.outside.items p.held.items (members p.starts) c.requires.pause.0 c.in-Some.start (members c.pop_fresh.new.queue) (members c.make_ready.new.ready)
     c.in-Some.ensures.some
-    (filled c.args.graph.now.nodes c.args.ranks.now p.held.items (get_or c.args.ranks.now c.in-Some.start 0) c.in-Some.start c.make_ready.new.ready c.requires.setup.ranking.long
-    (rw c.deref.ensures.value at c.in_ok-make_ready.ensures))
+    (filled c.args.graph.now.nodes c.args.ranks.now p.held.items (get_or c.args.ranks.now c.in-Some.start 0) c.in-Some.start (members c.make_ready.new.ready) c.requires.setup.ranking.long
+    (rw c.deref.ensures.value at c.make_ready.ensures.waits))

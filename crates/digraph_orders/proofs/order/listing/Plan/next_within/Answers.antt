@@ -1,4 +1,5 @@
 use Rattle.std.proofs.Common.{◌≡◌, ◌<◌, length, arith, get_or}
+use Rattle.guppy_support.specs.Bits.{members}
 use Rattle.guppy_support.specs.Rows.{places}
 use Rattle.digraph_orders.specs.inner.Plans.{rest_of, IsFreshPlace}
 use Rattle.digraph_orders.proofs.PlaceLemmas.{places_within}
@@ -16,21 +17,21 @@ returns-in-Some-clause-some c =
     let p = c.args.self.now in
     let t = c.in-Some.ensures.some in
     rw (c.requires.within.run.ready_only c.in-Some.node t.was).1.0
-    (choose_ready c.args.graph.now c.args.ranks.now c.requires.setup p.listed.items p.done p.outside.items p.held.items p.starts
-    c.args.rank p.ready (rest_of c.args.ranks.now c.args.rank p) c.requires.within c.in-Some.node c.pop_fresh.new.queue t)
+    (choose_ready c.args.graph.now c.args.ranks.now c.requires.setup p.listed.items p.done p.outside.items p.held.items (members p.starts)
+    c.args.rank (members p.ready) (rest_of c.args.ranks.now c.args.rank p) c.requires.within c.in-Some.node (members c.pop_fresh.new.queue) t)
 
 pub row-members-requires-clause-rank : goal.row-members-requires-clause-rank
 row-members-requires-clause-rank c =
     let p = c.args.self.now in
-    let small = rank_small c.args.graph.now c.args.ranks.now c.requires.setup p.listed.items p.done p.outside.items p.held.items p.starts
-    c.args.rank p.ready (rest_of c.args.ranks.now c.args.rank p) c.requires.within in
+    let small = rank_small c.args.graph.now c.args.ranks.now c.requires.setup p.listed.items p.done p.outside.items p.held.items (members p.starts)
+    c.args.rank (members p.ready) (rest_of c.args.ranks.now c.args.rank p) c.requires.within in
     omega (arith, small, c.node_count.ensures)
 
 pub returns-then-is_alone-clause-none : goal.returns-then-is_alone-clause-none
 returns-then-is_alone-clause-none c =
     let p = c.args.self.now in (
-      alone_end c.args.graph.now c.args.ranks.now c.requires.setup p.listed.items p.done p.outside.items p.held.items p.starts
-          c.args.rank p.ready (rest_of c.args.ranks.now c.args.rank p) c.requires.within
+      alone_end c.args.graph.now c.args.ranks.now c.requires.setup p.listed.items p.done p.outside.items p.held.items (members p.starts)
+          c.args.rank (members p.ready) (rest_of c.args.ranks.now c.args.rank p) c.requires.within
           (c.is_alone.ensures c.if-is_alone.true),
       c.in_default.ensures.empty,
     )
@@ -47,8 +48,8 @@ fresh_from-requires c =
 pub returns-in_default-fresh_from-clause-none : goal.returns-in_default-fresh_from-clause-none
 returns-in_default-fresh_from-clause-none c =
     let p = c.args.self.now in (
-      within_end c.args.graph.now c.args.ranks.now c.requires.setup p.listed.items p.done p.outside.items p.held.items p.starts
-          c.args.rank p.ready (rest_of c.args.ranks.now c.args.rank p) c.requires.within
+      within_end c.args.graph.now c.args.ranks.now c.requires.setup p.listed.items p.done p.outside.items p.held.items (members p.starts)
+          c.args.rank (members p.ready) (rest_of c.args.ranks.now c.args.rank p) c.requires.within
           (row_done (places c.args.rank c.args.ranks.now) p.done p.next (rw c.row-members.ensures at c.in_default-fresh_from.ensures.none)),
       c.in_default.ensures.empty,
     )
@@ -60,6 +61,6 @@ returns-clause-some c =
     let f : IsFreshPlace (places c.args.rank c.args.ranks.now) p.done p.next place = rw c.row-members.ensures at c.in-Some-fresh_from.ensures.some in
     let rank : get_or c.args.ranks.now (get_or (places c.args.rank c.args.ranks.now) place 0) 0 ≡ c.args.rank = (places_within c.args.rank c.args.ranks.now place f.within).1 in
     rw (c.row-members.ensures, rank, c.in_default.ensures.empty)
-    (choose_rest c.args.graph.now c.args.ranks.now c.requires.setup p.listed.items p.done p.outside.items p.held.items p.starts
-    c.args.rank p.ready (rest_of c.args.ranks.now c.args.rank p) c.requires.within _ _ c.in_default.ensures.none
+    (choose_rest c.args.graph.now c.args.ranks.now c.requires.setup p.listed.items p.done p.outside.items p.held.items (members p.starts)
+    c.args.rank (members p.ready) (rest_of c.args.ranks.now c.args.rank p) c.requires.within _ _ c.in_default.ensures.none
     (takes_row c.args.ranks.now c.args.rank p.done p.next place f))

@@ -1,9 +1,6 @@
 use Rattle.std.proofs.Common.{◌+◌, ◌/◌, refl}
-use Rattle.digraph_orders.proofs.QueueLemmas.{above_empty, members_empty}
+use Rattle.digraph_orders.proofs.QueueLemmas.{above_empty}
 use Rattle.digraph_orders.proofs.order.queue.Queue.empty.Goals as goal
-
-pub returns : goal.returns
-returns c = rw c.in_ok-numbers.ensures (members_empty c.args.bound)
 
 pub invariant_of-result : goal.invariant_of-result
 invariant_of-result c =

@@ -1,4 +1,4 @@
-use Rattle.std.proofs.Common.{◌≡◌, ◌/◌, arith, sym, ◌∙◌}
+use Rattle.std.proofs.Common.{◌≡◌, ◌/◌, arith, ap, sym, ◌∙◌}
 use Rattle.guppy_support.specs.Bits.{members}
 use Rattle.digraph_orders.proofs.QueueLemmas.{first_least, least_of_least, leaves, upper_less, lower_less, ticks_less, none_left, members_none}
 use Rattle.digraph_orders.proofs.order.queue.Queue.pop.Goals as goal
@@ -12,7 +12,7 @@ returns-in-Some-first_in-2-clause-some c =
     let number = c.in-Some-first_in-2.ensures.some in
     let words_above = least_of_least q.words q.blocks c.in-Some.block c.in-Some-first_in.word i.blocks block.1 word.word word.least in
     let least = least_of_least q.numbers q.words c.in-Some-first_in.word c.in-Some-first_in-2.number i.words words_above number.word number.least in
-    let old : members q.numbers ≡ c.args.self.now = rw i.numbers c.self.view_is in
+    let old : members q.numbers ≡ members c.args.self.now = rw i.numbers (ap members c.self.view_is) in
     rw c.remove.ensures (rw old at (leaves q.numbers c.in-Some-first_in-2.number number.is least))
 
 pub loop-block-preserved-in-Some-first_in : goal.loop-block-preserved-in-Some-first_in
@@ -35,7 +35,7 @@ pub returns-clause-none : goal.returns-clause-none
 returns-clause-none c =
     let q = c.loop-block.self-inside in
     let i = c.loop-block.invariant in
-    let old : members q.numbers ≡ c.args.self.now = rw i.numbers c.self.view_is in
+    let old : members q.numbers ≡ members c.args.self.now = rw i.numbers (ap members c.self.view_is) in
     sym old ∙ members_none q.numbers (λ j h. none_left q.blocks c.in_default.ensures.least (j / 64 / 64) (i.blocks.covers (j / 64) (i.words.covers j h)))
 
 pub returns-clause-empty : goal.returns-clause-empty

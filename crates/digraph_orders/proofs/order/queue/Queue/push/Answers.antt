@@ -1,9 +1,12 @@
-use Rattle.std.proofs.Common.{◌<◌, length, arith}
+use Rattle.std.proofs.Common.{◌<◌, true, List, Bool, length, set, subst}
+use Rattle.guppy_support.specs.Bits.{members}
+use Rattle.digraph_orders.specs.inner.Queues.{Joins}
 use Rattle.digraph_orders.proofs.QueueLemmas.{joins}
 use Rattle.digraph_orders.proofs.order.queue.Queue.push.Goals as goal
 
-pub returns : goal.returns
-returns c =
+pub returns-clause-joins : goal.returns-clause-joins
+returns-clause-joins c =
     let numbers = c.self.inside.numbers in
-    let inside : c.args.number < length numbers = omega (arith, c.size.ensures, c.if-number-size.false) in
-    rw c.insert.ensures (rw c.self.view_is at (joins numbers c.args.number inside))
+    let inside : c.args.number < length numbers = rw c.self.view_is c.requires in
+    rw c.insert.ensures
+    (subst (λ (old : List Bool). Joins (members old) c.args.number (members (set numbers c.args.number true))) c.self.view_is (joins numbers c.args.number inside))

@@ -1,0 +1,18 @@
+-- The std reader or writer that a device wraps, and whether a call failed.
+use Rattle.std.specs.Prelude.{Bool}
+use Rattle.byte_devices.specs.declared.std_devices.FromReader.{FromReader}
+use Rattle.byte_devices.specs.declared.std_devices.ToWriter.{ToWriter}
+
+abbrev pub reader_of : {R : Type 0} → FromReader R → R
+reader_of device = device.reader
+
+-- Whether a read has failed.
+abbrev pub read_failed : {R : Type 0} → FromReader R → Bool
+read_failed device = device.has_failed
+
+abbrev pub writer_of : {W : Type 0} → ToWriter W → W
+writer_of device = device.writer
+
+-- Whether a write has failed.
+abbrev pub write_failed : {W : Type 0} → ToWriter W → Bool
+write_failed device = device.has_failed

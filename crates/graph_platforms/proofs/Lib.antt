@@ -1,0 +1,5 @@
+pub mod Members
+pub mod TextSets
+pub mod Held
+pub mod LinkSpecs
+pub mod Offers

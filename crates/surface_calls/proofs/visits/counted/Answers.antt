@@ -1,9 +1,0 @@
-use Rattle.std.proofs.Common.{rules, inl, inr}
-use Rattle.feature_sets.specs.Visits.{offered}
-use Rattle.surface_calls.proofs.visits.counted.OwnLists.{own-1}
-use Rattle.surface_calls.proofs.visits.counted.Goals as goal
-
--- What the box holds, in whatever state, may be asked for every link.
-pub resolve_with-requires : goal.resolve_with-requires
-resolve_with-requires c κs =
-    (search rules, λ run t o a e h w i b. (elim t.vtable as (λ v. (x : (own-1.entry v).0.Denot) → (own-1.entry v).1.can_visit_any x c.args.query (offered c.args.query.graph e h)) [ inl u ↦ λ x. tt | inr z ↦ λ x. absurd z ]) t.value)
