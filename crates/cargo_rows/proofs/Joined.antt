@@ -3,13 +3,15 @@ use Rattle.std.proofs.Common.{◌≡◌, ◌∙◌, sym, ap, refl, List, ◌∷�
 use Rattle.std.specs.Prelude.{Result, Ok, Err}
 use Rattle.std.specs.List.{list_any}
 use Rattle.std.specs.Str.{bytes_eq}
-use Rattle.cargo_rows.specs.declared.packages.Package.{Package}
+use Rattle.workspace_documents.specs.declared.packages.Package.{Package}
 use Rattle.cargo_documents.specs.Faults.{Text, Refusal, IfNotMemory, ◌>>=◌}
-use Rattle.cargo_rows.specs.Lists.{ById}
-use Rattle.cargo_rows.specs.Nodes.{DepText, NodeText}
-use Rattle.cargo_rows.specs.Rows.{node_of, package_rows, all_rows}
-use Rattle.cargo_rows.specs.inner.Views.{package_view, entries_view, after}
-use Rattle.cargo_rows.proofs.Lists.{if_not_memory}
+use Rattle.workspace_documents.specs.Lists.{ById}
+use Rattle.workspace_documents.specs.Nodes.{DepText, NodeText}
+use Rattle.workspace_documents.specs.Nodes.{node_of}
+use Rattle.cargo_rows.specs.Rows.{package_rows, all_rows}
+use Rattle.workspace_documents.specs.Views.{package_view, entries_view}
+use Rattle.cargo_rows.specs.inner.Views.{after}
+use Rattle.workspace_documents.proofs.Lists.{if_not_memory}
 
 after_first : (first rest : Result Text Refusal) (old new : Text) → after old first ≡ Ok new → after old (first >>= λ a. rest >>= λ b. Ok (a ++ b)) ≡ after new rest
 after_first (Ok a) (Ok b) old new e =

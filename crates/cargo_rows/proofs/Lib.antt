@@ -1,10 +1,4 @@
-pub mod CodeNames
-pub mod Picks
-pub mod Comparators
-pub mod Lists
-pub mod Entries
-pub mod Members
+pub mod IdSets
 pub mod Joined
-pub mod NodeReads
 pub mod WarningLists
 pub mod Whole

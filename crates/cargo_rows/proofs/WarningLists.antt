@@ -4,14 +4,14 @@ use Rattle.std.specs.Prelude.{filter, is_some}
 use Rattle.std.specs.List.{list_any}
 use Rattle.std.specs.Str.{bytes_eq}
 use Rattle.cargo_documents.specs.Faults.{Text}
-use Rattle.cargo_rows.specs.declared.packages.Declaration.{Declaration}
-use Rattle.cargo_rows.specs.declared.packages.Package.{Package}
-use Rattle.cargo_rows.specs.Lists.{ById}
-use Rattle.cargo_rows.specs.Packages.{DeclarationText, PackageText}
-use Rattle.cargo_rows.specs.Nodes.{NodeText}
-use Rattle.cargo_rows.specs.Rows.{node_of}
+use Rattle.workspace_documents.specs.declared.packages.Declaration.{Declaration}
+use Rattle.workspace_documents.specs.declared.packages.Package.{Package}
+use Rattle.workspace_documents.specs.Lists.{ById}
+use Rattle.workspace_documents.specs.Packages.{DeclarationText, PackageText}
+use Rattle.workspace_documents.specs.Nodes.{NodeText}
+use Rattle.workspace_documents.specs.Nodes.{node_of}
 use Rattle.cargo_rows.specs.Warnings.{WarningText, warning_of, is_lost, package_warnings, libraries_of, all_warnings}
-use Rattle.cargo_rows.specs.inner.Views.{declaration_view, package_view, entries_view}
+use Rattle.workspace_documents.specs.Views.{declaration_view, package_view, entries_view}
 
 abbrev pub warnings_from : List Text → PackageText → NodeText → List DeclarationText → List WarningText
 warnings_from libraries p node ds = map (warning_of p.id) (filter (is_lost libraries p node) ds)

@@ -1,4 +1,4 @@
--- The rows and warnings of a document, from its packages and its other fields.
+-- The rows of a document, by its packages and its other fields.
 use Rattle.std.proofs.Common.{◌≡◌, ◌∙◌, sym, ap, refl, map}
 use Rattle.std.specs.Prelude.{Result, Ok, Err, IfOk, Option, codes}
 use Rattle.json.specs.Json.{Json}
@@ -6,33 +6,21 @@ use Rattle.json.specs.Find.{get}
 use Rattle.cargo_documents.specs.Faults.{Refusal, IfNotMemory}
 use Rattle.cargo_documents.specs.declared.fault.DocumentFault.{DocumentFault}
 use Rattle.cargo_rows.specs.declared.metadata.Rows.{Rows}
-use Rattle.cargo_rows.specs.Lists.{ById}
-use Rattle.cargo_rows.specs.Packages.{PackageText, packages_at, packages_in}
-use Rattle.cargo_rows.specs.Nodes.{ResolvedText, resolve_in, members_in, nodes_in, resolved_in}
+use Rattle.workspace_documents.specs.Lists.{ById}
+use Rattle.workspace_documents.specs.Packages.{PackageText, packages_at, packages_in}
+use Rattle.workspace_documents.specs.Nodes.{ResolvedText, resolve_in, members_in, nodes_in, resolved_in}
 use Rattle.cargo_rows.specs.Rows.{all_rows, rows_of}
 use Rattle.cargo_rows.specs.Warnings.{libraries_of, all_warnings, warnings_of, warning_view}
 use Rattle.cargo_documents.specs.Parts.{Parts}
-use Rattle.cargo_rows.proofs.Lists.{if_not_memory}
-
-same_members : (packages : ById PackageText) (a b : Json) → get (codes "workspace_members") a ≡ get (codes "workspace_members") b → members_in packages a ≡ members_in packages b
-unfolding members_in
-same_members packages a b e = rw e refl
-
-same_nodes : (packages : ById PackageText) (a b : Json) → get (codes "resolve") a ≡ get (codes "resolve") b → nodes_in packages a ≡ nodes_in packages b
-unfolding nodes_in resolve_in
-same_nodes packages a b e = rw e refl
-
-same_resolved : (packages : ById PackageText) (a b : Json) → members_in packages a ≡ members_in packages b → nodes_in packages a ≡ nodes_in packages b → resolved_in packages a ≡ resolved_in packages b
-unfolding resolved_in
-same_resolved packages a b e f = rw (e, f) refl
+use Rattle.workspace_documents.proofs.Lists.{if_not_memory}
+use Rattle.workspace_documents.proofs.Whole as whole
 
 module _ (d : Json) (found : Option Json) (rest : Json) (parts : Parts d found rest) (packages : ById PackageText) (were : packages_at found ≡ Ok packages) where
   listed : packages_in d ≡ Ok packages
-  unfolding packages_in
-  listed = ap packages_at (sym parts.taken) ∙ were
+  listed = whole.listed d found rest parts packages were
 
   of_resolved : resolved_in packages d ≡ resolved_in packages rest
-  of_resolved = same_resolved packages d rest (same_members packages d rest (sym (parts.others (codes "workspace_members") refl))) (same_nodes packages d rest (sym (parts.others (codes "resolve") refl)))
+  of_resolved = whole.of_resolved d found rest parts packages were
 
   pub resolved_refused : (e : Refusal) → IfNotMemory e (resolved_in packages rest ≡ Err e) → IfNotMemory e (rows_of d ≡ Err e)
   unfolding rows_of

@@ -1,9 +1,4 @@
 pub mod Document
-pub mod Lists
-pub mod Packages
-pub mod Nodes
-pub mod Requirements
-pub mod Dependencies
 pub mod Rows
 pub mod Warnings
 pub mod Run

@@ -1,17 +1,17 @@
 -- The rows of a document.
 use Rattle.std.specs.Prelude.{◌||◌, ◌++◌, List, [], ◌∷◌, flat_map, codes, Option, Some, None, Bool, true, false, Result, Ok, Err, if◌then◌else◌, ⊤}
 use Rattle.std.specs.List.{list_any}
-use Rattle.std.specs.Option.{unwrap_or}
 use Rattle.std.specs.Str.{bytes_eq}
 use Rattle.std.specs.Char.{is_ascii_control}
 use Rattle.json.specs.Json.{Json}
-use Rattle.cargo_rows.specs.declared.packages.Kind.{Kind}
-use Rattle.cargo_rows.specs.declared.packages.Kind.TheVariants as kind
+use Rattle.cargo_workspaces.specs.declared.package.Kind.{Kind}
+use Rattle.cargo_workspaces.specs.declared.package.Kind.TheVariants as kind
 use Rattle.cargo_documents.specs.Faults.{Text, Refusal, control, ◌>>=◌}
-use Rattle.cargo_rows.specs.Lists.{joined, ById, at_id}
-use Rattle.cargo_rows.specs.Packages.{FeatureText, PackageText, packages_in}
-use Rattle.cargo_rows.specs.Nodes.{DepText, NodeText, no_node, resolved_in}
-use Rattle.cargo_rows.specs.Dependencies.{DependencyText, name_of, dependencies_of, agree}
+use Rattle.workspace_documents.specs.Lists.{joined, ById}
+use Rattle.cargo_workspaces.specs.Workspaces.{FeatureText}
+use Rattle.workspace_documents.specs.Packages.{PackageText, packages_in}
+use Rattle.workspace_documents.specs.Nodes.{DepText, NodeText, node_of, resolved_in}
+use Rattle.workspace_documents.specs.Dependencies.{DependencyText, name_of, dependencies_of, agree}
 
 -- whether a text has an ASCII control character, so that a row can't contain it
 abbrev pub has_control : Text → Bool
@@ -43,7 +43,7 @@ member_word false = codes "external"
 abbrev pub kind_word : Kind → Text
 kind_word kind.Normal = codes "normal"
 kind_word kind.Build = codes "build"
-kind_word kind.Dev = codes "dev"
+kind_word kind.Development = codes "dev"
 
 abbrev pub need_word : Bool → Text
 need_word true = codes "optional"
@@ -74,14 +74,14 @@ feature_rows features = joined (λ f. row (codes "feature") (feature_fields f)) 
 abbrev pub dependency_rows : List DependencyText → Result Text Refusal
 dependency_rows es = joined (λ e. row (codes "dep") (dependency_fields e)) es
 
--- the `dep` rows of a package, given the packages that it uses; or the first fault
+-- the rows of the declarations of a package that uses these
 unfoldable pub led_rows : List DepText → PackageText → Result Text Refusal
 led_rows deps p =
     dependencies_of p deps >>= λ es.
     agree p.id es es >>= λ _.
     dependency_rows es
 
--- the rows of a package, given the packages that it uses: its own, its features' and its dependencies'
+-- the rows of a package that uses these: its own, its features', and its dependencies'
 unfoldable pub package_rows : Bool → List DepText → PackageText → Result Text Refusal
 package_rows is_member deps p =
     row (codes "package") (p.id ∷ member_word is_member ∷ []) >>= λ first.
@@ -89,11 +89,7 @@ package_rows is_member deps p =
     led_rows deps p >>= λ dependencies.
     Ok ((first ++ features) ++ dependencies)
 
--- the node of package `id`, or the empty node
-abbrev pub node_of : Text → ById NodeText → NodeText
-node_of id nodes = unwrap_or (at_id id nodes) no_node
-
--- the rows of all packages, in the order of their ids, or the first fault
+-- the rows of each package
 abbrev pub all_rows : List Text → ById NodeText → ById PackageText → Result Text Refusal
 all_rows members nodes packages = joined (λ e. package_rows (list_any (bytes_eq e.0) members) (node_of e.0 nodes).deps e.1) packages
 

@@ -6,11 +6,12 @@ use Rattle.std.specs.String.{string_bytes}
 use Rattle.json.specs.Json.{Json}
 use Rattle.cargo_documents.specs.Faults.{Text, Refusal, ◌>>=◌}
 use Rattle.cargo_rows.specs.declared.warnings.Warning.{Warning}
-use Rattle.cargo_rows.specs.Lists.{ById}
-use Rattle.cargo_rows.specs.Packages.{DeclarationText, FeatureText, PackageText, packages_in}
-use Rattle.cargo_rows.specs.Nodes.{NodeText, resolved_in}
-use Rattle.cargo_rows.specs.Dependencies.{FoundPackage, nothing, one, several, name_of, choice}
-use Rattle.cargo_rows.specs.Rows.{node_of}
+use Rattle.workspace_documents.specs.Lists.{ById}
+use Rattle.cargo_workspaces.specs.Workspaces.{FeatureText}
+use Rattle.workspace_documents.specs.Packages.{DeclarationText, PackageText, packages_in}
+use Rattle.workspace_documents.specs.Nodes.{NodeText, resolved_in}
+use Rattle.workspace_documents.specs.Dependencies.{FoundPackage, nothing, one, several, name_of, choice}
+use Rattle.workspace_documents.specs.Nodes.{node_of}
 
 -- the rest of `text` after `front`, if `text` begins with `front`
 abbrev pub rest_after : Text → Text → Option Text

@@ -1,3 +1,2 @@
 -- Definitions that only contracts of private functions use.
 pub mod Views
-pub mod Picks

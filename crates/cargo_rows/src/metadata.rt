@@ -4,27 +4,29 @@ ghost use Rattle.std.specs.Str.{IsUtf8};
 ghost use Rattle.json.specs.Value.{value_view};
 ghost use Rattle.cargo_rows.specs.Document.{document};
 ghost use Rattle.cargo_documents.specs.Faults.{Text, Gives};
-ghost use Rattle.cargo_rows.specs.Nodes.{no_node};
+ghost use Rattle.workspace_documents.specs.Nodes.{no_node};
 ghost use Rattle.cargo_rows.specs.Rows.{led_rows, package_rows, all_rows, rows_of};
 ghost use Rattle.cargo_rows.specs.Run.{AreRows, AreWarnings, Refuses};
 ghost use Rattle.cargo_rows.specs.Warnings.{libraries_of, all_warnings, warnings_of, warning_view};
-ghost use Rattle.cargo_rows.specs.inner.Views.{HasTexts, text_view, dep_view, node_view, package_view, entries_view, after};
+ghost use Rattle.workspace_documents.specs.Views.{text_view, dep_view, node_view, package_view, entries_view};
+ghost use Rattle.cargo_rows.specs.inner.Views.{HasTexts, after};
 
-use crate::dependencies::{check_names, dependencies_of};
-use crate::nodes::{Dep, Node, Nodes, Resolved, node_at, resolved_in, set_of};
-use crate::packages::{Package, Packages, packages_of};
 use crate::rows::{push_dependencies, push_features, push_package};
+use crate::sets::set_of;
 use crate::warnings::{Warning, warnings_of_packages};
 use cargo_documents::{DocumentFault, Fault, Unread, parts_of, read};
 use json::{Reader, Scratch, Value};
 use std::alloc::Global;
 use std::collections::BTreeSet;
+use workspace_documents::{
+    Dep, Node, Nodes, Package, Packages, Resolved, check_names, dependencies_of, node_at,
+    packages_of, resolved_in,
+};
 
 /// The depth to which arrays and objects may nest.
 const MAX_DEPTH: usize = 127;
 
-/// Appends the `dep` rows of `package` to `rows`; `deps` are the packages that it uses. Returns `Ambiguous`, `TwoNames` or
-/// `Control` for the first fault.
+/// Adds the rows of the declarations of a package that uses these.
 #[tactic(auto, unfolding(crate::specs::Rows::led_rows))]
 fn push_led<'p, 'v>(
     alloc: Global,
@@ -40,8 +42,7 @@ fn push_led<'p, 'v>(
     Ok(())
 }
 
-/// Appends the rows of `package` to `rows`: its own, its features' and its dependencies'. `deps` are the packages that it uses.
-/// Returns `Ambiguous`, `TwoNames` or `Control` for the first fault.
+/// Adds the rows of one package that uses these.
 #[tactic(auto, unfolding(crate::specs::Rows::package_rows))]
 fn push_rows<'p, 'v>(
     alloc: Global,
@@ -58,8 +59,7 @@ fn push_rows<'p, 'v>(
     Ok(())
 }
 
-/// Returns the rows of `packages`, in the order of their ids, or the first fault. `absent` is the empty node, for a package that
-/// has none.
+/// The rows of each package; `absent` is a node with nothing.
 fn rows_of_packages<'p, 'v>(
     alloc: Global,
     packages: &'p Packages<'v>,
@@ -88,7 +88,7 @@ pub(crate) struct Rows {
     pub(crate) warnings: Vec<Warning>,
 }
 
-/// Returns the rows and the warnings of `packages`, from the members and the nodes in `resolved`, or the first fault.
+/// The rows and the warnings of packages, by what Cargo resolved.
 fn rows_over<'p, 'v>(
     alloc: Global,
     packages: &'p Packages<'v>,
@@ -104,8 +104,8 @@ fn rows_over<'p, 'v>(
     Ok(Rows { text, warnings })
 }
 
-/// Returns the rows and the warnings of `document`, or its first fault. Drops each part of the document once it is read.
-#[tactic(auto, unfolding(crate::specs::Rows::rows_of, crate::specs::Packages::packages_in))]
+/// The rows of a document. What was read of it is dropped before more is read.
+#[tactic(auto, unfolding(crate::specs::Rows::rows_of, workspace_documents::specs::Packages::packages_in))]
 fn rows_of_document(alloc: Global, document: Value<'_>) -> Result<Rows, DocumentFault>
     ensures rows { Gives (λ rows. string_bytes rows.text) result (rows_of (value_view document.entry)) }
     ensures warnings { IfOk result (λ rows. warnings_of (value_view document.entry) ≡ Ok (map warning_view rows.warnings.items)) }

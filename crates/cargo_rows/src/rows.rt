@@ -2,12 +2,14 @@
 ghost use Rattle.std.specs.Prelude.{◌≡◌, ◌++◌, [], ◌∷◌, codes, map, option_map, IfOk, OnOk, string_bytes};
 ghost use Rattle.cargo_documents.specs.Faults.{Gives};
 ghost use Rattle.cargo_rows.specs.Rows as spec;
-ghost use Rattle.cargo_rows.specs.inner.Views.{text_view, feature_view, dependency_view, after};
+ghost use Rattle.cargo_workspaces.specs.Views.{feature_text};
+ghost use Rattle.workspace_documents.specs.Views.{text_view, dependency_view};
+ghost use Rattle.cargo_rows.specs.inner.Views.{after};
 
-use crate::dependencies::Dependency;
-use crate::packages::{Feature, Kind, Package};
 use cargo_documents::DocumentFault;
+use cargo_workspaces::{Feature, Kind};
 use std::alloc::{AllocError, Global};
+use workspace_documents::{Dependency, Package};
 
 /// Returns whether one of `bytes` is an ASCII control character.
 fn has_control(bytes: &[u8]) -> bool
@@ -77,7 +79,7 @@ pub(crate) fn push_package(
 
 /// Returns the fields of the row of `feature`: its name and its items.
 fn feature_fields<'v>(alloc: Global, feature: &Feature<'v>) -> Result<Vec<&'v str>, AllocError>
-    ensures { IfOk result (λ fields. map (λ s. s.now) fields.items ≡ spec.feature_fields (feature_view feature.now)) }
+    ensures { IfOk result (λ fields. map (λ s. s.now) fields.items ≡ spec.feature_fields (feature_text feature.now)) }
 {
     let mut fields = Vec::new(alloc);
     fields.push(feature.name)?;
@@ -91,7 +93,7 @@ pub(crate) fn push_features(
     rows: &mut String,
     features: &[Feature<'_>],
 ) -> Result<(), DocumentFault>
-    ensures { Gives (λ _. string_bytes rows.new) result (after (string_bytes rows.old) (spec.feature_rows (map feature_view features.now))) }
+    ensures { Gives (λ _. string_bytes rows.new) result (after (string_bytes rows.old) (spec.feature_rows (map feature_text features.now))) }
 {
     for feature in features {
         let fields = feature_fields(alloc, feature)?;
@@ -107,7 +109,7 @@ fn kind_word(kind: Kind) -> &'static str
     match kind {
         Kind::Normal => "normal",
         Kind::Build => "build",
-        Kind::Dev => "dev",
+        Kind::Development => "dev",
     }
 }
 

@@ -3,16 +3,20 @@ ghost use Rattle.std.specs.Prelude.{◌≡◌, ◌++◌, List, IfOk, OnOk, map, 
 ghost use Rattle.std.specs.List.{list_any};
 ghost use Rattle.std.specs.Str.{bytes_eq};
 ghost use Rattle.cargo_documents.specs.Faults.{Text};
-ghost use Rattle.cargo_rows.specs.Nodes.{no_node};
+ghost use Rattle.workspace_documents.specs.Nodes.{no_node};
 ghost use Rattle.cargo_rows.specs.Warnings as spec;
-ghost use Rattle.cargo_rows.specs.inner.Views.{HasTexts, text_view, declaration_view, feature_view, node_view, package_view, entries_view};
+ghost use Rattle.cargo_workspaces.specs.Views.{feature_text};
+ghost use Rattle.workspace_documents.specs.Views.{text_view, declaration_view, node_view, package_view, entries_view};
+ghost use Rattle.cargo_rows.specs.inner.Views.{HasTexts};
 
-use crate::dependencies::{Found, choice, name_of};
-use crate::nodes::{Node, Nodes, node_at, set_of};
-use crate::packages::{Declaration, Feature, Package, Packages};
+use crate::sets::set_of;
+use cargo_workspaces::Feature;
 use std::alloc::{AllocError, Global};
 use std::collections::BTreeSet;
 use std::fmt;
+use workspace_documents::{
+    Declaration, Found, Node, Nodes, Package, Packages, choice, name_of, node_at,
+};
 
 /// A declaration of a workspace package that should lead to a package but doesn't. `Display` prints the line for standard error.
 #[derive(Debug, Drop)]
@@ -71,7 +75,7 @@ fn names(name: &str, item: &str) -> bool
 
 /// Returns whether an item of `feature` names the dependency `name`.
 fn feature_names(name: &str, feature: &Feature<'_>) -> bool
-    ensures { result ≡ spec.feature_names name.now (feature_view feature.now) }
+    ensures { result ≡ spec.feature_names name.now (feature_text feature.now) }
 {
     for item in &feature.items {
         if names(name, item) {
@@ -83,7 +87,7 @@ fn feature_names(name: &str, feature: &Feature<'_>) -> bool
 
 /// Returns whether an item of one of `features` names the dependency `name`.
 fn is_named(name: &str, features: &[Feature<'_>]) -> bool
-    ensures { result ≡ spec.is_named name.now (map feature_view features.now) }
+    ensures { result ≡ spec.is_named name.now (map feature_text features.now) }
 {
     for feature in features {
         if feature_names(name, feature) {
@@ -108,7 +112,7 @@ fn is_among(text: &str, texts: &[&str]) -> bool
 /// Returns whether one of `features` is enabled and has an item that names the dependency `name`. `on` has the names of the
 /// enabled features.
 fn is_turned_on(on: &[&str], name: &str, features: &[Feature<'_>]) -> bool
-    ensures { result ≡ spec.is_turned_on (map text_view on.now) name.now (map feature_view features.now) }
+    ensures { result ≡ spec.is_turned_on (map text_view on.now) name.now (map feature_text features.now) }
 {
     for feature in features {
         if feature_names(name, feature) && is_among(feature.name, on) {
@@ -201,7 +205,7 @@ fn libraries_of<'v>(alloc: Global, packages: &Packages<'v>) -> Result<Vec<&'v st
     Ok(names)
 }
 
-/// Returns the names of the packages that have a library, as a set. The only error is out of memory.
+/// Returns the names of the packages that have a library, as a set.
 fn libraries_in<'v>(alloc: Global, packages: &Packages<'v>) -> Result<BTreeSet<&'v str>, AllocError>
     ensures { IfOk result (λ set. HasTexts set (spec.libraries_of (map (λ e. e.1) (entries_view package_view packages.now.entries)))) }
 {
@@ -210,8 +214,7 @@ fn libraries_in<'v>(alloc: Global, packages: &Packages<'v>) -> Result<BTreeSet<&
     Ok(set)
 }
 
-/// Returns the warnings for the packages whose ids are in `members`, in the order of the ids. `absent` is
-/// the empty node, for a package that has none. The only error is out of memory.
+/// Returns the warnings for the packages whose ids are in `members`, in the order of the ids. `absent` is a node with nothing.
 pub(crate) fn warnings_of_packages<'p, 'v>(
     alloc: Global,
     packages: &'p Packages<'v>,

@@ -11,9 +11,8 @@ use std::io::ErrorKind;
 use std::process::ExitCode;
 use std::{env, io};
 
-/// Writes the rows for the program's arguments and returns the warnings. Returns `Usage` for two arguments or one that isn't UTF-8,
-/// and the faults of `answer_file` and `run`.
-fn answer(rt: &HostRuntime) -> Result<Vec<Warning>, Fault> {
+/// Returns the word of the command line, if there is one. Two words are a fault.
+fn file_word(rt: &HostRuntime) -> Result<Option<String>, Fault> {
     let mut words = match env::args(rt) {
         Ok(words) => words.skip(1),
         Err(error) if error.kind() == ErrorKind::InvalidData => return Err(Fault::Usage),
@@ -23,18 +22,25 @@ fn answer(rt: &HostRuntime) -> Result<Vec<Warning>, Fault> {
     if words.next().is_some() {
         return Err(Fault::Usage);
     }
-    match file {
+    Ok(file)
+}
+
+/// Writes the rows that the program's words ask for, and returns the warnings.
+fn answer(rt: &HostRuntime) -> Result<Vec<Warning>, Fault> {
+    match file_word(rt)? {
         Some(file) if file.as_str() != "-" => answer_file(rt, file.as_str()),
-        _ => {
-            let mut writer = ToWriter::new(io::writer(rt));
-            let mut reader = FromReader::new(rt.stdin());
-            run(rt.alloc(), &mut reader, &mut writer)
-        }
+        _ => answer_input(rt),
     }
 }
 
-/// Writes the rows of the file at `path` and returns the warnings. Returns `CannotRead` if it can't be opened, and the faults of
-/// `run`.
+/// Writes the rows of standard input, and returns the warnings.
+fn answer_input(rt: &HostRuntime) -> Result<Vec<Warning>, Fault> {
+    let mut writer = ToWriter::new(io::writer(rt));
+    let mut reader = FromReader::new(rt.stdin());
+    run(rt.alloc(), &mut reader, &mut writer)
+}
+
+/// Writes the rows of the file of this path, and returns the warnings.
 fn answer_file(rt: &HostRuntime, path: &str) -> Result<Vec<Warning>, Fault> {
     let Ok(opened) = File::open(rt, path) else {
         return Err(Fault::CannotRead);

@@ -2,8 +2,8 @@ use Rattle.std.proofs.Common.{◌∙◌, ap, map}
 use Rattle.std.specs.Map.Iter.{deref_pair}
 use Rattle.std.proofs.lemmas.Map.Iter.{rest_more}
 use Rattle.std.proofs.lemmas.Result.{err_from_is_err_and}
-use Rattle.cargo_rows.specs.Nodes.{NodeText}
-use Rattle.cargo_rows.specs.inner.Views.{dep_view}
+use Rattle.workspace_documents.specs.Nodes.{NodeText}
+use Rattle.workspace_documents.specs.Views.{dep_view}
 use Rattle.cargo_rows.proofs.Joined.{rows_more, rows_refused}
 use Rattle.cargo_rows.proofs.metadata.rows_of_packages.Goals as goal
 

@@ -2,7 +2,8 @@ use Rattle.std.proofs.Common.{◌≡◌, List}
 use Rattle.std.specs.String.{string_bytes}
 use Rattle.cargo_documents.specs.Faults.{Text}
 use Rattle.cargo_rows.specs.Rows.{all_rows}
-use Rattle.cargo_rows.specs.inner.Views.{HasTexts, node_view, package_view, entries_view, after}
+use Rattle.workspace_documents.specs.Views.{node_view, package_view, entries_view}
+use Rattle.cargo_rows.specs.inner.Views.{HasTexts, after}
 use Rattle.cargo_rows.proofs.metadata.rows_of_packages.Given as goal
 
 abbrev pub invariant-loop-id : goal.invariant-loop-id

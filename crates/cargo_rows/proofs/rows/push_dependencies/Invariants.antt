@@ -1,7 +1,8 @@
 use Rattle.std.proofs.Common.{◌≡◌, map, drop}
 use Rattle.std.specs.String.{string_bytes}
 use Rattle.cargo_rows.specs.Rows.{dependency_rows}
-use Rattle.cargo_rows.specs.inner.Views.{dependency_view, after}
+use Rattle.workspace_documents.specs.Views.{dependency_view}
+use Rattle.cargo_rows.specs.inner.Views.{after}
 use Rattle.cargo_rows.proofs.rows.push_dependencies.Given as goal
 
 abbrev pub invariant-loop-dependency : goal.invariant-loop-dependency

@@ -1,7 +1,7 @@
 use Rattle.std.proofs.Common.{◌≡◌, map, drop}
 use Rattle.std.specs.List.{list_any}
 use Rattle.cargo_rows.specs.Warnings.{names}
-use Rattle.cargo_rows.specs.inner.Views.{text_view}
+use Rattle.workspace_documents.specs.Views.{text_view}
 use Rattle.cargo_rows.proofs.warnings.feature_names.Given as goal
 
 abbrev pub invariant-loop-item : goal.invariant-loop-item

@@ -1,6 +1,6 @@
 use Rattle.std.proofs.Common.{◌≡◌, ◌++◌, map}
 use Rattle.cargo_rows.specs.Warnings.{libraries_of}
-use Rattle.cargo_rows.specs.inner.Views.{package_view, entries_view, text_view}
+use Rattle.workspace_documents.specs.Views.{package_view, entries_view, text_view}
 use Rattle.cargo_rows.proofs.WarningLists.{packages_of}
 use Rattle.cargo_rows.proofs.warnings.libraries_of.Given as goal
 

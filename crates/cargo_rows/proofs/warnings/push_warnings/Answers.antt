@@ -1,6 +1,6 @@
 use Rattle.std.proofs.Common.{◌++◌, ap, sym, map}
 use Rattle.cargo_rows.specs.Warnings.{package_warnings, warning_view}
-use Rattle.cargo_rows.specs.inner.Views.{declaration_view, node_view, package_view}
+use Rattle.workspace_documents.specs.Views.{declaration_view, node_view, package_view}
 use Rattle.cargo_rows.proofs.WarningLists.{warnings_from}
 use Rattle.cargo_rows.proofs.warnings.push_warnings.Goals as goal
 

@@ -1,7 +1,8 @@
 use Rattle.std.proofs.Common.{◌≡◌, ◌++◌, List, map, drop}
 use Rattle.cargo_documents.specs.Faults.{Text}
 use Rattle.cargo_rows.specs.Warnings.{package_warnings, warning_view}
-use Rattle.cargo_rows.specs.inner.Views.{HasTexts, declaration_view, node_view, package_view}
+use Rattle.workspace_documents.specs.Views.{declaration_view, node_view, package_view}
+use Rattle.cargo_rows.specs.inner.Views.{HasTexts}
 use Rattle.cargo_rows.proofs.WarningLists.{warnings_from}
 use Rattle.cargo_rows.proofs.warnings.push_warnings.Given as goal
 

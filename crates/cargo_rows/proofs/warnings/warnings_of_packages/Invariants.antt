@@ -1,7 +1,8 @@
 use Rattle.std.proofs.Common.{◌≡◌, ◌++◌, List, map}
 use Rattle.cargo_documents.specs.Faults.{Text}
 use Rattle.cargo_rows.specs.Warnings.{libraries_of, all_warnings, warning_view}
-use Rattle.cargo_rows.specs.inner.Views.{HasTexts, node_view, package_view, entries_view}
+use Rattle.workspace_documents.specs.Views.{node_view, package_view, entries_view}
+use Rattle.cargo_rows.specs.inner.Views.{HasTexts}
 use Rattle.cargo_rows.proofs.WarningLists.{packages_of}
 use Rattle.cargo_rows.proofs.warnings.warnings_of_packages.Given as goal
 

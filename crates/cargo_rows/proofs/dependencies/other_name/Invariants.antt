@@ -1,9 +1,0 @@
-use Rattle.std.proofs.Common.{◌≡◌, map, drop}
-use Rattle.std.specs.List.{find}
-use Rattle.cargo_rows.specs.Dependencies.{is_other_name}
-use Rattle.cargo_rows.specs.inner.Views.{dependency_view}
-use Rattle.cargo_rows.proofs.dependencies.other_name.Given as goal
-
-abbrev pub invariant-loop-other : goal.invariant-loop-other
-invariant-loop-other l =
-    find (is_other_name (dependency_view l.one)) (map dependency_view l.dependencies) ≡ find (is_other_name (dependency_view l.one)) (map dependency_view (drop l.other-index l.dependencies))

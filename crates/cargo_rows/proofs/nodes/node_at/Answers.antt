@@ -1,5 +1,0 @@
-use Rattle.cargo_rows.proofs.NodeReads.{node_found}
-use Rattle.cargo_rows.proofs.nodes.node_at.Goals as goal
-
-pub returns : goal.returns
-returns c = node_found c.args.nodes.now.entries c.args.id.now c.get.result c.args.absent c.unwrap_or.result c.unwrap_or.ensures c.requires c.get.ensures.value

@@ -1,0 +1,11 @@
+pub mod CodeNames
+pub mod Picks
+pub mod Comparators
+pub mod Lists
+pub mod Entries
+pub mod Members
+pub mod NodeReads
+pub mod LooseFields
+pub mod LeadLists
+pub mod Steps
+pub mod Whole

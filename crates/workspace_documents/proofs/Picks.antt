@@ -1,0 +1,54 @@
+-- The search among used packages and the declarations that lead to one, step by step.
+use Rattle.std.proofs.Common.{◌≡◌, ◌∙◌, sym, ap, refl, ℕ, ◌+◌, ◌<◌, List, [], ◌∷◌, ◌++◌, map, length, take, drop, get_or, Bool, true, false, add-one, drop-cons}
+use Rattle.std.specs.Prelude.{filter, Result, Ok, Err, Some, None}
+use Rattle.std.proofs.lemmas.List.{take_more, map-append, append-nil}
+use Rattle.std.proofs.lemmas.List.Elements.{filter-append}
+use Rattle.workspace_documents.specs.declared.packages.Declaration.{Declaration}
+use Rattle.workspace_documents.specs.declared.nodes.Dep.{Dep}
+use Rattle.workspace_documents.specs.declared.dependencies.Asked.{Asked}
+use Rattle.workspace_documents.specs.Packages.{DeclarationText, PackageText}
+use Rattle.workspace_documents.specs.Nodes.{DepText}
+use Rattle.cargo_documents.specs.Faults.{Text, Refusal, ◌>>=◌}
+use Rattle.workspace_documents.specs.Dependencies.{nothing, found_of, pick, DependencyText, target_of, led}
+use Rattle.workspace_documents.specs.inner.Picks.{with_one, and_one, answers, meets}
+use Rattle.workspace_documents.specs.Views.{declaration_view, dep_view, package_view}
+use Rattle.workspace_documents.proofs.Lists.{prepend, prepend_one}
+
+found_of-more : (ps : List PackageText) (p : PackageText) → found_of (ps ++ p ∷ []) ≡ with_one (found_of ps) p
+found_of-more [] p = refl
+found_of-more (a ∷ []) p = refl
+found_of-more (a ∷ b ∷ rest) p = refl
+
+abbrev target : DepText → PackageText
+target dep = dep.target
+
+tested : (t : DepText → Bool) (ds : List DepText) (z : DepText) (b : Bool) → t z ≡ b → found_of (map target (filter t (ds ++ z ∷ []))) ≡ and_one b (found_of (map target (filter t ds))) (target z)
+tested t ds z true e = rw (filter-append t ds (z ∷ []), e, map-append target (filter t ds) (z ∷ [])) (found_of-more _ _)
+tested t ds z false e = rw (filter-append t ds (z ∷ []), e, map-append target (filter t ds) []) (ap found_of (append-nil _))
+
+pub pick_none : (ask : Asked) (id : Text) (d : DeclarationText) → pick (answers ask) id d [] ≡ nothing
+unfolding pick
+pick_none ask id d = refl
+
+pub pick_step : (ask : Asked) (id : Text) (d : DeclarationText) (ds : List Dep) (i : ℕ) (z : Dep) → i < length ds → z ≡ get_or ds i z → and_one (meets ask id d (dep_view z)) (pick (answers ask) id d (map dep_view (take i ds))) (package_view z.target.now) ≡ pick (answers ask) id d (map dep_view (take (i + 1) ds))
+unfolding pick meets
+pick_step ask id d ds i z h e =
+    let more : take (i + 1) ds ≡ take i ds ++ z ∷ [] = take_more ds i z h ∙ ap (λ x. take i ds ++ x ∷ []) (sym e) in
+    let seen : map dep_view (take (i + 1) ds) ≡ map dep_view (take i ds) ++ dep_view z ∷ [] = ap (map dep_view) more ∙ map-append dep_view (take i ds) (z ∷ []) in
+    sym (ap (λ xs. found_of (map target (filter (meets ask id d) xs))) seen ∙ tested (meets ask id d) (map dep_view (take i ds)) (dep_view z) (meets ask id d (dep_view z)) refl)
+
+same_rest : {X : Type 0} (rest : Result (List X) Refusal) → (rest >>= λ xs. Ok xs) ≡ rest
+same_rest (Ok xs) = refl
+same_rest (Err e) = refl
+
+module _ (id : Text) (deps : List DepText) (ds : List Declaration) (i : ℕ) (d : Declaration) (es : List DependencyText) (whole : Result (List DependencyText) Refusal) (within : i < length ds) (is : d ≡ get_or ds i d) (so : whole ≡ prepend es (led id deps (map declaration_view (drop i ds)))) where
+  here : map declaration_view (drop i ds) ≡ declaration_view d ∷ map declaration_view (drop (i + 1) ds)
+  here =
+      let at : drop i ds ≡ get_or ds i d ∷ drop (i + 1) ds = rw (add-one, drop-cons ds i d within) refl in
+      rw at (ap (λ x. declaration_view x ∷ map declaration_view (drop (i + 1) ds)) (sym is))
+
+  pub led_nowhere : target_of id (declaration_view d) deps ≡ Ok None → whole ≡ prepend es (led id deps (map declaration_view (drop (i + 1) ds)))
+  led_nowhere none = so ∙ rw (here, none) (ap (prepend es) (same_rest (led id deps (map declaration_view (drop (i + 1) ds)))))
+
+  pub led_more : (p : PackageText) → target_of id (declaration_view d) deps ≡ Ok (Some p) → whole ≡ prepend (es ++ record { declaration = declaration_view d; target = p } ∷ []) (led id deps (map declaration_view (drop (i + 1) ds)))
+  led_more p some = so ∙ rw (here, some) (prepend_one es (record { declaration = declaration_view d; target = p }) (led id deps (map declaration_view (drop (i + 1) ds))))

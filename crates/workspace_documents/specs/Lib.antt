@@ -1,0 +1,10 @@
+pub mod Lists
+pub mod Targets
+pub mod Packages
+pub mod Nodes
+pub mod Requirements
+pub mod Dependencies
+pub mod Leads
+pub mod Views
+pub mod LeadViews
+pub mod inner

@@ -1,0 +1,2 @@
+-- What private functions alone speak of.
+pub mod Picks

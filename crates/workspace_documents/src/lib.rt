@@ -1,0 +1,14 @@
+//! The packages of a workspace as `cargo metadata` writes them, and where their declarations lead.
+#![tactic(auto)]
+
+mod dependencies;
+mod leads;
+mod nodes;
+mod packages;
+mod requirements;
+mod targets;
+
+pub use dependencies::{Dependency, Found, check_names, choice, dependencies_of, name_of};
+pub use leads::{Described, Leads, Links, described_in};
+pub use nodes::{Dep, Node, Nodes, Resolved, node_at, resolved_in};
+pub use packages::{Declaration, Package, Packages, Use, packages_of};
