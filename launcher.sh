@@ -91,7 +91,7 @@ launch() {
   if [ -z "$why" ]; then
     exec "$top/crates/$name/out/$name" "$@"
   fi
-  echo "$name: $why: this answer comes from a build that is checked while it runs and is not proved; ./build proves it, in some 70 processor minutes" >&2
+  echo "$name: $why: this answer comes from a build that is checked while it runs and is not proved; ./build proves it, in some 55 processor minutes" >&2
   if ! printf '%s\n' "$@" | iconv -f UTF-8 -t UTF-8 >/dev/null 2>&1; then
     # rt try accepts only arguments in UTF-8. The programs refuse others as they refuse two unknown arguments.
     try_unproved "$name" "" bad words
