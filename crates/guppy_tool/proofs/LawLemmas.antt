@@ -47,7 +47,7 @@ reach_grows : (t : Tables) (direction : DependencyDirection) (p q : ℕ → Bool
 reach_grows t direction p q n more (u, starts, path) = (u, more u starts, path)
 
 -- two sets of initial nodes for the same ids have the same members
-same_initials : (t : Tables) (xs ys : List Bool) (ids : List (Text × LabelName)) → HoldsExactly t xs ids → HoldsExactly t ys ids → (n : ℕ) → IsTrue (has xs n) → IsTrue (has ys n)
+pub same_initials : (t : Tables) (xs ys : List Bool) (ids : List (Text × LabelName)) → HoldsExactly t xs ids → HoldsExactly t ys ids → (n : ℕ) → IsTrue (has xs n) → IsTrue (has ys n)
 same_initials t xs ys ids a b n h = (b.exact n).1 ((a.exact n).0 h)
 
 reached_too : (t : Tables) (direction : DependencyDirection) (ids : List (Text × LabelName)) (x y : Text) (a : Resolves t direction ids x) (b : Resolves t direction ids y) (n : ℕ) → IsTrue (has a.members n) → IsTrue (has b.members n)
@@ -59,7 +59,7 @@ one_text t direction ids x y a b =
     a.lines ∙ ap listing (at_places_alike (has a.members) (has b.members) (nodes t) same) ∙ sym b.lines
 
 -- a least set from more initial nodes has more members
-least_grows : (c : Content) (p q : ℕ → Bool) (A : ℕ → Half → Bool) (n : ℕ) → ((u : ℕ) → IsTrue (p u) → IsTrue (q u)) → Least c p A n → Least c q A n
+pub least_grows : (c : Content) (p q : ℕ → Bool) (A : ℕ → Half → Bool) (n : ℕ) → ((u : ℕ) → IsTrue (p u) → IsTrue (q u)) → Least c p A n → Least c q A n
 least_grows c p q A n more least S is_closed = least S (record { initial = λ u h. is_closed.initial u (more u h); unasked = is_closed.unasked; offered = is_closed.offered })
 
 visited_too : (t : Tables) (direction : DependencyDirection) (ids : List (Text × LabelName)) (x y : Text) (a : Visits t direction ids x) (b : Visits t direction ids y) (n : ℕ) → IsTrue (has a.members n) → IsTrue (has b.members n)

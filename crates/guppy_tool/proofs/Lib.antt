@@ -8,3 +8,4 @@ pub mod WholeOrders
 pub mod OneDigraph
 pub mod OrderingLemmas
 pub mod OneBuild
+pub mod OneBuildSet

@@ -1,6 +1,11 @@
 -- Laws of the program's output.
-use Rattle.std.specs.Prelude.{◌≡◌, Result, Err, Bool, true, false, IsFalse}
+use Rattle.std.specs.Prelude.{◌≡◌, ◌↔◌, List, Result, Err, Bool, true, false, IsFalse, Contains, map}
 use Rattle.guppy_packages.specs.Rows.{Text}
+use Rattle.guppy_packages.specs.Tables.{Tables}
+use Rattle.guppy_packages.specs.declared.row.DependencyKind.{DependencyKind}
+use Rattle.feature_labels.specs.Names.{LabelName}
+use Rattle.feature_sets.specs.Told.{ReasonName}
+use Rattle.guppy_tool.specs.Answers.{Builds}
 use Rattle.guppy_tool.specs.Faults.{Refusal}
 use Rattle.guppy_tool.specs.Words.{CommandText, build}
 use Rattle.guppy_tool.specs.Run.{IsAnswer}
@@ -17,3 +22,13 @@ OneAnswer = (command : CommandText) (bytes : Text) (a b : Result Text Refusal) �
 -- if a command over some bytes may be refused, this refusal is its only result
 abbrev pub OneRefusal : Type 0
 OneRefusal = (command : CommandText) (bytes : Text) (refusal : Refusal) (b : Result Text Refusal) → IsAnswer command bytes (Err refusal) → IsAnswer command bytes b → b ≡ Err refusal
+
+-- The features that steps are told for.
+abbrev pub named_in : List ((Text × LabelName) × ReasonName) → List (Text × LabelName)
+named_in told = map (λ s. s.0) told
+
+-- Two texts of one `build` over the same tables name the same features.
+abbrev pub OneBuildSet : Type 0
+OneBuildSet =
+    (t : Tables) (kinds : List DependencyKind) (ids : List (Text × LabelName)) (specs : List Text) (a b : Text) (x : Builds t kinds ids specs a) (y : Builds t kinds ids specs b)
+    (name : Text × LabelName) → Contains (named_in x.told) name ↔ Contains (named_in y.told) name

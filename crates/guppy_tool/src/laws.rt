@@ -1,5 +1,5 @@
 //! Laws of the program's output. Each function does nothing: its contract is the law.
-ghost use Rattle.guppy_tool.specs.Laws.{OneAnswer, OneRefusal};
+ghost use Rattle.guppy_tool.specs.Laws.{OneAnswer, OneBuildSet, OneRefusal};
 
 use digraph_orders::laws::{one_order, order_lists_each};
 use feature_labels::laws::label_order_is_total;
@@ -14,3 +14,8 @@ pub fn one_answer()
     one_order();
     order_lists_each();
 }
+
+/// Two texts of one `build` over the same tables name the same features.
+pub fn one_build_set()
+    ensures { OneBuildSet }
+{}

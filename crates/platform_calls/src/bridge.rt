@@ -2,7 +2,7 @@
 use crate::start::Start;
 use graph_platforms::{PlatformFault, held_specs, resolve_for};
 use guppy_features::{DependencyKind, Error, Explained, FeatureId, FeatureQuery};
-use guppy_vectors::{Failure, given_in, halves, ids_of};
+use guppy_vectors::{Failure, Given, all_of, halves, ids_of};
 use std::alloc::{AllocError, Global};
 
 /// Writes the first malformed spec.
@@ -62,7 +62,7 @@ fn tell_set(start: Start<'_>, explained: &Explained<'_>) {
     start.out.line("");
 }
 
-/// Writes what is on for the target.
+/// Writes the features that are on for the target.
 fn tell_on(
     start: Start<'_>,
     query: FeatureQuery<'_>,
@@ -92,12 +92,12 @@ fn from_ids(
 
 /// Resolves from the features that `words` name.
 fn from_words(start: Start<'_>, words: &str, kinds: &[DependencyKind]) -> Result<(), Failure> {
-    let given = given_in(start.alloc, words)?;
+    let given = all_of::<Given<'_>>(start.alloc, words)?;
     let ids = ids_of(start.alloc, &mut given.iter())?;
     from_ids(start, &ids, kinds)
 }
 
-/// Resolves for the kinds before `: `, from the features behind it.
+/// Resolves for the kinds before `: `, from the features after it.
 pub fn on(start: Start<'_>, words: &str) -> Result<(), Failure> {
     let (kinds, words) = halves(words, ": ")?;
     let kinds = kinds_of(start.alloc, kinds)?;

@@ -1,4 +1,4 @@
-//! Which call a line asks for.
+//! The call of each line of a script.
 use crate::start::Start;
 use crate::{bridge, specs};
 use guppy_vectors::{Failure, cut};

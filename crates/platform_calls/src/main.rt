@@ -1,7 +1,7 @@
 //! The program `platform_calls TRIPLE CFG [FILE]`: calls on platform specs, for tests.
 //!
-//! CFG is the path of a cfg text, and FILE that of a row file; without it there is no package. Standard input has the calls, one a
-//! line. Each is repeated with `< ` before it, and what came follows.
+//! CFG is the path of a cfg text, and FILE that of a row file; without FILE the graph is empty. Standard input contains one call per
+//! line. The program writes each call after `< `, then its result.
 #![tactic(auto)]
 
 mod bridge;
@@ -18,11 +18,11 @@ use platform_specs::TargetCfg;
 use std::process::ExitCode;
 
 /// Makes the calls of standard input over a package graph.
-fn answer_over(
+fn answer_over<'a>(
     rt: &HostRuntime,
-    out: Out,
-    target: &TargetCfg,
-    packages: &PackageGraph,
+    out: &'a Out,
+    target: &'a TargetCfg,
+    packages: &'a PackageGraph,
 ) -> Result<(), Failure> {
     let Ok(built) = FeatureGraphData::build(rt.alloc(), packages, 1) else {
         return Err(Failure::Memory);
@@ -39,13 +39,13 @@ fn answer_over(
 }
 
 /// Makes the calls of standard input for a target.
-fn answer_for(rt: &HostRuntime, out: Out, target: &TargetCfg) -> Result<(), Failure> {
+fn answer_for(rt: &HostRuntime, out: &Out, target: &TargetCfg) -> Result<(), Failure> {
     let packages = package_graph(rt, 3)?;
     answer_over(rt, out, target, &packages)
 }
 
 /// Makes the calls of standard input, if the cfg text is one.
-fn answer(rt: &HostRuntime, out: Out) -> Result<(), Failure> {
+fn answer(rt: &HostRuntime, out: &Out) -> Result<(), Failure> {
     match target(rt) {
         Ok(target) => answer_for(rt, out, &target),
         Err(Stop::Line(line)) => {
@@ -59,6 +59,6 @@ fn answer(rt: &HostRuntime, out: Out) -> Result<(), Failure> {
 
 fn main(rt: HostRuntime) -> ExitCode {
     let out = Out::new(rt.stdout());
-    let made = answer(&rt, out);
+    let made = answer(&rt, &out);
     out.ended(made)
 }

@@ -1,24 +1,25 @@
-//! What the calls of a script start from.
+//! The values that every call of a script starts from.
 use guppy_features::FeatureGraph;
 use guppy_vectors::{Failure, Out, bytes_of};
 use platform_specs::{CfgFault, TargetCfg};
 use std::alloc::Global;
 use std::env;
 
-/// What a call writes to, and what it asks.
+/// The output, the target and the graph of a call.
 #[derive(Clone, Copy)]
 pub struct Start<'a> {
-    pub out: Out,
+    pub out: &'a Out,
     pub alloc: Global,
     pub target: &'a TargetCfg,
     pub graph: FeatureGraph<'a>,
 }
 
-/// Why there is no target.
+/// The reason why a target can't be made.
 #[derive(Clone, Copy)]
 pub enum Stop {
-    /// The cfg text's first malformed line.
+    /// The first malformed line of the cfg text.
     Line(usize),
+    /// Another failure.
     Failure(Failure),
 }
 

@@ -4,7 +4,9 @@ use crate::out::Out;
 use crate::workspace::selected;
 use byte_devices::{FromReader, read_all};
 use graph_platforms::{held_specs, resolve_for};
-use guppy_features::{DependencyKind, FeatureGraph, FeatureGraphData, FeatureGraphExt, PackageGraph};
+use guppy_features::{
+    DependencyKind, FeatureGraph, FeatureGraphData, FeatureGraphExt, PackageGraph,
+};
 use platform_specs::TargetCfg;
 use row_files::graph_of;
 use std::alloc::Global;
