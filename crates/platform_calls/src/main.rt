@@ -15,33 +15,40 @@ use guppy_features::{FeatureGraphData, FeatureGraphExt};
 use guppy_packages::PackageGraph;
 use guppy_vectors::{Failure, Out, package_graph, script};
 use platform_specs::TargetCfg;
+use std::alloc::Global;
 use std::process::ExitCode;
 
-/// Makes the calls of standard input over a package graph.
+/// Makes the calls of `script` over a package graph.
 fn answer_over<'a>(
-    rt: &HostRuntime,
+    alloc: Global,
     out: &'a Out,
     target: &'a TargetCfg,
     packages: &'a PackageGraph,
+    script: &str,
 ) -> Result<(), Failure> {
-    let Ok(built) = FeatureGraphData::build(rt.alloc(), packages, 1) else {
-        return Err(Failure::Memory);
-    };
-    let start = Start {
-        out,
-        alloc: rt.alloc(),
-        target,
-        graph: packages.feature_graph(&built),
-    };
-    let script = script(rt)?;
-    make_calls(start, script.as_str());
-    Ok(())
+    match FeatureGraphData::build(alloc, packages, 1) {
+        Ok(built) => {
+            let graph = packages.feature_graph(&built);
+            make_calls(
+                Start {
+                    out,
+                    alloc,
+                    target,
+                    graph,
+                },
+                script,
+            );
+            Ok(())
+        }
+        Err(_) => Err(Failure::Memory),
+    }
 }
 
 /// Makes the calls of standard input for a target.
 fn answer_for(rt: &HostRuntime, out: &Out, target: &TargetCfg) -> Result<(), Failure> {
+    let script = script(rt)?;
     let packages = package_graph(rt, 3)?;
-    answer_over(rt, out, target, &packages)
+    answer_over(rt.alloc(), out, target, &packages, script.as_str())
 }
 
 /// Makes the calls of standard input, if the cfg text is one.

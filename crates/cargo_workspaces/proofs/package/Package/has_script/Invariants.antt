@@ -1,0 +1,10 @@
+use Rattle.std.proofs.Common.{◌≡◌, map, drop}
+use Rattle.std.specs.Prelude.{codes}
+use Rattle.std.specs.List.{list_any}
+use Rattle.cargo_workspaces.specs.Workspaces.{has_kind}
+use Rattle.cargo_workspaces.specs.Views.{target_text}
+use Rattle.cargo_workspaces.proofs.package.Package.has_script.Given as goal
+
+abbrev pub invariant-loop-target : goal.invariant-loop-target
+invariant-loop-target l =
+    list_any (has_kind (codes "custom-build")) (map target_text l.self.targets.items) ≡ list_any (has_kind (codes "custom-build")) (map target_text (drop l.target-index l.self.targets.items))

@@ -1,0 +1,7 @@
+pub mod Commands
+pub mod IdTexts
+pub mod SettingsView
+pub mod StepRowsView
+pub mod Steps
+pub mod Tables
+pub mod inner

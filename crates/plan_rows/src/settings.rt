@@ -1,0 +1,51 @@
+//! What a plan is made of, besides the workspace.
+ghost use Rattle.std.specs.Prelude.{◌≡◌, ℕ, Bool};
+ghost use Rattle.cargo_workspaces.specs.Workspaces.{Text};
+ghost use Rattle.plan_rows.specs.declared.side.Side.{Side as AnySide};
+
+use crate::side::Side;
+use cargo_workspaces::Feature;
+
+/// A platform, on which platform specs hold or don't.
+pub trait Platform {
+    /// Whether a spec holds.
+    ghost holds: { Self → Text → Bool };
+
+    /// Returns whether `spec` holds on the platform.
+    fn holds(&self, spec: &str) -> bool
+        ensures { result ≡ holds self.now spec.now };
+}
+
+/// The optional dependencies that version resolving turns on.
+pub trait Kept {
+    /// Whether the dependency of this name of the package with this number is turned on.
+    ghost kept: { Self → ℕ → Text → Bool };
+
+    /// Returns whether the optional dependency `name` of package `ix` is turned on.
+    fn is_kept(&self, ix: usize, name: &str) -> bool
+        ensures { result ≡ kept self.now ix name.now };
+}
+
+/// The optional dependencies that are on.
+pub trait TurnedOn {
+    /// Whether the dependency of this name of the package with this number is on, on a side.
+    ghost turned_on: { Self → AnySide → ℕ → Text → Bool };
+
+    /// Returns whether the optional dependency `name` of package `ix` is on, on `side`.
+    fn is_on(&self, side: Side, ix: usize, name: &str) -> bool
+        ensures { result ≡ turned_on self.now side ix name.now };
+}
+
+/// What a plan is made of, besides the workspace.
+#[derive(Drop)]
+pub struct Settings<'n, 'c, P> {
+    /// Whether the resolver tells the sides apart: 2 and 3 do.
+    pub split: bool,
+    /// Whether tests are built, and so the dependencies for development of the started members.
+    pub test: bool,
+    /// The command feature of each package that is started, by the number of the package.
+    pub commands: &'n [Option<Feature<'c>>],
+    pub host: &'n P,
+    /// The target platforms.
+    pub targets: &'n [P],
+}
