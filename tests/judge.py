@@ -280,13 +280,17 @@ def run_of(graph, direction, initials, lines):
 
 
 def told_runs(lines):
-    """Returns the runs that a call prints, each with the line that ends it, and the printed number of the visitor's calls; or None."""
+    """Returns the runs that a call prints, each with the line that ends it, and the printed number of the visitor's calls; or None.
+    A number between two runs is that of the calls before it."""
     runs, shown = [], []
-    for line in lines:
+    for place, line in enumerate(lines):
         if line.startswith('- '):
             shown.append(line)
         elif line.startswith('asked ') and not shown:
-            return (runs, int(line[6:])) if line == lines[-1] else None
+            if place + 1 == len(lines):
+                return runs, int(line[6:])
+            if int(line[6:]) != sum(len(run) for run, _ in runs):
+                return None
         else:
             runs.append((shown, line))
             shown = []
@@ -295,7 +299,7 @@ def told_runs(lines):
 
 
 def fault_of_visit(graph, by_text, call, ids, lines):
-    """Returns why the output of a call `visit` or `twice` isn't runs of offers by the rules, or None."""
+    """Returns why the output of a call `visit`, `twice` or `lend` isn't runs of offers by the rules, or None."""
     name, _, direction = call.split()[:3]
     initials = {by_text[it] for it in ids}
     told = told_runs(lines)
@@ -329,7 +333,7 @@ def fault_of(rows, printed):
     for place, end in zip(calls, [*calls[1:], len(printed)]):
         call, _, words = printed[place][2:].partition(': ')
         ids = [word if '/' in word else f'{word}/[base]' for word in words.split()]
-        if not call.startswith(('visit ', 'twice ')) or any(it not in by_text for it in ids):
+        if not call.startswith(('visit ', 'twice ', 'lend ')) or any(it not in by_text for it in ids):
             continue
         fault = fault_of_visit(graph, by_text, call, ids, printed[place + 1:end])
         if fault:

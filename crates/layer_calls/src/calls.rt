@@ -1,5 +1,5 @@
 //! The calls of a script, by name.
-use crate::{digraphs, ids, lists, long_list, names, packages, sets};
+use crate::{digraphs, ids, lists, long_list, names, package_sets, packages, rows, sets};
 use guppy_packages::PackageGraph;
 use guppy_vectors::{Failure, Out, cut};
 use std::alloc::Global;
@@ -10,7 +10,10 @@ fn make_call(out: &Out, alloc: Global, graph: &PackageGraph, line: &str) -> Resu
     match name {
         "graph" => packages::graph(out, graph),
         "place" => packages::place(out, alloc, graph, words),
+        "from-rows" => rows::from_rows(out, alloc),
+        "package-set" => package_sets::package_set(out, alloc, graph, words),
         "list" => lists::list(out, alloc, graph, words),
+        "list-ends" => lists::ends(out, alloc, graph, words),
         "held" => lists::held(out, alloc, graph, words),
         "equal-lists" => lists::equal(out, alloc, graph, words),
         "long-list" => long_list::long_list(out, alloc, graph, words),
@@ -26,6 +29,7 @@ fn make_call(out: &Out, alloc: Global, graph: &PackageGraph, line: &str) -> Resu
         "sets" => sets::sets(out, alloc, words),
         "equal-sets" => sets::equal(out, alloc, words),
         "full-set" => sets::full(out, alloc, words),
+        "set-ends" => sets::ends(out, alloc, words),
         _ => Err(Failure::Words),
     }
 }

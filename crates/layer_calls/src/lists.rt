@@ -93,6 +93,56 @@ pub fn list(out: &Out, alloc: Global, graph: &PackageGraph, words: &str) -> Resu
     Ok(())
 }
 
+/// Writes the first item of each iterator over `list` and over a copy of it, and drops the iterator. `Memory` is the only error.
+fn tell_firsts(out: &Out, alloc: Global, list: &FeatureList<'_>) -> Result<(), Failure> {
+    let copy = list.try_clone(alloc)?;
+    out.part("first");
+    if let Some(id) = list.iter().next() {
+        out.id(id);
+    }
+    if let Some(id) = copy.into_iter().next() {
+        out.id(id);
+    }
+    if let Some(name) = list.named_features().next() {
+        out.text(" ", name);
+    }
+    if let Some(name) = list.optional_deps().next() {
+        out.text(" ", name);
+    }
+    out.line("");
+    Ok(())
+}
+
+/// Writes whether each iterator over `list` returns `None` again after its end.
+fn tell_ends(out: &Out, list: &FeatureList<'_>) {
+    let mut ids = list.iter();
+    while let Some(_id) = ids.next() {}
+    out.answer("ids ", ids.next().is_none());
+    let mut names = list.named_features();
+    while let Some(_name) = names.next() {}
+    out.answer(", named ", names.next().is_none());
+    let mut names = list.optional_deps();
+    while let Some(_name) = names.next() {}
+    out.answer(", optional ", names.next().is_none());
+}
+
+/// Consumes `list` and writes whether the iterator returns `None` again after its end.
+fn tell_own_end(out: &Out, list: FeatureList<'_>) {
+    let mut ids = list.into_iter();
+    while let Some(_id) = ids.next() {}
+    out.answer_line(", own ids ", ids.next().is_none());
+}
+
+/// Writes the first items and the ends of the iterators over the list of `words`. `Words` if `graph` lacks the package, or
+/// `Memory`.
+pub fn ends(out: &Out, alloc: Global, graph: &PackageGraph, words: &str) -> Result<(), Failure> {
+    let list = list_of(alloc, graph, words)?;
+    tell_firsts(out, alloc, &list)?;
+    tell_ends(out, &list);
+    tell_own_end(out, list);
+    Ok(())
+}
+
 /// Returns whether `list` has `label`, by the method for its kind.
 fn has(list: &FeatureList<'_>, label: FeatureLabel<'_>) -> bool {
     match label {

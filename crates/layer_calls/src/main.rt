@@ -10,7 +10,9 @@ mod ids;
 mod lists;
 mod long_list;
 mod names;
+mod package_sets;
 mod packages;
+mod rows;
 mod sets;
 
 use crate::calls::make_calls;

@@ -86,3 +86,20 @@ pub fn full(out: &Out, alloc: Global, words: &str) -> Result<(), Failure> {
     out.line("");
     Ok(())
 }
+
+/// Writes the first member of `set`, and drops the iterator. Then writes whether a new one returns `None` again after its end.
+fn tell_ends(out: &Out, set: &IxBitSet) {
+    if let Some(first) = set.ones().next() {
+        out.number("first ", first);
+        out.part(", ");
+    }
+    let mut ones = set.ones();
+    while let Some(_one) = ones.next() {}
+    out.answer_line("ended ", ones.next().is_none());
+}
+
+/// Writes the first member and the end of a set. `Words` if `words` aren't a set, or `Memory`.
+pub fn ends(out: &Out, alloc: Global, words: &str) -> Result<(), Failure> {
+    tell_ends(out, &set_of(alloc, words)?);
+    Ok(())
+}

@@ -4,7 +4,7 @@ use crate::explanations::platform;
 use crate::filters::{select_ids, select_names, select_plain};
 use crate::in_set::in_set;
 use crate::look_ups::{figures, look_ups, verify, warnings};
-use crate::pairs::{cycles, pair, tied};
+use crate::pairs::{cycles, first_cycle, pair, tied};
 use crate::queries::{has, of_query};
 use crate::texts::texts;
 use crate::told::tell_set;
@@ -32,6 +32,7 @@ fn plain_call(
         "none" => tell_set(out, "", features.resolve_none(alloc)),
         "in-all" => return in_set(out, alloc, features.resolve_all(alloc), options),
         "cycles" => cycles(out, alloc, features),
+        "first-cycle" => first_cycle(out, alloc, features),
         "select-names" => return select_names(out, alloc, features, name, options),
         "select" | "standard" => select_plain(out, alloc, features, name, options),
         _ => out.line("no such call"),
@@ -97,7 +98,7 @@ fn call_of(
     let (name, options) = cut(words);
     let ids = ids_of(alloc, rest)?;
     match name {
-        "visit" | "twice" => {
+        "visit" | "twice" | "lend" => {
             let (form, others) = cut(options);
             let (direction, rule) = cut(others);
             let start = Start {

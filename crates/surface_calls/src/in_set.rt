@@ -1,11 +1,12 @@
 //! Calls on a feature set.
-use crate::items::{tell_counted, tell_end, tell_ends, tell_items};
-use crate::links::{tell_edge, tell_ends as tell_link_ends, tell_rest};
+use crate::items::{tell_counted, tell_items};
+use crate::iterators::{by_package, ends, firsts};
+use crate::links::{tell_edge, tell_link};
 use crate::look_ups::tell_list;
 use crate::parts::parts;
 use crate::queries::tell;
 use crate::told::{tell_error, tell_members};
-use guppy_features::{DependencyDirection, Error, FeatureList, FeatureSet, PackageId, PackageSet};
+use guppy_features::{DependencyDirection, Error, FeatureSet, PackageId, PackageSet};
 use guppy_vectors::{Failure, Out, cut, direction_of};
 use std::alloc::Global;
 
@@ -45,18 +46,6 @@ fn tell_packages(
     }
 }
 
-/// Writes the package of `list` and its features, or the error.
-fn tell_of_package(out: &Out, list: Result<FeatureList<'_>, Error<'_>>) {
-    match list {
-        Ok(list) => {
-            out.text(list.package().id().repr(), ": ");
-            out.shown(list.display_features());
-            out.line("");
-        }
-        Err(error) => tell_error(out, error),
-    }
-}
-
 /// Writes each edge between features of `set` on a line.
 fn links(out: &Out, set: &FeatureSet<'_>, direction: DependencyDirection) {
     for (from, to, edge) in set.links(direction) {
@@ -67,43 +56,8 @@ fn links(out: &Out, set: &FeatureSet<'_>, direction: DependencyDirection) {
 /// Writes each conditional link between features of `set` on a line.
 fn conditional_links(out: &Out, set: &FeatureSet<'_>, direction: DependencyDirection) {
     for link in set.conditional_links(direction) {
-        let (from, to) = link.endpoints();
-        tell_link_ends(out, from.feature_id(), to.feature_id(), link.declarations());
-        tell_rest(out, link);
-        out.line("");
+        tell_link(out, link);
     }
-}
-
-/// Writes the features of `set`, one line for each package.
-fn by_package(out: &Out, alloc: Global, set: &FeatureSet<'_>, direction: DependencyDirection) {
-    for list in set.packages_with_features(alloc, direction) {
-        tell_of_package(out, list);
-    }
-}
-
-/// Drops each non-allocating iterator after its first item. Then writes whether the iterators over links return `None` again
-/// after their end.
-fn link_ends(out: &Out, set: &FeatureSet<'_>, direction: DependencyDirection) {
-    let _id = set.feature_ids(direction).next();
-    let _feature = set.features(direction).next();
-    let _edge = set.links(direction).next();
-    let _link = set.conditional_links(direction).next();
-    let mut links = set.links(direction);
-    while let Some(_link) = links.next() {}
-    out.answer_line("links ", links.next().is_none());
-    let mut links = set.conditional_links(direction);
-    while let Some(_link) = links.next() {}
-    out.answer_line("conditional links ", links.next().is_none());
-}
-
-/// Writes whether each iterator over `set` returns `None` after its end, and then the members of `set`.
-fn ends(out: &Out, alloc: Global, set: &FeatureSet<'_>, direction: DependencyDirection) {
-    tell_end(out, "ids ", ", left ", " ", set.feature_ids(direction));
-    tell_end(out, "features ", ", left ", " ", set.features(direction));
-    link_ends(out, set, direction);
-    tell_ends(out, "root ids ", set.root_ids(alloc, direction));
-    tell_ends(out, "roots ", set.root_features(alloc, direction));
-    tell_members(out, set);
 }
 
 /// Makes the call `name` on `set` in `direction`; `word` is the option after the direction.
@@ -126,6 +80,7 @@ fn directed_call(
         "packages" => tell_packages(out, set.to_package_set(alloc), direction),
         "by-package" => by_package(out, alloc, set, direction),
         "ends" => ends(out, alloc, set, direction),
+        "firsts" => firsts(out, alloc, set, direction),
         _ => parts(out, alloc, set, name, direction, word),
     }
 }

@@ -74,8 +74,18 @@ pub fn tell_first<T: Named, I: Iterator<Item = T>>(out: &Out, mut items: I)
     }
 }
 
-/// Writes three values: the count of `items`, the count left after reading them all, and whether the next read returns
-/// `None`. The texts `before`, `between` and `after` precede them.
+/// Writes the first item, or `no first`, or the error.
+pub fn tell_first_of<T: Named, I: Iterator<Item = T> + Drop>(out: &Out, items: Result<I, Error<'_>>)
+    requires { (items : _) → I.can_next items }
+{
+    match items {
+        Ok(items) => tell_first(out, items),
+        Err(error) => tell_error(out, error),
+    }
+}
+
+/// Writes three values: the count of `items`, the count left after reading them all, and whether each of two further reads
+/// returns `None`. The texts `before`, `between` and `after` precede them.
 pub fn tell_end<T: Named, I: ExactSizeIterator<Item = T>>(
     out: &Out,
     before: &str,
@@ -91,7 +101,8 @@ pub fn tell_end<T: Named, I: ExactSizeIterator<Item = T>>(
     }
     out.number(before, count);
     out.number(between, items.len());
-    out.answer_line(after, items.next().is_none());
+    let ended = items.next().is_none();
+    out.answer_line(after, items.next().is_none() && ended);
 }
 
 /// Reads `items` to their end and writes the values of `tell_end`, or the error.

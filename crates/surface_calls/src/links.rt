@@ -1,6 +1,7 @@
 //! Links and edges as text.
 use guppy_features::{
-    ConditionalLink, FeatureEdge, FeatureId, LinkDeclarations, PlatformStatus, SlashForm,
+    ConditionalLink, FeatureEdge, FeatureId, LinkDeclarations, PackageLink, PlatformStatus,
+    SlashForm,
 };
 use guppy_vectors::Out;
 
@@ -35,17 +36,30 @@ pub fn tell_ends(
     });
 }
 
+/// Writes the ends of `link`, and the name of its declarations.
+pub fn tell_package_link(out: &Out, link: PackageLink<'_>) {
+    out.text(" ", link.from().id().repr());
+    out.text(">", link.to().id().repr());
+    out.text(":", link.dep_name());
+}
+
 /// Writes the normal, build and dev status of `link`, its package links, and `dev-only` for a dev-only link.
 pub fn tell_rest(out: &Out, link: ConditionalLink<'_>) {
     tell_status(out, link.normal());
     tell_status(out, link.build());
     tell_status(out, link.dev());
     for package_link in link.package_links() {
-        out.text(" ", package_link.from().id().repr());
-        out.text(">", package_link.to().id().repr());
-        out.text(":", package_link.dep_name());
+        tell_package_link(out, package_link);
     }
     out.part_if(link.dev_only(), " dev-only");
+}
+
+/// Writes `link` on a line: its ends, its declarations, and what `tell_rest` writes.
+pub fn tell_link(out: &Out, link: ConditionalLink<'_>) {
+    let (from, to) = link.endpoints();
+    tell_ends(out, from.feature_id(), to.feature_id(), link.declarations());
+    tell_rest(out, link);
+    out.line("");
 }
 
 /// Writes an edge on a line: its ends `from` and `to`, and its kind.

@@ -11,6 +11,7 @@ mod explanations;
 mod filters;
 mod in_set;
 mod items;
+mod iterators;
 mod links;
 mod look_ups;
 mod pairs;

@@ -110,6 +110,13 @@ fn tell_cycle(out: &Out, cycle: Result<Vec<FeatureId<'_>>, Error<'_>>) {
     }
 }
 
+/// Writes the first cycle, if there is one, and drops the iterator.
+pub fn first_cycle(out: &Out, alloc: Global, features: FeatureGraph<'_>) {
+    if let Some(cycle) = features.cycles().all_cycles(alloc).next() {
+        tell_cycle(out, cycle);
+    }
+}
+
 /// Writes each cycle on a line, and then whether the iterator returns `None` again after its end.
 pub fn cycles(out: &Out, alloc: Global, features: FeatureGraph<'_>) {
     let mut cycles = features.cycles().all_cycles(alloc);

@@ -1,7 +1,6 @@
 //! Visitors that log the links they are shown.
 use crate::links::{tell_ends, tell_rest};
 use crate::rules::Rule;
-use crate::told::tell_error;
 use guppy_features::{ConditionalLink, FeatureLinkContext, FeatureLinkObject, FeatureLinkVisitor};
 use guppy_vectors::Out;
 use std::alloc::Global;
@@ -37,7 +36,7 @@ pub struct BoxedRecorder {
     pub log: Rc<Log>,
 }
 
-/// Writes the direction of a copy of `cx` and whether `link` starts from an initial feature by it, or the error.
+/// Writes the direction of a copy of `cx` and whether `link` starts from an initial feature by it, or that an allocation failed.
 fn tell_copy(out: &Out, alloc: Global, cx: &FeatureLinkContext<'_>, link: ConditionalLink<'_>) {
     match cx.try_clone(alloc) {
         Ok(copy) => {
@@ -45,7 +44,7 @@ fn tell_copy(out: &Out, alloc: Global, cx: &FeatureLinkContext<'_>, link: Condit
             out.debug(copy.direction());
             out.answer(" ", copy.starts_from_initial(&link));
         }
-        Err(error) => tell_error(out, error),
+        Err(_) => out.part(" out of memory"),
     }
 }
 

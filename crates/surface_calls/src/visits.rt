@@ -7,7 +7,7 @@ use crate::explanations::tell_as;
 use crate::items::tell_counted;
 use crate::recorder::{BoxedRecorder, Log, Manner, Recorder, answer};
 use crate::rules::Rule;
-use crate::told::{tell_error, tell_members};
+use crate::told::{tell_error, tell_members, tell_set};
 use guppy_features::{
     Error, Explained, FeatureLinkObject, FeatureLinkVisitor, FeatureQuery, FeatureSet,
 };
@@ -177,7 +177,59 @@ fn same<'g>(
     log.out.join(&first.out);
 }
 
-/// Resolves `query` with the visitor of the call `name` and writes the result. `twice` and `same` resolve a copy too.
+/// Resolves `queries` in order with `visitor`, which counts its questions in `calls`. Writes both sets, with the count between
+/// them.
+fn resolve_each<'g, V: FeatureLinkVisitor<'g>>(
+    out: &Out,
+    alloc: Global,
+    queries: (FeatureQuery<'g>, FeatureQuery<'g>),
+    calls: &Cell<usize>,
+    visitor: &mut V,
+)
+    requires { (s : V) (q : Query) (l : Link) → V.can_visit s q l }
+{
+    let (first, second) = queries;
+    tell_set(out, "", first.resolve_with(alloc, visitor));
+    out.number("asked ", calls.get());
+    out.line("");
+    tell_set(out, "", second.resolve_with(alloc, visitor));
+}
+
+/// Resolves `queries` in order with one boxed visitor that writes to `shared`; `Memory` if there is no box.
+fn lend_box<'g>(
+    alloc: Global,
+    queries: (FeatureQuery<'g>, FeatureQuery<'g>),
+    manner: Manner,
+    shared: &Rc<Log>,
+) -> Result<(), Error<'g>> {
+    let log = shared.clone()?;
+    let mut visitor: Box<dyn FeatureLinkObject> = Box::new(alloc, BoxedRecorder { manner, log })?;
+    resolve_each(&shared.out, alloc, queries, &shared.calls, &mut visitor);
+    Ok(())
+}
+
+/// Resolves `queries` in order with one boxed visitor, and carries its count and failed writes over to `log`.
+fn lend<'g>(
+    alloc: Global,
+    queries: (FeatureQuery<'g>, FeatureQuery<'g>),
+    manner: Manner,
+    log: &Log,
+) -> Result<(), Error<'g>> {
+    let shared = Rc::new(
+        alloc,
+        Log {
+            out: log.out.another(),
+            calls: Cell::new(0),
+        },
+    )?;
+    let lent = lend_box(alloc, queries, manner, &shared);
+    log.calls.set(shared.calls.get());
+    log.out.join(&shared.out);
+    lent
+}
+
+/// Resolves `query` with the visitor of the call `name` and writes the result. `twice`, `same` and `lend` resolve a copy too;
+/// `lend` lends one boxed visitor for both.
 fn run(
     start: Start<'_, '_>,
     name: &str,
@@ -187,12 +239,17 @@ fn run(
     words: &mut Words<'_>,
     query: FeatureQuery<'_>,
 ) {
-    if name != "twice" && name != "same" {
+    if !matches!(name, "twice" | "same" | "lend") {
         let found = in_form(start.alloc, query, form, manner, log);
         return tell_found(&log.out, start, name, found, words);
     }
     match query.try_clone(start.alloc) {
         Ok(second) if name == "same" => same(start.alloc, (second, query), form, manner, log),
+        Ok(second) if name == "lend" => {
+            if let Err(error) = lend(start.alloc, (query, second), manner, log) {
+                tell_error(&log.out, error);
+            }
+        }
         Ok(second) => {
             let found = in_form(start.alloc, query, form, manner, log);
             tell_found(&log.out, start, name, found, words);
@@ -219,7 +276,7 @@ pub fn visit(
     };
     let manner = Manner {
         rule: Rule::of(start.alloc, rule),
-        is_brief: name != "visit" && name != "twice",
+        is_brief: !matches!(name, "visit" | "twice" | "lend"),
     };
     let query = start.query();
     let is_known = query.is_ok();
