@@ -31,7 +31,7 @@ impl<'g, B: FeatureFilter<'g>> FeatureFilter<'g> for Counted<B> {
     }
 }
 
-/// Returns a counting filter that accepts the base of each package.
+/// A counting filter that accepts the base of each package.
 type CountedBases = Counted<StandardFeatures>;
 
 /// Returns the query that starts from the workspace's bases and from the named features in `names`.
