@@ -12,7 +12,7 @@ use guppy_features::{
 };
 use std::alloc::Global;
 
-/// Asks another filter, and counts what it is asked itself.
+/// A filter that calls another filter, and counts its own questions.
 #[derive(Drop)]
 pub struct Counted<B> {
     pub base: B,
@@ -34,7 +34,7 @@ impl<'g, B: FeatureFilter<'g>> FeatureFilter<'g> for Counted<B> {
 /// A counting filter that accepts the base of each package.
 type CountedBases = Counted<StandardFeatures>;
 
-/// The query of the workspace's bases and of the named features of these names.
+/// Returns the query that starts from the workspace's bases and from the named features in `names`.
 fn by_names<'g>(
     alloc: Global,
     graph: FeatureGraph<'g>,
@@ -57,7 +57,7 @@ fn select_by_names<'g, 'a>(
     graph.query_workspace(alloc, filter)
 }
 
-/// The query of the workspace's bases and of the features of these ids.
+/// Returns the query that starts from the workspace's bases and from the features in `ids`.
 fn by_ids<'g>(
     alloc: Global,
     graph: FeatureGraph<'g>,
@@ -80,7 +80,7 @@ fn select_by_ids<'g, 'a>(
     graph.query_workspace(alloc, filter)
 }
 
-/// What is selected by names.
+/// Prints the features that are selected by names.
 pub fn show(out: &mut Out, alloc: Global, graph: FeatureGraph<'_>) -> Result<(), Failure> {
     let mut counted = Counted {
         base: StandardFeatures::None,
@@ -93,7 +93,7 @@ pub fn show(out: &mut Out, alloc: Global, graph: FeatureGraph<'_>) -> Result<(),
     show_by_ids(out, alloc, graph, &mut counted)
 }
 
-/// What is selected by ids, with the count of a filter that was asked before.
+/// Prints the features that are selected by ids, with the count of a filter that was asked before.
 fn show_by_ids(
     out: &mut Out,
     alloc: Global,

@@ -18,11 +18,11 @@ pub struct Given {
     /// The path of a row file.
     pub rows: String,
     pub triple: String,
-    /// The path of what `rustc --print cfg --target TRIPLE` printed.
+    /// The path of a cfg text: the output of `rustc --print cfg --target TRIPLE`.
     pub cfg: String,
 }
 
-/// Writes the specs of the graph that hold for `target`, and how much of the workspace's default build is on for it.
+/// Prints the specs of the graph that hold for `target`, and how many features of the workspace's default build are on.
 fn show_on(
     out: &mut Out,
     alloc: Global,
@@ -46,7 +46,7 @@ fn show_on(
     Ok(())
 }
 
-/// Shows what is on for `target` over these packages.
+/// Prints the features that are on for `target` over `packages`.
 fn show_over(
     out: &mut Out,
     alloc: Global,
@@ -75,7 +75,7 @@ fn target_of(rt: &HostRuntime, given: &Given) -> Result<TargetCfg, Failure> {
     Ok(TargetCfg::parse(rt.alloc(), given.triple.as_str(), text)?)
 }
 
-/// Shows what is on for a target over the files of `given`.
+/// Prints the features that are on for a target over the files of `given`.
 pub fn show(out: &mut Out, rt: &HostRuntime, given: &Given) -> Result<(), Failure> {
     let target = target_of(rt, given)?;
     let packages = graph_of(rt.alloc(), &bytes_of(rt, given.rows.as_str())?)?;

@@ -16,14 +16,14 @@ use guppy_features::{
 };
 use std::alloc::Global;
 
-/// A forbidden feature that is on, and the steps on which it rests: from an initial feature to it, gates included.
+/// A forbidden feature that is on, and the steps on which it rests: from an initial feature to it, with gates.
 #[derive(Drop)]
 pub struct Finding<'g> {
     pub id: FeatureId<'g>,
     pub why: Vec<(FeatureId<'g>, Reason<'g>)>,
 }
 
-/// Whether a forbidden feature is on, and why. One that the graph lacks can't be on.
+/// Returns the finding for a forbidden feature if it is on. A feature that the graph lacks is off.
 fn examined<'g>(
     alloc: Global,
     graph: FeatureGraph<'g>,
@@ -44,10 +44,9 @@ fn examined<'g>(
     }
 }
 
-/// The forbidden features that the query's build for the platform turns on, each with its reasons.
+/// Returns the forbidden features that the query's build for the platform turns on, each with its steps.
 ///
-/// A forbidden feature that isn't named here is not in the least set for the platform: it is off, whatever the order in which
-/// links came up.
+/// A forbidden feature without a finding isn't in the least set for the platform: it is off, whatever the order of offers.
 pub fn findings<'g>(
     alloc: Global,
     query: FeatureQuery<'g>,
@@ -69,14 +68,14 @@ pub fn findings<'g>(
     Ok(found)
 }
 
-/// A policy against two features, of which a build turns one on.
+/// Prints the findings of a policy against two features; the build turns one of them on.
 pub fn show(out: &mut Out, alloc: Global, graph: FeatureGraph<'_>) -> Result<(), Failure> {
     let app = PackageId::new(alloc, "app")?;
     let serde = PackageId::new(alloc, "serde")?;
     lint(out, alloc, graph, &app, &serde)
 }
 
-/// A build of the default features of the one package, by that policy.
+/// Prints the findings for a build of one package's default features.
 fn lint<'g>(
     out: &mut Out,
     alloc: Global,
@@ -93,7 +92,7 @@ fn lint<'g>(
     show_findings(out, alloc, query, platform, &forbidden)
 }
 
-/// Writes a line for each forbidden feature that is on: the feature, and what it rests on.
+/// Prints a line for each forbidden feature that is on: the feature, and the steps on which it rests.
 fn show_findings<'g>(
     out: &mut Out,
     alloc: Global,

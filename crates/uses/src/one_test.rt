@@ -15,14 +15,14 @@ use guppy_features::{
 };
 use std::alloc::Global;
 
-/// Follows what is shipped, which is the links that aren't for development alone, and counts the links that it is shown.
+/// Follows the links that aren't only for development, and counts the links that it is shown.
 #[derive(Clone, Copy)]
 pub struct Shipped {
     pub calls: u64,
 }
 
 impl Shipped {
-    /// Counts a link, and answers whether it is followed.
+    /// Counts `link`, and returns true if it is followed.
     fn answer(&mut self, link: ConditionalLink<'_>) -> bool
         ensures answer { result ≡ is_shipped (link_of link.entry) }
         ensures count { self.new.calls ≡ min (self.old.calls + 1) (2 ^ 64 - 1) }
@@ -68,8 +68,8 @@ impl FeatureLinkObject for OfKind {
     }
 }
 
-/// What is shipped of what a query brings in. The visitor's count has no part in its answers, so the set is the same however
-/// often the visitor was asked before; it grows by one for each link that came up.
+/// Returns the features that `query` turns on by links that aren't only for development. The visitor's count doesn't change
+/// the set; it grows by one for each link that is shown.
 pub fn by_reference<'g>(
     alloc: Global,
     query: FeatureQuery<'g>,
@@ -83,7 +83,7 @@ pub fn by_reference<'g>(
     query.resolve_with(alloc, visitor)
 }
 
-/// The same by a visitor that is lent once more: whoever holds a `&mut` of a visitor has a visitor.
+/// Returns the same set by a visitor that is lent once more: a `&mut` of a visitor is a visitor too.
 pub fn by_loan<'g>(
     alloc: Global,
     query: FeatureQuery<'g>,
@@ -113,12 +113,12 @@ fn resolve_lent<'g>(
     query.resolve_with(alloc, lent)
 }
 
-/// The same by a closure, which is a visitor without a name.
+/// Returns the same set by a closure, which is a visitor without a name.
 pub fn by_closure<'g>(alloc: Global, query: FeatureQuery<'g>) -> Result<FeatureSet<'g>, Error<'g>> {
     query.resolve_with_fn(alloc, &mut |_, link| !link.dev_only())
 }
 
-/// What a query brings in by each of several visitors in boxes.
+/// Prints the features that a query turns on by each of several boxed visitors.
 fn show_boxed(out: &mut Out, alloc: Global, query: &FeatureQuery<'_>) -> Result<(), Failure> {
     let shipped: Box<dyn FeatureLinkObject> = Box::new(alloc, Shipped { calls: 0 })?;
     let for_tests: Box<dyn FeatureLinkObject> = Box::new(
@@ -134,7 +134,7 @@ fn show_boxed(out: &mut Out, alloc: Global, query: &FeatureQuery<'_>) -> Result<
     Ok(())
 }
 
-/// What a query brings in by one visitor, lent twice, with its count after each run.
+/// Prints the features that a query turns on by one visitor, lent twice, with its count after each run.
 fn show_lent(out: &mut Out, alloc: Global, query: &FeatureQuery<'_>) -> Result<(), Failure> {
     let mut visitor = Shipped { calls: 0 };
     out.set(
@@ -152,7 +152,7 @@ fn show_lent(out: &mut Out, alloc: Global, query: &FeatureQuery<'_>) -> Result<(
     Ok(())
 }
 
-/// What a feature brings in by one visitor in each form.
+/// Prints the features that a feature turns on by one visitor in each form.
 pub fn show(out: &mut Out, alloc: Global, graph: FeatureGraph<'_>) -> Result<(), Failure> {
     let main = PackageId::new(alloc, "main")?;
     let id = FeatureId::new(&main, FeatureLabel::Named("smallvec"));
