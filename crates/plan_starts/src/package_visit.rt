@@ -1,8 +1,9 @@
 //! Visits of a step in which each package has two entries.
-ghost use Rattle.std.specs.Prelude.{◌≡◌, ◌+◌, ◌<◌, ◌^◌};
+ghost use Rattle.std.specs.Prelude.{◌≡◌, ◌+◌, ◌<◌, ◌≤◌, ◌^◌};
 ghost use Rattle.feature_labels.specs.Names.{label_of};
 ghost use Rattle.feature_labels.specs.Names.LabelName.{base, named, optional};
 ghost use Rattle.plan_rows.specs.Steps.{is_host};
+ghost use Rattle.plan_starts.specs.PackageVisits as spec;
 ghost use Rattle.plan_starts.specs.PackageVisits.{is_kept, is_on, reaches_at};
 
 use feature_labels::FeatureLabel;
@@ -37,6 +38,14 @@ fn is_host_side(side: Side) -> bool
     matches!(side, Side::Host)
 }
 
+/// Returns the number of the first of the first entries of `count` packages, or of the second ones.
+fn first_entry(second: bool, count: usize) -> usize
+    ensures entry { result ≡ spec.first_entry second count }
+    ensures within { result ≤ count }
+{
+    if second { count } else { 0 }
+}
+
 impl PackageVisit {
     /// Returns the visit of `count` packages.
     pub fn new(visited: Visited, count: usize) -> PackageVisit
@@ -53,7 +62,7 @@ impl PackageVisit {
         if ix >= self.count {
             return false;
         }
-        let first = if second { self.count } else { 0 };
+        let first = first_entry(second, self.count);
         self.visited.reaches(first + ix, label)
     }
 

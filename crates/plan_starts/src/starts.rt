@@ -19,14 +19,14 @@ use guppy_support::IxBitSet;
 use plan_rows::{Platform, Side};
 use std::alloc::{AllocError, Global};
 
-/// Whether each package starts, by its number.
+/// The packages that start, as flags by their numbers.
 #[derive(Drop)]
 pub struct Starts {
-    /// With a target that is a procedural macro: on the host.
+    /// True if the package starts with a target that is a procedural macro: on the host.
     pub(crate) macros: Vec<bool>,
-    /// With another target: on each target platform.
+    /// True if it starts with another target: on each target platform.
     pub(crate) others: Vec<bool>,
-    /// On the host: with a procedural macro, or beside another target of its package.
+    /// True if it starts on the host: with a procedural macro, or beside another target.
     pub(crate) hosts: Vec<bool>,
 }
 
