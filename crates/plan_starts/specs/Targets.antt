@@ -53,7 +53,7 @@ is_of r p name d = bytes_eq d.name name && is_followed r p d
 -- declaration that counts.
 abbrev pub is_met : TargetRules → ℕ → PackageText → Text → Bool
 is_met r p x need = elim (item_of need) [
-  slash_item name feature weak ↦
+  | slash_item name feature weak ↦
       list_any (λ d. is_of r p name d && counts r.settings d) x.declarations && list_any (λ d. is_of r p name d && leads_on r feature d) x.declarations
   | _ ↦ is_on r.on Target p (named need)
 ]

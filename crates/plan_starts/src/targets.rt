@@ -189,7 +189,9 @@ fn is_met<P: Platform>(
 {
     match NamedFeatureDep::from_cargo_string(need) {
         NamedFeatureDep::DependencyNamedFeature {
-            dep_name, feature, ..
+            dep_name,
+            feature,
+            ..
         } => {
             let declarations = &package.declarations;
             any_counts(rules, ix, dep_name, declarations)
@@ -227,8 +229,7 @@ fn is_built<P: Platform>(
 ) -> bool
     ensures { result ≡ spec.is_built (rules_text P.holds rules.now) ix (package_text «package».now) (target_text target.now) }
 {
-    is_chosen(rules.settings.test, target)
-        && are_met(rules, ix, package, &target.required_features)
+    is_chosen(rules.settings.test, target) && are_met(rules, ix, package, &target.required_features)
 }
 
 /// Returns whether a target of package `ix` is built that is a procedural macro.
