@@ -1,0 +1,4 @@
+pub mod Places
+pub mod Zips
+pub mod Names
+pub mod Sound
