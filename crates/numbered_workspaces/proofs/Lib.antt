@@ -2,3 +2,4 @@ pub mod Places
 pub mod Zips
 pub mod Names
 pub mod Sound
+pub mod Steps

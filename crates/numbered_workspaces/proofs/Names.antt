@@ -1,9 +1,10 @@
 -- The names by which declarations lead to one package.
-use Rattle.std.proofs.Common.{◌≡◌, ◌∙◌, sym, ap, refl, subst, ℕ, ◌+◌, ◌<◌, List, [], ◌∷◌, ◌++◌, map, length, take, drop, get_or, Bool, true, false, not, ◌&&◌, ◌||◌, cond, arith}
-use Rattle.std.specs.Prelude.{Option, Some, None, find, nat_eq, option_map, option_and_then, if◌then◌else◌}
+use Rattle.std.proofs.Common.{◌≡◌, ◌∙◌, sym, ap, refl, ℕ, List, [], ◌∷◌, ◌++◌, map, Bool, true, false, not, ◌&&◌, cond, arith}
+use Rattle.std.specs.Prelude.{Option, Some, None, find, option_map, option_and_then, if◌then◌else◌}
 use Rattle.std.specs.List.{list_all, list_any, AllByRecursion}
-use Rattle.std.specs.Option.{option_or, unwrap_or, option_map_or}
+use Rattle.std.specs.Option.{option_or, unwrap_or}
 use Rattle.std.specs.Str.{bytes_eq}
+use Rattle.std.proofs.lemmas.Bool.{true≢false}
 use Rattle.std.proofs.lemmas.Bool.Decides.{Decides-eqb}
 use Rattle.std.proofs.lemmas.Slice.Eq.{bytes_eq-Decides}
 use Rattle.cargo_workspaces.specs.Workspaces.{Text, DeclarationText, both_lead_to, is_other_name}
@@ -36,19 +37,22 @@ same_lead None q h = cc
 same_lead (Some a) None h = cc
 same_lead (Some a) (Some b) h = ap Some ((Decides-eqb a b).0 h)
 
+abbrev differ : Text → DeclarationText → Option (Text × Text)
+differ name e = if bytes_eq e.name name then None else Some (e.name, name)
+
 module _ (ds : List DeclarationText) where
   abbrev first : Option ℕ → Option DeclarationText
   first p = find (λ e. both_lead_to p e.leads_to) ds
 
   abbrev names : Option ℕ → Text → Option (Text × Text)
-  names p name = option_and_then (λ e. if bytes_eq e.name name then None else Some (e.name, name)) (first p)
+  names p name = option_and_then (differ name) (first p)
 
-  agreed : (found : Option DeclarationText) (a : DeclarationText) (name : Text) → found ≡ Some a → option_and_then (λ e. if bytes_eq e.name name then None else Some (e.name, name)) found ≡ None → a.name ≡ name
-  agreed found a name is h = (bytes_eq-Decides a.name name).0 (one_name (bytes_eq a.name name) (a.name, name) (sym (ap (option_and_then (λ e. if bytes_eq e.name name then None else Some (e.name, name))) is) ∙ h))
+  agreed : (found : Option DeclarationText) (a : DeclarationText) (name : Text) → found ≡ Some a → option_and_then (differ name) found ≡ None → a.name ≡ name
+  agreed found a name is h = (bytes_eq-Decides a.name name).0 (one_name (bytes_eq a.name name) (a.name, name) (sym (ap (option_and_then (differ name)) is) ∙ h))
 
   not_other : (p q : Option ℕ) (m n : Text) (found : Option DeclarationText) (b : Bool) → first p ≡ found → both_lead_to p q ≡ b → names p m ≡ None → names q n ≡ None → (found ≡ None → both_lead_to p q ≡ false) → (b && not (bytes_eq n m)) ≡ false
   not_other p q m n found false is lead h k none = refl
-  not_other p q m n None true is lead h k none = sym lead ∙ none refl
+  not_other p q m n None true is lead h k none = absurd (true≢false (sym lead ∙ none refl))
   not_other p q m n (Some a) true is lead h k none =
       let one : a.name ≡ m = agreed (first p) a m is h in
       let two : a.name ≡ n = agreed (first q) a n (ap first (sym (same_lead p q lead)) ∙ is) k in
@@ -74,11 +78,11 @@ module _ (ds : List DeclarationText) where
 -- the search along the declarations
 find-append : (test : DeclarationText → Bool) (xs ys : List DeclarationText) → find test (xs ++ ys) ≡ option_or (find test xs) (find test ys)
 find-append test [] ys = refl
-find-append test (x ∷ xs) ys = by (test x)
+find-append test (x ∷ xs) ys = by (test x) (find-append test xs ys)
   where
-    by : (b : Bool) → cond b (Some x) (find test (xs ++ ys)) ≡ option_or (cond b (Some x) (find test xs)) (find test ys)
-    by true = refl
-    by false = find-append test xs ys
+    by : (b : Bool) → find test (xs ++ ys) ≡ option_or (find test xs) (find test ys) → cond b (Some x) (find test (xs ++ ys)) ≡ option_or (cond b (Some x) (find test xs)) (find test ys)
+    by true more = refl
+    by false more = more
 
 nowhere : (xs : List DeclarationText) → find (λ e. both_lead_to None e.leads_to) xs ≡ None
 nowhere [] = refl
@@ -121,25 +125,46 @@ module _ (ds done rest : List DeclarationText) (d : DeclarationText) (split : ds
   pub names_from : (n : ℕ) (first : Text) → d.leads_to ≡ Some n → first ≡ unwrap_or (name_at done n) d.name → other_names ds d ≡ (if bytes_eq first d.name then None else Some (first, d.name))
   names_from n first h e = compared (first_alike ds d) first (alike_by n (find (λ e. both_lead_to (Some n) e.leads_to) done) h refl ∙ ap Some (sym e))
 
--- the table with one more declaration
-pub table_more : (done : List DeclarationText) (d : DeclarationText) (n q : ℕ) → d.leads_to ≡ Some n → name_at (done ++ d ∷ []) q ≡ option_or (name_at done q) (if nat_eq n q then Some d.name else None)
-table_more done d n q h = ap (option_map name) (find-append (λ e. both_lead_to (Some q) e.leads_to) done (d ∷ [])) ∙ added (find (λ e. both_lead_to (Some q) e.leads_to) done) (both_lead_to (Some q) d.leads_to) (nat_eq n q) (ap (both_lead_to (Some q)) h ∙ turned)
-  where
-    turned : nat_eq q n ≡ nat_eq n q
-    turned = grind arith
-    added : (o : Option DeclarationText) (b c : Bool) → b ≡ c → option_map name (option_or o (cond b (Some d) None)) ≡ option_or (option_map name o) (if c then Some d.name else None)
-    added None true true e = refl
-    added None false false e = refl
-    added None true false e = cc
-    added None false true e = cc
-    added (Some a) b c e = refl
+  by_lead : (first : Text) (p : Option ℕ) → d.leads_to ≡ p → first ≡ unwrap_or (option_and_then (name_at done) p) d.name → other_names ds d ≡ (if bytes_eq first d.name then None else Some (first, d.name))
+  by_lead first None h e = leads_nowhere h ∙ sym (alike (bytes_eq first d.name) (first, d.name) ((bytes_eq-Decides first d.name).1 e))
+    where
+      alike : (b : Bool) (both : Text × Text) → b ≡ true → ◌≡◌ {A = Option (Text × Text)} (if b then None else Some both) None
+      alike true both e = refl
+      alike false both e = cc
+  by_lead first (Some n) h e = names_from n first h e
 
-pub table_same : (done : List DeclarationText) (d : DeclarationText) (q : ℕ) → d.leads_to ≡ None → name_at (done ++ d ∷ []) q ≡ name_at done q
-table_same done d q h =
-    let none : find (λ e. both_lead_to (Some q) e.leads_to) (d ∷ []) ≡ None = ap (λ (p : Option ℕ). cond (both_lead_to (Some q) p) (Some d) None) h in
-    let same : find (λ e. both_lead_to (Some q) e.leads_to) (done ++ d ∷ []) ≡ find (λ e. both_lead_to (Some q) e.leads_to) done = find-append (λ e. both_lead_to (Some q) e.leads_to) done (d ∷ []) ∙ ap (option_or (find (λ e. both_lead_to (Some q) e.leads_to) done)) none ∙ kept (find (λ e. both_lead_to (Some q) e.leads_to) done) in
-    ap (option_map name) same
-  where
-    kept : (o : Option DeclarationText) → option_or o None ≡ o
-    kept None = refl
-    kept (Some a) = refl
+  -- the names of `d` and of the first declaration to its package, whose name is in a table of those before it
+  pub names_by : (first : Text) → first ≡ unwrap_or (option_and_then (name_at done) d.leads_to) d.name → other_names ds d ≡ (if bytes_eq first d.name then None else Some (first, d.name))
+  names_by first e = by_lead first d.leads_to refl e
+
+turned : (q : ℕ) (p : Option ℕ) → both_lead_to (Some q) p ≡ both_lead_to p (Some q)
+turned q None = refl
+turned q (Some n) = grind arith
+
+added : (o : Option DeclarationText) (d : DeclarationText) (b c : Bool) → b ≡ c → option_map name (option_or o (cond b (Some d) None)) ≡ option_or (option_map name o) (if c then Some d.name else None)
+added None d true true e = refl
+added None d false false e = refl
+added None d true false e = cc
+added None d false true e = cc
+added (Some a) d b c e = refl
+
+-- the table with one more declaration
+pub table_more : (done : List DeclarationText) (d : DeclarationText) (q : ℕ) → name_at (done ++ d ∷ []) q ≡ option_or (name_at done q) (if both_lead_to d.leads_to (Some q) then Some d.name else None)
+table_more done d q = ap (option_map name) (find-append (λ e. both_lead_to (Some q) e.leads_to) done (d ∷ [])) ∙ added (find (λ e. both_lead_to (Some q) e.leads_to) done) d (both_lead_to (Some q) d.leads_to) (both_lead_to d.leads_to (Some q)) (turned q d.leads_to)
+
+pub or_none : (o : Option Text) → option_or o None ≡ o
+or_none None = refl
+or_none (Some t) = refl
+
+pub same_lookup : (f g : ℕ → Option Text) → ((n : ℕ) → f n ≡ g n) → (p : Option ℕ) → option_and_then f p ≡ option_and_then g p
+same_lookup f g h None = refl
+same_lookup f g h (Some n) = h n
+
+-- by what `!=` says of two texts
+pub chosen_one : (b : Bool) (both : Text × Text) → not b ≡ false → ◌≡◌ {A = Option (Text × Text)} (if b then None else Some both) None
+chosen_one true both h = refl
+chosen_one false both h = cc
+
+pub chosen_two : (b : Bool) (both : Text × Text) → not b ≡ true → ◌≡◌ {A = Option (Text × Text)} (if b then None else Some both) (Some both)
+chosen_two true both h = cc
+chosen_two false both h = refl

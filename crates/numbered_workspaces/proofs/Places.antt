@@ -1,13 +1,12 @@
 -- The place of an id among ids in order.
-use Rattle.std.proofs.Common.{◌≡◌, ◌∙◌, sym, ap, refl, ℕ, zero, suc, ◌+◌, ◌<◌, ◌≤◌, List, [], ◌∷◌, map, length, get_or, Bool, true, false, not, ◌&&◌, ◌||◌, cond, arith, Bor, inl, inr, ◌⊎◌}
+use Rattle.std.proofs.Common.{◌≡◌, ◌∙◌, sym, ap, refl, ℕ, zero, suc, ◌+◌, ◌<◌, ◌≤◌, List, [], ◌∷◌, map, length, get_or, Bool, true, false, ◌&&◌, ◌||◌, arith, Bor, inl, inr, ◌⊎◌}
 use Rattle.std.specs.Prelude.{Option, Some, None, option_map, nat_lt, IsSortedBy}
-use Rattle.std.specs.List.{list_all, list_any, position_or_len, AllByRecursion}
+use Rattle.std.specs.List.{list_all, list_any, AllByRecursion}
 use Rattle.std.specs.List.Sorted.{IsStrictlySortedBy, IsNonDecreasingBy, IsPartitionPoint}
 use Rattle.std.specs.Option.{option_map_or}
-use Rattle.std.specs.Ordering.{nat_cmp, is_eq, is_lt, ordering_index, ordering_reverse}
+use Rattle.std.specs.Ordering.{is_eq, is_lt, ordering_index, ordering_reverse}
 use Rattle.std.specs.declared.cmp.Ordering.{Ordering}
 use Rattle.std.specs.declared.cmp.Ordering.TheVariants.{Less, Equal, Greater}
-use Rattle.std.specs.Cmp.Lexicographic.{slice_cmp}
 use Rattle.std.specs.Str.{bytes_eq}
 use Rattle.std.proofs.lemmas.Cmp.{nat_list_cmp_total}
 use Rattle.std.proofs.lemmas.List.{length-map, get_or-map}
@@ -72,20 +71,20 @@ pub missing_number : (ids : List (Bor Text)) (id : Text) (i : ℕ) → IsStrictl
 missing_number ids id i s h =
     let point = h (searchable_from_sorted nat_list_cmp_total text_view ids id (rising ids s)) in
     none_number ids id (λ k d within. elim (either i k) [
-      inl before ↦ same_from Less (get_or ids k d).now id (point.0 k d (omega arith) before)
+      | inl before ↦ same_from Less (get_or ids k d).now id (point.0 k d (omega arith) before)
       | inr after ↦ same_from Greater (get_or ids k d).now id (point.1 k d after within)
     ])
 
 -- the number of an id that is there is below their count
 known_below : (id : Text) (ids : List Text) → list_any (bytes_eq id) ids ≡ true → number_of ids id < length ids
 known_below id [] h = cc
-known_below id (x ∷ xs) h = known_by (bytes_eq id x) refl
+known_below id (x ∷ xs) h = known_by (bytes_eq id x) refl (known_below id xs)
   where
-    known_by : (b : Bool) → bytes_eq id x ≡ b → number_of (x ∷ xs) id < length (x ∷ xs)
-    known_by true e = let at : number_of (x ∷ xs) id ≡ 0 = here x id xs e in omega arith
-    known_by false e =
+    known_by : (b : Bool) → bytes_eq id x ≡ b → (list_any (bytes_eq id) xs ≡ true → number_of xs id < length xs) → number_of (x ∷ xs) id < length (x ∷ xs)
+    known_by true e f = let at : number_of (x ∷ xs) id ≡ 0 = here x id xs e in omega arith
+    known_by false e f =
         let there : list_any (bytes_eq id) xs ≡ true = sym (ap (λ c. c || list_any (bytes_eq id) xs) e) ∙ h in
-        let rest : number_of xs id < length xs = known_below id xs there in
+        let rest : number_of xs id < length xs = f there in
         let next : number_of (x ∷ xs) id ≡ 1 + number_of xs id = later x id xs e in
         omega arith
 

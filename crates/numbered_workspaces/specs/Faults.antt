@@ -1,5 +1,5 @@
 -- The workspace of a document, or the reason why it has none.
-use Rattle.std.specs.Prelude.{List, Bool, Option, Some, None, Result, Ok, Err, map, option_map, option_and_then, find, if◌then◌else◌}
+use Rattle.std.specs.Prelude.{List, Option, Some, None, Result, Ok, Err, map, option_map, option_and_then, find, if◌then◌else◌, ⊤}
 use Rattle.std.specs.Option.{option_or}
 use Rattle.std.specs.Str.{bytes_eq}
 use Rattle.json.specs.Json.{Json}
@@ -42,6 +42,10 @@ fault_of p = option_or (option_map (feature_name p.id) (first_some (map bad_name
 abbrev pub ok_unless : {X : Type 0} → Option NoWorkspace → X → Result X NoWorkspace
 ok_unless None x = Ok x
 ok_unless (Some fault) x = Err fault
+
+-- The result of a check: the fault, if there is one.
+abbrev pub unless : Option NoWorkspace → Result ⊤ NoWorkspace
+unless fault = ok_unless {X = ⊤} fault tt
 
 -- The workspace, or the first fault of its packages.
 abbrev pub checked : WorkspaceText → Result WorkspaceText NoWorkspace

@@ -10,7 +10,9 @@ ghost use Rattle.numbered_workspaces.specs.Numbers as spec;
 
 use cargo_workspaces::{Declaration, Package};
 use std::alloc::{AllocError, Global};
-use workspace_documents::{Declaration as ReadDeclaration, Leads, Package as ReadPackage, Packages, name_of};
+use workspace_documents::{
+    Declaration as ReadDeclaration, Leads, Package as ReadPackage, Packages, name_of,
+};
 
 /// Returns the number of the package `id`, which is its place in `ids`. Returns the number of `ids` if it isn't one of them.
 fn number_of(ids: &[&str], id: &str) -> usize

@@ -21,7 +21,7 @@ fn numbered<'v>(
     alloc: Global,
     described: Described<'v>,
 ) -> Result<Workspace<'v>, WorkspaceFault<'v>>
-    requires { IsDescribed (described_view described.entry) }
+    requires { IsDescribed (described_view described) }
     ensures { Gives workspace_text result (spec.checked (numbered (described_view described.entry))) }
 {
     let Described { packages, links } = described;

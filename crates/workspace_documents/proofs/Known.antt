@@ -1,8 +1,7 @@
 -- The ids that a described workspace names are those of its packages.
 use Rattle.std.proofs.Common.{◌≡◌, ◌∙◌, sym, ap, refl, subst, ℕ, ◌+◌, List, [], ◌∷◌, map, length, suc, Bool, true, false, ◌&&◌, ◌||◌, cond}
-use Rattle.std.specs.Prelude.{Option, Some, None, Result, Ok, Err, codes, option_map, filter, ⊤}
-use Rattle.std.specs.List.{list_all, list_any, AllByRecursion, AllZip}
-use Rattle.std.specs.Map.{keys_of, lookup}
+use Rattle.std.specs.Prelude.{Option, Some, None, Result, Ok, codes, option_map, filter, ⊤}
+use Rattle.std.specs.List.{list_all, AllByRecursion, AllZip}
 use Rattle.std.specs.Option.{unwrap_or}
 use Rattle.std.specs.Str.{bytes_eq}
 use Rattle.std.proofs.lemmas.Slice.Eq.{bytes_eq-Decides}
@@ -11,7 +10,7 @@ use Rattle.cargo_documents.specs.declared.fault.Place.{Place}
 use Rattle.cargo_documents.specs.declared.fault.Place.TheVariants as place
 use Rattle.cargo_documents.specs.Faults.{Text, Refusal, ◌>>=◌}
 use Rattle.cargo_documents.specs.Fields.{text_in, optional_text_in, list_in, texts_in}
-use Rattle.workspace_documents.specs.Lists.{ById, at_id, each, each_by_id}
+use Rattle.workspace_documents.specs.Lists.{ById, at_id, each}
 use Rattle.workspace_documents.specs.Packages.{DeclarationText, PackageText, use_in}
 use Rattle.workspace_documents.specs.Nodes.{DepText, NodeText, ResolvedText, found_or, package_at, dep_in, no_node, node_in, resolve_in, nodes_in, known, members_in, node_of, resolved_in}
 use Rattle.workspace_documents.specs.Dependencies.{FoundPackage, nothing, one, several, found_of, pick, if_nothing, choice_of, is_used, is_admitted, led_to, choice, target_of}
@@ -127,9 +126,10 @@ module _ (packages : ById PackageText) where
     resolved_known d resolved h =
         let members = both_ok (members_in packages (codes "workspace_members") d) _ resolved h in
         let nodes = both_ok (nodes_in packages d) _ resolved members.2 in
-        let is : (let it : ResolvedText = record { members = members.0; nodes = nodes.0 } in it) ≡ resolved = ok_same _ resolved nodes.2 in
-        (ap (λ (r : ResolvedText). list_all (is_known packages) r.members) (sym is) ∙ members_known (codes "workspace_members") d members.0 members.1,
-         subst (λ (r : ResolvedText). AllByRecursion KnownDeps r.nodes) is (nodes_known d nodes.0 nodes.1))
+        let is : (let it : ResolvedText = record { members = members.0; nodes = nodes.0 } in it) ≡ resolved = ok_same _ resolved nodes.2 in (
+          ap (λ (r : ResolvedText). list_all (is_known packages) r.members) (sym is) ∙ members_known (codes "workspace_members") d members.0 members.1,
+          subst (λ (r : ResolvedText). AllByRecursion KnownDeps r.nodes) is (nodes_known d nodes.0 nodes.1),
+        )
 
   node_by : (b : Bool) (n : NodeText) (o : Option NodeText) → list_all knows n.deps ≡ true → list_all knows (unwrap_or o no_node).deps ≡ true → list_all knows (unwrap_or (cond b (Some n) o) no_node).deps ≡ true
   node_by true n o p q = p
@@ -198,9 +198,10 @@ module _ (packages : ById PackageText) where
       let lead = both_ok (lead_in id deps d) (λ (l : Option Text). leads_in id deps ds >>= λ (ls : List (Option Text)). Ok (l ∷ ls)) leads h in
       let rest = both_ok (leads_in id deps ds) (λ (ls : List (Option Text)). Ok (lead.0 ∷ ls)) leads lead.2 in
       let is : lead.0 ∷ rest.0 ≡ leads = ok_same (lead.0 ∷ rest.0) leads rest.2 in
-      let more = leads_known id deps ds rest.0 all rest.1 in
-      (ap length (sym is) ∙ ap suc more.0,
-       ap (list_all (is_known_if_any packages)) (sym is) ∙ and_true (is_known_if_any packages lead.0) (list_all (is_known_if_any packages) rest.0) (lead_known id deps d lead.0 all lead.1) more.1)
+      let more = leads_known id deps ds rest.0 all rest.1 in (
+        ap length (sym is) ∙ ap suc more.0,
+        ap (list_all (is_known_if_any packages)) (sym is) ∙ and_true (is_known_if_any packages lead.0) (list_all (is_known_if_any packages) rest.0) (lead_known id deps d lead.0 all lead.1) more.1,
+      )
 
   pub all_known : (nodes : ById NodeText) → AllByRecursion KnownDeps nodes → (es : ById PackageText) (all : ById (List (Option Text))) → all_leads nodes es ≡ Ok all → AllZip (LeadsOf packages) es all
   all_known nodes a [] all h = subst (AllZip (LeadsOf packages) []) (ok_same [] all h) tt

@@ -1,13 +1,12 @@
 -- Every workspace that is read without a fault satisfies its rules.
-use Rattle.std.proofs.Common.{◌≡◌, ◌∙◌, sym, ap, refl, subst, List, []}
-use Rattle.std.specs.Prelude.{Option, Result, Ok, codes, option_and_then}
+use Rattle.std.proofs.Common.{◌≡◌, subst, []}
+use Rattle.std.specs.Prelude.{Ok, codes, option_and_then}
 use Rattle.std.specs.List.{AllByRecursion}
 use Rattle.std.specs.List.Sorted.{IsStrictlySortedBy}
 use Rattle.std.specs.Map.{keys_of}
 use Rattle.json.specs.Json.{Json}
 use Rattle.json.specs.Find.{get, as_array}
 use Rattle.cargo_documents.specs.declared.fault.Place.TheVariants as place
-use Rattle.cargo_documents.specs.Faults.{Text, Refusal, ◌>>=◌}
 use Rattle.cargo_documents.specs.Fields.{wanted}
 use Rattle.workspace_documents.specs.Lists.{ById, id_cmp, each_by_id}
 use Rattle.workspace_documents.specs.Packages.{PackageText, package_with_id, packages_at, packages_in}
@@ -27,10 +26,11 @@ ArePackages ps = IsStrictlySortedBy id_cmp (keys_of ps) × AllByRecursion (λ e.
 packages_sound : (d : Json) (ps : ById PackageText) → packages_in d ≡ Ok ps → ArePackages ps
 unfolding packages_in packages_at
 packages_sound d ps h =
-    let objects = both_ok (wanted place.Document (codes "packages") (option_and_then as_array (get (codes "packages") d))) (each_by_id package_with_id place.Package 0 []) ps h in
-    (by_id_sorted package_with_id place.Package objects.0 0 [] ps objects.2 none_sorted,
-     by_id_all package_with_id place.Package (λ e. e.1.id ≡ e.0) own_id objects.0 0 [] ps objects.2 tt,
-     by_id_all package_with_id place.Package (λ e. HasSortedFeatures e.1) own_features objects.0 0 [] ps objects.2 tt)
+    let objects = both_ok (wanted place.Document (codes "packages") (option_and_then as_array (get (codes "packages") d))) (each_by_id package_with_id place.Package 0 []) ps h in (
+      by_id_sorted package_with_id place.Package objects.0 0 [] ps objects.2 none_sorted,
+      by_id_all package_with_id place.Package (λ e. e.1.id ≡ e.0) own_id objects.0 0 [] ps objects.2 tt,
+      by_id_all package_with_id place.Package (λ e. HasSortedFeatures e.1) own_features objects.0 0 [] ps objects.2 tt,
+    )
 
 links_sound : (d : Json) (ps : ById PackageText) (links : LinksText) → ArePackages ps → links_in ps d ≡ Ok links → IsDescribed (record { packages = ps; links = links })
 unfolding links_in

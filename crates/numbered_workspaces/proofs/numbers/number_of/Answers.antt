@@ -1,4 +1,3 @@
-use Rattle.std.proofs.Common.{◌∙◌}
 use Rattle.numbered_workspaces.proofs.Places.{found_number, missing_number}
 use Rattle.numbered_workspaces.proofs.numbers.number_of.Goals as goal
 
@@ -6,4 +5,4 @@ pub returns-in-Ok : goal.returns-in-Ok
 returns-in-Ok c = found_number c.args.ids.now c.args.id.now c.in-Ok.number c.requires c.in-Ok.ensures.bound c.in-Ok.ensures.ok
 
 pub returns-in-Err : goal.returns-in-Err
-returns-in-Err c = c.len.ensures ∙ missing_number c.args.ids.now c.args.id.now _ c.requires c.in-Err.ensures.position
+returns-in-Err c = missing_number c.args.ids.now c.args.id.now _ c.requires c.in-Err.ensures.position
