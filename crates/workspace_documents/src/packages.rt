@@ -223,6 +223,34 @@ fn items_of<'v>(
     }
 }
 
+/// Returns the feature `name` with the items in `value`.
+fn feature_of<'v>(
+    alloc: Global,
+    name: &'v str,
+    value: &Value<'v>,
+    place: Place,
+) -> Result<Feature<'v>, DocumentFault>
+    ensures { Gives feature_text result (spec.feature_in place (name.now, value_view value.now)) }
+{
+    let items = items_of(alloc, value, place)?;
+    Ok(Feature { name, items })
+}
+
+/// Returns the features `members` of the package of this place, in their order.
+fn features_in<'v>(
+    alloc: Global,
+    members: &BTreeMap<&'v str, &Value<'v>>,
+    place: Place,
+) -> Result<Vec<Feature<'v>>, DocumentFault>
+    ensures { Gives (λ fs. map feature_text fs.items) result (spec.features_of place (entries_view (λ v. value_view v.now) members.now.entries)) }
+{
+    let mut features = Vec::with_capacity(alloc, members.len())?;
+    for (name, value) in members {
+        features.push(feature_of(alloc, *name, *value, place)?)?;
+    }
+    Ok(features)
+}
+
 /// The named features of the package of this place, in the order of their names.
 fn features_of<'v>(
     alloc: Global,
@@ -232,12 +260,7 @@ fn features_of<'v>(
     ensures { Gives (λ fs. map feature_text fs.items) result (spec.features_of place (spec.sorted [] (members_view members.now.items))) }
 {
     let members = sorted(alloc, members)?;
-    let mut features = Vec::with_capacity(alloc, members.len())?;
-    for (name, value) in &members {
-        let items = items_of(alloc, *value, place)?;
-        features.push(Feature { name: *name, items })?;
-    }
-    Ok(features)
+    features_in(alloc, &members, place)
 }
 
 /// Returns whether `kind` is the kind of a library target.
