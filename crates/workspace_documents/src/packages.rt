@@ -1,12 +1,14 @@
 //! The packages of a document, with what they declare.
-ghost use Rattle.std.specs.Prelude.{◌≡◌, [], Some, IfOk, codes, map, option_map, option_and_then};
+ghost use Rattle.std.specs.Prelude.{◌≡◌, [], Some, IfErr, IfOk, OnOk, codes, false, is_some, true, map, option_map, option_and_then};
+ghost use Rattle.std.specs.BTreeMap.{get, insert_entry};
 ghost use Rattle.std.specs.List.{list_any};
 ghost use Rattle.json.specs.Find.{as_array};
 ghost use Rattle.json.specs.Value.{value_view, items_view, members_view};
-ghost use Rattle.cargo_documents.specs.Faults.{Gives};
+ghost use Rattle.cargo_documents.specs.Faults.{Gives, IfNotMemory, refusal_of, repeated};
 ghost use Rattle.cargo_documents.specs.Fields.{wanted, all_texts};
 ghost use Rattle.workspace_documents.specs.Lists.{each, each_by_id};
 ghost use Rattle.workspace_documents.specs.Packages as spec;
+ghost use Rattle.workspace_documents.specs.inner.Keys.{key_cmp};
 ghost use Rattle.cargo_workspaces.specs.Views.{feature_text};
 ghost use Rattle.cargo_workspaces.specs.Workspaces.{is_library_kind};
 ghost use Rattle.workspace_documents.specs.Views.{text_view, use_view, declaration_view, package_view, entries_view};
@@ -415,6 +417,23 @@ pub fn packages_of<'v>(
     }
 }
 
+/// Inserts `added`, which is at place `place`, under its id. Returns `Repeated` if an earlier package has that id.
+fn insert<'v>(
+    packages: &mut Packages<'v>,
+    added: Package<'v>,
+    place: usize,
+) -> Result<(), DocumentFault>
+    ensures inserted { OnOk result ((is_some (get key_cmp packages.old added.entry.id) ≡ false) × (packages.new.entries ≡ insert_entry key_cmp packages.old.entries added.entry.id added.entry)) }
+    ensures repeated { IfErr result (λ e. IfNotMemory (refusal_of e) ((is_some (get key_cmp packages.old added.entry.id) ≡ true) × (refusal_of e ≡ repeated (at.Package place)))) }
+{
+    if packages.insert(added.id, added)?.is_some() {
+        return Err(DocumentFault::Repeated {
+            place: Place::Package { package: place },
+        });
+    }
+    Ok(())
+}
+
 /// Reads the packages that these objects are, by their ids. Each object is dropped once it is read.
 fn packages_from<'v>(
     alloc: Global,
@@ -428,11 +447,7 @@ fn packages_from<'v>(
     'objects: while let Some(object) = objects.pop() {
         let place = count - objects.len() - 1;
         let package = package_from(alloc, object, place)?;
-        if packages.insert(package.id, package)?.is_some() {
-            return Err(DocumentFault::Repeated {
-                place: Place::Package { package: place },
-            });
-        }
+        insert(&mut packages, package, place)?;
     }
     Ok(packages)
 }
