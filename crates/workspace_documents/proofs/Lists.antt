@@ -1,14 +1,12 @@
 -- Reading the items of a list, step by step.
 use Rattle.std.proofs.Common.{◌≡◌, ◌∙◌, sym, ap, refl, ℕ, ◌+◌, ◌<◌, List, [], ◌∷◌, ◌++◌, length, drop, get_or, append_assoc, add-one, drop-cons, Bor}
-use Rattle.std.specs.Prelude.{Result, Ok, Err, codes, option_and_then}
+use Rattle.std.specs.Prelude.{Result, Ok, Err}
 use Rattle.std.specs.declared.alloc.Global.{Global}
 use Rattle.json.specs.Json.{Json}
-use Rattle.json.specs.Find.{as_array}
 use Rattle.json.specs.Value.{value_view, items_view}
 use Rattle.json.specs.declared.value.Value.{Value}
 use Rattle.cargo_documents.specs.declared.fault.Place.{Place}
 use Rattle.cargo_documents.specs.Faults.{Text, Refusal, bad_field, repeated, no_package, ambiguous, two_names, control, every_platform, no_deps, out_of_memory, IfNotMemory, ◌>>=◌}
-use Rattle.cargo_documents.specs.Fields.{wanted, all_texts}
 use Rattle.workspace_documents.specs.Lists.{each}
 use Rattle.cargo_workspaces.specs.Workspaces.{FeatureText}
 use Rattle.workspace_documents.specs.Packages.{feature_in, features_of}
