@@ -1,5 +1,5 @@
 -- The packages that words name, as Cargo's package id specs do.
-use Rattle.std.specs.Prelude.{ℕ, ◌+◌, List, [], ◌∷◌, ◌++◌, Bool, Result, Ok, Err, nat_eq, not, ◌==◌, ◌&&◌, ◌||◌, if◌then◌else◌, codes}
+use Rattle.std.specs.Prelude.{ℕ, ◌+◌, List, [], ◌∷◌, Bool, length, drop, Result, Ok, Err, nat_eq, not, ◌==◌, ◌&&◌, ◌||◌, if◌then◌else◌, codes}
 use Rattle.std.specs.List.{list_any, before_first, after_first, starts_with}
 use Rattle.std.specs.Str.{bytes_eq}
 use Rattle.cargo_workspaces.specs.Workspaces.{Text, PackageText, WorkspaceText}
@@ -12,16 +12,17 @@ is_at_sign c = c == 64
 abbrev pub is_plus : ℕ → Bool
 is_plus c = c == 43
 
-abbrev pub is_dash : ℕ → Bool
-is_dash c = c == 45
+-- The numbers of a prerelease's version are before a dash.
+abbrev pub has_dash : Text → Bool
+has_dash version = list_any (λ c. c == 45) version
 
 -- A version without its build metadata.
 abbrev pub without_build : Text → Text
 without_build version = before_first is_plus version
 
--- Whether the version begins with `word` and a dot.
+-- Whether the version begins with `word` and goes on with a dot.
 abbrev pub begins_numbers : Text → Text → Bool
-begins_numbers word version = starts_with nat_eq version (word ++ codes ".")
+begins_numbers word version = starts_with nat_eq version word && starts_with nat_eq (drop (length word) version) (codes ".")
 
 -- Whether `word` is the version, with or without its build metadata, or a beginning of its numbers. A beginning of the numbers
 -- fits no prerelease.
@@ -29,7 +30,7 @@ abbrev pub fits_version : Text → Text → Bool
 fits_version word version =
     bytes_eq word version
     || bytes_eq word (without_build version)
-    || not (list_any is_dash (without_build version)) && begins_numbers word (without_build version)
+    || not (has_dash (without_build version)) && begins_numbers word (without_build version)
 
 -- Whether `word` is the package's name, or its name, `@` and a version that fits.
 abbrev pub is_named : Text → PackageText → Bool

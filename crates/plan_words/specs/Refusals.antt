@@ -18,8 +18,8 @@ refusal_of (fault.UnknownPackage word) = unknown_package word.now
 refusal_of (fault.AmbiguousPackage word candidates) = ambiguous_package word.now candidates.items
 refusal_of fault.NoMember = no_member
 refusal_of (fault.UnknownFeature word) = unknown_feature word.now
-refusal_of (fault.NoFeature package feature) = no_feature package feature.now
-refusal_of (fault.NoDependency package dependency) = no_dependency package dependency.now
+refusal_of (fault.NoFeature owner feature) = no_feature owner feature.now
+refusal_of (fault.NoDependency owner dependency) = no_dependency owner dependency.now
 refusal_of fault.Memory = out_of_memory
 
 -- Nothing is claimed if an allocation fails.

@@ -7,6 +7,7 @@ ghost use Rattle.plan_words.specs.Choices.{are_commands, chosen_text};
 ghost use Rattle.plan_words.specs.Refusals.{Gives};
 ghost use Rattle.plan_words.specs.Selections.{selection_text};
 
+use crate::commands::commands_of;
 use crate::fault::WordFault;
 use crate::package_words::selected;
 use crate::selection::Selection;

@@ -2,10 +2,15 @@
 #![tactic(auto)]
 
 mod choices;
+mod commands;
 mod fault;
 mod feature_words;
+mod item_checks;
+mod lookups;
 mod package_words;
 mod selection;
+mod started;
+mod word_parts;
 
 pub use choices::{Chosen, choose};
 pub use fault::WordFault;

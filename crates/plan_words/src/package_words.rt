@@ -1,5 +1,6 @@
 //! The packages that words name.
-ghost use Rattle.std.specs.Prelude.{◌≡◌, IfOk, map};
+ghost use Rattle.std.specs.Prelude.{◌≡◌, ◌<◌, IfOk, IsTrue, length, map, nat_lt};
+ghost use Rattle.std.specs.List.{list_all};
 ghost use Rattle.cargo_workspaces.specs.Views.{package_text, texts};
 ghost use Rattle.cargo_workspaces.specs.WorkspaceView.{workspace_text};
 ghost use Rattle.plan_words.specs.PackageWords as spec;
@@ -31,18 +32,25 @@ fn without_build<'v>(version: &'v str) -> &'v str
     }
 }
 
+/// Returns whether `version`, which has no build metadata, is that of a prerelease.
+fn has_dash(version: &str) -> bool
+    ensures { result ≡ spec.has_dash version.now }
+{
+    version.contains('-')
+}
+
 /// Returns whether `word` is `version`, with or without its build metadata, or a beginning of its numbers. A beginning of the
 /// numbers fits no prerelease.
 fn fits_version(word: &str, version: &str) -> bool
     ensures { result ≡ spec.fits_version word.now version.now }
 {
     let front = without_build(version);
-    word == version || word == front || !front.contains('-') && begins_numbers(word, front)
+    word == version || word == front || !has_dash(front) && begins_numbers(word, front)
 }
 
 /// Returns whether `word` is the name of `package`, or its name, `@` and a version that fits.
 fn is_named(word: &str, package: &Package<'_>) -> bool
-    ensures { result ≡ spec.is_named word.now (package_text package.now) }
+    ensures { result ≡ spec.is_named word.now (package_text «package».now) }
 {
     match word.split_once('@') {
         Some((name, version)) => name == package.name && fits_version(version, package.version),
@@ -104,7 +112,7 @@ pub fn packages_of_word(
 
 /// Returns the only one of `numbers`, the packages that `word` names.
 fn the_one<'s>(word: &'s str, numbers: Vec<usize>) -> Result<usize, WordFault<'s>>
-    ensures { Gives (λ p. p) result (spec.the_one word.now numbers.entry.items) }
+    ensures { Gives (λ p. p) result (spec.the_one word.now numbers.items) }
 {
     match *numbers.as_slice() {
         [] => Err(WordFault::UnknownPackage(word)),
@@ -122,22 +130,27 @@ fn package_of_word<'s>(
     workspace: &Workspace<'_>,
     word: &'s str,
 ) -> Result<usize, WordFault<'s>>
-    ensures { Gives (λ p. p) result (spec.the_one word.now (spec.packages_of_word (workspace_text workspace.now).packages word.now)) }
+    ensures one { Gives (λ p. p) result (spec.the_one word.now (spec.packages_of_word (workspace_text workspace.now).packages word.now)) }
+    ensures within { IfOk result (λ p. p < length (workspace_text workspace.now).packages) }
 {
-    the_one(word, packages_of_word(alloc, workspace, word)?)
+    let numbers = packages_of_word(alloc, workspace, word)?;
+    the_one(word, numbers)
 }
 
 /// Returns the number of the package that each of `words` names, or the first fault.
+#[tactic(auto, using(crate::proofs::Lists::list_all_more))]
 fn packages_of_words<'s>(
     alloc: Global,
     workspace: &Workspace<'_>,
     words: &[&'s str],
 ) -> Result<Vec<usize>, WordFault<'s>>
-    ensures { Gives (λ packages. packages.items) result (spec.packages_of_words (workspace_text workspace.now).packages (texts words.now)) }
+    ensures packages { Gives (λ packages. packages.items) result (spec.packages_of_words (workspace_text workspace.now).packages (texts words.now)) }
+    ensures within { IfOk result (λ packages. IsTrue (list_all (λ p. nat_lt p (length (workspace_text workspace.now).packages)) packages.items)) }
 {
     let mut packages = Vec::with_capacity(alloc, words.len())?;
     for word in words {
-        packages.push(package_of_word(alloc, workspace, word)?)?;
+        let number = package_of_word(alloc, workspace, word)?;
+        packages.push(number)?;
     }
     Ok(packages)
 }
@@ -148,8 +161,11 @@ pub(crate) fn selected<'s>(
     workspace: &Workspace<'_>,
     choice: PackageChoice<'s>,
 ) -> Result<Vec<usize>, WordFault<'s>>
-    ensures { Gives (λ packages. packages.items) result (spec.selected (workspace_text workspace.now) (choice_text choice.entry)) }
+    ensures packages { Gives (λ packages. packages.items) result (spec.selected (workspace_text workspace.now) (choice_text choice.entry)) }
+    ensures within { IfOk result (λ packages. IsTrue (list_all (λ p. nat_lt p (length (workspace_text workspace.now).packages)) packages.items)) }
 {
+    // (calls named facts() carry the invariant into the proof)
+    workspace.facts();
     match choice {
         PackageChoice::Default => Ok(Vec::from_slice(alloc, workspace.default_members())?),
         PackageChoice::Workspace => Ok(Vec::from_slice(alloc, workspace.members())?),
