@@ -28,17 +28,16 @@ all_place f P [] i d h within = absurd (omega arith)
 all_place f P (x ∷ xs) zero d h within = h.0
 all_place f P (x ∷ xs) (suc i) d h within = all_place f P xs i d h.1 (omega arith)
 
+filtered_more : (p : ℕ → Bool) (x : ℕ) (rest : List ℕ) (b : Bool) → p x ≡ true → list_all p rest ≡ true → list_all p (cond b (x ∷ rest) rest) ≡ true
+filtered_more p x rest true e h = ap (λ t. t && list_all p rest) e ∙ h
+filtered_more p x rest false e h = h
+
 -- what passes a test in a list passes it in its parts
 pub list_all-filter : (p q : ℕ → Bool) (xs : List ℕ) → list_all p xs ≡ true → list_all p (filter q xs) ≡ true
 list_all-filter p q [] h = refl
-list_all-filter p q (x ∷ xs) h = go (q x)
-  where
-    rest : list_all p (filter q xs) ≡ true
-    rest = list_all-filter p q xs (both (p x) (list_all p xs) h).1
-
-    go : (b : Bool) → list_all p (cond b (x ∷ filter q xs) (filter q xs)) ≡ true
-    go true = ap (λ t. t && list_all p (filter q xs)) (both (p x) (list_all p xs) h).0 ∙ rest
-    go false = rest
+list_all-filter p q (x ∷ xs) h =
+    let parts = both (p x) (list_all p xs) h in
+    filtered_more p x (filter q xs) (q x) parts.0 (list_all-filter p q xs parts.1)
 
 pub list_all_more : (p : ℕ → Bool) (xs : List ℕ) (x : ℕ) → list_all p xs ≡ true → p x ≡ true → list_all p (xs ++ x ∷ []) ≡ true
 list_all_more p [] x h e = ap (λ t. t && true) e

@@ -10,18 +10,15 @@ use Rattle.plan_words.specs.PackageWords.{has_id, is_named, numbers_from, or_els
 Within : ℕ → List ℕ → Type 0
 Within n xs = AllByRecursion (λ x. x < n) xs
 
+numbers_more : (n k : ℕ) (rest : List ℕ) (b : Bool) → k < n → Within n rest → Within n (cond b (k ∷ rest) rest)
+unfolding Within
+numbers_more n k rest true l h = (l, h)
+numbers_more n k rest false l h = h
+
 numbers_within : {X : Type 0} (test : X → Bool) (k n : ℕ) (xs : List X) → k + length xs ≤ n → Within n (numbers_from test k xs)
 unfolding Within
 numbers_within test k n [] h = tt
-numbers_within test k n (x ∷ xs) h = go (test x)
-  where
-    rest : Within n (numbers_from test (k + 1) xs)
-    rest = numbers_within test (k + 1) n xs (omega arith)
-
-    go : (b : Bool) → Within n (cond b (k ∷ numbers_from test (k + 1) xs) (numbers_from test (k + 1) xs))
-    unfolding Within
-    go true = (omega arith, rest)
-    go false = rest
+numbers_within test k n (x ∷ xs) h = numbers_more n k (numbers_from test (k + 1) xs) (test x) (omega arith) (numbers_within test (k + 1) n xs (omega arith))
 
 or_else_within : (n : ℕ) (xs ys : List ℕ) → Within n xs → Within n ys → Within n (or_else xs ys)
 or_else_within n [] ys h k = k

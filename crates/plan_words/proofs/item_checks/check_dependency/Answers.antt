@@ -7,4 +7,4 @@ use Rattle.plan_words.proofs.item_checks.check_dependency.Goals as goal
 
 pub check_lead-requires : goal.check_lead-requires
 check_lead-requires c =
-    list_all_mapped declaration_text (λ (d : DeclarationText). is_within (length (workspace_text c.args.workspace.now).packages) d.leads_to) c.args.package.now.declarations.items c.loop-declaration.declaration-index c.declaration-item.result c.requires.2 c.loop-declaration-test.true c.declaration-item.is
+    list_all_mapped declaration_text (λ (d : DeclarationText). is_within (length (workspace_text c.args.workspace.now).packages) d.leads_to) c.deref-declaration-items.result.now c.loop-declaration.declaration-index c.declaration-item.result (rw c.deref-declaration-items.ensures.value c.requires.2) c.loop-declaration-test.true c.declaration-item.is
