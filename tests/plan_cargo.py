@@ -76,12 +76,15 @@ class Cargo:
         except Refused:
             return read_fields(self.run(folder, [*DOCUMENT[:-1], '--features', ','.join(features), *own]))
 
-    def plan(self, folder, document, words):
-        """Returns the lines of the plan for a selection, given as words of `feats plan`."""
-        targets = values_of(words, '--target')
+    def built(self, folder, words):
+        """Returns what is built for a selection, given as words of `feats plan`: the set of (place, id, features)."""
         command = ['test', '--no-run'] if '--tests' in words else ['build']
         graph = self.run(folder, [*command, *(it for it in words if it != '--tests'), *UNIT_GRAPH])
-        return plan_lines(document, places_of(graph['units'], graph['roots'], targets), targets)
+        return places_of(graph['units'], graph['roots'], values_of(words, '--target'))
+
+    def plan(self, folder, document, words):
+        """Returns the lines of the plan for a selection."""
+        return plan_lines(document, self.built(folder, words), values_of(words, '--target'))
 
 
 def values_of(words, *names):

@@ -4,7 +4,8 @@ A file is lines of text:
 
     # TEXT                          a comment
     workspace NAME RESOLVER         a workspace, with its resolver
-    document JSON                   what `cargo metadata --all-features` prints of it, by the fields that are read
+    document JSON                   what `cargo metadata --all-features` prints of it, by the fields that are read; or the path of a file
+                                    with this, from the top of the repository
     own JSON                        the document of the next selection alone, whose features name more dependencies
     plan WORDS                      a selection: words of `feats plan`, without the document, the host and the resolver
      PLACE NAME VERSION FEATURE...  a package of the selection's plan, which is cargo's
@@ -54,7 +55,7 @@ def cases_of(path):
         if word == 'workspace':
             name, resolver = rest.split(' ')
         elif word == 'document':
-            general = json.loads(rest)
+            general = json.loads(rest if rest.startswith('{') else (TOP / rest).read_text(encoding='utf-8'))
         elif word == 'own':
             own = json.loads(rest)
         elif word == 'plan':

@@ -35,6 +35,8 @@ class Declared(NamedTuple):
     rename: str = None
     is_optional: bool = False
     has_default: bool = True
+    # the requirement, for a package of the registry
+    requirement: str = '*'
 
 
 class Target(NamedTuple):
@@ -45,7 +47,8 @@ class Target(NamedTuple):
 
 @dataclass
 class Package:
-    """A package. One in a folder below `ext` isn't a member, and the one in the folder '.' is the root package."""
+    """A package. One in a folder below `ext` isn't a member, and neither is one below `vendor`, which stands for one of the registry. The
+    one in the folder '.' is the root package."""
     folder: str
     name: str
     version: str = '0.1.0'
@@ -60,7 +63,7 @@ class Package:
     implicit: list = field(default_factory=list)
 
     def is_member(self):
-        return not self.folder.startswith('ext/')
+        return not self.folder.startswith(('ext/', 'vendor/'))
 
     def all_features(self):
         return sorted([*self.features, *self.implicit])
@@ -79,16 +82,12 @@ class Workspace:
 
 # The manifests.
 
-def spelled(values):
-    return ', '.join(f'{key} = {json.dumps(value)}' for key, value in values.items())
-
-
 def declaration_lines(package, packages):
     up = '/'.join('..' for part in package.folder.split('/') if part != '.') or '.'
     for it in package.declared:
         to = packages[it.to]
         table = f"target.'{it.spec}'.{it.table}" if it.spec else it.table
-        values = {'path': up if it.to == '.' else f'{up}/{it.to}'}
+        values = {'version': it.requirement} if it.to.startswith('vendor/') else {'path': up if it.to == '.' else f'{up}/{it.to}'}
         if it.rename:
             values['package'] = to.name
         if it.is_optional:
@@ -121,11 +120,16 @@ def manifest_lines(package, packages, resolver):
         yield from (f'{json.dumps(name)} = {json.dumps(items)}' for name, items in package.features.items())
 
 
+VENDORED = '[source.crates-io]\nreplace-with = "vendored"\n[source.vendored]\ndirectory = "vendor"\n'
+
+
 def write_package(where, package):
     sources = {'bin': 'src/bin', 'test': 'tests', 'example': 'examples', 'bench': 'benches'}
     (where / 'src').mkdir(parents=True, exist_ok=True)
     if package.library:
         (where / 'src/lib.rs').write_text('')
+    if package.folder.startswith('vendor/'):
+        (where / '.cargo-checksum.json').write_text('{"files": {}}')
     if package.has_script:
         (where / 'build.rs').write_text('fn main() {}\n')
     for it in package.targets:
@@ -143,11 +147,14 @@ def write(workspace, where):
         write_package(where / package.folder, package)
         texts[package.folder] = list(manifest_lines(package, packages, workspace.resolver))
     members = [it.folder for it in workspace.packages if it.is_member() and it.folder != '.']
-    texts['.'] += ['[workspace]', f'members = {json.dumps(members)}', 'exclude = ["ext"]']
+    texts['.'] += ['[workspace]', f'members = {json.dumps(members)}', 'exclude = ["ext", "vendor"]']
     if '.' not in packages:
         texts['.'].append(f'resolver = "{workspace.resolver}"')
     if workspace.default is not None:
         texts['.'].append(f'default-members = {json.dumps(workspace.default)}')
+    if any(it.startswith('vendor/') for it in packages):
+        (where / '.cargo').mkdir()
+        (where / '.cargo/config.toml').write_text(VENDORED)
     for folder, lines in texts.items():
         (where / folder / 'Cargo.toml').write_text('\n'.join(lines) + '\n')
     return where / workspace.runs_in
