@@ -10,6 +10,8 @@ A file is lines of text:
     plan WORDS                      a selection: words of `feats plan`, without the document, the host and the resolver
      PLACE NAME VERSION FEATURE...  a package of the selection's plan, which is cargo's
     refused TEXT                    cargo refuses the selection, and prints this line
+    differs TEXT                    the selection's plan by docs/PLANS.md isn't cargo's, for this reason
+    = PLACE NAME VERSION FEATURE... a package of that plan; without such a line it is refused
 
 Words are separated by one space. A target is a triple; tests/targets has its cfg text, and that of the host. Absolute paths begin with /w.
 """
@@ -24,14 +26,16 @@ HOST = 'x86_64-unknown-linux-gnu'
 
 
 class Case(NamedTuple):
-    """A selection. `plan` has the lines of cargo's plan, or is None if cargo refuses it for the reason `refused`. `general` is the
-    document that `cargo metadata --all-features` prints, and `document` the selection's own one, if it has one."""
+    """A selection. `cargo` has the lines of cargo's plan, or is None if cargo refuses it for the reason `refused`. `plan` is the same by
+    docs/PLANS.md. `general` is the document that `cargo metadata --all-features` prints, and `document` the selection's own one, if
+    it has one."""
     place: str
     workspace: str
     resolver: str
     general: dict
     document: dict
     words: list
+    cargo: list
     plan: list
     refused: str = ''
 
@@ -59,12 +63,17 @@ def cases_of(path):
         elif word == 'own':
             own = json.loads(rest)
         elif word == 'plan':
-            cases.append(Case(f'{path.name}:{number}', name, resolver, general, own or general, rest.split(), []))
+            lines = []
+            cases.append(Case(f'{path.name}:{number}', name, resolver, general, own or general, rest.split(), lines, lines))
             own = None
         elif word == 'refused':
-            cases[-1] = cases[-1]._replace(plan=None, refused=rest)
+            cases[-1] = cases[-1]._replace(cargo=None, plan=None, refused=rest)
+        elif word == 'differs':
+            cases[-1] = cases[-1]._replace(plan=None)
+        elif word == '=':
+            cases[-1] = cases[-1]._replace(plan=[*(cases[-1].plan or []), rest])
         elif word == '':
-            cases[-1].plan.append(rest)
+            cases[-1].cargo.append(rest)
         elif word != '#':
             raise ValueError(f'{path}:{number}: no line of a file of plans')
     return cases

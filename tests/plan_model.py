@@ -390,11 +390,11 @@ class Plan:
         return {name for entry, kind, name in self.on if (entry, kind) == ((side, id), 'feature') and name != COMMAND}
 
     def check_document(self):
-        """Refuses a document without a package for an optional dependency that a feature which is on turns on or needs."""
+        """Refuses a document without a package for an optional dependency that a feature which is on turns on."""
         for (_, id), kind, feature in sorted(self.on):
             items = (self.commands[id] if feature == COMMAND else self.packages[id].features[feature]) if kind == 'feature' else []
-            for name in [parts_of(it)[0] for it in items]:
-                if name is not None and any(it.is_optional and it.to is None for it in self.packages[id].named(name)):
+            for name, _, is_weak in map(parts_of, items):
+                if name is not None and not is_weak and any(it.is_optional and it.to is None for it in self.packages[id].named(name)):
                     raise Lacking(f'the document has no package for the dependency {name} of {id}')
 
     # Step `built`: what is built. A place is HOST or the number of a target platform.
@@ -523,9 +523,9 @@ def fault_of(case, platforms):
             plan, why = None, str(lacking)
         except Refused as refused:
             plan, why = None, str(refused)
-        is_well = plan is None if is_ambiguous(document, case.words) else plan == case.plan
-        if not is_well:
-            return f'the model: {plan or why}, cargo: {case.plan or case.refused}'
+        wanted = None if is_ambiguous(document, case.words) else case.plan
+        if plan != wanted:
+            return f'the model: {plan or why}, wanted: {wanted or case.refused}'
     return None
 
 

@@ -15,6 +15,9 @@ class Row(NamedTuple):
     words: str
     plan: str
     resolver: str = '2'
+    # cargo's plan, where it isn't that of docs/PLANS.md, and why
+    cargo: str = None
+    differs: str = ''
 
 
 class Worked(NamedTuple):
@@ -147,6 +150,19 @@ WORKED = [
         Row('--target linux -F b/leaf', 'target a; target b leaf; target leaf'),
         Row('--target linux -F b/w', 'target a; target b w'),
     ]),
+    Worked('no-library', 'a required dependency without a library leads nowhere', [
+        member('a', Declared('ext/tool'), leaf()), LEAF,
+        Package('ext/tool', 'tool', declared=[leaf('x')], library=None, targets=[Target('bin', 'tool')]),
+    ], [
+        Row('--target linux', 'target a; target leaf', cargo='target a; target leaf x', differs='the document has no package for a dependency without a library'),
+    ]),
+    Worked('ambiguous', 'a word of `-p` must name one package of the document', [
+        member('a', leaf()), member('b', Declared('ext/other', rename='second')), LEAF, Package('ext/other', 'leaf', '2.0.0'),
+    ], [
+        Row('-p a -p b -p leaf', 'refused'),
+        Row('-p a -p leaf', 'refused', cargo='target a; target leaf', differs='version resolving reaches one of the packages'),
+        Row('-p a -p leaf@0.1', 'target a; target leaf'),
+    ]),
     Worked('others', 'packages that aren\'t members can be named; if all are such, the members start with their defaults', [
         member('a', leaf(), Declared('ext/old'), features={'default': ['leaf/x'], 'b': []}), LEAF,
         Package('ext/old', 'old', '1.2.3', declared=[Declared('ext/new', rename='later')]), Package('ext/new', 'old', '1.10.0'),
@@ -183,19 +199,26 @@ def words_of(row):
     return [TRIPLES.get(it, it) for it in row.words.split()]
 
 
-def is_plan(row, lines):
-    """Whether these lines, of cargo, are the row's plan."""
-    if row.plan == 'refused':
-        return lines is None
-    if lines is None:
-        return False
+def is_plan(plan, lines):
+    """Whether these lines, or none, are the plan of a row."""
+    if plan == 'refused' or lines is None:
+        return plan == 'refused' and lines is None
     shorter = {triple: name for name, triple in TRIPLES.items()}
 
     def short(line):
         place, name, version, *features = line.split(' ')
         return ' '.join([shorter.get(place, place), name, *([version] if name == 'old' else []), *features])
 
-    return sorted(map(short, lines)) == sorted(it for it in row.plan.split('; ') if it)
+    return sorted(map(short, lines)) == sorted(it for it in plan.split('; ') if it)
+
+
+def lines_of_difference(row, packages):
+    """The lines of a row's plan, where cargo's is another."""
+    if row.cargo is None:
+        return []
+    versions = {it.name: it.version for it in packages}
+    found = [it.split(' ') for it in row.plan.split('; ')] if row.plan != 'refused' else []
+    return [f'differs {row.differs}', *(' '.join(['=', place, name, versions[name], *features]) for place, name, *features in found)]
 
 
 assert HOST == LINUX
