@@ -156,6 +156,20 @@ WORKED = [
     ], [
         Row('--target linux', 'target a; target leaf', cargo='target a; target leaf x', differs='the document has no package for a dependency without a library'),
     ]),
+    Worked('no-package', 'a weak item is no reason for a package that isn\'t there', [
+        member('a', Declared('ext/b')), Package('ext/b', 'b', features={'w': ['leaf?/x'], 'absent': ['dep:leaf']}, declared=[Declared('vendor/leaf', is_optional=True)]),
+        Package('vendor/other', 'other'), Package('vendor/leaf', 'leaf', is_written=False),
+    ], [
+        Row('--target linux', 'target a; target b'),
+        Row('--target linux -F b/w', 'target a; target b w', cargo='refused', differs='version resolving wants a package that the registry doesn\'t have'),
+    ]),
+    Worked('twins', 'packages with the same name and version are shown with their sources', [
+        member('a', leaf('x')), member('b', Declared('vendor/leaf', ('y',), requirement='0.1.0')), LEAF, Package('vendor/leaf', 'leaf', features=XYZ),
+    ], [
+        Row('', 'target a; target b; target leaf (path+file:///w/ext/leaf#0.1.0) x; target leaf (registry+https://github.com/rust-lang/crates.io-index) y'),
+        Row('-p leaf', 'refused'),
+        Row('-p path+file:///w/ext/leaf#0.1.0 -p a', 'target a; target leaf (path+file:///w/ext/leaf#0.1.0) x'),
+    ]),
     Worked('ambiguous', 'a word of `-p` must name one package of the document', [
         member('a', leaf()), member('b', Declared('ext/other', rename='second')), LEAF, Package('ext/other', 'leaf', '2.0.0'),
     ], [

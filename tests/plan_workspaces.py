@@ -59,6 +59,8 @@ class Package:
     library_lines: list = field(default_factory=list)
     has_script: bool = False
     targets: list = field(default_factory=list)
+    # false for a package of the registry that isn't there
+    is_written: bool = True
     # the features that cargo adds, one for each optional dependency which no `dep:` hides
     implicit: list = field(default_factory=list)
 
@@ -144,6 +146,8 @@ def write(workspace, where):
     packages = {it.folder: it for it in workspace.packages}
     texts = {'.': []}
     for package in workspace.packages:
+        if not package.is_written:
+            continue
         write_package(where / package.folder, package)
         texts[package.folder] = list(manifest_lines(package, packages, workspace.resolver))
     members = [it.folder for it in workspace.packages if it.is_member() and it.folder != '.']
