@@ -1,0 +1,4 @@
+pub mod Steps
+pub mod Platforms
+pub mod LineRows
+pub mod Written
