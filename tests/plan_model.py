@@ -1,7 +1,7 @@
 #!/usr/bin/env python3
 """A reference model of plans, by docs/PLANS.md and nothing else. It is written to be read: sets and loops, and no speed.
 
-    plan_model.py                                   compares the model with cargo's plans in tests/plans
+    plan_model.py [FILE.plans ...]                  compares the model with cargo's plans; without a file, with those in tests/plans
     plan_model.py plan --metadata FILE|- --host TRIPLE=CFG-FILE [--target TRIPLE=CFG-FILE]... [--resolver N] SELECTION...
                                                     prints what `feats` prints of the same words
 
@@ -15,7 +15,7 @@ from typing import NamedTuple
 
 sys.dont_write_bytecode = True
 
-from plan_files import TARGETS, all_cases, command_of
+from plan_files import TARGETS, all_cases, cases_of, command_of
 from platform_model import Target as Platform
 
 LIBRARIES = {'lib', 'rlib', 'dylib', 'cdylib', 'staticlib', 'proc-macro'}
@@ -515,6 +515,7 @@ def fault_of(case, platforms):
     """Why the model's plan for a case isn't cargo's, or None."""
     words = words_of(command_of(case)[1:])
     for document in [case.document] if case.document is case.general else [case.general, case.document]:
+        why = ''
         try:
             plan = plan_of(document_of(document), words, platforms)
         except Lacking as lacking:
@@ -525,7 +526,7 @@ def fault_of(case, platforms):
             plan, why = None, str(refused)
         wanted = None if is_ambiguous(document, case.words) else case.plan
         if plan != wanted:
-            return f'the model: {plan or why}, wanted: {wanted or case.refused}'
+            return f'the model: {why or plan}, wanted: {case.refused if wanted is None else wanted}'
     return None
 
 
@@ -547,7 +548,7 @@ def main():
         return known[path]
 
     passed = failed = 0
-    for case in all_cases():
+    for case in [case for path in sys.argv[1:] for case in cases_of(path)] if sys.argv[1:] else all_cases():
         fault = fault_of(case, platform)
         passed, failed = passed + (not fault), failed + bool(fault)
         if fault:

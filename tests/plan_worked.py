@@ -132,6 +132,29 @@ WORKED = [
         Row('-p a -p c --target linux --tests', 'target a f; target b g; target c'),
         Row('-p a --target linux -F f --tests', 'target a f; target b g; target leaf'),
     ]),
+    Worked('resolved-weak', 'version resolving doesn\'t wait for the dependency of a weak item', [
+        member('a', Declared('b', table=DEV), features={'f': ['b/g']}), member('c', Declared('a', ('f',)), Declared('b', ('h',))),
+        member('b', leaf(is_optional=True), features={'g': ['dep:leaf'], 'h': ['leaf?/x']}), LEAF,
+    ], [
+        Row('-p a -p c --target linux --tests', 'target a f; target b g h; target c; target leaf x'),
+        Row('-p c --target linux', 'target a f; target b h; target c'),
+    ]),
+    Worked('macro-tests', 'the library of a procedural macro is built for its tests without their dependencies', [
+        member('pm', leaf('x', table=DEV), library='proc-macro', library_lines=['test = false', 'doctest = false'], targets=[Target('test', 'it')]), LEAF,
+    ], [
+        Row('--target windows --tests', 'host pm; target leaf x; target pm'),
+        Row('--target windows', 'host pm'),
+    ]),
+    Worked('required-kinds', 'a required feature of a dependency counts if a declaration is for this build and a platform of it', [
+        Package('a', 'a', declared=[leaf(table=DEV)], library=None, targets=[Target('bin', 'one', ('leaf/x',))]),
+        Package('c', 'c', declared=[leaf(spec=ON_WINDOWS)], library=None, targets=[Target('bin', 'two', ('leaf/x',))]),
+        member('b', leaf('x')), LEAF,
+    ], [
+        Row('-p a -p b --target linux', 'target b; target leaf x'),
+        Row('-p a -p b --target linux --tests', 'target a; target b; target leaf x'),
+        Row('-p c -p b --target linux', 'target b; target leaf x'),
+        Row('-p c -p b --target windows', 'target b; target c; target leaf x'),
+    ]),
     Worked('required', 'a target is chosen if its required features are on', [
         Package('a', 'a', features={'x': [], 'cli': ['dep:leaf']}, declared=[leaf(is_optional=True)], library=None,
                 targets=[Target('bin', 'one', ('cli', 'leaf/x'))]),
