@@ -1,5 +1,5 @@
 -- The resolver that a root manifest chooses.
-use Rattle.std.specs.Prelude.{◌≡◌, ◌==◌, List, ℕ, Bool, true, false, Option, Some, None, Result, Ok, Err, ok_or, option_and_then, codes, if◌then◌else◌, IsSomeAnd, IsUtf8, ⊤}
+use Rattle.std.specs.Prelude.{◌≡◌, List, ℕ, Bool, true, false, Option, Some, None, Result, Ok, Err, ok_or, option_and_then, codes, if◌then◌else◌, IsSomeAnd, IsUtf8, ⊤}
 use Rattle.std.specs.Str.{bytes_eq}
 use Rattle.std.specs.Option.{option_map_or}
 use Rattle.toml.specs.Data.{Data, table, get, as_str, as_bool}

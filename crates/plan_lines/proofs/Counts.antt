@@ -1,5 +1,5 @@
 -- Texts that are in a list, or more than once.
-use Rattle.std.proofs.Common.{◌≡◌, ◌∙◌, sym, ap, refl, ℕ, zero, suc, ◌+◌, ◌<◌, List, [], ◌∷◌, ◌++◌, map, length, take, get_or, Bool, true, false, cond, nat_lt, not, filter, arith, add-one, String}
+use Rattle.std.proofs.Common.{◌≡◌, ◌∙◌, sym, ap, refl, ℕ, zero, suc, ◌+◌, ◌<◌, List, [], ◌∷◌, ◌++◌, map, length, take, get_or, Bool, true, false, cond, nat_lt, not, filter, arith, String}
 use Rattle.std.specs.Prelude.{◌||◌}
 use Rattle.std.specs.String.{string_bytes}
 use Rattle.std.specs.List.{list_any}

@@ -1,5 +1,4 @@
 use Rattle.std.proofs.Common.{◌≡◌, ◌∙◌, ℕ, ◌+◌, ◌<◌, List, ◌∷◌, ◌++◌, flat_map, map, drop, length, get_or, ap, sym, refl, append_assoc, add-one, drop-cons}
-use Rattle.plan_lines.specs.Lines.{ShownText}
 use Rattle.plan_lines.specs.Objects.{object_line}
 use Rattle.plan_lines.specs.Views.{shown_text}
 use Rattle.plan_lines.specs.declared.shown.Shown.{Shown}
