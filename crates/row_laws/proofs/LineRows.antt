@@ -1,15 +1,17 @@
 -- Texts whose lines are read as rows.
 use Rattle.std.proofs.Common.{◌≡◌, ℕ, ◌+◌, Bool, true, false, ◌||◌, List, [], ◌∷◌, ◌++◌, Some, Ok, Err, refl, ap, sym, ◌∙◌, subst, cond, append_assoc, append-nil}
-use Rattle.std.specs.Prelude.{All, ◌==◌, filter, map, not}
+use Rattle.std.specs.Prelude.{All, IsTrue, ◌==◌, filter, map, not}
 use Rattle.std.specs.Char.{is_ascii_control}
 use Rattle.std.specs.List.{AllByRecursion, enumerate_from}
+use Rattle.std.specs.Str.{is_utf8}
 use Rattle.std.proofs.lemmas.Bool.{eqb-true}
 use Rattle.std.proofs.lemmas.List.Elements.{All-append, All-cons, All-nil}
 use Rattle.std.proofs.lemmas.List.Splits.{slice_split_at, slice_split_none}
+use Rattle.guppy_packages.specs.Graph.{tables_of}
 use Rattle.guppy_packages.specs.Rows.{RowText, Text}
 use Rattle.row_files.specs.FirstFaultLaws.{each_or-cons, with_first}
 use Rattle.row_files.specs.Lines.{fields_in, is_skipped, kept_lines, lines_in}
-use Rattle.row_files.specs.RowFile.{rows_of}
+use Rattle.row_files.specs.RowFile.{◌>>=◌, by_line, rows_of, tables_in, tables_of_lines}
 use Rattle.row_files.specs.RowOfLine.{row_of}
 use Rattle.row_files.specs.declared.error.RowFileError.TheVariants as error
 use Rattle.cargo_documents.specs.Faults.{control}
@@ -140,3 +142,9 @@ pub read_all : (text : Text) (rows : List RowText) → Reads text rows → rows_
 read_all text rows r =
     ap (λ z. rows_of (kept_lines 1 z)) (ap lines_in (sym (append-nil text)) ∙ r.split [])
     ∙ read_lines 1 r.lines rows r.are
+
+-- the tables of a text in UTF-8 are those of the rows that its lines are read as
+pub tables_read : (text : Text) (rows : List RowText) → rows_of (kept_lines 1 (lines_in text)) ≡ Ok rows → IsTrue (is_utf8 text) → tables_in text ≡ by_line (kept_lines 1 (lines_in text)) (tables_of rows)
+tables_read text rows is utf8 =
+    ap (λ b. cond b (tables_of_lines (kept_lines 1 (lines_in text))) (Err error.NotText)) utf8
+    ∙ ap (λ r. r >>= λ rows. by_line (kept_lines 1 (lines_in text)) (tables_of rows)) is

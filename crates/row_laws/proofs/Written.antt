@@ -1,5 +1,5 @@
 -- The lines of a document's text are read as the document's rows.
-use Rattle.std.proofs.Common.{◌≡◌, Bool, true, false, List, [], ◌∷◌, ◌++◌, map, Option, Some, None, Result, Ok, refl, ap, ◌∙◌, subst}
+use Rattle.std.proofs.Common.{◌≡◌, Bool, true, false, List, [], ◌∷◌, ◌++◌, map, Option, Some, None, Result, Ok, refl, ap, sym, ◌∙◌, subst}
 use Rattle.std.specs.Prelude.{codes}
 use Rattle.std.specs.List.{AllByRecursion, list_any}
 use Rattle.std.specs.Str.{bytes_eq}
@@ -16,9 +16,16 @@ use Rattle.guppy_packages.specs.Rows.{RowText, a_package}
 use Rattle.row_files.specs.RowOfLine.{choice, platform_of, row_of, kind_of as read_kind}
 use Rattle.row_laws.specs.Laws.{WrittenRowsAreRead}
 use Rattle.row_laws.specs.Rows.{all_rows, dependency_row, feature_row, kind_of, package_rows}
-use Rattle.row_laws.proofs.LineRows.{Reads, read_all, reads_both, reads_none, reads_row}
+use Rattle.row_laws.proofs.LineRows.{Reads, read_all, reads_both, reads_none, reads_row, tables_read}
 use Rattle.row_laws.proofs.Platforms.{AllPlain, ArePlain, ArePlainDependencies, IsPlain, dependencies_plain, packages_plain}
 use Rattle.row_laws.proofs.Steps.{followed, ok_same}
+use Rattle.guppy_packages.specs.Graph.{faults_of, first_or, links_of, packages_of, tables_of, dependencies_of as dependencies_of_rows}
+use Rattle.guppy_packages.specs.Tables.{Tables}
+use Rattle.row_files.specs.Lines.{kept_lines, lines_in}
+use Rattle.row_files.specs.RowFile.{by_line}
+use Rattle.row_laws.proofs.Documents.{IsEntry, IsPresent, NodesPresent, agreed, all_fresh, dependencies_present, keys, node_uses, packages_entries, present_known, resolved_present}
+use Rattle.row_laws.proofs.NoFaults.{all_weaker, no_faults}
+use Rattle.row_laws.proofs.Sections.{Agree, AreFresh, IsSound, Section, ids_of, names_of, rows_in}
 
 -- ---- the words
 
@@ -82,14 +89,15 @@ dependencies_read es text all e =
 record AreLed (deps : List DepText) (p : PackageText) (text : Text) : Type 0 where
   es : List DependencyText
   are : dependencies_of p deps ≡ Ok es
+  agree : Agree es
   reads : Reads text (map dependency_row es)
 
 led_read : (deps : List DepText) (p : PackageText) (text : Text) → ArePlain p → led_rows deps p ≡ Ok text → AreLed deps p text
 unfolding led_rows
 led_read deps p text all e =
     let es = followed (dependencies_of p deps) (λ es. agree p.id es es >>= λ _. dependency_rows es) text e in
-    let agreed = followed (agree p.id es.0 es.0) (λ _. dependency_rows es.0) text es.2 in
-    record { es = es.0; are = es.1; reads = dependencies_read es.0 text (dependencies_plain p deps es.0 all es.1) agreed.2 }
+    let same = followed (agree p.id es.0 es.0) (λ _. dependency_rows es.0) text es.2 in
+    record { es = es.0; are = es.1; agree = agreed p.id es.0 same.0 same.1; reads = dependencies_read es.0 text (dependencies_plain p deps es.0 all es.1) same.2 }
 
 moved : (s t : Text) (rows : List RowText) → s ≡ t → Reads s rows → Reads t rows
 moved s t rows e r = subst (λ z. Reads z rows) e r
@@ -98,6 +106,7 @@ moved s t rows e r = subst (λ z. Reads z rows) e r
 record IsPackageRead (is_member : Bool) (deps : List DepText) (p : PackageText) (text : Text) : Type 0 where
   es : List DependencyText
   are : dependencies_of p deps ≡ Ok es
+  agree : Agree es
   reads : Reads text (package_rows is_member p es)
 
 package_read_back : (is_member : Bool) (deps : List DepText) (p : PackageText) (text : Text) → ArePlain p → written_package is_member deps p ≡ Ok text → IsPackageRead is_member deps p text
@@ -112,44 +121,78 @@ package_read_back is_member deps p text all e =
     record {
       es = found.es;
       are = found.are;
+      agree = found.agree;
       reads = moved ((first.0 ++ features.0) ++ led.0) text (package_rows is_member p found.es) (ok_same ((first.0 ++ features.0) ++ led.0) text led.2)
           (reads_both (first.0 ++ features.0) led.0 (a_package p.id is_member ∷ map feature_row p.features) (map dependency_row found.es) front found.reads);
     }
 
--- The rows of all packages, and their text.
-record AreAllRead (members : List Text) (nodes : ById NodeText) (packages : ById PackageText) (text : Text) : Type 0 where
-  rows : List RowText
-  are : all_rows members nodes packages ≡ Ok rows
-  reads : Reads text rows
+abbrev ids_by : ById PackageText → List Text
+ids_by packages = map (λ (e : Text × PackageText). e.1.id) packages
 
-all_read : (members : List Text) (nodes : ById NodeText) (packages : ById PackageText) (text : Text) → AllPlain packages → written_rows members nodes packages ≡ Ok text → AreAllRead members nodes packages text
-all_read members nodes [] text all e = record { rows = []; are = refl; reads = subst (λ z. Reads z []) (ok_same [] text e) reads_none }
-all_read members nodes (x ∷ packages) text all e =
-    let is_member : Bool = list_any (bytes_eq x.0) members in
-    let first = followed (written_package is_member (node_of x.0 nodes).deps x.1) (λ a. written_rows members nodes packages >>= λ rest. Ok (a ++ rest)) text e in
-    let rest = followed (written_rows members nodes packages) (λ rest. Ok (first.0 ++ rest)) text first.2 in
-    let one = package_read_back is_member (node_of x.0 nodes).deps x.1 first.0 all.0 first.1 in
-    let others = all_read members nodes packages rest.0 all.1 rest.1 in
-    record {
-      rows = package_rows is_member x.1 one.es ++ others.rows;
-      are =
-          ap (λ r. r >>= λ es. all_rows members nodes packages >>= λ rows. Ok (package_rows is_member x.1 es ++ rows)) one.are
-          ∙ ap (λ r. r >>= λ rows. Ok (package_rows is_member x.1 one.es ++ rows)) others.are;
-      reads = subst (λ z. Reads z (package_rows is_member x.1 one.es ++ others.rows)) (ok_same (first.0 ++ rest.0) text rest.2)
-          (reads_both first.0 rest.0 (package_rows is_member x.1 one.es) others.rows one.reads others.reads);
-    }
+module _ (members : List Text) (nodes : ById NodeText) (whole : ById PackageText) (present : NodesPresent whole nodes) where
+  -- The rows of packages, and their text.
+  record AreAllRead (packages : ById PackageText) (text : Text) : Type 0 where
+    sections : List Section
+    are : all_rows members nodes packages ≡ Ok (rows_in sections)
+    reads : Reads text (rows_in sections)
+    ids : ids_of sections ≡ ids_by packages
+    sound : AllByRecursion (IsSound (ids_by whole)) sections
+
+  known_targets : (id : Text) (p : PackageText) (es : List DependencyText) → dependencies_of p (node_of id nodes).deps ≡ Ok es → AllByRecursion (λ (e : DependencyText). list_any (bytes_eq e.target.id) (ids_by whole) ≡ true) es
+  known_targets id p es are =
+      all_weaker (λ (e : DependencyText). IsPresent whole e.target) (λ (e : DependencyText). list_any (bytes_eq e.target.id) (ids_by whole) ≡ true) es
+      (λ e h. present_known whole h.0 e.target h.1)
+      (dependencies_present whole p (node_of id nodes).deps es (node_uses whole id nodes present) are)
+
+  all_read : (packages : ById PackageText) (text : Text) → AllPlain packages → AllByRecursion IsEntry packages → written_rows members nodes packages ≡ Ok text → AreAllRead packages text
+  all_read [] text all entries e = record { sections = []; are = refl; reads = subst (λ z. Reads z []) (ok_same [] text e) reads_none; ids = refl; sound = tt }
+  all_read (x ∷ packages) text all entries e =
+      let is_member : Bool = list_any (bytes_eq x.0) members in
+      let first = followed (written_package is_member (node_of x.0 nodes).deps x.1) (λ a. written_rows members nodes packages >>= λ rest. Ok (a ++ rest)) text e in
+      let rest = followed (written_rows members nodes packages) (λ rest. Ok (first.0 ++ rest)) text first.2 in
+      let one = package_read_back is_member (node_of x.0 nodes).deps x.1 first.0 all.0 first.1 in
+      let others = all_read packages rest.0 all.1 entries.1 rest.1 in
+      record {
+        sections = record { is_member = is_member; text = x.1; es = one.es } ∷ others.sections;
+        are =
+            ap (λ r. r >>= λ es. all_rows members nodes packages >>= λ rows. Ok (package_rows is_member x.1 es ++ rows)) one.are
+            ∙ ap (λ r. r >>= λ rows. Ok (package_rows is_member x.1 one.es ++ rows)) others.are;
+        reads = moved (first.0 ++ rest.0) text (package_rows is_member x.1 one.es ++ rows_in others.sections) (ok_same (first.0 ++ rest.0) text rest.2)
+            (reads_both first.0 rest.0 (package_rows is_member x.1 one.es) (rows_in others.sections) one.reads others.reads);
+        ids = ap (λ z. x.1.id ∷ z) others.ids;
+        sound = (record { names = all_fresh (names_of x.1.features) entries.0.1; known = known_targets x.0 x.1 one.es one.are; agree = one.agree }, others.sound);
+      }
+
+keys_are_ids : (packages : ById PackageText) → AllByRecursion IsEntry packages → ids_by packages ≡ keys packages
+keys_are_ids [] all = refl
+keys_are_ids (x ∷ packages) all = ap (λ z. z ∷ ids_by packages) all.0.0 ∙ ap (λ z. x.0 ∷ z) (keys_are_ids packages all.1)
+
+abbrev tables_by : List RowText → Tables
+tables_by rows = record { packages = packages_of rows; links = links_of (dependencies_of_rows (packages_of rows) rows) }
+
+rows_sound : (rows : List RowText) → faults_of rows ≡ [] → tables_of rows ≡ Ok (tables_by rows)
+rows_sound rows none = ap (λ faults. first_or faults (tables_by rows)) none
 
 pub written_rows_are_read : WrittenRowsAreRead
 unfolding rows_of
 written_rows_are_read d text e =
     let packages = followed (packages_in d) (λ packages. resolved_in packages d >>= λ resolved. written_rows resolved.members resolved.nodes packages) text e in
     let resolved = followed (resolved_in packages.0 d) (λ resolved. written_rows resolved.members resolved.nodes packages.0) text packages.2 in
-    let all = all_read resolved.0.members resolved.0.nodes packages.0 text (packages_plain d packages.0 packages.1) resolved.2 in (
-      all.rows,
-      (
-        ap (λ r. r >>= λ packages. resolved_in packages d >>= λ resolved. all_rows resolved.members resolved.nodes packages) packages.1
+    let entries = packages_entries d packages.0 packages.1 in
+    let all = all_read resolved.0.members resolved.0.nodes packages.0 (resolved_present packages.0 d resolved.0 resolved.1) packages.0 text (packages_plain d packages.0 packages.1) entries.1 resolved.2 in
+    let fresh : AreFresh [] (ids_of all.sections) = subst (AreFresh []) (sym (keys_are_ids packages.0 entries.1) ∙ sym all.ids) (all_fresh (keys packages.0) entries.0) in
+    let none : faults_of (rows_in all.sections) ≡ [] = no_faults all.sections fresh (subst (λ ids. AllByRecursion (IsSound ids) all.sections) (sym all.ids) all.sound) in
+    let sound : tables_of (rows_in all.sections) ≡ Ok (tables_by (rows_in all.sections)) = rows_sound (rows_in all.sections) none in
+    let lines = read_all text (rows_in all.sections) all.reads in (
+      rows_in all.sections,
+      record {
+        meant =
+            ap (λ r. r >>= λ packages. resolved_in packages d >>= λ resolved. all_rows resolved.members resolved.nodes packages) packages.1
             ∙ ap (λ r. r >>= λ resolved. all_rows resolved.members resolved.nodes packages.0) resolved.1
-            ∙ all.are,
-        read_all text all.rows all.reads,
-      ),
+            ∙ all.are;
+        lines = lines;
+        tables = tables_by (rows_in all.sections);
+        sound = sound;
+        read_tables = λ utf8. tables_read text (rows_in all.sections) lines utf8 ∙ ap (by_line (kept_lines 1 (lines_in text))) sound;
+      },
     )

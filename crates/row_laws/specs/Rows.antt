@@ -11,7 +11,7 @@ use Rattle.workspace_documents.specs.Dependencies.{DependencyText, name_of, depe
 use Rattle.workspace_documents.specs.Lists.{ById}
 use Rattle.workspace_documents.specs.Nodes.{NodeText, node_of, resolved_in}
 use Rattle.workspace_documents.specs.Packages.{PackageText, packages_in}
-use Rattle.guppy_packages.specs.Rows.{RowText, a_package, a_feature, a_dep}
+use Rattle.guppy_packages.specs.Rows.{Declared, RowText, a_package, a_feature, a_dep}
 use Rattle.guppy_packages.specs.declared.row.DependencyKind.{DependencyKind}
 use Rattle.guppy_packages.specs.declared.row.DependencyKind.TheVariants.{Normal, Build, Development}
 
@@ -23,15 +23,18 @@ kind_of kind.Development = Development
 abbrev pub feature_row : FeatureText → RowText
 feature_row f = a_feature f.name f.items
 
--- The row of a declaration that leads to a package.
-abbrev pub dependency_row : DependencyText → RowText
-dependency_row e = a_dep (name_of e.declaration) e.target.id (record {
+abbrev pub declared_of : DependencyText → Declared
+declared_of e = record {
   kind = kind_of e.declaration.kind;
   optional = e.declaration.is_optional;
   platform = e.declaration.platform;
   default_features = e.declaration.has_default_features;
   features = e.declaration.features;
-})
+}
+
+-- The row of a declaration that leads to a package.
+abbrev pub dependency_row : DependencyText → RowText
+dependency_row e = a_dep (name_of e.declaration) e.target.id (declared_of e)
 
 -- The rows of a package: its own, its features', and those of its declarations that lead to a package.
 abbrev pub package_rows : Bool → PackageText → List DependencyText → List RowText
