@@ -1,11 +1,11 @@
 -- Entries whose rows have tables.
-use Rattle.std.proofs.Common.{◌≡◌, ℕ, zero, suc, ◌+◌, ◌-◌, ◌<◌, ◌^◌, List, [], ◌∷◌, ◌++◌, Bool, true, false, cond, not, ◌&&◌, ◌||◌, ◌==◌, Option, None, Some, IsTrue, is_ok, length, map, nat_eq, codes, refl, ap, sym, subst, ◌∙◌, arith, bytes_eq}
-use Rattle.std.specs.Prelude.{nat_lt, slice_get}
-use Rattle.std.specs.Cmp.Lexicographic.{bytes_decides, nat_list_eq_equiv, slice_cmp}
+use Rattle.std.proofs.Common.{◌≡◌, ℕ, zero, suc, ◌+◌, ◌<◌, ◌^◌, List, [], ◌∷◌, ◌++◌, Bool, true, false, not, ◌&&◌, ◌||◌, ◌==◌, Option, None, Some, is_ok, length, map, nat_eq, codes, refl, ap, sym, ◌∙◌, arith, bytes_eq}
+use Rattle.std.specs.Prelude.{nat_lt}
+use Rattle.std.specs.Cmp.Lexicographic.{bytes_decides, nat_list_eq_equiv}
 use Rattle.std.specs.List.{list_all, list_any, cons_option, AllByRecursion}
 use Rattle.std.specs.List.Sorted.{IsStrictlySortedBy}
 use Rattle.std.specs.Option.{option_map, option_map_or, option_and_then}
-use Rattle.std.specs.Ordering.{is_eq, nat_cmp}
+use Rattle.std.specs.Ordering.{is_eq}
 use Rattle.std.specs.declared.cmp.Ordering.TheVariants.{Less}
 use Rattle.std.proofs.lemmas.Map.Text.{is_eq-slice_cmp}
 use Rattle.std.specs.Fmt.{decimal}
@@ -15,7 +15,7 @@ use Rattle.guppy_packages.proofs.Apart.{AreApart-map, AreApart-push}
 use Rattle.guppy_packages.proofs.Firsts.{AreApart}
 use Rattle.cargo_workspaces.specs.Workspaces.{Text, DeclarationText, FeatureText, IsPackage, PackageText, both_lead_to, is_other_name, is_within, may_name_feature, text_cmp}
 use Rattle.plan_rows.specs.Commands.{are_commands, command_of}
-use Rattle.plan_rows.specs.Steps.{dependencies_by, dependency_as, gated_feature, lead_by, number_if}
+use Rattle.plan_rows.specs.Steps.{dependencies_by, dependency_as, gated_feature, number_if}
 use Rattle.plan_rows.specs.Tables.{Dependency, Entry, each_from, rows_of}
 use Rattle.plan_rows.proofs.Lists.{both}
 use Rattle.plan_rows.proofs.Sound.{tables-sound}

@@ -1,5 +1,5 @@
 -- The rows of entries have no fault among all packages.
-use Rattle.std.proofs.Common.{◌≡◌, ℕ, zero, suc, ◌+◌, ◌-◌, ◌<◌, ◌≤◌, ◌^◌, List, [], ◌∷◌, ◌++◌, Bool, true, false, cond, not, ◌&&◌, ◌||◌, ◌==◌, Option, None, Some, length, map, refl, ap, sym, subst, ◌∙◌, arith, append_assoc, length-append, bytes_eq, filter}
+use Rattle.std.proofs.Common.{◌≡◌, ℕ, zero, suc, ◌+◌, ◌<◌, ◌≤◌, ◌^◌, List, [], ◌∷◌, ◌++◌, Bool, true, false, cond, not, ◌&&◌, ◌||◌, ◌==◌, Option, None, Some, length, map, refl, ap, sym, subst, ◌∙◌, arith, append_assoc, length-append, bytes_eq, filter}
 use Rattle.std.specs.Prelude.{nat_lt}
 use Rattle.std.specs.Fmt.{decimal}
 use Rattle.std.specs.Cmp.Lexicographic.{bytes_decides}
@@ -9,7 +9,7 @@ use Rattle.std.specs.List.{cons_option}
 use Rattle.std.proofs.lemmas.List.{append-nil, map-append}
 use Rattle.std.proofs.lemmas.List.Folds.{list_any-append}
 use Rattle.guppy_packages.specs.Rows.{RowText, Text, a_package, a_feature, a_dep}
-use Rattle.guppy_packages.specs.Graph.{Dependency as GraphDependency, dependencies_of, each_after, firsts, is_joined, is_package, link_fault, link_of, links_of, has_other_name, owner, package_before, packages_of, row_dependency}
+use Rattle.guppy_packages.specs.Graph.{Dependency as GraphDependency, dependencies_of, firsts, is_joined, link_fault, link_of, links_of, has_other_name, owner, package_before, packages_of, row_dependency}
 use Rattle.guppy_packages.specs.Tables.{PackageTable, package_place}
 use Rattle.guppy_packages.proofs.EachAfter.{after, after-append, each_after-append}
 use Rattle.guppy_packages.proofs.Lists.{list_any-map}
@@ -100,9 +100,9 @@ module _ (all : List PackageTable) where
   leads_push [] d a h = (h, tt)
   leads_push (e ∷ ds) d a h = (a.0, leads_push ds d a.1 h)
 
-  and_false : (b c : Bool) → c ≡ false → (b && c) ≡ false
-  and_false true c h = h
-  and_false false c h = refl
+  and_false : (b c d : Bool) → (c && d) ≡ false → (b && c && d) ≡ false
+  and_false true c d h = h
+  and_false false c d h = refl
 
   names_same : (d : Dependency) (from : ℕ) (before : List RowText) (ds : List Dependency) → AllByRecursion Leads ds → list_any (is_renamed d) ds ≡ false → list_any (other from d.to d.name) (after (row_dependency all) before (map dependency_row ds)) ≡ false
   names_same d from before [] a h = refl
@@ -115,7 +115,7 @@ module _ (all : List PackageTable) where
       go true s h next = cc
       go false s h next =
           let more : list_any (other from d.to d.name) rest ≡ false = next h in
-          let here : ((from == owner before) && (d.to == e.to) && not (bytes_eq d.name e.name)) ≡ false = and_false (from == owner before) (is_renamed d e) s in
+          let here : ((from == owner before) && (d.to == e.to) && not (bytes_eq d.name e.name)) ≡ false = and_false (from == owner before) (d.to == e.to) (not (bytes_eq d.name e.name)) s in
           rw (a.0, here, more) refl
 
   -- no dependency of the rows leaves a package with number `k` or more

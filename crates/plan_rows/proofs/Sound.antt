@@ -1,12 +1,11 @@
 -- Rows without a fault, and the packages of rows.
-use Rattle.std.proofs.Common.{◌≡◌, ℕ, zero, suc, ◌+◌, ◌-◌, ◌<◌, List, [], ◌∷◌, ◌++◌, Bool, true, false, not, ◌||◌, Option, None, Some, Ok, is_ok, length, refl, ap, ap₂, sym, subst, ◌∙◌, arith, append_assoc, length-append, take_while, cond, bytes_eq, filter_map}
+use Rattle.std.proofs.Common.{◌≡◌, ◌-◌, List, [], ◌∷◌, ◌++◌, Bool, true, false, not, Option, None, Some, is_ok, length, refl, ap, ap₂, sym, subst, ◌∙◌, arith, append_assoc, length-append, take_while, cond, bytes_eq, filter_map}
 use Rattle.std.specs.Prelude.{slice_get}
 use Rattle.std.specs.List.{list_any}
 use Rattle.std.proofs.lemmas.List.{append-nil}
 use Rattle.std.proofs.lemmas.List.Sums.{take_while-cons}
 use Rattle.guppy_packages.specs.Rows.{RowText, Text, a_package, a_feature, a_dep}
 use Rattle.guppy_packages.specs.Graph.{faults_by, firsts, is_package, link_fault, owner, package_before, packages_of, row_fault, row_feature, row_optional_name, tables_of}
-use Rattle.guppy_packages.specs.Tables.{PackageTable}
 use Rattle.guppy_packages.specs.declared.row_error.RowFault.{RowFault}
 use Rattle.guppy_packages.proofs.EachAfter.{after, each_after-is}
 use Rattle.guppy_packages.proofs.Passes.{error_at}

@@ -47,13 +47,7 @@ fn push_resolved<'n>(
     ensures { OnOk result (map row_text rows.new.items ≡ map row_text rows.old.items ++ map dependency_row (steps.dependencies_by false (steps.resolved_lead started) (map declaration_text declarations.now))) }
 {
     for declaration in declarations {
-        push_lead(
-            rows,
-            ids,
-            declaration,
-            lead(started, declaration),
-            false,
-        )?;
+        push_lead(rows, ids, declaration, lead(started, declaration), false)?;
     }
     Ok(())
 }
@@ -69,10 +63,7 @@ fn texts_of<'i>(items: &'i Items<'_>) -> &'i [&'i str]
 }
 
 /// Appends the row of a feature.
-fn push_gated<'n>(
-    rows: &mut Vec<Row<'n>>,
-    feature: &'n GatedFeature<'_>,
-) -> Result<(), AllocError>
+fn push_gated<'n>(rows: &mut Vec<Row<'n>>, feature: &'n GatedFeature<'_>) -> Result<(), AllocError>
     ensures { OnOk result (map row_text rows.new.items ≡ map row_text rows.old.items ++ feature_row (gated_text feature.now) ∷ []) }
 {
     rows.push(Row::Feature {
@@ -176,7 +167,15 @@ fn push_starts<'n>(
         let number = packages.len() + ix;
         let command = gated.commands.get(ix);
         let started = has_command(commands, ix);
-        push_start(rows, ids, number, package, &gated.packages[ix], command, started)?;
+        push_start(
+            rows,
+            ids,
+            number,
+            package,
+            &gated.packages[ix],
+            command,
+            started,
+        )?;
     }
     Ok(())
 }

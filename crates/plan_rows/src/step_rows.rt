@@ -38,10 +38,12 @@ impl<'n> StepRows<'n> {
     {
         match PackageGraph::from_source(alloc, self) {
             Ok(graph) => Ok(graph),
-            Err(RowError {
-                fault: RowFault::Memory,
-                ..
-            }) => Err(AllocError),
+            Err(
+                RowError {
+                    fault: RowFault::Memory,
+                    ..
+                },
+            ) => Err(AllocError),
             Err(_) => unreachable!(),
         }
     }

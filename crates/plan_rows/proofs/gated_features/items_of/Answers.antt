@@ -1,4 +1,4 @@
-use Rattle.std.proofs.Common.{◌≡◌, ◌∙◌, [], ap, length, List, map, refl, rules, sym}
+use Rattle.std.proofs.Common.{◌≡◌, ◌∙◌, ap, length, rules, sym}
 use Rattle.std.specs.String.{string_bytes}
 use Rattle.cargo_workspaces.specs.Views.{texts}
 use Rattle.plan_rows.specs.inner.Merged.{merged}

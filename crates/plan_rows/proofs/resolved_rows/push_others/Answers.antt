@@ -1,19 +1,16 @@
-use Rattle.std.proofs.Common.{◌≡◌, ◌∙◌, ◌+◌, ◌≤◌, ◌++◌, ap, ap₂, arith, false, get_or, Global, length, List, map, option_map, sym, Vec, ℕ}
-use Rattle.std.specs.Borrow.{Bor}
+use Rattle.std.proofs.Common.{◌≡◌, ◌∙◌, ◌+◌, ◌≤◌, ◌++◌, ap, arith, false, get_or, Global, length, List, map, sym, Vec, ℕ}
 use Rattle.std.specs.List.{list_all}
 use Rattle.std.proofs.lemmas.List.{append-nil}
 use Rattle.guppy_packages.specs.Rows.{row_text}
 use Rattle.cargo_workspaces.specs.Views.{package_text}
 use Rattle.cargo_workspaces.specs.Workspaces.{DeclarationText, FeatureText, IsPackage, is_within, PackageText}
 use Rattle.cargo_workspaces.specs.declared.package.Package.{Package}
-use Rattle.plan_rows.specs.Commands.{command_of, command_texts}
 use Rattle.plan_rows.specs.Gates.{gated_text}
-use Rattle.plan_rows.specs.Steps.{dependencies_by, gated_feature, other_entry, resolved_lead, started_entry}
+use Rattle.plan_rows.specs.Steps.{dependencies_by, gated_feature, other_entry, resolved_lead}
 use Rattle.plan_rows.specs.Tables.{each_from, entry_rows, rows_from}
-use Rattle.plan_rows.specs.inner.Starts.{start}
 use Rattle.plan_rows.specs.declared.gated_features.GatedFeature.{GatedFeature}
 use Rattle.plan_rows.proofs.EntryLemmas.{declarations_within, entries_step}
-use Rattle.plan_rows.proofs.GateLemmas.{got_view, same_at, start-is}
+use Rattle.plan_rows.proofs.GateLemmas.{same_at}
 use Rattle.plan_rows.proofs.Lists.{all_place}
 use Rattle.plan_rows.proofs.resolved_rows.push_others.Goals as goal
 

@@ -1,14 +1,14 @@
-use Rattle.std.proofs.Common.{◌≡◌, ◌∙◌, ◌+◌, ◌≤◌, ◌++◌, ap, ap₂, arith, false, get_or, Global, length, List, map, option_map, sym, Vec, ℕ}
+use Rattle.std.proofs.Common.{◌≡◌, ◌∙◌, ◌+◌, ◌≤◌, ◌++◌, ap, ap₂, arith, get_or, Global, length, List, map, option_map, sym, Vec, ℕ}
 use Rattle.std.specs.Borrow.{Bor}
+use Rattle.std.specs.Prelude.{slice_get}
 use Rattle.std.specs.List.{list_all}
-use Rattle.std.proofs.lemmas.List.{append-nil}
 use Rattle.guppy_packages.specs.Rows.{row_text}
 use Rattle.cargo_workspaces.specs.Views.{package_text}
-use Rattle.cargo_workspaces.specs.Workspaces.{DeclarationText, FeatureText, IsPackage, is_within, PackageText}
+use Rattle.cargo_workspaces.specs.Workspaces.{DeclarationText, IsPackage, is_within, PackageText}
 use Rattle.cargo_workspaces.specs.declared.package.Package.{Package}
 use Rattle.plan_rows.specs.Commands.{command_of, command_texts}
 use Rattle.plan_rows.specs.Gates.{gated_text}
-use Rattle.plan_rows.specs.Steps.{dependencies_by, gated_feature, other_entry, resolved_lead, started_entry}
+use Rattle.plan_rows.specs.Steps.{gated_feature, started_entry}
 use Rattle.plan_rows.specs.Tables.{each_from, entry_rows, rows_from}
 use Rattle.plan_rows.specs.inner.Starts.{start}
 use Rattle.plan_rows.specs.declared.gated_features.GatedFeature.{GatedFeature}
@@ -40,10 +40,10 @@ loop-ix-preserved c =
     let lent = λ (v : Bor (Vec GatedFeature Global)). v.now in
     let wanted = λ (p : PackageText). map gated_feature p.features in
     let entry = λ (p : ℕ) (y : PackageText). started_entry (command_of commands p) y in
-    let fs = map gated_text c.deref.result.now in
+    let fs = map gated_text c.deref-in-loop-ix.result.now in
     let at = same_at view wanted package_text gated.packages.items ps ix c.index.result.now item c.requires.gated.0 c.loop-ix-test.true in
-    let features : fs ≡ wanted x = ap (map gated_text) c.deref.ensures.value ∙ ap view c.index.ensures ∙ at ∙ ap (λ (y : Package). wanted (package_text y)) (sym c.index-packages-ix.is) in
-    let command = got_view view lent gated.commands.items ix c.get-command.result c.get-command.ensures.lookup.3 c.get-command.ensures.lookup.1 in
+    let features : fs ≡ wanted x = ap (map gated_text) c.deref-in-loop-ix.ensures.value ∙ ap view c.index.ensures ∙ at ∙ ap (λ (y : Package). wanted (package_text y)) (sym c.index-packages-ix.is) in
+    let command = got_view view lent c.deref.result.now ix c.get-command.result c.get-command.ensures.lookup.3 c.get-command.ensures.lookup.1 ∙ ap (λ (z : List (Vec GatedFeature Global)). option_map view (slice_get z ix)) c.deref.ensures.value in
     let same : start c.has_command-started.result fs (option_map (λ (v : Bor (Vec GatedFeature Global)). map gated_text v.now.items) c.get-command.result) x ≡ entry ix x =
     ap₂ (λ b o. start b fs o x) c.has_command-started.ensures command ∙ start-is view gated.commands.items commands ix x fs c.requires.gated.1 features in
     let pushed : r1 ≡ r0 ++ entry_rows (length ps + ix) (entry ix (package_text (get_or ps ix item))) =

@@ -1,10 +1,10 @@
-use Rattle.std.proofs.Common.{◌≡◌, ◌∙◌, ◌++◌, ap, is_ok, List, map, subst, sym, true, arith, ℕ}
+use Rattle.std.proofs.Common.{◌≡◌, ◌∙◌, ◌++◌, ap, is_ok, map, subst, sym, true, arith, ℕ}
 use Rattle.guppy_packages.specs.Graph.{tables_of}
 use Rattle.guppy_packages.specs.Rows.{row_text}
 use Rattle.cargo_workspaces.specs.Views.{package_text}
 use Rattle.cargo_workspaces.specs.WorkspaceView.{workspace_text}
 use Rattle.cargo_workspaces.specs.Workspaces.{PackageText}
-use Rattle.plan_rows.specs.Commands.{command_of, command_texts}
+use Rattle.plan_rows.specs.Commands.{command_of}
 use Rattle.plan_rows.specs.SettingsView.{settings_text}
 use Rattle.plan_rows.specs.Steps.{other_entry, resolved_entries, started_entry}
 use Rattle.plan_rows.specs.Tables.{each_from, rows_of}
