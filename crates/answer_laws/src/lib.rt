@@ -1,0 +1,4 @@
+//! The law that each command has an answer.
+#![tactic(auto)]
+
+pub mod laws;

@@ -1,0 +1,7 @@
+pub mod Steps
+pub mod Platforms
+pub mod LineRows
+pub mod Sections
+pub mod NoFaults
+pub mod Documents
+pub mod Written
