@@ -1,6 +1,6 @@
 -- Lists of command features.
 use Rattle.std.proofs.Common.{◌≡◌, ℕ, suc, ◌+◌, ◌<◌, List, [], ◌∷◌, ◌++◌, Bool, true, false, Option, length, map, drop, get_or, refl, ap, sym, ◌∙◌, append_assoc}
-use Rattle.std.specs.Prelude.{nat_eq, ◌&&◌, Result, Ok, Err, IfOk}
+use Rattle.std.specs.Prelude.{nat_eq, Result, Ok, Err, IfOk}
 use Rattle.std.specs.Option.{option_map}
 use Rattle.std.proofs.lemmas.List.{length-map}
 use Rattle.std.specs.List.{list_any}

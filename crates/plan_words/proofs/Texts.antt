@@ -1,7 +1,7 @@
 -- Cuts of texts.
-use Rattle.std.proofs.Common.{◌≡◌, ◌≢◌, ℕ, zero, suc, ◌+◌, ◌-◌, ◌<◌, ⊎_elim, List, [], ◌∷◌, ◌++◌, Bool, true, false, cond, ◌||◌, not, length, take, drop, get_or, refl, ap, sym, ◌∙◌, arith, eqb, lit<}
+use Rattle.std.proofs.Common.{◌≡◌, ◌≢◌, ℕ, zero, suc, ◌+◌, ◌-◌, ◌<◌, List, [], ◌∷◌, ◌++◌, Bool, true, false, cond, ◌||◌, not, length, take, drop, get_or, refl, ap, sym, ◌∙◌, arith, eqb, lit<}
 use Rattle.std.specs.Prelude.{nat_eq, codes, ◌&&◌}
-use Rattle.std.specs.List.{list_any, position_or_len, ends_with, starts_with, before_first, after_first}
+use Rattle.std.specs.List.{list_any, position_or_len, ends_with, starts_with}
 use Rattle.std.specs.Cmp.Lexicographic.{bytes_decides}
 use Rattle.std.proofs.lemmas.Bool.{eqb-true, eq-eqb}
 use Rattle.std.proofs.lemmas.List.{take-append-drop}

@@ -1,9 +1,9 @@
 -- The items that feature words become.
 use Rattle.std.specs.Prelude.{ℕ, List, [], ◌∷◌, map, Bool, true, false, Option, Some, None, nat_eq, not, ◌&&◌, ◌||◌, if◌then◌else◌, slice_get, codes, take, length, ◌-◌, ◌==◌}
 use Rattle.std.specs.List.{after_first, before_first, ends_with, filter_map, list_any}
-use Rattle.std.specs.Option.{option_and_then, option_map_or, option_or, unwrap_or}
+use Rattle.std.specs.Option.{option_map_or, option_or, unwrap_or}
 use Rattle.std.specs.Str.{bytes_eq}
-use Rattle.cargo_workspaces.specs.Workspaces.{Text, DeclarationText, PackageText, WorkspaceText}
+use Rattle.cargo_workspaces.specs.Workspaces.{Text, PackageText, WorkspaceText}
 use Rattle.plan_words.specs.Selections.{SelectionText}
 
 -- The value, if the test holds.

@@ -1,5 +1,5 @@
 -- Words and items that name nothing.
-use Rattle.std.specs.Prelude.{ℕ, List, [], ◌∷◌, Bool, true, false, Option, Some, None, not, if◌then◌else◌, slice_get}
+use Rattle.std.specs.Prelude.{ℕ, List, Bool, false, Option, Some, None, not, if◌then◌else◌, slice_get}
 use Rattle.std.specs.List.{list_any}
 use Rattle.std.specs.Option.{is_some, option_and_then, option_map_or}
 use Rattle.std.specs.Str.{bytes_eq}

@@ -1,5 +1,5 @@
 -- What a command line says, with texts in place of references.
-use Rattle.std.specs.Prelude.{List, Bool, map}
+use Rattle.std.specs.Prelude.{List, Bool}
 use Rattle.cargo_workspaces.specs.Workspaces.{Text}
 use Rattle.cargo_workspaces.specs.Views.{texts}
 use Rattle.plan_words.specs.declared.selection.PackageChoice.{PackageChoice}

@@ -1,4 +1,3 @@
-use Rattle.std.proofs.Common.{◌≡◌, sym}
 use Rattle.cargo_workspaces.specs.WorkspaceView.{workspace_text}
 use Rattle.plan_words.proofs.Within.{given_within}
 use Rattle.plan_words.proofs.package_words.package_of_word.Goals as goal
