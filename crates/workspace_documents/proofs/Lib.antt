@@ -9,3 +9,6 @@ pub mod LooseFields
 pub mod LeadLists
 pub mod Steps
 pub mod Whole
+pub mod Sorted
+pub mod Known
+pub mod Rules

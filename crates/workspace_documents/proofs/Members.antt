@@ -1,5 +1,5 @@
 -- The ids of members, one after the other.
-use Rattle.std.proofs.Common.{◌≡◌, ◌∙◌, ap, refl, ℕ, ◌+◌, ◌<◌, List, ◌∷◌, map, length, drop, get_or, add-one, drop-cons, Bor}
+use Rattle.std.proofs.Common.{◌≡◌, ◌∙◌, refl, ℕ, ◌+◌, ◌<◌, List, ◌∷◌, map, length, drop, get_or, add-one, drop-cons, Bor}
 use Rattle.std.specs.Prelude.{Result, Ok, Err, ⊤}
 use Rattle.cargo_documents.specs.declared.fault.Place.TheVariants as place
 use Rattle.cargo_documents.specs.Faults.{Text, Refusal, IfNotMemory}

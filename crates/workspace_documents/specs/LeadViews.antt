@@ -2,7 +2,6 @@
 use Rattle.std.specs.Prelude.{List, Option, map, option_map}
 use Rattle.std.specs.Borrow.{Bor}
 use Rattle.cargo_documents.specs.Faults.{Text}
-use Rattle.workspace_documents.specs.Lists.{ById}
 use Rattle.workspace_documents.specs.Leads.{LinksText, DescribedText}
 use Rattle.workspace_documents.specs.Views.{text_view, package_view, entries_view}
 use Rattle.workspace_documents.specs.declared.leads.Leads.{Leads}

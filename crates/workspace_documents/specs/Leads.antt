@@ -6,7 +6,7 @@ use Rattle.cargo_documents.specs.Faults.{Text, Refusal, ◌>>=◌}
 use Rattle.cargo_documents.specs.Fields.{optional_text_in}
 use Rattle.workspace_documents.specs.Lists.{ById}
 use Rattle.workspace_documents.specs.Packages.{DeclarationText, PackageText, packages_in}
-use Rattle.workspace_documents.specs.Nodes.{DepText, NodeText, ResolvedText, package_at, resolve_in, members_in, node_of, resolved_in}
+use Rattle.workspace_documents.specs.Nodes.{DepText, NodeText, package_at, resolve_in, members_in, node_of, resolved_in}
 use Rattle.workspace_documents.specs.Dependencies.{target_of}
 
 -- The id of the package that a declaration of the package `id` leads to, if any.

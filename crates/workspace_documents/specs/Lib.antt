@@ -5,6 +5,7 @@ pub mod Nodes
 pub mod Requirements
 pub mod Dependencies
 pub mod Leads
+pub mod Rules
 pub mod Views
 pub mod LeadViews
 pub mod inner

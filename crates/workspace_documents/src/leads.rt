@@ -1,8 +1,9 @@
 //! The workspace that a document describes, by the ids of its packages.
-ghost use Rattle.std.specs.Prelude.{◌≡◌, Some, map};
+ghost use Rattle.std.specs.Prelude.{◌≡◌, Some, IfOk, map};
 ghost use Rattle.json.specs.Value.{value_view};
 ghost use Rattle.cargo_documents.specs.Faults.{Gives};
 ghost use Rattle.workspace_documents.specs.Leads as spec;
+ghost use Rattle.workspace_documents.specs.Rules.{IsDescribed};
 ghost use Rattle.workspace_documents.specs.Views.{declaration_view, dep_view, node_view, package_view, entries_view};
 ghost use Rattle.workspace_documents.specs.LeadViews.{lead_view, leads_view, links_view, described_view};
 ghost use Rattle.workspace_documents.specs.Nodes.{no_node};
@@ -155,7 +156,8 @@ fn links_in<'v>(
 /// declarations lead, package by package in the order of their ids; or that memory ran out.
 #[tactic(auto, unfolding(crate::specs::Leads::described_in, crate::specs::Packages::packages_in))]
 pub fn described_in<'v>(alloc: Global, document: Value<'v>) -> Result<Described<'v>, DocumentFault>
-    ensures { Gives described_view result (spec.described_in (value_view document.entry)) }
+    ensures described { Gives described_view result (spec.described_in (value_view document.entry)) }
+    ensures rules { IfOk result (λ described. IsDescribed (described_view described)) }
 {
     let (listed, rest) = parts_of(alloc, document)?;
     let packages = packages_of(alloc, listed)?;

@@ -1,0 +1,5 @@
+pub mod Places
+pub mod Zips
+pub mod Names
+pub mod Sound
+pub mod Steps

@@ -1,0 +1,4 @@
+pub mod Lines
+pub mod Objects
+pub mod Views
+pub mod inner

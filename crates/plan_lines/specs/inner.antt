@@ -1,0 +1,4 @@
+-- Definitions that only contracts of private functions use.
+pub mod Rows
+pub mod Sets
+pub mod Tokens

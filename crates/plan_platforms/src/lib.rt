@@ -1,0 +1,10 @@
+//! The platforms of a plan: which platform specs of a workspace hold on each.
+#![tactic(auto)]
+
+mod declarations;
+mod fault;
+mod holding;
+
+pub use declarations::{DeclaredSpec, declared_specs};
+pub use fault::PlatformFault;
+pub use holding::{HeldSpecs, held_specs};

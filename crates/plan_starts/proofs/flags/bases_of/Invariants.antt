@@ -1,0 +1,10 @@
+use Rattle.std.proofs.Common.{◌≡◌, ℕ, Bool, ◌++◌, ◌∷◌, [], if◌then◌else◌, drop, map}
+use Rattle.feature_labels.specs.Names.{LabelName}
+use Rattle.feature_labels.specs.Names.LabelName.{base}
+use Rattle.step_visits.specs.Visits.{start_of}
+use Rattle.plan_starts.specs.Lists.{joined_from}
+use Rattle.plan_starts.specs.Starts as spec
+use Rattle.plan_starts.proofs.flags.bases_of.Given as goal
+
+abbrev pub invariant-loop-ix : goal.invariant-loop-ix
+invariant-loop-ix l = spec.bases_of l.flags ≡ map start_of l.places.items ++ spec.bases_from l.ix (drop l.ix l.flags)

@@ -1,0 +1,6 @@
+-- The value that starts contain.
+use Rattle.plan_starts.specs.Starts as spec
+use Rattle.plan_starts.specs.declared.starts.Starts.{Starts}
+
+abbrev pub starts_text : Starts → spec.Starts
+starts_text s = record { macros = s.macros.items; others = s.others.items; hosts = s.hosts.items }

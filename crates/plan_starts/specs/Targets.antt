@@ -1,0 +1,68 @@
+-- The targets of a package that a command line chooses.
+use Rattle.std.specs.Prelude.{ℕ, List, Bool, true, false, not, ◌&&◌, ◌||◌, if◌then◌else◌, codes, slice_get}
+use Rattle.std.specs.List.{list_all, list_any}
+use Rattle.std.specs.Option.{is_some, option_map_or}
+use Rattle.std.specs.Str.{bytes_eq}
+use Rattle.guppy_packages.specs.Items.{slash_item, item_of}
+use Rattle.feature_labels.specs.Names.LabelName.{named}
+use Rattle.cargo_workspaces.specs.Workspaces.{Text, DeclarationText, TargetText, PackageText, has_kind, is_library, is_proc_macro}
+use Rattle.plan_rows.specs.Commands.{is_started}
+use Rattle.plan_rows.specs.Steps.{SettingsText, admits, is_development, lands}
+use Rattle.plan_rows.specs.declared.side.Side.TheVariants.{Target}
+use Rattle.plan_starts.specs.PackageVisits.{PairVisit, is_kept, is_on}
+
+-- By what targets are chosen: the settings, the packages, which optional dependencies are kept, and which features are on.
+pub record TargetRules : Type 0 where
+  pub settings : SettingsText
+  pub packages : List PackageText
+  pub kept : PairVisit
+  pub on : PairVisit
+
+-- With tests: what has tests, and examples; else libraries and programs; never build scripts.
+abbrev pub is_chosen : Bool → TargetText → Bool
+is_chosen test t =
+    not (has_kind (codes "custom-build") t)
+    && (if test then t.test || t.doctest || has_kind (codes "example") t else is_library t || has_kind (codes "bin") t)
+
+-- Whether package `q` is a procedural macro.
+abbrev pub is_macro : List PackageText → ℕ → Bool
+is_macro packages q = option_map_or is_proc_macro (slice_get packages q) false
+
+-- Whether version resolving follows a declaration of package `p`: it leads to a package, is required or kept, and for development only if
+-- the package is started.
+abbrev pub is_followed : TargetRules → ℕ → DeclarationText → Bool
+is_followed r p d =
+    is_some d.leads_to
+    && (not (is_development d.kind) || is_started r.settings.commands p)
+    && (not d.optional || is_kept r.kept p d.name)
+
+-- Whether the declaration counts in the build: not for development or with tests, and on the host or on one of the targets.
+abbrev pub counts : SettingsText → DeclarationText → Bool
+counts s d = (not (is_development d.kind) || s.test) && (admits s.host d.platform || list_any (λ holds. admits holds d.platform) s.targets)
+
+-- Whether the feature is on in the package that the declaration leads to from the target side.
+abbrev pub leads_on : TargetRules → Text → DeclarationText → Bool
+leads_on r feature d =
+    option_map_or (λ q. is_on r.on (lands r.settings.split d (is_macro r.packages q) Target) q (named feature)) d.leads_to false
+
+-- Whether the declaration has the name and is followed.
+abbrev pub is_of : TargetRules → ℕ → Text → DeclarationText → Bool
+is_of r p name d = bytes_eq d.name name && is_followed r p d
+
+-- Whether a feature that a target of package `p` requires is on, looked at on the target side. A dependency's feature also needs a
+-- declaration that counts.
+abbrev pub is_met : TargetRules → ℕ → PackageText → Text → Bool
+is_met r p x need = elim (item_of need) [
+  | slash_item name feature weak ↦
+      list_any (λ d. is_of r p name d && counts r.settings d) x.declarations && list_any (λ d. is_of r p name d && leads_on r feature d) x.declarations
+  | _ ↦ is_on r.on Target p (named need)
+]
+
+-- Whether a target of package `p` is built.
+abbrev pub is_built : TargetRules → ℕ → PackageText → TargetText → Bool
+is_built r p x t = is_chosen r.settings.test t && list_all (is_met r p x) t.required_features
+
+-- Whether a target is built that is a procedural macro, or one that isn't.
+abbrev pub builds : TargetRules → Bool → ℕ → PackageText → Bool
+builds r true p x = list_any (λ t. has_kind (codes "proc-macro") t && is_built r p x t) x.targets
+builds r false p x = list_any (λ t. not (has_kind (codes "proc-macro") t) && is_built r p x t) x.targets

@@ -1,0 +1,15 @@
+//! The entries at which step `built` of a plan starts.
+#![tactic(auto)]
+
+mod flags;
+mod marks;
+mod package_visit;
+mod starts;
+mod targets;
+mod tests_of;
+
+pub use flags::{dev_flags, start_places};
+pub use package_visit::PackageVisit;
+pub use starts::{Starts, first_missing, starts_of};
+pub use targets::{TargetRules, is_macro_at};
+pub use tests_of::first_without_tests;

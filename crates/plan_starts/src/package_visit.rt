@@ -1,0 +1,103 @@
+//! Visits of a step in which each package has two entries.
+ghost use Rattle.std.specs.Prelude.{◌≡◌, ◌+◌, ◌<◌, ◌≤◌, ◌^◌};
+ghost use Rattle.feature_labels.specs.Names.{label_of};
+ghost use Rattle.feature_labels.specs.Names.LabelName.{base, named, optional};
+ghost use Rattle.plan_rows.specs.Steps.{is_host};
+ghost use Rattle.plan_starts.specs.PackageVisits as spec;
+ghost use Rattle.plan_starts.specs.PackageVisits.{is_kept, is_on, reaches_at};
+
+use feature_labels::FeatureLabel;
+use plan_rows::{Kept, Side, TurnedOn};
+use std::marker::Model;
+use step_visits::Visited;
+
+/// A visit of a step in which each package has two entries: step `resolved`, where a package is a dependency of others and a started
+/// one, or step `on`, where it is on the target side and on the host side.
+#[derive(Drop)]
+pub struct PackageVisit {
+    visited: Visited,
+    count: usize,
+}
+
+impl Model for PackageVisit {
+    ghost use Rattle.plan_starts.specs.PackageVisits.{PairVisit};
+
+    ghost Value = { PairVisit };
+
+    ghost use Rattle.std.specs.Prelude.{◌+◌, ◌<◌, ◌^◌};
+
+    ghost view = { λ v. record { count = v.count; visit = v.visited } };
+
+    ghost invariant = { λ v. v.count + v.count < 2 ^ 64 };
+}
+
+/// Returns whether `side` is the host side.
+fn is_host_side(side: Side) -> bool
+    ensures { result ≡ is_host side }
+{
+    matches!(side, Side::Host)
+}
+
+/// Returns the number of the first of the first entries of `count` packages, or of the second ones.
+fn first_entry(second: bool, count: usize) -> usize
+    ensures entry { result ≡ spec.first_entry second count }
+    ensures within { result ≤ count }
+{
+    if second { count } else { 0 }
+}
+
+impl PackageVisit {
+    /// Returns the visit of `count` packages.
+    pub fn new(visited: Visited, count: usize) -> PackageVisit
+        requires { count + count < 2 ^ 64 }
+        ensures { result ≡ record { count = count; visit = visited } }
+    {
+        PackageVisit { visited, count }
+    }
+
+    /// Returns whether the visit reached `label` at the first entry of package `ix`, or at its second one.
+    fn reaches(&self, second: bool, ix: usize, label: FeatureLabel<'_>) -> bool
+        ensures { result ≡ reaches_at self.now second ix (label_of label.entry) }
+    {
+        if ix >= self.count {
+            return false;
+        }
+        let first = first_entry(second, self.count);
+        self.visited.reaches(first + ix, label)
+    }
+
+    /// Returns whether the named feature `name` of package `ix` is on, on `side`, by the visit of step `on`.
+    pub fn has_feature(&self, side: Side, ix: usize, name: &str) -> bool
+        ensures { result ≡ is_on self.now side ix (named name.now) }
+    {
+        self.reaches(is_host_side(side), ix, FeatureLabel::Named(name))
+    }
+
+    /// Returns whether package `ix` is on, on `side`, by the visit of step `on`.
+    pub fn has_package(&self, side: Side, ix: usize) -> bool
+        ensures { result ≡ is_on self.now side ix base }
+    {
+        self.reaches(is_host_side(side), ix, FeatureLabel::Base)
+    }
+}
+
+impl Kept for PackageVisit {
+    ghost kept = { λ v. is_kept v };
+
+    fn is_kept(&self, ix: usize, name: &str) -> bool {
+        self.reaches(false, ix, FeatureLabel::OptionalDependency(name))
+            || self.reaches(true, ix, FeatureLabel::OptionalDependency(name))
+    }
+}
+
+impl TurnedOn for PackageVisit {
+    ghost turned_on = { λ v side ix name. is_on v side ix (optional name) };
+
+    fn is_on(&self, side: Side, ix: usize, name: &str) -> bool {
+        self.reaches(
+            is_host_side(side),
+            ix,
+            FeatureLabel::OptionalDependency(name),
+        )
+    }
+}

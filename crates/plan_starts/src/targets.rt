@@ -1,0 +1,281 @@
+//! The targets of a package that a command line chooses.
+ghost use Rattle.std.specs.Prelude.{◌≡◌, ◌&&◌, not, codes, map, option_map};
+ghost use Rattle.std.specs.List.{list_all, list_any};
+ghost use Rattle.cargo_workspaces.specs.Views.{declaration_text, package_text, target_text, texts};
+ghost use Rattle.cargo_workspaces.specs.Workspaces.{has_kind};
+ghost use Rattle.plan_rows.specs.Commands.{command_texts, is_started};
+ghost use Rattle.plan_rows.specs.SettingsView.{settings_text};
+ghost use Rattle.plan_rows.specs.Steps as steps;
+ghost use Rattle.plan_starts.specs.Targets as spec;
+ghost use Rattle.plan_starts.specs.Targets.{is_macro};
+ghost use Rattle.plan_starts.specs.TargetViews.{rules_text};
+
+use crate::package_visit::PackageVisit;
+use cargo_workspaces::{Declaration, Kind, Package, Target};
+use guppy_packages::NamedFeatureDep;
+use plan_rows::{Kept, Platform, Settings, Side};
+
+/// By what targets are chosen.
+#[derive(Drop)]
+pub struct TargetRules<'r, 'n, 'c, 'v, P> {
+    pub settings: &'r Settings<'n, 'c, P>,
+    pub packages: &'r [Package<'v>],
+    /// The visit of step `resolved`.
+    pub kept: &'r PackageVisit,
+    /// The visit of step `on`.
+    pub on: &'r PackageVisit,
+}
+
+/// Returns whether `target` is built if its required features are on: with tests, what has tests, and examples; else libraries and
+/// programs; never build scripts.
+fn is_chosen(test: bool, target: &Target<'_>) -> bool
+    ensures { result ≡ spec.is_chosen test (target_text target.now) }
+{
+    if target.has_kind("custom-build") {
+        return false;
+    }
+    if test {
+        target.test || target.doctest || target.has_kind("example")
+    } else {
+        target.is_library() || target.has_kind("bin")
+    }
+}
+
+/// Returns the side on which `declaration` leads to a package from the target side: `is_macro` is whether that is a procedural macro.
+fn lands(split: bool, declaration: &Declaration<'_>, is_macro: bool) -> Side
+    ensures { result ≡ steps.lands split (declaration_text declaration.now) is_macro Side.Target }
+{
+    if split && (declaration.kind == Kind::Build || is_macro) {
+        Side::Host
+    } else {
+        Side::Target
+    }
+}
+
+/// Returns whether package `ix` is a procedural macro.
+pub fn is_macro_at(packages: &[Package<'_>], ix: usize) -> bool
+    ensures { result ≡ is_macro (map package_text packages.now) ix }
+{
+    match packages.get(ix) {
+        Some(package) => package.is_proc_macro(),
+        None => false,
+    }
+}
+
+/// Returns whether a declaration with this platform applies on `holder`.
+fn admits<P: Platform>(holder: &P, platform: Option<&str>) -> bool
+    ensures { result ≡ steps.admits (P.holds holder.now) (option_map (λ t. t.now) platform.entry) }
+{
+    match platform {
+        None => true,
+        Some(spec) => holder.holds(spec),
+    }
+}
+
+/// Returns whether a declaration with this platform applies on one of `targets`.
+fn admits_any<P: Platform>(targets: &[P], platform: Option<&str>) -> bool
+    ensures { result ≡ list_any (λ holds. steps.admits holds (option_map (λ t. t.now) platform.entry)) (map P.holds targets.now) }
+{
+    for target in targets {
+        if admits(target, platform) {
+            return true;
+        }
+    }
+    false
+}
+
+/// Returns whether package `ix` has a command feature.
+fn has_command<P>(settings: &Settings<'_, '_, P>, ix: usize) -> bool
+    ensures { result ≡ is_started (command_texts settings.now.commands.now) ix }
+{
+    matches!(settings.commands.get(ix), Some(Some(_)))
+}
+
+/// Returns whether version resolving follows `declaration` of package `ix`.
+fn is_followed<P: Platform>(
+    rules: &TargetRules<'_, '_, '_, '_, P>,
+    ix: usize,
+    declaration: &Declaration<'_>,
+) -> bool
+    ensures { result ≡ spec.is_followed (rules_text P.holds rules.now) ix (declaration_text declaration.now) }
+{
+    declaration.leads_to.is_some()
+        && (declaration.kind != Kind::Development || has_command(rules.settings, ix))
+        && (!declaration.optional || rules.kept.is_kept(ix, declaration.name))
+}
+
+/// Returns whether `declaration` counts in the build.
+fn counts<P: Platform>(settings: &Settings<'_, '_, P>, declaration: &Declaration<'_>) -> bool
+    ensures { result ≡ spec.counts (settings_text P.holds settings.now) (declaration_text declaration.now) }
+{
+    (declaration.kind != Kind::Development || settings.test)
+        && (admits(settings.host, declaration.platform)
+            || admits_any(settings.targets, declaration.platform))
+}
+
+/// Returns whether `feature` is on in the package that `declaration` leads to from the target side.
+fn leads_on<P: Platform>(
+    rules: &TargetRules<'_, '_, '_, '_, P>,
+    feature: &str,
+    declaration: &Declaration<'_>,
+) -> bool
+    ensures { result ≡ spec.leads_on (rules_text P.holds rules.now) feature.now (declaration_text declaration.now) }
+{
+    match declaration.leads_to {
+        Some(to) => {
+            let is_macro = is_macro_at(rules.packages, to);
+            let side = lands(rules.settings.split, declaration, is_macro);
+            rules.on.has_feature(side, to, feature)
+        }
+        None => false,
+    }
+}
+
+/// Returns whether `declaration` of package `ix` has the name `name`, and version resolving follows it.
+fn is_of<P: Platform>(
+    rules: &TargetRules<'_, '_, '_, '_, P>,
+    ix: usize,
+    name: &str,
+    declaration: &Declaration<'_>,
+) -> bool
+    ensures { result ≡ spec.is_of (rules_text P.holds rules.now) ix name.now (declaration_text declaration.now) }
+{
+    declaration.name == name && is_followed(rules, ix, declaration)
+}
+
+/// Returns whether a declaration of package `ix` with the name `name` is followed, and counts in the build.
+fn any_counts<P: Platform>(
+    rules: &TargetRules<'_, '_, '_, '_, P>,
+    ix: usize,
+    name: &str,
+    declarations: &[Declaration<'_>],
+) -> bool
+    ensures { result ≡ list_any (λ d. spec.is_of (rules_text P.holds rules.now) ix name.now d && spec.counts (settings_text P.holds rules.now.settings.now) d) (map declaration_text declarations.now) }
+{
+    for declaration in declarations {
+        if is_of(rules, ix, name, declaration) && counts(rules.settings, declaration) {
+            return true;
+        }
+    }
+    false
+}
+
+/// Returns whether a declaration of package `ix` with the name `name` is followed, and leads to a package with the feature on.
+fn any_leads_on<P: Platform>(
+    rules: &TargetRules<'_, '_, '_, '_, P>,
+    ix: usize,
+    name: &str,
+    feature: &str,
+    declarations: &[Declaration<'_>],
+) -> bool
+    ensures { result ≡ list_any (λ d. spec.is_of (rules_text P.holds rules.now) ix name.now d && spec.leads_on (rules_text P.holds rules.now) feature.now d) (map declaration_text declarations.now) }
+{
+    for declaration in declarations {
+        if is_of(rules, ix, name, declaration) && leads_on(rules, feature, declaration) {
+            return true;
+        }
+    }
+    false
+}
+
+/// Returns whether the feature `need`, which a target of package `ix` requires, is on.
+fn is_met<P: Platform>(
+    rules: &TargetRules<'_, '_, '_, '_, P>,
+    ix: usize,
+    package: &Package<'_>,
+    need: &str,
+) -> bool
+    ensures { result ≡ spec.is_met (rules_text P.holds rules.now) ix (package_text «package».now) need.now }
+{
+    match NamedFeatureDep::from_cargo_string(need) {
+        NamedFeatureDep::DependencyNamedFeature {
+            dep_name,
+            feature,
+            ..
+        } => {
+            let declarations = &package.declarations;
+            any_counts(rules, ix, dep_name, declarations)
+                && any_leads_on(rules, ix, dep_name, feature, declarations)
+        }
+        NamedFeatureDep::NamedFeature(_) | NamedFeatureDep::OptionalDependency(_) => {
+            rules.on.has_feature(Side::Target, ix, need)
+        }
+    }
+}
+
+/// Returns whether all of `needs`, which a target of package `ix` requires, are on.
+fn are_met<P: Platform>(
+    rules: &TargetRules<'_, '_, '_, '_, P>,
+    ix: usize,
+    package: &Package<'_>,
+    needs: &[&str],
+) -> bool
+    ensures { result ≡ list_all (spec.is_met (rules_text P.holds rules.now) ix (package_text «package».now)) (texts needs.now) }
+{
+    for need in needs {
+        if !is_met(rules, ix, package, need) {
+            return false;
+        }
+    }
+    true
+}
+
+/// Returns whether `target` of package `ix` is built.
+fn is_built<P: Platform>(
+    rules: &TargetRules<'_, '_, '_, '_, P>,
+    ix: usize,
+    package: &Package<'_>,
+    target: &Target<'_>,
+) -> bool
+    ensures { result ≡ spec.is_built (rules_text P.holds rules.now) ix (package_text «package».now) (target_text target.now) }
+{
+    is_chosen(rules.settings.test, target) && are_met(rules, ix, package, &target.required_features)
+}
+
+/// Returns whether a target of package `ix` is built that is a procedural macro.
+fn builds_macro<P: Platform>(
+    rules: &TargetRules<'_, '_, '_, '_, P>,
+    ix: usize,
+    package: &Package<'_>,
+) -> bool
+    ensures { result ≡ list_any (λ t. has_kind (codes "proc-macro") t && spec.is_built (rules_text P.holds rules.now) ix (package_text «package».now) t) (package_text «package».now).targets }
+{
+    for target in &package.targets {
+        if target.has_kind("proc-macro") && is_built(rules, ix, package, target) {
+            return true;
+        }
+    }
+    false
+}
+
+/// Returns whether a target of package `ix` is built that is no procedural macro.
+fn builds_other<P: Platform>(
+    rules: &TargetRules<'_, '_, '_, '_, P>,
+    ix: usize,
+    package: &Package<'_>,
+) -> bool
+    ensures { result ≡ list_any (λ t. not (has_kind (codes "proc-macro") t) && spec.is_built (rules_text P.holds rules.now) ix (package_text «package».now) t) (package_text «package».now).targets }
+{
+    for target in &package.targets {
+        if !target.has_kind("proc-macro") && is_built(rules, ix, package, target) {
+            return true;
+        }
+    }
+    false
+}
+
+/// Returns whether a target of package `ix` is built that is a procedural macro, if `macros`, or else one that isn't.
+pub(crate) fn builds<P: Platform>(
+    rules: &TargetRules<'_, '_, '_, '_, P>,
+    macros: bool,
+    ix: usize,
+    package: &Package<'_>,
+) -> bool
+    ensures { result ≡ spec.builds (rules_text P.holds rules.now) macros ix (package_text «package».now) }
+{
+    if macros {
+        builds_macro(rules, ix, package)
+    } else {
+        builds_other(rules, ix, package)
+    }
+}

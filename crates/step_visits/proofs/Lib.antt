@@ -1,0 +1,4 @@
+pub mod Places
+pub mod Starts
+pub mod Reached
+pub mod Unique

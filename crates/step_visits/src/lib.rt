@@ -1,0 +1,10 @@
+//! What a step of a plan reaches.
+#![tactic(auto)]
+
+mod laws;
+mod visited;
+mod visiting;
+
+pub use laws::one_visit;
+pub use visited::Visited;
+pub use visiting::visit;

@@ -1,0 +1,185 @@
+"""Runs of `feats` that end in a fault, or that read the resolver from a manifest.
+
+A run has the words of the command line, in which {NAME} is the path of a file; what is on standard input; and what must be printed.
+"""
+import json
+import os
+from typing import NamedTuple
+
+from plan_files import HOST, TARGETS, TOP, cases_of
+from plan_workspaces import WINDOWS
+
+METADATA = '`cargo metadata --format-version 1 --all-features`'
+CFG = f'`rustc --print cfg --target {HOST}`'
+
+
+class Run(NamedTuple):
+    name: str
+    words: list
+    # the line on standard error, without `feats: `; None: any text there
+    said: str
+    given: bytes = b''
+    output: str = ''
+    status: int = 2
+
+
+def changed(value, path, other):
+    """A copy of a JSON value with another value at a path; None leaves the field out."""
+    copy = json.loads(json.dumps(value))
+    at = copy
+    for step in path[:-1]:
+        at = at[step]
+    if other is None:
+        del at[path[-1]]
+    else:
+        at[path[-1]] = other
+    return copy
+
+
+def files_of(room, document):
+    """Writes the files that the runs name, and returns their paths by name."""
+    contents = {
+        'document': json.dumps(document).encode(),
+        'latin': b'unix="\xe9"\n',
+        'no-fact': b'unix\n\ntarget os\n',
+        'no-toml': b'[package\n',
+    }
+    paths = {'host': f'{TARGETS}/{HOST}.cfg', 'windows': f'{TARGETS}/{WINDOWS}.cfg', 'none': f'{room}/no such file', 'folder': room}
+    for name, content in contents.items():
+        paths[name] = f'{room}/{name}'
+        with open(paths[name], 'wb') as it:
+            it.write(content)
+    return paths
+
+
+def word_faults():
+    """Yields faults of words, as (name, words, said)."""
+    usual = ['plan', '--metadata', '-', '--host', f'{HOST}={{host}}']
+    shape = "isn't TRIPLE=CFGFILE: write the triple, `=` and the file, as x86_64-unknown-linux-gnu=host.cfg"
+    yield 'no word', [], None
+    yield 'an unknown command', ['plans'], None
+    yield 'an unknown option', [*usual, '--all'], None
+    yield 'no document', ['plan', '--host', f'{HOST}={{host}}'], None
+    yield 'no host', ['plan', '--metadata', '-'], None
+    yield 'an option without its value', [*usual, '-p'], None
+    yield 'a host without a file', ['plan', '--metadata', '-', '--host', HOST], f'`{HOST}` {shape}'
+    yield 'a target without a file', [*usual, '--target', WINDOWS], f'`{WINDOWS}` {shape}'
+    yield 'a resolver', [*usual, '--resolver', '4'], "`4` isn't a version of the resolver: write 1, 2 or 3"
+    yield 'two resolvers', [*usual, '--resolver', '1', '--manifest', '{none}'], '--resolver and --manifest are both given: leave one out'
+    yield 'a format', [*usual, '--format', 'xml'], "`xml` isn't a format: write text or json"
+
+
+def file_faults():
+    """Yields faults of files, as (name, words, said)."""
+    def words(metadata='{document}', host='{host}', *more):
+        return ['plan', '--metadata', metadata, '--host', f'{HOST}={host}', *more]
+
+    unopened = 'cannot open `{none}`: check the path and its permissions'
+    yield 'no document there', words('{none}'), unopened
+    yield 'no host there', words(host='{none}'), unopened
+    yield 'no target there', words('{document}', '{host}', '--target', f'{WINDOWS}={{none}}'), unopened
+    yield 'no manifest there', words('{document}', '{host}', '--manifest', '{none}'), unopened
+    yield 'a folder as document', words('{folder}'), None
+    yield 'a folder as host', words(host='{folder}'), None
+    yield 'a host that is not UTF-8', words(host='{latin}'), f"the cfg text of {HOST} isn't UTF-8: make it by {CFG}"
+    yield 'a host with a line that is no fact', words(host='{no-fact}'), f'line 3 of the cfg text of {HOST} is no fact: make it by {CFG}'
+    target = f'the cfg text of {WINDOWS} is no fact: make it by `rustc --print cfg --target {WINDOWS}`'
+    yield 'such a target', words('{document}', '{host}', '--target', f'{HOST}={{host}}', '--target', f'{WINDOWS}={{no-fact}}'), f'line 3 of {target}'
+    yield 'a manifest that is not UTF-8', words('{document}', '{no-fact}', '--manifest', '{latin}'), "the manifest isn't UTF-8: pass the root Cargo.toml"
+    yield 'a manifest that is no TOML', words('{document}', '{host}', '--manifest', '{no-toml}'), "the manifest isn't a TOML document: pass the root Cargo.toml"
+
+
+def document_faults(document):
+    """Yields faults of documents, as (name, bytes, said)."""
+    text = json.dumps(document).encode()
+    lacks = 'missing or of another type'
+    yield 'no byte', b'', f"the document isn't JSON: make it by {METADATA}"
+    yield 'half a document', text[:len(text) // 2], f"the document isn't JSON: make it by {METADATA}"
+    yield 'two documents', text * 2, f"the document isn't JSON: make it by {METADATA}"
+    yield 'a document that is not UTF-8', text + b'\xff', f"the document isn't UTF-8: make it by {METADATA}"
+    yield 'a document without packages', changed(document, ['packages'], None), f'the document: packages: {lacks}'
+    yield 'a package without a name', changed(document, ['packages', 0, 'name'], None), f'the document: packages[0].name: {lacks}'
+    yield 'a member that is no package', changed(document, ['workspace_members', 0], 'no'), 'the document: workspace_members[0]: no package "no"'
+    yield 'default members', changed(document, ['workspace_default_members'], None), f'the document: workspace_default_members: {lacks}'
+    yield 'a document made with --no-deps', (TOP / 'tests/documents/no-deps.json').read_bytes(), None
+    spec = changed(document, ['packages', 0, 'dependencies', 0, 'target'], 'cfg(')
+    yield 'a platform spec', spec, f'package {document["packages"][0]["id"]} names `cfg(`, which is no platform spec: write a triple or `cfg(..)`'
+
+
+def plan_faults(cases):
+    """Yields faults of the plans of cases, as (name, document, words, said)."""
+    command, others, lacking, root = cases['command'], cases['others'], cases['lacking'], cases['root-1']
+    member = 'write a feature of a selected member, or DEPENDENCY/FEATURE'
+    manifest = 'look it up in its manifest'
+    needs = 'features are asked for, and no selected package is a member of the workspace: select a member, or leave the features out'
+    at = 'path+file:///w'
+    yield 'no package', command, ['-p', 'nobody'], 'no package of the document fits `nobody`: write NAME, NAME@VERSION or an id'
+    yield 'the second word', command, ['-p', 'tool', '-p', 'tool@2'], 'no package of the document fits `tool@2`: write NAME, NAME@VERSION or an id'
+    ids = f'\n  {at}/ext/new#old@1.10.0\n  {at}/ext/old#1.2.3'
+    yield 'several packages', others, ['-p', 'old'], f'several packages fit `old`: write NAME@VERSION or one of these ids{ids}'
+    yield 'several packages of a version', others, ['-p', 'old@1'], f'several packages fit `old@1`: write NAME@VERSION or one of these ids{ids}'
+    for word in (['-F', 'x'], ['--all-features'], ['--no-default-features']):
+        yield f'{word[0]} of no member', others, ['-p', 'leaf', *word], needs
+    yield 'a feature', command, ['-F', 'client/http,no', '--workspace'], f'no selected member has `no`: {member}'
+    yield 'the first feature', command, ['-p', 'tool', '-F', 'client/http', '-F', 'no'], f'no selected member has `client/http`: {member}'
+    yield 'a feature of a dependency', command, ['-F', 'client/no'], f'package {at}/client#0.1.0 has no feature `no`: {manifest}'
+    yield 'a feature of the root package', root, ['-F', 'no'], f'package {at}#top@0.1.0 has no feature `no`: {manifest}'
+    yield 'a dependency of the root package', root, ['-F', 'no/x'], f'package {at}#top@0.1.0 declares no dependency `no`: {manifest}'
+    yield 'tests', others, ['-p', 'tested', '--tests'], \
+        f"package {at}/ext/tested#0.1.0 isn't a member of the workspace, and its tests need its dependencies for development: leave --tests out"
+    yield 'a package that is not on', others, ['-p', 'tested'], \
+        f"package {at}/ext/tested#0.1.0 isn't built for the target: select a member that depends on it too"
+    yield 'a package that is missing', lacking, ['-F', 'b/g'], \
+        f'the document has no package for the optional dependency `leaf` of {at}/ext/b#0.1.0: make it by ' \
+        '`cargo metadata --format-version 1 --all-features --features WORDS` with the words of the selection'
+
+
+# Manifests, each with the resolver that Cargo takes from it.
+MANIFESTS = {
+    '[workspace]\nresolver = "1"\n': '1',
+    '[workspace]\nresolver = "2"\n': '2',
+    '[workspace]\nresolver = "3"\n': '3',
+    '[workspace]\nmembers = ["a"]\n': '1',
+    '[workspace]\n[package]\nname = "a"\nedition = "2021"\nresolver = "1"\n': '1',
+    '[package]\nname = "a"\nedition = "2018"\nresolver = "2"\n': '2',
+    '[package]\nname = "a"\nedition = "2024"\n': '2',
+    '[package]\nname = "a"\nedition = "2021"\n': '2',
+    '[package]\nname = "a"\nedition = "2015"\n': '1',
+    '[package]\nname = "a"\n': '1',
+    'package = { name = "a", edition.workspace = true }\n[workspace.package]\nedition = "2021"\n': '2',
+}
+WITHOUT = {
+    '[workspace]\nresolver = "4"\n': "the manifest's `workspace.resolver` is none that Cargo knows: give the version by --resolver",
+    '[package]\nresolver = 2\n': "the manifest's `package.resolver` is none that Cargo knows: give the version by --resolver",
+    '[package]\nedition = "2022"\n': "the manifest's `package.edition` is none that Cargo knows: give the version by --resolver",
+    '[package]\nedition.workspace = true\n': 'the manifest has no `workspace.package.edition`, which a package inherits: give the version by --resolver',
+}
+
+
+def runs(room, table_of):
+    """Yields the runs. `table_of` makes the text of a plan."""
+    cases = {}
+    for case in cases_of(TOP / 'tests/plans/worked.plans'):
+        cases.setdefault(case.workspace, case)
+    sides = {'1': cases['sides-1'], '2': cases['sides'], '3': cases['sides']}
+    document = cases['sides'].general
+    text = json.dumps(document).encode()
+    paths = files_of(room, document)
+
+    def placed(words):
+        return [it.format(**paths) for it in words]
+
+    for name, words, said in [*word_faults(), *file_faults()]:
+        yield Run(name, placed(words), said and said.replace('{none}', paths['none']), text)
+    usual = placed(['plan', '--metadata', '-', '--host', f'{HOST}={{host}}'])
+    for name, value, said in document_faults(document):
+        yield Run(name, usual, said, value if isinstance(value, bytes) else json.dumps(value).encode())
+    for name, case, words, said in plan_faults(cases):
+        yield Run(name, [*usual, '--resolver', case.resolver, *words], said, json.dumps(case.general).encode())
+    for number, (manifest, wanted) in enumerate([*MANIFESTS.items(), *WITHOUT.items()]):
+        path = os.path.join(room, f'{number}.toml')
+        with open(path, 'w', encoding='utf-8') as it:
+            it.write(manifest)
+        words = [*usual, '--target', f'{WINDOWS}={paths["windows"]}', '--manifest', path]
+        is_plan = wanted in sides
+        yield Run(f'the manifest {manifest!r}', words, '' if is_plan else wanted, text, table_of(sides[wanted].plan) if is_plan else '', 0 if is_plan else 2)

@@ -1,0 +1,561 @@
+#!/usr/bin/env python3
+"""A reference model of plans, by docs/PLANS.md and nothing else. It is written to be read: sets and loops, and no speed.
+
+    plan_model.py [FILE.plans ...]                  compares the model with cargo's plans; without a file, with those in tests/plans
+    plan_model.py plan --metadata FILE|- --host TRIPLE=CFG-FILE [--target TRIPLE=CFG-FILE]... [--resolver N] SELECTION...
+                                                    prints what `feats` prints of the same words
+
+A node is (entry, 'base', ''), (entry, 'feature', name) or (entry, 'dep', name). An entry is (place, id of a package).
+"""
+import argparse
+import json
+import re
+import sys
+from typing import NamedTuple
+
+sys.dont_write_bytecode = True
+
+from plan_files import TARGETS, all_cases, cases_of, command_of
+from platform_model import Target as Platform
+
+LIBRARIES = {'lib', 'rlib', 'dylib', 'cdylib', 'staticlib', 'proc-macro'}
+COMMAND = '[command]'
+HOST, TARGET = 'host', 'target'
+
+
+class Refused(Exception):
+    """The selection has no plan."""
+
+
+class Lacking(Refused):
+    """The document has no package for a dependency that the selection turns on."""
+
+
+# The document, by docs/METADATA.md.
+
+class Declaration(NamedTuple):
+    name: str
+    kind: str               # 'normal', 'build' or 'dev'
+    is_optional: bool
+    spec: str               # None: every platform
+    has_default: bool
+    features: list
+    to: str                 # None: the document has no package for it
+
+
+class Package(NamedTuple):
+    id: str
+    name: str
+    version: str
+    source: str             # None: a package at a path
+    features: dict
+    declarations: list
+    targets: list
+
+    def is_macro(self):
+        return any('proc-macro' in it['kind'] for it in self.targets)
+
+    def has_script(self):
+        return any('custom-build' in it['kind'] for it in self.targets)
+
+    def named(self, name):
+        return [it for it in self.declarations if it.name == name]
+
+
+class Document(NamedTuple):
+    packages: dict
+    members: list
+    default_members: list
+    root: str
+
+
+def numbers_of(version):
+    return [int(it) for it in re.split('[-+]', version)[0].split('.')]
+
+
+def admits_part(part, version):
+    """Whether one comparator of a requirement admits the numbers of a version."""
+    found = re.fullmatch(r'(\^|~|=|>=|<=|>|<)?\s*([0-9.]*?)(\.?[*xX])*(?:[-+].*)?', part)
+    if not found:
+        return False
+    given = [int(it) for it in found[2].split('.') if it]
+    operator = '~' if found[3] else found[1] or '^'
+    if not given:
+        return True
+    whole = given + [0] * (3 - len(given))
+    first = next((at for at, it in enumerate(given) if it), len(given) - 1) + 1
+    begin = version[:len(given)]
+    return {'^': version >= whole and version[:first] == given[:first], '~': version >= whole and version[:2][:len(given)] == given[:2],
+            '=': begin == given, '>': begin > given, '>=': version >= whole, '<': version < whole, '<=': begin <= given}[operator]
+
+
+def admits(requirement, version):
+    return all(admits_part(it.strip(), numbers_of(version)) for it in requirement.split(','))
+
+
+def lead_of(packages, package, uses, declared):
+    """The id of the package that a declaration leads to, or None."""
+    def name_in_code(to):
+        if declared['rename'] and to['id'] != package['id']:
+            return declared['rename'].replace('-', '_')
+        return next((it['name'] for it in to['targets'] if LIBRARIES & set(it['kind'])), to['name']).replace('-', '_')
+
+    fitting = [it for it in uses if packages[it['pkg']]['name'] == declared['name'] and it['name'] == name_in_code(packages[it['pkg']])]
+    used = [it for it in fitting if {'kind': declared['kind'], 'target': declared['target']} in it['dep_kinds']]
+    if len(used) != 1:
+        candidates = used or (fitting if declared['optional'] else [])
+        used = [it for it in candidates if admits(declared['req'], packages[it['pkg']]['version'])]
+    return used[0]['pkg'] if used else None
+
+
+def document_of(value):
+    packages = {it['id']: it for it in value['packages']}
+    uses = {it['id']: it['deps'] for it in value['resolve']['nodes']}
+    made = {}
+    for id, package in packages.items():
+        declarations = [
+            Declaration(it['rename'] or it['name'], it['kind'] or 'normal', it['optional'], it['target'], it['uses_default_features'],
+                        it['features'], lead_of(packages, package, uses.get(id, []), it)) for it in package['dependencies']]
+        made[id] = Package(id, package['name'], package['version'], package.get('source'), package['features'], declarations, package['targets'])
+    return Document(made, value['workspace_members'], value['workspace_default_members'], value['resolve']['root'])
+
+
+# Tables, and what is visited in them.
+
+class Dependency(NamedTuple):
+    """A dependency on the entry `to`."""
+    name: str
+    to: tuple
+    is_optional: bool
+    has_default: bool = False
+    features: tuple = ()
+
+
+class Entry(NamedTuple):
+    features: dict
+    dependencies: list
+
+    def named(self, name):
+        return [it for it in self.dependencies if it.name == name]
+
+    def has_optional(self, name):
+        return any(it.is_optional for it in self.named(name))
+
+
+def parts_of(item):
+    """An item as (dependency, feature, is weak); one of the first two may be None."""
+    if item.startswith('dep:'):
+        return item[4:], None, False
+    dependency, slash, feature = item.partition('/')
+    return (dependency.removesuffix('?'), feature, dependency.endswith('?')) if slash else (None, item, False)
+
+
+def of_item(table, inside, entry, item):
+    """The nodes that an item of a feature turns on, where `inside` are on."""
+    name, feature, is_weak = parts_of(item)
+    here = table[entry]
+    if name is None:
+        return [(entry, 'feature', feature)] if feature in here.features else []
+    nodes = []
+    if here.has_optional(name) and not is_weak:
+        nodes.append((entry, 'dep', name))
+        if feature is not None and name in here.features:
+            nodes.append((entry, 'feature', name))
+    for it in here.named(name):
+        waits = is_weak and it.is_optional and (entry, 'dep', name) not in inside
+        if feature in table[it.to].features and not waits:
+            nodes.append((it.to, 'feature', feature))
+    return nodes
+
+
+def of_dependency(table, it):
+    names = [*it.features, *(['default'] if it.has_default else [])]
+    return [(it.to, 'base', '')] + [(it.to, 'feature', name) for name in names if name in table[it.to].features]
+
+
+def of_node(table, inside, node):
+    """The nodes that a node turns on, where `inside` are on."""
+    entry, kind, name = node
+    nodes = [(entry, 'base', '')]
+    if kind == 'feature':
+        nodes += [to for item in table[entry].features[name] for to in of_item(table, inside, entry, item)]
+    for it in table[entry].dependencies:
+        if kind == ('dep' if it.is_optional else 'base') and (kind == 'base' or it.name == name):
+            nodes += of_dependency(table, it)
+    return nodes
+
+
+def visited(table, initials):
+    """The least set that contains the initials and all that its nodes turn on."""
+    inside = set(initials)
+    while True:
+        more = {to for node in inside for to in of_node(table, inside, node)} - inside
+        if not more:
+            return inside
+        inside |= more
+
+
+# The selection.
+
+class Selection(NamedTuple):
+    host: Platform
+    targets: list
+    is_split: bool
+    words: list             # of -p; None: none are given
+    is_workspace: bool
+    features: list
+    is_all: bool
+    no_default: bool
+    is_test: bool
+
+    def platforms(self):
+        return self.targets or [self.host]
+
+
+def is_version(word, version):
+    """Whether `word` is the version, perhaps without its build metadata, or a beginning of the numbers of one that is no prerelease."""
+    numbers = version.partition('+')[0]
+    return word in (version, numbers) or '-' not in numbers and numbers.startswith(f'{word}.')
+
+
+def packages_named(document, word):
+    name, at, version = word.partition('@')
+    return [id for id, it in document.packages.items() if id == word] or [
+        id for id, it in document.packages.items() if it.name == name and (not at or is_version(version, it.version))]
+
+
+def package_named(document, word):
+    found = packages_named(document, word)
+    if len(found) != 1:
+        raise Refused(f'the word {word} names {len(found)} packages')
+    return found[0]
+
+
+def is_ambiguous(value, words):
+    """Whether a word of `-p` names several packages of the document. Cargo may know but one of them (docs/PLANS.md)."""
+    return any(len(packages_named(document_of(value), word)) > 1 for before, word in zip(words, words[1:]) if before == '-p')
+
+
+def selected_packages(document, selection):
+    if selection.is_workspace:
+        return document.members
+    if selection.words is None:
+        return document.default_members
+    return [package_named(document, it) for it in selection.words]
+
+
+def item_of_word(package, word):
+    """The item that a feature word is of a selected member, or None."""
+    name, feature, _ = parts_of(word)
+
+    def has(feature):
+        return feature in package.features or any(it.is_optional for it in package.named(feature)[-1:])
+
+    if word.startswith('dep:'):
+        return None
+    if name is None:
+        return word if has(word) else None
+    if package.named(name):
+        return word
+    return feature if name == package.name and has(feature) else None
+
+
+def items_of_members(document, selection, members):
+    """The items of each selected member: each word is for those that have what it names."""
+    items = {id: [item_of_word(document.packages[id], word) for word in selection.features] for id in members}
+    for at, word in enumerate(selection.features):
+        if all(those[at] is None for those in items.values()):
+            raise Refused(f'no selected member has {word}')
+    return {id: [it for it in those if it is not None] for id, those in items.items()}
+
+
+def items_of_root(document, selection, members):
+    """The items with resolver 1 in the folder of a package: each word is the root package's, or `m/f` another selected member's."""
+    items = {id: [] for id in [*members, document.root]}
+    names = {document.packages[id].name: id for id in members if id != document.root}
+    for word in selection.features:
+        name, feature, _ = parts_of(word)
+        if name in names:
+            items[names[name]].append(feature)
+        else:
+            items[document.root].append(word)
+    return items
+
+
+def check_item(document, package, item):
+    name, feature, _ = parts_of(item)
+    if name is None and item not in package.features:
+        raise Refused(f'{package.id} has no feature {item}')
+    if name is not None and not package.named(name):
+        raise Refused(f'{package.id} has no dependency {name}')
+    for it in package.named(name):
+        if it.to is not None and feature not in document.packages[it.to].features:
+            raise Refused(f'{it.to} has no feature {feature}')
+
+
+def command_features(document, selection, selected):
+    """The items of the command feature of each started member."""
+    members = [it for it in selected if it in document.members]
+    by_members = selection.is_split or document.root is None
+    if by_members and not members:
+        if selection.features or selection.is_all or selection.no_default:
+            raise Refused('features of packages that are not members')
+        return {id: ['default'] if 'default' in document.packages[id].features else [] for id in document.members}
+    items = (items_of_members if by_members else items_of_root)(document, selection, members)
+    for id, those in items.items():
+        package = document.packages[id]
+        for it in those:
+            check_item(document, package, it)
+        without_default = selection.no_default and (by_members or id == document.root)
+        if selection.is_all:
+            those += package.features
+        elif 'default' in package.features and not without_default:
+            those.append('default')
+    return items
+
+
+# The three steps.
+
+class Plan:
+    def __init__(self, document, selection):
+        self.packages, self.document, self.selection = document.packages, document, selection
+        self.selected = selected_packages(document, selection)
+        self.commands = command_features(document, selection, self.selected)
+        self.check_tests()
+        self.resolved = visited(self.resolved_table(), self.starts_of(['root']))
+        self.on = visited(self.on_table(), self.on_starts())
+        self.starts = self.built_starts()
+        self.check_document()
+        self.built = {entry for entry, _, _ in visited(self.built_table(), [(it, 'base', '') for it in self.starts])}
+
+    def starts_of(self, places):
+        return [((place, id), 'feature', COMMAND) for place in places for id in self.commands]
+
+    def entry(self, place, package, features, dependencies, with_command=True):
+        command = {COMMAND: self.commands[package.id]} if with_command and package.id in self.commands else {}
+        return Entry({**features, **command}, dependencies)
+
+    def check_tests(self):
+        for id in self.selected:
+            declares = any(it.kind == 'dev' for it in self.packages[id].declarations)
+            if self.selection.is_test and id not in self.document.members and declares:
+                raise Refused(f'{id} is not a member, and its tests need dev-dependencies')
+
+    # Step `resolved`: what version resolving turns on.
+
+    def resolved_table(self):
+        def gated(items):
+            return [it for item in items for it in ([f'dep:{parts_of(item)[0]}'] if parts_of(item)[2] else []) + [item]]
+
+        def entry(place, package):
+            is_root = place == 'root'
+            made = self.entry(place, package, package.features, [
+                Dependency(it.name, ('other', it.to), it.is_optional, it.has_default, it.features)
+                for it in package.declarations if it.to is not None and (it.kind != 'dev' or is_root)], is_root)
+            return Entry({name: gated(items) for name, items in made.features.items()}, made.dependencies)
+
+        return {(place, id): entry(place, it) for id, it in self.packages.items() for place in ('root', 'other')}
+
+    def is_kept(self, id, name):
+        return any(((place, id), 'dep', name) in self.resolved for place in ('root', 'other'))
+
+    # Step `on`: which features are on.
+
+    def lands(self, declaration, side):
+        is_for_host = declaration.kind == 'build' or self.packages[declaration.to].is_macro()
+        return HOST if self.selection.is_split and is_for_host else side
+
+    def admitted(self, package, it, side):
+        selection = self.selection
+        if it.kind == 'dev' and not (package.id in self.commands and (selection.is_test or not selection.is_split)):
+            return False
+        if it.is_optional and not self.is_kept(package.id, it.name):
+            return False
+        asked = [selection.host] if it.kind == 'build' or side == HOST else selection.platforms()
+        return not selection.is_split or it.spec is None or any(platform.holds(it.spec) for platform in asked)
+
+    def on_table(self):
+        return {(side, id): self.entry(side, package, package.features, [
+            Dependency(it.name, (self.lands(it, side), it.to), it.is_optional, it.has_default, it.features)
+            for it in package.declarations if it.to is not None and self.admitted(package, it, side)])
+            for id, package in self.packages.items() for side in (TARGET, HOST)}
+
+    def on_starts(self):
+        starts = self.starts_of([TARGET])
+        if self.selection.is_split:
+            starts += [it for it in self.starts_of([HOST]) if self.packages[it[0][1]].is_macro()]
+        return starts
+
+    def features(self, side, id):
+        return {name for entry, kind, name in self.on if (entry, kind) == ((side, id), 'feature') and name != COMMAND}
+
+    def check_document(self):
+        """Refuses a document without a package for an optional dependency that a feature which is on turns on."""
+        for (_, id), kind, feature in sorted(self.on):
+            items = (self.commands[id] if feature == COMMAND else self.packages[id].features[feature]) if kind == 'feature' else []
+            for name, _, is_weak in map(parts_of, items):
+                if name is not None and not is_weak and any(it.is_optional and it.to is None for it in self.packages[id].named(name)):
+                    raise Lacking(f'the document has no package for the dependency {name} of {id}')
+
+    # Step `built`: what is built. A place is HOST or the number of a target platform.
+
+    def side_of(self, place):
+        return HOST if place == HOST and self.selection.is_split else TARGET
+
+    def platform_of(self, place):
+        return self.selection.host if place == HOST else self.selection.platforms()[place]
+
+    def is_used(self, place, package, it):
+        platform = self.selection.host if it.kind == 'build' else self.platform_of(place)
+        return (it.to is not None
+                and (it.kind != 'dev' or self.starts.get((place, package.id), False))
+                and (it.kind != 'build' or package.has_script())
+                and (not it.is_optional or ((self.side_of(place), package.id), 'dep', it.name) in self.on)
+                and (it.spec is None or platform.holds(it.spec)))
+
+    def built_table(self):
+        def place_to(place, it):
+            return HOST if it.kind == 'build' or self.packages[it.to].is_macro() else place
+
+        return {(place, id): Entry({}, [Dependency(it.name, (place_to(place, it), it.to), False)
+                                        for it in package.declarations if self.is_used(place, package, it)])
+                for id, package in self.packages.items() for place in (HOST, *range(len(self.selection.platforms())))}
+
+    def is_chosen(self, package, target):
+        kinds = set(target['kind'])
+        if 'custom-build' in kinds:
+            return False
+        if self.selection.is_test:
+            wanted = target['test'] or target['doctest'] or 'example' in kinds
+        else:
+            wanted = LIBRARIES & kinds or 'bin' in kinds
+        return bool(wanted) and all(self.has_required(package, it) for it in target.get('required-features', []))
+
+    def has_required(self, package, word):
+        """Whether a required feature is on. `d/f` counts if version resolving kept the dependency, and one of its declarations is for
+        this build and for a platform of it."""
+        name, feature, _ = parts_of(word)
+        if name is None:
+            return feature in self.features(TARGET, package.id)
+        kept = [it for it in package.named(name) if it.to is not None and self.is_resolved(package, it)]
+        platforms = [self.selection.host, *self.selection.platforms()]
+        counts = any((it.kind != 'dev' or self.selection.is_test) and (it.spec is None or any(at.holds(it.spec) for at in platforms)) for it in kept)
+        return counts and any(feature in self.features(self.lands(it, TARGET), it.to) for it in kept)
+
+    def is_resolved(self, package, it):
+        """Whether version resolving follows the declaration."""
+        is_for_all = it.kind != 'dev' or package.id in self.commands
+        return is_for_all and (not it.is_optional or self.is_kept(package.id, it.name))
+
+    def built_starts(self):
+        """The entries that are started, each with whether it is with dependencies for development."""
+        starts = {}
+        for id in self.selected:
+            package = self.packages[id]
+            for target in package.targets:
+                if not self.is_chosen(package, target):
+                    continue
+                is_for_host = 'proc-macro' in target['kind']
+                for place in [HOST] if is_for_host else range(len(self.selection.platforms())):
+                    self.check_on(place, id)
+                    starts[place, id] = self.selection.is_test
+                    if package.is_macro():
+                        starts.setdefault((HOST, id), False)
+        return starts
+
+    def check_on(self, place, id):
+        if not any(entry == (self.side_of(place), id) for entry, _, _ in self.on):
+            raise Refused(f'{id} is not on')
+
+    def lines(self):
+        """The plan: a line for each package that is built, by places and then by ids."""
+        triples = [it.triple for it in self.selection.targets]
+        places = [HOST, *(triples if len(triples) > 1 else [TARGET])]
+        built = sorted((-1 if place == HOST else place, id.encode(), id) for place, id in self.built)
+        return [' '.join([places[place + 1], self.label(self.packages[id]),
+                          *sorted(self.features(self.side_of(HOST if place < 0 else place), id))]) for place, _, id in built]
+
+    def label(self, package):
+        """The name and the version; and the source or the id, if another package has the same two."""
+        label = f'{package.name} {package.version}'
+        namesakes = [it for it in self.packages.values() if (it.name, it.version) == (package.name, package.version)]
+        return label if len(namesakes) < 2 else f'{label} ({package.source or package.id})'
+
+
+# The command line.
+
+def platform_of_word(word):
+    triple, _, path = word.partition('=')
+    with open(path, encoding='utf-8') as it:
+        return Platform(triple, it.read())
+
+
+def words_of(argv):
+    parser = argparse.ArgumentParser(prog='feats plan')
+    parser.add_argument('--metadata', required=True)
+    parser.add_argument('--host', required=True)
+    parser.add_argument('--target', action='append', default=[])
+    parser.add_argument('--resolver', default='2', choices=('1', '2', '3'))
+    parser.add_argument('-p', '--package', action='append')
+    parser.add_argument('-F', '--features', action='append', default=[])
+    for word in ('--workspace', '--all-features', '--no-default-features', '--tests'):
+        parser.add_argument(word, action='store_true')
+    return parser.parse_args(argv)
+
+
+def plan_of(document, words, platforms=platform_of_word):
+    """The lines of the plan for parsed words."""
+    selection = Selection(
+        platforms(words.host), [platforms(it) for it in words.target], words.resolver != '1', words.package, words.workspace,
+        [it for word in words.features for it in re.split('[ ,]+', word) if it], words.all_features, words.no_default_features, words.tests)
+    return Plan(document, selection).lines()
+
+
+def fault_of(case, platforms):
+    """Why the model's plan for a case isn't cargo's, or None."""
+    words = words_of(command_of(case)[1:])
+    for document in [case.document] if case.document is case.general else [case.general, case.document]:
+        why = ''
+        try:
+            plan = plan_of(document_of(document), words, platforms)
+        except Lacking as lacking:
+            if document is case.general is not case.document:
+                continue
+            plan, why = None, str(lacking)
+        except Refused as refused:
+            plan, why = None, str(refused)
+        wanted = None if is_ambiguous(document, case.words) else case.plan
+        if plan != wanted:
+            return f'the model: {why or plan}, wanted: {case.refused if wanted is None else wanted}'
+    return None
+
+
+def main():
+    if sys.argv[1:2] == ['plan']:
+        words = words_of(sys.argv[2:])
+        with open(0 if words.metadata == '-' else words.metadata, encoding='utf-8') as it:
+            document = document_of(json.load(it))
+        try:
+            sys.stdout.write(''.join(f'{it}\n' for it in plan_of(document, words)))
+        except Refused as refused:
+            sys.exit(str(refused))
+        return 0
+    known = {str(path): None for path in TARGETS.glob('*.cfg')}
+
+    def platform(word):
+        path = word.partition('=')[2]
+        known[path] = known[path] or platform_of_word(word)
+        return known[path]
+
+    passed = failed = 0
+    for case in [case for path in sys.argv[1:] for case in cases_of(path)] if sys.argv[1:] else all_cases():
+        fault = fault_of(case, platform)
+        passed, failed = passed + (not fault), failed + bool(fault)
+        if fault:
+            print(f'{case.place}: {case.workspace}: {" ".join(case.words)}: FAILED {fault}')
+    print(f'{passed} passed, {failed} failed')
+    return 1 if failed else 0
+
+
+if __name__ == '__main__':
+    sys.exit(main())

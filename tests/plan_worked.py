@@ -1,0 +1,261 @@
+"""The worked rows of docs/PLANS.md: small workspaces, each with selections and the plan of each. Cargo must agree (record_plans).
+
+All packages have a library. `leaf` has the features x, y and z. A plan is written as `place package features; ...` without versions:
+`host`, or `target`, or with two targets `windows` and `mac`.
+"""
+from typing import NamedTuple
+
+from plan_workspaces import BUILD, DEV, HOST, LINUX, MAC, WINDOWS, Declared, Package, Target, Workspace
+
+XYZ = {'x': [], 'y': [], 'z': []}
+LEAF = Package('ext/leaf', 'leaf', features=XYZ)
+
+
+class Row(NamedTuple):
+    words: str
+    plan: str
+    resolver: str = '2'
+    # cargo's plan, where it isn't that of docs/PLANS.md, and why
+    cargo: str = None
+    differs: str = ''
+
+
+class Worked(NamedTuple):
+    name: str
+    # the rule that the rows show
+    shows: str
+    packages: list
+    rows: list
+
+
+def leaf(*features, **how):
+    return Declared('ext/leaf', features, **how)
+
+
+def member(name, *declared, **how):
+    return Package(name, name, declared=list(declared), **how)
+
+
+def weak(name, **how):
+    """A package with an optional `leaf`, a weak item for it and a feature that turns it on."""
+    return Package(name, name.rsplit('/')[-1], features={'w': ['leaf?/x'], 'on': ['dep:leaf']}, declared=[leaf(is_optional=True)], **how)
+
+
+ON_WINDOWS, ON_MAC = 'cfg(windows)', 'cfg(target_os = "macos")'
+
+WORKED = [
+    Worked('sides', 'build-dependencies and procedural macros have features of their own, unless the resolver is 1', [
+        member('a', leaf('x'), leaf('y', table=BUILD), Declared('ext/pm'), has_script=True),
+        Package('ext/pm', 'pm', declared=[leaf('z')], library='proc-macro'), LEAF,
+    ], [
+        Row('--target windows', 'host pm; host leaf y z; target a; target leaf x'),
+        Row('', 'host pm; host leaf y z; target a; target leaf x'),
+        Row('--target windows', 'host pm; host leaf x y z; target a; target leaf x y z', '1'),
+    ]),
+    Worked('platforms', 'a declaration counts where its platform holds; for a build-dependency that is the host', [
+        member('a', leaf(), leaf('x', spec=ON_WINDOWS), leaf('y', spec=ON_WINDOWS, table=BUILD), leaf('z', spec=ON_MAC), has_script=True), LEAF,
+    ], [
+        Row('--target windows', 'target a; target leaf x'),
+        Row('--target windows --target mac', 'windows a; windows leaf x z; mac a; mac leaf x z'),
+        Row('--target linux', 'target a; target leaf x y z', '1'),
+    ]),
+    Worked('dev', 'dev-dependencies count for started packages alone: in tests, or with resolver 1', [
+        member('a', leaf(), leaf('x', table=DEV)), member('b', Declared('a')), LEAF,
+    ], [
+        Row('-p a --target linux', 'target a; target leaf'),
+        Row('-p a --target linux --tests', 'target a; target leaf x'),
+        Row('-p a --target linux', 'target a; target leaf x', '1'),
+        Row('-p b --target linux --tests', 'target a; target b; target leaf'),
+        Row('-p b --target linux', 'target a; target b; target leaf', '1'),
+    ]),
+    Worked('dev-host', 'dev-dependencies of a started package count on the host side too', [
+        member('a', leaf(), leaf('x', table=DEV)), member('b', Declared('a', table=BUILD), has_script=True), LEAF,
+    ], [
+        Row('-p a -p b --target windows --tests', 'host a; host leaf x; target a; target b; target leaf x'),
+        Row('-p b --target windows --tests', 'host a; host leaf; target b'),
+    ]),
+    Worked('weak', 'the part of a weak item over required declarations doesn\'t wait', [
+        Package('a', 'a', features={'w': ['leaf?/x'], 'on': ['dep:leaf']}, declared=[leaf(is_optional=True), leaf('y', table=BUILD)], has_script=True), LEAF,
+    ], [
+        Row('--target windows -F w', 'host leaf x y; target a w'),
+        Row('--target windows -F w,on', 'host leaf x y; target a on w; target leaf x'),
+    ]),
+    Worked('gate-side', 'a weak item waits for its dependency on its own side', [
+        member('t', Declared('ext/a', ('w',))), member('h', Declared('ext/a', ('on',), table=BUILD), has_script=True), weak('ext/a'), LEAF,
+    ], [
+        Row('--workspace --target windows', 'host a on; host leaf; target a w; target h; target t'),
+        Row('--workspace --target windows', 'host a on w; host leaf x; target a on w; target h; target leaf x; target t', '1'),
+    ]),
+    Worked('strong-elsewhere', 'a strong item turns on the feature of the dependency\'s name only where an optional declaration counts', [
+        member('a', leaf(spec=ON_WINDOWS, is_optional=True), features={'s': ['leaf/x']}), LEAF,
+    ], [
+        Row('--target linux -F s', 'target a s'),
+        Row('--target windows -F s', 'target a leaf s; target leaf x'),
+        Row('--target linux -F s', 'target a leaf s', '1'),
+    ]),
+    Worked('command', 'feature words', [
+        member('client', features={'http': []}), member('server', Declared('client', is_optional=True)), member('tool'),
+    ], [
+        Row('--workspace --target linux -F client/http', 'target client http; target server client; target tool'),
+        Row('-p server --target linux -F client?/http', 'target server'),
+        Row('-p tool --target linux -F client/http', 'refused'),
+    ]),
+    Worked('self', 'a word for a package that depends on itself goes through that dependency', [
+        member('a', Declared('a', ('x',), table=DEV), features=XYZ),
+    ], [
+        Row('--target linux -F a/y', 'target a'),
+        Row('--target linux -F a/y --tests', 'target a x y'),
+    ]),
+    Worked('proc-macro', 'a procedural macro that is selected starts on both sides', [
+        member('pm', leaf(), leaf('x', table=DEV), library='proc-macro', targets=[Target('test', 'it')]), member('b', leaf()), LEAF,
+    ], [
+        Row('--workspace --target windows', 'host leaf; host pm; target b; target leaf'),
+        Row('--workspace --target windows --tests', 'host leaf x; host pm; target b; target leaf x; target pm'),
+    ]),
+    Worked('no-script', 'build-dependencies of a package without a script turn features on, and aren\'t built', [
+        member('a', leaf('x', table=BUILD)), member('b', leaf('y', table=BUILD), has_script=True), LEAF,
+    ], [
+        Row('-p a --target linux', 'target a'),
+        Row('-p a -p b --target linux', 'host leaf x y; target a; target b'),
+    ]),
+    Worked('root', 'with resolver 1 in the folder of a package, feature words are that package\'s', [
+        Package('.', 'top', features=XYZ, declared=[leaf()]), Package('b', 'b', features={**XYZ, 'default': ['z']}, declared=[leaf()]), LEAF,
+    ], [
+        Row('-p b --target linux -F x --no-default-features', 'target b default z; target leaf', '1'),
+        Row('-p b --target linux -F leaf/y,b/x', 'target b default x z; target leaf y', '1'),
+        Row('-p b --target linux -F x --no-default-features', 'target b x; target leaf'),
+    ]),
+    Worked('resolved', 'a dependency that version resolving didn\'t turn on isn\'t built', [
+        member('a', Declared('b', table=DEV), features={'f': ['b/g']}), member('c', Declared('a', ('f',))),
+        member('b', leaf(is_optional=True), features={'g': ['dep:leaf']}), LEAF,
+    ], [
+        Row('-p a -p c --target linux --tests', 'target a f; target b g; target c'),
+        Row('-p a --target linux -F f --tests', 'target a f; target b g; target leaf'),
+    ]),
+    Worked('resolved-weak', 'version resolving doesn\'t wait for the dependency of a weak item', [
+        member('a', Declared('b', table=DEV), features={'f': ['b/g']}), member('c', Declared('a', ('f',)), Declared('b', ('h',))),
+        member('b', leaf(is_optional=True), features={'g': ['dep:leaf'], 'h': ['leaf?/x']}), LEAF,
+    ], [
+        Row('-p a -p c --target linux --tests', 'target a f; target b g h; target c; target leaf x'),
+        Row('-p c --target linux', 'target a f; target b h; target c'),
+    ]),
+    Worked('macro-tests', 'the library of a procedural macro is built for its tests without their dependencies', [
+        member('pm', leaf('x', table=DEV), library='proc-macro', library_lines=['test = false', 'doctest = false'], targets=[Target('test', 'it')]), LEAF,
+    ], [
+        Row('--target windows --tests', 'host pm; target leaf x; target pm'),
+        Row('--target windows', 'host pm'),
+    ]),
+    Worked('required-kinds', 'a required feature of a dependency counts if a declaration is for this build and a platform of it', [
+        Package('a', 'a', declared=[leaf(table=DEV)], library=None, targets=[Target('bin', 'one', ('leaf/x',))]),
+        Package('c', 'c', declared=[leaf(spec=ON_WINDOWS)], library=None, targets=[Target('bin', 'two', ('leaf/x',))]),
+        member('b', leaf('x')), LEAF,
+    ], [
+        Row('-p a -p b --target linux', 'target b; target leaf x'),
+        Row('-p a -p b --target linux --tests', 'target a; target b; target leaf x'),
+        Row('-p c -p b --target linux', 'target b; target leaf x'),
+        Row('-p c -p b --target windows', 'target b; target c; target leaf x'),
+    ]),
+    Worked('required', 'a target is chosen if its required features are on', [
+        Package('a', 'a', features={'x': [], 'cli': ['dep:leaf']}, declared=[leaf(is_optional=True)], library=None,
+                targets=[Target('bin', 'one', ('cli', 'leaf/x'))]),
+        Package('b', 'b', declared=[leaf('x')]), LEAF,
+    ], [
+        Row('-p a --target linux -F cli', ''),
+        Row('-p a --target linux -F cli,leaf/x', 'target a cli; target leaf x'),
+        Row('-p a -p b --target linux', 'target b; target leaf x'),
+        Row('-p a -p b --target linux -F a/cli', 'target a cli; target b; target leaf x'),
+    ]),
+    Worked('lacking', 'a document with all features of the members may lack packages that a selection needs', [
+        member('a', Declared('ext/b')), Package('ext/b', 'b', features={'g': ['leaf/x'], 'w': ['leaf?/y']}, declared=[leaf(is_optional=True)]), LEAF,
+    ], [
+        Row('--target linux', 'target a; target b'),
+        Row('--target linux -F b/g', 'target a; target b g leaf; target leaf x'),
+        Row('--target linux -F b/leaf', 'target a; target b leaf; target leaf'),
+        Row('--target linux -F b/w', 'target a; target b w'),
+    ]),
+    Worked('no-library', 'a required dependency without a library leads nowhere', [
+        member('a', Declared('ext/tool'), leaf()), LEAF,
+        Package('ext/tool', 'tool', declared=[leaf('x')], library=None, targets=[Target('bin', 'tool')]),
+    ], [
+        Row('--target linux', 'target a; target leaf', cargo='target a; target leaf x', differs='the document has no package for a dependency without a library'),
+    ]),
+    Worked('no-package', 'a weak item is no reason for a package that isn\'t there', [
+        member('a', Declared('ext/b')), Package('ext/b', 'b', features={'w': ['leaf?/x'], 'absent': ['dep:leaf']}, declared=[Declared('vendor/leaf', is_optional=True)]),
+        Package('vendor/other', 'other'), Package('vendor/leaf', 'leaf', is_written=False),
+    ], [
+        Row('--target linux', 'target a; target b'),
+        Row('--target linux -F b/w', 'target a; target b w', cargo='refused', differs='version resolving wants a package that the registry doesn\'t have'),
+    ]),
+    Worked('twins', 'packages with the same name and version are shown with their sources', [
+        member('a', leaf('x')), member('b', Declared('vendor/leaf', ('y',), requirement='0.1.0')), LEAF, Package('vendor/leaf', 'leaf', features=XYZ),
+    ], [
+        Row('', 'target a; target b; target leaf (path+file:///w/ext/leaf#0.1.0) x; target leaf (registry+https://github.com/rust-lang/crates.io-index) y'),
+        Row('-p leaf', 'refused'),
+        Row('-p path+file:///w/ext/leaf#0.1.0 -p a', 'target a; target leaf (path+file:///w/ext/leaf#0.1.0) x'),
+    ]),
+    Worked('ambiguous', 'a word of `-p` must name one package of the document', [
+        member('a', leaf()), member('b', Declared('ext/other', rename='second')), LEAF, Package('ext/other', 'leaf', '2.0.0'),
+    ], [
+        Row('-p a -p b -p leaf', 'refused'),
+        Row('-p a -p leaf', 'refused', cargo='target a; target leaf', differs='version resolving reaches one of the packages'),
+        Row('-p a -p leaf@0.1', 'target a; target leaf'),
+    ]),
+    Worked('others', 'packages that aren\'t members can be named; if all are such, the members start with their defaults', [
+        member('a', leaf(), Declared('ext/old'), features={'default': ['leaf/x'], 'b': []}), LEAF,
+        Package('ext/old', 'old', '1.2.3', declared=[Declared('ext/new', rename='later')]), Package('ext/new', 'old', '1.10.0'),
+        Package('ext/tested', 'tested', declared=[leaf(table=DEV)]), member('c', Declared('ext/tested', table=BUILD)),
+    ], [
+        Row('-p leaf --target linux', 'target leaf x'),
+        Row('-p leaf -p c --target linux', 'refused'),
+        Row('-p leaf -p a --target linux -F b --no-default-features', 'target a b; target leaf; target old 1.10.0; target old 1.2.3'),
+        Row('-p leaf --target linux -F x', 'refused'),
+        Row('-p leaf --target linux --no-default-features', 'refused'),
+        Row('-p old@1.2', 'target old 1.10.0; target old 1.2.3'),
+        Row('-p old@1.10.0', 'target old 1.10.0'),
+        Row('-p old', 'refused'),
+        Row('-p nobody', 'refused'),
+        Row('-p tested', 'refused'),
+        Row('-p tested --tests', 'refused'),
+        Row('-p leaf --tests', 'target leaf x'),
+    ]),
+]
+
+
+def workspaces():
+    """Yields the workspaces with their rows, one for each resolver that the rows of a name have."""
+    for it in WORKED:
+        for resolver in sorted({row.resolver for row in it.rows}):
+            rows = [row for row in it.rows if row.resolver == resolver]
+            yield Workspace(it.name if resolver == '2' else f'{it.name}-{resolver}', resolver, it.packages), it.shows, rows
+
+
+TRIPLES = {'linux': LINUX, 'windows': WINDOWS, 'mac': MAC}
+
+
+def words_of(row):
+    return [TRIPLES.get(it, it) for it in row.words.split()]
+
+
+def is_plan(plan, lines):
+    """Whether these lines, or none, are the plan of a row."""
+    if plan == 'refused' or lines is None:
+        return plan == 'refused' and lines is None
+    shorter = {triple: name for name, triple in TRIPLES.items()}
+
+    def short(line):
+        place, name, version, *features = line.split(' ')
+        return ' '.join([shorter.get(place, place), name, *([version] if name == 'old' else []), *features])
+
+    return sorted(map(short, lines)) == sorted(it for it in plan.split('; ') if it)
+
+
+def lines_of_difference(row, packages):
+    """The lines of a row's plan, where cargo's is another."""
+    if row.cargo is None:
+        return []
+    versions = {it.name: it.version for it in packages}
+    found = [it.split(' ') for it in row.plan.split('; ')] if row.plan != 'refused' else []
+    return [f'differs {row.differs}', *(' '.join(['=', place, name, versions[name], *features]) for place, name, *features in found)]
+
+
+assert HOST == LINUX
