@@ -38,10 +38,11 @@ def version():
 
 
 def reason_of(said):
-    """The first line about an error, or a panic, that cargo printed."""
+    """The first line about an error, or a panic, that cargo printed, without what is another in each run."""
     lines = said.splitlines()
-    panics = [re.sub(r" \(\d+\)", '', it) for it in lines if ' panicked at ' in it]
-    return next((it for it in lines if it.startswith('error')), (panics or [said[-200:]])[0])
+    panics = [re.sub(r' \(\d+\)', '', it) for it in lines if ' panicked at ' in it]
+    reason = next((it for it in lines if it.startswith('error')), (panics or [said[-200:]])[0])
+    return re.sub(r'(have a dependency named) `.*', r'\1 ..', reason)
 
 
 class Cargo:

@@ -1,0 +1,80 @@
+-- The arguments of `plan`: what it is asked for, with each word read.
+use Rattle.std.specs.Prelude.{List, Bool, Option, None, Some, Result, Ok, Err, flat_map, codes, ok_or, if◌then◌else◌}
+use Rattle.std.specs.Str.{bytes_eq}
+use Rattle.std.specs.Option.{option_map_or}
+use Rattle.clap.specs.Words.{Text}
+use Rattle.manifest_resolvers.specs.declared.resolver.Resolver.{Resolver}
+use Rattle.manifest_resolvers.specs.declared.resolver.Resolver.TheVariants.{V2}
+use Rattle.manifest_resolvers.specs.Resolvers.{resolver_named}
+use Rattle.feats_words.specs.FeatureWords.{words_in}
+use Rattle.feats_words.specs.PlatformWords.{PlatformText, platform_word}
+use Rattle.feats_words.specs.Refusals.{Refusal, bad_platform, bad_resolver, two_resolvers, bad_format, each, ◌>>=◌}
+use Rattle.feats_words.specs.Requests.{PlanText}
+use Rattle.feats_words.specs.declared.plan_arguments.Format.{Format}
+use Rattle.feats_words.specs.declared.plan_arguments.Format.TheVariants.{Text as text_format, Json as json_format}
+
+-- Where the version of the resolver comes from: it is given, or a root manifest chooses it.
+pub data SourceText : Type 0 where
+  version_given : Resolver → SourceText
+  manifest_at : Text → SourceText
+
+pub record ArgumentsText : Type 0 where
+  pub metadata : Text
+  pub host : PlatformText
+  pub targets : List PlatformText
+  pub resolver : SourceText
+  pub packages : List Text
+  pub workspace : Bool
+  pub features : List Text
+  pub all_features : Bool
+  pub no_default_features : Bool
+  pub tests : Bool
+  pub format : Format
+
+abbrev pub platform : Text → Result PlatformText Refusal
+platform word = ok_or (platform_word word) (bad_platform word)
+
+abbrev pub platforms : List Text → Result (List PlatformText) Refusal
+platforms = each platform
+
+abbrev pub version_named : Text → Option Resolver → Result SourceText Refusal
+version_named word None = Err (bad_resolver word)
+version_named word (Some resolver) = Ok (version_given resolver)
+
+abbrev pub version : Text → Result SourceText Refusal
+version word = version_named word (resolver_named word)
+
+-- The source of the resolver's version: 2, if neither a version nor a manifest is given.
+abbrev pub resolver_source : Option Text → Option Text → Result SourceText Refusal
+resolver_source (Some word) (Some path) = Err two_resolvers
+resolver_source (Some word) None = version word
+resolver_source None (Some path) = Ok (manifest_at path)
+resolver_source None None = Ok (version_given V2)
+
+abbrev pub format_named : Text → Result Format Refusal
+format_named word =
+    if bytes_eq word (codes "text") then Ok text_format
+    else (if bytes_eq word (codes "json") then Ok json_format else Err (bad_format word))
+
+abbrev pub format : Option Text → Result Format Refusal
+format word = option_map_or format_named word (Ok text_format)
+
+abbrev pub arguments : PlanText → Result ArgumentsText Refusal
+arguments p =
+    platform p.host >>= λ host.
+    platforms p.targets >>= λ targets.
+    resolver_source p.resolver p.manifest >>= λ resolver.
+    format p.format >>= λ form.
+    Ok (record {
+      metadata = p.metadata;
+      host = host;
+      targets = targets;
+      resolver = resolver;
+      packages = p.packages;
+      workspace = p.workspace;
+      features = flat_map words_in p.features;
+      all_features = p.all_features;
+      no_default_features = p.no_default_features;
+      tests = p.tests;
+      format = form;
+    })

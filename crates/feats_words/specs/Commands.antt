@@ -1,0 +1,41 @@
+-- The commands of the program and their options, as `clap` knows them.
+use Rattle.std.specs.Prelude.{ℕ, List, [], ◌∷◌, ◌++◌, Some, true, codes}
+use Rattle.clap.specs.Words.{App, Rule, Shape, Text, new_app, new_rule, with_subcommand}
+use Rattle.clap.specs.Simple.{new_shape}
+use Rattle.clap.specs.declared.builder.action.ArgAction.TheVariants.{Set, Append, SetTrue}
+
+-- An option `--NAME VALUE`, which is given at most once.
+abbrev pub option_rule : Text → Rule
+option_rule name = record (new_rule name) { long = Some name; action = Some Set; value_names = 1 }
+
+abbrev pub required_rule : Text → Rule
+required_rule name = record (option_rule name) { required = true }
+
+abbrev pub repeated_rule : Text → Rule
+repeated_rule name = record (option_rule name) { action = Some Append }
+
+-- One that has a letter too.
+abbrev pub lettered_rule : Text → ℕ → Rule
+lettered_rule name letter = record (repeated_rule name) { short = Some letter }
+
+abbrev pub flag_rule : Text → Rule
+flag_rule name = record (new_rule name) { long = Some name; action = Some SetTrue }
+
+-- The options that name the files.
+abbrev pub file_rules : List Rule
+file_rules =
+    required_rule (codes "metadata") ∷ required_rule (codes "host") ∷ repeated_rule (codes "target")
+    ∷ option_rule (codes "resolver") ∷ option_rule (codes "manifest") ∷ []
+
+-- The options that select packages and features.
+abbrev pub selection_rules : List Rule
+selection_rules =
+    lettered_rule (codes "package") 112 ∷ flag_rule (codes "workspace")
+    ∷ lettered_rule (codes "features") 70 ∷ flag_rule (codes "all-features") ∷ flag_rule (codes "no-default-features")
+    ∷ flag_rule (codes "tests") ∷ option_rule (codes "format") ∷ []
+
+abbrev pub plan_shape : Shape
+plan_shape = record (new_shape (codes "plan")) { rules = file_rules ++ selection_rules }
+
+abbrev pub feats_app : App
+feats_app = with_subcommand (record (new_app (codes "feats")) { top = record (new_shape (codes "feats")) { subcommand_required = true } }) plan_shape

@@ -1,0 +1,19 @@
+-- Feature words: what `--features` has between spaces and commas.
+use Rattle.std.specs.Prelude.{ℕ, List, ◌==◌, Bool, not, filter, flat_map, length}
+use Rattle.std.specs.List.{slice_split}
+use Rattle.clap.specs.Words.{Text}
+
+abbrev pub is_word : Text → Bool
+is_word text = not (length text == 0)
+
+abbrev pub is_comma : ℕ → Bool
+is_comma b = b == 44
+
+abbrev pub is_space : ℕ → Bool
+is_space b = b == 32
+
+abbrev pub between_commas : Text → List Text
+between_commas text = filter is_word (slice_split is_comma text)
+
+abbrev pub words_in : Text → List Text
+words_in text = flat_map between_commas (slice_split is_space text)

@@ -1,0 +1,8 @@
+pub mod Arguments
+pub mod Refusals
+pub mod Commands
+pub mod Requests
+pub mod Views
+pub mod FeatureWords
+pub mod PlatformWords
+pub mod inner

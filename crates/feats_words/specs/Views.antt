@@ -1,0 +1,53 @@
+-- The values that Rust's types contain.
+use Rattle.std.specs.Prelude.{map, option_map}
+use Rattle.feats_words.specs.Requests.{PlanText, RequestText, plan, texts}
+use Rattle.feats_words.specs.Arguments.{ArgumentsText, SourceText, version_given, manifest_at}
+use Rattle.feats_words.specs.PlatformWords.{PlatformText}
+use Rattle.feats_words.specs.declared.plan_arguments.PlanArguments.{PlanArguments}
+use Rattle.feats_words.specs.declared.plan_arguments.ResolverSource.{ResolverSource}
+use Rattle.feats_words.specs.declared.plan_arguments.ResolverSource.TheVariants as source
+use Rattle.feats_words.specs.declared.platform_words.PlatformWord.{PlatformWord}
+use Rattle.feats_words.specs.declared.request.PlanRequest.{PlanRequest}
+use Rattle.feats_words.specs.declared.request.Request.{Request}
+use Rattle.feats_words.specs.declared.request.Request.TheVariants as request
+
+abbrev pub platform_text : PlatformWord → PlatformText
+platform_text p = record { triple = p.triple.now; path = p.path.now }
+
+abbrev pub source_text : ResolverSource → SourceText
+source_text (source.Version resolver) = version_given resolver
+source_text (source.Manifest path) = manifest_at path.now
+
+abbrev pub arguments_text : PlanArguments → ArgumentsText
+arguments_text a = record {
+  metadata = a.metadata.now;
+  host = platform_text a.host;
+  targets = map platform_text a.targets.items;
+  resolver = source_text a.resolver;
+  packages = texts a.packages.items;
+  workspace = a.workspace;
+  features = texts a.features.items;
+  all_features = a.all_features;
+  no_default_features = a.no_default_features;
+  tests = a.tests;
+  format = a.format;
+}
+
+abbrev pub plan_text : PlanRequest → PlanText
+plan_text r = record {
+  metadata = r.metadata.now;
+  host = r.host.now;
+  targets = texts r.targets.items;
+  resolver = option_map (λ t. t.now) r.resolver;
+  manifest = option_map (λ t. t.now) r.manifest;
+  packages = texts r.packages.items;
+  workspace = r.workspace;
+  features = texts r.features.items;
+  all_features = r.all_features;
+  no_default_features = r.no_default_features;
+  tests = r.tests;
+  format = option_map (λ t. t.now) r.format;
+}
+
+abbrev pub request_text : Request → RequestText
+request_text (request.Plan r) = plan (plan_text r)

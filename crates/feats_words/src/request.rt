@@ -1,0 +1,158 @@
+//! What a command line asks for.
+ghost use Rattle.std.specs.Prelude.{◌≡◌, IfOk, option_map, option_and_then};
+ghost use Rattle.clap.specs.Words.{FailsBy, fault_of, found_of, rows_of, subcommand_of, subcommand_rows_of};
+ghost use Rattle.feats_words.specs.Commands.{feats_app};
+ghost use Rattle.feats_words.specs.Requests as spec;
+ghost use Rattle.feats_words.specs.Requests.{texts};
+ghost use Rattle.feats_words.specs.Views.{plan_text, request_text};
+
+use crate::command::feats_command;
+use clap::{ArgMatches, Error};
+use std::alloc::{AllocError, Global};
+
+/// What the command `plan` is asked for.
+#[derive(Drop)]
+pub struct PlanRequest<'a> {
+    /// The path of the document, or `-`.
+    pub metadata: &'a str,
+    /// The word of the host, as `TRIPLE=CFGFILE`.
+    pub host: &'a str,
+    /// The words of the target platforms.
+    pub targets: Vec<&'a str>,
+    /// The version of the resolver.
+    pub resolver: Option<&'a str>,
+    /// The path of the root manifest.
+    pub manifest: Option<&'a str>,
+    pub packages: Vec<&'a str>,
+    pub workspace: bool,
+    /// The values of `--features`, each with one or more words.
+    pub features: Vec<&'a str>,
+    pub all_features: bool,
+    pub no_default_features: bool,
+    pub tests: bool,
+    pub format: Option<&'a str>,
+}
+
+/// What a command line asks for.
+#[derive(Drop)]
+pub enum Request<'a> {
+    /// The packages that are built.
+    Plan(PlanRequest<'a>),
+}
+
+/// Returns the value of a required option.
+fn required_value<'a>(matches: &ArgMatches<'a>, name: &str) -> &'a str
+    ensures { result.now ≡ spec.required_value name.now (rows_of (found_of matches.now)) }
+{
+    match matches.get_str(name) {
+        Some(value) => value,
+        None => "",
+    }
+}
+
+/// Returns the value of an option.
+fn value<'a>(matches: &ArgMatches<'a>, name: &str) -> Option<&'a str>
+    ensures { option_map (λ s. s.now) result ≡ spec.value name.now (rows_of (found_of matches.now)) }
+{
+    matches.get_str(name)
+}
+
+/// Returns a list of the texts of `given`.
+fn copied<'a>(alloc: Global, given: &[&'a str]) -> Result<Vec<&'a str>, AllocError>
+    ensures { IfOk result (λ copies. texts copies.items ≡ texts given.now) }
+{
+    let mut copies = Vec::new(alloc);
+    copies.extend_from_slice(given)?;
+    Ok(copies)
+}
+
+/// Returns the values of an option.
+fn values<'a>(
+    alloc: Global,
+    matches: &ArgMatches<'a>,
+    name: &str,
+) -> Result<Vec<&'a str>, AllocError>
+    ensures { IfOk result (λ values. texts values.items ≡ spec.values name.now (rows_of (found_of matches.now))) }
+{
+    match matches.get_strs(name) {
+        Some(values) => copied(alloc, values),
+        None => Ok(Vec::new(alloc)),
+    }
+}
+
+/// Returns whether an option without a value is given.
+fn is_given(matches: &ArgMatches<'_>, name: &str) -> bool
+    ensures { result ≡ spec.is_given name.now (rows_of (found_of matches.now)) }
+{
+    match matches.get_str(name) {
+        Some(value) => value == "true",
+        None => false,
+    }
+}
+
+/// Returns what the matches of `plan` ask for.
+fn plan_request<'a>(alloc: Global, matches: &ArgMatches<'a>) -> Result<PlanRequest<'a>, AllocError>
+    ensures { IfOk result (λ request. plan_text request ≡ spec.plan_asked (rows_of (found_of matches.now))) }
+{
+    Ok(PlanRequest {
+        metadata: required_value(matches, "metadata"),
+        host: required_value(matches, "host"),
+        targets: values(alloc, matches, "target")?,
+        resolver: value(matches, "resolver"),
+        manifest: value(matches, "manifest"),
+        packages: values(alloc, matches, "package")?,
+        workspace: is_given(matches, "workspace"),
+        features: values(alloc, matches, "features")?,
+        all_features: is_given(matches, "all-features"),
+        no_default_features: is_given(matches, "no-default-features"),
+        tests: is_given(matches, "tests"),
+        format: value(matches, "format"),
+    })
+}
+
+/// Returns what the command of this name is asked for by its options. None if there is no such command.
+fn request_of<'a>(
+    alloc: Global,
+    name: &str,
+    matches: &ArgMatches<'a>,
+) -> Result<Option<Request<'a>>, AllocError>
+    ensures { IfOk result (λ request. option_map request_text request ≡ spec.request_of (name.now, rows_of (found_of matches.now))) }
+{
+    if name == "plan" {
+        let request = plan_request(alloc, matches)?;
+        return Ok(Some(Request::Plan(request)));
+    }
+    Ok(None)
+}
+
+/// Returns the values of the options of `words`; the first word is the program's name.
+fn matches_of<'a>(alloc: Global, words: &'a [&str]) -> Result<ArgMatches<'a>, Error>
+    ensures command { IfOk result (λ matches. subcommand_rows_of matches ≡ subcommand_of feats_app (texts words.now)) }
+    ensures fault { FailsBy (fault_of feats_app (texts words.now)) result }
+{
+    let command = feats_command(alloc)?;
+    command.try_get_matches_from(words)
+}
+
+/// Returns what the matches of the program ask for.
+fn request_in<'a>(
+    alloc: Global,
+    matches: &ArgMatches<'a>,
+) -> Result<Option<Request<'a>>, AllocError>
+    ensures { IfOk result (λ request. option_map request_text request ≡ option_and_then spec.request_of (subcommand_rows_of matches.now)) }
+{
+    match matches.subcommand() {
+        Some((name, matches)) => request_of(alloc, name, matches),
+        None => Ok(None),
+    }
+}
+
+/// Returns what `words` ask for; the first is the program's name. None if they name no command. The error is the first mistake in the
+/// words, a request for help, or `OutOfMemory`; its text is `clap`'s.
+pub fn parse<'a>(alloc: Global, words: &'a [&str]) -> Result<Option<Request<'a>>, Error>
+    ensures request { IfOk result (λ request. option_map request_text request ≡ spec.request_in (texts words.now)) }
+    ensures fault { FailsBy (fault_of feats_app (texts words.now)) result }
+{
+    let matches = matches_of(alloc, words)?;
+    Ok(request_in(alloc, &matches)?)
+}

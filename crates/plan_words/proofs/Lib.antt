@@ -1,0 +1,5 @@
+pub mod CommandLemmas
+pub mod Lists
+pub mod Sorted
+pub mod Texts
+pub mod Within

@@ -1,0 +1,7 @@
+pub mod Choices
+pub mod FeatureWords
+pub mod ItemChecks
+pub mod PackageWords
+pub mod Refusals
+pub mod Selections
+pub mod inner

@@ -1,0 +1,3 @@
+-- Definitions for private functions.
+pub mod Lookups
+pub mod Views

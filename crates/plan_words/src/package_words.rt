@@ -1,0 +1,174 @@
+//! The packages that words name.
+ghost use Rattle.std.specs.Prelude.{◌≡◌, ◌<◌, IfOk, IsTrue, length, map, nat_lt};
+ghost use Rattle.std.specs.List.{list_all};
+ghost use Rattle.cargo_workspaces.specs.Views.{package_text, texts};
+ghost use Rattle.cargo_workspaces.specs.WorkspaceView.{workspace_text};
+ghost use Rattle.plan_words.specs.PackageWords as spec;
+ghost use Rattle.plan_words.specs.Refusals.{Gives};
+ghost use Rattle.plan_words.specs.Selections.{choice_text};
+
+use crate::fault::WordFault;
+use crate::selection::PackageChoice;
+use cargo_workspaces::{Package, Workspace};
+use std::alloc::{AllocError, Global};
+
+/// Returns whether `word` begins the numbers of `version`, at a dot.
+fn begins_numbers(word: &str, version: &str) -> bool
+    ensures { result ≡ spec.begins_numbers word.now version.now }
+{
+    match version.strip_prefix(word) {
+        Some(rest) => rest.starts_with('.'),
+        None => false,
+    }
+}
+
+/// Returns `version` without its build metadata.
+fn without_build<'v>(version: &'v str) -> &'v str
+    ensures { result.now ≡ spec.without_build version.now }
+{
+    match version.split_once('+') {
+        Some((front, _)) => front,
+        None => version,
+    }
+}
+
+/// Returns whether `version`, which has no build metadata, is that of a prerelease.
+fn has_dash(version: &str) -> bool
+    ensures { result ≡ spec.has_dash version.now }
+{
+    version.contains('-')
+}
+
+/// Returns whether `word` is `version`, with or without its build metadata, or a beginning of its numbers. A beginning of the
+/// numbers fits no prerelease.
+fn fits_version(word: &str, version: &str) -> bool
+    ensures { result ≡ spec.fits_version word.now version.now }
+{
+    let front = without_build(version);
+    word == version || word == front || !has_dash(front) && begins_numbers(word, front)
+}
+
+/// Returns whether `word` is the name of `package`, or its name, `@` and a version that fits.
+fn is_named(word: &str, package: &Package<'_>) -> bool
+    ensures { result ≡ spec.is_named word.now (package_text «package».now) }
+{
+    match word.split_once('@') {
+        Some((name, version)) => name == package.name && fits_version(version, package.version),
+        None => word == package.name,
+    }
+}
+
+/// Returns the numbers of the packages whose id is `word`.
+fn packages_with_id(
+    alloc: Global,
+    packages: &[Package<'_>],
+    word: &str,
+) -> Result<Vec<usize>, AllocError>
+    ensures { IfOk result (λ numbers. numbers.items ≡ spec.numbers_from (spec.has_id word.now) 0 (map package_text packages.now)) }
+{
+    let mut numbers = Vec::new(alloc);
+    for (ix, package) in packages.iter().enumerate() {
+        if word == package.id {
+            numbers.push(ix)?;
+        }
+    }
+    Ok(numbers)
+}
+
+/// Returns the numbers of the packages that `word` names.
+fn packages_named(
+    alloc: Global,
+    packages: &[Package<'_>],
+    word: &str,
+) -> Result<Vec<usize>, AllocError>
+    ensures { IfOk result (λ numbers. numbers.items ≡ spec.numbers_from (spec.is_named word.now) 0 (map package_text packages.now)) }
+{
+    let mut numbers = Vec::new(alloc);
+    for (ix, package) in packages.iter().enumerate() {
+        if is_named(word, package) {
+            numbers.push(ix)?;
+        }
+    }
+    Ok(numbers)
+}
+
+/// Returns the numbers of the packages that `word` names, ascending: the package with this id alone, else those with this `NAME` or
+/// `NAME@VERSION`. The version may be a beginning of the package's numbers, as in `clap@4`.
+pub fn packages_of_word(
+    alloc: Global,
+    workspace: &Workspace<'_>,
+    word: &str,
+) -> Result<Vec<usize>, AllocError>
+    ensures { IfOk result (λ numbers. numbers.items ≡ spec.packages_of_word (workspace_text workspace.now).packages word.now) }
+{
+    let packages = workspace.packages();
+    let with_id = packages_with_id(alloc, packages, word)?;
+    if with_id.is_empty() {
+        packages_named(alloc, packages, word)
+    } else {
+        Ok(with_id)
+    }
+}
+
+/// Returns the only one of `numbers`, the packages that `word` names.
+fn the_one<'s>(word: &'s str, numbers: Vec<usize>) -> Result<usize, WordFault<'s>>
+    ensures { Gives (λ p. p) result (spec.the_one word.now numbers.items) }
+{
+    match *numbers.as_slice() {
+        [] => Err(WordFault::UnknownPackage(word)),
+        [only] => Ok(only),
+        _ => Err(WordFault::AmbiguousPackage {
+            word,
+            candidates: numbers,
+        }),
+    }
+}
+
+/// Returns the number of the package that `word` names.
+fn package_of_word<'s>(
+    alloc: Global,
+    workspace: &Workspace<'_>,
+    word: &'s str,
+) -> Result<usize, WordFault<'s>>
+    ensures one { Gives (λ p. p) result (spec.the_one word.now (spec.packages_of_word (workspace_text workspace.now).packages word.now)) }
+    ensures within { IfOk result (λ p. p < length (workspace_text workspace.now).packages) }
+{
+    let numbers = packages_of_word(alloc, workspace, word)?;
+    the_one(word, numbers)
+}
+
+/// Returns the number of the package that each of `words` names, or the first fault.
+#[tactic(auto, using(crate::proofs::Lists::list_all_more))]
+fn packages_of_words<'s>(
+    alloc: Global,
+    workspace: &Workspace<'_>,
+    words: &[&'s str],
+) -> Result<Vec<usize>, WordFault<'s>>
+    ensures packages { Gives (λ packages. packages.items) result (spec.packages_of_words (workspace_text workspace.now).packages (texts words.now)) }
+    ensures within { IfOk result (λ packages. IsTrue (list_all (λ p. nat_lt p (length (workspace_text workspace.now).packages)) packages.items)) }
+{
+    let mut packages = Vec::with_capacity(alloc, words.len())?;
+    for word in words {
+        let number = package_of_word(alloc, workspace, word)?;
+        packages.push(number)?;
+    }
+    Ok(packages)
+}
+
+/// Returns the numbers of the packages that `choice` selects, in the order of the workspace or of the words.
+pub(crate) fn selected<'s>(
+    alloc: Global,
+    workspace: &Workspace<'_>,
+    choice: PackageChoice<'s>,
+) -> Result<Vec<usize>, WordFault<'s>>
+    ensures packages { Gives (λ packages. packages.items) result (spec.selected (workspace_text workspace.now) (choice_text choice.entry)) }
+    ensures within { IfOk result (λ packages. IsTrue (list_all (λ p. nat_lt p (length (workspace_text workspace.now).packages)) packages.items)) }
+{
+    // (calls named facts() carry the invariant into the proof)
+    workspace.facts();
+    match choice {
+        PackageChoice::Default => Ok(Vec::from_slice(alloc, workspace.default_members())?),
+        PackageChoice::Workspace => Ok(Vec::from_slice(alloc, workspace.members())?),
+        PackageChoice::Named(words) => packages_of_words(alloc, workspace, words),
+    }
+}
