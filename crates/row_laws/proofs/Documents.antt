@@ -1,5 +1,5 @@
 -- The packages of a document: their ids and features ascend, and the packages that they use are packages of the document.
-use Rattle.std.proofs.Common.{◌≡◌, inl, inr, Bool, true, false, ◌&&◌, ◌||◌, not, cond, List, [], ◌∷◌, ◌++◌, map, Option, Some, None, find, Ordering, Less, Result, Ok, refl, ap, sym, ◌∙◌, subst}
+use Rattle.std.proofs.Common.{◌≡◌, inl, inr, Bool, true, false, ◌&&◌, ◌||◌, not, cond, List, [], ◌∷◌, ◌++◌, map, Option, Some, None, find, Less, Ok, refl, ap, sym, ◌∙◌, subst}
 use Rattle.std.specs.Prelude.{codes, filter, option_and_then, ⊤}
 use Rattle.std.specs.Cmp.Lexicographic.{bytes_decides, nat_list_cmp_total, texts_ties}
 use Rattle.std.specs.List.{AllByRecursion, list_all, list_any}

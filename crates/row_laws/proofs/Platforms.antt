@@ -1,18 +1,16 @@
 -- No declaration of a document has the platform `*`.
-use Rattle.std.proofs.Common.{◌≡◌, ℕ, ◌+◌, Bool, true, false, List, [], ◌∷◌, Option, Some, None, Ordering, Less, Equal, Greater, Result, Ok, Err, refl, subst, cond}
-use Rattle.std.specs.Prelude.{codes, is_some, option_and_then}
-use Rattle.std.specs.BTreeMap.{insert_entry}
+use Rattle.std.proofs.Common.{◌≡◌, ℕ, ◌+◌, Bool, true, false, List, [], ◌∷◌, Option, Some, None, Result, Ok, Err, refl, subst, cond}
+use Rattle.std.specs.Prelude.{codes, option_and_then}
 use Rattle.std.specs.List.{AllByRecursion}
-use Rattle.std.specs.Ordering.{match_ordering}
 use Rattle.std.specs.Str.{bytes_eq}
 use Rattle.json.specs.Find.{as_array, get}
 use Rattle.json.specs.Json.{Json, Items, no_items, item}
 use Rattle.cargo_documents.specs.declared.fault.Place.{Place}
 use Rattle.cargo_documents.specs.declared.fault.Place.TheVariants as place
-use Rattle.cargo_documents.specs.Faults.{Text, Refusal, every_platform, repeated}
+use Rattle.cargo_documents.specs.Faults.{Text, Refusal, every_platform}
 use Rattle.cargo_documents.specs.Fields.{optional_text_in, texts_in, wanted}
 use Rattle.workspace_documents.specs.Dependencies.{DependencyText, dependencies_of, led, target_of, with_target}
-use Rattle.workspace_documents.specs.Lists.{ById, at_id, each, each_by_id, id_cmp}
+use Rattle.workspace_documents.specs.Lists.{ById, each}
 use Rattle.workspace_documents.specs.Nodes.{DepText}
 use Rattle.workspace_documents.specs.Packages.{DeclarationText, PackageText, declaration_in, features_of, first_library, flags_in, kind_in, lists_in, names_in, package_in, package_with_id, packages_at, packages_in, platform_in, platform_of, sorted, use_in, UseText, wanted_in}
 use Rattle.workspace_documents.proofs.Sorted.{both_ok, by_id_all, ok_same}

@@ -3,31 +3,31 @@ use Rattle.std.proofs.Common.{◌≡◌, Bool, true, false, List, [], ◌∷◌,
 use Rattle.std.specs.Prelude.{codes}
 use Rattle.std.specs.List.{AllByRecursion, list_any}
 use Rattle.std.specs.Str.{bytes_eq}
+use Rattle.std.specs.Map.{keys_of}
+use Rattle.cargo_documents.specs.Faults.{Text, Refusal, ◌>>=◌}
 use Rattle.cargo_workspaces.specs.Workspaces.{FeatureText}
 use Rattle.cargo_workspaces.specs.declared.package.Kind.{Kind}
 use Rattle.cargo_workspaces.specs.declared.package.Kind.TheVariants as kind
-use Rattle.cargo_documents.specs.Faults.{Text, Refusal, ◌>>=◌}
 use Rattle.workspace_documents.specs.Dependencies.{DependencyText, agree, dependencies_of}
 use Rattle.workspace_documents.specs.Lists.{ById, joined}
 use Rattle.workspace_documents.specs.Nodes.{DepText, NodeText, node_of, resolved_in}
 use Rattle.workspace_documents.specs.Packages.{PackageText, packages_in}
+use Rattle.workspace_documents.specs.Rules.{HasSortedFeatures}
+use Rattle.workspace_documents.proofs.Sorted.{both_ok, ok_same}
+use Rattle.workspace_documents.proofs.Known.{resolved_known}
 use Rattle.cargo_rows.specs.Rows.{defaults_word, dependency_fields, dependency_rows, feature_fields, feature_rows, kind_word, led_rows, member_word, need_word, platform_text, row, rows_of, all_rows as written_rows, package_rows as written_package}
 use Rattle.guppy_packages.specs.Rows.{RowText, a_package}
+use Rattle.guppy_packages.specs.Graph.{faults_of, first_or, links_of, packages_of, tables_of, dependencies_of as dependencies_of_rows}
+use Rattle.guppy_packages.specs.Tables.{Tables}
 use Rattle.row_files.specs.RowOfLine.{choice, platform_of, row_of, kind_of as read_kind}
+use Rattle.row_files.specs.Lines.{kept_lines, lines_in}
+use Rattle.row_files.specs.RowFile.{by_line}
 use Rattle.row_laws.specs.Laws.{WrittenRowsAreRead}
 use Rattle.row_laws.specs.Rows.{all_rows, dependency_row, feature_row, kind_of, package_rows}
 use Rattle.row_laws.proofs.LineRows.{Reads, read_all, reads_both, reads_none, reads_row, tables_read}
 use Rattle.row_laws.proofs.Platforms.{AllPlain, ArePlain, ArePlainDependencies, IsPlain, dependencies_plain, packages_plain}
-use Rattle.workspace_documents.proofs.Sorted.{both_ok, ok_same}
-use Rattle.guppy_packages.specs.Graph.{faults_of, first_or, links_of, packages_of, tables_of, dependencies_of as dependencies_of_rows}
-use Rattle.guppy_packages.specs.Tables.{Tables}
-use Rattle.row_files.specs.Lines.{kept_lines, lines_in}
-use Rattle.row_files.specs.RowFile.{by_line}
 use Rattle.row_laws.proofs.Documents.{NodesKnown, agreed, all_fresh, dependencies_known, packages_entries}
 use Rattle.row_laws.proofs.NoFaults.{no_faults}
-use Rattle.std.specs.Map.{keys_of}
-use Rattle.workspace_documents.specs.Rules.{HasSortedFeatures}
-use Rattle.workspace_documents.proofs.Known.{resolved_known}
 use Rattle.row_laws.proofs.Sections.{Agree, AreFresh, IsSound, Section, ids_of, names_of, rows_in}
 
 -- ---- the words
