@@ -21,10 +21,7 @@ use cargo_workspaces::{Feature, Package, Workspace};
 use std::alloc::{AllocError, Global};
 
 /// Appends the names of the features of `package`.
-fn push_names<'s>(
-    items: &mut Vec<&'s str>,
-    package: &'s Package<'_>,
-) -> Result<(), AllocError>
+fn push_names<'s>(items: &mut Vec<&'s str>, package: &'s Package<'_>) -> Result<(), AllocError>
     ensures { OnOk result (texts items.new.items ≡ texts items.old.items ++ map (λ f. f.name) (package_text «package».now).features) }
 {
     for feature in &package.features {

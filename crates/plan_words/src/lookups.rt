@@ -60,7 +60,11 @@ fn unmarked(alloc: Global, count: usize) -> Result<Vec<bool>, AllocError>
 }
 
 /// Returns a list of length `count` that is true at `numbers`, each of which is below `count`.
-pub(crate) fn marked(alloc: Global, count: usize, numbers: &[usize]) -> Result<Vec<bool>, AllocError>
+pub(crate) fn marked(
+    alloc: Global,
+    count: usize,
+    numbers: &[usize],
+) -> Result<Vec<bool>, AllocError>
     requires { IsTrue (list_all (λ n. nat_lt n count) numbers.now) }
     ensures { IfOk result (λ list. Marks count list.items numbers.now) }
 {
