@@ -1,4 +1,3 @@
-pub mod Steps
 pub mod Platforms
 pub mod LineRows
 pub mod Sections

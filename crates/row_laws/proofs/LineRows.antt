@@ -7,6 +7,9 @@ use Rattle.std.specs.Str.{is_utf8}
 use Rattle.std.proofs.lemmas.Bool.{eqb-true}
 use Rattle.std.proofs.lemmas.List.Elements.{All-append, All-cons, All-nil}
 use Rattle.std.proofs.lemmas.List.Splits.{slice_split_at, slice_split_none}
+use Rattle.cargo_documents.specs.Faults.{control}
+use Rattle.workspace_documents.proofs.Sorted.{both_ok, ok_same}
+use Rattle.cargo_rows.specs.Rows.{allowed, fields_text, has_control, row, row_text}
 use Rattle.guppy_packages.specs.Graph.{tables_of}
 use Rattle.guppy_packages.specs.Rows.{RowText, Text}
 use Rattle.row_files.specs.FirstFaultLaws.{each_or-cons, with_first}
@@ -14,9 +17,6 @@ use Rattle.row_files.specs.Lines.{fields_in, is_skipped, kept_lines, lines_in}
 use Rattle.row_files.specs.RowFile.{◌>>=◌, by_line, rows_of, tables_in, tables_of_lines}
 use Rattle.row_files.specs.RowOfLine.{row_of}
 use Rattle.row_files.specs.declared.error.RowFileError.TheVariants as error
-use Rattle.cargo_documents.specs.Faults.{control}
-use Rattle.cargo_rows.specs.Rows.{allowed, fields_text, has_control, row, row_text}
-use Rattle.row_laws.proofs.Steps.{followed, ok_same}
 
 -- Lines that aren't skipped, each read as a row.
 abbrev AreLines : List Text → List RowText → Type 0
@@ -108,7 +108,7 @@ line_split word fields w h rest =
 pub reads_row : (word : Text) (fields : List Text) (r : RowText) (text : Text) → IsWord word → row_of (word ∷ fields) ≡ Some r → row word fields ≡ Ok text → Reads text (r ∷ [])
 unfolding row
 reads_row word fields r text w is e =
-    let may = followed (allowed fields) (λ _. Ok (row_text word fields)) text e in
+    let may = both_ok (allowed fields) (λ _. Ok (row_text word fields)) text e in
     let h = clean fields may.1 in
     let read : row_of (fields_in (word ++ fields_text fields)) ≡ Some r = ap row_of (fields_split word fields (no_byte 9 refl word (word_clean word w)) h) ∙ is in
     subst (λ z. Reads z (r ∷ [])) (ok_same (row_text word fields) text may.2) (record {

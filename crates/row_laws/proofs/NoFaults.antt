@@ -181,7 +181,7 @@ all_of_both : {X : Type 0} (P : X → Type 0) (xs ys : List X) → AllByRecursio
 all_of_both P [] ys a b = b
 all_of_both P (x ∷ xs) ys a b = (a.0, all_of_both P xs ys a.1 b)
 
-pub all_weaker : {X : Type 0} (P Q : X → Type 0) (xs : List X) → ((x : X) → P x → Q x) → AllByRecursion P xs → AllByRecursion Q xs
+all_weaker : {X : Type 0} (P Q : X → Type 0) (xs : List X) → ((x : X) → P x → Q x) → AllByRecursion P xs → AllByRecursion Q xs
 all_weaker P Q [] f a = tt
 all_weaker P Q (x ∷ xs) f a = (f x a.0, all_weaker P Q xs f a.1)
 

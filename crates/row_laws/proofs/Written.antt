@@ -3,28 +3,31 @@ use Rattle.std.proofs.Common.{◌≡◌, Bool, true, false, List, [], ◌∷◌,
 use Rattle.std.specs.Prelude.{codes}
 use Rattle.std.specs.List.{AllByRecursion, list_any}
 use Rattle.std.specs.Str.{bytes_eq}
+use Rattle.std.specs.Map.{keys_of}
+use Rattle.cargo_documents.specs.Faults.{Text, Refusal, ◌>>=◌}
 use Rattle.cargo_workspaces.specs.Workspaces.{FeatureText}
 use Rattle.cargo_workspaces.specs.declared.package.Kind.{Kind}
 use Rattle.cargo_workspaces.specs.declared.package.Kind.TheVariants as kind
-use Rattle.cargo_documents.specs.Faults.{Text, Refusal, ◌>>=◌}
 use Rattle.workspace_documents.specs.Dependencies.{DependencyText, agree, dependencies_of}
 use Rattle.workspace_documents.specs.Lists.{ById, joined}
 use Rattle.workspace_documents.specs.Nodes.{DepText, NodeText, node_of, resolved_in}
 use Rattle.workspace_documents.specs.Packages.{PackageText, packages_in}
+use Rattle.workspace_documents.specs.Rules.{HasSortedFeatures}
+use Rattle.workspace_documents.proofs.Sorted.{both_ok, ok_same}
+use Rattle.workspace_documents.proofs.Known.{resolved_known}
 use Rattle.cargo_rows.specs.Rows.{defaults_word, dependency_fields, dependency_rows, feature_fields, feature_rows, kind_word, led_rows, member_word, need_word, platform_text, row, rows_of, all_rows as written_rows, package_rows as written_package}
 use Rattle.guppy_packages.specs.Rows.{RowText, a_package}
+use Rattle.guppy_packages.specs.Graph.{faults_of, first_or, links_of, packages_of, tables_of, dependencies_of as dependencies_of_rows}
+use Rattle.guppy_packages.specs.Tables.{Tables}
 use Rattle.row_files.specs.RowOfLine.{choice, platform_of, row_of, kind_of as read_kind}
+use Rattle.row_files.specs.Lines.{kept_lines, lines_in}
+use Rattle.row_files.specs.RowFile.{by_line}
 use Rattle.row_laws.specs.Laws.{WrittenRowsAreRead}
 use Rattle.row_laws.specs.Rows.{all_rows, dependency_row, feature_row, kind_of, package_rows}
 use Rattle.row_laws.proofs.LineRows.{Reads, read_all, reads_both, reads_none, reads_row, tables_read}
 use Rattle.row_laws.proofs.Platforms.{AllPlain, ArePlain, ArePlainDependencies, IsPlain, dependencies_plain, packages_plain}
-use Rattle.row_laws.proofs.Steps.{followed, ok_same}
-use Rattle.guppy_packages.specs.Graph.{faults_of, first_or, links_of, packages_of, tables_of, dependencies_of as dependencies_of_rows}
-use Rattle.guppy_packages.specs.Tables.{Tables}
-use Rattle.row_files.specs.Lines.{kept_lines, lines_in}
-use Rattle.row_files.specs.RowFile.{by_line}
-use Rattle.row_laws.proofs.Documents.{IsEntry, IsPresent, NodesPresent, agreed, all_fresh, dependencies_present, keys, node_uses, packages_entries, present_known, resolved_present}
-use Rattle.row_laws.proofs.NoFaults.{all_weaker, no_faults}
+use Rattle.row_laws.proofs.Documents.{NodesKnown, agreed, all_fresh, dependencies_known, packages_entries}
+use Rattle.row_laws.proofs.NoFaults.{no_faults}
 use Rattle.row_laws.proofs.Sections.{Agree, AreFresh, IsSound, Section, ids_of, names_of, rows_in}
 
 -- ---- the words
@@ -64,8 +67,8 @@ dependency_read e h =
 joined_reads : {X : Type 0} (told : X → Result Text Refusal) (meant : X → RowText) (P : X → Type 0) → ((x : X) (text : Text) → P x → told x ≡ Ok text → Reads text (meant x ∷ [])) → (xs : List X) (text : Text) → AllByRecursion P xs → joined told xs ≡ Ok text → Reads text (map meant xs)
 joined_reads told meant P one [] text all e = subst (λ z. Reads z []) (ok_same [] text e) reads_none
 joined_reads told meant P one (x ∷ xs) text all e =
-    let first = followed (told x) (λ a. joined told xs >>= λ rest. Ok (a ++ rest)) text e in
-    let rest = followed (joined told xs) (λ rest. Ok (first.0 ++ rest)) text first.2 in
+    let first = both_ok (told x) (λ a. joined told xs >>= λ rest. Ok (a ++ rest)) text e in
+    let rest = both_ok (joined told xs) (λ rest. Ok (first.0 ++ rest)) text first.2 in
     subst (λ z. Reads z (map meant (x ∷ xs))) (ok_same (first.0 ++ rest.0) text rest.2)
     (reads_both first.0 rest.0 (meant x ∷ []) (map meant xs) (one x first.0 all.0 first.1) (joined_reads told meant P one xs rest.0 all.1 rest.1))
 
@@ -95,8 +98,8 @@ record AreLed (deps : List DepText) (p : PackageText) (text : Text) : Type 0 whe
 led_read : (deps : List DepText) (p : PackageText) (text : Text) → ArePlain p → led_rows deps p ≡ Ok text → AreLed deps p text
 unfolding led_rows
 led_read deps p text all e =
-    let es = followed (dependencies_of p deps) (λ es. agree p.id es es >>= λ _. dependency_rows es) text e in
-    let same = followed (agree p.id es.0 es.0) (λ _. dependency_rows es.0) text es.2 in
+    let es = both_ok (dependencies_of p deps) (λ es. agree p.id es es >>= λ _. dependency_rows es) text e in
+    let same = both_ok (agree p.id es.0 es.0) (λ _. dependency_rows es.0) text es.2 in
     record { es = es.0; are = es.1; agree = agreed p.id es.0 same.0 same.1; reads = dependencies_read es.0 text (dependencies_plain p deps es.0 all es.1) same.2 }
 
 moved : (s t : Text) (rows : List RowText) → s ≡ t → Reads s rows → Reads t rows
@@ -112,9 +115,9 @@ record IsPackageRead (is_member : Bool) (deps : List DepText) (p : PackageText) 
 package_read_back : (is_member : Bool) (deps : List DepText) (p : PackageText) (text : Text) → ArePlain p → written_package is_member deps p ≡ Ok text → IsPackageRead is_member deps p text
 unfolding written_package
 package_read_back is_member deps p text all e =
-    let first = followed (row (codes "package") (p.id ∷ member_word is_member ∷ [])) (λ first. feature_rows p.features >>= λ features. led_rows deps p >>= λ dependencies. Ok ((first ++ features) ++ dependencies)) text e in
-    let features = followed (feature_rows p.features) (λ features. led_rows deps p >>= λ dependencies. Ok ((first.0 ++ features) ++ dependencies)) text first.2 in
-    let led = followed (led_rows deps p) (λ dependencies. Ok ((first.0 ++ features.0) ++ dependencies)) text features.2 in
+    let first = both_ok (row (codes "package") (p.id ∷ member_word is_member ∷ [])) (λ first. feature_rows p.features >>= λ features. led_rows deps p >>= λ dependencies. Ok ((first ++ features) ++ dependencies)) text e in
+    let features = both_ok (feature_rows p.features) (λ features. led_rows deps p >>= λ dependencies. Ok ((first.0 ++ features) ++ dependencies)) text first.2 in
+    let led = both_ok (led_rows deps p) (λ dependencies. Ok ((first.0 ++ features.0) ++ dependencies)) text features.2 in
     let found = led_read deps p led.0 all led.1 in
     let own : Reads first.0 (a_package p.id is_member ∷ []) = reads_row (codes "package") (p.id ∷ member_word is_member ∷ []) (a_package p.id is_member) first.0 (refl, refl) (package_read p.id is_member) first.1 in
     let front = reads_both first.0 features.0 (a_package p.id is_member ∷ []) (map feature_row p.features) own (features_read p.features features.0 features.1) in
@@ -126,32 +129,23 @@ package_read_back is_member deps p text all e =
           (reads_both (first.0 ++ features.0) led.0 (a_package p.id is_member ∷ map feature_row p.features) (map dependency_row found.es) front found.reads);
     }
 
-abbrev ids_by : ById PackageText → List Text
-ids_by packages = map (λ (e : Text × PackageText). e.1.id) packages
-
-module _ (members : List Text) (nodes : ById NodeText) (whole : ById PackageText) (present : NodesPresent whole nodes) where
+module _ (members : List Text) (nodes : ById NodeText) (whole : ById PackageText) (known : NodesKnown whole nodes) where
   -- The rows of packages, and their text.
   record AreAllRead (packages : ById PackageText) (text : Text) : Type 0 where
     sections : List Section
     are : all_rows members nodes packages ≡ Ok (rows_in sections)
     reads : Reads text (rows_in sections)
-    ids : ids_of sections ≡ ids_by packages
-    sound : AllByRecursion (IsSound (ids_by whole)) sections
+    ids : ids_of sections ≡ keys_of packages
+    sound : AllByRecursion (IsSound (keys_of whole)) sections
 
-  known_targets : (id : Text) (p : PackageText) (es : List DependencyText) → dependencies_of p (node_of id nodes).deps ≡ Ok es → AllByRecursion (λ (e : DependencyText). list_any (bytes_eq e.target.id) (ids_by whole) ≡ true) es
-  known_targets id p es are =
-      all_weaker (λ (e : DependencyText). IsPresent whole e.target) (λ (e : DependencyText). list_any (bytes_eq e.target.id) (ids_by whole) ≡ true) es
-      (λ e h. present_known whole h.0 e.target h.1)
-      (dependencies_present whole p (node_of id nodes).deps es (node_uses whole id nodes present) are)
-
-  all_read : (packages : ById PackageText) (text : Text) → AllPlain packages → AllByRecursion IsEntry packages → written_rows members nodes packages ≡ Ok text → AreAllRead packages text
-  all_read [] text all entries e = record { sections = []; are = refl; reads = subst (λ z. Reads z []) (ok_same [] text e) reads_none; ids = refl; sound = tt }
-  all_read (x ∷ packages) text all entries e =
+  all_read : (packages : ById PackageText) (text : Text) → AllPlain packages → AllByRecursion (λ (e : Text × PackageText). e.1.id ≡ e.0) packages → AllByRecursion (λ (e : Text × PackageText). HasSortedFeatures e.1) packages → written_rows members nodes packages ≡ Ok text → AreAllRead packages text
+  all_read [] text all own sorted e = record { sections = []; are = refl; reads = subst (λ z. Reads z []) (ok_same [] text e) reads_none; ids = refl; sound = tt }
+  all_read (x ∷ packages) text all own sorted e =
       let is_member : Bool = list_any (bytes_eq x.0) members in
-      let first = followed (written_package is_member (node_of x.0 nodes).deps x.1) (λ a. written_rows members nodes packages >>= λ rest. Ok (a ++ rest)) text e in
-      let rest = followed (written_rows members nodes packages) (λ rest. Ok (first.0 ++ rest)) text first.2 in
+      let first = both_ok (written_package is_member (node_of x.0 nodes).deps x.1) (λ a. written_rows members nodes packages >>= λ rest. Ok (a ++ rest)) text e in
+      let rest = both_ok (written_rows members nodes packages) (λ rest. Ok (first.0 ++ rest)) text first.2 in
       let one = package_read_back is_member (node_of x.0 nodes).deps x.1 first.0 all.0 first.1 in
-      let others = all_read packages rest.0 all.1 entries.1 rest.1 in
+      let others = all_read packages rest.0 all.1 own.1 sorted.1 rest.1 in
       record {
         sections = record { is_member = is_member; text = x.1; es = one.es } ∷ others.sections;
         are =
@@ -159,13 +153,9 @@ module _ (members : List Text) (nodes : ById NodeText) (whole : ById PackageText
             ∙ ap (λ r. r >>= λ rows. Ok (package_rows is_member x.1 one.es ++ rows)) others.are;
         reads = moved (first.0 ++ rest.0) text (package_rows is_member x.1 one.es ++ rows_in others.sections) (ok_same (first.0 ++ rest.0) text rest.2)
             (reads_both first.0 rest.0 (package_rows is_member x.1 one.es) (rows_in others.sections) one.reads others.reads);
-        ids = ap (λ z. x.1.id ∷ z) others.ids;
-        sound = (record { names = all_fresh (names_of x.1.features) entries.0.1; known = known_targets x.0 x.1 one.es one.are; agree = one.agree }, others.sound);
+        ids = ap (λ z. z ∷ ids_of others.sections) own.0 ∙ ap (λ z. x.0 ∷ z) others.ids;
+        sound = (record { names = all_fresh (names_of x.1.features) sorted.0; known = dependencies_known whole x.0 nodes x.1 one.es known one.are; agree = one.agree }, others.sound);
       }
-
-keys_are_ids : (packages : ById PackageText) → AllByRecursion IsEntry packages → ids_by packages ≡ keys packages
-keys_are_ids [] all = refl
-keys_are_ids (x ∷ packages) all = ap (λ z. z ∷ ids_by packages) all.0.0 ∙ ap (λ z. x.0 ∷ z) (keys_are_ids packages all.1)
 
 abbrev tables_by : List RowText → Tables
 tables_by rows = record { packages = packages_of rows; links = links_of (dependencies_of_rows (packages_of rows) rows) }
@@ -176,11 +166,11 @@ rows_sound rows none = ap (λ faults. first_or faults (tables_by rows)) none
 pub written_rows_are_read : WrittenRowsAreRead
 unfolding rows_of
 written_rows_are_read d text e =
-    let packages = followed (packages_in d) (λ packages. resolved_in packages d >>= λ resolved. written_rows resolved.members resolved.nodes packages) text e in
-    let resolved = followed (resolved_in packages.0 d) (λ resolved. written_rows resolved.members resolved.nodes packages.0) text packages.2 in
+    let packages = both_ok (packages_in d) (λ packages. resolved_in packages d >>= λ resolved. written_rows resolved.members resolved.nodes packages) text e in
+    let resolved = both_ok (resolved_in packages.0 d) (λ resolved. written_rows resolved.members resolved.nodes packages.0) text packages.2 in
     let entries = packages_entries d packages.0 packages.1 in
-    let all = all_read resolved.0.members resolved.0.nodes packages.0 (resolved_present packages.0 d resolved.0 resolved.1) packages.0 text (packages_plain d packages.0 packages.1) entries.1 resolved.2 in
-    let fresh : AreFresh [] (ids_of all.sections) = subst (AreFresh []) (sym (keys_are_ids packages.0 entries.1) ∙ sym all.ids) (all_fresh (keys packages.0) entries.0) in
+    let all = all_read resolved.0.members resolved.0.nodes packages.0 (resolved_known packages.0 entries.own d resolved.0 resolved.1).1 packages.0 text (packages_plain d packages.0 packages.1) entries.own entries.features resolved.2 in
+    let fresh : AreFresh [] (ids_of all.sections) = subst (AreFresh []) (sym all.ids) (all_fresh (keys_of packages.0) entries.ascend) in
     let none : faults_of (rows_in all.sections) ≡ [] = no_faults all.sections fresh (subst (λ ids. AllByRecursion (IsSound ids) all.sections) (sym all.ids) all.sound) in
     let sound : tables_of (rows_in all.sections) ≡ Ok (tables_by (rows_in all.sections)) = rows_sound (rows_in all.sections) none in
     let lines = read_all text (rows_in all.sections) all.reads in (
