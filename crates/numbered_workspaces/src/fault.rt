@@ -1,5 +1,4 @@
 //! The faults of a document that has no workspace.
-
 ghost use Rattle.std.specs.Prelude.{◌≡◌};
 
 use cargo_documents::DocumentFault;

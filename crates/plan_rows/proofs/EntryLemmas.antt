@@ -1,17 +1,18 @@
 -- Entries and their rows.
 use Rattle.std.proofs.Common.{◌≡◌, ℕ, suc, ◌+◌, ◌*◌, ◌<◌, ◌≤◌, subst, List, [], ◌∷◌, ◌++◌, Bool, Option, None, Some, length, map, drop, get_or, refl, ap, sym, ◌∙◌, arith, add-one, drop-cons, append_assoc}
 use Rattle.std.proofs.Math.Nat.{suc-mul}
-use Rattle.std.specs.List.{filter_map, cons_option}
+use Rattle.std.specs.List.{filter_map, cons_option, list_all}
 use Rattle.std.specs.Fmt.{decimal}
 use Rattle.std.specs.Option.{option_map}
 use Rattle.std.proofs.lemmas.List.{map-append, append-nil}
 use Rattle.guppy_packages.specs.Rows.{RowText, a_package}
-use Rattle.cargo_workspaces.specs.Workspaces.{DeclarationText, FeatureText}
+use Rattle.cargo_workspaces.specs.Workspaces.{DeclarationText, FeatureText, is_within}
+use Rattle.plan_rows.proofs.Lists.{both, is_within_more}
 use Rattle.plan_rows.specs.Commands.{command_of}
 use Rattle.plan_rows.specs.Steps.{command_list, dependency_as}
 use Rattle.plan_rows.specs.Tables.{Dependency, Entry, dependency_row, each_from, entry_rows, feature_row, rows_from}
 use Rattle.plan_rows.specs.inner.Leads.{dependencies_at}
-use Rattle.std.specs.Prelude.{false, slice_get, option_and_then}
+use Rattle.std.specs.Prelude.{false, true, slice_get, option_and_then}
 use Rattle.std.proofs.lemmas.Option.{slice_get-map}
 
 -- the dependencies of declarations, each with its own lead
@@ -105,6 +106,13 @@ places_step entries place size step long ts i next d all r0 r1 within is pushed 
     ∙ sym (append_assoc r0 (rows_from next (place next here)) (rows_from (next + length (place next here)) more))
     ∙ ap (λ z. z ++ rows_from (next + length (place next here)) more) (sym pushed)
     ∙ ap (λ n. r1 ++ rows_from (next + n) more) (long next here)
+
+-- declarations that lead below a bound lead below a larger one
+pub declarations_within : (a b : ℕ) (ds : List DeclarationText) → a ≤ b → list_all (λ d. is_within a d.leads_to) ds ≡ true → list_all (λ d. is_within b d.leads_to) ds ≡ true
+declarations_within a b [] few h = refl
+declarations_within a b (d ∷ ds) few h =
+    let parts = both (is_within a d.leads_to) (list_all (λ e. is_within a e.leads_to) ds) h in
+    rw (is_within_more a b d.leads_to few parts.0, declarations_within a b ds few parts.1) refl
 
 -- there is room for the places after the next one
 pub places_room : (next n few many room : ℕ) → many ≡ suc few → next + many * n ≤ room → next + n + few * n ≤ room

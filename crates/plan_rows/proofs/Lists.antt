@@ -24,7 +24,7 @@ pub decimals_more : (xs : List Text) (t : Text) (n : ℕ) → length xs ≡ n �
 decimals_more xs t n long all is k u h =
     ⊎_elim (λ e. all k u e) (λ e. sym e.1 ∙ is ∙ ap decimal (sym long ∙ sym e.0)) (got_next xs t k u h)
 
-both : (a b : Bool) → (a && b) ≡ true → (a ≡ true) × (b ≡ true)
+pub both : (a b : Bool) → (a && b) ≡ true → (a ≡ true) × (b ≡ true)
 both true b h = (refl, h)
 both false b h = cc
 
@@ -52,7 +52,7 @@ decimals_pushed f xs x n long all is = subst AreDecimals (sym (map-append f xs (
 pub decimals_read : {X : Type 0} (f : X → Text) (xs : List X) (k : ℕ) (x : X) → AreDecimals (map f xs) → k < length xs → x ≡ get_or xs k x → f x ≡ decimal k
 decimals_read f xs k x all within is = all k (f x) (slice_get-map f xs k x (slice_get_read xs (length xs) k x refl within is))
 
-is_within_more : (a b : ℕ) (o : Option ℕ) → a ≤ b → is_within a o ≡ true → is_within b o ≡ true
+pub is_within_more : (a b : ℕ) (o : Option ℕ) → a ≤ b → is_within a o ≡ true → is_within b o ≡ true
 is_within_more a b None within h = refl
 is_within_more a b (Some n) within h = grind arith
 

@@ -1,4 +1,5 @@
 pub mod Commands
+pub mod Gates
 pub mod IdTexts
 pub mod SettingsView
 pub mod StepRowsView

@@ -25,9 +25,9 @@ use std::alloc::{AllocError, Global};
 struct BuildRules<'r, 'n, 'c, P, T> {
     settings: &'r Settings<'n, 'c, P>,
     turned_on: &'r T,
-    /// Whether each entry is started with its dependencies for development, by the entry's number.
+    /// A flag for each entry, by its number: true if it is started with its dependencies for development.
     with_dev: &'r [bool],
-    /// Whether each package is a procedural macro.
+    /// A flag for each package: true if it is a procedural macro.
     macros: &'r [bool],
 }
 
@@ -261,5 +261,5 @@ pub fn rows_built<'n, P: Platform, T: TurnedOn>(
     };
     let mut rows = Vec::new(alloc);
     push_places(alloc, &mut rows, ids, packages, &rules)?;
-    Ok(StepRows { rows })
+    Ok(StepRows::new(rows))
 }

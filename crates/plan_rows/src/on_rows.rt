@@ -5,7 +5,7 @@ ghost use Rattle.guppy_packages.specs.Rows.{row_text};
 ghost use Rattle.cargo_workspaces.specs.Views.{declaration_text, package_text};
 ghost use Rattle.cargo_workspaces.specs.WorkspaceView.{workspace_text};
 ghost use Rattle.cargo_workspaces.specs.Workspaces.{IsPackage, is_within};
-ghost use Rattle.plan_rows.specs.Commands.{command_of, command_texts, is_started};
+ghost use Rattle.plan_rows.specs.Commands.{are_commands, command_of, command_texts, is_started};
 ghost use Rattle.plan_rows.specs.SettingsView.{settings_text};
 ghost use Rattle.plan_rows.specs.StepRowsView.{row_texts};
 ghost use Rattle.plan_rows.specs.Steps as steps;
@@ -63,7 +63,7 @@ fn holds_on<P: Platform>(
 struct Rules<'r, 'n, 'c, P, K> {
     settings: &'r Settings<'n, 'c, P>,
     kept: &'r K,
-    /// Whether each package is a procedural macro.
+    /// A flag for each package: true if it is a procedural macro.
     macros: &'r [bool],
 }
 
@@ -78,10 +78,10 @@ pub(crate) fn flag_of(flags: &[bool], ix: usize) -> bool
 }
 
 /// Returns whether package `ix` has a command feature.
-fn has_command<P>(settings: &Settings<'_, '_, P>, ix: usize) -> bool
-    ensures { result ≡ is_started (command_texts settings.now.commands.now) ix }
+pub(crate) fn has_command(commands: &[Option<Feature<'_>>], ix: usize) -> bool
+    ensures { result ≡ is_started (command_texts commands.now) ix }
 {
-    matches!(settings.commands.get(ix), Some(Some(_)))
+    matches!(commands.get(ix), Some(Some(_)))
 }
 
 /// Returns whether `declaration` of package `ix` counts on `side`.
@@ -96,7 +96,7 @@ fn admitted<P: Platform, K: Kept>(
     let settings = rules.settings;
     (!declaration.optional || rules.kept.is_kept(ix, declaration.name))
         && (declaration.kind != Kind::Development
-            || has_command(settings, ix) && (settings.test || !settings.split))
+            || has_command(settings.commands, ix) && (settings.test || !settings.split))
         && (!settings.split || holds_on(settings, side, declaration))
 }
 
@@ -272,7 +272,8 @@ pub fn rows_on<'n, P: Platform, K: Kept>(
     settings: &Settings<'n, '_, P>,
     kept: &K,
 ) -> Result<StepRows<'n>, AllocError>
-    requires { 2 * length (workspace_text workspace.now).packages ≤ ids.now }
+    requires room { 2 * length (workspace_text workspace.now).packages ≤ ids.now }
+    requires commands { IsTrue (are_commands (command_texts settings.now.commands.now)) }
     ensures { IfOk result (λ rows. row_texts rows ≡ rows_of (steps.on_entries (workspace_text workspace.now) (settings_text P.holds settings.now) (K.kept kept.now))) }
 {
     // (calls named facts() carry the invariant into the proof)
@@ -287,5 +288,5 @@ pub fn rows_on<'n, P: Platform, K: Kept>(
     };
     let mut rows = Vec::new(alloc);
     push_sides(alloc, &mut rows, ids, packages, &rules)?;
-    Ok(StepRows { rows })
+    Ok(StepRows::new(rows))
 }

@@ -105,7 +105,7 @@ fn push_dependency<'n>(
 }
 
 /// Appends the row of the dependency by which `declaration` leads to an entry, if it does.
-fn push_lead<'n>(
+pub(crate) fn push_lead<'n>(
     rows: &mut Vec<Row<'n>>,
     ids: &'n Ids,
     declaration: &'n Declaration<'_>,

@@ -1,4 +1,4 @@
-//! What a plan is made of, besides the workspace.
+//! The settings of a plan.
 ghost use Rattle.std.specs.Prelude.{◌≡◌, ℕ, Bool};
 ghost use Rattle.cargo_workspaces.specs.Workspaces.{Text};
 ghost use Rattle.plan_rows.specs.declared.side.Side.{Side as AnySide};
@@ -8,7 +8,7 @@ use cargo_workspaces::Feature;
 
 /// A platform, on which platform specs hold or don't.
 pub trait Platform {
-    /// Whether a spec holds.
+    /// The test of a spec: true if it holds.
     ghost holds: { Self → Text → Bool };
 
     /// Returns whether `spec` holds on the platform.
@@ -18,7 +18,7 @@ pub trait Platform {
 
 /// The optional dependencies that version resolving turns on.
 pub trait Kept {
-    /// Whether the dependency of this name of the package with this number is turned on.
+    /// The test of a package's number and a dependency's name: true if the dependency is turned on.
     ghost kept: { Self → ℕ → Text → Bool };
 
     /// Returns whether the optional dependency `name` of package `ix` is turned on.
@@ -28,7 +28,7 @@ pub trait Kept {
 
 /// The optional dependencies that are on.
 pub trait TurnedOn {
-    /// Whether the dependency of this name of the package with this number is on, on a side.
+    /// The test of a side, a package's number and a dependency's name: true if the dependency is on.
     ghost turned_on: { Self → AnySide → ℕ → Text → Bool };
 
     /// Returns whether the optional dependency `name` of package `ix` is on, on `side`.
@@ -36,12 +36,12 @@ pub trait TurnedOn {
         ensures { result ≡ turned_on self.now side ix name.now };
 }
 
-/// What a plan is made of, besides the workspace.
+/// The settings of a plan: all that it is made of, besides the workspace.
 #[derive(Drop)]
 pub struct Settings<'n, 'c, P> {
-    /// Whether the resolver tells the sides apart: 2 and 3 do.
+    /// True if the resolver tells the sides apart, as 2 and 3 do.
     pub split: bool,
-    /// Whether tests are built, and so the dependencies for development of the started members.
+    /// True if tests are built, and so the dependencies for development of the started members.
     pub test: bool,
     /// The command feature of each package that is started, by the number of the package.
     pub commands: &'n [Option<Feature<'c>>],

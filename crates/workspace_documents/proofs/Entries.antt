@@ -20,10 +20,8 @@ use Rattle.cargo_documents.specs.Faults.{Text, Refusal, repeated, IfNotMemory}
 use Rattle.workspace_documents.specs.Lists.{ById, id_cmp, at_id, each_by_id}
 use Rattle.workspace_documents.specs.Packages.{PackageText, package_in, package_with_id, sorted}
 use Rattle.workspace_documents.specs.Views.{entries_view}
+use Rattle.workspace_documents.specs.inner.Keys.{key_cmp}
 use Rattle.workspace_documents.proofs.Lists.{if_not_memory}
-
-abbrev pub key_cmp : Bor Text → Bor Text → Ordering
-key_cmp x y = slice_cmp nat_cmp x.now y.now
 
 abbrev pub shown_value : Bor (Value Global) → Json
 shown_value v = value_view v.now
@@ -61,6 +59,10 @@ module _ {X Y : Type 0} (shown : X → Y) where
 
     pub again_by_id : is_some o ≡ true → whole ≡ Err (repeated (place i))
     again_by_id there = so ∙ rw (was_read, is_some-entries k.now es o true old there) refl
+
+    -- the same of an insertion that failed
+    pub refused_by_id : (e : Refusal) → IfNotMemory e ((is_some o ≡ true) × (e ≡ repeated (place i))) → IfNotMemory e (whole ≡ Err e)
+    refused_by_id e h = if_not_memory e (λ (q : (is_some o ≡ true) × (e ≡ repeated (place i))). again_by_id q.0 ∙ ap Err (sym q.1)) h
 
 pub item_at : (vs : List (Value Global)) (i : ℕ) (v : Value Global) → i < length vs → v ≡ get_or vs i v → items_view (drop i vs) ≡ item (value_view v) (items_view (drop (i + 1) vs))
 item_at vs i v within is =

@@ -1,17 +1,15 @@
 -- Reading the items of a list, step by step.
 use Rattle.std.proofs.Common.{◌≡◌, ◌∙◌, sym, ap, refl, ℕ, ◌+◌, ◌<◌, List, [], ◌∷◌, ◌++◌, length, drop, get_or, append_assoc, add-one, drop-cons, Bor}
-use Rattle.std.specs.Prelude.{Result, Ok, Err, codes, option_and_then}
+use Rattle.std.specs.Prelude.{Result, Ok, Err}
 use Rattle.std.specs.declared.alloc.Global.{Global}
 use Rattle.json.specs.Json.{Json}
-use Rattle.json.specs.Find.{as_array}
 use Rattle.json.specs.Value.{value_view, items_view}
 use Rattle.json.specs.declared.value.Value.{Value}
 use Rattle.cargo_documents.specs.declared.fault.Place.{Place}
 use Rattle.cargo_documents.specs.Faults.{Text, Refusal, bad_field, repeated, no_package, ambiguous, two_names, control, every_platform, no_deps, out_of_memory, IfNotMemory, ◌>>=◌}
-use Rattle.cargo_documents.specs.Fields.{wanted, all_texts}
 use Rattle.workspace_documents.specs.Lists.{each}
 use Rattle.cargo_workspaces.specs.Workspaces.{FeatureText}
-use Rattle.workspace_documents.specs.Packages.{features_of}
+use Rattle.workspace_documents.specs.Packages.{feature_in, features_of}
 use Rattle.workspace_documents.specs.Views.{entries_view}
 
 pub if_not_memory : {P Q : Type 0} (r : Refusal) → (P → Q) → IfNotMemory r P → IfNotMemory r Q
@@ -43,8 +41,8 @@ each_more read vs i v xs x whole within is was_read so =
     let here : read i (value_view (get_or vs i v)) ≡ Ok x = rw (sym is) was_read in
     so ∙ rw (at, here) (prepend_one xs x (each read (i + 1) (items_view (drop (i + 1) vs))))
 
--- one more feature, read with `items`, moves from the rest to `fs`
-pub features_more : (at : Place) (left rest : List (Bor Text × Bor (Value Global))) (m : Bor Text × Bor (Value Global)) (items : List Text) (fs : List FeatureText) (whole : Result (List FeatureText) Refusal) → left ≡ m ∷ rest → wanted at (codes "features") (option_and_then all_texts (as_array (value_view m.1.now))) ≡ Ok items → whole ≡ prepend fs (features_of at (entries_view shown left)) → whole ≡ prepend (fs ++ record { name = m.0.now; items = items } ∷ []) (features_of at (entries_view shown rest))
-features_more at left rest m items fs whole e read so =
-    let step : features_of at (entries_view shown left) ≡ (features_of at (entries_view shown rest) >>= λ more. Ok (record { name = m.0.now; items = items } ∷ more)) = rw (e, read) refl in
-    so ∙ ap (prepend fs) step ∙ prepend_one fs (record { name = m.0.now; items = items }) (features_of at (entries_view shown rest))
+-- one more feature moves from the rest to `fs`
+pub features_more : (at : Place) (left rest : List (Bor Text × Bor (Value Global))) (m : Bor Text × Bor (Value Global)) (f : FeatureText) (fs : List FeatureText) (whole : Result (List FeatureText) Refusal) → left ≡ m ∷ rest → feature_in at (m.0.now, value_view m.1.now) ≡ Ok f → whole ≡ prepend fs (features_of at (entries_view shown left)) → whole ≡ prepend (fs ++ f ∷ []) (features_of at (entries_view shown rest))
+features_more at left rest m f fs whole e read so =
+    let step : features_of at (entries_view shown left) ≡ (features_of at (entries_view shown rest) >>= λ more. Ok (f ∷ more)) = rw (e, read) refl in
+    so ∙ ap (prepend fs) step ∙ prepend_one fs f (features_of at (entries_view shown rest))

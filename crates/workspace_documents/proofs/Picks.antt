@@ -1,6 +1,6 @@
 -- The search among used packages and the declarations that lead to one, step by step.
 use Rattle.std.proofs.Common.{◌≡◌, ◌∙◌, sym, ap, refl, ℕ, ◌+◌, ◌<◌, List, [], ◌∷◌, ◌++◌, map, length, take, drop, get_or, Bool, true, false, add-one, drop-cons}
-use Rattle.std.specs.Prelude.{filter, Result, Ok, Err, Some, None}
+use Rattle.std.specs.Prelude.{filter, Option, Result, Ok, Err, Some, None}
 use Rattle.std.proofs.lemmas.List.{take_more, map-append, append-nil}
 use Rattle.std.proofs.lemmas.List.Elements.{filter-append}
 use Rattle.workspace_documents.specs.declared.packages.Declaration.{Declaration}
@@ -9,7 +9,7 @@ use Rattle.workspace_documents.specs.declared.dependencies.Asked.{Asked}
 use Rattle.workspace_documents.specs.Packages.{DeclarationText, PackageText}
 use Rattle.workspace_documents.specs.Nodes.{DepText}
 use Rattle.cargo_documents.specs.Faults.{Text, Refusal, ◌>>=◌}
-use Rattle.workspace_documents.specs.Dependencies.{nothing, found_of, pick, DependencyText, target_of, led}
+use Rattle.workspace_documents.specs.Dependencies.{nothing, found_of, pick, DependencyText, target_of, with_target, led}
 use Rattle.workspace_documents.specs.inner.Picks.{with_one, and_one, answers, meets}
 use Rattle.workspace_documents.specs.Views.{declaration_view, dep_view, package_view}
 use Rattle.workspace_documents.proofs.Lists.{prepend, prepend_one}
@@ -47,8 +47,12 @@ module _ (id : Text) (deps : List DepText) (ds : List Declaration) (i : ℕ) (d 
       let at : drop i ds ≡ get_or ds i d ∷ drop (i + 1) ds = rw (add-one, drop-cons ds i d within) refl in
       rw at (ap (λ x. declaration_view x ∷ map declaration_view (drop (i + 1) ds)) (sym is))
 
-  pub led_nowhere : target_of id (declaration_view d) deps ≡ Ok None → whole ≡ prepend es (led id deps (map declaration_view (drop (i + 1) ds)))
+  led_nowhere : target_of id (declaration_view d) deps ≡ Ok None → whole ≡ prepend es (led id deps (map declaration_view (drop (i + 1) ds)))
   led_nowhere none = so ∙ rw (here, none) (ap (prepend es) (same_rest (led id deps (map declaration_view (drop (i + 1) ds)))))
 
-  pub led_more : (p : PackageText) → target_of id (declaration_view d) deps ≡ Ok (Some p) → whole ≡ prepend (es ++ record { declaration = declaration_view d; target = p } ∷ []) (led id deps (map declaration_view (drop (i + 1) ds)))
+  led_more : (p : PackageText) → target_of id (declaration_view d) deps ≡ Ok (Some p) → whole ≡ prepend (es ++ record { declaration = declaration_view d; target = p } ∷ []) (led id deps (map declaration_view (drop (i + 1) ds)))
   led_more p some = so ∙ rw (here, some) (prepend_one es (record { declaration = declaration_view d; target = p }) (led id deps (map declaration_view (drop (i + 1) ds))))
+
+  pub led_next : (o : Option PackageText) → target_of id (declaration_view d) deps ≡ Ok o → whole ≡ prepend (es ++ with_target (declaration_view d) o []) (led id deps (map declaration_view (drop (i + 1) ds)))
+  led_next None e = led_nowhere e ∙ ap (λ (xs : List DependencyText). prepend xs (led id deps (map declaration_view (drop (i + 1) ds)))) (sym (append-nil es))
+  led_next (Some p) e = led_more p e

@@ -1,17 +1,21 @@
 -- Every workspace that is read without a fault satisfies its rules.
 use Rattle.std.proofs.Common.{◌≡◌, subst, []}
-use Rattle.std.specs.Prelude.{Ok, codes, option_and_then}
+use Rattle.std.specs.Prelude.{Result, Ok, Err, IfOk, codes, option_and_then}
 use Rattle.std.specs.List.{AllByRecursion}
 use Rattle.std.specs.List.Sorted.{IsStrictlySortedBy}
 use Rattle.std.specs.Map.{keys_of}
 use Rattle.json.specs.Json.{Json}
 use Rattle.json.specs.Find.{get, as_array}
 use Rattle.cargo_documents.specs.declared.fault.Place.TheVariants as place
+use Rattle.cargo_documents.specs.declared.fault.DocumentFault.{DocumentFault}
+use Rattle.cargo_documents.specs.Faults.{Gives}
 use Rattle.cargo_documents.specs.Fields.{wanted}
 use Rattle.workspace_documents.specs.Lists.{ById, id_cmp, each_by_id}
 use Rattle.workspace_documents.specs.Packages.{PackageText, package_with_id, packages_at, packages_in}
 use Rattle.workspace_documents.specs.Nodes.{members_in, resolved_in}
 use Rattle.workspace_documents.specs.Leads.{LinksText, DescribedText, root_in, all_leads, links_in, described_in}
+use Rattle.workspace_documents.specs.LeadViews.{described_view}
+use Rattle.workspace_documents.specs.declared.leads.Described.{Described}
 use Rattle.workspace_documents.specs.Rules.{HasSortedFeatures, IsDescribed}
 use Rattle.workspace_documents.proofs.Sorted.{ok_same, both_ok, by_id_sorted, by_id_all, own_id, own_features}
 use Rattle.workspace_documents.proofs.Known.{members_known, root_known, resolved_known, all_known}
@@ -56,3 +60,8 @@ described_sound d t h =
     let packages = both_ok (packages_in d) _ t h in
     let links = both_ok (links_in packages.0 d) _ t packages.2 in
     subst IsDescribed (ok_same _ t links.2) (links_sound d packages.0 links.0 (packages_sound d packages.0 packages.1) links.1)
+
+-- the same of a call's result
+pub sound_result : (d : Json) (r : Result Described DocumentFault) → Gives described_view r (described_in d) → IfOk r (λ t. IsDescribed (described_view t))
+sound_result d (Ok t) h = described_sound d (described_view t) h
+sound_result d (Err e) h = tt

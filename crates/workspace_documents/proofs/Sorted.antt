@@ -18,7 +18,7 @@ use Rattle.cargo_documents.specs.Faults.{Text, Refusal, repeated, ◌>>=◌}
 use Rattle.cargo_documents.specs.Fields.{wanted, all_texts}
 use Rattle.cargo_workspaces.specs.Workspaces.{FeatureText}
 use Rattle.workspace_documents.specs.Lists.{ById, id_cmp, at_id, each, each_by_id}
-use Rattle.workspace_documents.specs.Packages.{PackageText, sorted, features_of, first_library, declaration_in, lists_in, names_in, package_in, package_with_id}
+use Rattle.workspace_documents.specs.Packages.{PackageText, sorted, feature_in, features_of, first_library, declaration_in, lists_in, names_in, package_in, package_with_id}
 use Rattle.workspace_documents.specs.Rules.{HasSortedFeatures}
 
 pub ok_same : {A : Type 0} (a b : A) → ◌≡◌ {A = Result A Refusal} (Ok a) (Ok b) → a ≡ b
@@ -98,15 +98,17 @@ none_sorted = tt
 abbrev names_of : List FeatureText → List Text
 names_of = map (λ f. f.name)
 
-abbrev with_feature : Text → List Text → List FeatureText → Result (List FeatureText) Refusal
-with_feature name items rest = Ok (record { name = name; items = items } ∷ rest)
+name_kept : (at : Place) (m : Text × Json) (f : FeatureText) → feature_in at m ≡ Ok f → f.name ≡ m.0
+name_kept at m f h =
+    let items = both_ok (wanted at (codes "features") (option_and_then all_texts (as_array m.1))) _ f h in
+    ap (λ (g : FeatureText). g.name) (sym (ok_same _ f items.2))
 
 names_kept : (at : Place) (ms : ById Json) (fs : List FeatureText) → features_of at ms ≡ Ok fs → names_of fs ≡ keys_of ms
 names_kept at [] fs h = ap names_of (sym (ok_same [] fs h))
 names_kept at (m ∷ ms) fs h =
-    let items = both_ok (wanted at (codes "features") (option_and_then all_texts (as_array m.1))) (λ items. features_of at ms >>= with_feature m.0 items) fs h in
-    let rest = both_ok (features_of at ms) (with_feature m.0 items.0) fs items.2 in
-    ap names_of (sym (ok_same (record { name = m.0; items = items.0 } ∷ rest.0) fs rest.2)) ∙ ap (λ ns. m.0 ∷ ns) (names_kept at ms rest.0 rest.1)
+    let feature = both_ok (feature_in at m) (λ (f : FeatureText). features_of at ms >>= λ (rest : List FeatureText). Ok (f ∷ rest)) fs h in
+    let rest = both_ok (features_of at ms) (λ (rest : List FeatureText). Ok (feature.0 ∷ rest)) fs feature.2 in
+    ap names_of (sym (ok_same (feature.0 ∷ rest.0) fs rest.2)) ∙ ap (λ (n : Text). n ∷ names_of rest.0) (name_kept at m feature.0 feature.1) ∙ ap (λ (ns : List Text). m.0 ∷ ns) (names_kept at ms rest.0 rest.1)
 
 pub features_sorted : (n : ℕ) (d : Json) (p : PackageText) → package_in n d ≡ Ok p → HasSortedFeatures p
 unfolding package_in

@@ -1,15 +1,14 @@
 -- A document, by its packages and its other fields.
 use Rattle.std.proofs.Common.{◌≡◌, ◌∙◌, sym, ap, refl}
-use Rattle.std.specs.Prelude.{Ok, Err, Option, codes}
+use Rattle.std.specs.Prelude.{Ok, Option, codes}
 use Rattle.json.specs.Json.{Json}
 use Rattle.json.specs.Find.{get}
-use Rattle.cargo_documents.specs.Faults.{Text, Refusal, IfNotMemory}
+use Rattle.cargo_documents.specs.Faults.{Text}
 use Rattle.cargo_documents.specs.Parts.{Parts}
 use Rattle.workspace_documents.specs.Lists.{ById}
 use Rattle.workspace_documents.specs.Packages.{PackageText, packages_at, packages_in}
 use Rattle.workspace_documents.specs.Nodes.{resolve_in, members_in, nodes_in, resolved_in}
-use Rattle.workspace_documents.specs.Leads.{LinksText, root_in, links_in, described_in}
-use Rattle.workspace_documents.proofs.Lists.{if_not_memory}
+use Rattle.workspace_documents.specs.Leads.{root_in, links_in, with_links, described_in}
 
 same_resolve : (a b : Json) → get (codes "resolve") a ≡ get (codes "resolve") b → resolve_in a ≡ resolve_in b
 unfolding resolve_in
@@ -49,10 +48,7 @@ module _ (d : Json) (found : Option Json) (rest : Json) (parts : Parts d found r
   of_links : links_in packages d ≡ links_in packages rest
   of_links = same_links packages d rest of_resolved (same_members packages (codes "workspace_default_members") d rest (sym (parts.others (codes "workspace_default_members") refl))) (same_root packages d rest resolve)
 
-  pub links_refused : (e : Refusal) → IfNotMemory e (links_in packages rest ≡ Err e) → IfNotMemory e (described_in d ≡ Err e)
+  -- a document's result is that of its other fields, with the packages that were read
+  pub described_by : described_in d ≡ with_links packages rest
   unfolding described_in
-  links_refused e h = if_not_memory e (λ (q : links_in packages rest ≡ Err e). rw (listed, of_links, q) refl) h
-
-  pub described_is : (links : LinksText) → links_in packages rest ≡ Ok links → described_in d ≡ Ok (record { packages = packages; links = links })
-  unfolding described_in
-  described_is links q = rw (listed, of_links, q) refl
+  described_by = rw (listed, of_links) refl

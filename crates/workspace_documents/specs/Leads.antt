@@ -55,8 +55,8 @@ pub record DescribedText : Type 0 where
   pub packages : ById PackageText
   pub links : LinksText
 
+abbrev pub with_links : ById PackageText → Json → Result DescribedText Refusal
+with_links packages d = links_in packages d >>= λ links. Ok (record { packages = packages; links = links })
+
 unfoldable pub described_in : Json → Result DescribedText Refusal
-described_in d =
-    packages_in d >>= λ packages.
-    links_in packages d >>= λ links.
-    Ok (record { packages = packages; links = links })
+described_in d = packages_in d >>= λ packages. with_links packages d

@@ -82,13 +82,14 @@ abbrev pub sorted : ById Json → Members → ById Json
 sorted xs no_members = xs
 sorted xs (member name j ms) = sorted (insert_entry id_cmp xs name j) ms
 
+-- the feature that a member is, or its fault
+abbrev pub feature_in : Place → Text × Json → Result FeatureText Refusal
+feature_in at m = wanted at (codes "features") (option_and_then all_texts (as_array m.1)) >>= λ items. Ok (record { name = m.0; items = items })
+
 -- each member as a feature, or the first fault
 abbrev pub features_of : Place → ById Json → Result (List FeatureText) Refusal
 features_of at [] = Ok []
-features_of at (m ∷ ms) =
-    wanted at (codes "features") (option_and_then all_texts (as_array m.1)) >>= λ items.
-    features_of at ms >>= λ rest.
-    Ok (record { name = m.0; items = items } ∷ rest)
+features_of at (m ∷ ms) = feature_in at m >>= λ feature. features_of at ms >>= λ rest. Ok (feature ∷ rest)
 
 -- the name of a target, where one of its kinds is a library's
 unfoldable pub library_in : Place → Json → Result (Option Text) Refusal

@@ -1,2 +1,3 @@
 -- What private functions alone speak of.
 pub mod Picks
+pub mod Keys

@@ -1,5 +1,5 @@
 //! Finds the package that each declaration leads to.
-ghost use Rattle.std.specs.Prelude.{◌≡◌, IfOk, map, option_map, string_bytes};
+ghost use Rattle.std.specs.Prelude.{◌≡◌, ◌++◌, [], IfOk, OnOk, map, option_map, string_bytes};
 ghost use Rattle.std.specs.List.{find};
 ghost use Rattle.cargo_documents.specs.Faults.{Gives, refusal_of};
 ghost use Rattle.cargo_documents.specs.Faults as fault;
@@ -297,6 +297,23 @@ pub(crate) fn target_of<'p, 'v>(
     }
 }
 
+/// Appends `declaration` with the package that it leads to, if it leads to one. The only error is out of memory.
+fn push_led<'p, 'v>(
+    dependencies: &mut Vec<Dependency<'p, 'v>>,
+    declaration: &'p Declaration<'v>,
+    target: Option<&'p Package<'v>>,
+) -> Result<(), AllocError>
+    ensures { OnOk result (map dependency_view dependencies.new.items ≡ map dependency_view dependencies.old.items ++ spec.with_target (declaration_view declaration.now) (option_map (λ p. package_view p.now) target.entry) []) }
+{
+    if let Some(target) = target {
+        dependencies.push(Dependency {
+            declaration,
+            target,
+        })?;
+    }
+    Ok(())
+}
+
 /// Returns the declarations of `package` that lead to a package, in their order. Returns `Ambiguous` for the first declaration that
 /// leads to several.
 #[tactic(auto, unfolding(crate::specs::Dependencies::dependencies_of))]
@@ -309,12 +326,8 @@ pub fn dependencies_of<'p, 'v>(
 {
     let mut dependencies = Vec::new(alloc);
     for declaration in &package.declarations {
-        if let Some(target) = target_of(alloc, package.id, declaration, deps)? {
-            dependencies.push(Dependency {
-                declaration,
-                target,
-            })?;
-        }
+        let target = target_of(alloc, package.id, declaration, deps)?;
+        push_led(&mut dependencies, declaration, target)?;
     }
     Ok(dependencies)
 }

@@ -150,6 +150,18 @@ fn links_in<'v>(
     })
 }
 
+/// Returns `packages` with what `document` says beside them.
+fn with_links<'v>(
+    alloc: Global,
+    packages: Packages<'v>,
+    document: &Value<'v>,
+) -> Result<Described<'v>, DocumentFault>
+    ensures { Gives described_view result (spec.with_links (entries_view package_view packages.entry.entries) (value_view document.now)) }
+{
+    let links = links_in(alloc, &packages, document)?;
+    Ok(Described { packages, links })
+}
+
 /// Reads the workspace that `document` describes. Its texts are those of the document.
 ///
 /// The error is the first fault of the packages, the members, the nodes, the default members, the root and then of where
@@ -161,6 +173,5 @@ pub fn described_in<'v>(alloc: Global, document: Value<'v>) -> Result<Described<
 {
     let (listed, rest) = parts_of(alloc, document)?;
     let packages = packages_of(alloc, listed)?;
-    let links = links_in(alloc, &packages, &rest)?;
-    Ok(Described { packages, links })
+    with_links(alloc, packages, &rest)
 }

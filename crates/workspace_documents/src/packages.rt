@@ -1,12 +1,14 @@
 //! The packages of a document, with what they declare.
-ghost use Rattle.std.specs.Prelude.{◌≡◌, [], Some, IfOk, codes, map, option_map, option_and_then};
+ghost use Rattle.std.specs.Prelude.{◌≡◌, [], Some, IfErr, IfOk, OnOk, codes, false, is_some, true, map, option_map, option_and_then};
+ghost use Rattle.std.specs.BTreeMap.{get, insert_entry};
 ghost use Rattle.std.specs.List.{list_any};
 ghost use Rattle.json.specs.Find.{as_array};
 ghost use Rattle.json.specs.Value.{value_view, items_view, members_view};
-ghost use Rattle.cargo_documents.specs.Faults.{Gives};
+ghost use Rattle.cargo_documents.specs.Faults.{Gives, IfNotMemory, refusal_of, repeated};
 ghost use Rattle.cargo_documents.specs.Fields.{wanted, all_texts};
 ghost use Rattle.workspace_documents.specs.Lists.{each, each_by_id};
 ghost use Rattle.workspace_documents.specs.Packages as spec;
+ghost use Rattle.workspace_documents.specs.inner.Keys.{key_cmp};
 ghost use Rattle.cargo_workspaces.specs.Views.{feature_text};
 ghost use Rattle.cargo_workspaces.specs.Workspaces.{is_library_kind};
 ghost use Rattle.workspace_documents.specs.Views.{text_view, use_view, declaration_view, package_view, entries_view};
@@ -223,6 +225,34 @@ fn items_of<'v>(
     }
 }
 
+/// Returns the feature `name` with the items in `value`.
+fn feature_of<'v>(
+    alloc: Global,
+    name: &'v str,
+    value: &Value<'v>,
+    place: Place,
+) -> Result<Feature<'v>, DocumentFault>
+    ensures { Gives feature_text result (spec.feature_in place (name.now, value_view value.now)) }
+{
+    let items = items_of(alloc, value, place)?;
+    Ok(Feature { name, items })
+}
+
+/// Returns the features `members` of the package of this place, in their order.
+fn features_in<'v>(
+    alloc: Global,
+    members: &BTreeMap<&'v str, &Value<'v>>,
+    place: Place,
+) -> Result<Vec<Feature<'v>>, DocumentFault>
+    ensures { Gives (λ fs. map feature_text fs.items) result (spec.features_of place (entries_view (λ v. value_view v.now) members.now.entries)) }
+{
+    let mut features = Vec::with_capacity(alloc, members.len())?;
+    for (name, value) in members {
+        features.push(feature_of(alloc, *name, *value, place)?)?;
+    }
+    Ok(features)
+}
+
 /// The named features of the package of this place, in the order of their names.
 fn features_of<'v>(
     alloc: Global,
@@ -232,12 +262,7 @@ fn features_of<'v>(
     ensures { Gives (λ fs. map feature_text fs.items) result (spec.features_of place (spec.sorted [] (members_view members.now.items))) }
 {
     let members = sorted(alloc, members)?;
-    let mut features = Vec::with_capacity(alloc, members.len())?;
-    for (name, value) in &members {
-        let items = items_of(alloc, *value, place)?;
-        features.push(Feature { name: *name, items })?;
-    }
-    Ok(features)
+    features_in(alloc, &members, place)
 }
 
 /// Returns whether `kind` is the kind of a library target.
@@ -392,6 +417,23 @@ pub fn packages_of<'v>(
     }
 }
 
+/// Inserts `added`, which is at place `place`, under its id. Returns `Repeated` if an earlier package has that id.
+fn insert<'v>(
+    packages: &mut Packages<'v>,
+    added: Package<'v>,
+    place: usize,
+) -> Result<(), DocumentFault>
+    ensures inserted { OnOk result ((is_some (get key_cmp packages.old added.entry.id) ≡ false) × (packages.new.entries ≡ insert_entry key_cmp packages.old.entries added.entry.id added.entry)) }
+    ensures repeated { IfErr result (λ e. IfNotMemory (refusal_of e) ((is_some (get key_cmp packages.old added.entry.id) ≡ true) × (refusal_of e ≡ repeated (at.Package place)))) }
+{
+    if packages.insert(added.id, added)?.is_some() {
+        return Err(DocumentFault::Repeated {
+            place: Place::Package { package: place },
+        });
+    }
+    Ok(())
+}
+
 /// Reads the packages that these objects are, by their ids. Each object is dropped once it is read.
 fn packages_from<'v>(
     alloc: Global,
@@ -405,11 +447,7 @@ fn packages_from<'v>(
     'objects: while let Some(object) = objects.pop() {
         let place = count - objects.len() - 1;
         let package = package_from(alloc, object, place)?;
-        if packages.insert(package.id, package)?.is_some() {
-            return Err(DocumentFault::Repeated {
-                place: Place::Package { package: place },
-            });
-        }
+        insert(&mut packages, package, place)?;
     }
     Ok(packages)
 }

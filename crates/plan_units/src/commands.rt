@@ -1,0 +1,47 @@
+//! The places at which steps `resolved` and `on` start.
+ghost use Rattle.std.specs.Prelude.{◌≡◌, ◌+◌, ◌<◌, ◌^◌, ◌++◌, ◌∷◌, ◌||◌, [], OnOk, if◌then◌else◌, length, map};
+ghost use Rattle.cargo_workspaces.specs.Views.{package_text};
+ghost use Rattle.plan_rows.specs.Commands.{command_texts};
+ghost use Rattle.plan_starts.specs.Targets.{is_macro};
+ghost use Rattle.step_visits.specs.Visits.{start_of};
+ghost use Rattle.plan_units.specs.Commands as spec;
+ghost use Rattle.plan_units.specs.Commands.{command_label};
+
+use cargo_workspaces::{Feature, Package};
+use feature_labels::FeatureLabel;
+use plan_starts::is_macro_at;
+use std::alloc::AllocError;
+
+/// Appends the command feature of entry `ix`, if `flag`.
+fn push_command<'s>(
+    places: &mut Vec<(usize, FeatureLabel<'s>)>,
+    ix: usize,
+    flag: bool,
+) -> Result<(), AllocError>
+    ensures { OnOk result (map start_of places.new.items ≡ map start_of places.old.items ++ (if flag then (ix, command_label) ∷ [] else [])) }
+{
+    if flag {
+        places.push((ix, FeatureLabel::Named("[command]")))?;
+    }
+    Ok(())
+}
+
+/// Appends the command features of the packages that have one, of all or of procedural macros alone. The entry of package 0 has
+/// number `first`.
+pub fn push_commands<'s>(
+    places: &mut Vec<(usize, FeatureLabel<'s>)>,
+    all: bool,
+    packages: &[Package<'_>],
+    commands: &[Option<Feature<'_>>],
+    first: usize,
+) -> Result<(), AllocError>
+    requires { first + length commands.now < 2 ^ 64 }
+    ensures { OnOk result (map start_of places.new.items ≡ map start_of places.old.items
+        ++ spec.command_places (λ p. all || is_macro (map package_text packages.now) p) first (command_texts commands.now)) }
+{
+    for (ix, command) in commands.iter().enumerate() {
+        let flag = command.is_some() && (all || is_macro_at(packages, ix));
+        push_command(places, first + ix, flag)?;
+    }
+    Ok(())
+}

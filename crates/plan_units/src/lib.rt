@@ -1,0 +1,12 @@
+//! The packages of a plan with their features, the places of command features, and dependencies that a document lacks.
+#![tactic(auto)]
+
+mod commands;
+mod lacking;
+mod unit;
+mod units;
+
+pub use commands::push_commands;
+pub use lacking::first_lacking;
+pub use unit::{Place, Unit};
+pub use units::units_of;
