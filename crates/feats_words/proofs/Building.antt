@@ -1,11 +1,11 @@
 -- Options that are added to a command, one after the other.
-use Rattle.std.proofs.Common.{◌≡◌, ◌∙◌, ap, ap₂, sym, refl, List, [], ◌∷◌, ◌++◌, append_assoc, append-nil, Bool, false}
+use Rattle.std.proofs.Common.{◌≡◌, ◌∙◌, ap, ap₂, sym, List, [], ◌∷◌, ◌++◌, append_assoc, append-nil, false}
 use Rattle.std.specs.Prelude.{◌||◌}
-use Rattle.clap.specs.Words.{AddsArg, App, Rule, app_of, rule_of, with_rule}
+use Rattle.clap.specs.Words.{AddsArg, Rule, app_of, rule_of, with_rule}
 use Rattle.clap.specs.declared.builder.arg.Arg.{Arg}
 use Rattle.clap.specs.declared.builder.command.Command.{Command}
 use Rattle.clap.specs.declared.builder.command.Command.TheViews.{out-Command}
-use Rattle.feats_words.specs.inner.Building.{AddsRules, with_rules}
+use Rattle.feats_words.specs.inner.Building.{AddsRules}
 
 pub begun : (c : Command) → (out-Command c).has_globals ≡ false → AddsRules c c []
 begun c local = record {

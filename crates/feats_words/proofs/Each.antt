@@ -1,5 +1,5 @@
 -- Items that are read, one after the other.
-use Rattle.std.proofs.Common.{◌≡◌, ◌∙◌, sym, ap, refl, ℕ, ◌+◌, ◌<◌, List, [], ◌∷◌, ◌++◌, map, drop, length, get_or, append_assoc, append-nil, add-one, drop-cons, Result, Ok, Err, Bor}
+use Rattle.std.proofs.Common.{◌≡◌, ◌∙◌, sym, ap, refl, ℕ, ◌+◌, ◌<◌, List, [], ◌∷◌, ◌++◌, drop, length, get_or, append_assoc, add-one, drop-cons, Result, Ok, Err, Bor}
 use Rattle.clap.specs.Words.{Text}
 use Rattle.feats_words.specs.Refusals.{Refusal, IfNotMemory, bad_platform, bad_resolver, two_resolvers, bad_format, out_of_memory, each, ◌>>=◌}
 use Rattle.feats_words.specs.Requests.{texts}

@@ -1,5 +1,5 @@
 -- Platform words: `TRIPLE=CFGFILE`.
-use Rattle.std.specs.Prelude.{ℕ, List, ◌==◌, ◌||◌, Bool, Option, None, Some, length, nat_lt, if◌then◌else◌}
+use Rattle.std.specs.Prelude.{ℕ, ◌==◌, ◌||◌, Bool, Option, None, Some, length, nat_lt, if◌then◌else◌}
 use Rattle.std.specs.List.{position_or_len, before_first, after_first}
 use Rattle.clap.specs.Words.{Text}
 

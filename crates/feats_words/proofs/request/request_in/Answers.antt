@@ -2,7 +2,6 @@ use Rattle.std.proofs.Common.{◌≡◌, ◌∙◌, ap, ap₂, refl, sym, Option
 use Rattle.std.proofs.lemmas.Result.{IfOk-weaker}
 use Rattle.std.specs.Prelude.{option_map, option_and_then}
 use Rattle.clap.specs.Words.{Row, Text, found_of, rows_of, subcommand_rows_of}
-use Rattle.clap.specs.Matches.{subcommand_name_of}
 use Rattle.feats_words.specs.Requests.{request_of}
 use Rattle.feats_words.proofs.request.request_in.Goals as goal
 

@@ -1,7 +1,7 @@
-use Rattle.std.proofs.Common.{◌≡◌, ◌∙◌, ap, sym, [], Some, None, List, ℕ}
+use Rattle.std.proofs.Common.{◌∙◌, ap, [], List, ℕ}
 use Rattle.std.specs.Prelude.{unwrap_or, Option}
 use Rattle.clap.proofs.WalkLemmas.{first_value-rows}
-use Rattle.clap.specs.Words.{found_of, first_of, rows_of}
+use Rattle.clap.specs.Words.{found_of}
 use Rattle.feats_words.proofs.request.required_value.Goals as goal
 
 pub returns-in-Some : goal.returns-in-Some

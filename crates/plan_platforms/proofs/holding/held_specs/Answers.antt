@@ -1,4 +1,4 @@
-use Rattle.std.proofs.Common.{ℕ, length, ◌<◌, arith}
+use Rattle.std.proofs.Common.{length, ◌<◌, arith}
 use Rattle.std.proofs.lemmas.Option.{slice_get-get_or}
 use Rattle.plan_platforms.specs.HeldSpecs.{holds_on}
 use Rattle.plan_platforms.proofs.HoldingLemmas.{fault_at}

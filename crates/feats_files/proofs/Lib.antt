@@ -1,0 +1,3 @@
+pub mod Held
+pub mod Says
+pub mod Targets

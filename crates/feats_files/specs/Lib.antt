@@ -1,0 +1,8 @@
+pub mod Documents
+pub mod FileViews
+pub mod Files
+pub mod Messages
+pub mod Parts
+pub mod Pipes
+pub mod Platforms
+pub mod WordMessages

@@ -1,0 +1,20 @@
+//! The files of the program `feats`: their content, and the faults that they have.
+#![tactic(auto)]
+
+mod documents;
+mod fault;
+mod files;
+mod message;
+mod opening;
+mod pipe;
+mod platforms;
+mod word_messages;
+
+pub use documents::document_of;
+pub use fault::Fault;
+pub use files::{PlatformFile, resolver, target, target_platforms};
+pub use message::refused;
+pub use opening::{bytes_of, no_command, not_text, unopened};
+pub use pipe::ToPipe;
+pub use platforms::{held_on, held_on_each, id_at};
+pub use word_messages::words_refused;

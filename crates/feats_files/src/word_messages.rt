@@ -1,0 +1,42 @@
+//! Messages about the words of a command line.
+ghost use Rattle.feats_words.specs.Refusals.{refusal_of};
+ghost use Rattle.feats_files.specs.Messages.{IsRefused};
+ghost use Rattle.feats_files.specs.WordMessages.{words_message};
+
+use crate::fault::Fault;
+use crate::message::refused;
+use feats_words::WordsFault;
+use std::alloc::Global;
+
+/// Returns the refusal of words.
+pub fn words_refused(alloc: Global, fault: WordsFault<'_>) -> Fault
+    ensures { IsRefused (words_message (refusal_of fault.entry)) result }
+{
+    match fault {
+        WordsFault::Platform(word) => refused(
+            alloc,
+            &[
+                "`",
+                word,
+                "` isn't TRIPLE=CFGFILE: write the triple, `=` and the file, as x86_64-unknown-linux-gnu=host.cfg",
+            ],
+        ),
+        WordsFault::Resolver(word) => refused(
+            alloc,
+            &[
+                "`",
+                word,
+                "` isn't a version of the resolver: write 1, 2 or 3",
+            ],
+        ),
+        WordsFault::TwoResolvers => refused(
+            alloc,
+            &["--resolver and --manifest are both given: leave one out"],
+        ),
+        WordsFault::Format(word) => refused(
+            alloc,
+            &["`", word, "` isn't a format: write text or json"],
+        ),
+        WordsFault::Memory => Fault::Memory,
+    }
+}
