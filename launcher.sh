@@ -1,7 +1,7 @@
-# Functions for ./features and ./rows. Each sets `top`, the repository's folder, and calls `launch`.
+# Functions for ./features, ./rows and ./feats. Each sets `top`, the repository's folder, and calls `launch`, or ./feats `launch_feats`.
 #
-# `launch` runs the program that ./build proved and built. If there is none, or a source file is newer than it, `launch` runs the
-# same program by `rt try`, with checks at run time in place of proofs. Its output, faults and exit status are the same.
+# These run the program that ./build proved and built. If there is none, or a source file is newer than it, they run the same
+# program by `rt try`, with checks at run time in place of proofs. Its output, faults and exit status are the same.
 
 # The exit status if the program can't be run to its end: `rt` is missing, or a limit of `rt try` is met.
 NO_ANSWER=70
@@ -48,20 +48,29 @@ no_answer() {
   exit "$NO_ANSWER"
 }
 
-# Runs a program by `rt try`. The arguments are its crate and its own arguments; the first of those is the input, a file or - for
-# standard input.
-try_unproved() {
-  local name=$1 input=$2 given=() status=0 last
-  shift 2
-  command -v rt >/dev/null || no_answer "$name" "the command rt of the kit is not in PATH"
+# Begins a run by `rt try`. Sets `room` to a folder for the input of the program named by the argument, and `given` to no words.
+begin_try() {
+  command -v rt >/dev/null || no_answer "$1" "the command rt of the kit is not in PATH"
   room=$(mktemp -d)
   trap 'rm -rf -- "$room"' EXIT
-  # The program runs in a folder of its own, so its input is copied there. If it can't be read, the name has no file there.
-  if [ "$input" = - ]; then
-    cat >"$room/input" 2>/dev/null && given=(--data "input=$room/input")
-  elif [ -n "$input" ]; then
-    cat -- "$input" >"$room/input" 2>/dev/null </dev/null && given=(--data "input=$room/input")
+  given=()
+}
+
+# Gives the program a copy of a file, or of standard input for -, because it runs in a folder of its own. The arguments are the file
+# and its name there. Returns whether the file can be read.
+give() {
+  if [ "$1" = - ]; then
+    cat >"$room/$2" 2>/dev/null || return
+  else
+    cat -- "$1" >"$room/$2" 2>/dev/null </dev/null || return
   fi
+  given+=(--data "$2=$room/$2")
+}
+
+# Runs a program by `rt try`, and exits. The arguments are its crate and its own arguments.
+try_unproved() {
+  local name=$1 status=0 last
+  shift
   (cd -- "$top/crates/$name" && exec rt try --seconds 1000000 "${given[@]}" -- "$@") </dev/null >"$room/output" 2>"$room/faults" || status=$?
   last=$(tail -n 1 -- "$room/faults")
   case $last in
@@ -70,10 +79,7 @@ try_unproved() {
   esac
   # The last two lines are from rt try.
   head -n -2 -- "$room/faults" >&2
-  if [ -s "$room/output" ] && ! cat -- "$room/output" 2>/dev/null; then
-    echo "cannot write" >&2
-    exit 1
-  fi
+  [ ! -s "$room/output" ] || cat -- "$room/output" 2>/dev/null || unwritten $? "$status"
   exit "$status"
 }
 
@@ -82,24 +88,105 @@ limit_of() {
   grep -v '^$' -- "$1" | tail -n 1 | cut -c 1-200
 }
 
-# Runs a program. The arguments are its crate, the number of arguments without which it doesn't read its input, and its own
-# arguments.
-launch() {
-  local name=$1 needs=$2 why
-  shift 2
+# Runs the proved program of a crate if it is current, and else says why not. The arguments are the crate and the program's own.
+run_proved() {
+  local name=$1 why
+  shift
   why=$(why_not_current "$name")
   if [ -z "$why" ]; then
     exec "$top/crates/$name/out/$name" "$@"
   fi
   echo "$name: $why: this answer comes from a build that is checked while it runs and is not proved; ./build proves it, in some 55 processor minutes" >&2
-  if ! printf '%s\n' "$@" | iconv -f UTF-8 -t UTF-8 >/dev/null 2>&1; then
-    # rt try accepts only arguments in UTF-8. The programs refuse others as they refuse two unknown arguments.
-    try_unproved "$name" "" bad words
+}
+
+# Exits as a program does that can't write, in `launch_feats` as `feats` does. The arguments are the exit status of cat, and that of the
+# program.
+unwritten() {
+  echo "cannot write" >&2
+  exit 1
+}
+
+# Returns whether the arguments are UTF-8: rt try accepts no others.
+are_text() {
+  printf '%s\n' "$@" | iconv -f UTF-8 -t UTF-8 >/dev/null 2>&1
+}
+
+# Runs a program. The arguments are its crate, the number of arguments without which it doesn't read its input, and its own
+# arguments; the first of those is the input, a file or - for standard input.
+launch() {
+  local name=$1 needs=$2 input
+  shift 2
+  run_proved "$name" "$@"
+  begin_try "$name"
+  if ! are_text "$@"; then
+    # The programs refuse such arguments as they refuse two unknown ones.
+    try_unproved "$name" bad words
   elif [ $# -lt "$needs" ]; then
-    try_unproved "$name" "" "$@"
+    try_unproved "$name" "$@"
   else
-    local input=${1--}
+    # If the input can't be read, there is no file of this name.
+    input=${1--}
     [ $# -eq 0 ] || shift
-    try_unproved "$name" "$input" input "$@"
+    give "$input" input || true
+    try_unproved "$name" input "$@"
   fi
+}
+
+# Appends to `words` the value of an option of `feats`, with the name of a copy for each file. The arguments are the option, what is
+# before the value in its word, and the value. A file that can't be read keeps its name, so that the program names it.
+add_value() {
+  local front=$2 file=$3 copy=input${#words[@]}
+  case $1 in
+    --metadata | --manifest) ;;
+    --host | --target)
+      case $3 in
+        ?*=?*) front=$2${3%%=*}= file=${3#*=} ;;
+        *) file= ;;
+      esac
+      ;;
+    *) file= ;;
+  esac
+  if [ "$1" = --metadata ] && [ "$file" = - ]; then
+    if ! give - "$copy"; then
+      echo 'feats: cannot read `-`' >&2
+      exit 2
+    fi
+    words+=("$front$copy")
+  elif [ -n "$file" ] && [ "$file" != - ] && give "$file" "$copy"; then
+    words+=("$front$copy")
+  else
+    words+=("$2$3")
+  fi
+}
+
+# Runs the program `feats`, some of whose options name files. The arguments are its own.
+launch_feats() {
+  local words=()
+  # A pipe that is closed at its other end, for which the status of cat is that of SIGPIPE, is no fault.
+  unwritten() {
+    if [ "$1" -eq 141 ]; then exit "$2"; fi
+    echo "feats: cannot write the answer" >&2
+    exit 2
+  }
+  run_proved feats "$@"
+  if ! are_text "$@"; then
+    echo "feats: a word of the command line isn't UTF-8: rename the file" >&2
+    exit 2
+  fi
+  begin_try feats
+  while [ $# -gt 0 ]; do
+    case $1 in
+      --metadata | --manifest | --host | --target)
+        words+=("$1")
+        if [ $# -gt 1 ]; then
+          add_value "$1" "" "$2"
+          shift
+        fi
+        ;;
+      --metadata=* | --manifest=* | --host=* | --target=*) add_value "${1%%=*}" "${1%%=*}=" "${1#*=}" ;;
+      *) words+=("$1") ;;
+    esac
+    shift
+  done
+  try_unproved feats "${words[@]}"
 }

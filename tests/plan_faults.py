@@ -6,7 +6,7 @@ import json
 import os
 from typing import NamedTuple
 
-from plan_files import HOST, TARGETS, TOP, cases_of
+from plan_files import HOST, TARGETS, TOP, cases_of, table_of
 from plan_workspaces import WINDOWS
 
 METADATA = '`cargo metadata --format-version 1 --all-features`'
@@ -79,13 +79,17 @@ def file_faults():
     yield 'no host there', words(host='{none}'), unopened
     yield 'no target there', words('{document}', '{host}', '--target', f'{WINDOWS}={{none}}'), unopened
     yield 'no manifest there', words('{document}', '{host}', '--manifest', '{none}'), unopened
-    yield 'a folder as document', words('{folder}'), None
-    yield 'a folder as host', words(host='{folder}'), None
+    yield 'a folder as document', words('{folder}'), 'cannot read `{folder}`'
+    yield 'a folder as host', words(host='{folder}'), 'cannot read `{folder}`'
+    yield 'an empty name', words(''), 'cannot open ``: check the path and its permissions'
     yield 'a host that is not UTF-8', words(host='{latin}'), f"the cfg text of {HOST} isn't UTF-8: make it by {CFG}"
     yield 'a host with a line that is no fact', words(host='{no-fact}'), f'line 3 of the cfg text of {HOST} is no fact: make it by {CFG}'
     target = f'the cfg text of {WINDOWS} is no fact: make it by `rustc --print cfg --target {WINDOWS}`'
     yield 'such a target', words('{document}', '{host}', '--target', f'{HOST}={{host}}', '--target', f'{WINDOWS}={{no-fact}}'), f'line 3 of {target}'
     yield 'a manifest that is not UTF-8', words('{document}', '{no-fact}', '--manifest', '{latin}'), "the manifest isn't UTF-8: pass the root Cargo.toml"
+    yield 'the manifest, before the host', words('{document}', '{latin}', '--manifest', '{no-toml}'), "the manifest isn't a TOML document: pass the root Cargo.toml"
+    yield 'the host, before a target', words('{document}', '{no-fact}', '--target', f'{WINDOWS}={{latin}}'), f'line 3 of the cfg text of {HOST} is no fact: make it by {CFG}'
+    yield 'a target, before the document', words('{latin}', '{host}', '--target', f'{WINDOWS}={{no-fact}}'), f'line 3 of {target}'
     yield 'a manifest that is no TOML', words('{document}', '{host}', '--manifest', '{no-toml}'), "the manifest isn't a TOML document: pass the root Cargo.toml"
 
 
@@ -156,8 +160,8 @@ WITHOUT = {
 }
 
 
-def runs(room, table_of):
-    """Yields the runs. `table_of` makes the text of a plan."""
+def runs(room):
+    """Yields the runs."""
     cases = {}
     for case in cases_of(TOP / 'tests/plans/worked.plans'):
         cases.setdefault(case.workspace, case)
@@ -170,7 +174,7 @@ def runs(room, table_of):
         return [it.format(**paths) for it in words]
 
     for name, words, said in [*word_faults(), *file_faults()]:
-        yield Run(name, placed(words), said and said.replace('{none}', paths['none']), text)
+        yield Run(name, placed(words), said and placed([said])[0], text)
     usual = placed(['plan', '--metadata', '-', '--host', f'{HOST}={{host}}'])
     for name, value, said in document_faults(document):
         yield Run(name, usual, said, value if isinstance(value, bytes) else json.dumps(value).encode())

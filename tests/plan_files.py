@@ -81,3 +81,22 @@ def cases_of(path):
 
 def all_cases():
     return [case for path in sorted(FOLDER.glob('*.plans')) for case in cases_of(path)]
+
+
+def parts_of(line):
+    """A line of a plan as its place, its label and its features. A label is a name, a version, and perhaps a source in brackets."""
+    place, *words = line.split(' ')
+    count = 3 if words[2:] and words[2].startswith('(') else 2
+    return place, ' '.join(words[:count]), words[count:]
+
+
+def table_of(plan):
+    """The text that `feats` prints of a plan: columns that are two spaces apart."""
+    rows = [parts_of(line) for line in plan]
+    first = max((len(place.encode()) for place, _, _ in rows), default=0)
+    second = max((len(label.encode()) for _, label, _ in rows), default=0)
+
+    def cell(text, width):
+        return text + ' ' * (width - len(text.encode()) + 2)
+
+    return ''.join(f'{cell(place, first)}{cell(label, second) + " ".join(features) if features else label}\n' for place, label, features in rows)

@@ -1,6 +1,7 @@
 //! Faults of the command line and of its files.
-ghost use Rattle.std.specs.Prelude.{◌≡◌, [], ◌∷◌, false, IfOk, IfErr, IfSome, codes};
-ghost use Rattle.feats_files.specs.Messages.{IsRefused, joined};
+ghost use Rattle.std.specs.Prelude.{◌≡◌, ℕ, List, [], ◌∷◌, true, false, IfOk, OnOk, IfErr, OnErr, IfSome, codes};
+ghost use Rattle.std.specs.Io.KnownBytes.{Consumes, IsAtEnd};
+ghost use Rattle.feats_files.specs.Messages.{IsRefused, Says, joined};
 
 use crate::fault::Fault;
 use crate::message::refused;
@@ -38,11 +39,15 @@ pub fn unopened(alloc: Global, path: &str) -> Fault
     )
 }
 
-/// Returns all bytes that are left of the file at `path`.
+/// Returns all bytes that are left of the file at `path`. It is refused if a read fails; then some bytes may have been taken.
 pub fn bytes_of<R: ByteInput>(alloc: Global, reader: &mut R, path: &str) -> Result<Vec<u8>, Fault>
     requires fresh { R.failed reader.old ≡ false }
     ensures bytes { IfOk result (λ v. IfSome (R.left reader.old) (λ xs. v.items ≡ xs)) }
+    ensures end { OnOk result (IsAtEnd (R.left reader.new)) }
+    ensures fresh { OnOk result (R.failed reader.new ≡ false) }
     ensures fault { IfErr result (λ fault. IsRefused (joined (codes "cannot read `" ∷ path.now ∷ codes "`" ∷ [])) fault) }
+    ensures failed { IfErr result (λ fault. Says fault (λ _. R.failed reader.new ≡ true)) }
+    ensures taken { OnErr result ((front : List ℕ) × Consumes (R.left reader.old) (R.left reader.new) front) }
 {
     match read_all(alloc, reader) {
         Ok(bytes) => Ok(bytes),

@@ -18,12 +18,13 @@ pub struct ToPipe<W> {
 }
 
 impl<W: Write> ToPipe<W> {
-    ghost use Rattle.feats_files.specs.Pipes.{pipe_failed, pipe_writer};
+    ghost use Rattle.feats_files.specs.Pipes.{pipe_closed, pipe_failed, pipe_writer};
 
     /// Wraps `writer`. No write counts as failed yet.
     pub fn new(writer: W) -> Self
         ensures writer { pipe_writer result ≡ writer }
         ensures fresh { pipe_failed result ≡ false }
+        ensures open { pipe_closed result ≡ false }
     {
         ToPipe {
             writer,
@@ -33,7 +34,9 @@ impl<W: Write> ToPipe<W> {
     }
 
     /// Returns whether a write has failed because the pipe is closed at its other end.
-    pub fn is_closed(&self) -> bool {
+    pub fn is_closed(&self) -> bool
+        ensures { result ≡ pipe_closed self.now }
+    {
         self.is_closed
     }
 

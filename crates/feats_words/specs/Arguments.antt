@@ -1,4 +1,4 @@
--- The arguments of `plan`: what it is asked for, with each word read.
+-- The arguments of `plan`, parsed from the words of a request.
 use Rattle.std.specs.Prelude.{List, Bool, Option, None, Some, Result, Ok, Err, flat_map, codes, ok_or, if◌then◌else◌}
 use Rattle.std.specs.Str.{bytes_eq}
 use Rattle.std.specs.Option.{option_map_or}

@@ -1,4 +1,4 @@
-//! The arguments of `plan`: what it is asked for, with each word read.
+//! The arguments of `plan`, parsed from the words of a request.
 ghost use Rattle.std.specs.Prelude.{map, option_map};
 ghost use Rattle.feats_words.specs.Arguments as spec;
 ghost use Rattle.feats_words.specs.Refusals.{Gives};

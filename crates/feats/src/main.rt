@@ -1,0 +1,209 @@
+//! The program `feats COMMAND`.
+//!
+//! `feats plan` prints the packages that a build compiles, each with its place and its features. The answer, and the text of `--help`,
+//! go to standard output. A fault is one line on standard error, or `clap`'s text about the words; the exit status is then 2. A
+//! pipe that is closed at its other end is no fault.
+#![tactic(auto)]
+
+ghost use Rattle.std.specs.Prelude.{◌≡◌, false, IfOk};
+ghost use Rattle.byte_devices.specs.StdDevices.{read_failed};
+
+use byte_devices::{ByteInput, Failed, FromReader, write_all};
+use clap::Error;
+use clap::error::ErrorKind as MistakeKind;
+use feats_files::{Fault, PlatformFile, ToPipe, bytes_of, no_command, not_text, unopened};
+use feats_tool::{PlanFiles, plan_arguments, platform_file, run};
+use feats_words::{PlanArguments, PlanRequest, PlatformWord, Request, ResolverSource, parse};
+use std::alloc::{AllocError, Global};
+use std::fs::File;
+use std::io::ErrorKind;
+use std::process::ExitCode;
+use std::{env, io};
+
+/// Opens the file at `path`.
+fn opened(rt: &HostRuntime, path: &str) -> Result<FromReader<File>, Fault>
+    ensures { IfOk result (λ reader. read_failed reader ≡ false) }
+{
+    match File::open(rt, path) {
+        Ok(file) => Ok(FromReader::new(file)),
+        Err(_) => Err(unopened(rt.alloc(), path)),
+    }
+}
+
+/// Returns the bytes of the manifest from which the version of the resolver is read, if there is one.
+fn manifest(rt: &HostRuntime, source: ResolverSource<'_>) -> Result<Vec<u8>, Fault> {
+    match source {
+        ResolverSource::Version(_) => Ok(Vec::new(rt.alloc())),
+        ResolverSource::Manifest(path) => {
+            let mut reader = opened(rt, path)?;
+            bytes_of(rt.alloc(), &mut reader, path)
+        }
+    }
+}
+
+/// Returns the platform of `word`, with the bytes of its file.
+fn platform<'f>(rt: &HostRuntime, word: PlatformWord<'f>) -> Result<PlatformFile<'f>, Fault> {
+    let mut reader = opened(rt, word.path)?;
+    platform_file(rt.alloc(), word, &mut reader)
+}
+
+/// Returns the platforms of `words`, with the bytes of their files.
+fn platforms<'f>(
+    rt: &HostRuntime,
+    words: &[PlatformWord<'f>],
+) -> Result<Vec<PlatformFile<'f>>, Fault> {
+    let mut files = Vec::with_capacity(rt.alloc(), words.len())?;
+    for word in words {
+        files.push(platform(rt, *word)?)?;
+    }
+    Ok(files)
+}
+
+/// Returns the files that `arguments` name, besides the document.
+fn plan_files<'f>(
+    rt: &HostRuntime,
+    arguments: &PlanArguments<'f>,
+) -> Result<PlanFiles<'f>, Fault> {
+    let manifest = manifest(rt, arguments.resolver)?;
+    let host = platform(rt, arguments.host)?;
+    let targets = platforms(rt, &arguments.targets)?;
+    Ok(PlanFiles {
+        manifest,
+        host,
+        targets,
+    })
+}
+
+/// Writes the answer over the document of `reader` to standard output.
+fn write_answer<R: ByteInput>(
+    rt: &HostRuntime,
+    arguments: &PlanArguments<'_>,
+    files: &PlanFiles<'_>,
+    reader: &mut R,
+) -> Result<(), Fault>
+    requires { R.failed reader.old ≡ false }
+{
+    let mut writer = ToPipe::new(io::writer(rt));
+    let ended = run(rt.alloc(), arguments, files, reader, &mut writer);
+    if writer.is_closed() {
+        return Ok(());
+    }
+    ended
+}
+
+/// Answers `arguments`, over these files and the document that they name.
+fn answer(
+    rt: &HostRuntime,
+    arguments: &PlanArguments<'_>,
+    files: &PlanFiles<'_>,
+) -> Result<(), Fault> {
+    if arguments.metadata == "-" {
+        let mut reader = FromReader::new(rt.stdin());
+        return write_answer(rt, arguments, files, &mut reader);
+    }
+    let mut reader = opened(rt, arguments.metadata)?;
+    write_answer(rt, arguments, files, &mut reader)
+}
+
+/// Answers a request for a plan.
+fn plan(rt: &HostRuntime, request: PlanRequest<'_>) -> Result<(), Fault> {
+    let arguments = plan_arguments(rt.alloc(), request)?;
+    let files = plan_files(rt, &arguments)?;
+    answer(rt, &arguments, &files)
+}
+
+/// Writes `text` to standard output.
+fn write_text(rt: &HostRuntime, text: &str) -> Result<(), Fault> {
+    let mut writer = ToPipe::new(io::writer(rt));
+    match write_all(&mut writer, text.as_bytes()) {
+        Ok(()) => Ok(()),
+        Err(Failed) => {
+            if writer.is_closed() {
+                Ok(())
+            } else {
+                Err(Fault::CannotWrite)
+            }
+        }
+    }
+}
+
+/// Returns the text of `clap` that `error` has.
+fn text_of(alloc: Global, error: &Error) -> Result<String, AllocError> {
+    format!(in alloc; "{error}")
+}
+
+/// Writes the text of `--help` to standard output.
+fn help(rt: &HostRuntime, error: &Error) -> Result<(), Fault> {
+    let text = text_of(rt.alloc(), error)?;
+    write_text(rt, text.as_str())
+}
+
+/// Returns the exit status of a run that ended so, and says the fault.
+fn ended(rt: &HostRuntime, result: Result<(), Fault>) -> ExitCode {
+    match result {
+        Ok(()) => ExitCode::SUCCESS,
+        Err(fault) => {
+            let _ = eprintln!(rt; "feats: {fault}");
+            ExitCode::from(2)
+        }
+    }
+}
+
+/// Returns the exit status for words that ask for help, or are mistaken, and says so.
+fn unparsed(rt: &HostRuntime, error: &Error) -> ExitCode {
+    if error.kind() == MistakeKind::OutOfMemory {
+        return ended(rt, Err(Fault::Memory));
+    }
+    if !error.use_stderr() {
+        return ended(rt, help(rt, error));
+    }
+    let _ = error.print(rt);
+    ExitCode::from(2)
+}
+
+/// Answers `words`, the first of which is the program's name, and returns the exit status.
+fn answer_words(rt: &HostRuntime, words: &[&str]) -> ExitCode {
+    match parse(rt.alloc(), words) {
+        Ok(Some(Request::Plan(request))) => ended(rt, plan(rt, request)),
+        Ok(None) => ended(rt, Err(no_command(rt.alloc()))),
+        Err(error) => unparsed(rt, &error),
+    }
+}
+
+/// Returns the words of the command line.
+fn command_line(rt: &HostRuntime) -> Result<Vec<String>, Fault> {
+    let arguments = match env::args(rt) {
+        Ok(arguments) => arguments,
+        Err(error) if error.kind() == ErrorKind::InvalidData => return Err(not_text(rt.alloc())),
+        Err(_) => return Err(Fault::Memory),
+    };
+    let mut words = Vec::new(rt.alloc());
+    for word in arguments {
+        words.push(word)?;
+    }
+    Ok(words)
+}
+
+/// Returns the texts of `words`.
+fn texts_of(alloc: Global, words: &[String]) -> Result<Vec<&str>, AllocError> {
+    let mut texts = Vec::with_capacity(alloc, words.len())?;
+    for word in words {
+        texts.push(word.as_str())?;
+    }
+    Ok(texts)
+}
+
+/// Answers the words `owned`, and returns the exit status.
+fn answer_owned(rt: &HostRuntime, owned: &[String]) -> ExitCode {
+    match texts_of(rt.alloc(), owned) {
+        Ok(words) => answer_words(rt, &words),
+        Err(_) => ended(rt, Err(Fault::Memory)),
+    }
+}
+
+fn main(rt: HostRuntime) -> ExitCode {
+    match command_line(&rt) {
+        Ok(words) => answer_owned(&rt, &words),
+        Err(fault) => ended(&rt, Err(fault)),
+    }
+}

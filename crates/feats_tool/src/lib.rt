@@ -1,0 +1,17 @@
+//! The engine of the program `feats`: reads the document of a workspace, makes a plan, and writes it.
+#![tactic(auto)]
+
+mod answer;
+mod basis;
+mod documents;
+mod engine;
+mod inputs;
+mod plan_messages;
+mod planning;
+mod texts;
+mod word_faults;
+
+pub use answer::answer;
+pub use engine::run;
+pub use inputs::{PlanFiles, platform_file};
+pub use word_faults::plan_arguments;
