@@ -58,7 +58,7 @@ pub record IsDocumentText (inputs : InputsText) (basis : BasisText) (d : Json) (
 
 -- The message why the document has no plan. If the document is at fault, only that is claimed.
 pub data IsDocumentRefusal (inputs : InputsText) (basis : BasisText) (d : Json) (message : Text) : Type 0 where
-  of_document : IsErr (workspace_in d) → IsDocumentRefusal inputs basis d message
+  no_workspace : IsErr (workspace_in d) → IsDocumentRefusal inputs basis d message
   of_workspace : (w : WorkspaceText) → workspace_in d ≡ Ok w → IsWorkspaceRefusal inputs basis w message → IsDocumentRefusal inputs basis d message
 
 abbrev pub not_text_message : Text
@@ -73,7 +73,7 @@ pub record IsBytesText (inputs : InputsText) (basis : BasisText) (bytes text : T
 pub data IsBytesRefusal (inputs : InputsText) (basis : BasisText) (bytes message : Text) : Type 0 where
   not_text : (IsUtf8 bytes → ⊥) → message ≡ not_text_message → IsBytesRefusal inputs basis bytes message
   not_json : IsUtf8 bytes → document bytes ≡ None → IsBytesRefusal inputs basis bytes message
-  of_document : IsUtf8 bytes → IsSomeAnd (document bytes) (λ d. IsDocumentRefusal inputs basis d message) → IsBytesRefusal inputs basis bytes message
+  of_json : IsUtf8 bytes → IsSomeAnd (document bytes) (λ d. IsDocumentRefusal inputs basis d message) → IsBytesRefusal inputs basis bytes message
 
 -- THE ANSWER: the text for the arguments, the files and the bytes of the document.
 pub record IsAnswer (inputs : InputsText) (bytes text : Text) : Type 0 where
