@@ -60,10 +60,7 @@ fn platforms<'f>(
 }
 
 /// Returns the files that `arguments` name, besides the document.
-fn plan_files<'f>(
-    rt: &HostRuntime,
-    arguments: &PlanArguments<'f>,
-) -> Result<PlanFiles<'f>, Fault> {
+fn plan_files<'f>(rt: &HostRuntime, arguments: &PlanArguments<'f>) -> Result<PlanFiles<'f>, Fault> {
     let manifest = manifest(rt, arguments.resolver)?;
     let host = platform(rt, arguments.host)?;
     let targets = platforms(rt, &arguments.targets)?;

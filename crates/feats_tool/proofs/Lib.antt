@@ -1,2 +1,4 @@
+pub mod Ends
+pub mod Memory
 pub mod Says
 pub mod Stages

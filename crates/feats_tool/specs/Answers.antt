@@ -47,8 +47,8 @@ pub record IsWorkspaceText (inputs : InputsText) (basis : BasisText) (w : Worksp
 pub data IsWorkspaceRefusal (inputs : InputsText) (basis : BasisText) (w : WorkspaceText) (message : Text) : Type 0 where
   of_specs : IsSpecRefusal w.packages (declared_specs w.packages) message → IsWorkspaceRefusal inputs basis w message
   of_plan :
-    (host : Text → Bool) (targets : List (Text → Bool)) → AreHolding w basis host targets
-    → IsPlanRefusal w (words_of inputs.arguments basis.version host targets) message → IsWorkspaceRefusal inputs basis w message
+      (host : Text → Bool) (targets : List (Text → Bool)) → AreHolding w basis host targets
+      → IsPlanRefusal w (words_of inputs.arguments basis.version host targets) message → IsWorkspaceRefusal inputs basis w message
 
 -- The text of a plan of the workspace that a document describes.
 pub record IsDocumentText (inputs : InputsText) (basis : BasisText) (d : Json) (text : Text) : Type 0 where

@@ -22,6 +22,6 @@ pub data IsBasisRefusal (inputs : InputsText) (message : Text) : Type 0 where
   of_manifest : IsVersionRefusal inputs.arguments.resolver inputs.manifest message → IsBasisRefusal inputs message
   of_host : (version : Resolver) → IsVersion inputs.arguments.resolver inputs.manifest version → IsCfgRefusal inputs.host.triple inputs.host.content message → IsBasisRefusal inputs message
   of_targets :
-    (version : Resolver) → IsVersion inputs.arguments.resolver inputs.manifest version
-    → (host : Target) → IsTargetOf inputs.host.triple inputs.host.content host
-    → IsFirstCfgRefusal (target_files inputs.host inputs.targets) message → IsBasisRefusal inputs message
+      (version : Resolver) → IsVersion inputs.arguments.resolver inputs.manifest version
+      → (host : Target) → IsTargetOf inputs.host.triple inputs.host.content host
+      → IsFirstCfgRefusal (target_files inputs.host inputs.targets) message → IsBasisRefusal inputs message

@@ -45,7 +45,9 @@ fn bytes_text(
     let Ok(text) = str::from_utf8(bytes) else {
         return Err(refused(
             alloc,
-            &["the document isn't UTF-8: make it by `cargo metadata --format-version 1 --all-features`"],
+            &[
+                "the document isn't UTF-8: make it by `cargo metadata --format-version 1 --all-features`",
+            ],
         ));
     };
     let mut scratch = Scratch::new(alloc);

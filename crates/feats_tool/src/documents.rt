@@ -27,10 +27,7 @@ fn document_refused(alloc: Global, fault: WorkspaceFault<'_>) -> Fault
 }
 
 /// Returns the workspace that `document` describes.
-pub(crate) fn workspace_of<'v>(
-    alloc: Global,
-    document: Value<'v>,
-) -> Result<Workspace<'v>, Fault>
+pub(crate) fn workspace_of<'v>(alloc: Global, document: Value<'v>) -> Result<Workspace<'v>, Fault>
     ensures workspace { IfOk result (λ w. spec.workspace_in (value_view document.entry) ≡ Ok (workspace_text w)) }
     ensures fault { IfErr result (λ fault. Says fault (λ _. IsErr (spec.workspace_in (value_view document.entry)))) }
 {

@@ -113,11 +113,7 @@ fn side_word(side: Side) -> &'static str
 }
 
 /// Returns the refusal of a selection that has no plan.
-pub(crate) fn plan_refused(
-    alloc: Global,
-    workspace: &Workspace<'_>,
-    fault: PlanFault<'_>,
-) -> Fault
+pub(crate) fn plan_refused(alloc: Global, workspace: &Workspace<'_>, fault: PlanFault<'_>) -> Fault
     ensures { IsRefused (spec.plan_message (workspace_text workspace.now).packages fault.entry) result }
 {
     match fault {

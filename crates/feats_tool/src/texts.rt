@@ -15,10 +15,7 @@ use plan_lines::{Shown, lines_of, objects_of};
 use std::alloc::{AllocError, Global};
 
 /// Returns the triples of `files`.
-fn triples_of<'f>(
-    alloc: Global,
-    files: &[PlatformFile<'f>],
-) -> Result<Vec<&'f str>, AllocError>
+fn triples_of<'f>(alloc: Global, files: &[PlatformFile<'f>]) -> Result<Vec<&'f str>, AllocError>
     ensures { IfOk result (λ names. texts names.items ≡ map (λ f. f.triple) (map file_text files.now)) }
 {
     let mut names = Vec::with_capacity(alloc, files.len())?;
@@ -29,10 +26,7 @@ fn triples_of<'f>(
 }
 
 /// Returns the names of the target platforms of `files`: a single one is `target`, and several have their triples.
-fn target_names<'f>(
-    alloc: Global,
-    files: &[PlatformFile<'f>],
-) -> Result<Vec<&'f str>, AllocError>
+fn target_names<'f>(alloc: Global, files: &[PlatformFile<'f>]) -> Result<Vec<&'f str>, AllocError>
     ensures { IfOk result (λ names. texts names.items ≡ spec.target_names (map file_text files.now)) }
 {
     match files {
@@ -59,11 +53,11 @@ fn place_name<'n>(names: &[&'n str], place: Place) -> &'n str
 }
 
 /// Returns what is shown of `unit`.
-fn shown_of<'u, 'v>(
+fn shown_of<'u, 'v, 'w>(
     names: &[&'u str],
     workspace: &'u Workspace<'v>,
-    unit: &'u Unit<'u>,
-) -> Option<Shown<'u, 'v, 'u>>
+    unit: &'u Unit<'w>,
+) -> Option<Shown<'u, 'v, 'w>>
     ensures { option_map shown_text result ≡ spec.shown_of (texts names.now) (workspace_text workspace.now).packages (unit_text unit.now) }
 {
     match workspace.packages().get(unit.package) {
@@ -77,12 +71,12 @@ fn shown_of<'u, 'v>(
 }
 
 /// Returns what is shown of `units`.
-fn all_shown<'u, 'v>(
+fn all_shown<'u, 'v, 'w>(
     alloc: Global,
     names: &[&'u str],
     workspace: &'u Workspace<'v>,
-    units: &'u [Unit<'u>],
-) -> Result<Vec<Shown<'u, 'v, 'u>>, AllocError>
+    units: &'u [Unit<'w>],
+) -> Result<Vec<Shown<'u, 'v, 'w>>, AllocError>
     ensures { IfOk result (λ shown. map shown_text shown.items ≡ spec.all_shown (texts names.now) (workspace_text workspace.now).packages (map unit_text units.now)) }
 {
     let mut shown = Vec::with_capacity(alloc, units.len())?;
