@@ -30,6 +30,11 @@ IsVersion (manifest_at path) bytes resolver = IsResolverOf bytes (Ok resolver)
 abbrev pub IsManifestRefusal : Text → Text → Type 0
 IsManifestRefusal bytes message = (fault : ManifestFault) × IsResolverOf bytes (Err fault) × (message ≡ manifest_message fault)
 
+-- The same, if a manifest is to choose the version.
+abbrev pub IsVersionRefusal : SourceText → Text → Text → Type 0
+IsVersionRefusal (version_given version) bytes message = ⊥
+IsVersionRefusal (manifest_at path) bytes message = IsManifestRefusal bytes message
+
 abbrev pub line_message : Text → ℕ → Text
 line_message triple line = joined (codes "line " ∷ decimal line ∷ codes " of the cfg text of " ∷ triple ∷ codes " is no fact: make it by `rustc --print cfg --target " ∷ triple ∷ codes "`" ∷ [])
 

@@ -62,7 +62,7 @@ pub fn resolver(
     manifest: &[u8],
 ) -> Result<Resolver, Fault>
     ensures version { IfOk result (spec.IsVersion (source_text source.entry) manifest.now) }
-    ensures fault { IfErr result (λ fault. Says fault (spec.IsManifestRefusal manifest.now)) }
+    ensures fault { IfErr result (λ fault. Says fault (spec.IsVersionRefusal (source_text source.entry) manifest.now)) }
 {
     match source {
         ResolverSource::Version(version) => Ok(version),
