@@ -136,8 +136,8 @@ fn help(rt: &HostRuntime, error: &Error) -> Result<(), Fault> {
 }
 
 /// Returns the exit status of a run that ended so, and says the fault.
-fn ended(rt: &HostRuntime, result: Result<(), Fault>) -> ExitCode {
-    match result {
+fn ended(rt: &HostRuntime, outcome: Result<(), Fault>) -> ExitCode {
+    match outcome {
         Ok(()) => ExitCode::SUCCESS,
         Err(fault) => {
             let _ = eprintln!(rt; "feats: {fault}");

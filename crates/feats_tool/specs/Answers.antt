@@ -1,5 +1,5 @@
 -- The answer of `plan`: the text that it prints for arguments and the bytes of files, or the message why there is none.
-use Rattle.std.specs.Prelude.{◌≡◌, ◌×◌, ◌⊎◌, List, [], ◌∷◌, Bool, None, Ok, Err, IsErr, IsSomeAnd, IsUtf8, codes}
+use Rattle.std.specs.Prelude.{◌≡◌, List, [], ◌∷◌, Bool, None, Ok, Err, IsErr, IsSomeAnd, IsUtf8, codes}
 use Rattle.json.specs.Json.{Json}
 use Rattle.cargo_workspaces.specs.Workspaces.{Text, WorkspaceText}
 use Rattle.numbered_workspaces.specs.Faults.{workspace_in}

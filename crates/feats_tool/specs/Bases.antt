@@ -1,5 +1,5 @@
 -- The version of the resolver and the platforms of a plan.
-use Rattle.std.specs.Prelude.{◌⊎◌, List}
+use Rattle.std.specs.Prelude.{List}
 use Rattle.cargo_workspaces.specs.Workspaces.{Text}
 use Rattle.platform_specs.specs.Expressions.{Target}
 use Rattle.manifest_resolvers.specs.declared.resolver.Resolver.{Resolver}

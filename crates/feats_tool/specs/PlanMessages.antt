@@ -31,10 +31,13 @@ abbrev pub side_word : Side → Text
 side_word side.Target = codes "target"
 side_word side.Host = codes "host"
 
+abbrev pub not_on_message : List PackageText → ℕ → Text → Text
+not_on_message packages p side = joined (codes "package " ∷ id_at packages p ∷ codes " isn't built for the " ∷ side ∷ codes ": select a member that depends on it too" ∷ [])
+
 abbrev pub plan_message : List PackageText → PlanFault → Text
 plan_message packages (fault.Words e) = word_message packages e
 plan_message packages (fault.NoTests p) = joined (codes "package " ∷ id_at packages p ∷ codes " isn't a member of the workspace, and its tests need its dependencies for development: leave --tests out" ∷ [])
-plan_message packages (fault.NotOn p side) = joined (codes "package " ∷ id_at packages p ∷ codes " isn't built for the " ∷ side_word side ∷ codes ": select a member that depends on it too" ∷ [])
+plan_message packages (fault.NotOn p side) = not_on_message packages p (side_word side)
 plan_message packages (fault.Lacking p name) =
     joined (codes "the document has no package for the optional dependency `" ∷ name.now ∷ codes "` of " ∷ id_at packages p
     ∷ codes ": make it by `cargo metadata --format-version 1 --all-features --features WORDS` with the words of the selection" ∷ [])

@@ -1,5 +1,5 @@
 -- How a run ends, and what it has written.
-use Rattle.std.specs.Prelude.{◌≡◌, ◌×◌, ◌⊎◌, ◌++◌, [], ◌∷◌, Option, Bool, true, false, IfSome, codes, string_bytes}
+use Rattle.std.specs.Prelude.{◌≡◌, ◌++◌, [], ◌∷◌, Option, Bool, true, false, IfSome, codes, string_bytes}
 use Rattle.std.specs.Io.KnownBytes.{Keeps, Appends}
 use Rattle.cargo_workspaces.specs.Workspaces.{Text}
 use Rattle.feats_files.specs.Messages.{joined}

@@ -5,7 +5,7 @@ ghost use Rattle.feats_tool.specs.Answers.{IsAnswer};
 ghost use Rattle.feats_tool.specs.Inputs.{inputs_text};
 ghost use Rattle.feats_tool.specs.Run.{Ends};
 
-use crate::answer::answer;
+use crate::answers::answer;
 use crate::inputs::PlanFiles;
 use byte_devices::{ByteInput, ByteOutput, Failed, write_all};
 use feats_files::{Fault, bytes_of};

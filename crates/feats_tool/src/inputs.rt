@@ -26,11 +26,11 @@ pub fn platform_file<'f, R: ByteInput>(
     reader: &mut R,
 ) -> Result<PlatformFile<'f>, Fault>
     requires fresh { R.failed reader.old ≡ false }
-    ensures triple { IfOk result (λ file. file.triple.now ≡ word.triple.now) }
+    ensures triple { IfOk result (λ file. file.triple.now ≡ word.entry.triple.now) }
     ensures bytes { IfOk result (λ file. IfSome (R.left reader.old) (λ xs. file.bytes.items ≡ xs)) }
     ensures end { OnOk result (IsAtEnd (R.left reader.new)) }
     ensures fresh { OnOk result (R.failed reader.new ≡ false) }
-    ensures fault { IfErr result (λ fault. IsRefused (unread_message word.path.now) fault) }
+    ensures fault { IfErr result (λ fault. IsRefused (unread_message word.entry.path.now) fault) }
     ensures failed { IfErr result (λ fault. Says fault (λ _. R.failed reader.new ≡ true)) }
     ensures taken { OnErr result ((front : List ℕ) × Consumes (R.left reader.old) (R.left reader.new) front) }
 {

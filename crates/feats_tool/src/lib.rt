@@ -1,7 +1,7 @@
 //! The engine of the program `feats`: reads the document of a workspace, makes a plan, and writes it.
 #![tactic(auto)]
 
-mod answer;
+mod answers;
 mod basis;
 mod documents;
 mod engine;
@@ -11,7 +11,7 @@ mod planning;
 mod texts;
 mod word_faults;
 
-pub use answer::answer;
+pub use answers::answer;
 pub use engine::run;
 pub use inputs::{PlanFiles, platform_file};
 pub use word_faults::plan_arguments;

@@ -31,10 +31,10 @@ fn several_parts<'p>(
 }
 
 /// Returns the refusal of a word that several packages fit.
-fn several_refused(
+fn several_refused<'p>(
     alloc: Global,
-    workspace: &Workspace<'_>,
-    word: &str,
+    workspace: &'p Workspace<'_>,
+    word: &'p str,
     candidates: &[usize],
 ) -> Fault
     ensures { IsRefused (spec.several_message (workspace_text workspace.now).packages word.now candidates.now) result }
@@ -46,7 +46,7 @@ fn several_refused(
 }
 
 /// Returns the refusal of the words of a selection.
-fn selection_refused(alloc: Global, workspace: &Workspace<'_>, fault: WordFault<'_>) -> Fault
+fn selection_refused<'p>(alloc: Global, workspace: &'p Workspace<'_>, fault: WordFault<'p>) -> Fault
     ensures { IsRefused (spec.word_message (workspace_text workspace.now).packages fault.entry) result }
 {
     match fault {
@@ -112,8 +112,33 @@ fn side_word(side: Side) -> &'static str
     }
 }
 
+/// Returns the refusal of a package that isn't on, on the side with this word.
+fn not_on_refused<'p>(
+    alloc: Global,
+    workspace: &'p Workspace<'_>,
+    package: usize,
+    side: &'p str,
+) -> Fault
+    ensures { IsRefused (spec.not_on_message (workspace_text workspace.now).packages «package» side.now) result }
+{
+    refused(
+        alloc,
+        &[
+            "package ",
+            id_at(workspace, package),
+            " isn't built for the ",
+            side,
+            ": select a member that depends on it too",
+        ],
+    )
+}
+
 /// Returns the refusal of a selection that has no plan.
-pub(crate) fn plan_refused(alloc: Global, workspace: &Workspace<'_>, fault: PlanFault<'_>) -> Fault
+pub(crate) fn plan_refused<'p>(
+    alloc: Global,
+    workspace: &'p Workspace<'_>,
+    fault: PlanFault<'p>,
+) -> Fault
     ensures { IsRefused (spec.plan_message (workspace_text workspace.now).packages fault.entry) result }
 {
     match fault {
@@ -126,16 +151,9 @@ pub(crate) fn plan_refused(alloc: Global, workspace: &Workspace<'_>, fault: Plan
                 " isn't a member of the workspace, and its tests need its dependencies for development: leave --tests out",
             ],
         ),
-        PlanFault::NotOn { package, side } => refused(
-            alloc,
-            &[
-                "package ",
-                id_at(workspace, package),
-                " isn't built for the ",
-                side_word(side),
-                ": select a member that depends on it too",
-            ],
-        ),
+        PlanFault::NotOn { package, side } => {
+            not_on_refused(alloc, workspace, package, side_word(side))
+        }
         PlanFault::Lacking {
             package,
             dependency,

@@ -74,14 +74,14 @@ fn plan_text(
 }
 
 /// Returns the text of the plan of `workspace`, where `host` and `targets` are the specs that hold.
-fn held_text(
+fn held_text<'n, 's>(
     alloc: Global,
     arguments: &PlanArguments<'_>,
     files: &PlanFiles<'_>,
     version: Resolver,
     workspace: &Workspace<'_>,
-    host: &HeldSpecs<'_>,
-    targets: &[HeldSpecs<'_>],
+    host: &'n HeldSpecs<'s>,
+    targets: &'n [HeldSpecs<'s>],
 ) -> Result<Vec<u8>, Fault>
     ensures text { IfOk result (λ text. IsPlanText (inputs_text arguments.now files.now) (workspace_text workspace.now) (spec.words_of (arguments_text arguments.now) version (holds_on host.now) (map holds_on targets.now)) text.items) }
     ensures fault { IfErr result (λ fault. Says fault (IsPlanRefusal (workspace_text workspace.now) (spec.words_of (arguments_text arguments.now) version (holds_on host.now) (map holds_on targets.now)))) }
