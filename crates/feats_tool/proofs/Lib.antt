@@ -1,4 +1,3 @@
-pub mod Ends
-pub mod Memory
+pub mod Bases
 pub mod Says
 pub mod Stages

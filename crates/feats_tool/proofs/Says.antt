@@ -1,16 +1,10 @@
 -- Faults with messages.
-use Rattle.std.proofs.Common.{sym, subst, Result, Ok, Err}
-use Rattle.std.specs.Prelude.{IfErr, IfOk, string_bytes}
+use Rattle.std.proofs.Common.{Result, Ok, Err}
+use Rattle.std.specs.Prelude.{IfErr, string_bytes}
 use Rattle.cargo_workspaces.specs.Workspaces.{Text}
-use Rattle.feats_files.specs.Messages.{IsRefused, Says}
+use Rattle.feats_files.specs.Messages.{Says}
 use Rattle.feats_files.specs.declared.fault.Fault.{Fault}
 use Rattle.feats_files.specs.declared.fault.Fault.TheVariants as fault
-
--- A property of the message is one of the fault.
-pub says_of : (f : Fault) (text : Text) (P : Text → Type 0) → IsRefused text f → P text → Says f P
-says_of (fault.Refused message) text P is p = subst P (sym is) p
-says_of fault.Memory text P is p = tt
-says_of fault.CannotWrite text P is p = absurd is
 
 pub says_more : (f : Fault) (P Q : Text → Type 0) → ((m : Text) → P m → Q m) → Says f P → Says f Q
 says_more (fault.Refused message) P Q more p = more (string_bytes message) p
@@ -19,10 +13,6 @@ says_more fault.CannotWrite P Q more p = absurd p
 
 -- for a result that is returned as it is
 module _ {X : Type 0} where
-  pub if_ok_more : (r : Result X Fault) (P Q : X → Type 0) → ((x : X) → P x → Q x) → IfOk r P → IfOk r Q
-  if_ok_more (Ok x) P Q more h = more x h
-  if_ok_more (Err f) P Q more h = tt
-
   pub if_err_more : (r : Result X Fault) (P Q : Text → Type 0) → ((m : Text) → P m → Q m) → IfErr r (λ f. Says f P) → IfErr r (λ f. Says f Q)
   if_err_more (Ok x) P Q more h = tt
   if_err_more (Err f) P Q more h = says_more f P Q more h

@@ -1,29 +1,27 @@
--- Each stage of an answer, from the stages within it.
-use Rattle.std.proofs.Common.{◌≡◌, List, Bool, Ok, Err, subst}
+-- The refusal of a plan as one of its workspace.
+use Rattle.std.proofs.Common.{◌≡◌, List, Bool, subst, sym}
 use Rattle.cargo_workspaces.specs.Workspaces.{Text, WorkspaceText}
+use Rattle.platform_specs.specs.Expressions.{Target}
 use Rattle.plan_platforms.specs.DeclaredSpecs.{DeclaredText, declared_specs}
 use Rattle.plan_platforms.specs.HeldSpecs.{AreHeld}
-use Rattle.feats_files.specs.Platforms.{AreHeldOnEach, IsSpecRefusal}
-use Rattle.feats_tool.specs.Answers.{AreHolding, IsPlanRefusal, IsPlanText, IsWorkspaceRefusal, IsWorkspaceText, of_plan, of_specs}
+use Rattle.feats_files.specs.Platforms.{AreHeldOnEach}
+use Rattle.feats_tool.specs.Answers.{AreHolding, IsPlanRefusal, IsWorkspaceRefusal, of_plan}
 use Rattle.feats_tool.specs.Bases.{BasisText}
 use Rattle.feats_tool.specs.Inputs.{InputsText}
 use Rattle.feats_tool.specs.Selections.{words_of}
 
--- the specs of a workspace, under another name
-module _ (w : WorkspaceText) (specs : List DeclaredText) (are : specs ≡ declared_specs w.packages) where
-  pub holding : (basis : BasisText) (host : Text → Bool) (targets : List (Text → Bool)) → AreHeld basis.host specs host → AreHeldOnEach basis.targets specs targets → AreHolding w basis host targets
-  holding basis host targets on each = record {
-    on_host = subst (λ s. AreHeld basis.host s host) are on;
-    on_targets = subst (λ s. AreHeldOnEach basis.targets s targets) are each;
-  }
-
-  pub specs_refused : (inputs : InputsText) (basis : BasisText) (m : Text) → IsSpecRefusal w.packages specs m → IsWorkspaceRefusal inputs basis w m
-  specs_refused inputs basis m h = of_specs (subst (λ s. IsSpecRefusal w.packages s m) are h)
-
--- the plan with the specs that hold
-module _ (inputs : InputsText) (basis : BasisText) (w : WorkspaceText) (host : Text → Bool) (targets : List (Text → Bool)) (are : AreHolding w basis host targets) where
-  pub plan_shown : (text : Text) → IsPlanText inputs w (words_of inputs.arguments basis.version host targets) text → IsWorkspaceText inputs basis w text
-  plan_shown text h = record { host = host; targets = targets; are_holding = are; is_text = h }
-
-  pub plan_refused : (m : Text) → IsPlanRefusal w (words_of inputs.arguments basis.version host targets) m → IsWorkspaceRefusal inputs basis w m
-  plan_refused m h = of_plan host targets are h
+-- the specs and the targets are known under other names
+module _ (inputs : InputsText) (basis : BasisText) (w : WorkspaceText) (host : Text → Bool) (targets : List (Text → Bool)) where
+  pub held_refused :
+      (specs : List DeclaredText) → specs ≡ declared_specs w.packages → AreHeld basis.host specs host
+      → (others : List DeclaredText) → others ≡ declared_specs w.packages → (on : List Target) → on ≡ basis.targets
+      → (each : List (Text → Bool)) → targets ≡ each → AreHeldOnEach on others each
+      → (m : Text) → IsPlanRefusal w (words_of inputs.arguments basis.version host targets) m → IsWorkspaceRefusal inputs basis w m
+  held_refused specs are held others same on all each named are_held m h =
+      let by_targets : AreHeldOnEach basis.targets others each = subst (λ ts. AreHeldOnEach ts others each) all are_held in
+      let by_specs : AreHeldOnEach basis.targets (declared_specs w.packages) each = subst (λ s. AreHeldOnEach basis.targets s each) same by_targets in
+      let holding : AreHolding w basis host targets = record {
+        on_host = subst (λ s. AreHeld basis.host s host) are held;
+        on_targets = subst (λ ts. AreHeldOnEach basis.targets (declared_specs w.packages) ts) (sym named) by_specs;
+      } in
+      of_plan host targets holding h
