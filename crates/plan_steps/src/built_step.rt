@@ -18,7 +18,6 @@ use step_visits::{Visited, visit};
 
 /// Returns the tables of the step: `with_dev` is, by the number of an entry, whether it starts with its dependencies for
 /// development.
-#[tactic(auto, using(crate::proofs::StepVisits::built_tables))]
 fn tables_of_flags<P: Platform>(
     alloc: Global,
     ids: &Ids,
@@ -53,7 +52,6 @@ fn tables<P: Platform>(
 }
 
 /// Returns the visit of `tables`, which are those of the step.
-#[tactic(auto, using(crate::proofs::StepVisits::built_visit))]
 fn visited<P: Platform>(
     alloc: Global,
     workspace: &Workspace<'_>,

@@ -19,7 +19,6 @@ use std::alloc::{AllocError, Global};
 use step_visits::{Visited, visit};
 
 /// Returns the tables of the step: `kept` is the visit of step `resolved`.
-#[tactic(auto, unfolding(crate::specs::inner::StepTables::AreOnTables))]
 fn tables<P: Platform>(
     alloc: Global,
     ids: &Ids,
@@ -70,7 +69,6 @@ fn places<P: Platform>(
 }
 
 /// Returns the visit of `tables`, which are those of the step.
-#[tactic(auto, using(crate::proofs::StepVisits::on_visit))]
 fn visited<P: Platform>(
     alloc: Global,
     workspace: &Workspace<'_>,

@@ -19,7 +19,6 @@ use std::alloc::{AllocError, Global};
 use step_visits::{Visited, visit};
 
 /// Returns the tables of the step, whose features are `gated`.
-#[tactic(auto, unfolding(crate::specs::inner::StepTables::AreResolvedTables))]
 fn tables_of_gated<P: Platform>(
     alloc: Global,
     ids: &Ids,
@@ -85,7 +84,6 @@ fn places<P: Platform>(
 }
 
 /// Returns the visit of `tables`, which are those of the step.
-#[tactic(auto, using(crate::proofs::StepVisits::resolved_visit))]
 fn visited<P: Platform>(
     alloc: Global,
     workspace: &Workspace<'_>,

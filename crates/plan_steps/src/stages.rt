@@ -49,7 +49,6 @@ pub(crate) fn settled<P: Platform>(
 }
 
 /// Returns which of the `selected` packages start, and where. An allocation's failure is the only error.
-#[tactic(auto, unfolding(crate::specs::Plans::starts_by))]
 fn started<P: Platform>(
     alloc: Global,
     workspace: &Workspace<'_>,

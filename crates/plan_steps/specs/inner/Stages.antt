@@ -1,5 +1,5 @@
 -- What the stages of a plan return.
-use Rattle.std.specs.Prelude.{◌≡◌, List, map, Option, Some, None, Result, Ok, Err}
+use Rattle.std.specs.Prelude.{◌≡◌, map, Option, Some, None, Result, Ok, Err, Vec}
 use Rattle.cargo_workspaces.specs.Workspaces.{WorkspaceText}
 use Rattle.plan_rows.specs.Steps.{SettingsText}
 use Rattle.plan_starts.specs.PackageVisits.{PairVisit}
@@ -23,6 +23,6 @@ Checks w s on from None = IsComplete w s on from
 Checks w s on from (Some e) = Stops w s on from e
 
 -- The packages that are built, or the first reason why none is.
-abbrev pub Builds : WorkspaceText → SettingsText → PairVisit → Starts → Result (List Unit) StepFault → Type 0
-Builds w s on from (Ok units) = IsComplete w s on from × AreBuilt w s on from (map unit_text units)
+abbrev pub Builds : WorkspaceText → SettingsText → PairVisit → Starts → Result (Vec Unit) StepFault → Type 0
+Builds w s on from (Ok units) = IsComplete w s on from × AreBuilt w s on from (map unit_text units.items)
 Builds w s on from (Err e) = Stops w s on from e
