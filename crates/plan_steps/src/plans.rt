@@ -11,7 +11,7 @@ use crate::checks::without_tests;
 use crate::entries::ids_of;
 use crate::fault::StepFault;
 use crate::plan::Plan;
-use crate::stages::{settled, units_by};
+use crate::stages::{settle, units_by};
 use cargo_workspaces::Workspace;
 use plan_rows::{Ids, Platform, Settings};
 use std::alloc::Global;
@@ -32,7 +32,7 @@ fn plan_of_steps<'w, P: Platform>(
     requires named { IsTrue (are_commands (command_texts settings.now.commands.now)) }
     ensures { Plans (workspace_text workspace.now) (settings_text P.holds settings.now) selected.now result }
 {
-    let settled = settled(alloc, ids, workspace, settings)?;
+    let settled = settle(alloc, ids, workspace, settings)?;
     let units = units_by(alloc, ids, workspace, settings, &settled, selected)?;
     Ok(Plan {
         units,

@@ -31,7 +31,7 @@ pub(crate) struct Settled {
 }
 
 /// Returns the visits of the first two steps: `ids` has at least two ids a package. An allocation's failure is the only error.
-pub(crate) fn settled<P: Platform>(
+pub(crate) fn settle<P: Platform>(
     alloc: Global,
     ids: &Ids,
     workspace: &Workspace<'_>,

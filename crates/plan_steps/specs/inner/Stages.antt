@@ -1,5 +1,5 @@
 -- What the stages of a plan return.
-use Rattle.std.specs.Prelude.{◌≡◌, map, Option, Some, None, Result, Ok, Err, Vec}
+use Rattle.std.specs.Prelude.{◌≡◌, map, Option, Some, None, Result, Ok, Err, Vec, ⊤}
 use Rattle.cargo_workspaces.specs.Workspaces.{WorkspaceText}
 use Rattle.plan_rows.specs.Steps.{SettingsText}
 use Rattle.plan_starts.specs.PackageVisits.{PairVisit}
@@ -15,7 +15,7 @@ abbrev pub Stops : WorkspaceText → SettingsText → PairVisit → Starts → S
 Stops w s on from (fault.NoTests p) = ⊥
 Stops w s on from (fault.NotOn p side) = not_on w s on from ≡ Some (p, side)
 Stops w s on from (fault.Lacking p name) = (not_on w s on from ≡ None) × (lacks w s on ≡ Some (p, name.now))
-Stops w s on from fault.Memory = Unit {0}
+Stops w s on from fault.Memory = ⊤
 
 -- What the checks return.
 abbrev pub Checks : WorkspaceText → SettingsText → PairVisit → Starts → Option StepFault → Type 0
