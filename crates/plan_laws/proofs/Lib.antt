@@ -1,0 +1,8 @@
+mod BuiltStep
+mod Closed
+mod Declarations
+mod EntryLinks
+mod Members
+mod Monotone
+mod OnePlan
+mod Resolvers

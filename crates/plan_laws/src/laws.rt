@@ -1,0 +1,32 @@
+//! Laws of visits and of plans. Each function does nothing: its contract is the law.
+ghost use Rattle.plan_laws.specs.Laws.{MoreStartsReachMore, MoreStartsVisitMore, OnePlan, OnePlanOfWords, PlansFollowDeclarations, ResolversAgree};
+
+use feature_core::laws::least_monotone;
+use step_visits::one_visit;
+
+/// States that more starts reach more over the same rows, so a command line that starts more turns nothing off.
+pub fn more_starts_reach_more()
+    ensures reach { MoreStartsReachMore }
+    ensures visit { MoreStartsVisitMore }
+{
+    least_monotone();
+}
+
+/// States that each package of a plan is one that declarations lead to from the selected packages.
+pub fn plans_follow_declarations()
+    ensures { PlansFollowDeclarations }
+{}
+
+/// States that all plans of a workspace for the same settings and selected packages, or for the same words, have the same units.
+pub fn one_plan()
+    ensures settings { OnePlan }
+    ensures words { OnePlanOfWords }
+{
+    one_visit();
+}
+
+/// States that resolvers 1 and 2 make the same tables for the targets, if nothing is for the host alone and no declaration depends on
+/// the resolver.
+pub fn resolvers_agree()
+    ensures { ResolversAgree }
+{}
