@@ -74,12 +74,12 @@ module _ (w : WorkspaceText) (is : IsWorkspace w) (P : ℕ → Bool) (follows : 
 
   module _ (s : SettingsText) (with_dev : ℕ → Bool) (limit : ℕ) where
     -- the place to which a declaration leads
-    lands_at : (a p q : ℕ) (first : Bool) → q < count → a * count + count ≤ limit → ((if first then 0 else a * count) + q < limit) × (in_place ((if first then 0 else a * count) + q) ≡ P q)
-    lands_at a p q true below room =
+    lands_at : (a q : ℕ) (first : Bool) → q < count → a * count + count ≤ limit → ((if first then 0 else a * count) + q < limit) × (in_place ((if first then 0 else a * count) + q) ≡ P q)
+    lands_at a q true below room =
         let inside : 0 + q < limit = omega arith in
         let host : 0 + q ≡ 0 * count + q = ap (λ z. z + q) (let none : 0 ≡ 0 * count = omega arith in none) in
         (inside, ap in_place host ∙ at_entry 0 q below)
-    lands_at a p q false below room =
+    lands_at a q false below room =
         let inside : a * count + q < limit = omega arith in
         (inside, at_entry a q below)
 
@@ -96,7 +96,7 @@ module _ (w : WorkspaceText) (is : IsWorkspace w) (P : ℕ → Bool) (follows : 
           let within : is_within count d.leads_to ≡ true = all_member (λ e. is_within count e.leads_to) x.declarations d package.2 member in
           let below : q < count = within_some count q (ap (is_within count) (sym leads) ∙ within) in
           let own : p < count = slice_get_within w.packages p x there in
-          let r = lands_at a p q first below room in
+          let r = lands_at a q first below room in
           let next : (to < limit) × (in_place to ≡ P q) = subst (λ z. (z < limit) × (in_place z ≡ P q)) same r in
           (next.0, λ h. next.1 ∙ follows p q x d there member leads (sym (at_entry a p own) ∙ h))
 

@@ -4,5 +4,7 @@ mod Declarations
 mod EntryLinks
 mod Members
 mod Monotone
+mod MorePlans
+mod MoreSelected
 mod OnePlan
 mod Resolvers

@@ -34,7 +34,7 @@ abbrev pub VisitsAgree : Type 0
 VisitsAgree = (rows : List RowText) (starts : List (ℕ × LabelName)) (u v : Visit) → IsVisitOf rows starts u → IsVisitOf rows starts v → (k : ℕ) (label : LabelName) → reaches u k label ≡ reaches v k label
 
 -- Which labels of a package a visit reaches, at its first entry and at its second.
-abbrev Test : Type 0
+abbrev pub Test : Type 0
 Test = Bool → ℕ → LabelName → Bool
 
 same_test : (n : ℕ) (u v : PairVisit) → u.count ≡ n → v.count ≡ n → ((k : ℕ) (label : LabelName) → reaches u.visit k label ≡ reaches v.visit k label) → ◌≡◌ {A = Test} (reaches_at u) (reaches_at v)
@@ -51,7 +51,7 @@ kept_by kept p name = kept false p (optional name) || kept true p (optional name
 abbrev on_by : Test → Side → ℕ → LabelName → Bool
 on_by on side p label = on (is_host side) p label
 
-abbrev turned_by : Test → Side → ℕ → Text → Bool
+abbrev pub turned_by : Test → Side → ℕ → Text → Bool
 turned_by on side p name = on_by on side p (optional name)
 
 module _ (s : SettingsText) (packages : List PackageText) (selected : List ℕ) (kept on : Test) where
@@ -61,13 +61,13 @@ module _ (s : SettingsText) (packages : List PackageText) (selected : List ℕ) 
   abbrev leads : Text → DeclarationText → Bool
   leads feature d = option_map_or (λ q. on_by on (lands s.split d (is_macro packages q) Target) q (named feature)) d.leads_to false
 
-  abbrev of : ℕ → Text → DeclarationText → Bool
-  of p name d = bytes_eq d.name name && followed p d
+  abbrev called : ℕ → Text → DeclarationText → Bool
+  called p name d = bytes_eq d.name name && followed p d
 
   abbrev met : ℕ → PackageText → Text → Bool
   met p x need = elim (item_of need) [
     | slash_item name feature weak ↦
-        list_any (λ d. of p name d && counts s d) x.declarations && list_any (λ d. of p name d && leads feature d) x.declarations
+        list_any (λ d. called p name d && counts s d) x.declarations && list_any (λ d. called p name d && leads feature d) x.declarations
     | _ ↦ on_by on Target p (named need)
   ]
 
@@ -83,7 +83,7 @@ module _ (s : SettingsText) (packages : List PackageText) (selected : List ℕ) 
   abbrev starts_from : Starts
   starts_from = record { macros = macros_by; others = others_by; hosts = each_from (starts_on_host macros_by others_by) 0 packages }
 
-same_starts : (s : SettingsText) (packages : List PackageText) (selected : List ℕ) (k j o m : PairVisit) → ◌≡◌ {A = Test} (reaches_at k) (reaches_at j) → ◌≡◌ {A = Test} (reaches_at o) (reaches_at m)
+pub same_starts : (s : SettingsText) (packages : List PackageText) (selected : List ℕ) (k j o m : PairVisit) → ◌≡◌ {A = Test} (reaches_at k) (reaches_at j) → ◌≡◌ {A = Test} (reaches_at o) (reaches_at m)
     → starts_of (record { settings = s; packages = packages; kept = k; on = o }) selected ≡ starts_of (record { settings = s; packages = packages; kept = j; on = m }) selected
 same_starts s packages selected k j o m a b = ap₂ (λ kept on. starts_from s packages selected kept on) a b
 
@@ -99,7 +99,7 @@ module _ (o m : PairVisit) (u v : Visit) (on : ◌≡◌ {A = Test} (reaches_at 
   same_targets k first zero = refl
   same_targets k first (suc n) = ap₂ (λ xs ys. xs ++ ys) (same_at (spot.Target k) Target first) (same_targets (k + 1) (first + length packages) n)
 
-  same_units : (split : Bool) (n : ℕ) → units_of split o u packages n ≡ units_of split m v packages n
+  pub same_units : (split : Bool) (n : ℕ) → units_of split o u packages n ≡ units_of split m v packages n
   same_units split n = ap₂ (λ xs ys. xs ++ ys) (same_at spot.Host (side_of split true) 0) (same_targets 0 (length packages) n)
 
 -- The steps of two plans.
@@ -112,23 +112,23 @@ on_is : (w : WorkspaceText) (s : SettingsText) (kept on : PairVisit) → IsOn w 
 unfolding IsOn
 on_is w s kept on h = h
 
-starts_are : (w : WorkspaceText) (s : SettingsText) (selected : List ℕ) (kept on : PairVisit) → starts_by w s selected kept on ≡ starts_of (record { settings = s; packages = w.packages; kept = kept; on = on }) selected
+pub starts_are : (w : WorkspaceText) (s : SettingsText) (selected : List ℕ) (kept on : PairVisit) → starts_by w s selected kept on ≡ starts_of (record { settings = s; packages = w.packages; kept = kept; on = on }) selected
 unfolding starts_by
 starts_are w s selected kept on = refl
 
-built_is : (w : WorkspaceText) (s : SettingsText) (on : PairVisit) (from : Starts) (built : Visit) → IsBuiltFrom w s on from built
+pub built_is : (w : WorkspaceText) (s : SettingsText) (on : PairVisit) (from : Starts) (built : Visit) → IsBuiltFrom w s on from built
     → IsVisitOf (rows_of (built_entries w s (turned_on on) (flag_at (dev_flags s.test (length s.targets) from)))) (start_places (length s.targets) from) built
 unfolding IsBuiltFrom
 built_is w s on from built h = h
 
 module _ (one : VisitsAgree) (w : WorkspaceText) (s : SettingsText) where
-  same_kept : (k j : PairVisit) → IsResolved w s k → IsResolved w s j → ◌≡◌ {A = Test} (reaches_at k) (reaches_at j)
+  pub same_kept : (k j : PairVisit) → IsResolved w s k → IsResolved w s j → ◌≡◌ {A = Test} (reaches_at k) (reaches_at j)
   same_kept k j a b =
       let x = resolved_is w s k a in
       let y = resolved_is w s j b in
       same_test (length w.packages) k j x.0 y.0 (one (rows_of (resolved_entries w s)) (resolved_starts w s) k.visit j.visit x.1 y.1)
 
-  same_on : (k j o m : PairVisit) → ◌≡◌ {A = Test} (reaches_at k) (reaches_at j) → IsOn w s k o → IsOn w s j m → ◌≡◌ {A = Test} (reaches_at o) (reaches_at m)
+  pub same_on : (k j o m : PairVisit) → ◌≡◌ {A = Test} (reaches_at k) (reaches_at j) → IsOn w s k o → IsOn w s j m → ◌≡◌ {A = Test} (reaches_at o) (reaches_at m)
   same_on k j o m kept a b =
       let x = on_is w s k o a in
       let y = on_is w s j m b in

@@ -44,6 +44,11 @@ OnePlan = (w : WorkspaceText) (s : SettingsText) (selected : List ℕ) (p q : Pl
 abbrev pub OnePlanOfWords : Type 0
 OnePlanOfWords = (w : WorkspaceText) (words : WordsText) (p q : PlanText) → IsPlanOf w words p → IsPlanOf w words q → p.units ≡ q.units
 
+-- MORE SELECTED packages build more, for the same settings, if tests aren't built.
+abbrev pub MoreSelectedBuildMore : Type 0
+MoreSelectedBuildMore = (w : WorkspaceText) (s : SettingsText) (selected more : List ℕ) (p q : PlanText) → IsFalse s.test → ((n : ℕ) → Contains selected n → Contains more n)
+    → IsPlan w s selected p → IsPlan w s more q → (u : UnitText) → Contains p.units u → Contains q.units u
+
 -- The settings, if the resolver tells sides apart or doesn't.
 abbrev pub with_split : SettingsText → Bool → SettingsText
 with_split s split = record { split = split; test = s.test; commands = s.commands; host = s.host; targets = s.targets }

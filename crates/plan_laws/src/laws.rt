@@ -1,5 +1,5 @@
 //! Laws of visits and of plans. Each function does nothing: its contract is the law.
-ghost use Rattle.plan_laws.specs.Laws.{MoreStartsReachMore, MoreStartsVisitMore, OnePlan, OnePlanOfWords, PlansFollowDeclarations, ResolversAgree};
+ghost use Rattle.plan_laws.specs.Laws.{MoreSelectedBuildMore, MoreStartsReachMore, MoreStartsVisitMore, OnePlan, OnePlanOfWords, PlansFollowDeclarations, ResolversAgree};
 
 use feature_core::laws::least_monotone;
 use step_visits::one_visit;
@@ -10,6 +10,14 @@ pub fn more_starts_reach_more()
     ensures visit { MoreStartsVisitMore }
 {
     least_monotone();
+}
+
+/// States that more selected packages build more, for the same settings, if tests aren't built.
+pub fn more_selected_build_more()
+    ensures { MoreSelectedBuildMore }
+{
+    least_monotone();
+    one_visit();
 }
 
 /// States that each package of a plan is one that declarations lead to from the selected packages.
