@@ -6,5 +6,6 @@ mod Members
 mod Monotone
 mod MorePlans
 mod MoreSelected
+mod OneOutcome
 mod OnePlan
 mod Resolvers

@@ -48,7 +48,7 @@ same_test n u v a b alike = λ i second p label. nat_lt p (counts i) && alike (f
 abbrev kept_by : Test → ℕ → Text → Bool
 kept_by kept p name = kept false p (optional name) || kept true p (optional name)
 
-abbrev on_by : Test → Side → ℕ → LabelName → Bool
+abbrev pub on_by : Test → Side → ℕ → LabelName → Bool
 on_by on side p label = on (is_host side) p label
 
 abbrev pub turned_by : Test → Side → ℕ → Text → Bool

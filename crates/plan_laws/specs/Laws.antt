@@ -10,8 +10,14 @@ use Rattle.plan_rows.specs.Steps.{SettingsText, admits, is_build, is_development
 use Rattle.plan_rows.specs.declared.side.Side.TheVariants.{Target}
 use Rattle.plan_units.specs.Commands.{on_starts}
 use Rattle.plan_units.specs.Units.{UnitText}
+use Rattle.plan_steps.specs.PlanViews.{IsRefused}
 use Rattle.plan_steps.specs.Plans.{IsPlan, PlanText}
+use Rattle.plan_steps.specs.declared.fault.StepFault.{StepFault}
+use Rattle.plan_steps.specs.declared.fault.StepFault.TheVariants as step
 use Rattle.cargo_plans.specs.Plans.{IsPlanOf, WordsText}
+use Rattle.cargo_plans.specs.Refusals.{IsRefusal}
+use Rattle.cargo_plans.specs.declared.fault.PlanFault.{PlanFault}
+use Rattle.cargo_plans.specs.declared.fault.PlanFault.TheVariants as fault
 
 -- The starts are among the others.
 abbrev pub AreAmong : List (ℕ × LabelName) → List (ℕ × LabelName) → Type 0
@@ -43,6 +49,13 @@ OnePlan = (w : WorkspaceText) (s : SettingsText) (selected : List ℕ) (p q : Pl
 
 abbrev pub OnePlanOfWords : Type 0
 OnePlanOfWords = (w : WorkspaceText) (words : WordsText) (p q : PlanText) → IsPlanOf w words p → IsPlanOf w words q → p.units ≡ q.units
+
+-- A plan excludes all refusals but that an allocation fails.
+abbrev pub PlanExcludesRefusal : Type 0
+PlanExcludesRefusal = (w : WorkspaceText) (s : SettingsText) (selected : List ℕ) (p : PlanText) (e : StepFault) → IsPlan w s selected p → IsRefused w s selected e → e ≡ step.Memory
+
+abbrev pub PlanOfWordsExcludesRefusal : Type 0
+PlanOfWordsExcludesRefusal = (w : WorkspaceText) (words : WordsText) (p : PlanText) (e : PlanFault) → IsPlanOf w words p → IsRefusal w words e → e ≡ fault.Memory
 
 -- MORE SELECTED packages build more, for the same settings, if tests aren't built.
 abbrev pub MoreSelectedBuildMore : Type 0

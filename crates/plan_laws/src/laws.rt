@@ -1,5 +1,5 @@
 //! Laws of visits and of plans. Each function does nothing: its contract is the law.
-ghost use Rattle.plan_laws.specs.Laws.{MoreSelectedBuildMore, MoreStartsReachMore, MoreStartsVisitMore, OnePlan, OnePlanOfWords, PlansFollowDeclarations, ResolversAgree};
+ghost use Rattle.plan_laws.specs.Laws.{MoreSelectedBuildMore, MoreStartsReachMore, MoreStartsVisitMore, OnePlan, OnePlanOfWords, PlanExcludesRefusal, PlanOfWordsExcludesRefusal, PlansFollowDeclarations, ResolversAgree};
 
 use feature_core::laws::least_monotone;
 use step_visits::one_visit;
@@ -29,6 +29,14 @@ pub fn plans_follow_declarations()
 pub fn one_plan()
     ensures settings { OnePlan }
     ensures words { OnePlanOfWords }
+{
+    one_visit();
+}
+
+/// States that no refusal, but that an allocation fails, is one of settings and selected packages, or of words, that have a plan.
+pub fn plan_excludes_refusal()
+    ensures settings { PlanExcludesRefusal }
+    ensures words { PlanOfWordsExcludesRefusal }
 {
     one_visit();
 }
