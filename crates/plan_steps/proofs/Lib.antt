@@ -1,0 +1,2 @@
+pub mod StageLemmas
+pub mod StepVisits

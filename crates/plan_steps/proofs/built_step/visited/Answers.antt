@@ -1,0 +1,10 @@
+use Rattle.cargo_workspaces.specs.WorkspaceView.{workspace_text}
+use Rattle.plan_rows.specs.SettingsView.{settings_text}
+use Rattle.plan_starts.specs.StartViews.{starts_text}
+use Rattle.plan_steps.proofs.StepVisits.{built_visit}
+use Rattle.plan_steps.proofs.built_step.visited.Goals as goal
+
+pub returns : goal.returns
+returns g c =
+    built_visit (workspace_text c.args.workspace.now) (settings_text g.P.Platform.holds c.args.settings.now) c.args.on.now (starts_text c.args.starts.now) c.target_count.result c.in_ok-places.places.items c.deref.result.now c.args.tables c.visit.result
+    c.requires c.target_count.ensures.text c.in_ok-places.ensures c.deref.ensures.value c.visit.ensures

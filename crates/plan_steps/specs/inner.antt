@@ -1,0 +1,3 @@
+-- Definitions for private functions.
+pub mod Stages
+pub mod StepTables

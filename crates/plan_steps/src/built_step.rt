@@ -1,0 +1,85 @@
+//! Step `built`: what is built.
+ghost use Rattle.std.specs.Prelude.{◌≡◌, ◌+◌, ◌*◌, ◌≤◌, IfOk, length, map};
+ghost use Rattle.cargo_workspaces.specs.WorkspaceView.{workspace_text};
+ghost use Rattle.plan_rows.specs.SettingsView.{settings_text};
+ghost use Rattle.plan_starts.specs.Starts as spec;
+ghost use Rattle.plan_starts.specs.StartViews.{starts_text};
+ghost use Rattle.step_visits.specs.Visits.{start_of};
+ghost use Rattle.plan_steps.specs.Plans.{IsBuiltFrom};
+ghost use Rattle.plan_steps.specs.inner.StepTables.{AreBuiltTables};
+
+use crate::entries::target_count;
+use cargo_workspaces::Workspace;
+use guppy_packages::PackageGraph;
+use plan_rows::{Ids, Platform, Settings, rows_built};
+use plan_starts::{PackageVisit, Starts, dev_flags, start_places};
+use std::alloc::{AllocError, Global};
+use step_visits::{Visited, visit};
+
+/// Returns the tables of the step: `with_dev` is, by the number of an entry, whether it starts with its dependencies for
+/// development.
+fn tables_of_flags<P: Platform>(
+    alloc: Global,
+    ids: &Ids,
+    workspace: &Workspace<'_>,
+    settings: &Settings<'_, '_, P>,
+    on: &PackageVisit,
+    starts: &Starts,
+    with_dev: &[bool],
+) -> Result<PackageGraph, AllocError>
+    requires room { length (workspace_text workspace.now).packages + length settings.now.targets.now * length (workspace_text workspace.now).packages ≤ ids.now }
+    requires flags { with_dev.now ≡ spec.dev_flags settings.now.test (length (settings_text P.holds settings.now).targets) (starts_text starts.now) }
+    ensures { IfOk result (λ tables. AreBuiltTables (workspace_text workspace.now) (settings_text P.holds settings.now) on.now (starts_text starts.now) tables) }
+{
+    let rows = rows_built(alloc, ids, workspace, settings, on, with_dev)?;
+    rows.package_graph(alloc)
+}
+
+/// Returns the tables of the step.
+fn tables<P: Platform>(
+    alloc: Global,
+    ids: &Ids,
+    workspace: &Workspace<'_>,
+    settings: &Settings<'_, '_, P>,
+    on: &PackageVisit,
+    starts: &Starts,
+) -> Result<PackageGraph, AllocError>
+    requires room { length (workspace_text workspace.now).packages + length settings.now.targets.now * length (workspace_text workspace.now).packages ≤ ids.now }
+    ensures { IfOk result (λ tables. AreBuiltTables (workspace_text workspace.now) (settings_text P.holds settings.now) on.now (starts_text starts.now) tables) }
+{
+    let with_dev = dev_flags(alloc, settings.test, target_count(settings), starts)?;
+    tables_of_flags(alloc, ids, workspace, settings, on, starts, &with_dev)
+}
+
+/// Returns the visit of `tables`, which are those of the step.
+fn visited<P: Platform>(
+    alloc: Global,
+    workspace: &Workspace<'_>,
+    settings: &Settings<'_, '_, P>,
+    on: &PackageVisit,
+    starts: &Starts,
+    tables: PackageGraph,
+) -> Result<Visited, AllocError>
+    requires { AreBuiltTables (workspace_text workspace.now) (settings_text P.holds settings.now) on.now (starts_text starts.now) tables }
+    ensures { IfOk result (λ built. IsBuiltFrom (workspace_text workspace.now) (settings_text P.holds settings.now) on.now (starts_text starts.now) built) }
+{
+    let places = start_places(alloc, target_count(settings), starts)?;
+    visit(alloc, tables, &places)
+}
+
+/// Returns the visit of step `built` from `starts`: `on` is the visit of step `on`, and `ids` has at least one id for each package in
+/// each place. An allocation's failure is the only error.
+pub(crate) fn built_step<P: Platform>(
+    alloc: Global,
+    ids: &Ids,
+    workspace: &Workspace<'_>,
+    settings: &Settings<'_, '_, P>,
+    on: &PackageVisit,
+    starts: &Starts,
+) -> Result<Visited, AllocError>
+    requires { length (workspace_text workspace.now).packages + length settings.now.targets.now * length (workspace_text workspace.now).packages ≤ ids.now }
+    ensures { IfOk result (λ built. IsBuiltFrom (workspace_text workspace.now) (settings_text P.holds settings.now) on.now (starts_text starts.now) built) }
+{
+    let tables = tables(alloc, ids, workspace, settings, on, starts)?;
+    visited(alloc, workspace, settings, on, starts, tables)
+}

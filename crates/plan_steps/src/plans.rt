@@ -1,0 +1,80 @@
+//! The plan of a workspace.
+ghost use Rattle.std.specs.Prelude.{◌≡◌, ◌+◌, ◌*◌, ◌≤◌, None, IsTrue, length, nat_lt};
+ghost use Rattle.std.specs.List.{list_all};
+ghost use Rattle.cargo_workspaces.specs.WorkspaceView.{workspace_text};
+ghost use Rattle.plan_rows.specs.Commands.{are_commands, command_texts};
+ghost use Rattle.plan_rows.specs.SettingsView.{settings_text};
+ghost use Rattle.plan_steps.specs.PlanViews.{Plans};
+ghost use Rattle.plan_steps.specs.Plans as spec;
+
+use crate::checks::without_tests;
+use crate::entries::ids_of;
+use crate::fault::StepFault;
+use crate::plan::Plan;
+use crate::stages::{settled, units_by};
+use cargo_workspaces::Workspace;
+use plan_rows::{Ids, Platform, Settings};
+use std::alloc::Global;
+
+/// Returns the plan of the `selected` packages, whose tests can be built: `ids` has at least one id for each entry of each step.
+fn plan_of_steps<'w, P: Platform>(
+    alloc: Global,
+    ids: &Ids,
+    workspace: &'w Workspace<'_>,
+    settings: &Settings<'_, 'w, P>,
+    selected: &[usize],
+) -> Result<Plan<'w>, StepFault<'w>>
+    requires tests { spec.without_tests (workspace_text workspace.now) (settings_text P.holds settings.now) selected.now ≡ None }
+    requires selected { IsTrue (list_all (λ p. nat_lt p (length (workspace_text workspace.now).packages)) selected.now) }
+    requires sides { 2 * length (workspace_text workspace.now).packages ≤ ids.now }
+    requires places { length (workspace_text workspace.now).packages + length settings.now.targets.now * length (workspace_text workspace.now).packages ≤ ids.now }
+    requires count { length settings.now.commands.now ≡ length (workspace_text workspace.now).packages }
+    requires named { IsTrue (are_commands (command_texts settings.now.commands.now)) }
+    ensures { Plans (workspace_text workspace.now) (settings_text P.holds settings.now) selected.now result }
+{
+    let settled = settled(alloc, ids, workspace, settings)?;
+    let units = units_by(alloc, ids, workspace, settings, &settled, selected)?;
+    Ok(Plan {
+        units,
+        on: settled.on,
+    })
+}
+
+/// Returns the plan of the `selected` packages, whose tests can be built.
+fn plan_with_tests<'w, P: Platform>(
+    alloc: Global,
+    workspace: &'w Workspace<'_>,
+    settings: &Settings<'_, 'w, P>,
+    selected: &[usize],
+) -> Result<Plan<'w>, StepFault<'w>>
+    requires tests { spec.without_tests (workspace_text workspace.now) (settings_text P.holds settings.now) selected.now ≡ None }
+    requires selected { IsTrue (list_all (λ p. nat_lt p (length (workspace_text workspace.now).packages)) selected.now) }
+    requires count { length settings.now.commands.now ≡ length (workspace_text workspace.now).packages }
+    requires named { IsTrue (are_commands (command_texts settings.now.commands.now)) }
+    ensures { Plans (workspace_text workspace.now) (settings_text P.holds settings.now) selected.now result }
+{
+    let ids = ids_of(alloc, workspace.package_count(), settings.targets.len())?;
+    plan_of_steps(alloc, &ids, workspace, settings, selected)
+}
+
+/// Returns the plan of the `selected` packages of `workspace`, by their numbers: what is built by `settings`, which has a place for the
+/// command feature of each package.
+///
+/// Returns `NoTests` for the first selected package whose tests can't be built; then `NotOn` for the first package that starts on a
+/// side where it isn't on; then `Lacking` for the first package that lacks a dependency; and `Memory` if an allocation fails.
+pub fn plan_of<'w, P: Platform>(
+    alloc: Global,
+    workspace: &'w Workspace<'_>,
+    settings: &Settings<'_, 'w, P>,
+    selected: &[usize],
+) -> Result<Plan<'w>, StepFault<'w>>
+    requires selected { IsTrue (list_all (λ p. nat_lt p (length (workspace_text workspace.now).packages)) selected.now) }
+    requires count { length settings.now.commands.now ≡ length (workspace_text workspace.now).packages }
+    requires named { IsTrue (are_commands (command_texts settings.now.commands.now)) }
+    ensures { Plans (workspace_text workspace.now) (settings_text P.holds settings.now) selected.now result }
+{
+    match without_tests(alloc, workspace, settings, selected)? {
+        Some(package) => Err(StepFault::NoTests { package }),
+        None => plan_with_tests(alloc, workspace, settings, selected),
+    }
+}
