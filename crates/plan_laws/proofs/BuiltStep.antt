@@ -28,7 +28,8 @@ use Rattle.plan_units.specs.declared.unit.Place.TheVariants as spot
 use Rattle.step_visits.specs.Visits.{Visit, reaches}
 use Rattle.plan_laws.specs.Laws.{FollowsDeclarations}
 use Rattle.plan_laws.proofs.EntryLinks.{AreWithin}
-use Rattle.plan_laws.proofs.Members.{both_true, each_back, either_true, flag_there, from_filter_map, joined_back, member_any, one_if}
+use Rattle.plan_laws.proofs.Members.{both_true, either_true, from_filter_map, member_any, one_if}
+use Rattle.plan_laws.proofs.Numbered.{each_back, flag_there, joined_back}
 
 zero_plus : (n : ℕ) → 0 + n ≡ n
 zero_plus n = omega arith
@@ -47,7 +48,7 @@ all_place R (y ∷ ys) (suc m) x a h = all_place R ys m x a.1 h
 
 -- a member of a list of which all pass
 all_member : {X : Type 0} (p : X → Bool) (xs : List X) (x : X) → list_all p xs ≡ true → Contains xs x → p x ≡ true
-all_member p xs x a h = let q = place_of_element xs x h in go xs q.0 a q.1
+all_member {X} p xs x a h = let q = place_of_element xs x h in go xs q.0 a q.1
   where
     go : (xs : List X) (k : ℕ) → list_all p xs ≡ true → slice_get xs k ≡ Some x → p x ≡ true
     go [] k a e = absurd (cc)
@@ -92,8 +93,8 @@ module _ (w : WorkspaceText) (is : IsWorkspace w) (P : ℕ → Bool) (follows : 
           let macro = flag_at (steps.macros_of w.packages) q in
           let first = steps.is_build d.kind || macro in
           let same : (if first then 0 else a * count) + q ≡ to = number_is (steps.used s on with_dev (a * count) holds (has_script x) p d) (steps.place_to (a * count) d macro + q) to is_lead in
-          let package = all_place (IsPackage count) w.packages p x is.1 there in
-          let within : is_within count d.leads_to ≡ true = all_member (λ e. is_within count e.leads_to) x.declarations d package.2 member in
+          let described = all_place (IsPackage count) w.packages p x is.1 there in
+          let within : is_within count d.leads_to ≡ true = all_member (λ e. is_within count e.leads_to) x.declarations d described.2 member in
           let below : q < count = within_some count q (ap (is_within count) (sym leads) ∙ within) in
           let own : p < count = slice_get_within w.packages p x there in
           let r = lands_at a q first below room in
@@ -165,8 +166,8 @@ module _ (w : WorkspaceText) (is : IsWorkspace w) (P : ℕ → Bool) (follows : 
     abbrev host : List Entry
     host = steps.built_place w.packages s (turned_on (steps.side_of s.split true)) with_dev 0 s.host
 
-    abbrev targets : List Entry
-    targets = steps.built_from w.packages s turned_on with_dev (length w.packages) s.targets
+    abbrev others : List Entry
+    others = steps.built_from w.packages s turned_on with_dev (length w.packages) s.targets
 
     abbrev total : ℕ
     total = count + length s.targets * count
@@ -174,8 +175,8 @@ module _ (w : WorkspaceText) (is : IsWorkspace w) (P : ℕ → Bool) (follows : 
     entries_long : length entries ≡ total
     entries_long =
         let one : length host ≡ count = place_long s with_dev total (turned_on (steps.side_of s.split true)) 0 s.host in
-        let more : length targets ≡ length s.targets * count = targets_long s with_dev total turned_on (length w.packages) s.targets in
-        length-append host targets ∙ sums (length host) (length targets) (length s.targets * count) one more
+        let more : length others ≡ length s.targets * count = targets_long s with_dev total turned_on (length w.packages) s.targets in
+        length-append host others ∙ sums (length host) (length others) (length s.targets * count) one more
       where
         sums : (a b c : ℕ) → a ≡ count → b ≡ c → a + b ≡ count + c
         sums a b c x y = omega (arith, x, y)
@@ -198,7 +199,7 @@ module _ (w : WorkspaceText) (is : IsWorkspace w) (P : ℕ → Bool) (follows : 
         let r = targets_stay s with_dev total turned_on 1 s.targets rest_room i.0 e at in
         let long : length host ≡ count = place_long s with_dev total (turned_on (steps.side_of s.split true)) 0 s.host in
         subst (λ n. Stays total n e) (rest_number i.0 m (length host) long i.1) r)
-        (get_cases host targets m e h)
+        (get_cases host others m e h)
       where
         first_room : 0 * count + count ≤ total
         first_room = let none = no_base in omega (arith, none)
@@ -267,6 +268,12 @@ module _ (w : WorkspaceText) (is : IsWorkspace w) (P : ℕ → Bool) (follows : 
         let at : slice_get flags j.place ≡ Some true = j.there ∙ ap Some one.0 in
         subst (λ z. IsTrue (in_place z)) number (flagged j.place at)
       where
+        first_number : (m : ℕ) → 0 * count + m ≡ m
+        first_number m = let none : 0 ≡ 0 * count = omega arith in omega (arith, none)
+
+        rest_number : (j m size : ℕ) → size ≡ count → m ≡ size + j → 1 * count + j ≡ m
+        rest_number j m size long is = let one : count ≡ 1 * count = omega arith in omega (arith, one, long, is)
+
         flagged : (m : ℕ) → slice_get ((starts_of r selected).hosts ++ times targets (starts_of r selected).others) m ≡ Some true → IsTrue (in_place m)
         flagged m i =
             let st = starts_of r selected in
@@ -278,12 +285,6 @@ module _ (w : WorkspaceText) (is : IsWorkspace w) (P : ℕ → Bool) (follows : 
             (λ k. let below : m < count = subst (λ z. m < z) host_long (slice_get_within st.hosts m true k) in subst (λ z. IsTrue (in_place z)) (first_number m) (at_entry 0 m below ∙ hosts_in m k))
             (λ k. subst (λ z. IsTrue (in_place z)) (rest_number k.0 m (length st.hosts) host_long k.1) (times_in targets 1 st.others other_long (started_in false) k.0 k.2))
             (get_cases st.hosts (times targets st.others) m true i)
-
-        first_number : (m : ℕ) → 0 * count + m ≡ m
-        first_number m = let none : 0 ≡ 0 * count = omega arith in omega (arith, none)
-
-        rest_number : (j m size : ℕ) → size ≡ count → m ≡ size + j → 1 * count + j ≡ m
-        rest_number j m size long is = let one : count ≡ 1 * count = omega arith in omega (arith, one, long, is)
 
   -- Units.
 

@@ -6,6 +6,7 @@ mod Members
 mod Monotone
 mod MorePlans
 mod MoreSelected
+mod Numbered
 mod OneOutcome
 mod OnePlan
 mod Resolvers

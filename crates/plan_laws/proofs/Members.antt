@@ -1,15 +1,11 @@
--- Members of lists, with their numbers.
+-- Members of lists.
 use Rattle.std.proofs.Common.{◌≡◌, ◌⊎◌, inl, inr, ⊎_elim, ℕ, zero, suc, ◌+◌, List, [], ◌∷◌, ◌++◌, Bool, true, false, Option, None, Some, refl, ap, sym, ◌∙◌, subst, arith, if◌then◌else◌}
-use Rattle.std.specs.Prelude.{filter, filter_map, Contains, IsTrue, slice_get, ◌||◌, ◌&&◌}
+use Rattle.std.specs.Prelude.{filter, filter_map, not, Contains, IsTrue, ◌||◌, ◌&&◌}
 use Rattle.std.specs.List.{cons_option, list_any}
-use Rattle.std.specs.Option.{unwrap_or}
-use Rattle.std.proofs.lemmas.List.Elements.{Contains-append_cases}
 use Rattle.guppy_packages.specs.Graph.{firsts}
 use Rattle.feature_core.proofs.AddsLemmas.{Contains-first, Contains-later, Contains-cases, Contains-none, place_of_element, element_at_place}
 use Rattle.feature_core.proofs.PartLemmas.{list_any_there, list_any_back}
 use Rattle.feature_core.proofs.PushLemmas.{from_filter}
-use Rattle.plan_rows.specs.Tables.{each_from, flag_at}
-use Rattle.plan_starts.specs.Lists.{joined_from}
 
 pub both_true : (a b : Bool) → (a && b) ≡ true → (a ≡ true) × (b ≡ true)
 both_true true b h = (refl, h)
@@ -57,48 +53,13 @@ from_filter_map {X} {Y} f (x ∷ xs) y h = go (f x) refl h (from_filter_map f xs
         (λ j. later (more j))
         (Contains-cases z (filter_map f xs) y i)
 
--- the item with its number, of which a value is
-pub record IsEach {X Y : Type 0} (f : ℕ → X → Y) (k : ℕ) (xs : List X) (m : ℕ) (y : Y) : Type 0 where
-  pub item : X
-  pub there : slice_get xs m ≡ Some item
-  pub is : f (k + m) item ≡ y
-
 pub number_on : (k m : ℕ) → k + 1 + m ≡ k + suc m
 number_on k m = omega arith
 
 pub number_first : (k : ℕ) → k ≡ k + zero
 number_first k = omega arith
 
-pub each_back : {X Y : Type 0} (f : ℕ → X → Y) (k : ℕ) (xs : List X) (m : ℕ) (y : Y) → slice_get (each_from f k xs) m ≡ Some y → IsEach f k xs m y
-each_back f k [] m y h = absurd (cc)
-each_back f k (x ∷ xs) zero y h = record { item = x; there = refl; is = ap (λ n. f n x) (sym (number_first k)) ∙ same_some (f k x) y h }
-each_back f k (x ∷ xs) (suc m) y h =
-    let r = each_back f (k + 1) xs m y h in
-    record { item = r.item; there = r.there; is = ap (λ n. f n r.item) (sym (number_on k m)) ∙ r.is }
-
--- the item with its number, from which a joined value comes
-pub record IsJoined {X Y : Type 0} (f : ℕ → X → List Y) (k : ℕ) (xs : List X) (y : Y) : Type 0 where
-  pub place : ℕ
-  pub item : X
-  pub there : slice_get xs place ≡ Some item
-  pub member : Contains (f (k + place) item) y
-
-pub joined_back : {X Y : Type 0} (f : ℕ → X → List Y) (k : ℕ) (xs : List X) (y : Y) → Contains (joined_from f k xs) y → IsJoined f k xs y
-joined_back f k [] y h = absurd (Contains-none y h)
-joined_back f k (x ∷ xs) y h = ⊎_elim
-    (λ i. record { place = zero; item = x; there = refl; member = subst (λ n. Contains (f n x) y) (number_first k) i })
-    (λ i. let r = joined_back f (k + 1) xs y i in record { place = suc r.place; item = r.item; there = r.there; member = subst (λ n. Contains (f n r.item) y) (number_on k r.place) r.member })
-    (Contains-append_cases (f k x) (joined_from f (k + 1) xs) y h)
-
 -- the only member of a list that is empty if the test fails
 pub one_if : {Y : Type 0} (b : Bool) (x y : Y) → Contains (if b then x ∷ [] else []) y → (b ≡ true) × (x ≡ y)
 one_if true x y h = (refl, ⊎_elim (λ e. e) (λ i. absurd (Contains-none y i)) (Contains-cases x [] y h))
 one_if false x y h = absurd (Contains-none y h)
-
--- a flag that is set is in the list
-pub flag_there : (flags : List Bool) (k : ℕ) → flag_at flags k ≡ true → slice_get flags k ≡ Some true
-flag_there flags k h = go (slice_get flags k) refl h
-  where
-    go : (o : Option Bool) → slice_get flags k ≡ o → unwrap_or o false ≡ true → slice_get flags k ≡ Some true
-    go None e i = absurd (cc)
-    go (Some b) e i = e ∙ ap Some i
