@@ -1,23 +1,24 @@
 -- The stages of a plan.
-use Rattle.std.proofs.Common.{◌≡◌, ℕ, ◌+◌, ◌*◌, ◌<◌, ◌≤◌, ◌^◌, List, Result, None, length, map, refl, subst, sym, arith}
-use Rattle.std.specs.Prelude.{IfOk, Vec}
+use Rattle.std.proofs.Common.{◌≡◌, ℕ, ◌+◌, ◌*◌, ◌<◌, ◌≤◌, ◌^◌, List, Result, Ok, Err, None, length, map, refl, subst, sym, arith}
+use Rattle.std.specs.Prelude.{IfOk}
+use Rattle.std.specs.Global.{Vec}
 use Rattle.std.proofs.lemmas.Result.{IfOk-weaker}
 use Rattle.cargo_workspaces.specs.Workspaces.{PackageText, WorkspaceText}
 use Rattle.plan_rows.specs.Steps.{SettingsText}
 use Rattle.plan_starts.specs.PackageVisits.{PairVisit}
 use Rattle.plan_starts.specs.Starts.{Starts, starts_of}
 use Rattle.plan_starts.specs.StartViews.{starts_text}
-use Rattle.plan_starts.specs.Targets.{TargetRules}
 use Rattle.plan_starts.specs.declared.starts.Starts.{Starts as Found}
 use Rattle.plan_units.specs.Units.{units_of}
 use Rattle.plan_units.specs.UnitViews.{unit_text}
 use Rattle.plan_units.specs.declared.unit.Unit.{Unit}
 use Rattle.step_visits.specs.Visits.{Visit}
-use Rattle.plan_steps.specs.Plans.{AfterSteps, AreBuilt, IsBuiltFrom, IsOn, IsResolved, starts_by, without_tests}
-use Rattle.plan_steps.specs.PlanViews.{IsRefused}
+use Rattle.plan_steps.specs.Plans.{AreBuilt, IsBuiltFrom, IsOn, IsPlan, IsResolved, PlanText, starts_by, without_tests}
+use Rattle.plan_steps.specs.PlanViews.{IsRefused, Plans}
 use Rattle.plan_steps.specs.declared.fault.StepFault.{StepFault}
 use Rattle.plan_steps.specs.declared.fault.StepFault.TheVariants as fault
-use Rattle.plan_steps.specs.inner.Stages.{Stops}
+use Rattle.plan_steps.specs.declared.plan.Plan.{Plan}
+use Rattle.plan_steps.specs.inner.Stages.{Builds, Planned, Stops}
 
 module _ {E : Type 0} where
   pub started_by : (w : WorkspaceText) (s : SettingsText) (selected : List ℕ) (kept on : PairVisit) (packages : List PackageText) (r : Result Found E) → packages ≡ w.packages
@@ -50,3 +51,13 @@ stopped w s selected kept on (fault.NoTests p) tests resolved turned stops = abs
 stopped w s selected kept on (fault.NotOn p side) tests resolved turned stops = record { have_tests = tests; kept = kept; on = on; is_resolved = resolved; is_turned_on = turned; holds = stops }
 stopped w s selected kept on (fault.Lacking p name) tests resolved turned stops = record { have_tests = tests; kept = kept; on = on; is_resolved = resolved; is_turned_on = turned; holds = stops }
 stopped w s selected kept on fault.Memory tests resolved turned stops = tt
+
+-- the plan, or why there is none, by the visits of the first two steps
+pub planned_so : (w : WorkspaceText) (s : SettingsText) (selected : List ℕ) (kept on : PairVisit) (units : Result (Vec Unit) StepFault) (r : Result Plan StepFault) → without_tests w s selected ≡ None → IsResolved w s kept → IsOn w s kept on
+    → Builds w s on (starts_by w s selected kept on) units → Planned on units r → Plans w s selected r
+planned_so w s selected kept on (Ok units) (Ok plan) tests resolved turned builds made =
+    subst (λ (p : PlanText). IsPlan w s selected p) (sym made) (record { have_tests = tests; kept = kept; on = on; is_resolved = resolved; is_turned_on = turned; holds = (refl, builds.0, builds.1) })
+planned_so w s selected kept on (Ok units) (Err e) tests resolved turned builds made = absurd made
+planned_so w s selected kept on (Err e) (Ok plan) tests resolved turned builds made = absurd made
+planned_so w s selected kept on (Err e) (Err f) tests resolved turned builds made =
+    subst (λ (z : StepFault). IsRefused w s selected z) (sym made) (stopped w s selected kept on e tests resolved turned builds)

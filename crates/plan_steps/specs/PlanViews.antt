@@ -1,5 +1,5 @@
 -- The values that plans contain, and what a result claims.
-use Rattle.std.specs.Prelude.{ℕ, List, map, Result, Ok, Err}
+use Rattle.std.specs.Prelude.{ℕ, List, map, Result, Ok, Err, ⊤}
 use Rattle.cargo_workspaces.specs.Workspaces.{WorkspaceText}
 use Rattle.plan_rows.specs.Steps.{SettingsText}
 use Rattle.plan_units.specs.UnitViews.{unit_text}
@@ -16,7 +16,7 @@ abbrev pub IsRefused : WorkspaceText → SettingsText → List ℕ → StepFault
 IsRefused w s selected (fault.NoTests p) = HasNoTests w s selected p
 IsRefused w s selected (fault.NotOn p side) = IsNotOn w s selected p side
 IsRefused w s selected (fault.Lacking p name) = IsLacking w s selected p name.now
-IsRefused w s selected fault.Memory = Unit {0}
+IsRefused w s selected fault.Memory = ⊤
 
 -- A plan, or the first reason why there is none.
 abbrev pub Plans : WorkspaceText → SettingsText → List ℕ → Result Plan StepFault → Type 0

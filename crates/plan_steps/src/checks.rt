@@ -72,12 +72,10 @@ pub(crate) fn check<'w, P: Platform>(
         return Some(StepFault::NotOn { package, side });
     }
     match lacks(workspace, settings, on) {
-        Some((package, dependency)) => Some(
-            StepFault::Lacking {
-                package,
-                dependency,
-            },
-        ),
+        Some((package, dependency)) => Some(StepFault::Lacking {
+            package,
+            dependency,
+        }),
         None => None,
     }
 }

@@ -8,19 +8,11 @@ use std::alloc::{AllocError, AllocFailed};
 #[derive(Drop)]
 pub enum StepFault<'w> {
     /// Tests are built, package `package` is selected and is no member, and it declares dependencies for development.
-    NoTests {
-        package: usize,
-    },
+    NoTests { package: usize },
     /// Package `package` starts on side `side`, and nothing of it is on there.
-    NotOn {
-        package: usize,
-        side: Side,
-    },
+    NotOn { package: usize, side: Side },
     /// A feature of package `package` that is on asks for `dependency`, for which the document has no package.
-    Lacking {
-        package: usize,
-        dependency: &'w str,
-    },
+    Lacking { package: usize, dependency: &'w str },
     /// An allocation fails, or a step has more packages and features than a `usize` counts.
     Memory,
 }

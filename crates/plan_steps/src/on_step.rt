@@ -35,8 +35,8 @@ fn tables<P: Platform>(
 }
 
 /// Appends the command features of procedural macros on the host side, if sides are told apart.
-fn push_host<P: Platform>(
-    places: &mut Vec<(usize, FeatureLabel<'static>)>,
+fn push_host<'s, P: Platform>(
+    places: &mut Vec<(usize, FeatureLabel<'s>)>,
     workspace: &Workspace<'_>,
     settings: &Settings<'_, '_, P>,
 ) -> Result<(), AllocError>

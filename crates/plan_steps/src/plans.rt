@@ -6,15 +6,80 @@ ghost use Rattle.plan_rows.specs.Commands.{are_commands, command_texts};
 ghost use Rattle.plan_rows.specs.SettingsView.{settings_text};
 ghost use Rattle.plan_steps.specs.PlanViews.{Plans};
 ghost use Rattle.plan_steps.specs.Plans as spec;
+ghost use Rattle.plan_steps.specs.inner.Stages.{Planned};
 
 use crate::checks::without_tests;
 use crate::entries::ids_of;
 use crate::fault::StepFault;
+use crate::on_step::on_step;
 use crate::plan::Plan;
-use crate::stages::{settled, units_by};
+use crate::resolved_step::resolved_step;
+use crate::stages::units_by;
 use cargo_workspaces::Workspace;
 use plan_rows::{Ids, Platform, Settings};
+use plan_starts::PackageVisit;
+use plan_units::Unit;
 use std::alloc::Global;
+
+/// Returns the plan of `units`, or their fault. `on` is the visit of step `on`.
+fn planned<'w>(
+    on: PackageVisit,
+    units: Result<Vec<Unit<'w>>, StepFault<'w>>,
+) -> Result<Plan<'w>, StepFault<'w>>
+    ensures { Planned on units.entry result }
+{
+    match units {
+        Ok(units) => Ok(Plan { units, on }),
+        Err(fault) => Err(fault),
+    }
+}
+
+/// Returns the plan of the `selected` packages, whose tests can be built: `kept` and `on` are the visits of the first two steps, and
+/// `ids` has at least one id for each package in each place.
+fn plan_of_visits<'w, P: Platform>(
+    alloc: Global,
+    ids: &Ids,
+    workspace: &'w Workspace<'_>,
+    settings: &Settings<'_, 'w, P>,
+    selected: &[usize],
+    kept: &PackageVisit,
+    on: PackageVisit,
+) -> Result<Plan<'w>, StepFault<'w>>
+    requires tests { spec.without_tests (workspace_text workspace.now) (settings_text P.holds settings.now) selected.now ≡ None }
+    requires selected { IsTrue (list_all (λ p. nat_lt p (length (workspace_text workspace.now).packages)) selected.now) }
+    requires places { length (workspace_text workspace.now).packages + length settings.now.targets.now * length (workspace_text workspace.now).packages ≤ ids.now }
+    requires resolved { spec.IsResolved (workspace_text workspace.now) (settings_text P.holds settings.now) kept.now }
+    requires on { spec.IsOn (workspace_text workspace.now) (settings_text P.holds settings.now) kept.now on }
+    ensures { Plans (workspace_text workspace.now) (settings_text P.holds settings.now) selected.now result }
+{
+    let units = units_by(alloc, ids, workspace, settings, kept, &on, selected);
+    planned(on, units)
+}
+
+/// Returns the plan of the `selected` packages, whose tests can be built: `kept` is the visit of step `resolved`, and `ids` has at least
+/// one id for each entry of each step.
+fn plan_of_kept<'w, P: Platform>(
+    alloc: Global,
+    ids: &Ids,
+    workspace: &'w Workspace<'_>,
+    settings: &Settings<'_, 'w, P>,
+    selected: &[usize],
+    kept: &PackageVisit,
+) -> Result<Plan<'w>, StepFault<'w>>
+    requires tests { spec.without_tests (workspace_text workspace.now) (settings_text P.holds settings.now) selected.now ≡ None }
+    requires selected { IsTrue (list_all (λ p. nat_lt p (length (workspace_text workspace.now).packages)) selected.now) }
+    requires sides { 2 * length (workspace_text workspace.now).packages ≤ ids.now }
+    requires places { length (workspace_text workspace.now).packages + length settings.now.targets.now * length (workspace_text workspace.now).packages ≤ ids.now }
+    requires count { length settings.now.commands.now ≡ length (workspace_text workspace.now).packages }
+    requires named { IsTrue (are_commands (command_texts settings.now.commands.now)) }
+    requires resolved { spec.IsResolved (workspace_text workspace.now) (settings_text P.holds settings.now) kept.now }
+    ensures { Plans (workspace_text workspace.now) (settings_text P.holds settings.now) selected.now result }
+{
+    match on_step(alloc, ids, workspace, settings, kept) {
+        Ok(on) => plan_of_visits(alloc, ids, workspace, settings, selected, kept, on),
+        Err(_) => Err(StepFault::Memory),
+    }
+}
 
 /// Returns the plan of the `selected` packages, whose tests can be built: `ids` has at least one id for each entry of each step.
 fn plan_of_steps<'w, P: Platform>(
@@ -32,12 +97,10 @@ fn plan_of_steps<'w, P: Platform>(
     requires named { IsTrue (are_commands (command_texts settings.now.commands.now)) }
     ensures { Plans (workspace_text workspace.now) (settings_text P.holds settings.now) selected.now result }
 {
-    let settled = settled(alloc, ids, workspace, settings)?;
-    let units = units_by(alloc, ids, workspace, settings, &settled, selected)?;
-    Ok(Plan {
-        units,
-        on: settled.on,
-    })
+    match resolved_step(alloc, ids, workspace, settings) {
+        Ok(kept) => plan_of_kept(alloc, ids, workspace, settings, selected, &kept),
+        Err(_) => Err(StepFault::Memory),
+    }
 }
 
 /// Returns the plan of the `selected` packages, whose tests can be built.

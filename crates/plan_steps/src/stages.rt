@@ -1,69 +1,41 @@
-//! The stages of a plan after the command line is read: the first two steps, the packages that start, and what is built.
+//! The stages of a plan after the first two steps: the packages that start, and what is built.
 ghost use Rattle.std.specs.Prelude.{◌≡◌, ◌+◌, ◌*◌, ◌≤◌, IfOk, IsTrue, length, map, nat_lt};
 ghost use Rattle.std.specs.List.{list_all};
 ghost use Rattle.cargo_workspaces.specs.WorkspaceView.{workspace_text};
-ghost use Rattle.plan_rows.specs.Commands.{are_commands, command_texts};
 ghost use Rattle.plan_rows.specs.SettingsView.{settings_text};
 ghost use Rattle.plan_starts.specs.StartViews.{starts_text};
 ghost use Rattle.plan_units.specs.UnitViews.{unit_text};
-ghost use Rattle.plan_steps.specs.Plans.{AreBuilt, IsOn, IsResolved, starts_by};
+ghost use Rattle.plan_steps.specs.Plans.{AreBuilt, starts_by};
 ghost use Rattle.plan_steps.specs.inner.Stages.{Builds};
 
 use crate::built_step::built_step;
 use crate::checks::check;
 use crate::entries::target_count;
 use crate::fault::StepFault;
-use crate::on_step::on_step;
-use crate::resolved_step::resolved_step;
 use cargo_workspaces::Workspace;
 use plan_rows::{Ids, Platform, Settings};
 use plan_starts::{PackageVisit, Starts, TargetRules, starts_of};
 use plan_units::{Unit, units_of};
 use std::alloc::{AllocError, Global};
 
-/// The visits of the first two steps.
-#[derive(Drop)]
-pub(crate) struct Settled {
-    /// The visit of step `resolved`.
-    pub(crate) kept: PackageVisit,
-    /// The visit of step `on`.
-    pub(crate) on: PackageVisit,
-}
-
-/// Returns the visits of the first two steps: `ids` has at least two ids a package. An allocation's failure is the only error.
-pub(crate) fn settled<P: Platform>(
-    alloc: Global,
-    ids: &Ids,
-    workspace: &Workspace<'_>,
-    settings: &Settings<'_, '_, P>,
-) -> Result<Settled, AllocError>
-    requires room { 2 * length (workspace_text workspace.now).packages ≤ ids.now }
-    requires count { length settings.now.commands.now ≡ length (workspace_text workspace.now).packages }
-    requires named { IsTrue (are_commands (command_texts settings.now.commands.now)) }
-    ensures resolved { IfOk result (λ settled. IsResolved (workspace_text workspace.now) (settings_text P.holds settings.now) settled.kept) }
-    ensures on { IfOk result (λ settled. IsOn (workspace_text workspace.now) (settings_text P.holds settings.now) settled.kept settled.on) }
-{
-    let kept = resolved_step(alloc, ids, workspace, settings)?;
-    let on = on_step(alloc, ids, workspace, settings, &kept)?;
-    Ok(Settled { kept, on })
-}
-
-/// Returns which of the `selected` packages start, and where. An allocation's failure is the only error.
+/// Returns which of the `selected` packages start, and where: `kept` and `on` are the visits of the first two steps. An allocation's
+/// failure is the only error.
 fn started<P: Platform>(
     alloc: Global,
     workspace: &Workspace<'_>,
     settings: &Settings<'_, '_, P>,
-    settled: &Settled,
+    kept: &PackageVisit,
+    on: &PackageVisit,
     selected: &[usize],
 ) -> Result<Starts, AllocError>
     requires { IsTrue (list_all (λ p. nat_lt p (length (workspace_text workspace.now).packages)) selected.now) }
-    ensures { IfOk result (λ starts. starts_text starts ≡ starts_by (workspace_text workspace.now) (settings_text P.holds settings.now) selected.now settled.now.kept settled.now.on) }
+    ensures { IfOk result (λ starts. starts_text starts ≡ starts_by (workspace_text workspace.now) (settings_text P.holds settings.now) selected.now kept.now on.now) }
 {
     let rules = TargetRules {
         settings,
         packages: workspace.packages(),
-        kept: &settled.kept,
-        on: &settled.on,
+        kept,
+        on,
     };
     starts_of(alloc, &rules, selected)
 }
@@ -115,20 +87,21 @@ fn checked_units<'w, P: Platform>(
     }
 }
 
-/// Returns the packages that are built for the `selected` packages, or the first reason why nothing is: `ids` has at least one id for
-/// each package in each place.
+/// Returns the packages that are built for the `selected` packages, or the first reason why nothing is: `kept` and `on` are the visits
+/// of the first two steps, and `ids` has at least one id for each package in each place.
 pub(crate) fn units_by<'w, P: Platform>(
     alloc: Global,
     ids: &Ids,
     workspace: &'w Workspace<'_>,
     settings: &Settings<'_, 'w, P>,
-    settled: &Settled,
+    kept: &PackageVisit,
+    on: &PackageVisit,
     selected: &[usize],
 ) -> Result<Vec<Unit<'w>>, StepFault<'w>>
     requires selected { IsTrue (list_all (λ p. nat_lt p (length (workspace_text workspace.now).packages)) selected.now) }
     requires room { length (workspace_text workspace.now).packages + length settings.now.targets.now * length (workspace_text workspace.now).packages ≤ ids.now }
-    ensures { Builds (workspace_text workspace.now) (settings_text P.holds settings.now) settled.now.on (starts_by (workspace_text workspace.now) (settings_text P.holds settings.now) selected.now settled.now.kept settled.now.on) result }
+    ensures { Builds (workspace_text workspace.now) (settings_text P.holds settings.now) on.now (starts_by (workspace_text workspace.now) (settings_text P.holds settings.now) selected.now kept.now on.now) result }
 {
-    let starts = started(alloc, workspace, settings, settled, selected)?;
-    checked_units(alloc, ids, workspace, settings, &settled.on, &starts)
+    let starts = started(alloc, workspace, settings, kept, on, selected)?;
+    checked_units(alloc, ids, workspace, settings, on, &starts)
 }

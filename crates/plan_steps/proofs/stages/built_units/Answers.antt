@@ -1,4 +1,4 @@
-use Rattle.std.proofs.Common.{◌≡◌, ◌∙◌, ℕ, ◌<◌, ◌^◌, List, length, map, ap, sym, arith}
+use Rattle.std.proofs.Common.{◌∙◌, ◌<◌, ◌^◌, List, length, map, ap, sym, arith}
 use Rattle.std.proofs.lemmas.List.{length-map}
 use Rattle.cargo_workspaces.specs.Views.{package_text}
 use Rattle.cargo_workspaces.specs.Workspaces.{PackageText}

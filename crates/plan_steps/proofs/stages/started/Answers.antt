@@ -1,4 +1,4 @@
-use Rattle.std.proofs.Common.{◌≡◌, ◌∙◌, ℕ, List, length, map, ap, sym, subst, true}
+use Rattle.std.proofs.Common.{◌≡◌, ◌∙◌, List, length, map, ap, sym, subst, true}
 use Rattle.std.specs.Prelude.{nat_lt}
 use Rattle.std.specs.List.{list_all}
 use Rattle.std.proofs.lemmas.List.{length-map}
@@ -16,4 +16,4 @@ starts_of-requires g c =
 
 pub returns : goal.returns
 returns g c =
-    started_by (workspace_text c.args.workspace.now) (settings_text g.P.Platform.holds c.args.settings.now) c.args.selected.now c.args.settled.now.kept c.args.settled.now.on (map package_text c.packages.result.now) c.starts_of.result c.packages.ensures c.starts_of.ensures
+    started_by (workspace_text c.args.workspace.now) (settings_text g.P.Platform.holds c.args.settings.now) c.args.selected.now c.args.kept.now c.args.on.now (map package_text c.packages.result.now) c.starts_of.result c.packages.ensures c.starts_of.ensures

@@ -7,4 +7,4 @@ use Rattle.plan_steps.proofs.stages.units_by.Goals as goal
 
 pub returns : goal.returns
 returns g c =
-    subst (λ (from : Starts). Builds (workspace_text c.args.workspace.now) (settings_text g.P.Platform.holds c.args.settings.now) c.args.settled.now.on from c.checked_units.result) c.in_ok-starts.ensures c.checked_units.ensures
+    subst (λ (from : Starts). Builds (workspace_text c.args.workspace.now) (settings_text g.P.Platform.holds c.args.settings.now) c.args.on.now from c.checked_units.result) c.in_ok-starts.ensures c.checked_units.ensures
