@@ -9,7 +9,7 @@ use Rattle.std.proofs.lemmas.List.{append-nil, map-append}
 use Rattle.std.proofs.lemmas.Option.{slice_get_within}
 use Rattle.std.proofs.lemmas.List.Elements.{Contains-append_cases}
 use Rattle.guppy_packages.specs.Graph.{Dependency as GraphDependency, dependencies_of, faults_by, faults_of, first_or, firsts, is_joined, is_package, link_fault, link_of, links_of, owner, package_before, packages_of, row_dependency, row_fault, tables_of}
-use Rattle.guppy_packages.specs.Rows.{RowText, Text, a_package, a_feature, a_dep}
+use Rattle.guppy_packages.specs.Rows.{Declared, RowText, Text, a_package}
 use Rattle.guppy_packages.specs.Tables.{AreTables, LinkTable, PackageTable, Tables, package_place}
 use Rattle.guppy_packages.specs.declared.row.DependencyKind.TheVariants.{Normal}
 use Rattle.guppy_packages.specs.declared.row_error.RowError.{RowError}
@@ -58,11 +58,11 @@ packages_rows : (past : List RowText) (k : ℕ) (es : List Entry) → packages_o
 packages_rows past k [] = ap packages_of (append-nil past) ∙ sym (append-nil (packages_of past))
 packages_rows past k (e ∷ es) = packages_of-append past ((map feature_row e.features ++ map dependency_row e.dependencies) ++ rows_from (k + 1) es) (decimal k) false
 
-packages_step : (k : ℕ) (e : Entry) (es : List Entry) → packages_of (rows_from k (e ∷ es)) ≡ package_before (decimal k) false (map feature_row e.features ++ map dependency_row e.dependencies) ∷ packages_of (rows_from (k + 1) es)
+pub packages_step : (k : ℕ) (e : Entry) (es : List Entry) → packages_of (rows_from k (e ∷ es)) ≡ package_before (decimal k) false (map feature_row e.features ++ map dependency_row e.dependencies) ∷ packages_of (rows_from (k + 1) es)
 packages_step k e es = packages_rows (entry_rows k e) (k + 1) es ∙ ap (λ z. z ++ packages_of (rows_from (k + 1) es)) (entry_packages [] k e)
 
 -- an entry's package has the entry's number as its id
-id_at : (k : ℕ) (es : List Entry) (m : ℕ) → m < length es → slice_get (map (λ (p : PackageTable). p.id) (packages_of (rows_from k es))) m ≡ Some (decimal (k + m))
+pub id_at : (k : ℕ) (es : List Entry) (m : ℕ) → m < length es → slice_get (map (λ (p : PackageTable). p.id) (packages_of (rows_from k es))) m ≡ Some (decimal (k + m))
 id_at k [] m within = absurd (omega arith)
 id_at k (e ∷ es) zero within =
     let first : k + zero ≡ k = omega arith in
@@ -73,8 +73,12 @@ id_at k (e ∷ es) (suc m) within =
 
 -- The dependencies of the rows of entries.
 
+-- what a row declares
+abbrev pub declared_of : Dependency → Declared
+declared_of d = record { kind = Normal; optional = d.optional; platform = None; default_features = d.default_features; features = d.features }
+
 module _ (all : List PackageTable) where
-  abbrev read : List RowText → RowText → Option GraphDependency
+  abbrev pub read : List RowText → RowText → Option GraphDependency
   read = row_dependency all
 
   features_none : (before : List RowText) (fs : List FeatureText) → after read before (map feature_row fs) ≡ []
@@ -82,13 +86,15 @@ module _ (all : List PackageTable) where
   features_none before (f ∷ fs) = features_none (before ++ feature_row f ∷ []) fs
 
   -- the entry's dependency of which a graph's dependency is read
-  record IsRead (ds : List Dependency) (d : GraphDependency) : Type 0 where
-    dependency : Dependency
-    member : Contains ds dependency
-    place : package_place (decimal dependency.to) all ≡ Some d.to
+  pub record IsRead (ds : List Dependency) (d : GraphDependency) : Type 0 where
+    pub dependency : Dependency
+    pub member : Contains ds dependency
+    pub place : package_place (decimal dependency.to) all ≡ Some d.to
+    pub name : d.name ≡ dependency.name
+    pub declared : d.declared ≡ declared_of dependency
 
   later_read : (x : Dependency) (xs : List Dependency) (d : GraphDependency) → IsRead xs d → IsRead (x ∷ xs) d
-  later_read x xs d r = record { dependency = r.dependency; member = Contains-later x xs r.dependency r.member; place = r.place }
+  later_read x xs d r = record { dependency = r.dependency; member = Contains-later x xs r.dependency r.member; place = r.place; name = r.name; declared = r.declared }
 
   module _ (past : List RowText) (id : Text) (w : Bool) where
     dependencies_read : (rows : List RowText) (ds : List Dependency) → list_any is_package rows ≡ false → (d : GraphDependency) → Contains (after read (past ++ a_package id w ∷ rows) (map dependency_row ds)) d → (d.from ≡ length (packages_of past)) × IsRead ds d
@@ -99,17 +105,23 @@ module _ (all : List PackageTable) where
         (λ i. let r = dependencies_read (rows ++ dependency_row x ∷ []) xs (no_packages-append rows (dependency_row x ∷ []) none refl) d (subst (λ z. Contains (after read z (map dependency_row xs)) d) (sym next) i) in (r.0, later_read x xs d r.1))
       where
         go : (o : Option ℕ) → package_place (decimal x.to) all ≡ o
-            → Contains (cons_option (option_map (λ to. record { from = owner (past ++ a_package id w ∷ rows); to = to; name = x.name; declared = record { kind = Normal; optional = x.optional; platform = None; default_features = x.default_features; features = x.features } }) o) (after read ((past ++ a_package id w ∷ rows) ++ dependency_row x ∷ []) (map dependency_row xs))) d
+            → Contains (cons_option (option_map (λ to. record { from = owner (past ++ a_package id w ∷ rows); to = to; name = x.name; declared = declared_of x }) o) (after read ((past ++ a_package id w ∷ rows) ++ dependency_row x ∷ []) (map dependency_row xs))) d
             → (Contains (after read ((past ++ a_package id w ∷ rows) ++ dependency_row x ∷ []) (map dependency_row xs)) d → (d.from ≡ length (packages_of past)) × IsRead (x ∷ xs) d)
             → (d.from ≡ length (packages_of past)) × IsRead (x ∷ xs) d
         go None e i more = more i
         go (Some to) e i more = ⊎_elim
             (λ same. (
               sym (ap (λ (z : GraphDependency). z.from) same) ∙ owner-is past rows id w none,
-              record { dependency = x; member = Contains-first x xs; place = e ∙ ap (λ (z : GraphDependency). Some z.to) same },
+              record {
+                dependency = x;
+                member = Contains-first x xs;
+                place = e ∙ ap (λ (z : GraphDependency). Some z.to) same;
+                name = sym (ap (λ (z : GraphDependency). z.name) same);
+                declared = sym (ap (λ (z : GraphDependency). z.declared) same);
+              },
             ))
             more
-            (Contains-cases (record { from = owner (past ++ a_package id w ∷ rows); to = to; name = x.name; declared = record { kind = Normal; optional = x.optional; platform = None; default_features = x.default_features; features = x.features } }) (after read ((past ++ a_package id w ∷ rows) ++ dependency_row x ∷ []) (map dependency_row xs)) d i)
+            (Contains-cases (record { from = owner (past ++ a_package id w ∷ rows); to = to; name = x.name; declared = declared_of x }) (after read ((past ++ a_package id w ∷ rows) ++ dependency_row x ∷ []) (map dependency_row xs)) d i)
 
   -- of one entry
   entry_read : (past : List RowText) (k : ℕ) (e : Entry) (d : GraphDependency) → Contains (after read past (entry_rows k e)) d → (d.from ≡ length (packages_of past)) × IsRead e.dependencies d
@@ -150,22 +162,32 @@ pub record LeadsFrom (es : List Entry) (from to : ℕ) : Type 0 where
   pub member : Contains entry.dependencies dependency
   pub leads : dependency.to ≡ to
 
+-- the entry's dependency of which a graph's dependency is read
+pub record IsOfEntry (es : List Entry) (d : GraphDependency) : Type 0 where
+  pub entry : Entry
+  pub there : slice_get es d.from ≡ Some entry
+  pub dependency : Dependency
+  pub member : Contains entry.dependencies dependency
+  pub leads : dependency.to ≡ d.to
+  pub name : d.name ≡ dependency.name
+  pub declared : d.declared ≡ declared_of dependency
+
 -- entries whose dependencies lead to entries
 abbrev pub AreWithin : List Entry → Type 0
 AreWithin es = (m : ℕ) (e : Entry) (d : Dependency) → slice_get es m ≡ Some e → Contains e.dependencies d → d.to < length es
 
 module _ (es : List Entry) (t : Tables) (are : tables_of (rows_of es) ≡ Ok t) (within : AreWithin es) where
-  abbrev all : List PackageTable
+  abbrev pub all : List PackageTable
   all = packages_of (rows_of es)
 
-  packages_are : all ≡ t.packages
+  pub packages_are : all ≡ t.packages
   packages_are = ap (λ (z : Tables). z.packages) (are_those (rows_of es) t are)
 
-  links_are : links_of (dependencies_of all (rows_of es)) ≡ t.links
+  pub links_are : links_of (dependencies_of all (rows_of es)) ≡ t.links
   links_are = ap (λ (z : Tables). z.links) (are_those (rows_of es) t are)
 
   -- the place of an entry's id is the entry's number
-  place_is : (n to : ℕ) → n < length es → package_place (decimal n) all ≡ Some to → n ≡ to
+  pub place_is : (n to : ℕ) → n < length es → package_place (decimal n) all ≡ Some to → n ≡ to
   place_is n to below found =
       let q = position_there (λ (p : PackageTable). bytes_eq (decimal n) p.id) to all found in
       let same : decimal n ≡ q.element.id = (bytes_decides (decimal n) q.element.id).0 q.passes in
@@ -174,7 +196,7 @@ module _ (es : List Entry) (t : Tables) (are : tables_of (rows_of es) ≡ Ok t) 
       let second : slice_get (map (λ (p : PackageTable). p.id) all) to ≡ Some (decimal n) = slice_get-map (λ (p : PackageTable). p.id) all to q.element q.there ∙ ap Some (sym same) in
       ids.ids n to (decimal n) (subst (λ ps. slice_get (map (λ (p : PackageTable). p.id) ps) n ≡ Some (decimal n)) packages_are first) (subst (λ ps. slice_get (map (λ (p : PackageTable). p.id) ps) to ≡ Some (decimal n)) packages_are second)
 
-  dependency_back : (d : GraphDependency) → Contains (dependencies_of all (rows_of es)) d → LeadsFrom es d.from d.to
+  pub dependency_back : (d : GraphDependency) → Contains (dependencies_of all (rows_of es)) d → IsOfEntry es d
   dependency_back d h =
       let r = entries_read all [] 0 es refl d (subst (λ z. Contains z d) (each_after-is (row_dependency all) (rows_of es)) h) in
       let plain : 0 + r.place ≡ r.place = omega arith in
@@ -186,6 +208,8 @@ module _ (es : List Entry) (t : Tables) (are : tables_of (rows_of es) ≡ Ok t) 
         dependency = r.is_read.dependency;
         member = r.is_read.member;
         leads = place_is r.is_read.dependency.to d.to (within d.from r.entry r.is_read.dependency there r.is_read.member) r.is_read.place;
+        name = r.is_read.name;
+        declared = r.is_read.declared;
       }
 
   pub link_back : (k : ℕ) (l : LinkTable) → slice_get t.links k ≡ Some l → LeadsFrom es l.from l.to
@@ -194,4 +218,4 @@ module _ (es : List Entry) (t : Tables) (are : tables_of (rows_of es) ≡ Ok t) 
       let listed : Contains (links_of deps) l = subst (λ z. Contains z l) (sym links_are) (element_at_place t.links k l h) in
       let x = from_map (link_of deps) (firsts is_joined deps) l listed in
       let r = dependency_back x.0 (from_firsts is_joined deps x.0 x.1) in
-      subst (λ (z : LinkTable). LeadsFrom es z.from z.to) x.2 r
+      subst (λ (z : LinkTable). LeadsFrom es z.from z.to) x.2 (record { entry = r.entry; there = r.there; dependency = r.dependency; member = r.member; leads = r.leads })

@@ -1,7 +1,9 @@
 mod BuiltStep
 mod Closed
 mod Declarations
+mod EntryGrowth
 mod EntryLinks
+mod Grown
 mod Members
 mod Monotone
 mod MorePlans

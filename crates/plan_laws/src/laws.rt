@@ -1,4 +1,5 @@
 //! Laws of visits and of plans. Each function does nothing: its contract is the law.
+ghost use Rattle.plan_laws.specs.Growth.{GrownTablesReachMore};
 ghost use Rattle.plan_laws.specs.Laws.{MoreSelectedBuildMore, MoreStartsReachMore, MoreStartsVisitMore, OnePlan, OnePlanOfWords, PlanExcludesRefusal, PlanOfWordsExcludesRefusal, PlansFollowDeclarations, ResolversAgree};
 
 use feature_core::laws::least_monotone;
@@ -11,6 +12,11 @@ pub fn more_starts_reach_more()
 {
     least_monotone();
 }
+
+/// States that larger tables reach more: a visit of them, from these starts and more, reaches all that a visit of the smaller ones does.
+pub fn grown_tables_reach_more()
+    ensures { GrownTablesReachMore }
+{}
 
 /// States that more selected packages build more, for the same settings, if tests aren't built.
 pub fn more_selected_build_more()

@@ -1,0 +1,33 @@
+-- Tables that grow.
+use Rattle.std.specs.Prelude.{◌≡◌, ℕ, List, Bool, Contains, IsTrue, slice_get, Some}
+use Rattle.guppy_packages.specs.Rows.{Declared, Text}
+use Rattle.guppy_packages.specs.Tables.{AreTables, FeatureTable, LinkTable, PackageTable, Tables}
+use Rattle.feature_labels.specs.Names.{LabelName}
+use Rattle.step_visits.specs.Visits.{IsVisit, Visit, reaches}
+use Rattle.plan_laws.specs.Laws.{AreAmong}
+
+-- Package `y` has each feature of `x`, with all its items.
+pub record IsMoreOf (x y : PackageTable) : Type 0 where
+  pub features : (f : FeatureTable) → Contains x.features f → (g : FeatureTable) × Contains y.features g × (g.name ≡ f.name) × ((i : Text) → Contains f.items i → Contains g.items i)
+
+-- The tables have a link of this pair and name, with all its declarations.
+pub record HasLink (s : Tables) (l : LinkTable) : Type 0 where
+  pub place : ℕ
+  pub link : LinkTable
+  pub is_link : slice_get s.links place ≡ Some link
+  pub from : link.from ≡ l.from
+  pub to : link.to ≡ l.to
+  pub name : link.name ≡ l.name
+  pub declarations : (d : Declared) → Contains l.declarations d → Contains link.declarations d
+
+-- All that `t` has of the packages in the set, `s` has too. In `t` no link leads out of the set.
+pub record HasMore (t s : Tables) (R : ℕ → Bool) : Type 0 where
+  pub packages : (p : ℕ) (x : PackageTable) → IsTrue (R p) → slice_get t.packages p ≡ Some x → (y : PackageTable) × (slice_get s.packages p ≡ Some y) × IsMoreOf x y
+  pub links : (k : ℕ) (l : LinkTable) → IsTrue (R l.from) → slice_get t.links k ≡ Some l → HasLink s l × IsTrue (R l.to)
+
+-- TABLES THAT GROW reach more: a visit that starts in the set has a label only if a visit of the larger tables has it, from these starts and
+-- more.
+abbrev pub GrownTablesReachMore : Type 0
+GrownTablesReachMore = (t s : Tables) → AreTables t → AreTables s → (R : ℕ → Bool) → HasMore t s R
+    → (starts more : List (ℕ × LabelName)) → AreAmong starts more → ((x : ℕ × LabelName) → Contains starts x → IsTrue (R x.0))
+    → (u v : Visit) → IsVisit t starts u → IsVisit s more v → (k : ℕ) (label : LabelName) → IsTrue (reaches u k label) → IsTrue (reaches v k label)
