@@ -41,13 +41,13 @@ one_further : (a n : ℕ) → a * n + n ≡ suc a * n
 one_further a n = sym (suc-mul a n)
 
 -- a package at a place among packages of which all have a property
-all_place : {X : Type 0} (R : X → Type 0) (xs : List X) (m : ℕ) (x : X) → AllByRecursion R xs → slice_get xs m ≡ Some x → R x
+pub all_place : {X : Type 0} (R : X → Type 0) (xs : List X) (m : ℕ) (x : X) → AllByRecursion R xs → slice_get xs m ≡ Some x → R x
 all_place R [] m x a h = absurd (cc)
 all_place R (y ∷ ys) zero x a h = let same : y ≡ x = cc in subst R same a.0
 all_place R (y ∷ ys) (suc m) x a h = all_place R ys m x a.1 h
 
 -- a member of a list of which all pass
-all_member : {X : Type 0} (p : X → Bool) (xs : List X) (x : X) → list_all p xs ≡ true → Contains xs x → p x ≡ true
+pub all_member : {X : Type 0} (p : X → Bool) (xs : List X) (x : X) → list_all p xs ≡ true → Contains xs x → p x ≡ true
 all_member {X} p xs x a h = let q = place_of_element xs x h in go xs q.0 a q.1
   where
     go : (xs : List X) (k : ℕ) → list_all p xs ≡ true → slice_get xs k ≡ Some x → p x ≡ true

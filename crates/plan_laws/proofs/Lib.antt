@@ -6,6 +6,10 @@ mod EntryLinks
 mod Grown
 mod Members
 mod Monotone
+mod MoreBuilt
+mod MoreEntries
+mod MoreFeatures
+mod MoreOn
 mod MorePlans
 mod MoreSelected
 mod Numbered

@@ -104,11 +104,11 @@ module _ (o m : PairVisit) (u v : Visit) (on : ◌≡◌ {A = Test} (reaches_at 
 
 -- The steps of two plans.
 
-resolved_is : (w : WorkspaceText) (s : SettingsText) (kept : PairVisit) → IsResolved w s kept → (kept.count ≡ length w.packages) × IsVisitOf (rows_of (resolved_entries w s)) (resolved_starts w s) kept.visit
+pub resolved_is : (w : WorkspaceText) (s : SettingsText) (kept : PairVisit) → IsResolved w s kept → (kept.count ≡ length w.packages) × IsVisitOf (rows_of (resolved_entries w s)) (resolved_starts w s) kept.visit
 unfolding IsResolved
 resolved_is w s kept h = h
 
-on_is : (w : WorkspaceText) (s : SettingsText) (kept on : PairVisit) → IsOn w s kept on → (on.count ≡ length w.packages) × IsVisitOf (rows_of (on_entries w s (is_kept kept))) (on_starts w s) on.visit
+pub on_is : (w : WorkspaceText) (s : SettingsText) (kept on : PairVisit) → IsOn w s kept on → (on.count ≡ length w.packages) × IsVisitOf (rows_of (on_entries w s (is_kept kept))) (on_starts w s) on.visit
 unfolding IsOn
 on_is w s kept on h = h
 

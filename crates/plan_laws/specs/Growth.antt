@@ -1,9 +1,14 @@
 -- Tables that grow.
-use Rattle.std.specs.Prelude.{◌≡◌, ℕ, List, Bool, Contains, IsTrue, slice_get, Some}
+use Rattle.std.specs.Prelude.{◌≡◌, ℕ, List, Bool, Contains, IsTrue, Option, slice_get, Some}
 use Rattle.guppy_packages.specs.Rows.{Declared, Text}
 use Rattle.guppy_packages.specs.Tables.{AreTables, FeatureTable, LinkTable, PackageTable, Tables}
 use Rattle.feature_labels.specs.Names.{LabelName}
 use Rattle.step_visits.specs.Visits.{IsVisit, Visit, reaches}
+use Rattle.cargo_workspaces.specs.Workspaces.{FeatureText, IsWorkspace, WorkspaceText}
+use Rattle.plan_rows.specs.Commands.{command_of}
+use Rattle.plan_rows.specs.Steps.{SettingsText}
+use Rattle.plan_units.specs.Units.{UnitText}
+use Rattle.plan_steps.specs.Plans.{IsPlan, PlanText}
 use Rattle.plan_laws.specs.Laws.{AreAmong}
 
 -- Package `y` has each feature of `x`, with all its items.
@@ -31,3 +36,19 @@ abbrev pub GrownTablesReachMore : Type 0
 GrownTablesReachMore = (t s : Tables) → AreTables t → AreTables s → (R : ℕ → Bool) → HasMore t s R
     → (starts more : List (ℕ × LabelName)) → AreAmong starts more → ((x : ℕ × LabelName) → Contains starts x → IsTrue (R x.0))
     → (u v : Visit) → IsVisit t starts u → IsVisit s more v → (k : ℕ) (label : LabelName) → IsTrue (reaches u k label) → IsTrue (reaches v k label)
+
+-- The settings with other command features.
+abbrev pub with_commands : SettingsText → List (Option FeatureText) → SettingsText
+with_commands s commands = record { split = s.split; test = s.test; commands = commands; host = s.host; targets = s.targets }
+
+-- Each command feature is there with all its items.
+abbrev pub CommandsGrow : List (Option FeatureText) → List (Option FeatureText) → Type 0
+CommandsGrow commands more =
+    (p : ℕ) (f : FeatureText) → command_of commands p ≡ Some f → (g : FeatureText) × (command_of more p ≡ Some g) × (g.name ≡ f.name) × ((i : Text) → Contains f.items i → Contains g.items i)
+
+-- MORE FEATURES AND PACKAGES TURN NOTHING OFF: each package of a plan is in the plan for more of them, in the same place and with all its
+-- features.
+abbrev pub MoreTurnsNothingOff : Type 0
+MoreTurnsNothingOff = (w : WorkspaceText) (s : SettingsText) (commands : List (Option FeatureText)) (selected more : List ℕ) (p q : PlanText) → IsWorkspace w
+    → CommandsGrow s.commands commands → ((n : ℕ) → Contains selected n → Contains more n) → IsPlan w s selected p → IsPlan w (with_commands s commands) more q
+    → (u : UnitText) → Contains p.units u → (v : UnitText) × Contains q.units v × (v.place ≡ u.place) × (v.number ≡ u.number) × ((f : Text) → Contains u.features f → Contains v.features f)
