@@ -1,7 +1,7 @@
 -- Step `built` stays within each set of packages that follows declarations.
-use Rattle.std.proofs.Common.{◌≡◌, ◌⊎◌, inl, inr, ⊎_elim, ℕ, zero, suc, ◌+◌, ◌*◌, ◌<◌, ◌≤◌, List, [], ◌∷◌, ◌++◌, Bool, true, false, Option, None, Some, length, map, refl, ap, sym, ◌∙◌, subst, arith, length-append, if◌then◌else◌}
-use Rattle.std.specs.Prelude.{◌%◌, ◌||◌, ◌&&◌, ◌==◌, Contains, IsTrue, nat_lt, slice_get, option_and_then, option_map}
-use Rattle.std.specs.List.{list_all, list_any, AllByRecursion}
+use Rattle.std.proofs.Common.{◌≡◌, ⊎_elim, ℕ, zero, suc, ◌+◌, ◌*◌, ◌<◌, ◌≤◌, List, [], ◌∷◌, ◌++◌, Bool, true, false, Option, None, Some, length, refl, ap, sym, ◌∙◌, subst, arith, length-append, if◌then◌else◌}
+use Rattle.std.specs.Prelude.{◌%◌, ◌||◌, ◌&&◌, ◌==◌, Contains, IsTrue, slice_get, option_and_then, option_map}
+use Rattle.std.specs.List.{list_all, AllByRecursion}
 use Rattle.std.proofs.Math.Nat.{suc-mul}
 use Rattle.std.proofs.lemmas.Bool.{eqb-true}
 use Rattle.std.proofs.lemmas.List.Elements.{Contains-append_cases}
@@ -20,7 +20,7 @@ use Rattle.plan_rows.specs.declared.side.Side.TheVariants.{Target}
 use Rattle.plan_rows.proofs.EntryLemmas.{length-each_from}
 use Rattle.plan_rows.proofs.EntryRules.{number_is}
 use Rattle.plan_starts.specs.PackageVisits.{PairVisit}
-use Rattle.plan_starts.specs.Starts.{Starts, bases_from, is_among, start_flags, start_places, starts_of, started, starts_on_host, times}
+use Rattle.plan_starts.specs.Starts.{is_among, start_flags, start_places, starts_of, started, starts_on_host, times}
 use Rattle.plan_starts.specs.Targets.{TargetRules, builds}
 use Rattle.plan_units.specs.Units.{UnitText, features_on, target_units, units_at, units_of}
 use Rattle.plan_units.specs.declared.unit.Place.{Place}

@@ -1,6 +1,6 @@
 -- A visit stays within each set of entries that no link leaves.
 use Rattle.std.proofs.Common.{◌≡◌, ℕ, List, Bool, true, false, Option, None, Some, refl, ap, sym, ◌∙◌, subst}
-use Rattle.std.specs.Prelude.{◌==◌, ◌&&◌, Contains, IsTrue, slice_get}
+use Rattle.std.specs.Prelude.{◌==◌, Contains, IsTrue, slice_get}
 use Rattle.std.specs.Option.{option_map_or}
 use Rattle.std.proofs.Math.Logic.{∥∥₁_elim}
 use Rattle.std.proofs.Props.{props}
@@ -17,7 +17,6 @@ use Rattle.feature_core.specs.Candidates.{Candidate, Edge, to_base, to_feature, 
 use Rattle.feature_core.specs.Nodes.{NodeAt, node_places}
 use Rattle.feature_core.specs.Offers.{content_of}
 use Rattle.feature_core.specs.Pairs.{HasCandidate}
-use Rattle.feature_core.specs.Ways.{way}
 use Rattle.feature_links.specs.Facts.{EdgeFacts}
 use Rattle.feature_core.proofs.AddsLemmas.{element_at_place}
 use Rattle.feature_core.proofs.LabelLemmas.{position_there}

@@ -1,19 +1,17 @@
 -- Plans follow declarations.
-use Rattle.std.proofs.Common.{◌≡◌, ℕ, List, Option, Some, length, refl, sym, subst}
+use Rattle.std.proofs.Common.{◌≡◌, ℕ, List, Some, length, refl, sym, subst}
 use Rattle.std.specs.Prelude.{Contains, IsTrue, Bool, slice_get}
-use Rattle.guppy_packages.specs.Graph.{tables_of}
-use Rattle.guppy_packages.specs.Tables.{LinkTable, Tables}
+use Rattle.guppy_packages.specs.Tables.{LinkTable}
 use Rattle.feature_labels.specs.Names.{LabelName}
 use Rattle.feature_labels.specs.Names.LabelName.{base}
 use Rattle.cargo_workspaces.specs.Workspaces.{IsWorkspace, WorkspaceText}
 use Rattle.plan_rows.specs.Steps.{SettingsText, built_entries}
-use Rattle.plan_rows.specs.Tables.{Entry, flag_at, rows_of}
+use Rattle.plan_rows.specs.Tables.{flag_at, rows_of}
 use Rattle.plan_starts.specs.PackageVisits.{PairVisit}
 use Rattle.plan_starts.specs.Starts.{Starts, dev_flags, start_places, starts_of}
 use Rattle.plan_starts.specs.Targets.{TargetRules}
-use Rattle.plan_units.specs.Units.{UnitText, units_of}
 use Rattle.step_visits.specs.Visits.{IsVisitOf, Visit, reaches}
-use Rattle.plan_steps.specs.Plans.{AreBuilt, IsBuiltFrom, IsPlan, PlanText, starts_by, turned_on}
+use Rattle.plan_steps.specs.Plans.{IsBuiltFrom, starts_by, turned_on}
 use Rattle.plan_laws.specs.Laws.{FollowsDeclarations, PlansFollowDeclarations}
 use Rattle.plan_laws.proofs.Closed.{visit_in}
 use Rattle.plan_laws.proofs.EntryLinks.{link_back, rows_sound}

@@ -1,6 +1,6 @@
 -- Tables of entries that grow.
-use Rattle.std.proofs.Common.{◌≡◌, ◌⊎◌, ⊎_elim, ℕ, zero, suc, ◌+◌, ◌<◌, List, [], ◌∷◌, ◌++◌, Bool, true, false, cond, not, Option, None, Some, Ok, length, map, refl, ap, sym, ◌∙◌, subst, arith, append_assoc, length-append, bytes_eq, eq-eqb, take_while}
-use Rattle.std.specs.Prelude.{◌==◌, ◌&&◌, Contains, IsTrue, filter, slice_get}
+use Rattle.std.proofs.Common.{◌≡◌, ⊎_elim, ℕ, zero, suc, ◌+◌, ◌<◌, List, [], ◌∷◌, ◌++◌, Bool, true, false, not, Option, None, Some, Ok, length, map, refl, ap, sym, ◌∙◌, subst, arith, append_assoc, length-append, bytes_eq, eq-eqb, take_while}
+use Rattle.std.specs.Prelude.{◌==◌, Contains, IsTrue, filter, slice_get}
 use Rattle.std.specs.Cmp.Lexicographic.{bytes_decides}
 use Rattle.std.specs.Fmt.{decimal}
 use Rattle.std.specs.List.{cons_option, filter_map, list_any}
@@ -10,8 +10,8 @@ use Rattle.std.proofs.lemmas.List.Elements.{Contains-append_left, Contains-appen
 use Rattle.std.proofs.lemmas.List.Sums.{take_while-cons}
 use Rattle.std.proofs.lemmas.Option.{slice_get_within}
 use Rattle.guppy_packages.specs.Graph.{Dependency as GraphDependency, dependencies_of, firsts, is_joined, is_package, link_of, links_of, owner, package_before, packages_of, row_dependency, row_feature, tables_of}
-use Rattle.guppy_packages.specs.Rows.{Declared, RowText, Text, a_package}
-use Rattle.guppy_packages.specs.Tables.{AreTables, FeatureTable, LinkTable, PackageTable, Tables, package_place}
+use Rattle.guppy_packages.specs.Rows.{RowText, Text, a_package}
+use Rattle.guppy_packages.specs.Tables.{FeatureTable, LinkTable, PackageTable, Tables, package_place}
 use Rattle.guppy_packages.proofs.EachAfter.{after, after-append, each_after-is}
 use Rattle.guppy_packages.proofs.Firsts.{list_any-firsts}
 use Rattle.guppy_packages.proofs.Lists.{slice_get-map}
@@ -24,7 +24,7 @@ use Rattle.plan_rows.specs.Tables.{Dependency, Entry, dependency_row, entry_rows
 use Rattle.plan_rows.proofs.RowFaults.{entry_packages, no_packages-append, no_packages-features}
 use Rattle.plan_rows.proofs.Sound.{owner-is}
 use Rattle.plan_laws.specs.Growth.{HasLink, HasMore, IsMoreOf}
-use Rattle.plan_laws.proofs.EntryLinks.{AreWithin, IsOfEntry, declared_of, dependency_back, id_at, links_are, packages_are, packages_step, place_is, read, rows_sound}
+use Rattle.plan_laws.proofs.EntryLinks.{AreWithin, declared_of, dependency_back, id_at, links_are, packages_are, packages_step, place_is, read}
 use Rattle.plan_laws.proofs.Members.{any_member, both_true, from_firsts, member_any, number_on, same_some}
 
 -- The features of an entry's package.
@@ -169,16 +169,20 @@ module _ (es fs : List Entry) (t s : Tables) (is_t : tables_of (rows_of es) ≡ 
   packages_more p x r h =
       let e = entry_there p x h in
       let f = more.entries p e.0 r e.1 in
-      let at : slice_get s.packages p ≡ Some (package_of (0 + p) f.0) = ap (λ ps. slice_get ps p) (sym (packages_are fs s is_s within_s)) ∙ package_at 0 fs p f.0 f.1 in
-      (package_of (0 + p) f.0, at, record { features = λ g c.
-          let m = from_map feature_of e.0.features g (subst (λ z. Contains z g) e.2 c) in
-          let y = f.2.features m.0 m.1 in
-          (
-            feature_of y.0,
-            subst (λ z. Contains z (feature_of y.0)) (sym (features_of f.0.features f.0.dependencies)) (into_map feature_of f.0.features y.0 y.1),
-            y.2 ∙ ap (λ (z : FeatureTable). z.name) m.2,
-            λ i k. y.3 i (subst (λ (z : FeatureTable). Contains z.items i) (sym m.2) k),
-          ) })
+      let at : slice_get s.packages p ≡ Some (package_of (0 + p) f.0) = ap (λ ps. slice_get ps p) (sym (packages_are fs s is_s within_s)) ∙ package_at 0 fs p f.0 f.1 in (
+        package_of (0 + p) f.0,
+        at,
+        record {
+          features = λ g c.
+              let m = from_map feature_of e.0.features g (subst (λ z. Contains z g) e.2 c) in
+              let y = f.2.features m.0 m.1 in (
+                feature_of y.0,
+                subst (λ z. Contains z (feature_of y.0)) (sym (features_of f.0.features f.0.dependencies)) (into_map feature_of f.0.features y.0 y.1),
+                y.2 ∙ ap (λ (z : FeatureTable). z.name) m.2,
+                λ i k. y.3 i (subst (λ (z : FeatureTable). Contains z.items i) (sym m.2) k),
+              );
+        },
+      )
 
   -- Links.
 

@@ -1,12 +1,11 @@
 -- The links of the tables of entries are the entries' dependencies.
-use Rattle.std.proofs.Common.{◌≡◌, ◌⊎◌, inl, inr, ⊎_elim, ℕ, zero, suc, ◌+◌, ◌<◌, List, [], ◌∷◌, ◌++◌, Bool, true, false, Option, None, Some, Result, Ok, Err, length, map, refl, ap, sym, ◌∙◌, subst, arith, append_assoc, length-append, bytes_eq}
+use Rattle.std.proofs.Common.{◌≡◌, ⊎_elim, ℕ, zero, suc, ◌+◌, ◌<◌, List, [], ◌∷◌, ◌++◌, Bool, false, Option, None, Some, Ok, length, map, refl, ap, sym, ◌∙◌, subst, arith, append_assoc, length-append, bytes_eq}
 use Rattle.std.specs.Prelude.{Contains, slice_get}
 use Rattle.std.specs.Cmp.Lexicographic.{bytes_decides}
 use Rattle.std.specs.Fmt.{decimal}
 use Rattle.std.specs.List.{cons_option, list_any}
 use Rattle.std.specs.Option.{option_map}
-use Rattle.std.proofs.lemmas.List.{append-nil, map-append}
-use Rattle.std.proofs.lemmas.Option.{slice_get_within}
+use Rattle.std.proofs.lemmas.List.{append-nil}
 use Rattle.std.proofs.lemmas.List.Elements.{Contains-append_cases}
 use Rattle.guppy_packages.specs.Graph.{Dependency as GraphDependency, dependencies_of, faults_by, faults_of, first_or, firsts, is_joined, is_package, link_fault, link_of, links_of, owner, package_before, packages_of, row_dependency, row_fault, tables_of}
 use Rattle.guppy_packages.specs.Rows.{Declared, RowText, Text, a_package}
@@ -22,7 +21,7 @@ use Rattle.feature_core.proofs.LabelLemmas.{position_there}
 use Rattle.feature_core.proofs.PushLemmas.{from_map}
 use Rattle.plan_rows.specs.Tables.{Dependency, Entry, dependency_row, entry_rows, feature_row, rows_from, rows_of}
 use Rattle.plan_rows.proofs.Sound.{owner-is, packages_of-append}
-use Rattle.plan_rows.proofs.RowFaults.{entry_packages, no_packages-append, no_packages-dependencies, no_packages-features}
+use Rattle.plan_rows.proofs.RowFaults.{entry_packages, no_packages-append, no_packages-features}
 use Rattle.plan_laws.proofs.Members.{from_firsts, number_on}
 
 -- Tables of rows satisfy the rules of tables.

@@ -1,6 +1,6 @@
 -- Tables that grow reach more.
 use Rattle.std.proofs.Common.{◌≡◌, ◌⊎◌, inl, inr, ⊎_elim, ℕ, ◌+◌, ◌<◌, List, [], ◌∷◌, ◌++◌, Bool, true, false, cond, not, Option, None, Some, length, map, refl, ap, sym, ◌∙◌, subst, arith, eq-eqb}
-use Rattle.std.specs.Prelude.{◌↔◌, ◌≤◌, ◌==◌, ◌&&◌, ◌||◌, Contains, IsTrue, slice_get}
+use Rattle.std.specs.Prelude.{◌≤◌, ◌==◌, ◌&&◌, ◌||◌, Contains, IsTrue, slice_get}
 use Rattle.std.specs.Cmp.Lexicographic.{bytes_decides}
 use Rattle.std.specs.List.{list_any}
 use Rattle.std.specs.Option.{is_some, option_map_or}
@@ -12,13 +12,12 @@ use Rattle.std.proofs.lemmas.List.Elements.{Contains-append_cases, Contains-appe
 use Rattle.guppy_support.specs.Bits.{has}
 use Rattle.guppy_packages.specs.Items.{Item, slash_item}
 use Rattle.guppy_packages.specs.Rows.{Declared, Text}
-use Rattle.guppy_packages.specs.Tables.{AreTables, FeatureTable, LinkTable, PackageTable, Tables, has_name, has_optional_link, pair_of}
+use Rattle.guppy_packages.specs.Tables.{AreTables, FeatureTable, LinkTable, PackageTable, Tables, has_name, pair_of}
 use Rattle.guppy_packages.specs.declared.direction.DependencyDirection.TheVariants.{Forward}
 use Rattle.guppy_packages.proofs.Lists.{slice_get-map}
 use Rattle.feature_labels.specs.Names.{LabelName}
 use Rattle.feature_labels.specs.Names.LabelName.{base, named, optional}
 use Rattle.feature_labels.specs.Orders.{label_eq, label_eq-Decides}
-use Rattle.feature_labels.specs.declared.link_declarations.LinkDeclarations.{LinkDeclarations}
 use Rattle.feature_labels.specs.declared.link_declarations.LinkDeclarations.TheVariants as covered
 use Rattle.walk_engine.specs.declared.walks.Ask.{Ask}
 use Rattle.walk_engine.specs.declared.walks.Ask.TheVariants as asks
@@ -26,10 +25,10 @@ use Rattle.walk_engine.specs.declared.walks.Half.{Half}
 use Rattle.walk_engine.specs.declared.walks.Half.TheVariants.{Full, Required, Optional}
 use Rattle.walk_engine.specs.Laws.{every}
 use Rattle.walk_engine.specs.Walks.{IsClosed, IsWay, Way, has_gate, has_half}
-use Rattle.feature_links.specs.Facts.{EdgeFacts, weak_edge}
+use Rattle.feature_links.specs.Facts.{EdgeFacts}
 use Rattle.feature_links.specs.Links.{IsLink, IsPackage, LinkFacts, half_of, half_over, has_declaration, includes, over}
-use Rattle.feature_core.specs.Built.{Built, IsBuilt, NodeNamed}
-use Rattle.feature_core.specs.Candidates.{Candidate, Edge, HasItem, IsEdge, IsSection, LeadsOver, feature_to_base, named_feature, dep_colon, slash_full, slash_optional, slash_weak, section, to_base, to_feature, to_dependency, over_strong, over_weak, with_dependency, with_feature, of_required, of_optional, rank_of, requesting, unsplit_of}
+use Rattle.feature_core.specs.Built.{Built, IsBuilt}
+use Rattle.feature_core.specs.Candidates.{Candidate, Edge, HasItem, IsEdge, LeadsOver, feature_to_base, named_feature, dep_colon, slash_full, slash_optional, slash_weak, section, to_base, to_feature, to_dependency, over_strong, over_weak, with_dependency, with_feature, of_required, of_optional, rank_of, requesting, unsplit_of}
 use Rattle.feature_core.specs.Edges.{facts_of, weak_facts}
 use Rattle.feature_core.specs.Nodes.{NodeAt, first_node, labels_of, node_places}
 use Rattle.feature_core.specs.Offers.{content_of}
@@ -45,7 +44,7 @@ use Rattle.feature_core.proofs.PartLemmas.{list_any_back, list_any_there}
 use Rattle.feature_core.proofs.Places.{node_back, node_there}
 use Rattle.feature_core.proofs.PushLemmas.{from_map, into_map}
 use Rattle.answer_laws.proofs.BuildExists.{built_exists}
-use Rattle.step_visits.specs.Visits.{IsReached, IsVisit, Visit, is_node, is_place, is_start, node_at, reaches}
+use Rattle.step_visits.specs.Visits.{IsReached, is_node, is_place, is_start, node_at, reaches}
 use Rattle.step_visits.proofs.Places.{node_found}
 use Rattle.plan_laws.specs.Laws.{AreAmong}
 use Rattle.plan_laws.specs.Growth.{GrownTablesReachMore, HasLink, HasMore, IsMoreOf}

@@ -3,6 +3,7 @@ mod Closed
 mod Declarations
 mod EntryGrowth
 mod EntryLinks
+mod Flags
 mod Grown
 mod Members
 mod Monotone
@@ -10,8 +11,6 @@ mod MoreBuilt
 mod MoreEntries
 mod MoreFeatures
 mod MoreOn
-mod MorePlans
-mod MoreSelected
 mod Numbered
 mod OneOutcome
 mod OnePlan

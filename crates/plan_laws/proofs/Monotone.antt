@@ -1,9 +1,8 @@
 -- More starts reach more.
 use Rattle.std.proofs.Common.{◌≡◌, ℕ, Bool, true, false, List, Option, None, Some, Result, Ok, refl, sym, ◌∙◌, subst}
-use Rattle.std.specs.Prelude.{Contains, IsTrue}
+use Rattle.std.specs.Prelude.{IsTrue}
 use Rattle.std.specs.Option.{option_map_or}
 use Rattle.guppy_support.specs.Bits.{has}
-use Rattle.guppy_packages.specs.Rows.{RowText}
 use Rattle.guppy_packages.specs.Tables.{Tables}
 use Rattle.guppy_packages.specs.declared.row_error.RowError.{RowError}
 use Rattle.guppy_packages.specs.declared.direction.DependencyDirection.TheVariants.{Forward}
@@ -12,7 +11,7 @@ use Rattle.feature_core.specs.Offers.{content_of}
 use Rattle.walk_engine.specs.declared.walks.Half.{Half}
 use Rattle.walk_engine.specs.Laws.{every}
 use Rattle.walk_engine.specs.Walks.{Content, Least}
-use Rattle.step_visits.specs.Visits.{IsReached, IsVisitOf, Visit, is_node, is_start, node_at, reaches}
+use Rattle.step_visits.specs.Visits.{IsReached, is_node, is_start, node_at, reaches}
 use Rattle.plan_laws.specs.Laws.{AreAmong, MoreStartsReachMore, MoreStartsVisitMore}
 use Rattle.plan_laws.proofs.Members.{any_member, member_any}
 

@@ -1,6 +1,6 @@
 -- The entries and the starts of step `built`, for more that is kept and on.
-use Rattle.std.proofs.Common.{◌≡◌, ◌⊎◌, ⊎_elim, ℕ, zero, suc, ◌+◌, ◌*◌, ◌<◌, List, [], ◌∷◌, ◌++◌, Bool, true, false, not, Option, None, Some, length, map, refl, ap, sym, ◌∙◌, subst, arith, length-append, if◌then◌else◌, codes}
-use Rattle.std.specs.Prelude.{◌%◌, ◌==◌, ◌&&◌, ◌||◌, Contains, IsTrue, slice_get}
+use Rattle.std.proofs.Common.{◌≡◌, ⊎_elim, ℕ, suc, ◌+◌, ◌*◌, ◌<◌, List, [], ◌∷◌, ◌++◌, Bool, true, false, not, Option, None, Some, length, refl, ap, sym, ◌∙◌, subst, arith, if◌then◌else◌, codes}
+use Rattle.std.specs.Prelude.{◌%◌, ◌==◌, ◌&&◌, ◌||◌, Contains, slice_get}
 use Rattle.std.specs.List.{list_all, list_any}
 use Rattle.std.specs.Option.{is_some, option_map_or}
 use Rattle.std.specs.Str.{bytes_eq}
@@ -15,13 +15,13 @@ use Rattle.feature_core.proofs.Places.{get_cases, get_left, get_right}
 use Rattle.plan_rows.specs.Commands.{is_started}
 use Rattle.plan_rows.specs.Steps as steps
 use Rattle.plan_rows.specs.Steps.{SettingsText}
-use Rattle.plan_rows.specs.Tables.{Dependency, Entry, each_from, flag_at}
+use Rattle.plan_rows.specs.Tables.{Entry, flag_at}
 use Rattle.plan_rows.specs.declared.side.Side.{Side}
 use Rattle.plan_rows.specs.declared.side.Side.TheVariants.{Target}
 use Rattle.plan_rows.proofs.EntryLemmas.{length-each_from}
 use Rattle.plan_rows.proofs.EntryRules.{number_is}
 use Rattle.plan_starts.specs.PackageVisits.{PairVisit, is_kept, is_on}
-use Rattle.plan_starts.specs.Starts.{Starts, dev_flags, is_among, start_flags, start_places, started, starts_of, starts_on_host, times}
+use Rattle.plan_starts.specs.Starts.{dev_flags, is_among, start_flags, start_places, started, starts_of, starts_on_host, times}
 use Rattle.plan_starts.specs.Targets.{TargetRules, builds, counts, is_built, is_chosen, is_followed, is_macro, is_of, leads_on}
 use Rattle.plan_laws.specs.Growth.{CommandsGrow, with_commands}
 use Rattle.plan_laws.specs.Laws.{AreAmong}
@@ -31,7 +31,7 @@ use Rattle.plan_laws.proofs.EntryLinks.{AreWithin}
 use Rattle.plan_laws.proofs.Members.{any_member, both_true, member_any}
 use Rattle.plan_laws.proofs.MoreEntries.{deps_more, each_there, everywhere, number_more, one_named, started_more, two_true}
 use Rattle.plan_laws.proofs.MoreOn.{or_more}
-use Rattle.plan_laws.proofs.MoreSelected.{Grows, bases_more, grows-append, grows-each, grows-flag, grows-times, host_more, same_long}
+use Rattle.plan_laws.proofs.Flags.{Grows, bases_more, grows-append, grows-each, grows-flag, grows-times, host_more, same_long}
 use Rattle.plan_laws.proofs.Numbered.{each_back}
 
 zero_plus : (n : ℕ) → 0 + n ≡ n
@@ -130,8 +130,7 @@ module _ (w : WorkspaceText) (is : IsWorkspace w) (s : SettingsText) (commands :
 
   place_more : (side : Side) (b : ℕ) (holds : Text → Bool) (m : ℕ) (e : Entry) → slice_get (small side b holds) m ≡ Some e → (f : Entry) × (slice_get (large side b holds) m ≡ Some f) × IsMoreEntry e f
   place_more side b holds m e h =
-      let r = each_back (steps.built_entry (steps.macros_of w.packages) s (turned side) dev b holds) 0 w.packages m e h in
-      (
+      let r = each_back (steps.built_entry (steps.macros_of w.packages) s (turned side) dev b holds) 0 w.packages m e h in (
         steps.built_entry (steps.macros_of w.packages) more (others side) devs b holds (0 + m) r.item,
         each_there (steps.built_entry (steps.macros_of w.packages) more (others side) devs b holds) 0 w.packages m r.item r.there,
         subst (λ z. IsMoreEntry z (steps.built_entry (steps.macros_of w.packages) more (others side) devs b holds (0 + m) r.item)) r.is (entry_more side b holds (0 + m) r.item),
@@ -166,11 +165,11 @@ built_within w is s turned dev = entries_within w is (λ p. true) (λ p q x d th
 -- More starts.
 
 any_weaker : {X : Type 0} (p q : X → Bool) (xs : List X) → ((x : X) → p x ≡ true → q x ≡ true) → list_any p xs ≡ true → list_any q xs ≡ true
-any_weaker p q xs more h = let m = member_any p xs h in any_member q xs m.element m.member (more m.element m.passes)
+any_weaker p q xs f h = let m = member_any p xs h in any_member q xs m.element m.member (f m.element m.passes)
 
 all_weaker : {X : Type 0} (p q : X → Bool) (xs : List X) → ((x : X) → p x ≡ true → q x ≡ true) → list_all p xs ≡ true → list_all q xs ≡ true
-all_weaker p q [] more h = refl
-all_weaker p q (x ∷ xs) more h = let parts = both_true (p x) (list_all p xs) h in two_true (q x) (list_all q xs) (more x parts.0) (all_weaker p q xs more parts.1)
+all_weaker p q [] f h = refl
+all_weaker p q (x ∷ xs) f h = let parts = both_true (p x) (list_all p xs) h in two_true (q x) (list_all q xs) (f x parts.0) (all_weaker p q xs f parts.1)
 
 module _ (w : WorkspaceText) (is : IsWorkspace w) (s : SettingsText) (commands : List (Option FeatureText)) (grow : CommandsGrow s.commands commands) (k j o l : PairVisit)
     (kept_more : (p : ℕ) (name : Text) → is_kept k p name ≡ true → is_kept j p name ≡ true) (on_more : (side : Side) (p : ℕ) (label : LabelName) → is_on o side p label ≡ true → is_on l side p label ≡ true) where

@@ -1,31 +1,26 @@
 -- The entries of the steps, for more command features, and for more that is kept and on.
-use Rattle.std.proofs.Common.{◌≡◌, ◌⊎◌, inl, inr, ⊎_elim, ℕ, zero, suc, ◌+◌, ◌*◌, ◌<◌, ◌≤◌, List, [], ◌∷◌, ◌++◌, Bool, true, false, not, Option, None, Some, length, map, refl, ap, sym, ◌∙◌, subst, arith, length-append, bytes_eq, eq-eqb, if◌then◌else◌, codes}
-use Rattle.std.specs.Prelude.{◌%◌, ◌==◌, ◌&&◌, ◌||◌, Contains, IsTrue, flat_map, is_some, nat_lt, option_and_then, option_map, slice_get}
+use Rattle.std.proofs.Common.{◌≡◌, ◌⊎◌, inl, inr, ⊎_elim, ℕ, zero, suc, ◌+◌, ◌*◌, ◌<◌, List, [], ◌∷◌, ◌++◌, Bool, true, false, not, Option, None, Some, length, map, refl, ap, sym, ◌∙◌, subst, arith, length-append, bytes_eq, eq-eqb}
+use Rattle.std.specs.Prelude.{◌%◌, ◌==◌, ◌&&◌, ◌||◌, Contains, flat_map, is_some, nat_lt, option_and_then, option_map, slice_get}
 use Rattle.std.specs.Cmp.Lexicographic.{bytes_decides}
 use Rattle.std.specs.List.{cons_option, filter_map, list_any, AllByRecursion}
-use Rattle.std.proofs.Math.Nat.{suc-mul}
-use Rattle.std.proofs.lemmas.List.{length-map}
 use Rattle.std.proofs.lemmas.List.Elements.{Contains-append_cases, Contains-append_left, Contains-append_right}
 use Rattle.std.proofs.lemmas.Nat.{mod-mul-add}
 use Rattle.guppy_packages.specs.Items.{item_of}
-use Rattle.cargo_workspaces.specs.Workspaces.{DeclarationText, FeatureText, IsPackage, IsWorkspace, PackageText, Text, WorkspaceText, has_script, is_proc_macro}
+use Rattle.cargo_workspaces.specs.Workspaces.{DeclarationText, FeatureText, IsPackage, IsWorkspace, PackageText, Text, WorkspaceText}
 use Rattle.feature_core.proofs.AddsLemmas.{Contains-cases, Contains-first, Contains-later, Contains-none, place_of_element}
 use Rattle.feature_core.proofs.Places.{get_cases, get_left, get_right, got_map}
-use Rattle.feature_core.proofs.PushLemmas.{from_map, into_map}
 use Rattle.plan_rows.specs.Commands.{command_of, is_started}
 use Rattle.plan_rows.specs.Steps as steps
 use Rattle.plan_rows.specs.Steps.{SettingsText}
-use Rattle.plan_rows.specs.Tables.{Dependency, Entry, each_from, flag_at}
-use Rattle.plan_rows.specs.declared.side.Side.{Side}
-use Rattle.plan_rows.specs.declared.side.Side.TheVariants.{Target, Host}
+use Rattle.plan_rows.specs.Tables.{Dependency, Entry, each_from}
 use Rattle.plan_rows.proofs.EntryLemmas.{length-each_from}
 use Rattle.plan_rows.proofs.EntryRules.{entry_is, number_is}
 use Rattle.plan_rows.proofs.LinkFaults.{is_renamed}
 use Rattle.plan_laws.specs.Growth.{CommandsGrow, with_commands}
-use Rattle.plan_laws.proofs.BuiltStep.{all_member, all_place, entries_within}
+use Rattle.plan_laws.proofs.BuiltStep.{all_member, all_place}
 use Rattle.plan_laws.proofs.EntryGrowth.{HasOneName, HaveMore, IsMoreEntry}
 use Rattle.plan_laws.proofs.EntryLinks.{AreWithin}
-use Rattle.plan_laws.proofs.Members.{any_member, both_true, from_filter_map, same_some}
+use Rattle.plan_laws.proofs.Members.{any_member, from_filter_map, same_some}
 use Rattle.plan_laws.proofs.Numbered.{each_back}
 
 zero_plus : (n : ℕ) → 0 + n ≡ n
@@ -174,8 +169,7 @@ module _ (w : WorkspaceText) (is : IsWorkspace w) (s : SettingsText) (commands :
           subst (λ o. IsMoreEntry (steps.started_entry (Some f) x) (steps.started_entry o x)) (sym g.1) (record {
             features = λ y i. ⊎_elim
                 (λ j. (y, Contains-append_left (map steps.gated_feature x.features) (steps.gated_feature g.0 ∷ []) y j, refl, λ k c. c))
-                (λ j. let same : steps.gated_feature f ≡ y = ⊎_elim (λ z. z) (λ z. absurd (Contains-none y z)) (Contains-cases (steps.gated_feature f) [] y j) in
-                (
+                (λ j. let same : steps.gated_feature f ≡ y = ⊎_elim (λ z. z) (λ z. absurd (Contains-none y z)) (Contains-cases (steps.gated_feature f) [] y j) in (
                   steps.gated_feature g.0,
                   Contains-append_right (map steps.gated_feature x.features) (steps.gated_feature g.0 ∷ []) (steps.gated_feature g.0) (Contains-first (steps.gated_feature g.0) []),
                   g.2 ∙ ap (λ (z : FeatureText). z.name) same,
@@ -226,8 +220,12 @@ module _ (w : WorkspaceText) (is : IsWorkspace w) (s : SettingsText) (commands :
   pub resolved_more : HaveMore (steps.resolved_entries w s) (steps.resolved_entries w more) everywhere
   resolved_more = record {
     entries = λ m e r h. ⊎_elim
-        (λ b. (e, subst (λ n. slice_get (steps.resolved_entries w more) n ≡ Some e) (sym b.2)
-        (get_left (each_from steps.other_entry 0 w.packages) (each_from (starts_of commands) 0 w.packages) b.0 e (each_there steps.other_entry 0 w.packages b.0 b.1 b.3 ∙ ap Some b.4)), same_entry e))
+        (λ b. (
+          e,
+          subst (λ n. slice_get (steps.resolved_entries w more) n ≡ Some e) (sym b.2)
+              (get_left (each_from steps.other_entry 0 w.packages) (each_from (starts_of commands) 0 w.packages) b.0 e (each_there steps.other_entry 0 w.packages b.0 b.1 b.3 ∙ ap Some b.4)),
+          same_entry e,
+        ))
         (λ b.
         let there : slice_get (steps.resolved_entries w more) m ≡ Some (starts_of commands b.0 b.1) =
         get_right (each_from steps.other_entry 0 w.packages) (each_from (starts_of commands) 0 w.packages) m b.0 (b.2 ∙ ap (λ z. z + b.0) (sym (length-each_from steps.other_entry 0 w.packages)))

@@ -1,6 +1,6 @@
 -- More features and more packages turn nothing off.
-use Rattle.std.proofs.Common.{◌≡◌, ◌⊎◌, ⊎_elim, ℕ, zero, suc, ◌+◌, List, [], ◌∷◌, ◌++◌, Bool, true, false, Option, None, Some, length, map, refl, ap, sym, ◌∙◌, subst, arith, if◌then◌else◌}
-use Rattle.std.specs.Prelude.{◌&&◌, ◌||◌, Contains, IsTrue, filter, is_some, nat_lt, option_and_then, slice_get}
+use Rattle.std.proofs.Common.{◌≡◌, ⊎_elim, ℕ, zero, suc, ◌+◌, List, [], ◌∷◌, ◌++◌, Bool, true, false, Option, None, Some, length, refl, ap, sym, ◌∙◌, subst, arith, if◌then◌else◌}
+use Rattle.std.specs.Prelude.{◌&&◌, ◌||◌, Contains, filter, is_some, nat_lt, option_and_then, slice_get}
 use Rattle.std.proofs.lemmas.List.Elements.{Contains-append_cases, Contains-append_left, Contains-append_right}
 use Rattle.feature_labels.specs.Names.{LabelName}
 use Rattle.feature_labels.specs.Names.LabelName.{base, named, optional}
@@ -21,7 +21,7 @@ use Rattle.plan_units.specs.Units.{UnitText, features_on, target_units, units_at
 use Rattle.plan_units.specs.declared.unit.Place.{Place}
 use Rattle.plan_units.specs.declared.unit.Place.TheVariants as spot
 use Rattle.step_visits.specs.Visits.{IsVisitOf, Visit, reaches}
-use Rattle.plan_steps.specs.Plans.{PlanText, starts_by, turned_on}
+use Rattle.plan_steps.specs.Plans.{starts_by, turned_on}
 use Rattle.plan_laws.specs.Growth.{CommandsGrow, MoreTurnsNothingOff, with_commands}
 use Rattle.plan_laws.specs.Laws.{AreAmong}
 use Rattle.plan_laws.proofs.EntryGrowth.{HaveMore, has_more}
@@ -138,11 +138,10 @@ module _ (o l : PairVisit) (u v : Visit) (on_all : (side : Side) (p : ℕ) (labe
       let j = joined_back (λ p x. if reaches u (first + p) base then small p x ∷ [] else []) 0 packages y h in
       let n = 0 + j.place in
       let one = one_if (reaches u (first + n) base) (small n j.item) y j.member in
-      let there = reached (first + n) one.0 in
-      (
+      let there = reached (first + n) one.0 in (
         large n j.item,
         joined_into (λ p x. if reaches v (first + p) base then large p x ∷ [] else []) 0 packages j.place j.item (large n j.item) j.there
-        (subst (λ b. Contains (if b then large n j.item ∷ [] else []) (large n j.item)) (sym there) (Contains-first (large n j.item) [])),
+            (subst (λ b. Contains (if b then large n j.item ∷ [] else []) (large n j.item)) (sym there) (Contains-first (large n j.item) [])),
         ap (λ (z : UnitText). z.place) one.1,
         ap (λ (z : UnitText). z.number) one.1,
         λ f i. features_there side n j.item f (subst (λ (z : UnitText). Contains z.features f) (sym one.1) i),

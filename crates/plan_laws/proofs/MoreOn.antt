@@ -1,6 +1,6 @@
 -- The entries of step `on`, for more command features and more that is kept.
-use Rattle.std.proofs.Common.{◌≡◌, ◌⊎◌, inl, inr, ⊎_elim, ℕ, zero, suc, ◌+◌, ◌*◌, ◌<◌, List, [], ◌∷◌, ◌++◌, Bool, true, false, not, Option, None, Some, length, map, refl, ap, sym, ◌∙◌, subst, arith, length-append, if◌then◌else◌}
-use Rattle.std.specs.Prelude.{◌%◌, ◌&&◌, ◌||◌, Contains, IsTrue, slice_get}
+use Rattle.std.proofs.Common.{◌≡◌, ⊎_elim, ℕ, ◌+◌, ◌*◌, ◌<◌, List, [], ◌++◌, Bool, true, false, not, Option, None, Some, length, refl, ap, sym, ◌∙◌, subst, arith, length-append, if◌then◌else◌}
+use Rattle.std.specs.Prelude.{◌%◌, ◌&&◌, ◌||◌, Contains, slice_get}
 use Rattle.std.proofs.lemmas.List.{append-nil, length-map}
 use Rattle.std.proofs.lemmas.List.Elements.{Contains-append_cases, Contains-append_left, Contains-append_right}
 use Rattle.std.proofs.lemmas.Nat.{mod-mul-add}
@@ -10,7 +10,7 @@ use Rattle.feature_core.proofs.Places.{get_cases, get_left, get_right}
 use Rattle.plan_rows.specs.Commands.{command_of, is_started}
 use Rattle.plan_rows.specs.Steps as steps
 use Rattle.plan_rows.specs.Steps.{SettingsText}
-use Rattle.plan_rows.specs.Tables.{Dependency, Entry, each_from, flag_at}
+use Rattle.plan_rows.specs.Tables.{Dependency, Entry, flag_at}
 use Rattle.plan_rows.specs.declared.side.Side.{Side}
 use Rattle.plan_rows.specs.declared.side.Side.TheVariants.{Target, Host}
 use Rattle.plan_rows.proofs.EntryLemmas.{length-each_from}
@@ -19,7 +19,7 @@ use Rattle.plan_laws.specs.Growth.{CommandsGrow, with_commands}
 use Rattle.plan_laws.proofs.BuiltStep.{all_place}
 use Rattle.plan_laws.proofs.EntryGrowth.{HasOneName, HaveMore, IsMoreEntry}
 use Rattle.plan_laws.proofs.EntryLinks.{AreWithin}
-use Rattle.plan_laws.proofs.Members.{both_true, either_true}
+use Rattle.plan_laws.proofs.Members.{both_true}
 use Rattle.plan_laws.proofs.MoreEntries.{below, deps_more, each_there, everywhere, number_more, one_named, started_more, two_true}
 use Rattle.plan_laws.proofs.Numbered.{each_back}
 
@@ -41,8 +41,7 @@ command_there commands others grow p x h = go (command_of commands p) refl h
     go None e i = absurd (Contains-none x i)
     go (Some f) e i =
         let g = grow p f e in
-        let same : f ≡ x = ⊎_elim (λ z. z) (λ z. absurd (Contains-none x z)) (Contains-cases f [] x i) in
-        (
+        let same : f ≡ x = ⊎_elim (λ z. z) (λ z. absurd (Contains-none x z)) (Contains-cases f [] x i) in (
           g.0,
           subst (λ o. Contains (steps.command_list o) g.0) (sym g.1) (Contains-first g.0 []),
           g.2 ∙ ap (λ (z : FeatureText). z.name) same,
@@ -179,8 +178,7 @@ module _ (w : WorkspaceText) (is : IsWorkspace w) where
     pub on_more : HaveMore (steps.on_entries w s kept) (steps.on_entries w more others) everywhere
     on_more = record {
       entries = λ m e r h.
-          let b = on_back s kept s.split m e h in
-          (
+          let b = on_back s kept s.split m e h in (
             steps.on_entry macros more others b.side b.place b.item,
             on_there more others s.split b.side b.host b.place b.item b.there m b.number,
             subst (λ z. IsMoreEntry z (steps.on_entry macros more others b.side b.place b.item)) b.entry (entry_more b.side b.place b.item),

@@ -14,7 +14,7 @@ use Rattle.plan_starts.specs.Lists.{first_from, first_some}
 use Rattle.plan_starts.specs.PackageVisits.{PairVisit, reaches_at}
 use Rattle.plan_starts.specs.Starts.{Starts}
 use Rattle.plan_units.specs.Lacking.{absent_of, is_absent}
-use Rattle.plan_words.specs.Choices.{ChosenText, choose}
+use Rattle.plan_words.specs.Choices.{ChosenText}
 use Rattle.plan_words.specs.Refusals.{Refusal, refusal_of}
 use Rattle.plan_steps.specs.PlanViews.{IsRefused}
 use Rattle.plan_steps.specs.Plans.{IsPlan, PlanText, lacks, not_on, starts_by, without_tests}

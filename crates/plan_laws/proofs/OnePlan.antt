@@ -1,5 +1,5 @@
 -- A workspace and a selection have one plan: all that a step takes from a visit is which labels it reaches.
-use Rattle.std.proofs.Common.{◌≡◌, ℕ, zero, suc, ◌+◌, List, [], ◌∷◌, ◌++◌, Bool, true, false, Option, Some, Result, Ok, length, map, refl, ap, ap₂, sym, ◌∙◌, subst, if◌then◌else◌, codes}
+use Rattle.std.proofs.Common.{◌≡◌, ℕ, zero, suc, ◌+◌, List, [], ◌∷◌, ◌++◌, Bool, true, false, Result, Ok, length, map, refl, ap, ap₂, sym, ◌∙◌, subst, if◌then◌else◌, codes}
 use Rattle.std.specs.Prelude.{◌&&◌, ◌||◌, filter, nat_lt, not}
 use Rattle.std.specs.List.{list_all, list_any}
 use Rattle.std.specs.Option.{is_some, option_map_or}
@@ -15,18 +15,18 @@ use Rattle.plan_rows.specs.Tables.{each_from, flag_at, rows_of}
 use Rattle.plan_rows.specs.declared.side.Side.{Side}
 use Rattle.plan_rows.specs.declared.side.Side.TheVariants.{Target}
 use Rattle.plan_starts.specs.Lists.{joined_from}
-use Rattle.plan_starts.specs.PackageVisits.{PairVisit, first_entry, is_kept, is_on, reaches_at}
+use Rattle.plan_starts.specs.PackageVisits.{PairVisit, first_entry, is_kept, reaches_at}
 use Rattle.plan_starts.specs.Starts.{Starts, dev_flags, is_among, start_places, starts_of, starts_on_host}
-use Rattle.plan_starts.specs.Targets.{TargetRules, counts, is_chosen, is_macro}
+use Rattle.plan_starts.specs.Targets.{counts, is_chosen, is_macro}
 use Rattle.plan_units.specs.Commands.{on_starts, resolved_starts}
 use Rattle.plan_units.specs.Units.{UnitText, target_units, units_at, units_of}
 use Rattle.plan_units.specs.declared.unit.Place.{Place}
 use Rattle.plan_units.specs.declared.unit.Place.TheVariants as spot
-use Rattle.plan_words.specs.Choices.{ChosenText, choose}
+use Rattle.plan_words.specs.Choices.{ChosenText}
 use Rattle.plan_words.specs.Refusals.{Refusal}
 use Rattle.step_visits.specs.Visits.{IsVisitOf, Visit, reaches}
-use Rattle.plan_steps.specs.Plans.{IsBuiltFrom, IsOn, IsPlan, IsResolved, PlanText, starts_by, turned_on}
-use Rattle.cargo_plans.specs.Plans.{IsPlanOf, WordsText, settings_by}
+use Rattle.plan_steps.specs.Plans.{IsBuiltFrom, IsOn, IsPlan, IsResolved, starts_by, turned_on}
+use Rattle.cargo_plans.specs.Plans.{settings_by}
 use Rattle.plan_laws.specs.Laws.{OnePlan, OnePlanOfWords}
 
 -- all visits of the same rows from the same starts reach the same labels

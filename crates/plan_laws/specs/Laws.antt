@@ -57,11 +57,6 @@ PlanExcludesRefusal = (w : WorkspaceText) (s : SettingsText) (selected : List �
 abbrev pub PlanOfWordsExcludesRefusal : Type 0
 PlanOfWordsExcludesRefusal = (w : WorkspaceText) (words : WordsText) (p : PlanText) (e : PlanFault) → IsPlanOf w words p → IsRefusal w words e → e ≡ fault.Memory
 
--- MORE SELECTED packages build more, for the same settings, if tests aren't built.
-abbrev pub MoreSelectedBuildMore : Type 0
-MoreSelectedBuildMore = (w : WorkspaceText) (s : SettingsText) (selected more : List ℕ) (p q : PlanText) → IsFalse s.test → ((n : ℕ) → Contains selected n → Contains more n)
-    → IsPlan w s selected p → IsPlan w s more q → (u : UnitText) → Contains p.units u → Contains q.units u
-
 -- The settings, if the resolver tells sides apart or doesn't.
 abbrev pub with_split : SettingsText → Bool → SettingsText
 with_split s split = record { split = split; test = s.test; commands = s.commands; host = s.host; targets = s.targets }

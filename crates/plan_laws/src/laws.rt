@@ -1,11 +1,11 @@
 //! Laws of visits and of plans. Each function does nothing: its contract is the law.
-ghost use Rattle.plan_laws.specs.Growth.{GrownTablesReachMore};
-ghost use Rattle.plan_laws.specs.Laws.{MoreSelectedBuildMore, MoreStartsReachMore, MoreStartsVisitMore, OnePlan, OnePlanOfWords, PlanExcludesRefusal, PlanOfWordsExcludesRefusal, PlansFollowDeclarations, ResolversAgree};
+ghost use Rattle.plan_laws.specs.Growth.{GrownTablesReachMore, MoreTurnsNothingOff};
+ghost use Rattle.plan_laws.specs.Laws.{MoreStartsReachMore, MoreStartsVisitMore, OnePlan, OnePlanOfWords, PlanExcludesRefusal, PlanOfWordsExcludesRefusal, PlansFollowDeclarations, ResolversAgree};
 
 use feature_core::laws::least_monotone;
 use step_visits::one_visit;
 
-/// States that more starts reach more over the same rows, so a command line that starts more turns nothing off.
+/// States that more starts reach more over the same tables, and so do visits of the same rows.
 pub fn more_starts_reach_more()
     ensures reach { MoreStartsReachMore }
     ensures visit { MoreStartsVisitMore }
@@ -18,13 +18,11 @@ pub fn grown_tables_reach_more()
     ensures { GrownTablesReachMore }
 {}
 
-/// States that more selected packages build more, for the same settings, if tests aren't built.
-pub fn more_selected_build_more()
-    ensures { MoreSelectedBuildMore }
-{
-    least_monotone();
-    one_visit();
-}
+/// States that more command features and more selected packages turn nothing off: each package of a plan is in the plan for more of
+/// them, in the same place and with all its features.
+pub fn more_turns_nothing_off()
+    ensures { MoreTurnsNothingOff }
+{}
 
 /// States that each package of a plan is one that declarations lead to from the selected packages.
 pub fn plans_follow_declarations()
