@@ -1,0 +1,4 @@
+pub mod Plans
+pub mod Refusals
+pub mod WordsView
+pub mod inner

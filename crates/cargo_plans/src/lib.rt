@@ -1,0 +1,14 @@
+//! The plan of a workspace by the words of a command line: which packages a build compiles, in which place, and with which features.
+#![tactic(auto)]
+
+mod fault;
+mod planning;
+mod words;
+
+pub use fault::PlanFault;
+pub use plan_rows::{Platform, Side};
+pub use plan_steps::Plan;
+pub use plan_units::{Place, Unit};
+pub use plan_words::{PackageChoice, Selection, WordFault};
+pub use planning::plan;
+pub use words::PlanWords;

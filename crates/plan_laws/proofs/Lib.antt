@@ -1,0 +1,17 @@
+mod BuiltStep
+mod Closed
+mod Declarations
+mod EntryGrowth
+mod EntryLinks
+mod Flags
+mod Grown
+mod Members
+mod Monotone
+mod MoreBuilt
+mod MoreEntries
+mod MoreFeatures
+mod MoreOn
+mod Numbered
+mod OneOutcome
+mod OnePlan
+mod Resolvers

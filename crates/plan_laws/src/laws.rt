@@ -1,0 +1,52 @@
+//! Laws of visits and of plans. Each function does nothing: its contract is the law.
+ghost use Rattle.plan_laws.specs.Growth.{GrownTablesReachMore, MoreTurnsNothingOff};
+ghost use Rattle.plan_laws.specs.Laws.{MoreStartsReachMore, MoreStartsVisitMore, OnePlan, OnePlanOfWords, PlanExcludesRefusal, PlanOfWordsExcludesRefusal, PlansFollowDeclarations, ResolversAgree};
+
+use feature_core::laws::least_monotone;
+use step_visits::one_visit;
+
+/// States that more starts reach more over the same tables, and so do visits of the same rows.
+pub fn more_starts_reach_more()
+    ensures reach { MoreStartsReachMore }
+    ensures visit { MoreStartsVisitMore }
+{
+    least_monotone();
+}
+
+/// States that larger tables reach more: a visit of them, from these starts and more, reaches all that a visit of the smaller ones does.
+pub fn grown_tables_reach_more()
+    ensures { GrownTablesReachMore }
+{}
+
+/// States that more command features and more selected packages turn nothing off: each package of a plan is in the plan for more of
+/// them, in the same place and with all its features.
+pub fn more_turns_nothing_off()
+    ensures { MoreTurnsNothingOff }
+{}
+
+/// States that each package of a plan is one that declarations lead to from the selected packages.
+pub fn plans_follow_declarations()
+    ensures { PlansFollowDeclarations }
+{}
+
+/// States that all plans of a workspace for the same settings and selected packages, or for the same words, have the same units.
+pub fn one_plan()
+    ensures settings { OnePlan }
+    ensures words { OnePlanOfWords }
+{
+    one_visit();
+}
+
+/// States that no refusal, but that an allocation fails, is one of settings and selected packages, or of words, that have a plan.
+pub fn plan_excludes_refusal()
+    ensures settings { PlanExcludesRefusal }
+    ensures words { PlanOfWordsExcludesRefusal }
+{
+    one_visit();
+}
+
+/// States that resolvers 1 and 2 make the same tables for the targets, if nothing is for the host alone and no declaration depends on
+/// the resolver.
+pub fn resolvers_agree()
+    ensures { ResolversAgree }
+{}

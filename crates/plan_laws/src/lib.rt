@@ -1,0 +1,4 @@
+//! Laws of plans.
+#![tactic(auto)]
+
+pub mod laws;
