@@ -1,9 +1,8 @@
 -- The answer of `plan`: the text that it prints for arguments and the bytes of files, or the message why there is none.
-use Rattle.std.specs.Prelude.{◌≡◌, List, [], ◌∷◌, Bool, None, Ok, Err, IsErr, IsSomeAnd, IsUtf8, codes}
+use Rattle.std.specs.Prelude.{◌≡◌, List, [], ◌∷◌, Bool, None, Ok, IsErr, IsSomeAnd, IsUtf8, codes}
 use Rattle.json.specs.Json.{Json}
 use Rattle.cargo_workspaces.specs.Workspaces.{Text, WorkspaceText}
 use Rattle.numbered_workspaces.specs.Faults.{workspace_in}
-use Rattle.manifest_resolvers.specs.declared.resolver.Resolver.{Resolver}
 use Rattle.plan_platforms.specs.DeclaredSpecs.{declared_specs}
 use Rattle.plan_platforms.specs.HeldSpecs.{AreHeld}
 use Rattle.plan_steps.specs.Plans.{PlanText}

@@ -1,9 +1,7 @@
-use Rattle.std.proofs.Common.{◌≡◌, ◌∙◌, ap, map, subst}
+use Rattle.std.proofs.Common.{◌∙◌, ap, map}
 use Rattle.cargo_workspaces.specs.WorkspaceView.{workspace_text}
-use Rattle.plan_platforms.specs.DeclaredSpecs.{declared_specs}
 use Rattle.plan_platforms.specs.HeldSpecs.{holds_on}
 use Rattle.plan_platforms.specs.Views.{declared_text}
-use Rattle.feats_files.specs.Platforms.{AreHeldOnEach}
 use Rattle.feats_tool.specs.Answers.{IsPlanRefusal, IsWorkspaceRefusal}
 use Rattle.feats_tool.specs.BasisView.{basis_text}
 use Rattle.feats_tool.specs.Inputs.{inputs_text}
