@@ -1,4 +1,7 @@
 //! The plan of a workspace: the three steps, joined.
+//!
+//! Visits are dropped by a call of `drop`, which is proved once a type. A drop at the end of a scope is proved in its function, and
+//! takes 20 seconds for a visit.
 #![tactic(auto)]
 
 mod built_step;

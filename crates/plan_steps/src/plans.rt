@@ -30,7 +30,10 @@ fn planned<'w>(
 {
     match units {
         Ok(units) => Ok(Plan { units, on }),
-        Err(fault) => Err(fault),
+        Err(fault) => {
+            drop(on);
+            Err(fault)
+        }
     }
 }
 
@@ -98,7 +101,11 @@ fn plan_of_steps<'w, P: Platform>(
     ensures { Plans (workspace_text workspace.now) (settings_text P.holds settings.now) selected.now result }
 {
     match resolved_step(alloc, ids, workspace, settings) {
-        Ok(kept) => plan_of_kept(alloc, ids, workspace, settings, selected, &kept),
+        Ok(kept) => {
+            let plan = plan_of_kept(alloc, ids, workspace, settings, selected, &kept);
+            drop(kept);
+            plan
+        }
         Err(_) => Err(StepFault::Memory),
     }
 }

@@ -56,14 +56,10 @@ fn built_units<'w, P: Platform>(
     let _limit = ids.count();
     let targets = target_count(settings);
     let built = built_step(alloc, ids, workspace, settings, on, starts)?;
-    units_of(
-        alloc,
-        settings.split,
-        on,
-        &built,
-        workspace.packages(),
-        targets,
-    )
+    let packages = workspace.packages();
+    let units = units_of(alloc, settings.split, on, &built, packages, targets);
+    drop(built);
+    units
 }
 
 /// Returns the packages that are built from `starts`, or the first reason why nothing is.
