@@ -127,13 +127,17 @@ module _ (packages : ById PackageText) where
   unfolding pick
   pick_good test id d deps all = found_good (map (λ (dep : DepText). dep.target) (filter (λ dep. fits id d dep && test d dep) deps)) (picked_good (λ dep. fits id d dep && test d dep) deps all)
 
-  choice_good : (optional : Bool) (used admitted both : FoundPackage) → IsGood used → IsGood admitted → IsGood both → IsGood (choice_of optional used admitted both)
-  choice_good optional (one p) admitted both a b c = a
-  choice_good true nothing admitted both a b c = b
-  choice_good false nothing admitted both a b c = tt
-  choice_good optional several admitted nothing a b c = tt
-  choice_good optional several admitted (one p) a b c = c
-  choice_good optional several admitted several a b c = tt
+  choice_good : (optional : Bool) (used admitted both named : FoundPackage) → IsGood used → IsGood admitted → IsGood both → IsGood named → IsGood (choice_of optional used admitted both named)
+  choice_good optional (one p) admitted both named a b c e = a
+  choice_good true nothing admitted both named a b c e = b
+  choice_good false nothing admitted both named a b c e = tt
+  choice_good optional several admitted both (one p) a b c e = e
+  choice_good optional several admitted nothing nothing a b c e = tt
+  choice_good optional several admitted (one p) nothing a b c e = c
+  choice_good optional several admitted several nothing a b c e = tt
+  choice_good optional several admitted nothing several a b c e = tt
+  choice_good optional several admitted (one p) several a b c e = c
+  choice_good optional several admitted several several a b c e = tt
 
   target_good : (id name : Text) (found : FoundPackage) (p : PackageText) → IsGood found → led_to id name found ≡ Ok (Some p) → IsKnownPackage p
   target_good id name nothing p good e = absurd (cc)
@@ -142,7 +146,7 @@ module _ (packages : ById PackageText) where
 
   target_known : (id : Text) (d : DeclarationText) (deps : List DepText) (p : PackageText) → AllByRecursion (λ (dep : DepText). IsKnownPackage dep.target) deps → target_of id d deps ≡ Ok (Some p) → IsKnownPackage p
   unfolding target_of
-  target_known id d deps p all e = target_good id d.name (choice id d deps) p (choice_good d.is_optional (pick _ id d deps) (pick _ id d deps) (pick _ id d deps) (pick_good _ id d deps all) (pick_good _ id d deps all) (pick_good _ id d deps all)) e
+  target_known id d deps p all e = target_good id d.name (choice id d deps) p (choice_good d.is_optional (pick _ id d deps) (pick _ id d deps) (pick _ id d deps) (pick _ id d deps) (pick_good _ id d deps all) (pick_good _ id d deps all) (pick_good _ id d deps all) (pick_good _ id d deps all)) e
 
   abbrev TargetsKnown : List DependencyText → Type 0
   TargetsKnown es = AllByRecursion (λ (e : DependencyText). IsKnownPackage e.target) es

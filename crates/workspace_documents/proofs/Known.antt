@@ -13,7 +13,7 @@ use Rattle.cargo_documents.specs.Fields.{text_in, optional_text_in, list_in, tex
 use Rattle.workspace_documents.specs.Lists.{ById, at_id, each}
 use Rattle.workspace_documents.specs.Packages.{DeclarationText, PackageText, use_in}
 use Rattle.workspace_documents.specs.Nodes.{DepText, NodeText, ResolvedText, found_or, package_at, dep_in, no_node, node_in, resolve_in, nodes_in, known, members_in, node_of, resolved_in}
-use Rattle.workspace_documents.specs.Dependencies.{FoundPackage, nothing, one, several, found_of, pick, if_nothing, choice_of, is_used, is_admitted, led_to, choice, target_of}
+use Rattle.workspace_documents.specs.Dependencies.{FoundPackage, nothing, one, several, found_of, pick, if_nothing, choice_of, is_used, is_admitted, is_as_named, one_or, led_to, choice, target_of}
 use Rattle.workspace_documents.specs.Leads.{lead_in, leads_in, all_leads, root_of, root_in}
 use Rattle.workspace_documents.specs.Rules.{is_known, is_known_if_any, LeadsOf}
 use Rattle.workspace_documents.proofs.Sorted.{ok_same, both_ok, by_id_all}
@@ -171,13 +171,18 @@ module _ (packages : ById PackageText) where
   several_known (one p) z = z
   several_known several z = tt
 
-  choice_known : (optional : Bool) (a b c : FoundPackage) → FoundKnown a → FoundKnown b → FoundKnown c → FoundKnown (choice_of optional a b c)
-  choice_known true (one p) b c x y z = x
-  choice_known false (one p) b c x y z = x
-  choice_known true nothing b c x y z = y
-  choice_known false nothing b c x y z = tt
-  choice_known true several b c x y z = several_known c z
-  choice_known false several b c x y z = several_known c z
+  one_or_known : (a b : FoundPackage) → FoundKnown a → FoundKnown b → FoundKnown (one_or a b)
+  one_or_known nothing b x y = y
+  one_or_known (one p) b x y = x
+  one_or_known several b x y = y
+
+  choice_known : (optional : Bool) (a b c e : FoundPackage) → FoundKnown a → FoundKnown b → FoundKnown c → FoundKnown e → FoundKnown (choice_of optional a b c e)
+  choice_known true (one p) b c e x y z v = x
+  choice_known false (one p) b c e x y z v = x
+  choice_known true nothing b c e x y z v = y
+  choice_known false nothing b c e x y z v = tt
+  choice_known true several b c e x y z v = one_or_known e _ v (several_known c z)
+  choice_known false several b c e x y z v = one_or_known e _ v (several_known c z)
 
   led_known : (id name : Text) (f : FoundPackage) (o : Option PackageText) → FoundKnown f → led_to id name f ≡ Ok o → is_known_if_any packages (option_map (λ p. p.id) o) ≡ true
   led_known id name nothing o k h = ap (λ (o : Option PackageText). is_known_if_any packages (option_map (λ p. p.id) o)) (sym (ok_same None o h))
@@ -189,8 +194,9 @@ module _ (packages : ById PackageText) where
   lead_known id deps d lead all h =
       let target = both_ok (target_of id d deps) (λ (o : Option PackageText). Ok (option_map (λ p. p.id) o)) lead h in
       let both = λ (e : DeclarationText) (dep : DepText). is_used e dep && is_admitted e dep in
+      let named = λ (e : DeclarationText) (dep : DepText). is_used e dep && is_as_named e dep in
       ap (is_known_if_any packages) (sym (ok_same (option_map (λ p. p.id) target.0) lead target.2))
-      ∙ led_known id d.name (choice id d deps) target.0 (choice_known d.is_optional (pick is_used id d deps) (pick is_admitted id d deps) (pick both id d deps) (pick_known is_used id d deps all) (pick_known is_admitted id d deps all) (pick_known both id d deps all)) target.1
+      ∙ led_known id d.name (choice id d deps) target.0 (choice_known d.is_optional (pick is_used id d deps) (pick is_admitted id d deps) (pick both id d deps) (pick named id d deps) (pick_known is_used id d deps all) (pick_known is_admitted id d deps all) (pick_known both id d deps all) (pick_known named id d deps all)) target.1
 
   leads_known : (id : Text) (deps : List DepText) (ds : List DeclarationText) (leads : List (Option Text)) → list_all knows deps ≡ true → leads_in id deps ds ≡ Ok leads → (length leads ≡ length ds) × (list_all (is_known_if_any packages) leads ≡ true)
   leads_known id deps [] leads all h = let is : [] ≡ leads = ok_same [] leads h in (ap length (sym is), ap (list_all (is_known_if_any packages)) (sym is))

@@ -55,6 +55,10 @@ is_used d dep = list_any (λ u. same_kind u.kind d.kind && same_platform u.platf
 abbrev pub is_admitted : DeclarationText → DepText → Bool
 is_admitted d dep = admits d.requirement dep.target.version
 
+-- Whether the used package has the declared name in code, even if it is the package itself.
+abbrev pub is_as_named : DeclarationText → DepText → Bool
+is_as_named d dep = is_in_code dep.extern_name (called d.rename dep.target)
+
 -- none, one or several packages
 pub data FoundPackage : Type 0 where
   nothing : FoundPackage
@@ -75,16 +79,22 @@ if_nothing nothing other = other
 if_nothing (one p) other = one p
 if_nothing several other = several
 
-abbrev pub choice_of : Bool → FoundPackage → FoundPackage → FoundPackage → FoundPackage
-choice_of optional (one p) by_version by_both = one p
-choice_of true nothing by_version by_both = by_version
-choice_of false nothing by_version by_both = nothing
-choice_of optional several by_version by_both = if_nothing by_both several
+-- The package, if the first search found one; else what the other found.
+abbrev pub one_or : FoundPackage → FoundPackage → FoundPackage
+one_or (one p) other = one p
+one_or nothing other = other
+one_or several other = other
 
--- The package that is used for a declaration of package `id`. Among several, the requirement decides. If none is used, the
--- requirement decides for an optional dependency, and any other has no package.
+abbrev pub choice_of : Bool → FoundPackage → FoundPackage → FoundPackage → FoundPackage → FoundPackage
+choice_of optional (one p) by_version by_both by_name = one p
+choice_of true nothing by_version by_both by_name = by_version
+choice_of false nothing by_version by_both by_name = nothing
+choice_of optional several by_version by_both by_name = one_or by_name (if_nothing by_both several)
+
+-- The package that is used for a declaration of package `id`. Among several, the declared name in code decides, and then the requirement. If
+-- none is used, the requirement decides for an optional dependency, and any other has no package.
 abbrev pub choice : Text → DeclarationText → List DepText → FoundPackage
-choice id d deps = choice_of d.is_optional (pick is_used id d deps) (pick is_admitted id d deps) (pick (λ e dep. is_used e dep && is_admitted e dep) id d deps)
+choice id d deps = choice_of d.is_optional (pick is_used id d deps) (pick is_admitted id d deps) (pick (λ e dep. is_used e dep && is_admitted e dep) id d deps) (pick (λ e dep. is_used e dep && is_as_named e dep) id d deps)
 
 -- the package, if there is one; several are the fault that the declaration is ambiguous
 abbrev pub led_to : Text → Text → FoundPackage → Result (Option PackageText) Refusal

@@ -4,6 +4,7 @@ ghost use Rattle.std.specs.List.{find};
 ghost use Rattle.cargo_documents.specs.Faults.{Gives, refusal_of};
 ghost use Rattle.cargo_documents.specs.Faults as fault;
 ghost use Rattle.workspace_documents.specs.Dependencies as spec;
+ghost use Rattle.workspace_documents.specs.declared.dependencies.Asked.TheVariants as asked;
 ghost use Rattle.workspace_documents.specs.inner.Picks as picks;
 ghost use Rattle.workspace_documents.specs.Views.{text_view, declaration_view, dep_view, package_view, dependency_view};
 
@@ -137,6 +138,16 @@ fn is_used(declaration: &Declaration<'_>, dep: &Dep<'_, '_>) -> bool
     false
 }
 
+/// Returns whether `dep` has the declared name in code, even if it is the package itself.
+fn is_as_named(declaration: &Declaration<'_>, dep: &Dep<'_, '_>) -> bool
+    ensures { result ≡ spec.is_as_named (declaration_view declaration.now) (dep_view dep.now) }
+{
+    is_in_code(
+        dep.extern_name.as_bytes(),
+        called(declaration.rename, dep.target).as_bytes(),
+    )
+}
+
 /// The further condition for a used package that fits a declaration by its names.
 #[derive(Clone, Copy)]
 pub(crate) enum Asked {
@@ -146,6 +157,8 @@ pub(crate) enum Asked {
     Version,
     /// Both conditions.
     Both,
+    /// The package is used for the declaration's kind and platform, and has the declared name in code.
+    Name,
 }
 
 /// Returns whether the condition `asked` holds for `dep`. The only error is out of memory.
@@ -160,6 +173,7 @@ fn answers(
     match asked {
         Asked::Use => Ok(is_used(declaration, dep)),
         Asked::Version => admits(alloc, declaration.requirement, dep.target.version),
+        Asked::Name => Ok(is_used(declaration, dep) && is_as_named(declaration, dep)),
         Asked::Both => {
             if is_used(declaration, dep) {
                 admits(alloc, declaration.requirement, dep.target.version)
@@ -244,8 +258,23 @@ fn pick<'p, 'v>(
     Ok(found)
 }
 
-/// What the declaration of the package `owner` leads to: the package that is used for it. Where several are, the
-/// requirement decides; where none is, it decides for an optional dependency alone.
+/// Returns the package that is used for `declaration` and has a version that it admits: `Several` if none has, or if several have.
+fn by_requirement<'p, 'v>(
+    alloc: Global,
+    owner: &str,
+    declaration: &Declaration<'_>,
+    deps: &[Dep<'p, 'v>],
+) -> Result<Found<'p, 'v>, AllocError>
+    ensures { IfOk result (λ found. picks.found_view found ≡ spec.if_nothing (spec.pick (picks.answers asked.Both) owner.now (declaration_view declaration.now) (map dep_view deps.now)) spec.several) }
+{
+    match pick(alloc, Asked::Both, owner, declaration, deps)? {
+        Found::Nothing => Ok(Found::Several),
+        narrowed => Ok(narrowed),
+    }
+}
+
+/// What the declaration of the package `owner` leads to: the package that is used for it. If several are, the declared name in code
+/// decides, and then the requirement; if none is, the requirement decides for an optional dependency alone.
 pub fn choice<'p, 'v>(
     alloc: Global,
     owner: &str,
@@ -263,9 +292,9 @@ pub fn choice<'p, 'v>(
                 Ok(Found::Nothing)
             }
         }
-        Found::Several => match pick(alloc, Asked::Both, owner, declaration, deps)? {
-            Found::Nothing => Ok(Found::Several),
-            narrowed => Ok(narrowed),
+        Found::Several => match pick(alloc, Asked::Name, owner, declaration, deps)? {
+            Found::One(package) => Ok(Found::One(package)),
+            _ => by_requirement(alloc, owner, declaration, deps),
         },
     }
 }

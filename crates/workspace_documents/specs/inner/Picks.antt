@@ -7,7 +7,7 @@ use Rattle.workspace_documents.specs.declared.dependencies.Asked.TheVariants as 
 use Rattle.cargo_documents.specs.Faults.{Text}
 use Rattle.workspace_documents.specs.Packages.{DeclarationText, PackageText}
 use Rattle.workspace_documents.specs.Nodes.{DepText}
-use Rattle.workspace_documents.specs.Dependencies.{FoundPackage, nothing, one, several, fits, is_used, is_admitted}
+use Rattle.workspace_documents.specs.Dependencies.{FoundPackage, nothing, one, several, fits, is_used, is_admitted, is_as_named}
 use Rattle.workspace_documents.specs.Views.{package_view}
 
 -- whether a used package passes the further condition `Asked`
@@ -15,6 +15,7 @@ abbrev pub answers : Asked → DeclarationText → DepText → Bool
 answers asked.Use d dep = is_used d dep
 answers asked.Version d dep = is_admitted d dep
 answers asked.Both d dep = is_used d dep && is_admitted d dep
+answers asked.Name d dep = is_used d dep && is_as_named d dep
 
 -- whether the used package fits the declaration of package `id`, and the further condition holds
 unfoldable pub meets : Asked → Text → DeclarationText → DepText → Bool
