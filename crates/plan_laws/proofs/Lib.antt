@@ -11,6 +11,7 @@ mod MoreBuilt
 mod MoreEntries
 mod MoreFeatures
 mod MoreOn
+mod MoreWords
 mod Numbered
 mod OneOutcome
 mod OnePlan

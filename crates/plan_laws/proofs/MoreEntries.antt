@@ -39,7 +39,7 @@ some_later : {Y : Type 0} (o : Option Y) (y : Y) (ys : List Y) → Contains ys y
 some_later None y ys h = h
 some_later (Some z) y ys h = Contains-later z ys y h
 
-into_filter_map : {X Y : Type 0} (f : X → Option Y) (xs : List X) (x : X) (y : Y) → Contains xs x → f x ≡ Some y → Contains (filter_map f xs) y
+pub into_filter_map : {X Y : Type 0} (f : X → Option Y) (xs : List X) (x : X) (y : Y) → Contains xs x → f x ≡ Some y → Contains (filter_map f xs) y
 into_filter_map f [] x y h e = absurd (Contains-none x h)
 into_filter_map f (z ∷ xs) x y h e = ⊎_elim
     (λ i. some_there (f z) y (filter_map f xs) (ap f i ∙ e))

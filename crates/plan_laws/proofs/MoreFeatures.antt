@@ -69,7 +69,7 @@ joined_into f k (z ∷ xs) zero x y h i =
 joined_into f k (z ∷ xs) (suc m) x y h i =
     Contains-append_right (f k z) (joined_from f (k + 1) xs) y (joined_into f (k + 1) xs m x y h (subst (λ n. Contains (f n x) y) (sym (number_on k m)) i))
 
-command_there : (commands : List (Option FeatureText)) (p : ℕ) (g : FeatureText) → command_of commands p ≡ Some g → slice_get commands p ≡ Some (Some g)
+pub command_there : (commands : List (Option FeatureText)) (p : ℕ) (g : FeatureText) → command_of commands p ≡ Some g → slice_get commands p ≡ Some (Some g)
 command_there commands p g h = go (slice_get commands p) refl h
   where
     go : (o : Option (Option FeatureText)) → slice_get commands p ≡ o → option_and_then (λ c. c) o ≡ Some g → slice_get commands p ≡ Some (Some g)

@@ -5,10 +5,12 @@ use Rattle.guppy_packages.specs.Tables.{AreTables, FeatureTable, LinkTable, Pack
 use Rattle.feature_labels.specs.Names.{LabelName}
 use Rattle.step_visits.specs.Visits.{IsVisit, Visit, reaches}
 use Rattle.cargo_workspaces.specs.Workspaces.{FeatureText, IsWorkspace, WorkspaceText}
+use Rattle.plan_words.specs.Selections.{SelectionText}
 use Rattle.plan_rows.specs.Commands.{command_of}
 use Rattle.plan_rows.specs.Steps.{SettingsText}
 use Rattle.plan_units.specs.Units.{UnitText}
 use Rattle.plan_steps.specs.Plans.{IsPlan, PlanText}
+use Rattle.cargo_plans.specs.Plans.{IsPlanOf, WordsText}
 use Rattle.plan_laws.specs.Laws.{AreAmong}
 
 -- Package `y` has each feature of `x`, with all its items.
@@ -51,4 +53,17 @@ CommandsGrow commands more =
 abbrev pub MoreTurnsNothingOff : Type 0
 MoreTurnsNothingOff = (w : WorkspaceText) (s : SettingsText) (commands : List (Option FeatureText)) (selected more : List ℕ) (p q : PlanText) → IsWorkspace w
     → CommandsGrow s.commands commands → ((n : ℕ) → Contains selected n → Contains more n) → IsPlan w s selected p → IsPlan w (with_commands s commands) more q
+    → (u : UnitText) → Contains p.units u → (v : UnitText) × Contains q.units v × (v.place ≡ u.place) × (v.number ≡ u.number) × ((f : Text) → Contains u.features f → Contains v.features f)
+
+-- The words with other feature words.
+abbrev pub select_features : SelectionText → List Text → SelectionText
+select_features s features = record { packages = s.packages; features = features; all_features = s.all_features; no_default_features = s.no_default_features; split = s.split }
+
+abbrev pub with_features : WordsText → List Text → WordsText
+with_features words features = record { selection = select_features words.selection features; test = words.test; host = words.host; targets = words.targets }
+
+-- MORE FEATURE WORDS TURN NOTHING OFF.
+abbrev pub MoreWordsTurnNothingOff : Type 0
+MoreWordsTurnNothingOff = (w : WorkspaceText) (words : WordsText) (more : List Text) (p q : PlanText) → IsWorkspace w
+    → ((f : Text) → Contains words.selection.features f → Contains more f) → IsPlanOf w words p → IsPlanOf w (with_features words more) q
     → (u : UnitText) → Contains p.units u → (v : UnitText) × Contains q.units v × (v.place ≡ u.place) × (v.number ≡ u.number) × ((f : Text) → Contains u.features f → Contains v.features f)

@@ -1,5 +1,5 @@
 //! Laws of visits and of plans. Each function does nothing: its contract is the law.
-ghost use Rattle.plan_laws.specs.Growth.{GrownTablesReachMore, MoreTurnsNothingOff};
+ghost use Rattle.plan_laws.specs.Growth.{GrownTablesReachMore, MoreTurnsNothingOff, MoreWordsTurnNothingOff};
 ghost use Rattle.plan_laws.specs.Laws.{MoreStartsReachMore, MoreStartsVisitMore, OnePlan, OnePlanOfWords, PlanExcludesRefusal, PlanOfWordsExcludesRefusal, PlansFollowDeclarations, ResolversAgree};
 
 use feature_core::laws::least_monotone;
@@ -18,10 +18,11 @@ pub fn grown_tables_reach_more()
     ensures { GrownTablesReachMore }
 {}
 
-/// States that more command features and more selected packages turn nothing off: each package of a plan is in the plan for more of
-/// them, in the same place and with all its features.
+/// States that more command features and more selected packages, and so more feature words, turn nothing off: each package of a plan is
+/// in the plan for more of them, in the same place and with all its features.
 pub fn more_turns_nothing_off()
-    ensures { MoreTurnsNothingOff }
+    ensures settings { MoreTurnsNothingOff }
+    ensures words { MoreWordsTurnNothingOff }
 {}
 
 /// States that each package of a plan is one that declarations lead to from the selected packages.
