@@ -95,13 +95,19 @@ def admits(requirement, version):
 
 def lead_of(packages, package, uses, declared):
     """The id of the package that a declaration leads to, or None."""
-    def name_in_code(to):
-        if declared['rename'] and to['id'] != package['id']:
-            return declared['rename'].replace('-', '_')
-        return next((it['name'] for it in to['targets'] if LIBRARIES & set(it['kind'])), to['name']).replace('-', '_')
+    def name_in_code(to, rename):
+        return (rename or next((it['name'] for it in to['targets'] if LIBRARIES & set(it['kind'])), to['name'])).replace('-', '_')
 
-    fitting = [it for it in uses if packages[it['pkg']]['name'] == declared['name'] and it['name'] == name_in_code(packages[it['pkg']])]
+    def fits(it, has_exception):
+        to = packages[it['pkg']]
+        rename = None if has_exception and to['id'] == package['id'] else declared['rename']
+        return to['name'] == declared['name'] and it['name'] == name_in_code(to, rename)
+
+    fitting = [it for it in uses if fits(it, True)]
     used = [it for it in fitting if {'kind': declared['kind'], 'target': declared['target']} in it['dep_kinds']]
+    if len(used) > 1:
+        named = [it for it in used if fits(it, False)]
+        used = named if len(named) == 1 else used
     if len(used) != 1:
         candidates = used or (fitting if declared['optional'] else [])
         used = [it for it in candidates if admits(declared['req'], packages[it['pkg']]['version'])]

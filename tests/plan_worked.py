@@ -106,6 +106,12 @@ WORKED = [
         Row('--target linux -F a/y', 'target a'),
         Row('--target linux -F a/y --tests', 'target a x y'),
     ]),
+    Worked('self-and-other', 'a package may depend on itself, and by another name on a package of the same name', [
+        member('a', Declared('a', ('x',), table=DEV), Declared('ext/a', ('y',), rename='other', table=DEV), features=XYZ), Package('ext/a', 'a', '2.0.0', features=XYZ),
+    ], [
+        Row('', 'target a'),
+        Row('--tests', 'target a x; target a y'),
+    ]),
     Worked('proc-macro', 'a procedural macro that is selected starts on both sides', [
         member('pm', leaf(), leaf('x', table=DEV), library='proc-macro', targets=[Target('test', 'it')]), member('b', leaf()), LEAF,
     ], [
