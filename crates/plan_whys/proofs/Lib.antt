@@ -1,0 +1,4 @@
+pub mod NodeLemmas
+pub mod StepLists
+pub mod StepLaws
+pub mod Visits
