@@ -16,7 +16,7 @@ use Rattle.walk_checks.specs.Whys.{IsWhy}
 use Rattle.plan_whys.specs.inner.Nodes.{IsReasonInside, AreInside}
 
 -- a half that waits for a gate is one of a gated edge
-gate_is : (ask : Ask) (h : Half) → IsTrue (has_gate ask h) → IsTrue (is_gated ask)
+pub gate_is : (ask : Ask) (h : Half) → IsTrue (has_gate ask h) → IsTrue (is_gated ask)
 gate_is asks.Nobody h t = cc
 gate_is asks.Full h t = cc
 gate_is (asks.Weak required gated) Full t = cc

@@ -1,15 +1,16 @@
 -- What a visit of step `on` reached, and why.
-use Rattle.std.proofs.Common.{◌≡◌, ◌∙◌, ℕ, ◌+◌, Bool, true, false, ◌&&◌, List, Option, Some, None, Result, length, map, refl, ap, sym, subst}
-use Rattle.std.specs.Prelude.{◌↔◌, IfOk, IsTrue, nat_lt, if◌then◌else◌, option_map}
-use Rattle.std.specs.Global.{Vec}
+use Rattle.std.proofs.Common.{◌≡◌, ◌∙◌, ℕ, ◌+◌, Bool, true, false, ◌&&◌, List, Option, Some, None, length, map, refl, ap, sym, subst}
+use Rattle.std.specs.Prelude.{◌↔◌, IsTrue, nat_lt, if◌then◌else◌}
 use Rattle.std.specs.Option.{option_map_or}
-use Rattle.std.proofs.lemmas.Result.{IfOk-weaker}
+use Rattle.guppy_packages.specs.declared.direction.DependencyDirection.{DependencyDirection}
 use Rattle.guppy_packages.specs.declared.direction.DependencyDirection.TheVariants.{Forward}
 use Rattle.guppy_support.specs.Bits.{has}
 use Rattle.cargo_workspaces.specs.Workspaces.{WorkspaceText}
 use Rattle.feature_core.specs.Built.{Built, IsBuilt}
 use Rattle.feature_core.specs.Offers.{content_of}
+use Rattle.feature_core.specs.Nodes.{node_packages}
 use Rattle.feature_labels.specs.Names.{LabelName}
+use Rattle.feature_labels.specs.declared.feature_label.FeatureLabel.{FeatureLabel}
 use Rattle.guppy_packages.specs.Tables.{Tables}
 use Rattle.plan_rows.specs.Steps.{SettingsText, is_host, side_base}
 use Rattle.plan_rows.specs.declared.side.Side.{Side}
@@ -17,20 +18,18 @@ use Rattle.plan_rows.specs.declared.side.Side.TheVariants.{Target, Host}
 use Rattle.plan_starts.specs.PackageVisits.{PairVisit, first_entry, is_on}
 use Rattle.plan_steps.specs.Plans.{IsOn}
 use Rattle.plan_units.specs.Commands.{on_starts}
-use Rattle.step_visits.specs.Visits.{IsVisit, Visit, is_start, node_at, reaches}
+use Rattle.step_visits.specs.Visits.{IsVisit, Visit, is_start, node_at, reaches, start_of}
 use Rattle.walk_engine.specs.Explanations.{nodes_of}
 use Rattle.walk_engine.specs.Laws.{every}
 use Rattle.walk_engine.specs.Walks.{Content, Least, is_in}
 use Rattle.walk_engine.specs.declared.walks.Step.{Step}
 use Rattle.plan_whys.specs.Steps.{SpotText, WhyText}
-use Rattle.plan_whys.specs.StepViews.{why_text}
-use Rattle.plan_whys.specs.declared.steps.WhyStep.{WhyStep}
 use Rattle.plan_whys.specs.Whys.{Answers, IsOnBy, IsWhyOf, node_of}
 use Rattle.plan_whys.specs.inner.Nodes.{IsLeast, NodeAnswers}
 
 -- the content of one build is that of each
 abbrev pub OneContent : Tables → Type 0
-OneContent t = (a b : Built) → IsBuilt t a → IsBuilt t b → content_of Forward a ≡ content_of Forward b
+OneContent t = (a b : Built) (direction : DependencyDirection) → IsBuilt t a → IsBuilt t b → content_of direction a ≡ content_of direction b
 
 visit_least : (t : Tables) (starts : List (ℕ × LabelName)) (v : Visit) (I : ℕ → Bool) → OneContent v.tables → IsVisit t starts v → ((n : ℕ) → I n ≡ is_start v.tables starts n) → (b : Built) → IsBuilt v.tables b → (n : ℕ) → IsTrue (has v.members n) ↔ Least (content_of Forward b) I every n
 visit_least t starts v I one is same b is_built n = (
@@ -39,7 +38,7 @@ visit_least t starts v I one is same b is_built n = (
       subst (λ (J : ℕ → Bool). Least (content_of Forward b) J every n) (λ i k. (same k ∙ ap (λ (z : Tables). is_start z starts k) is.tables) (~ i)) from),
   (λ h. (is.members n).1 (λ a is_too.
       let here : IsBuilt v.tables a = subst (λ (z : Tables). IsBuilt z a) (sym is.tables) is_too in
-      subst (λ (c : Content). Least c (is_start t starts) every n) (one b a is_built here)
+      subst (λ (c : Content). Least c (is_start t starts) every n) (one b a Forward is_built here)
       (subst (λ (J : ℕ → Bool). Least (content_of Forward b) J every n) (λ i k. (same k ∙ ap (λ (z : Tables). is_start z starts k) is.tables) i) h))),
 )
 
@@ -89,7 +88,18 @@ answers_by_node w s on spot I n (Some whys) same starts answer = record {
   is_why = subst (λ (J : ℕ → Bool). IsWhyOf on J n whys) (λ i k. starts k i) answer.1;
 }
 
-module _ {E : Type 0} where
-  pub answered : (w : WorkspaceText) (s : SettingsText) (on : PairVisit) (spot : SpotText) (I : ℕ → Bool) (n : ℕ) (r : Result (Option (Vec WhyStep)) E) → Some n ≡ node_of on spot → ((k : ℕ) → I k ≡ is_start on.visit.tables (on_starts w s) k)
-      → IfOk r (λ found. NodeAnswers on I n (option_map (λ whys. map why_text whys.items) found)) → IfOk r (λ found. Answers w s on spot (option_map (λ whys. map why_text whys.items) found))
-  answered w s on spot I n r same starts h = IfOk-weaker r _ _ (λ found is. answers_by_node w s on spot I n (option_map (λ whys. map why_text whys.items) found) same starts is) h
+-- the nodes of the places where step `on` starts
+pub starts_are : (w : WorkspaceText) (s : SettingsText) (on : PairVisit) (v : Visit) (places taken : List (ℕ × FeatureLabel)) (I : ℕ → Bool) → v ≡ on.visit → map start_of places ≡ on_starts w s → taken ≡ places
+    → ((n : ℕ) → I n ≡ is_start v.tables (map start_of taken) n) → (n : ℕ) → I n ≡ is_start on.visit.tables (on_starts w s) n
+starts_are w s on v places taken I visit are same nodes n =
+    nodes n ∙ ap (λ (u : Visit). is_start u.tables (map start_of taken) n) visit ∙ ap (λ ps. is_start on.visit.tables (map start_of ps) n) same ∙ ap (λ starts. is_start on.visit.tables starts n) are
+
+-- a set of all nodes, by a build
+pub sized : (t : Tables) (b : Built) (initials : List Bool) → IsBuilt t b → length initials ≡ length (node_packages t) → length initials ≡ length b.packages
+sized t b initials is size = size ∙ ap length (sym is.packages)
+
+pub built_of : (on : PairVisit) (v : Visit) (b : Built) → v ≡ on.visit → IsBuilt v.tables b → IsBuilt on.visit.tables b
+built_of on v b visit is = subst (λ (u : Visit). IsBuilt u.tables b) visit is
+
+pub one_of : (on : PairVisit) (v : Visit) → v ≡ on.visit → OneContent v.tables → OneContent on.visit.tables
+one_of on v visit one = subst (λ (u : Visit). OneContent u.tables) visit one

@@ -42,7 +42,9 @@ pub(crate) fn explanation_from(
     agrees_by_answer::<AllOffers>();
     walk_is_exact::<AllOffers>();
     let mut source = Packed::new(built, DependencyDirection::Forward);
-    let (_, steps, _) = walk_explained(alloc, &mut source, initials, &mut AllOffers)?;
+    let (walk, steps, refused) = walk_explained(alloc, &mut source, initials, &mut AllOffers)?;
+    drop(walk);
+    drop(refused);
     Ok(steps)
 }
 

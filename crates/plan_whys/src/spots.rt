@@ -1,11 +1,12 @@
 //! Steps by packages, sides and labels.
-ghost use Rattle.std.specs.Prelude.{◌≡◌, ◌<◌, IfOk, length, map};
+ghost use Rattle.std.specs.Prelude.{◌≡◌, ◌<◌, IfOk, IsTrue, length, map, option_map};
 ghost use Rattle.guppy_packages.specs.declared.direction.DependencyDirection.TheVariants.{Forward};
 ghost use Rattle.feature_core.specs.Built.{IsBuilt};
 ghost use Rattle.feature_core.specs.Nodes.{node_packages};
 ghost use Rattle.feature_core.specs.Offers.{content_of};
-ghost use Rattle.walk_engine.specs.Walks.{has_gate};
-ghost use Rattle.plan_whys.specs.Steps.{AreStepsOf, IsAt, IsReasonOf, IsStepOf};
+ghost use Rattle.walk_checks.specs.Tables.{IsEdge};
+ghost use Rattle.walk_engine.specs.Walks.{Way, has_gate};
+ghost use Rattle.plan_whys.specs.Steps.{AreStepsOf, IsAt, IsGateOf, IsReasonOf, IsStepOf};
 ghost use Rattle.plan_whys.specs.StepViews.{reason_text, spot_text, why_text};
 ghost use Rattle.plan_whys.specs.inner.Nodes.{AreInside, IsInside, IsReasonInside};
 
@@ -15,7 +16,7 @@ use guppy_packages::DependencyDirection;
 use plan_rows::Side;
 use plan_starts::PackageVisit;
 use std::alloc::{AllocError, Global};
-use walk_checks::EdgeTable;
+use walk_checks::{EdgeTable, TableEdge};
 use walk_engine::{Ask, Half, Step, StepReason};
 
 /// Returns whether `half` of an edge with this `ask` waits for the edge's gate.
@@ -53,6 +54,51 @@ fn spot_of(on: &PackageVisit, node: usize) -> Spot<'_>
     }
 }
 
+/// Returns the spot of the gate of `edge`, if `half` waits for it.
+fn gate_of(on: &PackageVisit, edge: TableEdge, half: Half) -> Option<Spot<'_>>
+    requires { IsTrue (has_gate edge.ask half) → edge.gate < length (node_packages on.now.visit.tables) }
+    ensures { (w : Way) → IsEdge w edge → IsGateOf on.now w half (option_map spot_text result) }
+{
+    if has_gate(edge.ask, half) {
+        Some(spot_of(on, edge.gate))
+    } else {
+        None
+    }
+}
+
+/// Returns the reason by the unconditional edge `number`. `table` has the edges of the visit.
+fn by_edge<'p>(on: &'p PackageVisit, table: &Packed<'_>, number: usize) -> WhyReason<'p>
+    requires { IsReasonInside (length (node_packages on.now.visit.tables)) table.now.holds (StepReason.Edge number) }
+    ensures { IsReasonOf on.now table.now.holds (StepReason.Edge number) (reason_text result) }
+{
+    match table.edge(number) {
+        None => WhyReason::Selected,
+        Some(edge) => WhyReason::From {
+            start: spot_of(on, edge.start),
+            gate: None,
+        },
+    }
+}
+
+/// Returns the reason by `half` of edge `number`. `table` has the edges of the visit.
+fn by_offer<'p>(
+    on: &'p PackageVisit,
+    table: &Packed<'_>,
+    number: usize,
+    half: Half,
+) -> WhyReason<'p>
+    requires { IsReasonInside (length (node_packages on.now.visit.tables)) table.now.holds (StepReason.Offer number half) }
+    ensures { IsReasonOf on.now table.now.holds (StepReason.Offer number half) (reason_text result) }
+{
+    match table.edge(number) {
+        None => WhyReason::Selected,
+        Some(edge) => WhyReason::From {
+            start: spot_of(on, edge.start),
+            gate: gate_of(on, edge, half),
+        },
+    }
+}
+
 /// Returns `reason` by spots. `table` has the edges of the visit.
 fn reason_of<'p>(
     on: &'p PackageVisit,
@@ -62,23 +108,10 @@ fn reason_of<'p>(
     requires { IsReasonInside (length (node_packages on.now.visit.tables)) table.now.holds reason }
     ensures { IsReasonOf on.now table.now.holds reason (reason_text result) }
 {
-    let (number, half) = match reason {
-        StepReason::Initial => return WhyReason::Selected,
-        StepReason::Edge(number) => (number, None),
-        StepReason::Offer(number, half) => (number, Some(half)),
-    };
-    match table.edge(number) {
-        None => WhyReason::Selected,
-        Some(edge) => {
-            let gate = match half {
-                Some(half) if has_gate(edge.ask, half) => Some(spot_of(on, edge.gate)),
-                _ => None,
-            };
-            WhyReason::From {
-                start: spot_of(on, edge.start),
-                gate,
-            }
-        }
+    match reason {
+        StepReason::Initial => WhyReason::Selected,
+        StepReason::Edge(number) => by_edge(on, table, number),
+        StepReason::Offer(number, half) => by_offer(on, table, number, half),
     }
 }
 

@@ -62,7 +62,8 @@ fn initials_of<P: Platform>(
     let _room = on.package_count();
     one_content(on.visited().packages());
     let places = on_places(alloc, workspace, settings)?;
-    on.visited().start_nodes(alloc, &places)
+    let set = on.visited().start_nodes(alloc, &places)?;
+    Ok(set)
 }
 
 /// Returns why `node` is reached, or `None` if it isn't. `steps` is the explanation of the visit, from `initials`.
@@ -125,7 +126,8 @@ pub fn why_by_settings<'p, P: Platform>(
         None => Ok(None),
         Some(node) => {
             let initials = initials_of(alloc, workspace, settings, on)?;
-            why_from(alloc, on, &initials, node)
+            let found = why_from(alloc, on, &initials, node)?;
+            Ok(found)
         }
     }
 }
@@ -152,7 +154,8 @@ pub fn why<'p, P: Platform>(
                 host: words.host,
                 targets: words.targets,
             };
-            why_by_settings(alloc, workspace, &settings, plan, at)
+            let found = why_by_settings(alloc, workspace, &settings, plan, at)?;
+            Ok(found)
         }
         Err(_) => Err(AllocError),
     }
