@@ -1,5 +1,6 @@
 pub mod NodeLemmas
 pub mod StepLists
-pub mod StepLaws
 pub mod Spots
+pub mod Listed
 pub mod Visits
+pub mod StepLaws

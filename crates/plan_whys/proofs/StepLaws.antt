@@ -24,7 +24,7 @@ use Rattle.walk_engine.specs.declared.walks.StepReason.{StepReason}
 use Rattle.walk_engine.specs.declared.walks.StepReason.TheVariants.{Initial, Edge, Offer}
 use Rattle.plan_whys.specs.Steps.{SpotText, ReasonText, WhyText, AreBacked, AreStepsOf, EndsAt, IsAt, IsBacked, IsReasonOf, IsStepOf, spot_at}
 use Rattle.plan_whys.specs.Steps.ReasonText.{selected, from}
-use Rattle.plan_whys.specs.Whys.{Explains, IsWhyOf, node_of}
+use Rattle.plan_whys.specs.Whys.{Explains}
 use Rattle.plan_whys.proofs.StepLists.{earlier_at, zip_at, zip_last}
 
 -- a node has one place

@@ -3,6 +3,7 @@
 
 mod explanations;
 mod laws;
+mod nodes;
 mod spots;
 mod steps;
 mod whys;
