@@ -1,6 +1,6 @@
 -- The nodes that an explanation lists are those that the visit reached.
-use Rattle.std.proofs.Common.{◌≡◌, ◌∙◌, ℕ, zero, suc, ◌<◌, Bool, true, false, List, [], ◌∷◌, Some, length, refl, ap, sym, subst, arith}
-use Rattle.std.specs.Prelude.{◌↔◌, IsTrue}
+use Rattle.std.proofs.Common.{◌≡◌, ◌∙◌, ℕ, zero, suc, ◌<◌, Bool, true, false, List, [], ◌∷◌, Option, Some, length, refl, ap, sym, subst, arith}
+use Rattle.std.specs.Prelude.{◌↔◌, IsTrue, MatchOption}
 use Rattle.guppy_packages.specs.Tables.{Tables}
 use Rattle.guppy_packages.specs.declared.direction.DependencyDirection.TheVariants.{Forward}
 use Rattle.guppy_support.specs.Bits.{has}
@@ -67,3 +67,10 @@ node_answered on b I steps kept taken n whys is explanation listed why same show
 
 pub explained_as : (c : Content) (I : ℕ → Bool) (steps taken : List Step) → taken ≡ steps → IsExplanation c I every steps → IsExplanation c I every taken
 explained_as c I steps taken same is = subst (IsExplanation c I every) (sym same) is
+
+pub tables_here : (on : PairVisit) (v : Visit) (t : Tables) → v ≡ on.visit → t ≡ v.tables → t ≡ on.visit.tables
+tables_here on v t visit same = same ∙ ap (λ u. u.tables) visit
+
+-- what a result says, where it's there
+pub what_some : {X : Type 0} (P : Type 0) (Q : X → Type 0) (o : Option X) (x : X) → o ≡ Some x → MatchOption o P Q → Q x
+what_some P Q o x is h = subst (λ z. MatchOption z P Q) is h

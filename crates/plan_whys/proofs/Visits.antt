@@ -31,14 +31,14 @@ OneContent t = (a b : Built) (direction : DependencyDirection) → IsBuilt t a �
 
 visit_least : (t : Tables) (starts : List (ℕ × LabelName)) (v : Visit) (I : ℕ → Bool) → OneContent v.tables → IsVisit t starts v → ((n : ℕ) → I n ≡ is_start v.tables starts n) → (b : Built) → IsBuilt v.tables b → (n : ℕ) → IsTrue (has v.members n) ↔ Least (content_of Forward b) I every n
 visit_least t starts v I one is same b is_built n = (
-  (λ h.
-      let from : Least (content_of Forward b) (is_start t starts) every n = (is.members n).0 h b (subst (λ (z : Tables). IsBuilt z b) is.tables is_built) in
-      subst (λ (J : ℕ → Bool). Least (content_of Forward b) J every n) (λ i k. (same k ∙ ap (λ (z : Tables). is_start z starts k) is.tables) (~ i)) from),
+  (λ h. subst (λ (J : ℕ → Bool). Least (content_of Forward b) J every n) (sym alike) ((is.members n).0 h b (subst (λ (z : Tables). IsBuilt z b) is.tables is_built))),
   (λ h. (is.members n).1 (λ a is_too.
-      let here : IsBuilt v.tables a = subst (λ (z : Tables). IsBuilt z a) (sym is.tables) is_too in
-      subst (λ (c : Content). Least c (is_start t starts) every n) (one b a Forward is_built here)
-      (subst (λ (J : ℕ → Bool). Least (content_of Forward b) J every n) (λ i k. (same k ∙ ap (λ (z : Tables). is_start z starts k) is.tables) i) h))),
+      subst (λ (c : Content). Least c (is_start t starts) every n) (one b a Forward is_built (subst (λ (z : Tables). IsBuilt z a) (sym is.tables) is_too))
+      (subst (λ (J : ℕ → Bool). Least (content_of Forward b) J every n) alike h))),
 )
+  where
+    alike : I ≡ is_start t starts
+    alike = λ i k. (same k ∙ ap (λ (z : Tables). is_start z starts k) is.tables) i
 
 -- the visit of step `on` is the least that has the nodes at which it starts
 pub on_least : (w : WorkspaceText) (s : SettingsText) (on : PairVisit) (I : ℕ → Bool) → OneContent on.visit.tables → IsOnBy w s on → ((n : ℕ) → I n ≡ is_start on.visit.tables (on_starts w s) n) → IsLeast on I

@@ -15,7 +15,7 @@ use Rattle.walk_engine.specs.declared.walks.Half.{Half}
 use Rattle.plan_whys.specs.Steps.{IsAt, IsGateOf, SpotText, spot_at}
 use Rattle.plan_whys.proofs.NodeLemmas.{gate_is}
 
-spot_if : (count k : ℕ) (label : LabelName) (inside : Bool) → nat_lt k count ≡ inside
+pub spot_if : (count k : ℕ) (label : LabelName) (inside : Bool) → nat_lt k count ≡ inside
     → spot_at count k label ≡ (if inside then record { side = Target; number = k; label = label } else record { side = Host; number = k - count; label = label })
 spot_if count k label inside is = ap {B = SpotText} (λ b. if b then record { side = Target; number = k; label = label } else record { side = Host; number = k - count; label = label }) is
 
