@@ -14,34 +14,34 @@ pub struct NamedPlatform<'n, P> {
     pub platform: &'n P,
 }
 
-/// Returns the names of the places where `spec` holds.
+/// Returns the names of the places where the spec `text` holds.
 pub(crate) fn holding<'n, P: Platform>(
     alloc: Global,
     places: &[NamedPlatform<'n, P>],
-    spec: &str,
+    text: &str,
 ) -> Result<Vec<&'n str>, AllocError>
-    ensures { IfOk result (λ names. texts names.items ≡ spec.holding (map (place_text P.holds) places.now) spec.now) }
+    ensures { IfOk result (λ names. texts names.items ≡ spec.holding (map (place_text P.holds) places.now) text.now) }
 {
     let mut names = Vec::new(alloc);
     for place in places {
-        if place.platform.holds(spec) {
+        if place.platform.holds(text) {
             names.push(place.name)?;
         }
     }
     Ok(names)
 }
 
-/// Returns the names of the places where `spec` doesn't hold.
+/// Returns the names of the places where the spec `text` doesn't hold.
 pub(crate) fn failing<'n, P: Platform>(
     alloc: Global,
     places: &[NamedPlatform<'n, P>],
-    spec: &str,
+    text: &str,
 ) -> Result<Vec<&'n str>, AllocError>
-    ensures { IfOk result (λ names. texts names.items ≡ spec.failing (map (place_text P.holds) places.now) spec.now) }
+    ensures { IfOk result (λ names. texts names.items ≡ spec.failing (map (place_text P.holds) places.now) text.now) }
 {
     let mut names = Vec::new(alloc);
     for place in places {
-        if !place.platform.holds(spec) {
+        if !place.platform.holds(text) {
             names.push(place.name)?;
         }
     }

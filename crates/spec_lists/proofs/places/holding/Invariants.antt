@@ -6,4 +6,4 @@ use Rattle.spec_lists.proofs.places.holding.Given as goal
 
 abbrev pub invariant-loop-place : goal.invariant-loop-place
 invariant-loop-place g l =
-    holding (map (place_text g.P.Platform.holds) l.places) l.spec ≡ texts l.names.items ++ holding (map (place_text g.P.Platform.holds) (drop l.place-index l.places)) l.spec
+    holding (map (place_text g.P.Platform.holds) l.places) l.text ≡ texts l.names.items ++ holding (map (place_text g.P.Platform.holds) (drop l.place-index l.places)) l.text
