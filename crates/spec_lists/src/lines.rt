@@ -87,11 +87,7 @@ fn row_of(alloc: Global, several: bool, listed: &Listed<'_, '_>) -> Result<Row, 
 }
 
 /// Returns the table of `list`, of one place or of several.
-fn table(
-    alloc: Global,
-    several: bool,
-    list: &[Listed<'_, '_>],
-) -> Result<String, AllocError>
+fn table(alloc: Global, several: bool, list: &[Listed<'_, '_>]) -> Result<String, AllocError>
     ensures { IfOk result (λ text. string_bytes text ≡ spec.table several (map listed_text list.now)) }
 {
     let mut rows = Vec::with_capacity(alloc, list.len())?;
