@@ -4,8 +4,8 @@
     answer_model.py specs --metadata FILE|- --host TRIPLE=CFG-FILE [--target TRIPLE=CFG-FILE]... [--format json]
     answer_model.py list SPEC --metadata FILE|- --host TRIPLE=CFG-FILE [--target TRIPLE=CFG-FILE]... [--format json] SELECTION...
 
-`specs`: each platform spec that a declaration of a package names, once, in the order of the bytes; on how many declarations it is; and in
-which places it holds. The places are the host and the targets. Without a target the host is the only one, which is named `target`.
+`specs`: each platform spec that a declaration of a package names, once, in the order of the bytes, with the number of its declarations, and
+the places in which it holds. The places are the host and the targets. Without a target the host is the only one, which is named `target`.
 
 `list`: each feature of a package, in the order of the bytes of the names, and then each name of an optional declaration, in the order of the
 declarations. A feature is on, on a side, if its node is in the visit of the table `on` (docs/PLANS.md). The word for it says on which sides
@@ -58,27 +58,29 @@ def counts_of(document):
     return counts
 
 
-def listed_specs(document, places):
+def listed_specs(document, selection):
     """Each spec, the number of its declarations, and the names of the places where it holds and where it doesn't."""
+    places = places_of(selection)
     counts = counts_of(document)
     return [(spec, counts[spec], [name for name, platform in places if platform.holds(spec)],
              [name for name, platform in places if not platform.holds(spec)]) for spec in sorted(counts, key=str.encode)]
 
 
-def truth_text(places, holds):
-    if len(places) > 1:
+def truth_text(selection, holds):
+    if len(places_of(selection)) > 1:
         return f'holds on {", ".join(holds)}' if holds else 'holds nowhere'
     return 'holds' if holds else "doesn't hold"
 
 
-def specs_text(document, places):
-    return table_of([(spec, f'{count} declaration{"" if count == 1 else "s"}', truth_text(places, holds))
-                     for spec, count, holds, _ in listed_specs(document, places)])
+def specs_text(document, selection):
+    """What `feats specs` prints. A spec may be long, so it is the last column."""
+    return table_of([(f'{count} declaration{"" if count == 1 else "s"}', truth_text(selection, holds), spec)
+                     for spec, count, holds, _ in listed_specs(document, selection)])
 
 
-def specs_objects(document, places):
+def specs_objects(document, selection):
     return objects_of({'spec': spec, 'declarations': count, 'holds': holds, 'fails': fails}
-                      for spec, count, holds, fails in listed_specs(document, places))
+                      for spec, count, holds, fails in listed_specs(document, selection))
 
 
 # The features of a package.
@@ -106,6 +108,7 @@ def on_word(has_two_sides, sides):
 
 
 def list_text(plan, id):
+    """What `feats list` prints of a package."""
     has_two_sides = all(sides_of(plan, id, 'base', ''))
     return table_of([(f'dep:{name}' if kind == 'dep' else name, on_word(has_two_sides, sides), ' '.join(items))
                      for kind, name, sides, items in listed_features(plan, id)])
@@ -131,7 +134,7 @@ def main():
     selection = plan_model.selection_of(words)
     try:
         if command == 'specs':
-            text = (specs_objects if is_json else specs_text)(document, places_of(selection))
+            text = (specs_objects if is_json else specs_text)(document, selection)
         else:
             plan = plan_model.Plan(document, selection)
             text = (list_objects if is_json else list_text)(plan, plan_model.package_named(document, spec))
