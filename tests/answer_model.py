@@ -5,7 +5,7 @@
     answer_model.py list SPEC --metadata FILE|- --host TRIPLE=CFG-FILE [--target TRIPLE=CFG-FILE]... [--format json] SELECTION...
 
 `specs`: each platform spec that a declaration of a package names, once, in the order of the bytes, with the number of its declarations, and
-the places in which it holds. The places are the host and the targets. Without a target the host is the only one, which is named `target`.
+the places in which it holds. The places are the host and the targets.
 
 `list`: each feature of a package, in the order of the bytes of the names, and then each name of an optional declaration, in the order of the
 declarations. A feature is on, on a side, if its node is in the visit of the table `on` (docs/PLANS.md). The word for it says on which sides
@@ -42,10 +42,9 @@ def objects_of(objects):
 # The specs of a workspace.
 
 def places_of(selection):
-    """The places with their platforms: the host first."""
-    if not selection.targets:
-        return [('target', selection.host)]
-    return [('host', selection.host), *((it.triple, it) for it in selection.targets)]
+    """The places with their platforms: the host, and then the targets. One target is named `target`, and several by their triples."""
+    names = ['target'] if len(selection.targets) == 1 else [it.triple for it in selection.targets]
+    return [('host', selection.host), *zip(names, selection.targets)]
 
 
 def counts_of(document):
