@@ -34,9 +34,6 @@ visit_listed on I b steps least is listed n =
 pub sized : (t : Tables) (b : Built) (initials : List Bool) → IsBuilt t b → length initials ≡ length (node_packages t) → length initials ≡ length b.packages
 sized t b initials is size = size ∙ ap length (sym is.packages)
 
-pub built_of : (on : PairVisit) (v : Visit) (b : Built) → v ≡ on.visit → IsBuilt v.tables b → IsBuilt on.visit.tables b
-built_of on v b visit is = subst (λ (u : Visit). IsBuilt u.tables b) visit is
-
 has_inside : (set : List Bool) (k : ℕ) → IsTrue (has set k) → k < length set
 has_inside [] k t = cc
 has_inside (b ∷ set) zero t = omega arith
@@ -64,9 +61,6 @@ node_answered on b I steps kept taken n whys is explanation listed why same show
       is_why = why;
       are_steps = subst (λ l. AreStepsOf on (content_of Forward b) l whys) same shown;
     })
-
-pub explained_as : (c : Content) (I : ℕ → Bool) (steps taken : List Step) → taken ≡ steps → IsExplanation c I every steps → IsExplanation c I every taken
-explained_as c I steps taken same is = subst (IsExplanation c I every) (sym same) is
 
 pub tables_here : (on : PairVisit) (v : Visit) (t : Tables) → v ≡ on.visit → t ≡ v.tables → t ≡ on.visit.tables
 tables_here on v t visit same = same ∙ ap (λ u. u.tables) visit

@@ -45,10 +45,6 @@ pub on_least : (w : WorkspaceText) (s : SettingsText) (on : PairVisit) (I : ℕ 
 unfolding IsOn
 on_least w s on I one by same = visit_least by.1.1.rows_tables (on_starts w s) on.visit I one by.1.1.is_visit same
 
-pub on_count : (w : WorkspaceText) (s : SettingsText) (on : PairVisit) → IsOnBy w s on → on.count ≡ length w.packages
-unfolding IsOn
-on_count w s on by = by.1.0
-
 base_is : (count : ℕ) (side : Side) → first_entry (is_host side) count ≡ side_base count side
 base_is count Target = refl
 base_is count Host = refl
@@ -80,6 +76,3 @@ pub starts_are : (w : WorkspaceText) (s : SettingsText) (on : PairVisit) (v : Vi
     → ((n : ℕ) → I n ≡ is_start v.tables (map start_of taken) n) → (n : ℕ) → I n ≡ is_start on.visit.tables (on_starts w s) n
 starts_are w s on v places taken I visit are same nodes n =
     nodes n ∙ ap (λ (u : Visit). is_start u.tables (map start_of taken) n) visit ∙ ap (λ ps. is_start on.visit.tables (map start_of ps) n) same ∙ ap (λ starts. is_start on.visit.tables starts n) are
-
-pub one_of : (on : PairVisit) (v : Visit) → v ≡ on.visit → OneContent v.tables → OneContent on.visit.tables
-one_of on v visit one = subst (λ (u : Visit). OneContent u.tables) visit one
