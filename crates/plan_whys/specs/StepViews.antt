@@ -1,5 +1,5 @@
 -- The values that steps contain.
-use Rattle.std.specs.Prelude.{List, map, option_map}
+use Rattle.std.specs.Prelude.{option_map}
 use Rattle.feature_labels.specs.Names.{label_of}
 use Rattle.plan_whys.specs.Steps.{SpotText, ReasonText, WhyText}
 use Rattle.plan_whys.specs.Steps.ReasonText.{selected, from}

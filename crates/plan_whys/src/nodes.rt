@@ -30,7 +30,8 @@ pub(crate) fn node_of(on: &PackageVisit, at: Spot<'_>) -> Option<usize>
     if at.package >= count {
         return None;
     }
-    on.visited().node(at.side.base(count) + at.package, at.label)
+    on.visited()
+        .node(at.side.base(count) + at.package, at.label)
 }
 
 /// Returns why `node` is reached, or `None` if it isn't. `steps` is the explanation of the visit, from `initials`.

@@ -1,12 +1,11 @@
 -- Steps whose numbers are those of nodes and ways.
-use Rattle.std.specs.Prelude.{◌≡◌, ◌↔◌, ℕ, ◌<◌, Bool, List, Option, Some, None, ⊤, IsTrue, IsFalse, All}
+use Rattle.std.specs.Prelude.{◌↔◌, ℕ, ◌<◌, Bool, List, Option, Some, None, ⊤, IsTrue, IsFalse, All}
 use Rattle.guppy_packages.specs.declared.direction.DependencyDirection.TheVariants.{Forward}
 use Rattle.guppy_support.specs.Bits.{has}
 use Rattle.feature_core.specs.Built.{Built, IsBuilt}
 use Rattle.feature_core.specs.Offers.{content_of}
 use Rattle.walk_engine.specs.Laws.{every}
 use Rattle.walk_engine.specs.Walks.{Content, Least, Way, IsWay, has_gate}
-use Rattle.walk_engine.specs.declared.walks.Half.{Half}
 use Rattle.walk_engine.specs.declared.walks.Step.{Step}
 use Rattle.walk_engine.specs.declared.walks.StepReason.{StepReason}
 use Rattle.walk_engine.specs.declared.walks.StepReason.TheVariants.{Initial, Edge, Offer}
