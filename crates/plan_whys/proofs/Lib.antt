@@ -4,3 +4,4 @@ pub mod SpotLemmas
 pub mod Listed
 pub mod Visits
 pub mod StepLaws
+pub mod ReasonLists

@@ -2,4 +2,5 @@ pub mod Steps
 pub mod StepViews
 pub mod NodeWhys
 pub mod Whys
+pub mod Reasons
 pub mod inner
