@@ -1,5 +1,5 @@
 -- Words cut at their last slash.
-use Rattle.std.proofs.Common.{◌≡◌, ◌≢◌, ℕ, zero, suc, ◌+◌, ◌-◌, ◌<◌, ◌≤◌, List, [], ◌∷◌, Bool, true, false, cond, not, Option, Some, None, length, take, drop, get_or, refl, ap, sym, ◌∙◌, arith, eqb, lit<}
+use Rattle.std.proofs.Common.{◌≡◌, ◌≢◌, ℕ, zero, suc, ◌+◌, ◌-◌, ◌<◌, ◌≤◌, List, [], ◌∷◌, Bool, true, false, cond, not, Some, None, length, take, drop, get_or, refl, ap, sym, ◌∙◌, arith, eqb, lit<}
 use Rattle.std.specs.List.{after_last, before_last, list_any, suffix_len}
 use Rattle.std.specs.Str.{NoCharPasses}
 use Rattle.std.specs.Str.Pattern.{HasCharAt}
@@ -65,15 +65,17 @@ last_slash word front name i j after at within =
     let long : length word - i ≡ suc (length word - j) = sym (length-drop i word) ∙ ap (λ (t : Text). length t) cut ∙ ap (λ n. suc n) (length-drop j word) in
     let place : j ≡ i + 1 = omega (arith, long, within) in
     let here : get_or word i 0 ≡ 47 = at.byte (lit< tt) in
-    let slash : is_slash (get_or word i 0) ≡ true = eq-eqb _ 47 here in
-    (place,
-    list_any_at is_slash word i 0 (omega (arith, place, within)) slash,
-    suffix_len_is (λ x. not (is_slash x)) word j 0 within
-    (λ k more less. ap not (no_slash_at word k (λ e. NoCharPasses-char 47 (drop j word) (k - j) after (lit< tt) (omega (arith, length-drop j word, more, less)) (get_dropped word j (k - j) 0 ∙ ap (λ n. get_or word n 0) (back j k more) ∙ e))))
-    (λ l. ap not (ap (λ n. is_slash (get_or word n 0)) (before i j place) ∙ slash)))
+    let slash : is_slash (get_or word i 0) ≡ true = eq-eqb _ 47 here in (
+      place,
+      list_any_at is_slash word i 0 (omega (arith, place, within)) slash,
+      suffix_len_is (λ x. not (is_slash x)) word j 0 within
+          (λ k more less. ap not (no_slash_at word k (λ e. NoCharPasses-char 47 (drop j word) (k - j) after (lit< tt) (omega (arith, length-drop j word, more, less)) (get_dropped word j (k - j) 0 ∙ ap (λ n. get_or word n 0) (back j k more) ∙ e))))
+          (λ l. ap not (ap (λ n. is_slash (get_or word n 0)) (before i j place) ∙ slash)),
+    )
   where
     back : (j k : ℕ) → j ≤ k → j + (k - j) ≡ k
     back j k more = omega (arith, more)
+
     before : (i j : ℕ) → j ≡ i + 1 → j - 1 ≡ i
     before i j place = omega (arith, place)
 

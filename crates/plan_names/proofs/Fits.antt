@@ -1,5 +1,5 @@
 -- Texts that fit patterns.
-use Rattle.std.proofs.Common.{◌≡◌, ◌≢◌, ℕ, zero, suc, ◌+◌, ◌-◌, ◌<◌, ◌≤◌, ⊎_elim, inl, inr, List, [], ◌∷◌, ◌++◌, ◌⊎◌, Bool, true, false, cond, ◌||◌, ◌&&◌, length, take, drop, get_or, refl, ap, sym, ◌∙◌, arith, eqb}
+use Rattle.std.proofs.Common.{◌≡◌, ◌≢◌, ℕ, zero, suc, ◌+◌, ◌-◌, ◌<◌, ◌≤◌, ⊎_elim, inl, inr, [], ◌∷◌, ◌++◌, ◌⊎◌, Bool, true, false, cond, ◌||◌, ◌&&◌, length, drop, get_or, refl, ap, sym, ◌∙◌, arith, eqb}
 use Rattle.std.specs.Prelude.{nat_eq}
 use Rattle.std.specs.List.{list_any, ends_with}
 use Rattle.std.specs.Str.{bytes_eq}
@@ -38,7 +38,6 @@ no_star_tail c cs h i within = h (suc i) (omega arith)
 
 no_star_head : (c : ℕ) (cs : Text) → NoStar (c ∷ cs) → is_star c ≡ false
 no_star_head c cs h = false_of (is_star c) (λ e. h 0 (omega arith) (eqb-true c 42 e))
-
 
 end_at : (test : Text → Bool) (text : Text) (k : ℕ) → k ≤ length text → test (drop k text) ≡ true → list_any test (ends_of text) ≡ true
 end_at test [] zero h e = or_left (test []) false e
@@ -133,10 +132,12 @@ after_first_place front rest text i j h first at ends within = same_tests _ _ ah
   where
     back : list_any (fits rest) (ends_of (drop j text)) ≡ true → list_any (fits (front ++ 42 ∷ rest)) (ends_of text) ≡ true
     back e = end_at (fits (front ++ 42 ∷ rest)) text i within (ap (fits (front ++ 42 ∷ rest)) at ∙ fits_front front rest (drop j text) h ∙ e)
+
     later : (k : ℕ) (tail : Text) → drop k text ≡ front ++ tail → i ≤ k → tail ≡ drop (k - i) (drop j text)
     later k tail is more =
         let place : k + length front ≡ j + (k - i) = omega (arith, ends, more) in
         sym (drop-append_seam front tail) ∙ ap (drop (length front)) (sym is) ∙ drop_twice k (length front) text ∙ ap (λ n. drop n text) place ∙ sym (drop_twice j (k - i) text)
+
     ahead : list_any (fits (front ++ 42 ∷ rest)) (ends_of text) ≡ true → list_any (fits rest) (ends_of (drop j text)) ≡ true
     ahead e =
         let found = the_end (fits (front ++ 42 ∷ rest)) text e in
@@ -155,6 +156,7 @@ last_part pattern text h = same_tests _ _ ahead back
   where
     back : ends_with nat_eq text pattern ≡ true → list_any (fits pattern) (ends_of text) ≡ true
     back e = end_at (fits pattern) text (length text - length pattern) (omega arith) (fits_plain pattern (drop (length text - length pattern) text) h ∙ e)
+
     ahead : list_any (fits pattern) (ends_of text) ≡ true → ends_with nat_eq text pattern ≡ true
     ahead e =
         let found = the_end (fits pattern) text e in

@@ -1,8 +1,8 @@
 -- The packages, features and optional dependencies that words name.
-use Rattle.std.specs.Prelude.{ℕ, ◌+◌, List, [], ◌∷◌, ◌++◌, Bool, true, map, length, drop, nat_eq, not, ◌==◌, if◌then◌else◌, codes, Result, Ok, Err}
+use Rattle.std.specs.Prelude.{ℕ, ◌+◌, List, [], ◌∷◌, ◌++◌, Bool, true, map, drop, nat_eq, not, ◌==◌, if◌then◌else◌, codes}
 use Rattle.std.specs.List.{after_last, before_last, filter, list_any, starts_with}
 use Rattle.std.specs.Str.{bytes_eq}
-use Rattle.cargo_workspaces.specs.Workspaces.{Text, DeclarationText, PackageText}
+use Rattle.cargo_workspaces.specs.Workspaces.{Text, PackageText}
 use Rattle.plan_words.specs.PackageWords.{packages_of_word}
 use Rattle.plan_names.specs.Patterns.{fits, is_star}
 

@@ -129,11 +129,7 @@ fn push_at<'w>(
 }
 
 /// Returns at most three of `near`, those at small distances first. `limit` is the greatest distance.
-fn nearest<'w>(
-    alloc: Global,
-    near: &[Near<'w>],
-    limit: usize,
-) -> Result<Vec<Named<'w>>, AllocError>
+fn nearest<'w>(alloc: Global, near: &[Near<'w>], limit: usize) -> Result<Vec<Named<'w>>, AllocError>
     ensures parts { (test : NamedText → Bool) → IsTrue (list_all test (map near_text near.now)) → IfOk result (λ named. IsTrue (list_all test (map named_text named.items))) }
     ensures few { IfOk result (λ named. length named.items ≤ 3) }
 {

@@ -104,10 +104,7 @@ fn candidates<'w>(
 }
 
 /// Returns what `word` names, of its candidates.
-fn named_of<'w>(
-    word: &'w str,
-    candidates: Vec<Named<'w>>,
-) -> Result<Vec<Named<'w>>, NameFault<'w>>
+fn named_of<'w>(word: &'w str, candidates: Vec<Named<'w>>) -> Result<Vec<Named<'w>>, NameFault<'w>>
     ensures { Gives (λ named. map named_text named.items) result (faults.named_of word.now (map named_text candidates.entry.items)) }
 {
     match candidates.as_slice() {

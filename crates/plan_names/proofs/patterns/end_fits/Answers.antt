@@ -1,4 +1,4 @@
-use Rattle.std.proofs.Common.{rules, arith, ◌≡◌, ◌∙◌, ap, sym, lit<, Some, None, List, ℕ}
+use Rattle.std.proofs.Common.{rules, arith, ◌∙◌, ap, sym, lit<, Some, None}
 use Rattle.std.specs.List.{list_any}
 use Rattle.std.proofs.lemmas.Str.Pattern.{ends_text, split_parts}
 use Rattle.cargo_workspaces.specs.Workspaces.{Text}
@@ -19,11 +19,13 @@ loop-part-preserved c =
     let rest = c.in-Some.rest.now in
     let parts = split_parts 42 c.loop-part.pattern_left.now (Some (c.in-Some.part, c.in-Some.rest)) c.in-Some.ensures.cases (lit< tt) in
     let cut = c.in-Some-split_once.ensures.cases in
-    let found = cut.2 in
-    (search rules, search rules,
-    c.loop-part.invariant.2 ∙ ap (λ (p : Text). list_any (fits p) (ends_of text)) parts.0
-    ∙ after_first_place part rest text cut.0 cut.1 parts.1 found.0 found.1.split found.1.ends (omega (arith, cut.5, cut.7))
-    ∙ ap (λ (t : Text). list_any (fits rest) (ends_of t)) (sym cut.4))
+    let found = cut.2 in (
+      search rules,
+      search rules,
+      c.loop-part.invariant.2 ∙ ap (λ (p : Text). list_any (fits p) (ends_of text)) parts.0
+          ∙ after_first_place part rest text cut.0 cut.1 parts.1 found.0 found.1.split found.1.ends (omega (arith, cut.5, cut.7))
+          ∙ ap (λ (t : Text). list_any (fits rest) (ends_of t)) (sym cut.4),
+    )
 
 pub returns : goal.returns
 returns c =

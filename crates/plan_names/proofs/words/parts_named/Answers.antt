@@ -1,4 +1,4 @@
-use Rattle.std.proofs.Common.{◌∙◌, ◌≡◌, List, ap, length, map, true}
+use Rattle.std.proofs.Common.{◌∙◌, List, ap, length, map}
 use Rattle.std.specs.Prelude.{nat_lt}
 use Rattle.std.specs.List.{list_all}
 use Rattle.cargo_workspaces.specs.WorkspaceView.{workspace_text}
