@@ -1,5 +1,5 @@
 -- The JSON objects that show an explanation.
-use Rattle.std.specs.Prelude.{◌≡◌, ℕ, List, [], ◌∷◌, ◌++◌, map, filter, flat_map, Option, None, Some, codes, slice_get, if◌then◌else◌}
+use Rattle.std.specs.Prelude.{◌≡◌, ℕ, List, [], ◌∷◌, ◌++◌, map, flat_map, Option, None, Some, codes, slice_get, if◌then◌else◌}
 use Rattle.std.specs.Option.{option_map_or}
 use Rattle.json.specs.Token.{Token, begin_object, end_object, begin_array, end_array, key, string, null}
 use Rattle.json.specs.Print.{print}
@@ -98,13 +98,18 @@ object_tokens packages platforms step =
 abbrev pub step_object : List PackageText → SettingsText → WhyText → List Token
 step_object packages s step = object_tokens packages (reason_platforms packages s step.spot step.reason) step
 
--- The objects of the steps that are shown, in the order of the steps.
-abbrev pub step_objects : List PackageText → SettingsText → List WhyText → List Token
-step_objects packages s steps = flat_map (step_object packages s) (filter is_shown steps)
+-- The object of a step; nothing, if the step isn't shown.
+abbrev pub shown_object : List PackageText → SettingsText → WhyText → List Token
+shown_object packages s step = if is_shown step then step_object packages s step else []
 
+-- The objects of the steps, in their order.
+abbrev pub step_objects : List PackageText → SettingsText → List WhyText → List Token
+step_objects packages s steps = flat_map (shown_object packages s) steps
+
+-- The line of a step; nothing, if the step isn't shown.
 abbrev pub object_line : List PackageText → SettingsText → WhyText → Text
-object_line packages s step = print (step_object packages s step) ++ 10 ∷ []
+object_line packages s step = if is_shown step then print (step_object packages s step) ++ 10 ∷ [] else []
 
 -- A line with an object for each step that is shown.
 abbrev pub why_objects : List PackageText → SettingsText → List WhyText → Text
-why_objects packages s steps = flat_map (object_line packages s) (filter is_shown steps)
+why_objects packages s steps = flat_map (object_line packages s) steps

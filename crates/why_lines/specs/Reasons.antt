@@ -45,11 +45,15 @@ subject_text packages sides (Some s) = spot_label packages sides s
 abbrev pub and_text : Text → Text
 and_text text = codes " and " ++ text
 
+-- The end of the words about a platform and more of them.
+abbrev pub holding : List Text → Text
+holding [] = codes ", which holds"
+holding (t ∷ ts) = codes ", which hold"
+
 -- For which platforms a package depends on another one.
 abbrev pub platform_words : List Text → Text
 platform_words [] = []
-platform_words (t ∷ []) = codes " for " ++ (t ++ codes ", which holds")
-platform_words (t ∷ u ∷ ts) = codes " for " ++ (t ++ (flat_map and_text (u ∷ ts) ++ codes ", which hold"))
+platform_words (t ∷ ts) = codes " for " ++ (t ++ (flat_map and_text ts ++ holding ts))
 
 -- The optional dependency that must be on too.
 abbrev pub gate_words : List PackageText → Bool → Option SpotText → Text

@@ -1,5 +1,6 @@
 //! The labels of spots.
-ghost use Rattle.std.specs.Prelude.{◌≡◌, ◌++◌, IfOk, OnOk, map, string_bytes};
+ghost use Rattle.std.specs.Prelude.{◌≡◌, ◌++◌, [], IfOk, OnOk, map, option_map, slice_get, string_bytes};
+ghost use Rattle.std.specs.Option.{option_map_or};
 ghost use Rattle.cargo_workspaces.specs.Views.{package_text};
 ghost use Rattle.cargo_workspaces.specs.WorkspaceView.{workspace_text};
 ghost use Rattle.feature_labels.specs.Names.{label_of as value_of};
@@ -95,6 +96,34 @@ fn push_side(text: &mut String, sides: bool, side: Side) -> Result<(), AllocErro
     }
 }
 
+/// Appends the label of `spot`, which is one of `package`; nothing, if there is no package.
+fn push_label(
+    alloc: Global,
+    text: &mut String,
+    labels: &Labels<'_, '_>,
+    spot: Spot<'_>,
+    package: Option<&Package<'_>>,
+) -> Result<(), AllocError>
+    requires { AreLabels labels.now }
+    ensures { OnOk result (string_bytes text.new ≡ string_bytes text.old ++ option_map_or (spec.label_in (packages_of labels.now) labels.now.sides (spot_text spot.entry)) (option_map (λ p. package_text p.now) «package».entry) []) }
+{
+    match package {
+        Some(package) => {
+            push_package(alloc, text, labels, package)?;
+            push_part(text, spot.label)?;
+            push_side(text, labels.sides, spot.side)
+        }
+        None => Ok(()),
+    }
+}
+
+/// Returns package `ix`, if there is one.
+fn package_at<'p, 'v>(packages: &'p [Package<'v>], ix: usize) -> Option<&'p Package<'v>>
+    ensures { option_map (λ p. package_text p.now) result ≡ slice_get (map package_text packages.now) ix }
+{
+    packages.get(ix)
+}
+
 /// Appends the label of `spot`; nothing, if there is no such package.
 pub(crate) fn push_spot(
     alloc: Global,
@@ -105,14 +134,8 @@ pub(crate) fn push_spot(
     requires { AreLabels labels.now }
     ensures { OnOk result (string_bytes text.new ≡ string_bytes text.old ++ spec.spot_label (packages_of labels.now) labels.now.sides (spot_text spot.entry)) }
 {
-    match labels.packages.get(spot.package) {
-        Some(package) => {
-            push_package(alloc, text, labels, package)?;
-            push_part(text, spot.label)?;
-            push_side(text, labels.sides, spot.side)
-        }
-        None => Ok(()),
-    }
+    let package = package_at(labels.packages, spot.package);
+    push_label(alloc, text, labels, spot, package)
 }
 
 /// Returns the label of `spot`.

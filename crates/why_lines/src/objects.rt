@@ -3,10 +3,10 @@ ghost use Rattle.std.specs.Prelude.{◌≡◌, ◌++◌, ◌∷◌, [], IfOk, On
 ghost use Rattle.cargo_workspaces.specs.Views.{package_text, texts};
 ghost use Rattle.cargo_workspaces.specs.WorkspaceView.{workspace_text};
 ghost use Rattle.feature_labels.specs.Names.{label_of};
+ghost use Rattle.json.specs.Print.{print};
 ghost use Rattle.json.specs.Token.{key, string};
 ghost use Rattle.plan_lines.specs.Objects.{member};
 ghost use Rattle.why_lines.specs.Objects as spec;
-ghost use Rattle.why_lines.specs.Relations as relation;
 ghost use Rattle.why_lines.specs.Settings.{settings_text};
 ghost use Rattle.why_lines.specs.StepViews.{reason_text, spot_text, why_text};
 
@@ -238,6 +238,39 @@ fn write_step<P: Platform>(
     write_object(writer, packages, &platforms, step)
 }
 
+/// Writes the object of `step`, if the step is shown.
+fn write_shown<P: Platform>(
+    alloc: Global,
+    writer: &mut Writer,
+    packages: &[Package<'_>],
+    settings: &WhySettings<'_, P>,
+    step: &WhyStep<'_>,
+) -> Result<(), AllocError>
+    ensures { OnOk result (spec.Appends writer.old writer.new (spec.shown_object (map package_text packages.now) (settings_text P.holds settings.now) (why_text step.now))) }
+{
+    if is_shown(step) {
+        write_step(alloc, writer, packages, settings, step)
+    } else {
+        Ok(())
+    }
+}
+
+/// Writes an object for each of `steps` that is shown.
+fn write_all<P: Platform>(
+    alloc: Global,
+    writer: &mut Writer,
+    packages: &[Package<'_>],
+    settings: &WhySettings<'_, P>,
+    steps: &[WhyStep<'_>],
+) -> Result<(), AllocError>
+    ensures { OnOk result (spec.Appends writer.old writer.new (spec.step_objects (map package_text packages.now) (settings_text P.holds settings.now) (map why_text steps.now))) }
+{
+    for step in steps {
+        write_shown(alloc, writer, packages, settings, step)?;
+    }
+    Ok(())
+}
+
 /// Writes an object for each of `steps`, which are those of an explanation in `workspace`, without brackets around them. Steps at
 /// command features aren't shown.
 pub fn write_steps<P: Platform>(
@@ -249,12 +282,7 @@ pub fn write_steps<P: Platform>(
 ) -> Result<(), AllocError>
     ensures { OnOk result (spec.Appends writer.old writer.new (spec.step_objects (workspace_text workspace.now).packages (settings_text P.holds settings.now) (map why_text steps.now))) }
 {
-    for step in steps {
-        if is_shown(step) {
-            write_step(alloc, writer, workspace.packages(), settings, step)?;
-        }
-    }
-    Ok(())
+    write_all(alloc, writer, workspace.packages(), settings, steps)
 }
 
 /// Appends the object of `step`, and a line feed.
@@ -265,12 +293,45 @@ fn push_object<P: Platform>(
     settings: &WhySettings<'_, P>,
     step: &WhyStep<'_>,
 ) -> Result<Vec<u8>, AllocError>
-    ensures { IfOk result (λ new. new.items ≡ text.items ++ spec.object_line (map package_text packages.now) (settings_text P.holds settings.now) (why_text step.now)) }
+    ensures { IfOk result (λ new. new.items ≡ text.items ++ (print (spec.step_object (map package_text packages.now) (settings_text P.holds settings.now) (why_text step.now)) ++ 10 ∷ [])) }
 {
     let mut writer = Writer::new(text);
     write_step(alloc, &mut writer, packages, settings, step)?;
     let mut text = writer.into_inner();
     text.push(b'\n')?;
+    Ok(text)
+}
+
+/// Appends the line of `step`, if the step is shown.
+fn push_shown<P: Platform>(
+    alloc: Global,
+    text: Vec<u8>,
+    packages: &[Package<'_>],
+    settings: &WhySettings<'_, P>,
+    step: &WhyStep<'_>,
+) -> Result<Vec<u8>, AllocError>
+    ensures { IfOk result (λ new. new.items ≡ text.items ++ spec.object_line (map package_text packages.now) (settings_text P.holds settings.now) (why_text step.now)) }
+{
+    if is_shown(step) {
+        push_object(alloc, text, packages, settings, step)
+    } else {
+        Ok(text)
+    }
+}
+
+/// Returns a line for each of `steps` that is shown.
+fn object_lines<P: Platform>(
+    alloc: Global,
+    packages: &[Package<'_>],
+    settings: &WhySettings<'_, P>,
+    steps: &[WhyStep<'_>],
+) -> Result<Vec<u8>, AllocError>
+    ensures { IfOk result (λ text. text.items ≡ spec.why_objects (map package_text packages.now) (settings_text P.holds settings.now) (map why_text steps.now)) }
+{
+    let mut text = Vec::new(alloc);
+    for step in steps {
+        text = push_shown(alloc, text, packages, settings, step)?;
+    }
     Ok(text)
 }
 
@@ -284,11 +345,5 @@ pub fn why_objects<P: Platform>(
 ) -> Result<Vec<u8>, AllocError>
     ensures { IfOk result (λ text. text.items ≡ spec.why_objects (workspace_text workspace.now).packages (settings_text P.holds settings.now) (map why_text steps.now)) }
 {
-    let mut text = Vec::new(alloc);
-    for step in steps {
-        if is_shown(step) {
-            text = push_object(alloc, text, workspace.packages(), settings, step)?;
-        }
-    }
-    Ok(text)
+    object_lines(alloc, workspace.packages(), settings, steps)
 }

@@ -92,22 +92,27 @@ fn push_more(text: &mut String, platforms: &[&str]) -> Result<(), AllocError>
     Ok(())
 }
 
+/// Returns the end of the words about a platform and `more`.
+fn holding(more: &[&str]) -> &'static str
+    ensures { result.now ≡ spec.holding (texts more.now) }
+{
+    match more {
+        [] => ", which holds",
+        [_, ..] => ", which hold",
+    }
+}
+
 /// Appends for which platforms a package depends on another one.
 fn push_platforms(text: &mut String, platforms: &[&str]) -> Result<(), AllocError>
     ensures { OnOk result (string_bytes text.new ≡ string_bytes text.old ++ spec.platform_words (texts platforms.now)) }
 {
     match platforms {
         [] => Ok(()),
-        [platform] => {
-            text.push_str(" for ")?;
-            text.push_str(platform)?;
-            text.push_str(", which holds")
-        }
         [platform, more @ ..] => {
             text.push_str(" for ")?;
             text.push_str(platform)?;
             push_more(text, more)?;
-            text.push_str(", which hold")
+            text.push_str(holding(more))
         }
     }
 }
