@@ -10,6 +10,6 @@ pub loop-step-preserved : goal.loop-step-preserved
 loop-step-preserved g c =
     let packages = map package_text c.args.packages.now in
     let settings = settings_text g.P.Platform.holds c.args.settings.now in
-    flat_more (object_line packages settings) why_text c.args.steps.now c.loop-step.step-index c.step-item.result
+    flat_more (object_line packages settings) why_text c.args.steps.now c.loop-step.step-index _
     (why_objects packages settings (map why_text c.args.steps.now)) c.loop-step.text.items c.in_ok-text.text.items
-    c.loop-step-test.true c.step-item.is c.loop-step.invariant c.in_ok-text.ensures
+    c.loop-step-test.true c.loop-step.invariant c.in_ok-text.ensures

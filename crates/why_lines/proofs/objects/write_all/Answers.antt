@@ -11,7 +11,7 @@ loop-step-preserved g c =
     let packages = map package_text c.args.packages.now in
     let settings = settings_text g.P.Platform.holds c.args.settings.now in (
       c.in_ok-write_shown.ensures.before ∙ c.loop-step.invariant.0,
-      flat_more (shown_object packages settings) why_text c.args.steps.now c.loop-step.step-index c.step-item.result
+      flat_more (shown_object packages settings) why_text c.args.steps.now c.loop-step.step-index _
           (c.args.writer.now.tokens ++ step_objects packages settings (map why_text c.args.steps.now)) c.loop-step.writer.tokens c.write_shown.new.writer.tokens
-          c.loop-step-test.true c.step-item.is c.loop-step.invariant.1 c.in_ok-write_shown.ensures.tokens,
+          c.loop-step-test.true c.loop-step.invariant.1 c.in_ok-write_shown.ensures.tokens,
     )
