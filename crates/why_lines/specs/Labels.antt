@@ -1,5 +1,5 @@
 -- The labels of spots.
-use Rattle.std.specs.Prelude.{ℕ, List, [], ◌∷◌, ◌++◌, map, Bool, ◌&&◌, codes, slice_get, if◌then◌else◌}
+use Rattle.std.specs.Prelude.{List, [], ◌++◌, map, Bool, ◌&&◌, codes, slice_get, if◌then◌else◌}
 use Rattle.std.specs.Option.{option_map_or}
 use Rattle.cargo_workspaces.specs.Workspaces.{Text, PackageText}
 use Rattle.feature_labels.specs.Names.{LabelName, base, named, optional}

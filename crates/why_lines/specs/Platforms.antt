@@ -1,5 +1,5 @@
 -- The platform specs by which a package depends on another one.
-use Rattle.std.specs.Prelude.{◌≡◌, ℕ, List, [], ◌∷◌, ◌++◌, map, fold, Bool, true, false, not, ◌&&◌, ◌||◌, Option, None, Some, is_none, slice_get, if◌then◌else◌}
+use Rattle.std.specs.Prelude.{ℕ, List, [], ◌∷◌, ◌++◌, map, fold, Bool, false, not, ◌&&◌, ◌||◌, Option, None, Some, is_none, slice_get, if◌then◌else◌}
 use Rattle.std.specs.List.{list_any}
 use Rattle.std.specs.Option.{option_map_or}
 use Rattle.std.specs.Str.{bytes_eq}

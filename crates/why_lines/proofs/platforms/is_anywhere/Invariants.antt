@@ -1,7 +1,6 @@
-use Rattle.std.proofs.Common.{◌≡◌, map, drop, Bool}
+use Rattle.std.proofs.Common.{◌≡◌, map, drop}
 use Rattle.std.specs.List.{list_any}
 use Rattle.cargo_workspaces.specs.Views.{declaration_text}
-use Rattle.cargo_workspaces.specs.Workspaces.{DeclarationText}
 use Rattle.why_lines.specs.Platforms as spec
 use Rattle.why_lines.specs.Settings.{settings_text}
 use Rattle.why_lines.specs.StepViews.{spot_text}
