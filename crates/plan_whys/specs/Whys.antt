@@ -1,0 +1,31 @@
+-- Why a label is on in a plan.
+use Rattle.std.specs.Prelude.{◌≡◌, ℕ, true, false, List, Option, Some, None}
+use Rattle.cargo_plans.specs.Plans.{WordsText, AfterWords, settings_by}
+use Rattle.cargo_workspaces.specs.Workspaces.{WorkspaceText}
+use Rattle.plan_rows.specs.Steps.{SettingsText}
+use Rattle.plan_starts.specs.PackageVisits.{PairVisit, is_on}
+use Rattle.plan_steps.specs.Plans.{IsOn}
+use Rattle.plan_units.specs.Commands.{on_starts}
+use Rattle.step_visits.specs.Visits.{is_start}
+use Rattle.plan_whys.specs.Steps.{SpotText, WhyText}
+pub use Rattle.plan_whys.specs.NodeWhys.{IsWhyOf, node_of}
+
+-- Some visit of step `resolved` goes before the visit `on`.
+abbrev pub IsOnBy : WorkspaceText → SettingsText → PairVisit → Type 0
+IsOnBy w s on = (kept : PairVisit) × IsOn w s kept on
+
+-- Why a spot is on, from the places where step `on` starts.
+pub record Explains (w : WorkspaceText) (s : SettingsText) (on : PairVisit) (spot : SpotText) (whys : List WhyText) : Type 0 where
+  pub is_on : is_on on spot.side spot.number spot.label ≡ true
+  pub node : ℕ
+  pub is_node : node_of on spot ≡ Some node
+  pub is_why : IsWhyOf on (is_start on.visit.tables (on_starts w s)) node whys
+
+-- The answer: why the spot is on; `None` exactly if it's off.
+abbrev pub Answers : WorkspaceText → SettingsText → PairVisit → SpotText → Option (List WhyText) → Type 0
+Answers w s on spot None = is_on on spot.side spot.number spot.label ≡ false
+Answers w s on spot (Some whys) = Explains w s on spot whys
+
+-- The answer for the words of a command line.
+abbrev pub AnswersBy : WorkspaceText → WordsText → PairVisit → SpotText → Option (List WhyText) → Type 0
+AnswersBy w words on spot found = AfterWords w words (λ chosen. Answers w (settings_by words chosen) on spot found)
