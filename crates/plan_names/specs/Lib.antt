@@ -1,0 +1,6 @@
+pub mod Faults
+pub mod Names
+pub mod Patterns
+pub mod Suggestions
+pub mod Views
+pub mod inner

@@ -1,0 +1,18 @@
+//! What words name: packages, features of packages, and optional dependencies.
+#![tactic(auto)]
+
+mod fault;
+mod marks;
+mod named;
+mod near;
+mod nearest_parts;
+mod package_parts;
+mod parts;
+mod patterns;
+mod word_cuts;
+mod words;
+
+pub use fault::NameFault;
+pub use named::{Named, Part};
+pub use nearest_parts::suggestions;
+pub use words::{package_named, parts_named};
