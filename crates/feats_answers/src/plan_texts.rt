@@ -5,7 +5,7 @@ ghost use Rattle.cargo_workspaces.specs.WorkspaceView.{workspace_text};
 ghost use Rattle.plan_lines.specs.Views.{shown_text};
 ghost use Rattle.plan_units.specs.UnitViews.{unit_text};
 ghost use Rattle.feats_files.specs.FileViews.{file_text};
-ghost use Rattle.feats_tool.specs.Texts as spec;
+ghost use Rattle.feats_answers.specs.PlanTexts as spec;
 
 use cargo_plans::{Place, Unit};
 use cargo_workspaces::Workspace;
@@ -26,7 +26,7 @@ fn triples_of<'f>(alloc: Global, files: &[PlatformFile<'f>]) -> Result<Vec<&'f s
 }
 
 /// Returns the names of the target platforms of `files`: a single one is `target`, and several have their triples.
-fn target_names<'f>(alloc: Global, files: &[PlatformFile<'f>]) -> Result<Vec<&'f str>, AllocError>
+pub(crate) fn target_names<'f>(alloc: Global, files: &[PlatformFile<'f>]) -> Result<Vec<&'f str>, AllocError>
     ensures { IfOk result (λ names. texts names.items ≡ spec.target_names (map file_text files.now)) }
 {
     match files {

@@ -7,8 +7,8 @@ use Rattle.plan_units.specs.Units.{UnitText}
 use Rattle.plan_units.specs.declared.unit.Place.{Place}
 use Rattle.plan_units.specs.declared.unit.Place.TheVariants as place
 use Rattle.feats_files.specs.Files.{FileText}
-use Rattle.feats_words.specs.declared.plan_arguments.Format.{Format}
-use Rattle.feats_words.specs.declared.plan_arguments.Format.TheVariants as format
+use Rattle.feats_words.specs.declared.command_arguments.Format.{Format}
+use Rattle.feats_words.specs.declared.command_arguments.Format.TheVariants as format
 
 -- The names of the target platforms: a single one is `target`, and several have their triples.
 abbrev pub target_names : List FileText → List Text

@@ -3,8 +3,8 @@ use Rattle.cargo_workspaces.specs.Views.{texts}
 use Rattle.cargo_workspaces.specs.WorkspaceView.{workspace_text}
 use Rattle.plan_lines.specs.Views.{shown_text}
 use Rattle.plan_units.specs.UnitViews.{unit_text}
-use Rattle.feats_tool.specs.Texts as spec
-use Rattle.feats_tool.proofs.texts.all_shown.Given as goal
+use Rattle.feats_answers.specs.PlanTexts as spec
+use Rattle.feats_answers.proofs.plan_texts.all_shown.Given as goal
 
 abbrev pub invariant-loop-unit : goal.invariant-loop-unit
 invariant-loop-unit l =

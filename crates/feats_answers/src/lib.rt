@@ -1,0 +1,14 @@
+//! The answers to the questions about a build: a text for each command.
+#![tactic(auto)]
+
+mod answer;
+mod answers;
+mod labels_on;
+mod list_texts;
+mod name_messages;
+mod places;
+mod plan_texts;
+mod spec_texts;
+
+pub use answer::Answer;
+pub use answers::answer_to;
