@@ -5,7 +5,7 @@ use Rattle.platform_specs.specs.Expressions.{Target}
 use Rattle.plan_platforms.specs.DeclaredSpecs.{DeclaredText, declared_specs}
 use Rattle.plan_platforms.specs.HeldSpecs.{AreHeld}
 use Rattle.feats_files.specs.Platforms.{AreHeldOnEach}
-use Rattle.feats_tool.specs.Answers.{AreHolding, IsPlanRefusal, IsWorkspaceRefusal, of_plan}
+use Rattle.feats_tool.specs.Answers.{AreHolding, IsPlannedRefusal, IsWorkspaceRefusal, of_plan}
 use Rattle.feats_tool.specs.Bases.{BasisText}
 use Rattle.feats_tool.specs.Inputs.{InputsText}
 use Rattle.feats_tool.specs.Selections.{words_of}
@@ -16,7 +16,7 @@ module _ (inputs : InputsText) (basis : BasisText) (w : WorkspaceText) (host : T
       (specs : List DeclaredText) → specs ≡ declared_specs w.packages → AreHeld basis.host specs host
       → (others : List DeclaredText) → others ≡ declared_specs w.packages → (on : List Target) → on ≡ basis.targets
       → (each : List (Text → Bool)) → targets ≡ each → AreHeldOnEach on others each
-      → (m : Text) → IsPlanRefusal w (words_of inputs.arguments basis.version host targets) m → IsWorkspaceRefusal inputs basis w m
+      → (m : Text) → IsPlannedRefusal inputs w (words_of inputs.arguments basis.version host targets) m → IsWorkspaceRefusal inputs basis w m
   held_refused specs are held others same on all each named are_held m h =
       let by_targets : AreHeldOnEach basis.targets others each = subst (λ ts. AreHeldOnEach ts others each) all are_held in
       let by_specs : AreHeldOnEach basis.targets (declared_specs w.packages) each = subst (λ s. AreHeldOnEach basis.targets s each) same by_targets in

@@ -4,5 +4,4 @@ pub mod BasisView
 pub mod Inputs
 pub mod Run
 pub mod Selections
-pub mod Texts
 pub mod WordFaults

@@ -2,13 +2,13 @@ use Rattle.std.proofs.Common.{◌∙◌, ap, map}
 use Rattle.cargo_workspaces.specs.WorkspaceView.{workspace_text}
 use Rattle.plan_platforms.specs.HeldSpecs.{holds_on}
 use Rattle.plan_platforms.specs.Views.{declared_text}
-use Rattle.feats_tool.specs.Answers.{IsPlanRefusal, IsWorkspaceRefusal}
+use Rattle.feats_tool.specs.Answers.{IsPlannedRefusal, IsWorkspaceRefusal}
 use Rattle.feats_tool.specs.BasisView.{basis_text}
 use Rattle.feats_tool.specs.Inputs.{inputs_text}
 use Rattle.feats_tool.specs.Selections.{words_of}
 use Rattle.feats_tool.proofs.Says.{if_err_more}
 use Rattle.feats_tool.proofs.Stages.{held_refused}
-use Rattle.feats_tool.proofs.planning.workspace_text_of.Goals as goal
+use Rattle.feats_tool.proofs.planning.workspace_answer.Goals as goal
 
 pub returns-clause-fault : goal.returns-clause-fault
 returns-clause-fault c =
@@ -19,7 +19,7 @@ returns-clause-fault c =
     let targets = map holds_on c.deref-4.result.now in
     let on_host = ap (map declared_text) c.deref.ensures.value ∙ c.in_ok-specs.ensures in
     let on_targets = ap (map declared_text) c.deref-2.ensures.value ∙ c.in_ok-specs.ensures in
-    if_err_more c.held_text.result (IsPlanRefusal w (words_of inputs.arguments basis.version host targets)) (IsWorkspaceRefusal inputs basis w)
+    if_err_more c.planned_answer.result (IsPlannedRefusal inputs w (words_of inputs.arguments basis.version host targets)) (IsWorkspaceRefusal inputs basis w)
     (held_refused inputs basis w host targets (map declared_text c.deref.result.now) on_host c.in_ok-host.ensures.held (map declared_text c.deref-2.result.now) on_targets
     c.deref-3.result.now c.deref-3.ensures.value (map holds_on c.in_ok-targets.targets.items) (ap (map holds_on) c.deref-4.ensures.value) c.in_ok-targets.ensures.held)
-    c.held_text.ensures.fault
+    c.planned_answer.ensures.fault
