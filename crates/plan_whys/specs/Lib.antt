@@ -1,3 +1,4 @@
 pub mod Steps
 pub mod StepViews
 pub mod Whys
+pub mod inner

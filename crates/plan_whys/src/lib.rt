@@ -1,12 +1,13 @@
 //! Why a feature is on in a plan: the steps from what is selected to the feature.
 #![tactic(auto)]
 
-mod nodes;
-mod shown;
+mod explanations;
+mod laws;
+mod spots;
 mod steps;
-mod walked;
 mod whys;
 
+pub use laws::whys_lead_to_spots;
 pub use plan_rows::Side;
 pub use steps::{Spot, WhyReason, WhyStep};
 pub use whys::{why, why_by_settings};

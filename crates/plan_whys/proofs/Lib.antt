@@ -1,0 +1,5 @@
+pub mod NodeLemmas
+pub mod StepLists
+pub mod StepLaws
+pub mod Spots
+pub mod Visits
