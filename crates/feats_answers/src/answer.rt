@@ -20,3 +20,13 @@ pub(crate) fn positive(text: Vec<u8>) -> Answer
         is_negative: false,
     }
 }
+
+/// Returns the negative answer with this text.
+pub(crate) fn negative(text: Vec<u8>) -> Answer
+    ensures { answer_text result ≡ spec.negative text.items }
+{
+    Answer {
+        text,
+        is_negative: true,
+    }
+}

@@ -1,0 +1,82 @@
+//! The text about which wider selections turn on a feature that is off.
+ghost use Rattle.std.specs.Prelude.{◌≡◌, ◌++◌, List, IfOk, OnOk, map};
+ghost use Rattle.cargo_workspaces.specs.Workspaces.{Text};
+ghost use Rattle.cargo_workspaces.specs.WorkspaceView.{workspace_text};
+ghost use Rattle.cargo_plans.specs.WordsView.{words_text};
+ghost use Rattle.plan_names.specs.Views.{named_text};
+ghost use Rattle.plan_platforms.specs.HeldSpecs.{holds_on};
+ghost use Rattle.plan_platforms.specs.Views.{declared_text};
+ghost use Rattle.plan_steps.specs.PlanViews.{plan_text};
+ghost use Rattle.feats_answers.specs.AnswerViews.{texts_of};
+ghost use Rattle.feats_answers.specs.Gathered.{AreShown};
+ghost use Rattle.feats_answers.specs.WhyNotTexts as spec;
+
+use crate::labels_on::labels_of;
+use crate::parts::{label_of, title_of_part};
+use cargo_plans::{Plan, PlanWords, Side};
+use cargo_workspaces::Workspace;
+use feats_words::Format;
+use feature_lists::LabelsOn;
+use plan_names::Named;
+use plan_platforms::{DeclaredSpec, HeldSpecs};
+use std::alloc::{AllocError, Global};
+use why_nots::{why_not_lines, why_not_objects};
+
+/// Returns whether `named` is on in `plan`, on a side.
+fn is_part_on(plan: &Plan<'_>, named: Named<'_>) -> bool
+    ensures { result ≡ spec.is_part_on (plan_text plan.now) (named_text named.entry) }
+{
+    let on = labels_of(plan);
+    let label = label_of(named.part);
+    on.is_on(Side::Target, named.package, label) || on.is_on(Side::Host, named.package, label)
+}
+
+/// Returns the text about `named`, which is off.
+fn off_text(
+    alloc: Global,
+    format: Format,
+    workspace: &Workspace<'_>,
+    specs: &[DeclaredSpec<'_>],
+    words: &PlanWords<'_, '_, HeldSpecs<'_>>,
+    named: Named<'_>,
+) -> Result<Vec<u8>, AllocError>
+    ensures { IfOk result (λ text. spec.IsOffText format (workspace_text workspace.now) (map declared_text specs.now) (words_text holds_on words.now) (named_text named.entry) text.items) }
+{
+    let label = label_of(named.part);
+    match format {
+        Format::Text => {
+            let title = title_of_part(alloc, workspace, named)?;
+            why_not_lines(
+                alloc,
+                workspace,
+                specs,
+                words,
+                named.package,
+                label,
+                title.as_str(),
+            )
+        }
+        Format::Json => why_not_objects(alloc, workspace, specs, words, named.package, label),
+    }
+}
+
+/// Returns the texts about those of `named` that are off in `plan`.
+pub(crate) fn why_not_texts(
+    alloc: Global,
+    format: Format,
+    workspace: &Workspace<'_>,
+    specs: &[DeclaredSpec<'_>],
+    words: &PlanWords<'_, '_, HeldSpecs<'_>>,
+    plan: &Plan<'_>,
+    named: &[Named<'_>],
+) -> Result<Vec<Vec<u8>>, AllocError>
+    ensures { IfOk result (λ texts. AreShown (spec.IsOffShown format (workspace_text workspace.now) (map declared_text specs.now) (words_text holds_on words.now) (plan_text plan.now)) (map named_text named.now) (texts_of texts.items)) }
+{
+    let mut texts = Vec::new(alloc);
+    for one in named {
+        if !is_part_on(plan, *one) {
+            texts.push(off_text(alloc, format, workspace, specs, words, *one)?)?;
+        }
+    }
+    Ok(texts)
+}
