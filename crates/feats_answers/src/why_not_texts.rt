@@ -7,7 +7,7 @@ ghost use Rattle.plan_names.specs.Views.{named_text};
 ghost use Rattle.plan_platforms.specs.HeldSpecs.{holds_on};
 ghost use Rattle.plan_platforms.specs.Views.{declared_text};
 ghost use Rattle.plan_steps.specs.PlanViews.{plan_text};
-ghost use Rattle.feats_answers.specs.AnswerViews.{texts_of};
+ghost use Rattle.feats_answers.specs.AnswerViews.{texts_in, texts_of};
 ghost use Rattle.feats_answers.specs.Gathered.{AreShown};
 ghost use Rattle.feats_answers.specs.WhyNotTexts as spec;
 
@@ -60,6 +60,38 @@ fn off_text(
     }
 }
 
+/// Returns the text about `named`, if it is off in `plan`.
+fn text_if_off(
+    alloc: Global,
+    format: Format,
+    workspace: &Workspace<'_>,
+    specs: &[DeclaredSpec<'_>],
+    words: &PlanWords<'_, '_, HeldSpecs<'_>>,
+    plan: &Plan<'_>,
+    named: Named<'_>,
+) -> Result<Option<Vec<u8>>, AllocError>
+    ensures { IfOk result (λ text. spec.IsOffShown format (workspace_text workspace.now) (map declared_text specs.now) (words_text holds_on words.now) (plan_text plan.now) (named_text named.entry) (texts_in text)) }
+{
+    if is_part_on(plan, named) {
+        return Ok(None);
+    }
+    let text = off_text(alloc, format, workspace, specs, words, named)?;
+    Ok(Some(text))
+}
+
+/// Appends `text`, if there is one.
+fn push_some(texts: &mut Vec<Vec<u8>>, text: Option<Vec<u8>>) -> Result<(), AllocError>
+    ensures { OnOk result (texts_of texts.new.items ≡ texts_of texts.old.items ++ texts_in text) }
+{
+    match text {
+        Some(text) => {
+            texts.push(text)?;
+            Ok(())
+        }
+        None => Ok(()),
+    }
+}
+
 /// Returns the texts about those of `named` that are off in `plan`.
 pub(crate) fn why_not_texts(
     alloc: Global,
@@ -74,9 +106,8 @@ pub(crate) fn why_not_texts(
 {
     let mut texts = Vec::new(alloc);
     for one in named {
-        if !is_part_on(plan, *one) {
-            texts.push(off_text(alloc, format, workspace, specs, words, *one)?)?;
-        }
+        let text = text_if_off(alloc, format, workspace, specs, words, plan, *one)?;
+        push_some(&mut texts, text)?;
     }
     Ok(texts)
 }
