@@ -1,7 +1,6 @@
 -- Words that name nothing, or several things where one is wanted.
 use Rattle.std.specs.Prelude.{◌≡◌, ℕ, List, [], ◌∷◌, map, if◌then◌else◌, Result, Ok, Err}
 use Rattle.cargo_workspaces.specs.Workspaces.{Text, PackageText}
-use Rattle.plan_words.specs.PackageWords.{packages_of_word}
 use Rattle.plan_names.specs.Names.{NamedText, candidates, has_star, whole_packages}
 use Rattle.plan_names.specs.Views.{named_text}
 use Rattle.plan_names.specs.declared.fault.NameFault.{NameFault}

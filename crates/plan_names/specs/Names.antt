@@ -1,8 +1,8 @@
 -- The packages, features and optional dependencies that words name.
-use Rattle.std.specs.Prelude.{ℕ, ◌+◌, List, [], ◌∷◌, ◌++◌, Bool, true, map, length, drop, nat_eq, not, ◌==◌, if◌then◌else◌, codes, Result, Ok, Err}
+use Rattle.std.specs.Prelude.{ℕ, ◌+◌, List, [], ◌∷◌, ◌++◌, Bool, true, map, drop, nat_eq, not, ◌==◌, if◌then◌else◌, codes}
 use Rattle.std.specs.List.{after_last, before_last, filter, list_any, starts_with}
 use Rattle.std.specs.Str.{bytes_eq}
-use Rattle.cargo_workspaces.specs.Workspaces.{Text, DeclarationText, PackageText}
+use Rattle.cargo_workspaces.specs.Workspaces.{Text, PackageText}
 use Rattle.plan_words.specs.PackageWords.{packages_of_word}
 use Rattle.plan_names.specs.Patterns.{fits, is_star}
 
@@ -16,6 +16,9 @@ pub data PartText : Type 0 where
 pub record NamedText : Type 0 where
   pub owner : ℕ
   pub part : PartText
+
+abbrev pub of_package : ℕ → PartText → NamedText
+of_package k part = record { owner = k; part = part }
 
 abbrev pub is_slash : ℕ → Bool
 is_slash c = c == 47
@@ -42,7 +45,7 @@ parts_called name p =
 abbrev pub parts_from : (ℕ → Bool) → Text → ℕ → List PackageText → List NamedText
 parts_from test name k [] = []
 parts_from test name k (p ∷ ps) =
-    (if test k then map (λ part. record { owner = k; part = part }) (parts_called name p) else []) ++ parts_from test name (k + 1) ps
+    (if test k then map (of_package k) (parts_called name p) else []) ++ parts_from test name (k + 1) ps
 
 -- In these packages, and in all packages.
 abbrev pub parts_among : List PackageText → List ℕ → Text → List NamedText
@@ -58,7 +61,7 @@ or_else (x ∷ xs) others = x ∷ xs
 
 -- The packages that a word of `-p` names, themselves.
 abbrev pub whole_packages : List PackageText → Text → List NamedText
-whole_packages packages word = map (λ k. record { owner = k; part = whole }) (packages_of_word packages word)
+whole_packages packages word = map (λ k. of_package k whole) (packages_of_word packages word)
 
 -- A word with a slash is cut at its last one: a name in the packages that the front names. A word without one is a name in the
 -- selected packages, else in all.

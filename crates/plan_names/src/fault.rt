@@ -8,7 +8,9 @@ use std::alloc::{AllocError, AllocFailed};
 #[derive(Drop)]
 pub enum NameFault<'w> {
     /// Nothing fits the word.
-    Unknown { word: &'w str },
+    Unknown {
+        word: &'w str,
+    },
     /// Several things fit a word that must name one.
     Several {
         word: &'w str,

@@ -3,13 +3,13 @@ ghost use Rattle.std.specs.Prelude.{◌≡◌, OnOk, IsTrue, Bool, List, Some, m
 ghost use Rattle.std.specs.List.{list_all};
 ghost use Rattle.cargo_workspaces.specs.Views.{package_text};
 ghost use Rattle.cargo_workspaces.specs.Workspaces.{PackageText};
-ghost use Rattle.plan_names.specs.Names.{NamedText};
+ghost use Rattle.plan_names.specs.Names.{NamedText, dependency, of_package};
 ghost use Rattle.plan_names.specs.Suggestions.{is_part};
 ghost use Rattle.plan_names.specs.Views.{named_text};
 ghost use Rattle.plan_names.specs.inner.Nears.{near_text};
 
 use crate::named::{Named, Part};
-use cargo_workspaces::Package;
+use cargo_workspaces::{Declaration, Package};
 use std::alloc::{AllocError, Global};
 use strsim::levenshtein;
 
@@ -89,6 +89,26 @@ fn push_features<'w>(
     Ok(())
 }
 
+/// Appends what `declaration` of the package with the number `ix` declares, if that is optional and its name is near to `word`.
+fn push_optional<'w>(
+    alloc: Global,
+    near: &mut Vec<Near<'w>>,
+    ix: usize,
+    declaration: &'w Declaration<'_>,
+    word: &str,
+) -> Result<(), AllocError>
+    ensures { (test : NamedText → Bool) → OnOk result (IsTrue (list_all test (map near_text near.old.items)) → (IsTrue declaration.now.optional → IsTrue (test (of_package ix (dependency declaration.now.name.now)))) → IsTrue (list_all test (map near_text near.new.items))) }
+{
+    if declaration.optional {
+        let named = Named {
+            package: ix,
+            part: Part::Dependency(declaration.name),
+        };
+        push_near(alloc, near, word, declaration.name, named)?;
+    }
+    Ok(())
+}
+
 /// Appends the optional dependencies of `package`, which has the number `ix`, whose names are near to `word`.
 fn push_dependencies<'w>(
     alloc: Global,
@@ -100,13 +120,7 @@ fn push_dependencies<'w>(
     ensures { (packages : List PackageText) → slice_get packages ix ≡ Some (package_text «package».now) → OnOk result (IsTrue (list_all (is_part packages) (map near_text near.old.items)) → IsTrue (list_all (is_part packages) (map near_text near.new.items))) }
 {
     for declaration in &package.declarations {
-        if declaration.optional {
-            let named = Named {
-                package: ix,
-                part: Part::Dependency(declaration.name),
-            };
-            push_near(alloc, near, word, declaration.name, named)?;
-        }
+        push_optional(alloc, near, ix, declaration, word)?;
     }
     Ok(())
 }

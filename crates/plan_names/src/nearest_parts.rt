@@ -98,7 +98,22 @@ fn near_to_name<'w>(
     Ok(near)
 }
 
-/// Appends those of `near` that are at this distance, up to three in all.
+/// Appends what `item` names, if it is at this distance and there are less than three.
+fn push_if_at<'w>(
+    named: &mut Vec<Named<'w>>,
+    item: &Near<'w>,
+    distance: usize,
+) -> Result<(), AllocError>
+    ensures parts { (test : NamedText → Bool) → OnOk result (IsTrue (test (near_text item.now)) → IsTrue (list_all test (map named_text named.old.items)) → IsTrue (list_all test (map named_text named.new.items))) }
+    ensures few { OnOk result (length named.old.items ≤ 3 → length named.new.items ≤ 3) }
+{
+    if item.distance == distance && named.len() < 3 {
+        named.push(item.named)?;
+    }
+    Ok(())
+}
+
+/// Appends what those of `near` name that are at this distance, up to three in all.
 fn push_at<'w>(
     named: &mut Vec<Named<'w>>,
     near: &[Near<'w>],
@@ -108,19 +123,13 @@ fn push_at<'w>(
     ensures few { OnOk result (length named.old.items ≤ 3 → length named.new.items ≤ 3) }
 {
     for item in near {
-        if item.distance == distance && named.len() < 3 {
-            named.push(item.named)?;
-        }
+        push_if_at(named, item, distance)?;
     }
     Ok(())
 }
 
 /// Returns at most three of `near`, those at small distances first. `limit` is the greatest distance.
-fn nearest<'w>(
-    alloc: Global,
-    near: &[Near<'w>],
-    limit: usize,
-) -> Result<Vec<Named<'w>>, AllocError>
+fn nearest<'w>(alloc: Global, near: &[Near<'w>], limit: usize) -> Result<Vec<Named<'w>>, AllocError>
     ensures parts { (test : NamedText → Bool) → IsTrue (list_all test (map near_text near.now)) → IfOk result (λ named. IsTrue (list_all test (map named_text named.items))) }
     ensures few { IfOk result (λ named. length named.items ≤ 3) }
 {

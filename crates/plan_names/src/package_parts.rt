@@ -1,6 +1,7 @@
 //! The parts of a package that a name means.
-ghost use Rattle.std.specs.Prelude.{◌≡◌, ◌++◌, IfOk, OnOk, map};
-ghost use Rattle.std.specs.List.{filter};
+ghost use Rattle.std.specs.Prelude.{◌≡◌, ◌++◌, ◌&&◌, if◌then◌else◌, IfOk, OnOk, map};
+ghost use Rattle.std.specs.List.{filter, list_any};
+ghost use Rattle.std.specs.Str.{bytes_eq};
 ghost use Rattle.cargo_workspaces.specs.Views.{package_text, texts};
 ghost use Rattle.plan_names.specs.Names as spec;
 ghost use Rattle.plan_names.specs.Patterns.{fits};
@@ -9,7 +10,7 @@ ghost use Rattle.plan_names.specs.inner.News.{with_new};
 
 use crate::named::{Named, Part};
 use crate::patterns;
-use cargo_workspaces::Package;
+use cargo_workspaces::{Declaration, Package};
 use std::alloc::{AllocError, Global};
 
 /// Appends the features of `package`, which has the number `ix`, that fit `pattern`.
@@ -19,7 +20,7 @@ fn push_features<'w>(
     package: &'w Package<'_>,
     pattern: &str,
 ) -> Result<(), AllocError>
-    ensures { OnOk result (map named_text named.new.items ≡ map named_text named.old.items ++ map (λ name. record { owner = ix; part = spec.feature name }) (filter (fits pattern.now) (spec.feature_names (package_text «package».now)))) }
+    ensures { OnOk result (map named_text named.new.items ≡ map named_text named.old.items ++ map (spec.of_package ix) (map spec.feature (filter (fits pattern.now) (spec.feature_names (package_text «package».now))))) }
 {
     for feature in &package.features {
         if patterns::fits(pattern, feature.name) {
@@ -32,16 +33,39 @@ fn push_features<'w>(
     Ok(())
 }
 
+/// Returns whether `name` is one of `names`.
+fn is_among(names: &[&str], name: &str) -> bool
+    ensures { result ≡ list_any (bytes_eq name.now) (texts names.now) }
+{
+    for known in names {
+        if name == *known {
+            return true;
+        }
+    }
+    false
+}
+
 /// Appends `name`, if it isn't one of `names`.
 fn push_new<'w>(names: &mut Vec<&'w str>, name: &'w str) -> Result<(), AllocError>
     ensures { OnOk result (texts names.new.items ≡ with_new (texts names.old.items) name.now) }
 {
-    for known in &*names {
-        if name == *known {
-            return Ok(());
-        }
+    if !is_among(names, name) {
+        names.push(name)?;
     }
-    names.push(name)?;
+    Ok(())
+}
+
+/// Appends the name of `declaration`, if that is optional, and its name fits `pattern` and is new.
+fn push_optional<'w>(
+    names: &mut Vec<&'w str>,
+    declaration: &'w Declaration<'_>,
+    pattern: &str,
+) -> Result<(), AllocError>
+    ensures { OnOk result (texts names.new.items ≡ (if declaration.now.optional && fits pattern.now declaration.now.name.now then with_new (texts names.old.items) declaration.now.name.now else texts names.old.items)) }
+{
+    if declaration.optional && patterns::fits(pattern, declaration.name) {
+        push_new(names, declaration.name)?;
+    }
     Ok(())
 }
 
@@ -55,9 +79,7 @@ fn optional_names<'w>(
 {
     let mut names = Vec::new(alloc);
     for declaration in &package.declarations {
-        if declaration.optional && patterns::fits(pattern, declaration.name) {
-            push_new(&mut names, declaration.name)?;
-        }
+        push_optional(&mut names, declaration, pattern)?;
     }
     Ok(names)
 }
@@ -68,7 +90,7 @@ fn push_dependencies<'w>(
     ix: usize,
     names: &[&'w str],
 ) -> Result<(), AllocError>
-    ensures { OnOk result (map named_text named.new.items ≡ map named_text named.old.items ++ map (λ name. record { owner = ix; part = spec.dependency name }) (texts names.now)) }
+    ensures { OnOk result (map named_text named.new.items ≡ map named_text named.old.items ++ map (spec.of_package ix) (map spec.dependency (texts names.now))) }
 {
     for name in names {
         named.push(Named {
@@ -87,7 +109,7 @@ pub(crate) fn push_parts<'w>(
     package: &'w Package<'_>,
     name: &str,
 ) -> Result<(), AllocError>
-    ensures { OnOk result (map named_text named.new.items ≡ map named_text named.old.items ++ map (λ part. record { owner = ix; part = part }) (spec.parts_called name.now (package_text «package».now))) }
+    ensures { OnOk result (map named_text named.new.items ≡ map named_text named.old.items ++ map (spec.of_package ix) (spec.parts_called name.now (package_text «package».now))) }
 {
     match name.strip_prefix("dep:") {
         Some(pattern) => {

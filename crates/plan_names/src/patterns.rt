@@ -7,17 +7,17 @@ ghost use Rattle.plan_names.specs.Patterns as spec;
 fn end_fits(pattern: &str, text: &str) -> bool
     ensures { result ≡ list_any (spec.fits pattern.now) (spec.ends_of text.now) }
 {
-    let mut pattern = pattern;
-    let mut text = text;
+    let mut pattern_left = pattern;
+    let mut text_left = text;
     // The first place of a part between two stars is the best one: it leaves the most for the rest.
-    while let Some((part, rest)) = pattern.split_once('*') {
-        match text.split_once(part) {
-            Some((_, after)) => text = after,
+    while let Some((part, rest)) = pattern_left.split_once('*') {
+        match text_left.split_once(part) {
+            Some((_, after)) => text_left = after,
             None => return false,
         }
-        pattern = rest;
+        pattern_left = rest;
     }
-    text.ends_with(pattern)
+    text_left.ends_with(pattern_left)
 }
 
 /// Returns whether `text` fits `pattern`, in which a star stands for any text.

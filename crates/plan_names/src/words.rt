@@ -16,6 +16,20 @@ use cargo_workspaces::Workspace;
 use plan_words::packages_of_word;
 use std::alloc::{AllocError, Global};
 
+/// Returns the packages `numbers`, themselves.
+fn wholes<'w>(alloc: Global, numbers: &[usize]) -> Result<Vec<Named<'w>>, AllocError>
+    ensures { IfOk result (λ named. map named_text named.items ≡ map (λ k. spec.of_package k spec.whole) numbers.now) }
+{
+    let mut named = Vec::with_capacity(alloc, numbers.len())?;
+    for number in numbers {
+        named.push(Named {
+            package: *number,
+            part: Part::Package,
+        })?;
+    }
+    Ok(named)
+}
+
 /// Returns the packages that `word`, a word of `-p`, names, themselves.
 fn whole_packages<'w>(
     alloc: Global,
@@ -25,14 +39,7 @@ fn whole_packages<'w>(
     ensures { IfOk result (λ named. map named_text named.items ≡ spec.whole_packages (workspace_text workspace.now).packages word.now) }
 {
     let numbers = packages_of_word(alloc, workspace, word)?;
-    let mut named = Vec::with_capacity(alloc, numbers.len())?;
-    for number in &numbers {
-        named.push(Named {
-            package: *number,
-            part: Part::Package,
-        })?;
-    }
-    Ok(named)
+    wholes(alloc, &numbers)
 }
 
 /// Returns the parts that the name of `cut` means in the packages that its front names.
@@ -97,10 +104,7 @@ fn candidates<'w>(
 }
 
 /// Returns what `word` names, of its candidates.
-fn named_of<'w>(
-    word: &'w str,
-    candidates: Vec<Named<'w>>,
-) -> Result<Vec<Named<'w>>, NameFault<'w>>
+fn named_of<'w>(word: &'w str, candidates: Vec<Named<'w>>) -> Result<Vec<Named<'w>>, NameFault<'w>>
     ensures { Gives (λ named. map named_text named.items) result (faults.named_of word.now (map named_text candidates.entry.items)) }
 {
     match candidates.as_slice() {

@@ -1,0 +1,5 @@
+pub mod Among
+pub mod Cuts
+pub mod Fits
+pub mod Lists
+pub mod Once

@@ -1,0 +1,194 @@
+#!/usr/bin/env python3
+"""A model of the names of `feats why|why-not|list` (docs/PLANS.md, "Names"), for a document of `cargo metadata`.
+
+A part is (ID, None) for a package, (ID, "NAME") for a feature, (ID, "dep:NAME") for an optional dependency.
+Run alone, it checks the worked rows below; the last line is `N passed, M failed`.
+"""
+import sys
+
+
+class Unknown(Exception):
+    """Nothing fits a word."""
+
+
+class Several(Exception):
+    """Several parts fit a word that must name one: they are `args[0]`."""
+
+
+def packages_of(document):
+    """The packages of a document, in the order of the bytes of their ids."""
+    return sorted(document["packages"], key=lambda package: package["id"].encode())
+
+
+def version_fits(word, version):
+    """Whether a word is a version, perhaps without its build metadata, or a beginning of its numbers."""
+    plain = version.partition("+")[0]
+    return word in (version, plain) or "-" not in plain and plain.startswith(word + ".")
+
+
+def spec_fits(word, package):
+    """Whether a word is a package's name, or `NAME@VERSION`."""
+    name, at, version = word.partition("@")
+    return name == package["name"] and (not at or version_fits(version, package["version"]))
+
+
+def packages_named(document, word):
+    """The packages that a word of `-p` names: the one with this id, else those that it fits."""
+    packages = packages_of(document)
+    return [p for p in packages if p["id"] == word] or [p for p in packages if spec_fits(word, p)]
+
+
+def fits(pattern, text):
+    """Whether a text fits a pattern, where a star stands for any text."""
+    if not pattern:
+        return not text
+    if pattern[0] == "*":
+        return any(fits(pattern[1:], text[k:]) for k in range(len(text) + 1))
+    return text[:1] == pattern[0] and fits(pattern[1:], text[1:])
+
+
+def optional_names(package):
+    """The names of a package's optional dependencies, each once, in the order of the document."""
+    names = [d.get("rename") or d["name"] for d in package["dependencies"] if d["optional"]]
+    return list(dict.fromkeys(names))
+
+
+def parts_in(package, name):
+    """The parts of a package that a name means."""
+    if name.startswith("dep:"):
+        return [(package["id"], "dep:" + d) for d in optional_names(package) if fits(name[4:], d)]
+    return [(package["id"], f) for f in sorted(package["features"], key=str.encode) if fits(name, f)]
+
+
+def parts_among(packages, name):
+    return [part for package in packages for part in parts_in(package, name)]
+
+
+def candidates(document, selected, word):
+    """All that a word may mean, if the packages with the ids `selected` are selected."""
+    whole = packages_named(document, word)
+    if whole:
+        return [(package["id"], None) for package in whole]
+    spec, slash, name = word.rpartition("/")
+    if slash:
+        return parts_among(packages_named(document, spec), name)
+    packages = packages_of(document)
+    return parts_among([p for p in packages if p["id"] in selected], word) or parts_among(packages, word)
+
+
+def named(document, selected, word):
+    """What a word names; else Unknown or Several."""
+    found = candidates(document, selected, word)
+    if not found:
+        raise Unknown(word)
+    if len(found) > 1 and "*" not in word.rpartition("/")[2]:
+        raise Several(found)
+    return found
+
+
+def package_named(document, word):
+    """The id of the only package that a word of `-p` names; else Unknown or Several."""
+    found = packages_named(document, word)
+    if not found:
+        raise Unknown(word)
+    if len(found) > 1:
+        raise Several([(package["id"], None) for package in found])
+    return found[0]["id"]
+
+
+def outcome(document, selected, word):
+    """What a word names as one value: ("named", parts), ("several", parts) or ("unknown",)."""
+    try:
+        return ("named", named(document, selected, word))
+    except Several as several:
+        return ("several", several.args[0])
+    except Unknown:
+        return ("unknown",)
+
+
+def dependency(name, optional=False, rename=None):
+    return {"name": name, "optional": optional, "rename": rename}
+
+
+def package(id, name, version, features=(), dependencies=()):
+    return {"id": id, "name": name, "version": version, "features": {f: [] for f in features}, "dependencies": list(dependencies)}
+
+
+# Two members, a and b; two versions of clap; an id that contains slashes.
+APP, OTHER, OLD, NEW, PRE, LOG = "path+file:///w/app#0.1.0", "path+file:///w/b#other@0.2.0", "r#clap@3.2.25", "r#clap@4.0.32", "r#clap@4.1.0-rc.1", "r#log@0.4.17+extra"
+DOCUMENT = {
+    "packages": [
+        package(APP, "app", "0.1.0", ["default", "tls", "tls-native"], [dependency("clap", True), dependency("clap", True), dependency("log"), dependency("log", True, "logger")]),
+        package(OTHER, "other", "0.2.0", ["default", "std"], [dependency("clap", True)]),
+        package(OLD, "clap", "3.2.25", ["std", "yaml"]),
+        package(NEW, "clap", "4.0.32", ["std", "help"]),
+        package(PRE, "clap", "4.1.0-rc.1"),
+        package(LOG, "log", "0.4.17+extra", ["std", "std-extra", "a*b"]),
+    ]
+}
+
+# The selected packages, the word, and what it names.
+WORKED = [
+    ([APP], "app", ("named", [(APP, None)])),
+    ([APP], APP, ("named", [(APP, None)])),
+    ([APP], "clap", ("several", [(OLD, None), (NEW, None), (PRE, None)])),
+    ([APP], "clap@3", ("named", [(OLD, None)])),
+    ([APP], "clap@4", ("named", [(NEW, None)])),
+    ([APP], "clap@4.0.3", ("unknown",)),
+    ([APP], "clap@4.1.0-rc.1", ("named", [(PRE, None)])),
+    ([APP], "log@0.4.17", ("named", [(LOG, None)])),
+    # a name in a spec; an id is cut at the last slash
+    ([APP], "app/tls", ("named", [(APP, "tls")])),
+    ([APP], APP + "/tls", ("named", [(APP, "tls")])),
+    ([APP], "clap/std", ("several", [(OLD, "std"), (NEW, "std")])),
+    ([APP], "clap/yaml", ("named", [(OLD, "yaml")])),
+    ([APP], "clap@4/std", ("named", [(NEW, "std")])),
+    ([APP], "nothing/std", ("unknown",)),
+    ([APP], "app/", ("unknown",)),
+    ([APP], "/tls", ("unknown",)),
+    # optional dependencies, by the name that the features use
+    ([APP], "app/dep:clap", ("named", [(APP, "dep:clap")])),
+    ([APP], "app/dep:logger", ("named", [(APP, "dep:logger")])),
+    ([APP], "app/dep:log", ("unknown",)),
+    ([APP], "app/clap", ("unknown",)),
+    ([APP], "app/dep:*", ("named", [(APP, "dep:clap"), (APP, "dep:logger")])),
+    ([APP], "dep:clap", ("named", [(APP, "dep:clap")])),
+    # a name alone: in the selected packages, else in all
+    ([APP], "tls", ("named", [(APP, "tls")])),
+    ([APP], "default", ("named", [(APP, "default")])),
+    ([APP, OTHER], "default", ("several", [(APP, "default"), (OTHER, "default")])),
+    ([OTHER, OTHER], "default", ("named", [(OTHER, "default")])),
+    ([OTHER], "std", ("named", [(OTHER, "std")])),
+    ([APP], "std", ("several", [(OTHER, "std"), (OLD, "std"), (NEW, "std"), (LOG, "std")])),
+    ([APP], "help", ("named", [(NEW, "help")])),
+    ([APP], "none", ("unknown",)),
+    # stars
+    ([APP], "app/*", ("named", [(APP, "default"), (APP, "tls"), (APP, "tls-native")])),
+    ([APP], "app/tls*", ("named", [(APP, "tls"), (APP, "tls-native")])),
+    ([APP], "app/*tls*", ("named", [(APP, "tls"), (APP, "tls-native")])),
+    ([APP], "app/t*s*-*t*e", ("named", [(APP, "tls-native")])),
+    ([APP], "app/*l*l*", ("unknown",)),
+    ([APP], "clap/*", ("named", [(OLD, "std"), (OLD, "yaml"), (NEW, "help"), (NEW, "std")])),
+    ([APP], "*", ("named", [(APP, "default"), (APP, "tls"), (APP, "tls-native")])),
+    ([APP], "y*", ("named", [(OLD, "yaml")])),
+    ([APP], "ap*", ("unknown",)),
+    ([APP], "ap*/tls", ("unknown",)),
+    ([APP], "log/a**b", ("named", [(LOG, "a*b")])),
+]
+
+
+def main():
+    passed = failed = 0
+    for selected, word, wanted in WORKED:
+        found = outcome(DOCUMENT, selected, word)
+        if found == wanted:
+            passed += 1
+        else:
+            failed += 1
+            print("%s: %s, and not %s" % (word, found, wanted))
+    print("%d passed, %d failed" % (passed, failed))
+    return failed != 0
+
+
+if __name__ == "__main__":
+    sys.exit(main())
