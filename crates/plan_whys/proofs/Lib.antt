@@ -1,5 +1,7 @@
 pub mod NodeLemmas
 pub mod StepLists
-pub mod StepLaws
-pub mod Spots
+pub mod SpotLemmas
+pub mod Listed
 pub mod Visits
+pub mod StepLaws
+pub mod ReasonLists

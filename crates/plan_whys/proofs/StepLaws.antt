@@ -24,11 +24,12 @@ use Rattle.walk_engine.specs.declared.walks.StepReason.{StepReason}
 use Rattle.walk_engine.specs.declared.walks.StepReason.TheVariants.{Initial, Edge, Offer}
 use Rattle.plan_whys.specs.Steps.{SpotText, ReasonText, WhyText, AreBacked, AreStepsOf, EndsAt, IsAt, IsBacked, IsReasonOf, IsStepOf, spot_at}
 use Rattle.plan_whys.specs.Steps.ReasonText.{selected, from}
-use Rattle.plan_whys.specs.Whys.{Explains, IsWhyOf, node_of}
+use Rattle.plan_whys.specs.Whys.{Explains}
+use Rattle.plan_whys.proofs.SpotLemmas.{spot_if}
 use Rattle.plan_whys.proofs.StepLists.{earlier_at, zip_at, zip_last}
 
 -- a node has one place
-one_place : (o : Option (ℕ × LabelName)) (k l : ℕ) (x y : LabelName) → o ≡ Some (k, x) → o ≡ Some (l, y) → (k, x) ≡ (l, y)
+one_place : (o : Option (ℕ × LabelName)) (k l : ℕ) (x y : LabelName) → o ≡ Some (k, x) → o ≡ Some (l, y) → ◌≡◌ {A = ℕ × LabelName} (k, x) (l, y)
 one_place o k l x y a b = cc
 
 -- a node is at one spot
@@ -51,10 +52,10 @@ backed_by on c I A before n (Offer e h) selected spots earlier is shown = absurd
 backed_by on c I A before n (Offer e h) (from start None) spots earlier (w, way, half, accepted, far, listed, gated) (v, too, at, none) =
     let same : w ≡ v = one_way (slice_get c.ways e) w v way too in
     (earlier v.start start (subst (λ (z : Way). IsTrue (is_in before z.start)) same listed) at, tt)
-backed_by on c I A before n (Offer e h) (from start (Some gate)) spots earlier (w, way, half, accepted, far, listed, gated) (v, too, at, waits, gate_at) =
+backed_by on c I A before n (Offer e h) (from start (Some gate)) spots earlier (w, way, half, accepted, far, listed, gated) (v, too, at, waiting) =
     let same : w ≡ v = one_way (slice_get c.ways e) w v way too in
-    let gate_listed : IsTrue (is_in before v.gate) = subst (λ (z : Way). IsTrue (has_gate z.ask h) → IsTrue (is_in before z.gate)) same gated waits in
-    (earlier v.start start (subst (λ (z : Way). IsTrue (is_in before z.start)) same listed) at, earlier v.gate gate gate_listed gate_at)
+    let gate_listed : IsTrue (is_in before v.gate) = subst (λ (z : Way). IsTrue (has_gate z.ask h) → IsTrue (is_in before z.gate)) same gated waiting.0 in
+    (earlier v.start start (subst (λ (z : Way). IsTrue (is_in before z.start)) same listed) at, earlier v.gate gate gate_listed waiting.1)
 
 pub whys_backed : (w : WorkspaceText) (s : SettingsText) (on : PairVisit) (spot : SpotText) (whys : List WhyText) → Explains w s on spot whys → AreBacked whys
 whys_backed w s on spot whys explains k why at =
@@ -68,13 +69,12 @@ whys_backed w s on spot whys explains k why at =
 -- the place of a spot is that of its node
 at_spot : (on : PairVisit) (spot : SpotText) (n : ℕ) (inside : Bool) → nat_lt spot.number on.count ≡ inside → (if inside then node_at on.visit.tables (side_base on.count spot.side + spot.number) spot.label else None) ≡ Some n → IsAt on n spot
 at_spot on spot n false is h = cc
-at_spot on spot n true is h = (side_base on.count spot.side + spot.number, spot.label, node_back_at on.visit.tables (side_base on.count spot.side + spot.number) n spot.label h, sym (back spot.side spot.number spot.label))
+at_spot on spot n true is h = (side_base on.count spot.side + spot.number, spot.label, node_back_at on.visit.tables (side_base on.count spot.side + spot.number) n spot.label h, sym (back spot.side spot.number spot.label is))
   where
     back : (side : Side) (number : ℕ) (label : LabelName) → nat_lt number on.count ≡ true → spot_at on.count (side_base on.count side + number) label ≡ record { side = side; number = number; label = label }
-    back Target number label below = ap (λ b. if b then record { side = Target; number = 0 + number; label = label } else record { side = Host; number = 0 + number - on.count; label = label }) below
+    back Target number label below = ap (λ k. spot_at on.count k label) (omega arith) ∙ spot_if on.count number label true below
     back Host number label below =
-        let past : nat_lt (on.count + number) on.count ≡ false = le-ltb (on.count + number) on.count (omega arith) in
-        ap (λ b. if b then record { side = Target; number = on.count + number; label = label } else record { side = Host; number = on.count + number - on.count; label = label }) past
+        spot_if on.count (on.count + number) label false (le-ltb (on.count + number) on.count (omega arith))
         ∙ ap {B = SpotText} (λ m. record { side = Host; number = m; label = label }) (omega arith)
 
 pub whys_end : (w : WorkspaceText) (s : SettingsText) (on : PairVisit) (spot : SpotText) (whys : List WhyText) → Explains w s on spot whys → EndsAt whys spot

@@ -1,9 +1,10 @@
 -- Lists whose elements are related place by place.
 use Rattle.std.proofs.Common.{◌≡◌, ℕ, zero, suc, ◌+◌, ◌<◌, ◌≤◌, ◌⊎◌, inl, inr, ⊎_elim, Bool, true, false, ◌||◌, List, [], ◌∷◌, ◌++◌, length, map, take, Option, Some, None, refl, subst, sym, ap, ◌∙◌, arith}
-use Rattle.std.specs.Prelude.{IsTrue, Contains, slice_get, ◌==◌}
+use Rattle.std.specs.Prelude.{IsTrue, Contains, slice_get, slice_index_or, ◌==◌}
 use Rattle.std.specs.List.{AllZip}
 use Rattle.std.proofs.lemmas.Bool.{eqb-true}
-use Rattle.std.proofs.lemmas.List.{take_all}
+use Rattle.std.proofs.lemmas.List.{map-append, take_all}
+use Rattle.std.proofs.lemmas.Option.{slice_get-get_or}
 use Rattle.std.proofs.lemmas.List.Elements.{Contains-append_right}
 use Rattle.walk_engine.specs.Explanations.{nodes_of}
 use Rattle.walk_engine.specs.Walks.{is_in}
@@ -22,6 +23,11 @@ module _ {A B : Type 0} (R : A → B → Type 0) where
 
   pub zip_whole : (xs : List A) (ys : List B) (i : ℕ) → length xs ≤ i → AllZip R (take i xs) ys → AllZip R xs ys
   zip_whole xs ys i past zip = subst (λ l. AllZip R l ys) (take_all i xs past) zip
+
+  -- the same, if the element is read with a default
+  pub zip_next : (xs : List A) (ys next : List B) (i : ℕ) (d : A) (y : B) → i < length xs → AllZip R (take i xs) ys → R (slice_index_or xs i d) y → next ≡ ys ++ y ∷ [] → AllZip R (take (i + 1) xs) next
+  zip_next xs ys next i d y within zip r same =
+      subst (AllZip R (take (i + 1) xs)) (sym same) (zip_more xs ys i (slice_index_or xs i d) y (slice_get-get_or xs i d within) zip r)
 
   -- the elements at a place
   pub zip_at : (xs : List A) (ys : List B) (k : ℕ) (y : B) → AllZip R xs ys → slice_get ys k ≡ Some y → (x : A) × (slice_get xs k ≡ Some x) × R x y
@@ -60,3 +66,7 @@ module _ {B S : Type 0} (R : Step → B → Type 0) (At : ℕ → S → Type 0) 
       (λ e. contains_first (map spot (take k ys)) (spot y) s (one n (spot y) s (subst (λ m. At m (spot y)) (eqb-true step.node n e) (is step y zip.0)) at))
       (λ e. Contains-append_right (spot y ∷ []) (map spot (take k ys)) s (earlier_at steps ys k n s one is zip.1 e at))
       (or_cases (step.node == n) (is_in (take k (nodes_of steps)) n) h)
+
+-- the views of a list with one more element
+pub map_pushed : {X Y : Type 0} (f : X → Y) (old new : List X) (x : X) → new ≡ old ++ x ∷ [] → map f new ≡ map f old ++ f x ∷ []
+map_pushed f old new x same = ap (map f) same ∙ map-append f old (x ∷ [])

@@ -8,7 +8,6 @@ use Rattle.guppy_support.specs.Bits.{has}
 use Rattle.cargo_workspaces.specs.Workspaces.{WorkspaceText}
 use Rattle.feature_core.specs.Built.{Built, IsBuilt}
 use Rattle.feature_core.specs.Offers.{content_of}
-use Rattle.feature_core.specs.Nodes.{node_packages}
 use Rattle.feature_labels.specs.Names.{LabelName}
 use Rattle.feature_labels.specs.declared.feature_label.FeatureLabel.{FeatureLabel}
 use Rattle.guppy_packages.specs.Tables.{Tables}
@@ -19,12 +18,11 @@ use Rattle.plan_starts.specs.PackageVisits.{PairVisit, first_entry, is_on}
 use Rattle.plan_steps.specs.Plans.{IsOn}
 use Rattle.plan_units.specs.Commands.{on_starts}
 use Rattle.step_visits.specs.Visits.{IsVisit, Visit, is_start, node_at, reaches, start_of}
-use Rattle.walk_engine.specs.Explanations.{nodes_of}
 use Rattle.walk_engine.specs.Laws.{every}
-use Rattle.walk_engine.specs.Walks.{Content, Least, is_in}
-use Rattle.walk_engine.specs.declared.walks.Step.{Step}
+use Rattle.walk_engine.specs.Walks.{Content, Least}
 use Rattle.plan_whys.specs.Steps.{SpotText, WhyText}
-use Rattle.plan_whys.specs.Whys.{Answers, IsOnBy, IsWhyOf, node_of}
+use Rattle.plan_whys.specs.NodeWhys.{IsWhyOf, node_of}
+use Rattle.plan_whys.specs.Whys.{Answers, IsOnBy}
 use Rattle.plan_whys.specs.inner.Nodes.{IsLeast, NodeAnswers}
 
 -- the content of one build is that of each
@@ -33,34 +31,19 @@ OneContent t = (a b : Built) (direction : DependencyDirection) → IsBuilt t a �
 
 visit_least : (t : Tables) (starts : List (ℕ × LabelName)) (v : Visit) (I : ℕ → Bool) → OneContent v.tables → IsVisit t starts v → ((n : ℕ) → I n ≡ is_start v.tables starts n) → (b : Built) → IsBuilt v.tables b → (n : ℕ) → IsTrue (has v.members n) ↔ Least (content_of Forward b) I every n
 visit_least t starts v I one is same b is_built n = (
-  (λ h.
-      let from : Least (content_of Forward b) (is_start t starts) every n = (is.members n).0 h b (subst (λ (z : Tables). IsBuilt z b) is.tables is_built) in
-      subst (λ (J : ℕ → Bool). Least (content_of Forward b) J every n) (λ i k. (same k ∙ ap (λ (z : Tables). is_start z starts k) is.tables) (~ i)) from),
+  (λ h. subst (λ (J : ℕ → Bool). Least (content_of Forward b) J every n) (sym alike) ((is.members n).0 h b (subst (λ (z : Tables). IsBuilt z b) is.tables is_built))),
   (λ h. (is.members n).1 (λ a is_too.
-      let here : IsBuilt v.tables a = subst (λ (z : Tables). IsBuilt z a) (sym is.tables) is_too in
-      subst (λ (c : Content). Least c (is_start t starts) every n) (one b a Forward is_built here)
-      (subst (λ (J : ℕ → Bool). Least (content_of Forward b) J every n) (λ i k. (same k ∙ ap (λ (z : Tables). is_start z starts k) is.tables) i) h))),
+      subst (λ (c : Content). Least c (is_start t starts) every n) (one b a Forward is_built (subst (λ (z : Tables). IsBuilt z a) (sym is.tables) is_too))
+      (subst (λ (J : ℕ → Bool). Least (content_of Forward b) J every n) alike h))),
 )
+  where
+    alike : I ≡ is_start t starts
+    alike = λ i k. (same k ∙ ap (λ (z : Tables). is_start z starts k) is.tables) i
 
 -- the visit of step `on` is the least that has the nodes at which it starts
 pub on_least : (w : WorkspaceText) (s : SettingsText) (on : PairVisit) (I : ℕ → Bool) → OneContent on.visit.tables → IsOnBy w s on → ((n : ℕ) → I n ≡ is_start on.visit.tables (on_starts w s) n) → IsLeast on I
 unfolding IsOn
 on_least w s on I one by same = visit_least by.1.1.rows_tables (on_starts w s) on.visit I one by.1.1.is_visit same
-
-pub on_count : (w : WorkspaceText) (s : SettingsText) (on : PairVisit) → IsOnBy w s on → on.count ≡ length w.packages
-unfolding IsOn
-on_count w s on by = by.1.0
-
-same_test : (a b : Bool) → (IsTrue a → IsTrue b) → (IsTrue b → IsTrue a) → a ≡ b
-same_test true b forth back = sym (forth refl)
-same_test false true forth back = back refl
-same_test false false forth back = refl
-
--- an explanation of the least set lists what the visit reached
-pub visit_listed : (on : PairVisit) (I : ℕ → Bool) (b : Built) (steps : List Step) → IsLeast on I → IsBuilt on.visit.tables b → ((n : ℕ) → IsTrue (is_in (nodes_of steps) n) ↔ Least (content_of Forward b) I every n)
-    → (n : ℕ) → has on.visit.members n ≡ is_in (nodes_of steps) n
-visit_listed on I b steps least is listed n =
-    same_test (has on.visit.members n) (is_in (nodes_of steps) n) (λ h. (listed n).1 ((least b is n).0 h)) (λ h. (least b is n).1 ((listed n).0 h))
 
 base_is : (count : ℕ) (side : Side) → first_entry (is_host side) count ≡ side_base count side
 base_is count Target = refl
@@ -93,13 +76,3 @@ pub starts_are : (w : WorkspaceText) (s : SettingsText) (on : PairVisit) (v : Vi
     → ((n : ℕ) → I n ≡ is_start v.tables (map start_of taken) n) → (n : ℕ) → I n ≡ is_start on.visit.tables (on_starts w s) n
 starts_are w s on v places taken I visit are same nodes n =
     nodes n ∙ ap (λ (u : Visit). is_start u.tables (map start_of taken) n) visit ∙ ap (λ ps. is_start on.visit.tables (map start_of ps) n) same ∙ ap (λ starts. is_start on.visit.tables starts n) are
-
--- a set of all nodes, by a build
-pub sized : (t : Tables) (b : Built) (initials : List Bool) → IsBuilt t b → length initials ≡ length (node_packages t) → length initials ≡ length b.packages
-sized t b initials is size = size ∙ ap length (sym is.packages)
-
-pub built_of : (on : PairVisit) (v : Visit) (b : Built) → v ≡ on.visit → IsBuilt v.tables b → IsBuilt on.visit.tables b
-built_of on v b visit is = subst (λ (u : Visit). IsBuilt u.tables b) visit is
-
-pub one_of : (on : PairVisit) (v : Visit) → v ≡ on.visit → OneContent v.tables → OneContent on.visit.tables
-one_of on v visit one = subst (λ (u : Visit). OneContent u.tables) visit one

@@ -1,4 +1,6 @@
 pub mod Steps
 pub mod StepViews
+pub mod NodeWhys
 pub mod Whys
+pub mod Reasons
 pub mod inner

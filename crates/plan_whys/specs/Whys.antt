@@ -1,38 +1,18 @@
 -- Why a label is on in a plan.
-use Rattle.std.specs.Prelude.{◌≡◌, ℕ, ◌+◌, nat_lt, if◌then◌else◌, Bool, true, false, List, Option, Some, None}
+use Rattle.std.specs.Prelude.{◌≡◌, ℕ, true, false, List, Option, Some, None}
 use Rattle.cargo_plans.specs.Plans.{WordsText, AfterWords, settings_by}
 use Rattle.cargo_workspaces.specs.Workspaces.{WorkspaceText}
-use Rattle.feature_core.specs.Built.{Built, IsBuilt}
-use Rattle.feature_core.specs.Offers.{content_of}
-use Rattle.guppy_packages.specs.declared.direction.DependencyDirection.TheVariants.{Forward}
-use Rattle.plan_rows.specs.Steps.{SettingsText, side_base}
+use Rattle.plan_rows.specs.Steps.{SettingsText}
 use Rattle.plan_starts.specs.PackageVisits.{PairVisit, is_on}
 use Rattle.plan_steps.specs.Plans.{IsOn}
 use Rattle.plan_units.specs.Commands.{on_starts}
-use Rattle.step_visits.specs.Visits.{is_start, node_at}
-use Rattle.walk_checks.specs.Whys.{IsWhy}
-use Rattle.walk_engine.specs.Explanations.{IsExplanation}
-use Rattle.walk_engine.specs.Laws.{every}
-use Rattle.walk_engine.specs.declared.walks.Step.{Step}
-use Rattle.plan_whys.specs.Steps.{SpotText, WhyText, AreStepsOf}
+use Rattle.step_visits.specs.Visits.{is_start}
+use Rattle.plan_whys.specs.Steps.{SpotText, WhyText}
+pub use Rattle.plan_whys.specs.NodeWhys.{IsWhyOf, node_of}
 
 -- Some visit of step `resolved` goes before the visit `on`.
 abbrev pub IsOnBy : WorkspaceText → SettingsText → PairVisit → Type 0
 IsOnBy w s on = (kept : PairVisit) × IsOn w s kept on
-
--- The node of a spot in step `on`.
-abbrev pub node_of : PairVisit → SpotText → Option ℕ
-node_of on spot = if nat_lt spot.number on.count then node_at on.visit.tables (side_base on.count spot.side + spot.number) spot.label else None
-
--- WHY node `n` is on: an explanation, from the nodes in `I` and by every offer, and of its steps those on which the node rests.
-pub record IsWhyOf (on : PairVisit) (I : ℕ → Bool) (n : ℕ) (whys : List WhyText) : Type 0 where
-  pub built : Built
-  pub is_built : IsBuilt on.visit.tables built
-  pub steps : List Step
-  pub explanation : IsExplanation (content_of Forward built) I every steps
-  pub kept : List Step
-  pub is_why : IsWhy (content_of Forward built) I every steps n kept
-  pub are_steps : AreStepsOf on (content_of Forward built) kept whys
 
 -- Why a spot is on, from the places where step `on` starts.
 pub record Explains (w : WorkspaceText) (s : SettingsText) (on : PairVisit) (spot : SpotText) (whys : List WhyText) : Type 0 where

@@ -1,12 +1,15 @@
 //! Why a feature is on in a plan: the steps from what is selected to the feature.
 #![tactic(auto)]
 
+mod direct_reasons;
 mod explanations;
 mod laws;
+mod nodes;
 mod spots;
 mod steps;
 mod whys;
 
+pub use direct_reasons::reasons;
 pub use laws::whys_lead_to_spots;
 pub use plan_rows::Side;
 pub use steps::{Spot, WhyReason, WhyStep};

@@ -100,7 +100,7 @@ fn by_offer<'p>(
 }
 
 /// Returns `reason` by spots. `table` has the edges of the visit.
-fn reason_of<'p>(
+pub(crate) fn reason_of<'p>(
     on: &'p PackageVisit,
     table: &Packed<'_>,
     reason: StepReason,

@@ -12,7 +12,7 @@ use Rattle.walk_engine.specs.declared.walks.StepReason.{StepReason}
 use Rattle.walk_engine.specs.declared.walks.StepReason.TheVariants.{Initial, Edge, Offer}
 use Rattle.plan_starts.specs.PackageVisits.{PairVisit}
 use Rattle.plan_whys.specs.Steps.{WhyText}
-use Rattle.plan_whys.specs.Whys.{IsWhyOf}
+use Rattle.plan_whys.specs.NodeWhys.{IsWhyOf}
 
 -- The reason's way is there, and its start is one of `nodes` nodes; so is the gate, if the half waits for it.
 abbrev pub IsReasonInside : ℕ → Content → StepReason → Type 0
