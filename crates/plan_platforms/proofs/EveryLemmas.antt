@@ -16,12 +16,12 @@ regrouped false true rest = refl
 regrouped false false rest = refl
 
 -- one more text
-pub every_more : (specs : List DeclaredSpec) (i : ℕ) (s : DeclaredSpec) (all : Bool) (old new : Text → Bool) (text : Text) → i < length specs → s ≡ get_or specs i s
+pub every_more : (specs : List DeclaredSpec) (i : ℕ) (s d : DeclaredSpec) (all : Bool) (old new : Text → Bool) (text : Text) → i < length specs → s ≡ get_or specs i d
     → (all ≡ (old text || is_declared (map declared_text (drop i specs)) text)) → new text ≡ cond (is_eq (text_cmp s.text.now text)) true (old text)
     → all ≡ (new text || is_declared (map declared_text (drop (i + 1) specs)) text)
-every_more specs i s all old new text within is so grown =
+every_more specs i s d all old new text within is so grown =
     let rest : Bool = is_declared (map declared_text (drop (i + 1) specs)) text in
-    let at : drop i specs ≡ get_or specs i s ∷ drop (i + 1) specs = rw (add-one, drop-cons specs i s within) refl in
+    let at : drop i specs ≡ get_or specs i d ∷ drop (i + 1) specs = rw (add-one, drop-cons specs i d within) refl in
     so ∙ ap (λ ds. old text || is_declared (map declared_text ds) text) at
     ∙ ap (λ (x : DeclaredSpec). old text || (bytes_eq x.text.now text || rest)) (sym is)
     ∙ regrouped (bytes_eq s.text.now text) (old text) rest
