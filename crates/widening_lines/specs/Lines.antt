@@ -35,18 +35,18 @@ said_lines (on_by lines) = codes ": on\n" ++ indented lines
 said_lines off = codes ": off\n"
 said_lines (not_planned message) = codes ": not planned: " ++ (message ++ codes "\n")
 
-abbrev pub widening_lines : Widening → SaidText → Text
-widening_lines v said = heading v ++ said_lines said
+-- What follows, if the feature is off with all widenings together.
+abbrev pub closing : Widening → SaidText → Text
+closing widening.Together off = codes "no choice of members, features, tests and platforms turns it on\n"
+closing _ _ = []
 
--- The last line, by what is said of all widenings together.
-abbrev pub closing : SaidText → Text
-closing (on_by lines) = []
-closing off = codes "no choice of members, features, tests and platforms turns it on\n"
-closing (not_planned message) = []
+-- The lines about a widening.
+abbrev pub widening_lines : Widening → SaidText → Text
+widening_lines v said = heading v ++ (said_lines said ++ closing v said)
 
 abbrev pub off_line : Text → Text
 off_line name = name ++ codes " is off\n"
 
 -- THE LINES of an answer about the feature `name`, by what is said of each widening.
 abbrev pub why_not_lines : Text → (Widening → SaidText) → Text
-why_not_lines name said = off_line name ++ (flat_map (λ v. widening_lines v (said v)) widenings ++ closing (said widening.Together))
+why_not_lines name said = off_line name ++ flat_map (λ v. widening_lines v (said v)) widenings

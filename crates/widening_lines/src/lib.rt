@@ -5,5 +5,5 @@ mod lines;
 mod names;
 mod said;
 
-pub use lines::{push_closing, push_off, push_widening};
+pub use lines::{push_off, push_widening};
 pub use said::Said;

@@ -56,6 +56,23 @@ fn push_said(text: &mut Vec<u8>, said: Said<'_>) -> Result<(), AllocError>
     }
 }
 
+/// Appends the line that ends an answer, if the feature is off with all widenings together.
+fn push_closing(
+    text: &mut Vec<u8>,
+    widening: Widening,
+    said: Said<'_>,
+) -> Result<(), AllocError>
+    ensures { OnOk result (text.new.items ≡ text.old.items ++ spec.closing widening (said_text said.entry)) }
+{
+    match (widening, said) {
+        (Widening::Together, Said::Off) => push(
+            text,
+            "no choice of members, features, tests and platforms turns it on\n",
+        ),
+        _ => Ok(()),
+    }
+}
+
 /// Appends the line that begins an answer about `name`.
 pub fn push_off(text: &mut Vec<u8>, name: &str) -> Result<(), AllocError>
     ensures { OnOk result (text.new.items ≡ text.old.items ++ spec.off_line name.now) }
@@ -64,7 +81,8 @@ pub fn push_off(text: &mut Vec<u8>, name: &str) -> Result<(), AllocError>
     push(text, " is off\n")
 }
 
-/// Appends the lines about `widening`: whether the feature is on there, and why.
+/// Appends the lines about `widening`: whether the feature is on there, and why. If it is off with all widenings together, the last line
+/// says that no choice turns it on.
 pub fn push_widening(
     text: &mut Vec<u8>,
     widening: Widening,
@@ -73,18 +91,6 @@ pub fn push_widening(
     ensures { OnOk result (text.new.items ≡ text.old.items ++ spec.widening_lines widening (said_text said.entry)) }
 {
     push(text, heading(widening))?;
-    push_said(text, said)
-}
-
-/// Appends the line that ends an answer, if the feature is off with all widenings together, of which `said` is said.
-pub fn push_closing(text: &mut Vec<u8>, said: Said<'_>) -> Result<(), AllocError>
-    ensures { OnOk result (text.new.items ≡ text.old.items ++ spec.closing (said_text said.entry)) }
-{
-    match said {
-        Said::Off => push(
-            text,
-            "no choice of members, features, tests and platforms turns it on\n",
-        ),
-        Said::On(_) | Said::NotPlanned(_) => Ok(()),
-    }
+    push_said(text, said)?;
+    push_closing(text, widening, said)
 }
