@@ -1,9 +1,9 @@
-//! Messages about plans.
+//! The refusals of selections that have no plan.
 ghost use Rattle.std.specs.Prelude.{◌≡◌, IfOk};
 ghost use Rattle.cargo_workspaces.specs.WorkspaceView.{workspace_text};
 ghost use Rattle.feats_files.specs.Messages.{IsRefused};
 ghost use Rattle.feats_files.specs.Parts.{parts_text};
-ghost use Rattle.feats_tool.specs.PlanMessages as spec;
+ghost use Rattle.plan_messages.specs.Messages as spec;
 
 use cargo_plans::{PlanFault, Side, WordFault};
 use cargo_workspaces::Workspace;
@@ -134,7 +134,7 @@ fn not_on_refused<'p>(
 }
 
 /// Returns the refusal of a selection that has no plan.
-pub(crate) fn plan_refused<'p>(
+pub fn plan_refused<'p>(
     alloc: Global,
     workspace: &'p Workspace<'_>,
     fault: PlanFault<'p>,

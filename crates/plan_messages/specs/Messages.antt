@@ -1,4 +1,4 @@
--- Messages about plans.
+-- Messages about selections that have no plan.
 use Rattle.std.specs.Prelude.{ℕ, List, [], ◌∷◌, ◌++◌, flat_map, codes}
 use Rattle.cargo_workspaces.specs.Workspaces.{Text, PackageText}
 use Rattle.plan_rows.specs.declared.side.Side.{Side}

@@ -1,13 +1,13 @@
-//! The arguments of `plan`, parsed from the words of a request.
+//! The arguments of a command, parsed from the words of a request.
 ghost use Rattle.std.specs.Prelude.{map, option_map};
 ghost use Rattle.feats_words.specs.Arguments as spec;
 ghost use Rattle.feats_words.specs.Refusals.{Gives};
 ghost use Rattle.feats_words.specs.Requests.{texts};
-ghost use Rattle.feats_words.specs.Views.{arguments_text, platform_text, plan_text, source_text};
+ghost use Rattle.feats_words.specs.Views.{arguments_text, platform_text, request_text, source_text};
 
 use crate::fault::WordsFault;
 use crate::platform_words::{PlatformWord, platform_word};
-use crate::request::PlanRequest;
+use crate::request::{Question, Request};
 use crate::splitting::feature_words;
 use manifest_resolvers::Resolver;
 use std::alloc::Global;
@@ -27,9 +27,10 @@ pub enum Format {
     Json,
 }
 
-/// The arguments of `plan`.
+/// The arguments of a command.
 #[derive(Drop)]
-pub struct PlanArguments<'a> {
+pub struct CommandArguments<'a> {
+    pub question: Question<'a>,
     /// The path of the document, or `-`.
     pub metadata: &'a str,
     pub host: PlatformWord<'a>,
@@ -106,16 +107,17 @@ fn format_of(word: Option<&str>) -> Result<Format, WordsFault<'_>>
 /// the format; or `Memory`.
 pub fn arguments<'a>(
     alloc: Global,
-    request: PlanRequest<'a>,
-) -> Result<PlanArguments<'a>, WordsFault<'a>>
-    ensures { Gives arguments_text result (spec.arguments (plan_text request.entry)) }
+    request: Request<'a>,
+) -> Result<CommandArguments<'a>, WordsFault<'a>>
+    ensures { Gives arguments_text result (spec.arguments (request_text request.entry)) }
 {
     let host = platform(request.host)?;
     let targets = platforms(alloc, &request.targets)?;
     let resolver = resolver_source(request.resolver, request.manifest)?;
     let format = format_of(request.format)?;
     let features = feature_words(alloc, &request.features)?;
-    Ok(PlanArguments {
+    Ok(CommandArguments {
+        question: request.question,
         metadata: request.metadata,
         host,
         targets,

@@ -2,8 +2,8 @@ use Rattle.std.proofs.Common.{◌≡◌, ◌++◌, drop}
 use Rattle.std.specs.Prelude.{flat_map}
 use Rattle.cargo_workspaces.specs.WorkspaceView.{workspace_text}
 use Rattle.feats_files.specs.Parts.{parts_text}
-use Rattle.feats_tool.specs.PlanMessages.{id_line, several_message}
-use Rattle.feats_tool.proofs.plan_messages.several_parts.Given as goal
+use Rattle.plan_messages.specs.Messages.{id_line, several_message}
+use Rattle.plan_messages.proofs.refusals.several_parts.Given as goal
 
 abbrev pub invariant-loop-candidate : goal.invariant-loop-candidate
 invariant-loop-candidate l =
