@@ -2,20 +2,15 @@
 ghost use Rattle.std.specs.Prelude.{◌≡◌, IfOk};
 ghost use Rattle.feature_labels.specs.Names.{label_of};
 ghost use Rattle.cargo_workspaces.specs.WorkspaceView.{workspace_text};
-ghost use Rattle.plan_platforms.specs.HeldSpecs.{holds_on};
 ghost use Rattle.plan_steps.specs.PlanViews.{plan_text};
 ghost use Rattle.cargo_plans.specs.WordsView.{words_text};
 ghost use Rattle.plan_widenings.specs.Findings.{IsFinding};
 ghost use Rattle.plan_widenings.specs.inner.Shown.{Shows};
-ghost use Rattle.plan_widenings.specs.Widenings.{widened};
 
 use crate::sides::{Sides, sides_of};
-use crate::widening::Widening;
-use crate::words::widened;
 use cargo_plans::{Plan, PlanFault, PlanWords, plan};
 use cargo_workspaces::Workspace;
 use feature_labels::FeatureLabel;
-use plan_platforms::HeldSpecs;
 use plan_rows::Platform;
 use std::alloc::{AllocError, Global};
 
@@ -31,7 +26,7 @@ pub enum Finding<'w> {
 }
 
 /// Returns what `plan` says of `label` of package `package`.
-fn found<'w>(plan: Plan<'w>, package: usize, label: FeatureLabel<'_>) -> Finding<'w>
+fn shown_by<'w>(plan: Plan<'w>, package: usize, label: FeatureLabel<'_>) -> Finding<'w>
     ensures { Shows (plan_text plan.entry) «package» (label_of label.entry) result }
 {
     let sides = sides_of(plan.on(), package, label);
@@ -45,7 +40,7 @@ fn found<'w>(plan: Plan<'w>, package: usize, label: FeatureLabel<'_>) -> Finding
 
 /// Returns whether `label` of package `package` is on in the plan of `workspace` for `words`, or why they have no plan. An allocation's
 /// failure is the only error.
-pub fn finding<'w, P: Platform>(
+pub fn found_by<'w, P: Platform>(
     alloc: Global,
     workspace: &'w Workspace<'_>,
     words: &PlanWords<'w, '_, P>,
@@ -55,30 +50,8 @@ pub fn finding<'w, P: Platform>(
     ensures { IfOk result (IsFinding (workspace_text workspace.now) (words_text P.holds words.now) «package» (label_of label.entry)) }
 {
     match plan(alloc, workspace, words) {
-        Ok(plan) => Ok(found(plan, package, label)),
+        Ok(plan) => Ok(shown_by(plan, package, label)),
         Err(PlanFault::Memory) => Err(AllocError),
         Err(fault) => Ok(Finding::Refused(fault)),
     }
-}
-
-/// Returns the finding of `label` of package `package` by `words` with `widening`: `every` is every platform that the workspace names.
-/// An allocation's failure is the only error.
-pub fn asked<'w>(
-    alloc: Global,
-    workspace: &'w Workspace<'_>,
-    words: &PlanWords<'w, '_, HeldSpecs<'_>>,
-    widening: Widening,
-    every: &HeldSpecs<'_>,
-    package: usize,
-    label: FeatureLabel<'_>,
-) -> Result<Finding<'w>, AllocError>
-    ensures { IfOk result (IsFinding (workspace_text workspace.now) (widened (holds_on every.now) widening (words_text holds_on words.now)) «package» (label_of label.entry)) }
-{
-    finding(
-        alloc,
-        workspace,
-        &widened(words, widening, every),
-        package,
-        label,
-    )
 }

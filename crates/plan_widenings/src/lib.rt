@@ -6,7 +6,7 @@ mod sides;
 mod widening;
 mod words;
 
-pub use finding::{Finding, asked, finding};
+pub use finding::{Finding, found_by};
 pub use sides::Sides;
 pub use widening::Widening;
 pub use words::widened;

@@ -20,7 +20,11 @@ impl Sides {
     pub fn first(self) -> Side
         ensures { result ≡ spec.first_side self }
     {
-        if self.target { Side::Target } else { Side::Host }
+        if self.target {
+            Side::Target
+        } else {
+            Side::Host
+        }
     }
 }
 

@@ -67,7 +67,7 @@ fn with_tests<'w, 'n, 's>(
 
 /// Returns `words` with `every` as the host and as the only target platform.
 fn on_platform<'w, 'n, 's>(
-    words: &PlanWords<'w, '_, HeldSpecs<'s>>,
+    words: &PlanWords<'w, 'n, HeldSpecs<'s>>,
     every: &'n HeldSpecs<'s>,
 ) -> PlanWords<'w, 'n, HeldSpecs<'s>>
     ensures { words_text holds_on result ≡ spec.on_platform (holds_on every.now) (words_text holds_on words.now) }
