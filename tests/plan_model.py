@@ -509,12 +509,16 @@ def words_of(argv):
     return parser.parse_args(argv)
 
 
-def plan_of(document, words, platforms=platform_of_word):
-    """The lines of the plan for parsed words."""
-    selection = Selection(
+def selection_of(words, platforms=platform_of_word):
+    """The selection of parsed words."""
+    return Selection(
         platforms(words.host), [platforms(it) for it in words.target], words.resolver != '1', words.package, words.workspace,
         [it for word in words.features for it in re.split('[ ,]+', word) if it], words.all_features, words.no_default_features, words.tests)
-    return Plan(document, selection).lines()
+
+
+def plan_of(document, words, platforms=platform_of_word):
+    """The lines of the plan for parsed words."""
+    return Plan(document, selection_of(words, platforms)).lines()
 
 
 def fault_of(case, platforms):

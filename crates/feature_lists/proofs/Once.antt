@@ -1,21 +1,20 @@
 -- Texts that are gathered once each.
-use Rattle.std.proofs.Common.{◌≡◌, ◌∙◌, sym, ap, refl, subst, ℕ, ◌+◌, ◌<◌, List, [], ◌∷◌, ◌++◌, map, length, take, get_or, Bool, true, false, cond, not, filter, append-nil}
+use Rattle.std.proofs.Common.{◌≡◌, ◌∙◌, sym, ap, refl, List, [], ◌∷◌, ◌++◌, Bool, true, false, cond, not, filter, append-nil}
 use Rattle.std.specs.Prelude.{◌||◌}
 use Rattle.std.specs.Borrow.{Bor}
 use Rattle.std.specs.BTreeSet.{BTreeSet}
 use Rattle.std.specs.List.{list_any}
 use Rattle.std.specs.Ordering.{is_eq}
 use Rattle.std.specs.Str.{bytes_eq}
-use Rattle.std.proofs.lemmas.List.{take_more, map-append}
+use Rattle.std.proofs.lemmas.List.{map-append}
 use Rattle.std.proofs.lemmas.List.Elements.{filter-append}
 use Rattle.std.proofs.lemmas.List.Folds.{list_any-append}
 use Rattle.std.proofs.lemmas.Map.Text.{is_eq-slice_cmp}
 use Rattle.std.proofs.lemmas.Slice.Eq.{bytes_eq-Decides}
-use Rattle.cargo_workspaces.specs.Views.{declaration_text, texts}
+use Rattle.cargo_workspaces.specs.Views.{texts}
 use Rattle.cargo_workspaces.specs.Workspaces.{Text, text_cmp}
-use Rattle.cargo_workspaces.specs.declared.package.Declaration.{Declaration}
 use Rattle.feature_lists.specs.Lists.{once}
-use Rattle.feature_lists.specs.inner.Names.{AreOnce, HasTexts}
+use Rattle.feature_lists.specs.inner.Names.{AreOnce}
 
 both : (a b : Bool) → (a ≡ true → b ≡ true) → (b ≡ true → a ≡ true) → a ≡ b
 both true b f g = sym (f refl)
@@ -42,9 +41,6 @@ any_more all x q old new grown was =
     grown ∙ or_flip (is_eq (text_cmp x q)) old ∙ rw (list_any-append (bytes_eq q) all (x ∷ []), one, was) refl
 
 -- what is left of a text that is appended, if it isn't there
-left : (x y : Text) (a b : Bool) → filter (λ u. not (bytes_eq u y)) (cond b [] (x ∷ [])) ≡ cond b [] (cond (not a) (x ∷ []) []) → cond b [] (cond (not a) (x ∷ []) []) ≡ cond (a || b) [] (x ∷ []) → filter (λ u. not (bytes_eq u y)) (cond b [] (x ∷ [])) ≡ cond (a || b) [] (x ∷ [])
-left x y a b h k = h ∙ k
-
 left_cases : (x : Text) (a b : Bool) → cond b [] (cond (not a) (x ∷ []) []) ≡ cond (a || b) [] (x ∷ [])
 left_cases x true true = refl
 left_cases x true false = refl
@@ -72,22 +68,22 @@ was_not_there new false h k = refl
 was_not_there new true h k = absurd (let bad : false ≡ true = sym h ∙ k in cc)
 
 -- a name that is new
-pub once_new : (all : List Text) (old new : BTreeSet (Bor Text)) (names : List (Bor Text)) (x : Bor Text) (added : Bool)
+pub once_new : (all : List Text) (old new : BTreeSet (Bor Text)) (names more : List (Bor Text)) (x : Bor Text) (added : Bool)
     → ((q : Bor Text) → list_any (λ k. is_eq (text_cmp q.now k.now)) new.keys ≡ cond (is_eq (text_cmp x.now q.now)) true (list_any (λ k. is_eq (text_cmp q.now k.now)) old.keys))
-    → added ≡ not (list_any (λ k. is_eq (text_cmp x.now k.now)) old.keys) → added ≡ true → AreOnce all old names → AreOnce (all ++ x.now ∷ []) new (names ++ x ∷ [])
-once_new all old new names x added grown says yes was =
-    let none : list_any (bytes_eq x.now) all ≡ false = sym (was.are_seen x) ∙ was_not_there added _ says yes in
+    → added ≡ not (list_any (λ k. is_eq (text_cmp x.now k.now)) old.keys) → added ≡ true → more ≡ names ++ x ∷ [] → AreOnce all old names → AreOnce (all ++ x.now ∷ []) new more
+once_new all old new names more x added grown says is_new pushed was =
+    let none : list_any (bytes_eq x.now) all ≡ false = sym (was.are_seen x) ∙ was_not_there added _ says is_new in
     record {
       are_seen = λ q. any_more all x.now q.now _ _ (grown q) (was.are_seen q);
-      are_once = map-append (λ t. t.now) names (x ∷ []) ∙ ap (λ ts. ts ++ x.now ∷ []) was.are_once ∙ sym (once_more all x.now ∙ ap (λ b. once all ++ cond b [] (x.now ∷ [])) none);
+      are_once = ap texts pushed ∙ map-append (λ t. t.now) names (x ∷ []) ∙ ap (λ ts. ts ++ x.now ∷ []) was.are_once ∙ sym (once_more all x.now ∙ ap (λ b. once all ++ cond b [] (x.now ∷ [])) none);
     }
 
 -- a name that is there
 pub once_same : (all : List Text) (old new : BTreeSet (Bor Text)) (names : List (Bor Text)) (x : Bor Text) (added : Bool)
     → ((q : Bor Text) → list_any (λ k. is_eq (text_cmp q.now k.now)) new.keys ≡ cond (is_eq (text_cmp x.now q.now)) true (list_any (λ k. is_eq (text_cmp q.now k.now)) old.keys))
     → added ≡ not (list_any (λ k. is_eq (text_cmp x.now k.now)) old.keys) → added ≡ false → AreOnce all old names → AreOnce (all ++ x.now ∷ []) new names
-once_same all old new names x added grown says no was =
-    let there : list_any (bytes_eq x.now) all ≡ true = sym (was.are_seen x) ∙ was_there added _ says no in
+once_same all old new names x added grown says is_old was =
+    let there : list_any (bytes_eq x.now) all ≡ true = sym (was.are_seen x) ∙ was_there added _ says is_old in
     record {
       are_seen = λ q. any_more all x.now q.now _ _ (grown q) (was.are_seen q);
       are_once = was.are_once ∙ sym (once_more all x.now ∙ ap (λ b. once all ++ cond b [] (x.now ∷ [])) there ∙ append-nil (once all));

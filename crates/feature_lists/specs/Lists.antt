@@ -22,8 +22,11 @@ abbrev pub listed_features : (Side → LabelName → Bool) → List FeatureText 
 listed_features on features = map (λ f. listed_of on (named f.name) f.items) features
 
 -- An optional dependency has no items.
+abbrev pub listed_dependency : (Side → LabelName → Bool) → Text → ListedText
+listed_dependency on name = listed_of on (optional name) []
+
 abbrev pub listed_dependencies : (Side → LabelName → Bool) → List Text → List ListedText
-listed_dependencies on names = map (λ name. listed_of on (optional name) []) names
+listed_dependencies on names = map (listed_dependency on) names
 
 -- Each of the texts where it is first.
 abbrev pub once : List Text → List Text

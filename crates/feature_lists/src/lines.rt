@@ -37,13 +37,7 @@ fn on_word(two: bool, target: bool, host: bool) -> &'static str
         (true, true, false) => "on for target",
         (true, false, true) => "on for host",
         (true, false, false) => "off",
-        (false, target, host) => {
-            if target || host {
-                "on"
-            } else {
-                "off"
-            }
-        }
+        (false, target, host) => { if target || host { "on" } else { "off" } }
     }
 }
 

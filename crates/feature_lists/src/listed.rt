@@ -48,14 +48,16 @@ fn push_features<'p, 'v, T: LabelsOn>(
     ensures { OnOk result (map listed_text list.new.items ≡ map listed_text list.old.items ++ spec.listed_features (λ side. T.on on.now side ix) (map feature_text features.entry.now)) }
 {
     for feature in features {
-        list.push(listed_of(
-            ix,
-            on,
-            FeatureLabel::Named(feature.name),
-            &feature.items,
-        ))?;
+        list.push(listed_of(ix, on, FeatureLabel::Named(feature.name), &feature.items))?;
     }
     Ok(())
+}
+
+/// Returns what is shown of the optional dependency `name`, which is of package `ix`.
+fn listed_dependency<'p, 'v, T: LabelsOn>(ix: usize, on: &T, name: &'v str) -> Listed<'p, 'v>
+    ensures { listed_text result ≡ spec.listed_dependency (λ side. T.on on.now side ix) name.entry.now }
+{
+    listed_of(ix, on, FeatureLabel::OptionalDependency(name), &[])
 }
 
 /// Appends what is shown of the optional dependencies `names`, which are those of package `ix`.
@@ -67,13 +69,8 @@ fn push_dependencies<'p, 'v, T: LabelsOn>(
 ) -> Result<(), AllocError>
     ensures { OnOk result (map listed_text list.new.items ≡ map listed_text list.old.items ++ spec.listed_dependencies (λ side. T.on on.now side ix) (texts names.now)) }
 {
-    for name in names {
-        list.push(listed_of(
-            ix,
-            on,
-            FeatureLabel::OptionalDependency(name),
-            &[],
-        ))?;
+    for &name in names {
+        list.push(listed_dependency(ix, on, name))?;
     }
     Ok(())
 }

@@ -1,7 +1,7 @@
 -- Members of JSON objects, and lines that are JSON objects.
-use Rattle.std.specs.Prelude.{◌≡◌, ℕ, List, [], ◌∷◌, ◌++◌, Bool, Option, Some, None, map, codes}
+use Rattle.std.specs.Prelude.{◌≡◌, ℕ, List, [], ◌∷◌, ◌++◌, Bool, Option, Some, None, map}
 use Rattle.std.specs.Fmt.{decimal}
-use Rattle.json.specs.Token.{Token, begin_object, end_object, begin_array, end_array, key, string, number, boolean, null}
+use Rattle.json.specs.Token.{Token, end_object, begin_array, end_array, key, string, number, boolean, null}
 use Rattle.json.specs.Print.{print}
 use Rattle.json.specs.Written.{Written}
 

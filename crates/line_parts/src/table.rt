@@ -55,12 +55,7 @@ fn push_cell(text: &mut String, cell: &str, width: usize) -> Result<(), AllocErr
 }
 
 /// Appends the second and the third text.
-fn push_end(
-    text: &mut String,
-    second: &str,
-    third: &str,
-    width: usize,
-) -> Result<(), AllocError>
+fn push_end(text: &mut String, second: &str, third: &str, width: usize) -> Result<(), AllocError>
     ensures { OnOk result (string_bytes text.new ≡ string_bytes text.old ++ spec.line_end width second.now third.now) }
 {
     if third.is_empty() {
@@ -71,12 +66,7 @@ fn push_end(
 }
 
 /// Appends the line of `row`, in columns of these widths.
-fn push_row(
-    text: &mut String,
-    row: &Row,
-    first: usize,
-    second: usize,
-) -> Result<(), AllocError>
+fn push_row(text: &mut String, row: &Row, first: usize, second: usize) -> Result<(), AllocError>
     ensures { OnOk result (string_bytes text.new ≡ string_bytes text.old ++ spec.line_of first second (row_text row.now)) }
 {
     push_cell(text, row.first.as_str(), first)?;

@@ -1,23 +1,22 @@
 -- Maps that count texts, and the list of their entries.
-use Rattle.std.proofs.Common.{◌≡◌, ◌∙◌, sym, ap, refl, ℕ, zero, suc, ◌+◌, List, [], ◌∷◌, ◌++◌, map, length, Bool, true, false, cond, nat_lt, Option, Some, None, filter, arith}
+use Rattle.std.proofs.Common.{◌≡◌, ◌∙◌, sym, ap, refl, ℕ, zero, suc, ◌+◌, List, [], ◌∷◌, ◌++◌, map, length, Bool, true, false, cond, nat_lt, Some, None, filter, arith}
 use Rattle.std.specs.Prelude.{◌||◌}
 use Rattle.std.specs.Borrow.{Bor}
 use Rattle.std.specs.BTreeMap.{BTreeMap, IsOrdered, get_by, is_at}
-use Rattle.std.specs.Cmp.{IsTotalOrder}
 use Rattle.std.specs.List.{AllByRecursion, list_any}
 use Rattle.std.specs.List.Sorted.{IsStrictlySortedBy}
 use Rattle.std.specs.Map.{keys_of, lookup, update}
 use Rattle.std.specs.Option.{is_some, unwrap_or}
 use Rattle.std.specs.Ordering.{is_eq, ordering_reverse}
 use Rattle.std.specs.Str.{bytes_eq}
-use Rattle.std.specs.declared.cmp.Ordering.TheVariants.{Less, Equal, Greater}
+use Rattle.std.specs.declared.cmp.Ordering.TheVariants.{Less, Greater}
 use Rattle.std.proofs.lemmas.Cmp.{nat_list_cmp_total, tied_itself}
 use Rattle.std.proofs.lemmas.List.{length-append}
 use Rattle.std.proofs.lemmas.List.Elements.{filter-append}
 use Rattle.std.proofs.lemmas.Map.Text.{is_eq-slice_cmp}
 use Rattle.std.proofs.lemmas.Slice.Eq.{bytes_eq-Decides}
 use Rattle.cargo_workspaces.specs.Workspaces.{Text, text_cmp}
-use Rattle.spec_lists.specs.Lists.{AreOnce, CountedText, count_of, counted_of}
+use Rattle.spec_lists.specs.Lists.{CountedText, count_of, counted_of}
 use Rattle.spec_lists.specs.inner.Counts.{AreCounted, HasCounts, key_cmp, pair_text, some_count}
 
 positive : (n : ℕ) → nat_lt 0 (suc n) ≡ true

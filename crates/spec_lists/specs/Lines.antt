@@ -21,8 +21,9 @@ abbrev pub truth_text : Bool → List Text → Text
 truth_text several [] = if several then codes "holds nowhere" else codes "doesn't hold"
 truth_text several (first ∷ more) = if several then holds_on first more else codes "holds"
 
+-- The spec is last, for it may be long.
 abbrev pub row_of : Bool → ListedText → RowText
-row_of several l = record { first = l.spec; second = count_text l.count; third = truth_text several l.holds }
+row_of several l = record { first = count_text l.count; second = truth_text several l.holds; third = l.spec }
 
 abbrev pub table : Bool → List ListedText → Text
 table several list = table_of (map (row_of several) list)

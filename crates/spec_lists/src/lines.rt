@@ -76,9 +76,9 @@ fn truth_text(alloc: Global, several: bool, names: &[&str]) -> Result<String, Al
 fn row_of(alloc: Global, several: bool, listed: &Listed<'_, '_>) -> Result<Row, AllocError>
     ensures { IfOk result (λ row. row_text row ≡ spec.row_of several (listed_text listed.now)) }
 {
-    let first = String::from_str(alloc, listed.spec)?;
-    let second = count_text(alloc, listed.count)?;
-    let third = truth_text(alloc, several, &listed.holds)?;
+    let first = count_text(alloc, listed.count)?;
+    let second = truth_text(alloc, several, &listed.holds)?;
+    let third = String::from_str(alloc, listed.spec)?;
     Ok(Row {
         first,
         second,
@@ -87,11 +87,7 @@ fn row_of(alloc: Global, several: bool, listed: &Listed<'_, '_>) -> Result<Row, 
 }
 
 /// Returns the table of `list`, of one place or of several.
-fn table(
-    alloc: Global,
-    several: bool,
-    list: &[Listed<'_, '_>],
-) -> Result<String, AllocError>
+fn table(alloc: Global, several: bool, list: &[Listed<'_, '_>]) -> Result<String, AllocError>
     ensures { IfOk result (λ text. string_bytes text ≡ spec.table several (map listed_text list.now)) }
 {
     let mut rows = Vec::with_capacity(alloc, list.len())?;
@@ -101,8 +97,8 @@ fn table(
     table_of(alloc, &rows)
 }
 
-/// Returns a line for each of `specs`, once each and in the order of their bytes: the spec, the number of declarations that name it,
-/// and in which of `places` it holds.
+/// Returns a line for each of `specs`, once each and in the order of their bytes: the number of declarations that name it, in which of
+/// `places` it holds, and the spec. With one place it says whether the spec holds.
 pub fn spec_lines<P: Platform>(
     alloc: Global,
     specs: &[DeclaredSpec<'_>],

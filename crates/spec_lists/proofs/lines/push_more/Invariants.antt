@@ -1,4 +1,4 @@
-use Rattle.std.proofs.Common.{◌≡◌, ◌++◌, flat_map, map, drop}
+use Rattle.std.proofs.Common.{◌≡◌, ◌++◌, flat_map, drop}
 use Rattle.std.specs.String.{string_bytes}
 use Rattle.cargo_workspaces.specs.Views.{texts}
 use Rattle.spec_lists.specs.Lines.{after_comma}
