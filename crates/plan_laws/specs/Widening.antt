@@ -1,8 +1,9 @@
 -- Selections that are wider: more is started, tests are built, and more platform specs hold.
-use Rattle.std.specs.Prelude.{◌≡◌, ℕ, List, [], Bool, true, false, Contains, IsTrue, IsFalse, Option}
+use Rattle.std.specs.Prelude.{◌≡◌, ◌⊎◌, ℕ, List, Bool, true, false, Contains, IsTrue, IsFalse, Option, None}
 use Rattle.std.specs.List.{list_any}
 use Rattle.feature_labels.specs.Names.{LabelName}
 use Rattle.cargo_workspaces.specs.Workspaces.{DeclarationText, IsWorkspace, PackageText, Text, WorkspaceText}
+use Rattle.plan_words.specs.Choices.{root_of}
 use Rattle.plan_words.specs.FeatureWords.{is_slash}
 use Rattle.plan_words.specs.Selections.{SelectionText, all_members}
 use Rattle.plan_rows.specs.Steps.{SettingsText, admits}
@@ -38,33 +39,37 @@ abbrev pub LargerTurnsNothingOff : Type 0
 LargerTurnsNothingOff = (w : WorkspaceText) (s t : SettingsText) (selected others : List ℕ) (p q : PlanText) → IsWorkspace w
     → SettingsGrow w s t → IsPlan w s selected p → IsPlan w t others q → IsOnIn p q
 
--- All members with all their features.
-abbrev pub widest_selection : Bool → SelectionText
-widest_selection split = record { packages = all_members; features = []; all_features = true; no_default_features = false; split = split }
+-- All members with all their features, and perhaps feature words.
+abbrev pub widest_selection : Bool → List Text → SelectionText
+widest_selection split features = record { packages = all_members; features = features; all_features = true; no_default_features = false; split = split }
 
 -- THE WIDEST WORDS: all members with all their features, and tests; and each declaration applies on the host, and on one of the targets.
 pub record IsWidest (w : WorkspaceText) (words : WordsText) : Type 0 where
-  pub selection : words.selection ≡ widest_selection words.selection.split
+  pub selection : words.selection ≡ widest_selection words.selection.split words.selection.features
   pub test : IsTrue words.test
   pub host : OfDeclarations w (λ d. IsTrue (admits words.host d.platform))
   pub targets : OfDeclarations w (λ d. IsTrue (admits_any words.targets d.platform))
 
--- The feature words ask for no feature of a dependency: none is `DEPENDENCY/FEATURE`.
-abbrev pub AsksNoDependency : WordsText → Type 0
-AsksNoDependency words = (f : Text) → Contains words.selection.features f → IsFalse (list_any is_slash f)
+-- A feature word that isn't `DEPENDENCY/FEATURE`; or one of these words, if each member takes those that fit it.
+abbrev pub IsOneOf : WorkspaceText → SelectionText → Text → Type 0
+IsOneOf w s word = IsFalse (list_any is_slash word) ⊎ (Contains s.features word × (root_of w s ≡ None))
 
--- THE WIDEST WORDS TURN ON all that words with the same resolver do, if those ask for no feature of a dependency.
+-- Words that the widest words cover: with the same resolver, and without a word about a feature of a dependency, but those of the widest.
+pub record IsCovered (w : WorkspaceText) (words widest : WordsText) : Type 0 where
+  pub split : words.selection.split ≡ widest.selection.split
+  pub features : (f : Text) → Contains words.selection.features f → IsOneOf w widest.selection f
+
+-- THE WIDEST WORDS TURN ON all that the words do which they cover.
 abbrev pub WidestTurnsAllOn : Type 0
 WidestTurnsAllOn = (w : WorkspaceText) (words widest : WordsText) (p q : PlanText) → IsWorkspace w
-    → words.selection.split ≡ widest.selection.split → AsksNoDependency words → IsWidest w widest
-    → IsPlanOf w words p → IsPlanOf w widest q → IsOnIn p q
+    → IsWidest w widest → IsCovered w words widest → IsPlanOf w words p → IsPlanOf w widest q → IsOnIn p q
 
 -- A label of package `k` is off, on both sides.
 abbrev pub IsOff : PlanText → ℕ → LabelName → Type 0
 IsOff plan k label = (side : Side) → IsFalse (is_on plan.on side k label)
 
--- NO SELECTION TURNS ON what is off in the plan of the widest words.
+-- NO SELECTION TURNS ON what is off in the plan of the widest words: all words that they cover leave it off.
 abbrev pub NoSelectionTurnsOn : Type 0
 NoSelectionTurnsOn = (w : WorkspaceText) (widest : WordsText) (q : PlanText) → IsWorkspace w → IsWidest w widest → IsPlanOf w widest q
     → (k : ℕ) (label : LabelName) → IsOff q k label
-    → (words : WordsText) (p : PlanText) → words.selection.split ≡ widest.selection.split → AsksNoDependency words → IsPlanOf w words p → IsOff p k label
+    → (words : WordsText) (p : PlanText) → IsCovered w words widest → IsPlanOf w words p → IsOff p k label
