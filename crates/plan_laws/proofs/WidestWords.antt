@@ -1,5 +1,5 @@
 -- The widest words turn on all that other words do.
-use Rattle.std.proofs.Common.{◌≡◌, ◌⊎◌, inl, inr, ⊎_elim, ℕ, ◌+◌, List, [], ◌∷◌, ◌++◌, Bool, true, false, not, Option, None, Some, Ok, length, map, refl, ap, sym, ◌∙◌, subst, if◌then◌else◌, codes, eq-eqb}
+use Rattle.std.proofs.Common.{◌≡◌, ◌⊎◌, inl, inr, ⊎_elim, ℕ, ◌+◌, List, [], ◌∷◌, ◌++◌, Bool, true, false, not, Option, None, Some, Ok, length, map, refl, ap, sym, ◌∙◌, subst, if◌then◌else◌, codes, arith, eq-eqb}
 use Rattle.std.specs.Prelude.{◌==◌, ◌&&◌, Contains, filter, nat_eq, option_and_then, slice_get}
 use Rattle.std.specs.Cmp.Lexicographic.{bytes_decides}
 use Rattle.std.specs.List.{after_first, before_first, list_any}
@@ -54,7 +54,7 @@ first_none {X} {Y} f (z ∷ xs) x h c = ⊎_elim
     tail None e = e
     tail (Some y) e = absurd (cc)
 
-names : PackageText → List Text
+abbrev names : PackageText → List Text
 names x = map (λ f. f.name) x.features
 
 named_there : (x : PackageText) (name : Text) → has_feature x name ≡ true → Contains (names x) name
@@ -192,11 +192,13 @@ module _ (w : WorkspaceText) (s : SelectionText) (packages : List ℕ) (root : O
         let r = command_back s small 0 w.packages p (Some f) (command_there (commands_from s small 0 w.packages) p f h) in
         let at = command_at widest wide 0 w.packages p r.0 r.1 in
         let one = value_some (list_any (nat_eq (0 + p)) small.members) (command s small.words (0 + p) r.0) f r.2 in
-        let begun = started_more w (0 + p) root packages s.features extra one.0 in (
+        let begun = started_more w (0 + p) root packages s.features extra one.0 in
+        let number : p ≡ 0 + p = omega arith in
+        let there : slice_get w.packages (0 + p) ≡ Some r.0 = subst (λ n. slice_get w.packages n ≡ Some r.0) number r.1 in (
           command widest wide.words (0 + p) r.0,
           ap (option_and_then (λ c. c)) at ∙ ap (λ b. value_if b (command widest wide.words (0 + p) r.0)) begun,
           ap (λ (z : FeatureText). z.name) one.1,
-          λ i c. items_there (0 + p) r.0 r.1 one.0 i (subst (λ (z : FeatureText). Contains z.items i) (sym one.1) c),
+          λ i c. items_there (0 + p) r.0 there one.0 i (subst (λ (z : FeatureText). Contains z.items i) (sym one.1) c),
         )
 
 -- The words' packages and command features.
