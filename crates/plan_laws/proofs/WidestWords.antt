@@ -20,7 +20,7 @@ use Rattle.plan_words.specs.Refusals.{Refusal, no_feature, unless, ◌>>=◌}
 use Rattle.plan_words.specs.Selections.{SelectionText}
 use Rattle.cargo_plans.specs.Plans.{settings_by}
 use Rattle.plan_laws.specs.Growth.{CommandsGrow}
-use Rattle.plan_laws.specs.Widening.{IsOneOf, NoSelectionTurnsOn, SettingsGrow, WidestTurnsAllOn, widest_selection}
+use Rattle.plan_laws.specs.Widening.{CoversWord, NoSelectionTurnsOn, SettingsGrow, WidestTurnsAllOn, widest_selection}
 use Rattle.plan_laws.proofs.Members.{any_member, both_true, from_filter_map, member_any, one_if, same_some}
 use Rattle.plan_laws.proofs.MoreEntries.{into_filter_map}
 use Rattle.plan_laws.proofs.MoreSteps.{command_there}
@@ -215,7 +215,7 @@ chosen_by w s chosen h =
     let same : made_by ≡ chosen = same_ok made_by chosen v.2 in
     record { packages = r.0; are_selected = r.1; begun = subst (λ (c : ChosenText). IsBegun w s r.0 c.commands) same (begun_by w s r.0 v.0 v.1) }
 
-choices_grow : (w : WorkspaceText) (s : SelectionText) (split : Bool) (extra : List Text) → s.split ≡ split → ((f : Text) → Contains s.features f → IsOneOf w (widest_selection split extra) f)
+choices_grow : (w : WorkspaceText) (s : SelectionText) (split : Bool) (extra : List Text) → s.split ≡ split → ((f : Text) → Contains s.features f → CoversWord w (widest_selection split extra) f)
     → (a b : ChosenText) → choose w s ≡ Ok a → choose w (widest_selection split extra) ≡ Ok b → CommandsGrow a.commands b.commands
 choices_grow w s split extra same covered a b x y =
     let widest = widest_selection split extra in
@@ -236,7 +236,7 @@ widest_turns_all_on w words widest p q is wide covered a b =
     (record {
       split = covered.split;
       test = λ h. wide.test;
-      commands = choices_grow w words.selection widest.selection.split widest.selection.features covered.split (λ f i. subst (λ z. IsOneOf w z f) wide.selection (covered.features f i))
+      commands = choices_grow w words.selection widest.selection.split widest.selection.features covered.split (λ f i. subst (λ z. CoversWord w z f) wide.selection (covered.features f i))
           a.chosen b.chosen a.are_accepted (subst (λ z. choose w z ≡ Ok b.chosen) wide.selection b.are_accepted);
       host = λ x c d i h. wide.host x c d i;
       targets = λ x c d i h. wide.targets x c d i;

@@ -17,7 +17,7 @@ use Rattle.plan_laws.specs.Growth.{CommandsGrow}
 abbrev pub admits_any : List (Text → Bool) → Option Text → Bool
 admits_any targets platform = list_any (λ holds. admits holds platform) targets
 
--- What each declaration of the workspace has.
+-- Each declaration of the workspace has the property.
 abbrev pub OfDeclarations : WorkspaceText → (DeclarationText → Type 0) → Type 0
 OfDeclarations w P = (x : PackageText) → Contains w.packages x → (d : DeclarationText) → Contains x.declarations d → P d
 
@@ -50,16 +50,16 @@ pub record IsWidest (w : WorkspaceText) (words : WordsText) : Type 0 where
   pub host : OfDeclarations w (λ d. IsTrue (admits words.host d.platform))
   pub targets : OfDeclarations w (λ d. IsTrue (admits_any words.targets d.platform))
 
--- A feature word that isn't `DEPENDENCY/FEATURE`; or one of these words, if each member takes those that fit it.
-abbrev pub IsOneOf : WorkspaceText → SelectionText → Text → Type 0
-IsOneOf w s word = IsFalse (list_any is_slash word) ⊎ (Contains s.features word × (root_of w s ≡ None))
+-- A feature word that isn't `DEPENDENCY/FEATURE`; or one of the selection's, if each member takes the words that fit it.
+abbrev pub CoversWord : WorkspaceText → SelectionText → Text → Type 0
+CoversWord w s word = IsFalse (list_any is_slash word) ⊎ (Contains s.features word × (root_of w s ≡ None))
 
--- Words that the widest words cover: with the same resolver, and without a word about a feature of a dependency, but those of the widest.
+-- Words that the widest words cover: the resolver is the same, and no feature word is `DEPENDENCY/FEATURE`, but those of the widest words.
 pub record IsCovered (w : WorkspaceText) (words widest : WordsText) : Type 0 where
   pub split : words.selection.split ≡ widest.selection.split
-  pub features : (f : Text) → Contains words.selection.features f → IsOneOf w widest.selection f
+  pub features : (f : Text) → Contains words.selection.features f → CoversWord w widest.selection f
 
--- THE WIDEST WORDS TURN ON all that the words do which they cover.
+-- THE WIDEST WORDS TURN ON all that the words do that they cover.
 abbrev pub WidestTurnsAllOn : Type 0
 WidestTurnsAllOn = (w : WorkspaceText) (words widest : WordsText) (p q : PlanText) → IsWorkspace w
     → IsWidest w widest → IsCovered w words widest → IsPlanOf w words p → IsPlanOf w widest q → IsOnIn p q
