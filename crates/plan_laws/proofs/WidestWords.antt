@@ -7,20 +7,20 @@ use Rattle.std.specs.Option.{option_or}
 use Rattle.std.specs.Str.{bytes_eq}
 use Rattle.std.proofs.lemmas.Bool.{eqb-true}
 use Rattle.std.proofs.lemmas.List.Elements.{Contains-append_cases, Contains-append_left, Contains-append_right}
-use Rattle.feature_core.proofs.AddsLemmas.{Contains-cases, Contains-none}
+use Rattle.feature_core.proofs.AddsLemmas.{Contains-cases, Contains-none, element_at_place}
 use Rattle.feature_core.proofs.PushLemmas.{from_filter, from_map, into_filter, into_map}
 use Rattle.cargo_workspaces.specs.Workspaces.{FeatureText, PackageText, Text, WorkspaceText}
 use Rattle.plan_rows.specs.Commands.{command_of}
 use Rattle.plan_starts.specs.PackageVisits.{is_on}
 use Rattle.plan_words.specs.Choices.{ChosenText, StartedText, choose, command, commands_from, commands_of, members_among, root_of, started}
-use Rattle.plan_words.specs.FeatureWords.{Addressed, PartsText, WordsText, addressed, addressed_by, each_takes, first_of, has_feature, is_slash, items_of_words, may_ask, own_item, own_item_by, parts_of, root_takes, takes_defaults, usual_items, value_if, without_mark}
-use Rattle.plan_words.specs.ItemChecks.{item_refusal, item_refusal_by, member_refusal}
+use Rattle.plan_words.specs.FeatureWords.{Addressed, PartsText, addressed, addressed_by, addressed_to, first_of, has_feature, is_slash, items_of_words, may_ask, member_called, own_item, own_item_by, parts_of, takes_defaults, usual_items, value_if, without_mark}
+use Rattle.plan_words.specs.ItemChecks.{dependency_refusal, item_refusal, item_refusal_by, lead_refusal, member_refusal}
 use Rattle.plan_words.specs.PackageWords.{selected}
-use Rattle.plan_words.specs.Refusals.{Refusal, no_feature, unless, ◌>>=◌}
+use Rattle.plan_words.specs.Refusals.{Refusal, no_dependency, no_feature, unless, ◌>>=◌}
 use Rattle.plan_words.specs.Selections.{SelectionText}
 use Rattle.cargo_plans.specs.Plans.{settings_by}
 use Rattle.plan_laws.specs.Growth.{CommandsGrow}
-use Rattle.plan_laws.specs.Widening.{CoversWord, NoSelectionTurnsOn, SettingsGrow, WidestTurnsAllOn, widest_selection}
+use Rattle.plan_laws.specs.Widening.{AsksNoDependency, CoversWord, NoSelectionTurnsOn, SettingsGrow, WidestTurnsAllOn, widest_selection}
 use Rattle.plan_laws.proofs.Members.{any_member, both_true, from_filter_map, member_any, one_if, same_some}
 use Rattle.plan_laws.proofs.MoreEntries.{into_filter_map}
 use Rattle.plan_laws.proofs.MoreSteps.{command_there}
@@ -62,20 +62,52 @@ named_there x name h =
     let m = member_any (λ (f : FeatureText). bytes_eq f.name name) x.features h in
     subst (λ z. Contains (names x) z) ((bytes_decides m.element.name name).0 m.passes) (into_map (λ (f : FeatureText). f.name) x.features m.element m.member)
 
--- Items of words without a slash.
+-- Items of words that ask for no feature of a dependency.
 
 no_parts : (word : Text) → list_any is_slash word ≡ false → parts_of word ≡ None
 no_parts word h = ap (λ b. value_if {X = PartsText} b (record { name = without_mark (before_first is_slash word); feature = after_first is_slash word })) h
 
-own_same : (word : Text) (x : PackageText) (i : Text) → list_any is_slash word ≡ false → own_item word x ≡ Some i → word ≡ i
-own_same word x i plain h = (value_some (may_ask x word) word i (sym (ap (own_item_by word x) (no_parts word plain)) ∙ h)).1
+-- what isn't refused is a feature
+module _ (w : WorkspaceText) (m : ℕ) (x : PackageText) (of_w : Contains w.packages x) (i : Text) (fine : item_refusal w m x i ≡ None) where
+  as_named : parts_of i ≡ None → Contains (names x) i
+  as_named plain = named_there x i (value_none (has_feature x i) (no_feature m i) (sym (ap (item_refusal_by w m x i) plain) ∙ fine))
 
-addressed_same : (w : WorkspaceText) (root : ℕ) (chosen : List ℕ) (word : Text) → list_any is_slash word ≡ false → (addressed w root chosen word).item ≡ word
-addressed_same w root chosen word plain = ap (λ o. (addressed_by w root chosen word o).item) (no_parts word plain)
+  own_named : (word : Text) → AsksNoDependency w word → own_item word x ≡ Some i → Contains (names x) i
+  own_named word asks h = go (parts_of word) refl h
+    where
+      go : (o : Option PartsText) → parts_of word ≡ o → own_item_by word x o ≡ Some i → Contains (names x) i
+      go None e j = as_named (ap parts_of (sym (value_some (may_ask x word) word i j).1) ∙ e)
+      go (Some parts) e j =
+          let a = asks parts e in
+          let fits : Bool = bytes_eq parts.name x.name && may_ask x parts.feature in
+          let item : value_if fits parts.feature ≡ Some i = sym (ap (λ b. if b then Some word else value_if fits parts.feature) (a.1 x of_w)) ∙ j in
+          as_named (ap parts_of (sym (value_some fits parts.feature i item).1) ∙ no_parts parts.feature a.0)
 
--- an item that isn't refused, without a slash, is a feature
-accepted : (w : WorkspaceText) (m : ℕ) (x : PackageText) (i : Text) → list_any is_slash i ≡ false → item_refusal w m x i ≡ None → has_feature x i ≡ true
-accepted w m x i plain h = value_none (has_feature x i) (no_feature m i) (sym (ap (item_refusal_by w m x i) (no_parts i plain)) ∙ h)
+  addressed_named : (root : ℕ) (chosen : List ℕ) (word : Text) → AsksNoDependency w word → (addressed w root chosen word).item ≡ i → Contains (names x) i
+  addressed_named root chosen word asks h = go (parts_of word) refl h
+    where
+      chosen_as : Text → ℕ → Bool → Addressed
+      chosen_as feature k b = if b then record { to = k; item = feature } else record { to = root; item = word }
+
+      refused : (parts : PartsText) → parts_of word ≡ Some parts → word ≡ i → Contains (names x) i
+      refused parts e same =
+          let there : parts_of i ≡ Some parts = ap parts_of (sym same) ∙ e in
+          let none : dependency_refusal w m x parts.name parts.feature ≡ None = sym (ap (item_refusal_by w m x i) there) ∙ fine in
+          let clash : ◌≡◌ {A = Option Refusal} (Some (no_dependency m parts.name)) None =
+          sym (ap (λ b. if b then first_of (lead_refusal w parts.name parts.feature) x.declarations else Some (no_dependency m parts.name)) ((asks parts e).1 x of_w)) ∙ none in
+          absurd (cc)
+
+      pick : (parts : PartsText) → parts_of word ≡ Some parts → (k : ℕ) (b : Bool) → (chosen_as parts.feature k b).item ≡ i → Contains (names x) i
+      pick parts e k true j = as_named (ap parts_of (sym j) ∙ no_parts parts.feature (asks parts e).0)
+      pick parts e k false j = refused parts e j
+
+      to : (parts : PartsText) → parts_of word ≡ Some parts → (o : Option ℕ) → (addressed_to root chosen word parts.feature o).item ≡ i → Contains (names x) i
+      to parts e None j = refused parts e j
+      to parts e (Some k) j = pick parts e k (not (nat_eq k root) && list_any (nat_eq k) chosen) j
+
+      go : (o : Option PartsText) → parts_of word ≡ o → (addressed_by w root chosen word o).item ≡ i → Contains (names x) i
+      go None e j = as_named (ap parts_of (sym j) ∙ e)
+      go (Some parts) e j = to parts e (member_called w parts.name) j
 
 -- the items besides words are features
 usual_named : (s : SelectionText) (b : Bool) (x : PackageText) (i : Text) → Contains (usual_items s b x) i → Contains (names x) i
@@ -140,7 +172,7 @@ begun_by w s packages commands h =
       made_of = ap (λ (z : StartedText). commands_from s z 0 w.packages) same ∙ unless_ok (first_of (member_refusal w r.0.words) r.0.members) (commands_from s r.0 0 w.packages) commands r.2;
     }
 
-module _ (w : WorkspaceText) (s : SelectionText) (packages : List ℕ) (root : Option ℕ) (split : Bool) (extra : List Text) (covered : (f : Text) → Contains s.features f → (list_any is_slash f ≡ false) ⊎ (Contains extra f × (root ≡ None))) where
+module _ (w : WorkspaceText) (s : SelectionText) (packages : List ℕ) (root : Option ℕ) (split : Bool) (extra : List Text) (covered : (f : Text) → Contains s.features f → AsksNoDependency w f ⊎ (Contains extra f × (root ≡ None))) where
   abbrev small : StartedText
   small = shape w root (members_among w packages) s.features
 
@@ -150,22 +182,21 @@ module _ (w : WorkspaceText) (s : SelectionText) (packages : List ℕ) (root : O
   abbrev widest : SelectionText
   widest = widest_selection split extra
 
-  -- an item of words has no slash, or is there too
-  item_covered : (root : Option ℕ) → ((f : Text) → Contains s.features f → (list_any is_slash f ≡ false) ⊎ (Contains extra f × (root ≡ None))) → (chosen others : List ℕ) (m : ℕ) (x : PackageText) (i : Text)
-      → Contains (items_of_words (shape w root chosen s.features).words m x) i → (list_any is_slash i ≡ false) ⊎ Contains (items_of_words (shape w root others extra).words m x) i
-  item_covered None covers chosen others m x i h =
+  -- an item of words is a feature, or is there too
+  item_covered : (root : Option ℕ) → ((f : Text) → Contains s.features f → AsksNoDependency w f ⊎ (Contains extra f × (root ≡ None))) → (chosen others : List ℕ) (m : ℕ) (x : PackageText) (i : Text)
+      → Contains w.packages x → item_refusal w m x i ≡ None → Contains (items_of_words (shape w root chosen s.features).words m x) i → Contains (names x) i ⊎ Contains (items_of_words (shape w root others extra).words m x) i
+  item_covered None covers chosen others m x i of_w fine h =
       let r = from_filter_map (λ word. own_item word x) s.features i h in
       ⊎_elim
-      (λ plain. inl (subst (λ z. list_any is_slash z ≡ false) (own_same r.0 x i plain r.2) plain))
+      (λ asks. inl (own_named w m x of_w i fine r.0 asks r.2))
       (λ c. inr (into_filter_map (λ word. own_item word x) extra r.0 i c.0 r.2))
       (covers r.0 r.1)
-  item_covered (Some n) covers chosen others m x i h =
+  item_covered (Some n) covers chosen others m x i of_w fine h =
       let r = from_filter_map (λ (a : Addressed). value_if (nat_eq a.to m) a.item) (map (addressed w n chosen) s.features) i h in
       let q = from_map (addressed w n chosen) s.features r.0 r.1 in
       let same : r.0.item ≡ i = (value_some (nat_eq r.0.to m) r.0.item i r.2).1 in
       ⊎_elim
-      (λ plain. let word : q.0 ≡ r.0.item = sym (addressed_same w n chosen q.0 plain) ∙ ap (λ (a : Addressed). a.item) q.2 in
-      inl (subst (λ z. list_any is_slash z ≡ false) (word ∙ same) plain))
+      (λ asks. inl (addressed_named w m x of_w i fine n chosen q.0 asks (ap (λ (a : Addressed). a.item) q.2 ∙ same)))
       (λ c. let clash : ◌≡◌ {A = Option ℕ} (Some n) None = c.1 in absurd (cc))
       (covers q.0 q.1)
 
@@ -177,13 +208,13 @@ module _ (w : WorkspaceText) (s : SelectionText) (packages : List ℕ) (root : O
     items_there : (m : ℕ) (x : PackageText) → slice_get w.packages m ≡ Some x → list_any (nat_eq m) small.members ≡ true
         → (i : Text) → Contains (command s small.words m x).items i → Contains (command widest wide.words m x).items i
     items_there m x there begun i h = ⊎_elim
-        (λ j. ⊎_elim
-        (λ plain.
+        (λ j.
         let one = first_none (member_refusal w small.words) small.members m fine (in_member w m small.members begun) in
         let all : first_of (item_refusal w m x) (items_of_words small.words m x) ≡ None = sym (ap (option_and_then (λ p. first_of (item_refusal w m p) (items_of_words small.words m p))) there) ∙ one in
-        all_named m x i (named_there x i (accepted w m x i plain (first_none (item_refusal w m x) (items_of_words small.words m x) i all j))))
+        ⊎_elim
+        (λ k. all_named m x i k)
         (λ k. Contains-append_left (items_of_words wide.words m x) (usual_items widest (takes_defaults wide.words m) x) i k)
-        (item_covered root covered (members_among w packages) (members_among w w.members) m x i j))
+        (item_covered root covered (members_among w packages) (members_among w w.members) m x i (element_at_place w.packages m x there) (first_none (item_refusal w m x) (items_of_words small.words m x) i all j) j))
         (λ j. all_named m x i (usual_named s (takes_defaults small.words m) x i j))
         (Contains-append_cases (items_of_words small.words m x) (usual_items s (takes_defaults small.words m) x) i h)
 
@@ -228,7 +259,7 @@ choices_grow w s split extra same covered a b x y =
     (subst (λ z. CommandsGrow (commands_from s begun 0 w.packages) z) d.begun.made_of
     (subst (λ z. CommandsGrow (commands_from s begun 0 w.packages) (commands_from widest (shape w (root_of w widest) (members_among w z) extra) 0 w.packages)) members
     (subst (λ z. CommandsGrow (commands_from s begun 0 w.packages) (commands_from widest (shape w z (members_among w w.members) extra) 0 w.packages)) root
-    (widest_grow w s c.packages (root_of w s) split extra (λ f i. ⊎_elim (λ plain. inl plain) (λ e. inr (e.0, root ∙ e.1)) (covered f i)) c.begun.fine))))
+    (widest_grow w s c.packages (root_of w s) split extra (λ f i. ⊎_elim (λ asks. inl asks) (λ e. inr (e.0, root ∙ e.1)) (covered f i)) c.begun.fine))))
 
 pub widest_turns_all_on : WidestTurnsAllOn
 widest_turns_all_on w words widest p q is wide covered a b =

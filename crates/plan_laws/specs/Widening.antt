@@ -1,10 +1,10 @@
 -- Selections that are wider: more is started, tests are built, and more platform specs hold.
-use Rattle.std.specs.Prelude.{◌≡◌, ◌⊎◌, ℕ, List, Bool, true, false, Contains, IsTrue, IsFalse, Option, None}
+use Rattle.std.specs.Prelude.{◌≡◌, ◌⊎◌, ℕ, List, Bool, true, false, Contains, IsTrue, IsFalse, Option, None, Some}
 use Rattle.std.specs.List.{list_any}
 use Rattle.feature_labels.specs.Names.{LabelName}
 use Rattle.cargo_workspaces.specs.Workspaces.{DeclarationText, IsWorkspace, PackageText, Text, WorkspaceText}
 use Rattle.plan_words.specs.Choices.{root_of}
-use Rattle.plan_words.specs.FeatureWords.{is_slash}
+use Rattle.plan_words.specs.FeatureWords.{PartsText, declares, is_slash, parts_of}
 use Rattle.plan_words.specs.Selections.{SelectionText, all_members}
 use Rattle.plan_rows.specs.Steps.{SettingsText, admits}
 use Rattle.plan_rows.specs.declared.side.Side.{Side}
@@ -50,11 +50,17 @@ pub record IsWidest (w : WorkspaceText) (words : WordsText) : Type 0 where
   pub host : OfDeclarations w (λ d. IsTrue (admits words.host d.platform))
   pub targets : OfDeclarations w (λ d. IsTrue (admits_any words.targets d.platform))
 
--- A feature word that isn't `DEPENDENCY/FEATURE`; or one of the selection's, if each member takes the words that fit it.
-abbrev pub CoversWord : WorkspaceText → SelectionText → Text → Type 0
-CoversWord w s word = IsFalse (list_any is_slash word) ⊎ (Contains s.features word × (root_of w s ≡ None))
+-- A feature word that asks for no feature of a dependency: if it is `NAME/FEATURE`, no package declares a dependency NAME.
+abbrev pub AsksNoDependency : WorkspaceText → Text → Type 0
+AsksNoDependency w word = (parts : PartsText) → parts_of word ≡ Some parts
+    → IsFalse (list_any is_slash parts.feature) × ((x : PackageText) → Contains w.packages x → IsFalse (declares x parts.name))
 
--- Words that the widest words cover: the resolver is the same, and no feature word is `DEPENDENCY/FEATURE`, but those of the widest words.
+-- Such a word; or one of the selection's, if each member takes the words that fit it.
+abbrev pub CoversWord : WorkspaceText → SelectionText → Text → Type 0
+CoversWord w s word = AsksNoDependency w word ⊎ (Contains s.features word × (root_of w s ≡ None))
+
+-- Words that the widest words cover: the resolver is the same, and no feature word asks for a feature of a dependency, but those of the
+-- widest words.
 pub record IsCovered (w : WorkspaceText) (words widest : WordsText) : Type 0 where
   pub split : words.selection.split ≡ widest.selection.split
   pub features : (f : Text) → Contains words.selection.features f → CoversWord w widest.selection f

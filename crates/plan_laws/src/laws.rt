@@ -33,8 +33,8 @@ pub fn larger_turns_nothing_off()
 {}
 
 /// States that all members with all their features, with tests, and with each platform spec of the workspace, turn on all that any other
-/// words do, if these have the same resolver and no feature word `DEPENDENCY/FEATURE` of their own. So what is off in that plan is off
-/// in each of theirs.
+/// words do, if these have the same resolver and ask for no feature of a dependency on their own. So what is off in that plan is off in
+/// each of theirs.
 pub fn no_selection_turns_on()
     ensures widest { WidestTurnsAllOn }
     ensures off { NoSelectionTurnsOn }
