@@ -14,7 +14,7 @@ use Rattle.feats_files.specs.Messages.{joined}
 use Rattle.feats_files.specs.Platforms.{AreHeldOnEach, IsSpecRefusal}
 use Rattle.feats_tool.specs.Bases.{BasisText, IsBasis, IsBasisRefusal}
 use Rattle.feats_tool.specs.Inputs.{InputsText}
-use Rattle.feats_tool.specs.PlanMessages.{plan_message}
+use Rattle.plan_messages.specs.Messages.{plan_message}
 use Rattle.feats_tool.specs.Selections.{words_of}
 use Rattle.feats_tool.specs.Texts.{text_of_units}
 

@@ -6,7 +6,6 @@ mod basis;
 mod documents;
 mod engine;
 mod inputs;
-mod plan_messages;
 mod planning;
 mod texts;
 mod word_faults;

@@ -13,13 +13,13 @@ ghost use Rattle.feats_tool.specs.Selections as spec;
 
 use crate::basis::Basis;
 use crate::inputs::PlanFiles;
-use crate::plan_messages::plan_refused;
 use crate::texts::text_of_units;
 use cargo_plans::{PackageChoice, PlanFault, PlanWords, Selection, plan};
 use cargo_workspaces::Workspace;
 use feats_files::{Fault, held_on, held_on_each};
 use feats_words::PlanArguments;
 use manifest_resolvers::Resolver;
+use plan_messages::plan_refused;
 use plan_platforms::{HeldSpecs, declared_specs};
 use std::alloc::Global;
 

@@ -112,6 +112,12 @@ names_more names i x t within is text =
     sym (ap (map string_bytes) (take_more names i x within) ∙ map-append string_bytes (take i names) (get_or names i x ∷ [])
     ∙ ap (λ y. map string_bytes (take i names) ++ y ∷ []) (sym (text ∙ ap string_bytes is)))
 
+-- the names of the packages up to the next one
+pub described_more : {X Y : Type 0} (f : Y → Text) (g : X → Y) (xs : List X) (i : ℕ) (x : X) → i < length xs → x ≡ get_or xs i x → map f (map g (take i xs)) ++ f (g x) ∷ [] ≡ map f (map g (take (i + 1) xs))
+described_more f g xs i x within is =
+    sym (ap (λ ys. map f (map g ys)) (take_more xs i x within) ∙ ap (map f) (map-append g (take i xs) (get_or xs i x ∷ [])) ∙ map-append f (map g (take i xs)) (g (get_or xs i x) ∷ [])
+    ∙ ap (λ y. map f (map g (take i xs)) ++ f (g y) ∷ []) (sym is))
+
 -- a text that isn't new was there
 pub was_there : (new there : Bool) → new ≡ not there → new ≡ false → there ≡ true
 was_there new true h k = refl

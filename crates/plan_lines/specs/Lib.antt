@@ -1,4 +1,5 @@
 pub mod Lines
 pub mod Objects
+pub mod Repeats
 pub mod Views
 pub mod inner

@@ -3,7 +3,8 @@ ghost use Rattle.std.specs.Prelude.{◌≡◌, ◌++◌, ◌∷◌, [], List, If
 ghost use Rattle.cargo_workspaces.specs.Workspaces.{Text};
 ghost use Rattle.cargo_workspaces.specs.Views.{package_text};
 ghost use Rattle.plan_lines.specs.Lines as spec;
-ghost use Rattle.plan_lines.specs.inner.Sets.{HasRepeated, HasTexts};
+ghost use Rattle.plan_lines.specs.Repeats.{HasRepeated};
+ghost use Rattle.plan_lines.specs.inner.Sets.{HasTexts};
 
 use cargo_workspaces::Package;
 use std::alloc::{AllocError, Global};
@@ -20,7 +21,7 @@ pub(crate) fn name_of(alloc: Global, package: &Package<'_>) -> Result<String, Al
 }
 
 /// Returns the name and the version of each of `packages`.
-pub(crate) fn names_of(alloc: Global, packages: &[Package<'_>]) -> Result<Vec<String>, AllocError>
+pub fn names_of(alloc: Global, packages: &[Package<'_>]) -> Result<Vec<String>, AllocError>
     ensures { IfOk result (λ names. map string_bytes names.items ≡ map spec.name_of (map package_text packages.now)) }
 {
     let mut names = Vec::with_capacity(alloc, packages.len())?;
@@ -45,16 +46,28 @@ fn note<'n>(
 }
 
 /// Returns the texts that are in `names` more than once.
-pub(crate) fn repeated_in<'n>(
-    alloc: Global,
-    names: &'n [String],
-) -> Result<BTreeSet<&'n str>, AllocError>
+pub fn repeated_in<'n>(alloc: Global, names: &'n [String]) -> Result<BTreeSet<&'n str>, AllocError>
     ensures { IfOk result (λ set. HasRepeated set (map string_bytes names.now)) }
 {
     let mut seen = BTreeSet::new(alloc);
     let mut repeated = BTreeSet::new(alloc);
     for name in names {
         note(&mut seen, &mut repeated, name.as_str())?;
+    }
+    Ok(repeated)
+}
+
+/// Returns the names that more than one of `packages` has.
+pub fn repeated_names<'n>(
+    alloc: Global,
+    packages: &'n [Package<'_>],
+) -> Result<BTreeSet<&'n str>, AllocError>
+    ensures { IfOk result (λ set. HasRepeated set (map (λ p. p.name) (map package_text packages.now))) }
+{
+    let mut seen = BTreeSet::new(alloc);
+    let mut repeated = BTreeSet::new(alloc);
+    for package in packages {
+        note(&mut seen, &mut repeated, package.name)?;
     }
     Ok(repeated)
 }

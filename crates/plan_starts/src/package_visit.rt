@@ -55,6 +55,21 @@ impl PackageVisit {
         PackageVisit { visited, count }
     }
 
+    /// Returns what the step reached.
+    pub fn visited(&self) -> &Visited
+        ensures { result.now ≡ self.now.visit }
+    {
+        &self.visited
+    }
+
+    /// Returns the number of packages.
+    pub fn package_count(&self) -> usize
+        ensures count { result ≡ self.now.count }
+        ensures room { self.now.count + self.now.count < 2 ^ 64 }
+    {
+        self.count
+    }
+
     /// Returns whether the visit reached `label` at the first entry of package `ix`, or at its second one.
     fn reaches(&self, second: bool, ix: usize, label: FeatureLabel<'_>) -> bool
         ensures { result ≡ reaches_at self.now second ix (label_of label.entry) }

@@ -15,5 +15,6 @@ mod resolved_step;
 mod stages;
 
 pub use fault::StepFault;
+pub use on_step::on_places;
 pub use plan::Plan;
 pub use plans::plan_of;

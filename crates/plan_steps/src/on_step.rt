@@ -52,8 +52,8 @@ fn push_host<'s, P: Platform>(
     push_commands(places, false, packages, settings.commands, first)
 }
 
-/// Returns the places at which the step starts.
-fn places<P: Platform>(
+/// Returns the places at which step `on` starts: the command features, each by its entry and its label.
+pub fn on_places<P: Platform>(
     alloc: Global,
     workspace: &Workspace<'_>,
     settings: &Settings<'_, '_, P>,
@@ -80,7 +80,7 @@ fn visited<P: Platform>(
     requires tables { AreOnTables (workspace_text workspace.now) (settings_text P.holds settings.now) kept.now tables }
     ensures { IfOk result (λ v. IsOn (workspace_text workspace.now) (settings_text P.holds settings.now) kept.now (record { count = length (workspace_text workspace.now).packages; visit = v })) }
 {
-    let places = places(alloc, workspace, settings)?;
+    let places = on_places(alloc, workspace, settings)?;
     visit(alloc, tables, &places)
 }
 

@@ -27,6 +27,13 @@ impl<'w> Plan<'w> {
         self.units.as_slice()
     }
 
+    /// Returns the visit of step `on`.
+    pub fn on(&self) -> &PackageVisit
+        ensures { result.now ≡ (plan_text self.now).on }
+    {
+        &self.on
+    }
+
     /// Returns whether `feature` of package `package` is on, on `side`.
     pub fn is_on(&self, side: Side, package: usize, feature: &str) -> bool
         ensures { result ≡ is_on (plan_text self.now).on side «package» (named feature.now) }

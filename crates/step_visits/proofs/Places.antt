@@ -2,7 +2,9 @@
 use Rattle.std.proofs.Common.{◌≡◌, ℕ, ◌<◌, Bool, true, false, ◌&&◌, List, length, Option, Some, None, refl, ap, sym, ◌∙◌, subst}
 use Rattle.std.specs.Prelude.{◌↔◌, ◌==◌, slice_get, position}
 use Rattle.std.proofs.lemmas.Bool.{eqb-true, eq-eqb}
+use Rattle.std.specs.Option.{option_map}
 use Rattle.std.proofs.lemmas.List.{length-map}
+use Rattle.std.proofs.lemmas.Option.{slice_get-map}
 use Rattle.guppy_packages.specs.Rows.{Text}
 use Rattle.guppy_packages.specs.Tables.{PackageTable, Tables, AreTables}
 use Rattle.feature_labels.specs.Names.{LabelName}
@@ -12,7 +14,7 @@ use Rattle.feature_core.specs.Nodes.{NodeAt, node_packages, node_places}
 use Rattle.feature_core.proofs.AddsLemmas.{place_below}
 use Rattle.feature_core.proofs.LabelLemmas.{position_there, position_missing}
 use Rattle.feature_core.proofs.NameLemmas.{id_at, named_node, node_name}
-use Rattle.feature_core.proofs.Places.{node_back}
+use Rattle.feature_core.proofs.Places.{got_same, node_back}
 use Rattle.step_visits.specs.Visits.{is_place, node_at}
 
 both : (a b : Bool) → (a && b) ≡ true → (a ≡ true) × (b ≡ true)
@@ -68,3 +70,11 @@ node_within t packages k n label same e =
     let below : n < length (node_places t) = place_below (node_places t) n q.element q.there in
     let long : length packages ≡ length (node_places t) = ap length same ∙ length-map (node_places t) (λ x. x.0) in
     subst (λ z. n < z) (sym long) below
+
+-- a node by the number of its package and its name
+pub node_placed : (t : Tables) (packages : List ℕ) (n k : ℕ) (name : Text × LabelName) → packages ≡ node_packages t → slice_get packages n ≡ Some k → NodeNamed t n name → NodeAt t n k name.1
+node_placed t packages n k name same is named =
+    let m = named_node t n name named in
+    let there : slice_get (node_packages t) n ≡ Some m.place = slice_get-map (λ x. x.0) (node_places t) n ∙ ap (option_map (λ x. x.0)) m.node in
+    let number : m.place ≡ k = got_same m.place k (sym there ∙ subst (λ z. slice_get z n ≡ Some k) same is) in
+    subst (λ z. NodeAt t n z name.1) number m.node

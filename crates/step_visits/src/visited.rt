@@ -1,13 +1,17 @@
 //! The features that a visit reaches.
-ghost use Rattle.std.specs.Prelude.{◌≡◌};
+ghost use Rattle.std.specs.Prelude.{◌≡◌, ◌<◌, ℕ, IfOk, length, map};
+ghost use Rattle.guppy_support.specs.Bits.{has};
 ghost use Rattle.feature_labels.specs.Names.{label_of};
 ghost use Rattle.feature_core.specs.Built.{IsBuilt};
-ghost use Rattle.step_visits.specs.Visits.{node_at, reaches};
+ghost use Rattle.feature_core.specs.Nodes.{NodeAt, node_packages};
+ghost use Rattle.step_visits.specs.Visits.{is_start, node_at, reaches, start_of};
 
+use crate::visiting::start_nodes;
 use feature_core::FeatureGraphData;
 use feature_labels::{FeatureId, FeatureLabel};
 use guppy_packages::PackageGraph;
 use guppy_support::IxBitSet;
+use std::alloc::{AllocError, Global};
 use std::marker::Model;
 
 /// The features that a visit reaches, with the graph that it walked. A contract sees the tables, and whether each node was reached.
@@ -51,6 +55,56 @@ pub(crate) fn node_of(
 }
 
 impl Visited {
+    /// Returns the tables that were visited.
+    pub fn packages(&self) -> &PackageGraph
+        ensures { result.now ≡ self.now.tables }
+    {
+        &self.packages
+    }
+
+    /// Returns the feature graph of the tables.
+    pub fn built(&self) -> &FeatureGraphData
+        ensures { IsBuilt self.now.tables result.now }
+    {
+        &self.built
+    }
+
+    /// Returns the nodes that were reached, as a set of all nodes.
+    pub fn members(&self) -> &IxBitSet
+        ensures members { result.now ≡ self.now.members }
+        ensures size { length self.now.members ≡ length (node_packages self.now.tables) }
+    {
+        &self.members
+    }
+
+    /// Returns the node of `label` of package `ix`, or `None` if there is no such package, or it lacks the label.
+    pub fn node(&self, ix: usize, label: FeatureLabel<'_>) -> Option<usize>
+        ensures { result ≡ node_at self.now.tables ix (label_of label.entry) }
+    {
+        node_of(&self.packages, &self.built, ix, label)
+    }
+
+    /// Returns the number of the package of `node`, and its label.
+    pub fn place(&self, node: usize) -> (usize, FeatureLabel<'_>)
+        requires { node < length (node_packages self.now.tables) }
+        ensures { NodeAt self.now.tables node result.0 (label_of result.1) }
+    {
+        let id = self.built.id(&self.packages, node);
+        (self.built.package_of(node), id.label())
+    }
+
+    /// Returns the nodes of `starts`, each a package's number and a label. One that the tables lack has no node.
+    pub fn start_nodes(
+        &self,
+        alloc: Global,
+        starts: &[(usize, FeatureLabel<'_>)],
+    ) -> Result<IxBitSet, AllocError>
+        ensures size { IfOk result (λ set. length set ≡ length (node_packages self.now.tables)) }
+        ensures nodes { IfOk result (λ set. (n : ℕ) → has set n ≡ is_start self.now.tables (map start_of starts.now) n) }
+    {
+        start_nodes(alloc, &self.packages, &self.built, starts)
+    }
+
     /// Returns whether the visit reached `label` of package `ix`; false if there is no such package, or it lacks the label.
     pub fn reaches(&self, ix: usize, label: FeatureLabel<'_>) -> bool
         ensures { result ≡ reaches self.now ix (label_of label.entry) }

@@ -48,7 +48,7 @@ fn insert_start(
 }
 
 /// Returns the nodes of `starts`. The data must be built from `packages`.
-fn start_nodes(
+pub(crate) fn start_nodes(
     alloc: Global,
     packages: &PackageGraph,
     built: &FeatureGraphData,

@@ -6,12 +6,7 @@ use Rattle.std.specs.Str.{bytes_eq}
 use Rattle.std.specs.Ordering.{is_eq}
 use Rattle.std.specs.BTreeSet.{BTreeSet}
 use Rattle.cargo_workspaces.specs.Workspaces.{Text, text_cmp}
-use Rattle.plan_lines.specs.Lines.{is_repeated}
 
 -- A set has these texts and no others.
 abbrev pub HasTexts : BTreeSet (Bor Text) → List Text → Type 0
 HasTexts set texts = (q : Bor Text) → list_any (λ k. is_eq (text_cmp q.now k.now)) set.keys ≡ list_any (bytes_eq q.now) texts
-
--- A set has the texts that are in the list more than once.
-abbrev pub HasRepeated : BTreeSet (Bor Text) → List Text → Type 0
-HasRepeated set texts = (q : Bor Text) → list_any (λ k. is_eq (text_cmp q.now k.now)) set.keys ≡ is_repeated texts q.now

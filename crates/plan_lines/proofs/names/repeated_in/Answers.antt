@@ -1,6 +1,7 @@
 use Rattle.std.proofs.Common.{map, take, subst}
 use Rattle.std.specs.String.{string_bytes}
-use Rattle.plan_lines.specs.inner.Sets.{HasRepeated, HasTexts}
+use Rattle.plan_lines.specs.Repeats.{HasRepeated}
+use Rattle.plan_lines.specs.inner.Sets.{HasTexts}
 use Rattle.plan_lines.proofs.Counts.{names_more}
 use Rattle.plan_lines.proofs.names.repeated_in.Goals as goal
 

@@ -1,6 +1,7 @@
 use Rattle.std.proofs.Common.{map, take}
 use Rattle.std.specs.String.{string_bytes}
-use Rattle.plan_lines.specs.inner.Sets.{HasRepeated, HasTexts}
+use Rattle.plan_lines.specs.Repeats.{HasRepeated}
+use Rattle.plan_lines.specs.inner.Sets.{HasTexts}
 use Rattle.plan_lines.proofs.names.repeated_in.Given as goal
 
 abbrev pub invariant-loop-name : goal.invariant-loop-name

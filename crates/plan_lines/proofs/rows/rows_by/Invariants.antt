@@ -3,7 +3,7 @@ use Rattle.cargo_workspaces.specs.Workspaces.{Text}
 use Rattle.plan_lines.specs.Lines.{row_of}
 use Rattle.plan_lines.specs.Views.{shown_text}
 use Rattle.plan_lines.specs.inner.Rows.{row_text}
-use Rattle.plan_lines.specs.inner.Sets.{HasRepeated}
+use Rattle.plan_lines.specs.Repeats.{HasRepeated}
 use Rattle.plan_lines.proofs.rows.rows_by.Given as goal
 
 abbrev pub invariant-loop-unit : goal.invariant-loop-unit

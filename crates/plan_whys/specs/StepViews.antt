@@ -1,0 +1,19 @@
+-- The values that steps contain.
+use Rattle.std.specs.Prelude.{List, map, option_map}
+use Rattle.feature_labels.specs.Names.{label_of}
+use Rattle.plan_whys.specs.Steps.{SpotText, ReasonText, WhyText}
+use Rattle.plan_whys.specs.Steps.ReasonText as text
+use Rattle.plan_whys.specs.declared.steps.Spot.{Spot}
+use Rattle.plan_whys.specs.declared.steps.WhyReason.{WhyReason}
+use Rattle.plan_whys.specs.declared.steps.WhyReason.TheVariants.{Selected, From}
+use Rattle.plan_whys.specs.declared.steps.WhyStep.{WhyStep}
+
+abbrev pub spot_text : Spot → SpotText
+spot_text s = record { side = s.side; number = s.«package»; label = label_of s.label }
+
+abbrev pub reason_text : WhyReason → ReasonText
+reason_text Selected = text.selected
+reason_text (From start gate) = text.from (spot_text start) (option_map spot_text gate)
+
+abbrev pub why_text : WhyStep → WhyText
+why_text s = record { spot = spot_text s.at; reason = reason_text s.reason }

@@ -1,0 +1,11 @@
+use Rattle.std.proofs.Common.{◌≡◌, ◌++◌, map, drop}
+use Rattle.cargo_workspaces.specs.WorkspaceView.{workspace_text}
+use Rattle.why_lines.specs.Objects.{why_objects}
+use Rattle.why_lines.specs.Settings.{settings_text}
+use Rattle.why_lines.specs.StepViews.{why_text}
+use Rattle.why_lines.proofs.objects.why_objects.Given as goal
+
+abbrev pub invariant-loop-step : goal.invariant-loop-step
+invariant-loop-step g l =
+    let objects = why_objects (workspace_text l.workspace).packages (settings_text g.P.Platform.holds l.settings) in
+    objects (map why_text l.steps) ≡ l.text.items ++ objects (map why_text (drop l.step-index l.steps))

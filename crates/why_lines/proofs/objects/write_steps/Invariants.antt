@@ -1,0 +1,12 @@
+use Rattle.std.proofs.Common.{◌≡◌, ◌++◌, map, drop}
+use Rattle.cargo_workspaces.specs.WorkspaceView.{workspace_text}
+use Rattle.why_lines.specs.Objects.{step_objects}
+use Rattle.why_lines.specs.Settings.{settings_text}
+use Rattle.why_lines.specs.StepViews.{why_text}
+use Rattle.why_lines.proofs.objects.write_steps.Given as goal
+
+abbrev pub invariant-loop-step : goal.invariant-loop-step
+invariant-loop-step g l =
+    let objects = step_objects (workspace_text l.workspace).packages (settings_text g.P.Platform.holds l.settings) in
+    (l.writer.before ≡ l.initial.writer.before)
+    × (l.initial.writer.tokens ++ objects (map why_text l.steps) ≡ l.writer.tokens ++ objects (map why_text (drop l.step-index l.steps)))

@@ -1,0 +1,13 @@
+use Rattle.std.proofs.Common.{◌≡◌, map, drop, Bool}
+use Rattle.std.specs.List.{list_any}
+use Rattle.cargo_workspaces.specs.Views.{declaration_text}
+use Rattle.cargo_workspaces.specs.Workspaces.{DeclarationText}
+use Rattle.why_lines.specs.Platforms as spec
+use Rattle.why_lines.specs.Settings.{settings_text}
+use Rattle.why_lines.specs.StepViews.{spot_text}
+use Rattle.why_lines.proofs.platforms.is_anywhere.Given as goal
+
+abbrev pub invariant-loop-declaration : goal.invariant-loop-declaration
+invariant-loop-declaration g l =
+    let test = spec.is_anywhere (spec.leads (settings_text g.P.Platform.holds l.settings) l.between.is_macro (spot_text l.between.start) (spot_text l.between.at)) in
+    list_any test (map declaration_text l.declarations) ≡ list_any test (map declaration_text (drop l.declaration-index l.declarations))

@@ -1,0 +1,10 @@
+pub mod Labels
+pub mod Lines
+pub mod Objects
+pub mod Platforms
+pub mod Reasons
+pub mod Relations
+pub mod Settings
+pub mod StepViews
+pub mod Steps
+pub mod inner

@@ -1,0 +1,31 @@
+-- The lines that show an explanation.
+use Rattle.std.specs.Prelude.{ℕ, List, [], ◌∷◌, ◌++◌, map, filter, flat_map}
+use Rattle.cargo_workspaces.specs.Workspaces.{Text, PackageText}
+use Rattle.plan_lines.specs.Lines.{cell, widest}
+use Rattle.why_lines.specs.Labels.{spot_label}
+use Rattle.why_lines.specs.Reasons.{reason_words}
+use Rattle.why_lines.specs.Relations.{is_shown}
+use Rattle.why_lines.specs.Settings.{SettingsText}
+use Rattle.why_lines.specs.Steps.{WhyText}
+
+-- The texts of a line's columns.
+pub record RowText : Type 0 where
+  pub label : Text
+  pub reason : Text
+
+abbrev pub row_of : List PackageText → SettingsText → WhyText → RowText
+row_of packages s step = record { label = spot_label packages s.sides step.spot; reason = reason_words packages s step.spot step.reason }
+
+-- The line of a row: columns are two spaces apart.
+abbrev pub line_of : ℕ → RowText → Text
+line_of width r = cell width r.label ++ (32 ∷ (r.reason ++ 10 ∷ []))
+
+abbrev pub label_width : List RowText → ℕ
+label_width rows = widest (map (λ r. r.label) rows)
+
+abbrev pub table_of : List RowText → Text
+table_of rows = flat_map (line_of (label_width rows)) rows
+
+-- A line for each step that is shown, in the order of the steps.
+abbrev pub why_lines : List PackageText → SettingsText → List WhyText → Text
+why_lines packages s steps = table_of (map (row_of packages s) (filter is_shown steps))

@@ -1,0 +1,18 @@
+-- The values that steps contain.
+use Rattle.std.specs.Prelude.{option_map}
+use Rattle.feature_labels.specs.Names.{label_of}
+use Rattle.why_lines.specs.Steps.{SpotText, ReasonText, WhyText, selected, from}
+use Rattle.why_lines.specs.declared.steps.Spot.{Spot}
+use Rattle.why_lines.specs.declared.steps.WhyReason.{WhyReason}
+use Rattle.why_lines.specs.declared.steps.WhyReason.TheVariants.{Selected, From}
+use Rattle.why_lines.specs.declared.steps.WhyStep.{WhyStep}
+
+abbrev pub spot_text : Spot → SpotText
+spot_text s = record { side = s.side; number = s.«package»; label = label_of s.label }
+
+abbrev pub reason_text : WhyReason → ReasonText
+reason_text Selected = selected
+reason_text (From start gate) = from (spot_text start) (option_map spot_text gate)
+
+abbrev pub why_text : WhyStep → WhyText
+why_text s = record { spot = spot_text s.at; reason = reason_text s.reason }

@@ -1,0 +1,18 @@
+//! The lines that show an explanation: as text in columns, or as JSON objects.
+#![tactic(auto)]
+
+mod labels;
+mod objects;
+mod platforms;
+mod reasons;
+mod relations;
+mod rows;
+mod settings;
+mod steps;
+mod table;
+
+pub use labels::spot_label;
+pub use objects::{why_objects, write_steps};
+pub use settings::WhySettings;
+pub use steps::{Spot, WhyReason, WhyStep};
+pub use table::why_lines;

@@ -1,0 +1,84 @@
+//! An explanation as text in columns.
+ghost use Rattle.std.specs.Prelude.{◌≡◌, ◌++◌, ◌-◌, IfOk, OnOk, length, map, max, replicate, string_bytes};
+ghost use Rattle.cargo_workspaces.specs.WorkspaceView.{workspace_text};
+ghost use Rattle.plan_lines.specs.Lines as plan;
+ghost use Rattle.why_lines.specs.Lines as spec;
+ghost use Rattle.why_lines.specs.Settings.{settings_text};
+ghost use Rattle.why_lines.specs.StepViews.{why_text};
+ghost use Rattle.why_lines.specs.inner.Rows.{row_text};
+
+use crate::labels::labels_of;
+use crate::rows::{Row, rows_of};
+use crate::settings::WhySettings;
+use crate::steps::WhyStep;
+use cargo_workspaces::Workspace;
+use plan_lines::names_of;
+use plan_rows::Platform;
+use std::alloc::{AllocError, Global};
+
+/// Returns the larger number.
+fn larger(width: usize, other: usize) -> usize
+    ensures { result ≡ max width other }
+{
+    if width < other { other } else { width }
+}
+
+/// Returns the width of the column of labels, in bytes.
+fn label_width(rows: &[Row]) -> usize
+    ensures { result ≡ spec.label_width (map row_text rows.now) }
+{
+    let mut width = 0;
+    for row in rows {
+        width = larger(width, row.label.len());
+    }
+    width
+}
+
+/// Appends `label`, and spaces to fill `width` bytes and one more.
+fn push_cell(text: &mut String, label: &str, width: usize) -> Result<(), AllocError>
+    ensures { OnOk result (string_bytes text.new ≡ string_bytes text.old ++ plan.cell width label.now) }
+{
+    text.push_str(label)?;
+    for _column in label.len()..width {
+        text.push_str(" ")?;
+    }
+    text.push_str(" ")
+}
+
+/// Appends the line of `row`, in a column of this width.
+fn push_row(text: &mut String, row: &Row, width: usize) -> Result<(), AllocError>
+    ensures { OnOk result (string_bytes text.new ≡ string_bytes text.old ++ spec.line_of width (row_text row.now)) }
+{
+    push_cell(text, row.label.as_str(), width)?;
+    text.push_str(" ")?;
+    text.push_str(row.reason.as_str())?;
+    text.push_str("\n")
+}
+
+/// Returns the lines of `rows`.
+fn table_of(alloc: Global, rows: &[Row]) -> Result<String, AllocError>
+    ensures { IfOk result (λ text. string_bytes text ≡ spec.table_of (map row_text rows.now)) }
+{
+    let width = label_width(rows);
+    let mut text = String::new(alloc);
+    for row in rows {
+        push_row(&mut text, row, width)?;
+    }
+    Ok(text)
+}
+
+/// Returns a line for each of `steps`, which are those of an explanation in `workspace`: the label of its spot, and the reason why it
+/// is on, in words. Steps at command features aren't shown. The labels are a column as wide as the widest.
+pub fn why_lines<P: Platform>(
+    alloc: Global,
+    workspace: &Workspace<'_>,
+    settings: &WhySettings<'_, P>,
+    steps: &[WhyStep<'_>],
+) -> Result<String, AllocError>
+    ensures { IfOk result (λ text. string_bytes text ≡ spec.why_lines (workspace_text workspace.now).packages (settings_text P.holds settings.now) (map why_text steps.now)) }
+{
+    let versions = names_of(alloc, workspace.packages())?;
+    let labels = labels_of(alloc, workspace.packages(), &versions, settings.sides)?;
+    let rows = rows_of(alloc, &labels, settings, steps)?;
+    table_of(alloc, &rows)
+}
