@@ -1,5 +1,6 @@
 -- The steps of an explanation of step `on`, by package, side and label.
-use Rattle.std.specs.Prelude.{◌≡◌, ℕ, ◌-◌, nat_lt, if◌then◌else◌, List, [], ◌∷◌, Option, Some, None, ⊤, ⊥, IsTrue, IsFalse}
+use Rattle.std.specs.Prelude.{◌≡◌, ℕ, ◌-◌, nat_lt, if◌then◌else◌, List, [], ◌∷◌, ◌++◌, map, take, slice_get, Contains, Option, Some, None, IfSome, ⊤, IsTrue, IsFalse}
+use Rattle.std.specs.List.{AllZip}
 use Rattle.feature_labels.specs.Names.{LabelName}
 use Rattle.feature_core.specs.Nodes.{NodeAt}
 use Rattle.plan_rows.specs.declared.side.Side.{Side}
@@ -55,7 +56,17 @@ IsStepOf on c step why = IsAt on step.node why.spot × IsReasonOf on c step.reas
 
 -- All steps, in their order.
 abbrev pub AreStepsOf : PairVisit → Content → List Step → List WhyText → Type 0
-AreStepsOf on c [] [] = ⊤
-AreStepsOf on c [] (why ∷ whys) = ⊥
-AreStepsOf on c (step ∷ steps) [] = ⊥
-AreStepsOf on c (step ∷ steps) (why ∷ whys) = IsStepOf on c step why × AreStepsOf on c steps whys
+AreStepsOf on c steps whys = AllZip (IsStepOf on c) steps whys
+
+-- The spots that a reason names are among these.
+abbrev pub IsBacked : List SpotText → ReasonText → Type 0
+IsBacked spots selected = ⊤
+IsBacked spots (from start gate) = Contains spots start × IfSome gate (Contains spots)
+
+-- Each reason names spots of earlier steps alone. So the first one is that the spot is selected.
+abbrev pub AreBacked : List WhyText → Type 0
+AreBacked whys = (k : ℕ) (why : WhyText) → slice_get whys k ≡ Some why → IsBacked (map (λ y. y.spot) (take k whys)) why.reason
+
+-- The last step is that of the spot.
+abbrev pub EndsAt : List WhyText → SpotText → Type 0
+EndsAt whys spot = (before : List WhyText) × (why : WhyText) × (whys ≡ before ++ why ∷ []) × (why.spot ≡ spot)

@@ -1,12 +1,14 @@
 //! Why a feature is on in a plan: the steps from what is selected to the feature.
 #![tactic(auto)]
 
+mod explanations;
+mod laws;
 mod nodes;
-mod shown;
+mod spots;
 mod steps;
-mod walked;
 mod whys;
 
+pub use laws::whys_lead_to_spots;
 pub use plan_rows::Side;
 pub use steps::{Spot, WhyReason, WhyStep};
 pub use whys::{why, why_by_settings};

@@ -78,3 +78,9 @@ node_placed t packages n k name same is named =
     let there : slice_get (node_packages t) n ≡ Some m.place = slice_get-map (λ x. x.0) (node_places t) n ∙ ap (option_map (λ x. x.0)) m.node in
     let number : m.place ≡ k = got_same m.place k (sym there ∙ subst (λ z. slice_get z n ≡ Some k) same is) in
     subst (λ z. NodeAt t n z name.1) number m.node
+
+-- the place of a node that was found
+pub node_back_at : (t : Tables) (k n : ℕ) (label : LabelName) → node_at t k label ≡ Some n → NodeAt t n k label
+node_back_at t k n label h =
+    let q = position_there (is_place (k, label)) n (node_places t) h in
+    q.there ∙ ap Some (sym (place_same (k, label) q.element q.passes))

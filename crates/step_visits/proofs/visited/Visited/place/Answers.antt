@@ -1,7 +1,13 @@
-use Rattle.feature_labels.specs.Names.{id_of, label_of}
+use Rattle.std.proofs.Common.{sym, subst}
+use Rattle.feature_core.specs.Nodes.{NodeAt}
+use Rattle.feature_labels.specs.Names.{LabelName, id_of, label_of}
+use Rattle.step_visits.specs.Visits.{Visit}
 use Rattle.step_visits.proofs.Places.{node_placed}
 use Rattle.step_visits.proofs.visited.Visited.place.Goals as goal
 
 pub returns : goal.returns
 returns c =
-    node_placed c.self.inside.packages c.self.inside.built.packages c.args.node c.package_of.result (id_of c.id-id.id) c.self.invariant.0.packages c.package_of.ensures c.id-id.ensures
+    let packages = c.self.inside.packages in
+    let placed = node_placed packages c.self.inside.built.packages c.args.node c.package_of.result (id_of c.id-id.result) c.self.invariant.0.packages c.package_of.ensures c.id-id.ensures in
+    subst (λ (v : Visit). NodeAt v.tables c.args.node c.package_of.result (label_of c.label.result)) c.self.view_is
+    (subst (λ (l : LabelName). NodeAt packages c.args.node c.package_of.result l) (sym c.label.ensures) placed)

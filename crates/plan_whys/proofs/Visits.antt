@@ -1,0 +1,85 @@
+-- What a visit of step `on` reached, and why.
+use Rattle.std.proofs.Common.{◌≡◌, ◌∙◌, ℕ, ◌+◌, Bool, true, false, ◌&&◌, List, Option, Some, None, length, map, refl, ap, sym, subst}
+use Rattle.std.specs.Prelude.{◌↔◌, IsTrue, nat_lt, if◌then◌else◌}
+use Rattle.std.specs.Option.{option_map_or}
+use Rattle.guppy_packages.specs.declared.direction.DependencyDirection.{DependencyDirection}
+use Rattle.guppy_packages.specs.declared.direction.DependencyDirection.TheVariants.{Forward}
+use Rattle.guppy_support.specs.Bits.{has}
+use Rattle.cargo_workspaces.specs.Workspaces.{WorkspaceText}
+use Rattle.feature_core.specs.Built.{Built, IsBuilt}
+use Rattle.feature_core.specs.Offers.{content_of}
+use Rattle.feature_labels.specs.Names.{LabelName}
+use Rattle.feature_labels.specs.declared.feature_label.FeatureLabel.{FeatureLabel}
+use Rattle.guppy_packages.specs.Tables.{Tables}
+use Rattle.plan_rows.specs.Steps.{SettingsText, is_host, side_base}
+use Rattle.plan_rows.specs.declared.side.Side.{Side}
+use Rattle.plan_rows.specs.declared.side.Side.TheVariants.{Target, Host}
+use Rattle.plan_starts.specs.PackageVisits.{PairVisit, first_entry, is_on}
+use Rattle.plan_steps.specs.Plans.{IsOn}
+use Rattle.plan_units.specs.Commands.{on_starts}
+use Rattle.step_visits.specs.Visits.{IsVisit, Visit, is_start, node_at, reaches, start_of}
+use Rattle.walk_engine.specs.Laws.{every}
+use Rattle.walk_engine.specs.Walks.{Content, Least}
+use Rattle.plan_whys.specs.Steps.{SpotText, WhyText}
+use Rattle.plan_whys.specs.NodeWhys.{IsWhyOf, node_of}
+use Rattle.plan_whys.specs.Whys.{Answers, IsOnBy}
+use Rattle.plan_whys.specs.inner.Nodes.{IsLeast, NodeAnswers}
+
+-- the content of one build is that of each
+abbrev pub OneContent : Tables → Type 0
+OneContent t = (a b : Built) (direction : DependencyDirection) → IsBuilt t a → IsBuilt t b → content_of direction a ≡ content_of direction b
+
+visit_least : (t : Tables) (starts : List (ℕ × LabelName)) (v : Visit) (I : ℕ → Bool) → OneContent v.tables → IsVisit t starts v → ((n : ℕ) → I n ≡ is_start v.tables starts n) → (b : Built) → IsBuilt v.tables b → (n : ℕ) → IsTrue (has v.members n) ↔ Least (content_of Forward b) I every n
+visit_least t starts v I one is same b is_built n = (
+  (λ h.
+      let from : Least (content_of Forward b) (is_start t starts) every n = (is.members n).0 h b (subst (λ (z : Tables). IsBuilt z b) is.tables is_built) in
+      subst (λ (J : ℕ → Bool). Least (content_of Forward b) J every n) (λ i k. (same k ∙ ap (λ (z : Tables). is_start z starts k) is.tables) (~ i)) from),
+  (λ h. (is.members n).1 (λ a is_too.
+      let here : IsBuilt v.tables a = subst (λ (z : Tables). IsBuilt z a) (sym is.tables) is_too in
+      subst (λ (c : Content). Least c (is_start t starts) every n) (one b a Forward is_built here)
+      (subst (λ (J : ℕ → Bool). Least (content_of Forward b) J every n) (λ i k. (same k ∙ ap (λ (z : Tables). is_start z starts k) is.tables) i) h))),
+)
+
+-- the visit of step `on` is the least that has the nodes at which it starts
+pub on_least : (w : WorkspaceText) (s : SettingsText) (on : PairVisit) (I : ℕ → Bool) → OneContent on.visit.tables → IsOnBy w s on → ((n : ℕ) → I n ≡ is_start on.visit.tables (on_starts w s) n) → IsLeast on I
+unfolding IsOn
+on_least w s on I one by same = visit_least by.1.1.rows_tables (on_starts w s) on.visit I one by.1.1.is_visit same
+
+pub on_count : (w : WorkspaceText) (s : SettingsText) (on : PairVisit) → IsOnBy w s on → on.count ≡ length w.packages
+unfolding IsOn
+on_count w s on by = by.1.0
+
+base_is : (count : ℕ) (side : Side) → first_entry (is_host side) count ≡ side_base count side
+base_is count Target = refl
+base_is count Host = refl
+
+-- whether a label is on, by its node
+found_on : (v : Visit) (inside : Bool) (k : ℕ) (label : LabelName) → (inside && reaches v k label) ≡ option_map_or (has v.members) (if inside then node_at v.tables k label else None) false
+found_on v true k label = refl
+found_on v false k label = refl
+
+spot_on : (on : PairVisit) (spot : SpotText) → is_on on spot.side spot.number spot.label ≡ option_map_or (has on.visit.members) (node_of on spot) false
+spot_on on spot =
+    ap (λ base. nat_lt spot.number on.count && reaches on.visit (base + spot.number) spot.label) (base_is on.count spot.side)
+    ∙ found_on on.visit (nat_lt spot.number on.count) (side_base on.count spot.side + spot.number) spot.label
+
+pub off_without_node : (w : WorkspaceText) (s : SettingsText) (on : PairVisit) (spot : SpotText) (found : Option ℕ) → found ≡ None → found ≡ node_of on spot → Answers w s on spot None
+off_without_node w s on spot found none same = spot_on on spot ∙ ap (λ o. option_map_or (has on.visit.members) o false) (sym same ∙ none)
+
+pub answers_by_node : (w : WorkspaceText) (s : SettingsText) (on : PairVisit) (spot : SpotText) (I : ℕ → Bool) (n : ℕ) (found : Option (List WhyText)) → Some n ≡ node_of on spot → ((k : ℕ) → I k ≡ is_start on.visit.tables (on_starts w s) k) → NodeAnswers on I n found → Answers w s on spot found
+answers_by_node w s on spot I n None same starts off = spot_on on spot ∙ ap (λ o. option_map_or (has on.visit.members) o false) (sym same) ∙ off
+answers_by_node w s on spot I n (Some whys) same starts answer = record {
+  is_on = spot_on on spot ∙ ap (λ o. option_map_or (has on.visit.members) o false) (sym same) ∙ answer.0;
+  node = n;
+  is_node = sym same;
+  is_why = subst (λ (J : ℕ → Bool). IsWhyOf on J n whys) (λ i k. starts k i) answer.1;
+}
+
+-- the nodes of the places where step `on` starts
+pub starts_are : (w : WorkspaceText) (s : SettingsText) (on : PairVisit) (v : Visit) (places taken : List (ℕ × FeatureLabel)) (I : ℕ → Bool) → v ≡ on.visit → map start_of places ≡ on_starts w s → taken ≡ places
+    → ((n : ℕ) → I n ≡ is_start v.tables (map start_of taken) n) → (n : ℕ) → I n ≡ is_start on.visit.tables (on_starts w s) n
+starts_are w s on v places taken I visit are same nodes n =
+    nodes n ∙ ap (λ (u : Visit). is_start u.tables (map start_of taken) n) visit ∙ ap (λ ps. is_start on.visit.tables (map start_of ps) n) same ∙ ap (λ starts. is_start on.visit.tables starts n) are
+
+pub one_of : (on : PairVisit) (v : Visit) → v ≡ on.visit → OneContent v.tables → OneContent on.visit.tables
+one_of on v visit one = subst (λ (u : Visit). OneContent u.tables) visit one

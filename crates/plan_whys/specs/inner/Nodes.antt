@@ -1,0 +1,36 @@
+-- Steps whose numbers are those of nodes and ways.
+use Rattle.std.specs.Prelude.{◌≡◌, ◌↔◌, ℕ, ◌<◌, Bool, List, Option, Some, None, ⊤, IsTrue, IsFalse, All}
+use Rattle.guppy_packages.specs.declared.direction.DependencyDirection.TheVariants.{Forward}
+use Rattle.guppy_support.specs.Bits.{has}
+use Rattle.feature_core.specs.Built.{Built, IsBuilt}
+use Rattle.feature_core.specs.Offers.{content_of}
+use Rattle.walk_engine.specs.Laws.{every}
+use Rattle.walk_engine.specs.Walks.{Content, Least, Way, IsWay, has_gate}
+use Rattle.walk_engine.specs.declared.walks.Half.{Half}
+use Rattle.walk_engine.specs.declared.walks.Step.{Step}
+use Rattle.walk_engine.specs.declared.walks.StepReason.{StepReason}
+use Rattle.walk_engine.specs.declared.walks.StepReason.TheVariants.{Initial, Edge, Offer}
+use Rattle.plan_starts.specs.PackageVisits.{PairVisit}
+use Rattle.plan_whys.specs.Steps.{WhyText}
+use Rattle.plan_whys.specs.NodeWhys.{IsWhyOf}
+
+-- The reason's way is there, and its start is one of `nodes` nodes; so is the gate, if the half waits for it.
+abbrev pub IsReasonInside : ℕ → Content → StepReason → Type 0
+IsReasonInside nodes c Initial = ⊤
+IsReasonInside nodes c (Edge e) = (w : Way) × IsWay c e w × (w.start < nodes)
+IsReasonInside nodes c (Offer e h) = (w : Way) × IsWay c e w × (w.start < nodes) × (IsTrue (has_gate w.ask h) → w.gate < nodes)
+
+abbrev pub IsInside : ℕ → Content → Step → Type 0
+IsInside nodes c step = (step.node < nodes) × IsReasonInside nodes c step.reason
+
+abbrev pub AreInside : ℕ → Content → List Step → Type 0
+AreInside nodes c steps = All (IsInside nodes c) steps
+
+-- The visit reached exactly the least set that has the nodes in `I`, with every offer accepted.
+abbrev pub IsLeast : PairVisit → (ℕ → Bool) → Type 0
+IsLeast on I = (b : Built) → IsBuilt on.visit.tables b → (n : ℕ) → IsTrue (has on.visit.members n) ↔ Least (content_of Forward b) I every n
+
+-- Why the visit reached node `n`; `None` if it didn't.
+abbrev pub NodeAnswers : PairVisit → (ℕ → Bool) → ℕ → Option (List WhyText) → Type 0
+NodeAnswers on I n None = IsFalse (has on.visit.members n)
+NodeAnswers on I n (Some whys) = IsTrue (has on.visit.members n) × IsWhyOf on I n whys
