@@ -11,8 +11,11 @@ mod MoreBuilt
 mod MoreEntries
 mod MoreFeatures
 mod MoreOn
+mod MoreSteps
 mod MoreWords
 mod Numbered
 mod OneOutcome
 mod OnePlan
 mod Resolvers
+mod Wider
+mod WidestWords

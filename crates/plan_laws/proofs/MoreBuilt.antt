@@ -114,7 +114,7 @@ module _ (w : WorkspaceText) (is : IsWorkspace w) (s : SettingsText) (commands :
   entry_more side b holds p x = record {
     features = λ f i. absurd (Contains-none f i);
     dependencies = deps_more true (steps.built_lead (steps.macros_of w.packages) s (turned side) dev b holds (has_script x) p) (steps.built_lead (steps.macros_of w.packages) more (others side) devs b holds (has_script x) p) x.declarations
-        (λ d q t h. number_more (steps.used s (turned side) dev b holds (has_script x) p d) (steps.used more (others side) devs b holds (has_script x) p d) (steps.place_to b d (flag_at (steps.macros_of w.packages) q) + q) t (used_more side b holds (has_script x) p d) h);
+        (λ d c q t h. number_more (steps.used s (turned side) dev b holds (has_script x) p d) (steps.used more (others side) devs b holds (has_script x) p d) (steps.place_to b d (flag_at (steps.macros_of w.packages) q) + q) t (used_more side b holds (has_script x) p d) h);
   }
 
   abbrev small : Side → ℕ → (Text → Bool) → List Entry

@@ -108,16 +108,16 @@ module _ (n count : ℕ) (plain : Bool) (lead : DeclarationText → ℕ → Opti
           absurd (cc)
 
 -- a dependency that leads somewhere leads there too
-pub deps_more : (plain : Bool) (lead other : DeclarationText → ℕ → Option ℕ) (ds : List DeclarationText) → ((d : DeclarationText) (q t : ℕ) → lead d q ≡ Some t → other d q ≡ Some t) → (d : Dependency) → Contains (steps.dependencies_by plain lead ds) d → Contains (steps.dependencies_by plain other ds) d
+pub deps_more : (plain : Bool) (lead other : DeclarationText → ℕ → Option ℕ) (ds : List DeclarationText) → ((d : DeclarationText) → Contains ds d → (q t : ℕ) → lead d q ≡ Some t → other d q ≡ Some t) → (d : Dependency) → Contains (steps.dependencies_by plain lead ds) d → Contains (steps.dependencies_by plain other ds) d
 deps_more plain lead other ds more d h =
     let m = from_filter_map (λ e. option_map (steps.dependency_as plain e) (steps.lead_by lead e)) ds d h in
     let g = got_map (steps.dependency_as plain m.0) (steps.lead_by lead m.0) d m.2 in
-    let there : steps.lead_by other m.0 ≡ Some g.0 = go m.0 g.0 m.0.leads_to g.1 in
+    let there : steps.lead_by other m.0 ≡ Some g.0 = go m.0 g.0 m.1 m.0.leads_to g.1 in
     into_filter_map (λ e. option_map (steps.dependency_as plain e) (steps.lead_by other e)) ds m.0 d m.1 (ap (option_map (steps.dependency_as plain m.0)) there ∙ ap Some g.2)
   where
-    go : (e : DeclarationText) (t : ℕ) (o : Option ℕ) → option_and_then (lead e) o ≡ Some t → option_and_then (other e) o ≡ Some t
-    go e t None i = absurd (cc)
-    go e t (Some q) i = more e q t i
+    go : (e : DeclarationText) (t : ℕ) → Contains ds e → (o : Option ℕ) → option_and_then (lead e) o ≡ Some t → option_and_then (other e) o ≡ Some t
+    go e t c None i = absurd (cc)
+    go e t c (Some q) i = more e c q t i
 
 -- a number that is there if a test passes is there if another does that passes then
 pub number_more : (a b : Bool) (n t : ℕ) → (a ≡ true → b ≡ true) → steps.number_if a n ≡ Some t → steps.number_if b n ≡ Some t

@@ -1,11 +1,11 @@
--- The entries of step `on`, for more command features and more that is kept.
+-- The entries of step `on`, for larger settings and more that is kept.
 use Rattle.std.proofs.Common.{◌≡◌, ⊎_elim, ℕ, ◌+◌, ◌*◌, ◌<◌, List, [], ◌++◌, Bool, true, false, not, Option, None, Some, length, refl, ap, sym, ◌∙◌, subst, arith, length-append, if◌then◌else◌}
 use Rattle.std.specs.Prelude.{◌%◌, ◌&&◌, ◌||◌, Contains, slice_get}
 use Rattle.std.proofs.lemmas.List.{append-nil, length-map}
 use Rattle.std.proofs.lemmas.List.Elements.{Contains-append_cases, Contains-append_left, Contains-append_right}
 use Rattle.std.proofs.lemmas.Nat.{mod-mul-add}
 use Rattle.cargo_workspaces.specs.Workspaces.{DeclarationText, FeatureText, IsPackage, IsWorkspace, PackageText, Text, WorkspaceText, is_proc_macro}
-use Rattle.feature_core.proofs.AddsLemmas.{Contains-cases, Contains-first, Contains-none}
+use Rattle.feature_core.proofs.AddsLemmas.{Contains-cases, Contains-first, Contains-none, element_at_place}
 use Rattle.feature_core.proofs.Places.{get_cases, get_left, get_right}
 use Rattle.plan_rows.specs.Commands.{command_of, is_started}
 use Rattle.plan_rows.specs.Steps as steps
@@ -15,7 +15,8 @@ use Rattle.plan_rows.specs.declared.side.Side.{Side}
 use Rattle.plan_rows.specs.declared.side.Side.TheVariants.{Target, Host}
 use Rattle.plan_rows.proofs.EntryLemmas.{length-each_from}
 use Rattle.plan_rows.proofs.EntryRules.{number_is}
-use Rattle.plan_laws.specs.Growth.{CommandsGrow, with_commands}
+use Rattle.plan_laws.specs.Growth.{CommandsGrow}
+use Rattle.plan_laws.specs.Widening.{SettingsGrow, admits_any}
 use Rattle.plan_laws.proofs.BuiltStep.{all_place}
 use Rattle.plan_laws.proofs.EntryGrowth.{HasOneName, HaveMore, IsMoreEntry}
 use Rattle.plan_laws.proofs.EntryLinks.{AreWithin}
@@ -30,8 +31,16 @@ pub or_more : (a b c : Bool) → (b ≡ true → c ≡ true) → (a || b) ≡ tr
 or_more true b c more h = refl
 or_more false b c more h = more h
 
-pub and_first : (a b c : Bool) → (a ≡ true → b ≡ true) → (a && c) ≡ true → (b && c) ≡ true
-and_first a b c more h = let parts = both_true a c h in two_true b c (more parts.0) parts.1
+pub either_more : (a b c d : Bool) → (a ≡ true → c ≡ true) → (b ≡ true → d ≡ true) → (a || b) ≡ true → (c || d) ≡ true
+either_more true b c d f g h = let e = f refl in rw e refl
+either_more false b c d f g h = or_more c d d (λ x. x) (right c d (g h))
+  where
+    right : (p q : Bool) → q ≡ true → (p || q) ≡ true
+    right true q e = refl
+    right false q e = e
+
+and_more : (a b c d : Bool) → (a ≡ true → b ≡ true) → (c ≡ true → d ≡ true) → (a && c) ≡ true → (b && d) ≡ true
+and_more a b c d f g h = let parts = both_true a c h in two_true b d (f parts.0) (g parts.1)
 
 -- a command feature is there with all its items
 command_there : (commands others : List (Option FeatureText)) → CommandsGrow commands others → (p : ℕ) (x : FeatureText) → Contains (steps.command_list (command_of commands p)) x → (y : FeatureText) × Contains (steps.command_list (command_of others p)) y × (y.name ≡ x.name) × ((i : Text) → Contains x.items i → Contains y.items i)
@@ -146,43 +155,52 @@ module _ (w : WorkspaceText) (is : IsWorkspace w) where
         ∙ at ∙ ap (λ z. Some (steps.on_entry macros s kept Host z x)) (zero_plus p)
     on_there false Host host p x there m number = let clash : false ≡ true = host refl in absurd (cc)
 
-  -- With more command features, and more that is kept.
+  -- With larger settings, and more that is kept.
 
-  module _ (s : SettingsText) (commands : List (Option FeatureText)) (grow : CommandsGrow s.commands commands) (kept others : ℕ → Text → Bool) (kept_more : (p : ℕ) (name : Text) → kept p name ≡ true → others p name ≡ true) where
-    abbrev more : SettingsText
-    more = with_commands s commands
+  module _ (s t : SettingsText) (grow : SettingsGrow w s t) (kept others : ℕ → Text → Bool) (kept_more : (p : ℕ) (name : Text) → kept p name ≡ true → others p name ≡ true) where
+    holds_more : (x : PackageText) (d : DeclarationText) → Contains w.packages x → Contains x.declarations d → (host : Bool) → (if host then steps.admits s.host d.platform else admits_any s.targets d.platform) ≡ true → (if host then steps.admits t.host d.platform else admits_any t.targets d.platform) ≡ true
+    holds_more x d of_w of_x true h = grow.host x of_w d of_x h
+    holds_more x d of_w of_x false h = grow.targets x of_w d of_x h
 
-    admitted_more : (p : ℕ) (side : Side) (d : DeclarationText) → steps.admitted s kept p side d ≡ true → steps.admitted more others p side d ≡ true
-    admitted_more p side d h =
+    unsplit : not s.split ≡ true → not t.split ≡ true
+    unsplit h = sym (ap not grow.split) ∙ h
+
+    admitted_more : (x : PackageText) (d : DeclarationText) → Contains w.packages x → Contains x.declarations d → (p : ℕ) (side : Side) → steps.admitted s kept p side d ≡ true → steps.admitted t others p side d ≡ true
+    admitted_more x d of_w of_x p side h =
         let dev = not (steps.is_development d.kind) in
-        let tests = s.test || not s.split in
-        let last = not s.split || steps.holds_on s side d in
-        let parts = both_true ((not d.optional || kept p d.name) && (dev || is_started s.commands p && tests)) last h in
-        let pair = both_true (not d.optional || kept p d.name) (dev || is_started s.commands p && tests) parts.0 in
-        two_true ((not d.optional || others p d.name) && (dev || is_started commands p && tests)) last
-        (two_true (not d.optional || others p d.name) (dev || is_started commands p && tests)
+        let parts = both_true ((not d.optional || kept p d.name) && (dev || is_started s.commands p && (s.test || not s.split))) (not s.split || steps.holds_on s side d) h in
+        let pair = both_true (not d.optional || kept p d.name) (dev || is_started s.commands p && (s.test || not s.split)) parts.0 in
+        two_true ((not d.optional || others p d.name) && (dev || is_started t.commands p && (t.test || not t.split))) (not t.split || steps.holds_on t side d)
+        (two_true (not d.optional || others p d.name) (dev || is_started t.commands p && (t.test || not t.split))
         (or_more (not d.optional) (kept p d.name) (others p d.name) (kept_more p d.name) pair.0)
-        (or_more dev (is_started s.commands p && tests) (is_started commands p && tests) (and_first (is_started s.commands p) (is_started commands p) tests (started_more w is s commands grow p)) pair.1))
-        parts.1
+        (or_more dev (is_started s.commands p && (s.test || not s.split)) (is_started t.commands p && (t.test || not t.split))
+        (and_more (is_started s.commands p) (is_started t.commands p) (s.test || not s.split) (t.test || not t.split) (started_more w is s t.commands grow.commands p)
+        (either_more s.test (not s.split) t.test (not t.split) grow.test unsplit)) pair.1))
+        (either_more (not s.split) (steps.holds_on s side d) (not t.split) (steps.holds_on t side d) unsplit (holds_more x d of_w of_x (steps.is_build d.kind || steps.is_host side)) parts.1)
 
-    entry_more : (side : Side) (p : ℕ) (x : PackageText) → IsMoreEntry (steps.on_entry macros s kept side p x) (steps.on_entry macros more others side p x)
-    entry_more side p x = record {
+    lead_more : (x : PackageText) (d : DeclarationText) → Contains w.packages x → Contains x.declarations d → (p : ℕ) (side : Side) (q n : ℕ) → steps.on_lead macros s kept side p d q ≡ Some n → steps.on_lead macros t others side p d q ≡ Some n
+    lead_more x d of_w of_x p side q n h =
+        let to : Bool → ℕ = λ split. steps.side_base (length macros) (steps.lands split d (flag_at macros q) side) + q in
+        subst (λ split. steps.number_if (steps.admitted t others p side d) (to split) ≡ Some n) grow.split
+        (number_more (steps.admitted s kept p side d) (steps.admitted t others p side d) (to s.split) n (admitted_more x d of_w of_x p side) h)
+
+    entry_more : (x : PackageText) → Contains w.packages x → (side : Side) (p : ℕ) → IsMoreEntry (steps.on_entry macros s kept side p x) (steps.on_entry macros t others side p x)
+    entry_more x of_w side p = record {
       features = λ f i. ⊎_elim
-          (λ j. (f, Contains-append_left x.features (steps.command_list (command_of commands p)) f j, refl, λ k c. c))
-          (λ j. let g = command_there s.commands commands grow p f j in (g.0, Contains-append_right x.features (steps.command_list (command_of commands p)) g.0 g.1, g.2, g.3))
+          (λ j. (f, Contains-append_left x.features (steps.command_list (command_of t.commands p)) f j, refl, λ k c. c))
+          (λ j. let g = command_there s.commands t.commands grow.commands p f j in (g.0, Contains-append_right x.features (steps.command_list (command_of t.commands p)) g.0 g.1, g.2, g.3))
           (Contains-append_cases x.features (steps.command_list (command_of s.commands p)) f i);
-      dependencies = deps_more false (steps.on_lead macros s kept side p) (steps.on_lead macros more others side p) x.declarations
-          (λ d q t h. number_more (steps.admitted s kept p side d) (steps.admitted more others p side d) (steps.side_base (length macros) (steps.lands s.split d (flag_at macros q) side) + q) t (admitted_more p side d) h);
+      dependencies = deps_more false (steps.on_lead macros s kept side p) (steps.on_lead macros t others side p) x.declarations (λ d c. lead_more x d of_w c p side);
     }
 
-    pub on_more : HaveMore (steps.on_entries w s kept) (steps.on_entries w more others) everywhere
+    pub on_more : HaveMore (steps.on_entries w s kept) (steps.on_entries w t others) everywhere
     on_more = record {
       entries = λ m e r h.
           let b = on_back s kept s.split m e h in (
-            steps.on_entry macros more others b.side b.place b.item,
-            on_there more others s.split b.side b.host b.place b.item b.there m b.number,
-            subst (λ z. IsMoreEntry z (steps.on_entry macros more others b.side b.place b.item)) b.entry (entry_more b.side b.place b.item),
+            steps.on_entry macros t others b.side b.place b.item,
+            on_there t others t.split b.side (λ i. sym grow.split ∙ b.host i) b.place b.item b.there m b.number,
+            subst (λ z. IsMoreEntry z (steps.on_entry macros t others b.side b.place b.item)) b.entry (entry_more b.item (element_at_place w.packages b.place b.item b.there) b.side b.place),
           );
       stays = λ m e d r h i. refl;
-      names = λ m f r h. (on_rules more others s.split refl m f h).1;
+      names = λ m f r h. (on_rules t others t.split refl m f h).1;
     }

@@ -17,26 +17,27 @@ use Rattle.cargo_plans.specs.Plans.{settings_by}
 use Rattle.plan_laws.specs.Growth.{CommandsGrow, MoreWordsTurnNothingOff, select_features, with_features}
 use Rattle.plan_laws.proofs.Members.{from_filter_map, same_some}
 use Rattle.plan_laws.proofs.MoreEntries.{into_filter_map}
-use Rattle.plan_laws.proofs.MoreFeatures.{command_there, more_turns_nothing_off}
+use Rattle.plan_laws.proofs.MoreFeatures.{more_turns_nothing_off}
+use Rattle.plan_laws.proofs.MoreSteps.{command_there}
 
-same_ok : {X : Type 0} (x y : X) → ◌≡◌ {A = Result X Refusal} (Ok x) (Ok y) → x ≡ y
+pub same_ok : {X : Type 0} (x y : X) → ◌≡◌ {A = Result X Refusal} (Ok x) (Ok y) → x ≡ y
 same_ok x y h = cc
 
-unless_ok : {X : Type 0} (o : Option Refusal) (x y : X) → unless o x ≡ Ok y → x ≡ y
+pub unless_ok : {X : Type 0} (o : Option Refusal) (x y : X) → unless o x ≡ Ok y → x ≡ y
 unless_ok None x y h = same_ok x y h
 unless_ok (Some r) x y h = absurd (cc)
 
-then_ok : {X Y : Type 0} (r : Result X Refusal) (f : X → Result Y Refusal) (y : Y) → (r >>= f) ≡ Ok y → (x : X) × (r ≡ Ok x) × (f x ≡ Ok y)
+pub then_ok : {X Y : Type 0} (r : Result X Refusal) (f : X → Result Y Refusal) (y : Y) → (r >>= f) ≡ Ok y → (x : X) × (r ≡ Ok x) × (f x ≡ Ok y)
 then_ok (Ok x) f y h = (x, refl, h)
 then_ok (Err e) f y h = absurd (cc)
 
 -- What is started.
 
-abbrev shape : WorkspaceText → Option ℕ → List ℕ → List Text → StartedText
+abbrev pub shape : WorkspaceText → Option ℕ → List ℕ → List Text → StartedText
 shape w None chosen words = record { members = if nat_eq (length chosen) 0 then w.members else chosen; words = each_takes words }
 shape w (Some root) chosen words = record { members = chosen ++ root ∷ []; words = root_takes root (map (addressed w root chosen) words) }
 
-started_is : (w : WorkspaceText) (s : SelectionText) (root : Option ℕ) (chosen : List ℕ) (begun : StartedText) → started w s root chosen ≡ Ok begun → shape w root chosen s.features ≡ begun
+pub started_is : (w : WorkspaceText) (s : SelectionText) (root : Option ℕ) (chosen : List ℕ) (begun : StartedText) → started w s root chosen ≡ Ok begun → shape w root chosen s.features ≡ begun
 started_is w s None chosen begun h = go (nat_eq (length chosen) 0) h
   where
     go : (b : Bool) → (if b then all_members w s else chosen_members w s chosen) ≡ Ok begun → ◌≡◌ {A = StartedText} (record { members = if b then w.members else chosen; words = each_takes s.features }) begun
@@ -52,10 +53,10 @@ commands_are w s packages commands h =
 
 -- The command feature of a package.
 
-abbrev made : SelectionText → StartedText → ℕ → PackageText → Option FeatureText
+abbrev pub made : SelectionText → StartedText → ℕ → PackageText → Option FeatureText
 made s begun k x = value_if (list_any (nat_eq k) begun.members) (command s begun.words k x)
 
-command_back : (s : SelectionText) (begun : StartedText) (k : ℕ) (xs : List PackageText) (p : ℕ) (o : Option FeatureText) → slice_get (commands_from s begun k xs) p ≡ Some o → (x : PackageText) × (slice_get xs p ≡ Some x) × (made s begun (k + p) x ≡ o)
+pub command_back : (s : SelectionText) (begun : StartedText) (k : ℕ) (xs : List PackageText) (p : ℕ) (o : Option FeatureText) → slice_get (commands_from s begun k xs) p ≡ Some o → (x : PackageText) × (slice_get xs p ≡ Some x) × (made s begun (k + p) x ≡ o)
 command_back s begun k [] p o h = absurd (cc)
 command_back s begun k (x ∷ xs) zero o h =
     let first : k + zero ≡ k = omega arith in
@@ -65,7 +66,7 @@ command_back s begun k (x ∷ xs) (suc p) o h =
     let next : k + suc p ≡ k + 1 + p = omega arith in
     (r.0, r.1, ap (λ n. made s begun n r.0) next ∙ r.2)
 
-command_at : (s : SelectionText) (begun : StartedText) (k : ℕ) (xs : List PackageText) (p : ℕ) (x : PackageText) → slice_get xs p ≡ Some x → slice_get (commands_from s begun k xs) p ≡ Some (made s begun (k + p) x)
+pub command_at : (s : SelectionText) (begun : StartedText) (k : ℕ) (xs : List PackageText) (p : ℕ) (x : PackageText) → slice_get xs p ≡ Some x → slice_get (commands_from s begun k xs) p ≡ Some (made s begun (k + p) x)
 command_at s begun k [] p x h = absurd (cc)
 command_at s begun k (y ∷ xs) zero x h =
     let first : k ≡ k + zero = omega arith in

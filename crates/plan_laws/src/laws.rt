@@ -1,6 +1,7 @@
 //! Laws of visits and of plans. Each function does nothing: its contract is the law.
 ghost use Rattle.plan_laws.specs.Growth.{GrownTablesReachMore, MoreTurnsNothingOff, MoreWordsTurnNothingOff};
 ghost use Rattle.plan_laws.specs.Laws.{MoreStartsReachMore, MoreStartsVisitMore, OnePlan, OnePlanOfWords, PlanExcludesRefusal, PlanOfWordsExcludesRefusal, PlansFollowDeclarations, ResolversAgree};
+ghost use Rattle.plan_laws.specs.Widening.{LargerTurnsNothingOff, NoSelectionTurnsOn, WidestTurnsAllOn};
 
 use feature_core::laws::least_monotone;
 use step_visits::one_visit;
@@ -23,6 +24,20 @@ pub fn grown_tables_reach_more()
 pub fn more_turns_nothing_off()
     ensures settings { MoreTurnsNothingOff }
     ensures words { MoreWordsTurnNothingOff }
+{}
+
+/// States that larger settings turn nothing off: with tests, more command features, and more platform specs that hold, all that was on is
+/// on, on the same side.
+pub fn larger_turns_nothing_off()
+    ensures { LargerTurnsNothingOff }
+{}
+
+/// States that all members with all their features, with tests, and with each platform spec of the workspace, turn on all that any other
+/// words do, if these have the same resolver and ask for no feature of a dependency on their own. So what is off in that plan is off in
+/// each of theirs.
+pub fn no_selection_turns_on()
+    ensures widest { WidestTurnsAllOn }
+    ensures off { NoSelectionTurnsOn }
 {}
 
 /// States that each package of a plan is one that declarations lead to from the selected packages.

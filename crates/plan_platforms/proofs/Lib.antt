@@ -1,1 +1,2 @@
+pub mod EveryLemmas
 pub mod HoldingLemmas

@@ -3,7 +3,7 @@ ghost use Rattle.std.specs.Borrow.{Bor};
 ghost use Rattle.std.specs.Prelude.{◌≡◌, ℕ, ◌++◌, ◌∷◌, [], List, map, OnOk, IfOk, IfErr};
 ghost use Rattle.platform_specs.specs.Faults.{IsSpecFault};
 ghost use Rattle.plan_platforms.specs.DeclaredSpecs.{DeclaredText};
-ghost use Rattle.plan_platforms.specs.HeldSpecs.{AreHeld, IsTruth, holds_on};
+ghost use Rattle.plan_platforms.specs.HeldSpecs.{AreHeld, IsTruth, holds_on, is_declared};
 ghost use Rattle.plan_platforms.specs.SpecFaults.{IsFaultAt, IsFaultOf};
 ghost use Rattle.plan_platforms.specs.Views.{declared_text};
 ghost use Rattle.plan_platforms.specs.inner.Holding.{IsHolding, kept};
@@ -103,6 +103,22 @@ pub fn held_specs<'w>(
         if let Err(fault) = note(alloc, &mut held, *declared, target) {
             return Err(fault);
         }
+    }
+    Ok(held)
+}
+
+/// Returns a platform on which exactly the specs of `specs` hold. An allocation's failure is the only error.
+pub fn every_spec<'w>(
+    alloc: Global,
+    specs: &[DeclaredSpec<'w>],
+) -> Result<HeldSpecs<'w>, AllocError>
+    ensures { IfOk result (λ held. (text : List ℕ) → holds_on held text ≡ is_declared (map declared_text specs.now) text) }
+{
+    let mut held = HeldSpecs {
+        texts: BTreeSet::new(alloc),
+    };
+    for declared in specs {
+        keep(&mut held, declared.text, true)?;
     }
     Ok(held)
 }

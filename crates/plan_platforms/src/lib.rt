@@ -7,4 +7,4 @@ mod holding;
 
 pub use declarations::{DeclaredSpec, declared_specs};
 pub use fault::PlatformFault;
-pub use holding::{HeldSpecs, held_specs};
+pub use holding::{HeldSpecs, every_spec, held_specs};

@@ -1,0 +1,58 @@
+-- Whether a label is on by some words.
+use Rattle.std.specs.Prelude.{◌≡◌, ℕ, Bool, true, false, IsFalse, IsTrue, ◌||◌, if◌then◌else◌}
+use Rattle.feature_labels.specs.Names.{LabelName}
+use Rattle.cargo_workspaces.specs.Workspaces.{Text, WorkspaceText}
+use Rattle.plan_rows.specs.declared.side.Side.{Side}
+use Rattle.plan_rows.specs.declared.side.Side.TheVariants.{Host, Target}
+use Rattle.plan_starts.specs.PackageVisits.{PairVisit, is_on}
+use Rattle.plan_steps.specs.PlanViews.{plan_text}
+use Rattle.plan_steps.specs.Plans.{PlanText}
+use Rattle.cargo_plans.specs.Plans.{IsPlanOf, WordsText}
+use Rattle.cargo_plans.specs.Refusals.{IsRefusal}
+use Rattle.cargo_plans.specs.declared.fault.PlanFault.{PlanFault}
+use Rattle.cargo_plans.specs.declared.fault.PlanFault.TheVariants as fault
+use Rattle.plan_widenings.specs.Widenings.{widened}
+use Rattle.plan_widenings.specs.declared.finding.Finding.{Finding}
+use Rattle.plan_widenings.specs.declared.finding.Finding.TheVariants as finding
+use Rattle.plan_widenings.specs.declared.sides.Sides.{Sides}
+use Rattle.plan_widenings.specs.declared.widening.Widening.{Widening}
+use Rattle.plan_widenings.specs.declared.widening.Widening.TheVariants as widening
+
+-- On which sides a label of package `p` is on.
+abbrev pub sides_of : PairVisit → ℕ → LabelName → Sides
+sides_of on p label = record { target = is_on on Target p label; host = is_on on Host p label }
+
+-- Whether there is one.
+abbrev pub are_some : Sides → Bool
+are_some sides = sides.target || sides.host
+
+-- The target side if the label is on there, else the host side.
+abbrev pub first_side : Sides → Side
+first_side sides = if sides.target then Target else Host
+
+-- The words have a plan, in which the label of package `p` is off on both sides.
+pub record IsOff (w : WorkspaceText) (words : WordsText) (p : ℕ) (label : LabelName) : Type 0 where
+  pub plan : PlanText
+  pub is_plan : IsPlanOf w words plan
+  pub is_off : IsFalse (are_some (sides_of plan.on p label))
+
+-- This is a plan of the words, in which the label of package `p` is on, on these sides.
+pub record IsOnBy (w : WorkspaceText) (words : WordsText) (p : ℕ) (label : LabelName) (sides : Sides) (plan : PlanText) : Type 0 where
+  pub is_plan : IsPlanOf w words plan
+  pub are_sides : sides ≡ sides_of plan.on p label
+  pub is_on : IsTrue (are_some sides)
+
+-- Whether the fault is that of the words, and not one of an allocation.
+abbrev pub is_memory : PlanFault → Bool
+is_memory fault.Memory = true
+is_memory _ = false
+
+-- What is found of a label of package `p`, by some words.
+abbrev pub IsFinding : WorkspaceText → WordsText → ℕ → LabelName → Finding → Type 0
+IsFinding w words p label (finding.On sides plan) = IsOnBy w words p label sides (plan_text plan)
+IsFinding w words p label finding.Off = IsOff w words p label
+IsFinding w words p label (finding.Refused e) = IsRefusal w words e × IsFalse (is_memory e)
+
+-- OFF EVERYWHERE: the label is off in a plan of the words with all widenings together.
+abbrev pub IsOffEverywhere : WorkspaceText → WordsText → (Text → Bool) → ℕ → LabelName → Type 0
+IsOffEverywhere w words every p label = IsOff w (widened every widening.Together words) p label

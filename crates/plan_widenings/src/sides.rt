@@ -1,0 +1,50 @@
+//! The sides on which a feature is on.
+ghost use Rattle.std.specs.Prelude.{◌≡◌};
+ghost use Rattle.feature_labels.specs.Names.{label_of};
+ghost use Rattle.plan_starts.specs.PackageVisits.{is_on};
+ghost use Rattle.plan_widenings.specs.Findings as spec;
+
+use feature_labels::FeatureLabel;
+use plan_rows::{Side, TurnedOn};
+use plan_starts::PackageVisit;
+
+/// The sides on which a feature is on.
+#[derive(Clone, Copy)]
+pub struct Sides {
+    pub target: bool,
+    pub host: bool,
+}
+
+impl Sides {
+    /// Returns the target side if the feature is on there, else the host side.
+    pub fn first(self) -> Side
+        ensures { result ≡ spec.first_side self }
+    {
+        if self.target {
+            Side::Target
+        } else {
+            Side::Host
+        }
+    }
+}
+
+/// Returns whether `label` of package `package` is on, on `side`, by the visit of step `on`.
+fn is_on(on: &PackageVisit, side: Side, package: usize, label: FeatureLabel<'_>) -> bool
+    ensures { result ≡ is_on on.now side «package» (label_of label.entry) }
+{
+    match label {
+        FeatureLabel::Base => on.has_package(side, package),
+        FeatureLabel::Named(name) => on.has_feature(side, package, name),
+        FeatureLabel::OptionalDependency(name) => on.is_on(side, package, name),
+    }
+}
+
+/// Returns the sides on which `label` of package `package` is on, by the visit of step `on`.
+pub(crate) fn sides_of(on: &PackageVisit, package: usize, label: FeatureLabel<'_>) -> Sides
+    ensures { result ≡ spec.sides_of on.now «package» (label_of label.entry) }
+{
+    Sides {
+        target: is_on(on, Side::Target, package, label),
+        host: is_on(on, Side::Host, package, label),
+    }
+}

@@ -1,0 +1,2 @@
+mod DeclaredSpecs
+mod NoChoice

@@ -1,0 +1,4 @@
+//! The law that `why-not` states.
+#![tactic(auto)]
+
+pub mod laws;

@@ -1,0 +1,11 @@
+//! What is said of a widening.
+
+/// What is said of a feature in a widened selection.
+#[derive(Clone, Copy)]
+pub enum Said<'t> {
+    /// It is on, with the lines that explain it.
+    On(&'t str),
+    Off,
+    /// The selection has no plan, with the message why.
+    NotPlanned(&'t str),
+}
