@@ -7,7 +7,7 @@ use Rattle.cargo_workspaces.specs.Workspaces.{Text, PackageText}
 use Rattle.plan_lines.specs.Objects.{member}
 use Rattle.why_lines.specs.Objects.{Appends, dependency_name, feature_name, gate_of, id_at, platform_tokens, reason_tokens, reason_word, side_word, spot_members, spot_or_null, start_of, text_or_null}
 use Rattle.why_lines.specs.Relations.{relation_of}
-use Rattle.why_lines.specs.Steps.{SpotText, ReasonText}
+use Rattle.plan_whys.specs.Steps.{SpotText, ReasonText}
 
 -- the same tokens
 pub appends_same : (a b : Written) (xs ys : List Token) → xs ≡ ys → Appends a b xs → Appends a b ys

@@ -6,7 +6,7 @@ use Rattle.feature_labels.specs.Names.{LabelName, base, named, optional}
 use Rattle.plan_lines.specs.Lines.{is_repeated, label_of, name_of}
 use Rattle.plan_rows.specs.Steps.{is_host}
 use Rattle.plan_rows.specs.declared.side.Side.{Side}
-use Rattle.why_lines.specs.Steps.{SpotText}
+use Rattle.plan_whys.specs.Steps.{SpotText}
 
 -- A package's name. If several packages have the name: its name and version; if several have both, its source too.
 abbrev pub package_label : List PackageText → PackageText → Text

@@ -5,6 +5,4 @@ pub mod Platforms
 pub mod Reasons
 pub mod Relations
 pub mod Settings
-pub mod StepViews
-pub mod Steps
 pub mod inner

@@ -6,7 +6,7 @@ use Rattle.why_lines.specs.Labels.{spot_label}
 use Rattle.why_lines.specs.Reasons.{reason_words}
 use Rattle.why_lines.specs.Relations.{is_shown}
 use Rattle.why_lines.specs.Settings.{SettingsText}
-use Rattle.why_lines.specs.Steps.{WhyText}
+use Rattle.plan_whys.specs.Steps.{WhyText}
 
 -- The texts of a line's columns.
 pub record RowText : Type 0 where

@@ -12,7 +12,7 @@ use Rattle.plan_rows.specs.declared.side.Side.TheVariants as side
 use Rattle.why_lines.specs.Platforms.{platforms_of}
 use Rattle.why_lines.specs.Relations.{is_command, is_shown, relation_of}
 use Rattle.why_lines.specs.Settings.{SettingsText}
-use Rattle.why_lines.specs.Steps.{SpotText, ReasonText, WhyText, selected, from}
+use Rattle.plan_whys.specs.Steps.{SpotText, ReasonText, WhyText, selected, from}
 use Rattle.why_lines.specs.declared.relations.Relation.{Relation}
 use Rattle.why_lines.specs.declared.relations.Relation.TheVariants as relation
 

@@ -8,7 +8,7 @@ use Rattle.plan_rows.specs.Steps.{admits, is_build, is_development, is_host, lan
 use Rattle.plan_rows.specs.declared.side.Side.{Side}
 use Rattle.why_lines.specs.Relations.{is_by_declaration, relation_from}
 use Rattle.why_lines.specs.Settings.{SettingsText}
-use Rattle.why_lines.specs.Steps.{SpotText}
+use Rattle.plan_whys.specs.Steps.{SpotText}
 
 -- Whether both are the same side.
 abbrev pub is_same_side : Side → Side → Bool

@@ -6,7 +6,7 @@ use Rattle.why_lines.specs.Labels.{spot_label}
 use Rattle.why_lines.specs.Platforms.{platforms_of}
 use Rattle.why_lines.specs.Relations.{is_named, relation_from}
 use Rattle.why_lines.specs.Settings.{SettingsText}
-use Rattle.why_lines.specs.Steps.{SpotText, ReasonText, selected, from}
+use Rattle.plan_whys.specs.Steps.{SpotText, ReasonText, selected, from}
 use Rattle.why_lines.specs.declared.relations.Relation.{Relation}
 use Rattle.why_lines.specs.declared.relations.Relation.TheVariants as relation
 

@@ -3,7 +3,7 @@ use Rattle.std.specs.Prelude.{Bool, true, false, not, ◌&&◌, codes, nat_eq, i
 use Rattle.std.specs.Str.{bytes_eq}
 use Rattle.cargo_workspaces.specs.Workspaces.{Text}
 use Rattle.feature_labels.specs.Names.{LabelName, base, named, optional}
-use Rattle.why_lines.specs.Steps.{SpotText, ReasonText, WhyText, selected, from}
+use Rattle.plan_whys.specs.Steps.{SpotText, ReasonText, WhyText, selected, from}
 use Rattle.why_lines.specs.declared.relations.Relation.{Relation}
 use Rattle.why_lines.specs.declared.relations.Relation.TheVariants as relation
 

@@ -6,14 +6,14 @@ ghost use Rattle.cargo_workspaces.specs.WorkspaceView.{workspace_text};
 ghost use Rattle.feature_labels.specs.Names.{label_of as value_of};
 ghost use Rattle.plan_lines.specs.Lines.{name_of};
 ghost use Rattle.why_lines.specs.Labels as spec;
-ghost use Rattle.why_lines.specs.StepViews.{spot_text};
+ghost use Rattle.plan_whys.specs.StepViews.{spot_text};
 ghost use Rattle.why_lines.specs.inner.Labelled.{AreLabels, packages_of};
 
-use crate::steps::Spot;
 use cargo_workspaces::{Package, Workspace};
 use feature_labels::FeatureLabel;
 use plan_lines::{label_of, names_of, repeated_in, repeated_names};
 use plan_rows::Side;
+use plan_whys::Spot;
 use std::alloc::{AllocError, Global};
 use std::collections::BTreeSet;
 

@@ -8,11 +8,10 @@ mod reasons;
 mod relations;
 mod rows;
 mod settings;
-mod steps;
 mod table;
 
 pub use labels::spot_label;
 pub use objects::{why_objects, write_steps};
+pub use plan_whys::{Spot, WhyReason, WhyStep};
 pub use settings::WhySettings;
-pub use steps::{Spot, WhyReason, WhyStep};
 pub use table::why_lines;

@@ -8,16 +8,16 @@ ghost use Rattle.json.specs.Token.{key, string};
 ghost use Rattle.plan_lines.specs.Objects.{member};
 ghost use Rattle.why_lines.specs.Objects as spec;
 ghost use Rattle.why_lines.specs.Settings.{settings_text};
-ghost use Rattle.why_lines.specs.StepViews.{reason_text, spot_text, why_text};
+ghost use Rattle.plan_whys.specs.StepViews.{reason_text, spot_text, why_text};
 
 use crate::platforms::platforms_of;
 use crate::relations::{Relation, is_command, is_shown, relation_of};
 use crate::settings::WhySettings;
-use crate::steps::{Spot, WhyReason, WhyStep};
 use cargo_workspaces::{Package, Workspace};
 use feature_labels::FeatureLabel;
 use json::Writer;
 use plan_rows::{Platform, Side};
+use plan_whys::{Spot, WhyReason, WhyStep};
 use std::alloc::{AllocError, Global};
 
 /// Writes a member whose value is a string.

@@ -7,13 +7,13 @@ ghost use Rattle.cargo_workspaces.specs.Workspaces.{both_lead_to};
 ghost use Rattle.plan_rows.specs.Steps as steps;
 ghost use Rattle.why_lines.specs.Platforms as spec;
 ghost use Rattle.why_lines.specs.Settings.{settings_text};
-ghost use Rattle.why_lines.specs.StepViews.{spot_text};
+ghost use Rattle.plan_whys.specs.StepViews.{spot_text};
 
 use crate::relations::{is_by_declaration, relation_from};
 use crate::settings::WhySettings;
-use crate::steps::Spot;
 use cargo_workspaces::{Declaration, Kind, Package};
 use plan_rows::{Platform, Side};
+use plan_whys::Spot;
 use std::alloc::{AllocError, Global};
 
 /// Returns whether `side` is the host.

@@ -4,16 +4,16 @@ ghost use Rattle.cargo_workspaces.specs.Views.{texts};
 ghost use Rattle.why_lines.specs.Reasons as spec;
 ghost use Rattle.why_lines.specs.Relations as relation;
 ghost use Rattle.why_lines.specs.Settings.{settings_text};
-ghost use Rattle.why_lines.specs.StepViews.{reason_text, spot_text};
+ghost use Rattle.plan_whys.specs.StepViews.{reason_text, spot_text};
 ghost use Rattle.why_lines.specs.inner.Labelled.{AreLabels, packages_of};
 
 use crate::labels::{Labels, push_spot};
 use crate::platforms::platforms_of;
 use crate::relations::{Relation, is_named, relation_from};
 use crate::settings::WhySettings;
-use crate::steps::{Spot, WhyReason};
 use feature_labels::FeatureLabel;
 use plan_rows::Platform;
+use plan_whys::{Spot, WhyReason};
 use std::alloc::{AllocError, Global};
 
 /// Returns the spot of the package of `spot`.

@@ -2,10 +2,10 @@
 ghost use Rattle.std.specs.Prelude.{◌≡◌};
 ghost use Rattle.feature_labels.specs.Names.{label_of};
 ghost use Rattle.why_lines.specs.Relations as spec;
-ghost use Rattle.why_lines.specs.StepViews.{reason_text, spot_text, why_text};
+ghost use Rattle.plan_whys.specs.StepViews.{reason_text, spot_text, why_text};
 
-use crate::steps::{Spot, WhyReason, WhyStep};
 use feature_labels::FeatureLabel;
+use plan_whys::{Spot, WhyReason, WhyStep};
 
 /// How the start of a step leads to its spot.
 #[derive(Clone, Copy)]

@@ -3,7 +3,7 @@ ghost use Rattle.std.specs.Prelude.{◌≡◌, IfOk, filter, map};
 ghost use Rattle.why_lines.specs.Lines as spec;
 ghost use Rattle.why_lines.specs.Relations as relation;
 ghost use Rattle.why_lines.specs.Settings.{settings_text};
-ghost use Rattle.why_lines.specs.StepViews.{why_text};
+ghost use Rattle.plan_whys.specs.StepViews.{why_text};
 ghost use Rattle.why_lines.specs.inner.Labelled.{AreLabels, packages_of};
 ghost use Rattle.why_lines.specs.inner.Rows.{row_text};
 
@@ -11,8 +11,8 @@ use crate::labels::{Labels, label_text};
 use crate::reasons::reason_words;
 use crate::relations::is_shown;
 use crate::settings::WhySettings;
-use crate::steps::WhyStep;
 use plan_rows::Platform;
+use plan_whys::WhyStep;
 use std::alloc::{AllocError, Global};
 
 /// A row of the table: the texts of its columns.

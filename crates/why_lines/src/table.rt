@@ -4,16 +4,16 @@ ghost use Rattle.cargo_workspaces.specs.WorkspaceView.{workspace_text};
 ghost use Rattle.plan_lines.specs.Lines as plan;
 ghost use Rattle.why_lines.specs.Lines as spec;
 ghost use Rattle.why_lines.specs.Settings.{settings_text};
-ghost use Rattle.why_lines.specs.StepViews.{why_text};
+ghost use Rattle.plan_whys.specs.StepViews.{why_text};
 ghost use Rattle.why_lines.specs.inner.Rows.{row_text};
 
 use crate::labels::labels_of;
 use crate::rows::{Row, rows_of};
 use crate::settings::WhySettings;
-use crate::steps::WhyStep;
 use cargo_workspaces::Workspace;
 use plan_lines::names_of;
 use plan_rows::Platform;
+use plan_whys::WhyStep;
 use std::alloc::{AllocError, Global};
 
 /// Returns the larger number.

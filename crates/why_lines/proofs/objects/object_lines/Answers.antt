@@ -2,7 +2,7 @@ use Rattle.std.proofs.Common.{map}
 use Rattle.cargo_workspaces.specs.Views.{package_text}
 use Rattle.why_lines.specs.Objects.{object_line, why_objects}
 use Rattle.why_lines.specs.Settings.{settings_text}
-use Rattle.why_lines.specs.StepViews.{why_text}
+use Rattle.plan_whys.specs.StepViews.{why_text}
 use Rattle.why_lines.proofs.Loops.{flat_more}
 use Rattle.why_lines.proofs.objects.object_lines.Goals as goal
 

@@ -2,7 +2,7 @@ use Rattle.std.proofs.Common.{◌≡◌, ◌++◌, map, drop}
 use Rattle.cargo_workspaces.specs.Views.{package_text}
 use Rattle.why_lines.specs.Objects.{step_objects}
 use Rattle.why_lines.specs.Settings.{settings_text}
-use Rattle.why_lines.specs.StepViews.{why_text}
+use Rattle.plan_whys.specs.StepViews.{why_text}
 use Rattle.why_lines.proofs.objects.write_all.Given as goal
 
 abbrev pub invariant-loop-step : goal.invariant-loop-step

@@ -1,4 +1,4 @@
-use Rattle.why_lines.specs.StepViews.{reason_text, spot_text}
+use Rattle.plan_whys.specs.StepViews.{reason_text, spot_text}
 use Rattle.std.proofs.Common.{◌∙◌, ap, map}
 use Rattle.cargo_workspaces.specs.Views.{package_text, texts}
 use Rattle.why_lines.specs.Objects.{reason_word}

@@ -1,4 +1,4 @@
-use Rattle.why_lines.specs.StepViews.{spot_text}
+use Rattle.plan_whys.specs.StepViews.{spot_text}
 use Rattle.std.proofs.Common.{map}
 use Rattle.cargo_workspaces.specs.Views.{package_text}
 use Rattle.why_lines.proofs.Members.{appends_same, spot_same}

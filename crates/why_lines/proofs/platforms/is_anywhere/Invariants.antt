@@ -3,7 +3,7 @@ use Rattle.std.specs.List.{list_any}
 use Rattle.cargo_workspaces.specs.Views.{declaration_text}
 use Rattle.why_lines.specs.Platforms as spec
 use Rattle.why_lines.specs.Settings.{settings_text}
-use Rattle.why_lines.specs.StepViews.{spot_text}
+use Rattle.plan_whys.specs.StepViews.{spot_text}
 use Rattle.why_lines.proofs.platforms.is_anywhere.Given as goal
 
 abbrev pub invariant-loop-declaration : goal.invariant-loop-declaration

@@ -2,7 +2,7 @@ use Rattle.std.proofs.Common.{◌≡◌, [], map, drop, fold}
 use Rattle.cargo_workspaces.specs.Views.{declaration_text, texts}
 use Rattle.why_lines.specs.Platforms as spec
 use Rattle.why_lines.specs.Settings.{settings_text}
-use Rattle.why_lines.specs.StepViews.{spot_text}
+use Rattle.plan_whys.specs.StepViews.{spot_text}
 use Rattle.why_lines.proofs.platforms.platforms_in.Given as goal
 
 abbrev pub invariant-loop-declaration : goal.invariant-loop-declaration

@@ -2,7 +2,7 @@ use Rattle.std.proofs.Common.{◌≡◌, ◌++◌, filter, map, drop}
 use Rattle.why_lines.specs.Lines.{row_of}
 use Rattle.why_lines.specs.Relations.{is_shown}
 use Rattle.why_lines.specs.Settings.{settings_text}
-use Rattle.why_lines.specs.StepViews.{why_text}
+use Rattle.plan_whys.specs.StepViews.{why_text}
 use Rattle.why_lines.specs.inner.Labelled.{packages_of}
 use Rattle.why_lines.specs.inner.Rows.{row_text}
 use Rattle.why_lines.proofs.rows.rows_of.Given as goal
