@@ -12,7 +12,7 @@ use Rattle.step_visits.specs.Visits.{Visit}
 use Rattle.walk_checks.specs.Whys.{IsWhy}
 use Rattle.walk_engine.specs.Explanations.{IsExplanation, nodes_of}
 use Rattle.walk_engine.specs.Laws.{every}
-use Rattle.walk_engine.specs.Walks.{Content, EndsAreNodes, Least, is_in}
+use Rattle.walk_engine.specs.Walks.{EndsAreNodes, Least, is_in}
 use Rattle.walk_engine.specs.declared.walks.Half.{Half}
 use Rattle.walk_engine.specs.declared.walks.Step.{Step}
 use Rattle.plan_whys.specs.inner.Nodes.{AreInside, IsLeast, NodeAnswers}
@@ -51,16 +51,18 @@ kept_inside t b initials A steps kept taken n is ends size why same =
 -- why a node was reached
 pub node_answered : (on : PairVisit) (b : Built) (I : ℕ → Bool) (steps kept taken : List Step) (n : ℕ) (whys : List WhyText) → IsBuilt on.visit.tables b → IsExplanation (content_of Forward b) I every steps
     → ((k : ℕ) → has on.visit.members k ≡ is_in (nodes_of steps) k) → IsWhy (content_of Forward b) I every steps n kept → taken ≡ kept → AreStepsOf on (content_of Forward b) taken whys → NodeAnswers on I n (Some whys)
-node_answered on b I steps kept taken n whys is explanation listed why same shown =
-    (listed n ∙ why_listed (content_of Forward b) I every steps n kept why, record {
-      built = b;
-      is_built = is;
-      steps = steps;
-      explanation = explanation;
-      kept = kept;
-      is_why = why;
-      are_steps = subst (λ l. AreStepsOf on (content_of Forward b) l whys) same shown;
-    })
+node_answered on b I steps kept taken n whys is explanation listed why same shown = (
+  listed n ∙ why_listed (content_of Forward b) I every steps n kept why,
+  record {
+    built = b;
+    is_built = is;
+    steps = steps;
+    explanation = explanation;
+    kept = kept;
+    is_why = why;
+    are_steps = subst (λ l. AreStepsOf on (content_of Forward b) l whys) same shown;
+  },
+)
 
 pub tables_here : (on : PairVisit) (v : Visit) (t : Tables) → v ≡ on.visit → t ≡ v.tables → t ≡ on.visit.tables
 tables_here on v t visit same = same ∙ ap (λ u. u.tables) visit

@@ -14,13 +14,13 @@ use Rattle.plan_starts.specs.PackageVisits.{PairVisit}
 use Rattle.step_visits.specs.Visits.{Visit}
 use Rattle.walk_checks.specs.Tables.{IsEdge}
 use Rattle.walk_checks.specs.declared.table.TableEdge.{TableEdge}
-use Rattle.walk_engine.specs.Walks.{Content, EndsAreNodes, IsWay, Way, has_gate, is_gated}
+use Rattle.walk_engine.specs.Walks.{Content, EndsAreNodes, IsWay, Way, is_gated}
 use Rattle.walk_engine.specs.declared.walks.Ask.{Ask}
 use Rattle.walk_engine.specs.declared.walks.Ask.TheVariants as asks
 use Rattle.walk_engine.specs.declared.walks.Half.{Half}
 use Rattle.walk_engine.specs.declared.walks.Half.TheVariants as half
 use Rattle.walk_engine.specs.declared.walks.StepReason.{StepReason}
-use Rattle.walk_engine.specs.declared.walks.StepReason.TheVariants.{Edge, Offer}
+use Rattle.walk_engine.specs.declared.walks.StepReason.TheVariants.{Offer}
 use Rattle.plan_whys.specs.Reasons.{AreReasonsAt, all_reasons, reasons_by, reasons_of, weak_reasons}
 use Rattle.plan_whys.specs.Steps.{IsReasonOf, ReasonText}
 use Rattle.plan_whys.specs.inner.Nodes.{IsReasonInside}
@@ -96,7 +96,7 @@ reasons_inside on v b table M n found taken visit is ends same all taken_is =
     let c = content_of Forward b in
     let here : All (IsReasonInside (length (node_packages v.tables)) c) (all_reasons c M n) = subst (λ m. All (IsReasonInside m c) (all_reasons c M n)) (ap length is.packages) (all_inside c ends M n) in
     let there : All (IsReasonInside (length (node_packages v.tables)) table.holds) (all_reasons table.holds M n) =
-        subst (λ (r : Reading). All (IsReasonInside (length (node_packages v.tables)) r.holds) (all_reasons r.holds M n)) (sym same) here
+    subst (λ (r : Reading). All (IsReasonInside (length (node_packages v.tables)) r.holds) (all_reasons r.holds M n)) (sym same) here
     in
     subst (λ (u : Visit). All (IsReasonInside (length (node_packages u.tables)) table.holds) taken) visit
     (subst (All (IsReasonInside (length (node_packages v.tables)) table.holds)) (sym (taken_is ∙ all)) there)

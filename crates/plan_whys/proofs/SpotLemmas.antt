@@ -1,19 +1,13 @@
 -- The spots of nodes, and the reasons by the edges of a table.
-use Rattle.std.proofs.Common.{◌≡◌, ◌∙◌, ℕ, ◌-◌, ◌<◌, ◌≤◌, Bool, true, false, Option, Some, None, length, refl, ap, sym, subst, arith}
-use Rattle.std.specs.Prelude.{IsTrue, IsFalse, nat_lt, slice_get, if◌then◌else◌}
+use Rattle.std.proofs.Common.{◌≡◌, ◌∙◌, ℕ, ◌-◌, ◌<◌, ◌≤◌, Bool, true, false, ap, sym, subst}
+use Rattle.std.specs.Prelude.{nat_lt, if◌then◌else◌}
 use Rattle.std.proofs.lemmas.Bool.{le-ltb, lt-ltb}
 use Rattle.feature_core.specs.Nodes.{NodeAt}
 use Rattle.feature_labels.specs.Names.{LabelName}
 use Rattle.plan_rows.specs.declared.side.Side.TheVariants.{Target, Host}
 use Rattle.plan_starts.specs.PackageVisits.{PairVisit}
 use Rattle.step_visits.specs.Visits.{Visit}
-use Rattle.walk_checks.specs.Tables.{IsEdge, Tells}
-use Rattle.walk_checks.specs.declared.table.TableEdge.{TableEdge}
-use Rattle.walk_engine.specs.Walks.{Content, IsWay, Way, has_gate, is_gated}
-use Rattle.walk_engine.specs.declared.walks.Ask.{Ask}
-use Rattle.walk_engine.specs.declared.walks.Half.{Half}
-use Rattle.plan_whys.specs.Steps.{IsAt, IsGateOf, SpotText, spot_at}
-use Rattle.plan_whys.proofs.NodeLemmas.{gate_is}
+use Rattle.plan_whys.specs.Steps.{IsAt, SpotText, spot_at}
 
 pub spot_if : (count k : ℕ) (label : LabelName) (inside : Bool) → nat_lt k count ≡ inside
     → spot_at count k label ≡ (if inside then record { side = Target; number = k; label = label } else record { side = Host; number = k - count; label = label })

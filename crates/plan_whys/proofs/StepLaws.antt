@@ -1,12 +1,11 @@
 -- The last step of a why, and what the reasons of its steps name.
-use Rattle.std.proofs.Common.{◌≡◌, ◌∙◌, ℕ, ◌+◌, ◌-◌, ◌<◌, Bool, true, false, List, Option, Some, None, map, take, refl, ap, sym, subst, arith}
-use Rattle.std.specs.Prelude.{Contains, IfSome, IsTrue, nat_lt, position, slice_get, if◌then◌else◌}
+use Rattle.std.proofs.Common.{◌≡◌, ◌∙◌, ℕ, ◌+◌, Bool, true, false, List, Option, Some, None, map, take, refl, ap, sym, subst, arith}
+use Rattle.std.specs.Prelude.{Contains, IfSome, IsTrue, nat_lt, slice_get, if◌then◌else◌}
 use Rattle.std.specs.List.{AllZip}
 use Rattle.std.proofs.lemmas.Bool.{le-ltb}
 use Rattle.cargo_workspaces.specs.Workspaces.{WorkspaceText}
-use Rattle.guppy_packages.specs.Tables.{Tables}
 use Rattle.guppy_packages.specs.declared.direction.DependencyDirection.TheVariants.{Forward}
-use Rattle.feature_core.specs.Nodes.{NodeAt, node_places}
+use Rattle.feature_core.specs.Nodes.{node_places}
 use Rattle.feature_core.specs.Offers.{content_of}
 use Rattle.feature_labels.specs.Names.{LabelName}
 use Rattle.plan_rows.specs.Steps.{SettingsText, side_base}
@@ -19,10 +18,9 @@ use Rattle.walk_engine.specs.Explanations.{IsReason, nodes_of}
 use Rattle.walk_engine.specs.Laws.{every}
 use Rattle.walk_engine.specs.Walks.{Content, Way, has_gate, is_in}
 use Rattle.walk_engine.specs.declared.walks.Half.{Half}
-use Rattle.walk_engine.specs.declared.walks.Step.{Step}
 use Rattle.walk_engine.specs.declared.walks.StepReason.{StepReason}
 use Rattle.walk_engine.specs.declared.walks.StepReason.TheVariants.{Initial, Edge, Offer}
-use Rattle.plan_whys.specs.Steps.{SpotText, ReasonText, WhyText, AreBacked, AreStepsOf, EndsAt, IsAt, IsBacked, IsReasonOf, IsStepOf, spot_at}
+use Rattle.plan_whys.specs.Steps.{SpotText, ReasonText, WhyText, AreBacked, EndsAt, IsAt, IsBacked, IsReasonOf, IsStepOf, spot_at}
 use Rattle.plan_whys.specs.Steps.ReasonText.{selected, from}
 use Rattle.plan_whys.specs.Whys.{Explains}
 use Rattle.plan_whys.proofs.SpotLemmas.{spot_if}

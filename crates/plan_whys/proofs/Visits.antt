@@ -1,6 +1,8 @@
 -- What a visit of step `on` reached, and why.
-use Rattle.std.proofs.Common.{◌≡◌, ◌∙◌, ℕ, ◌+◌, Bool, true, false, ◌&&◌, List, Option, Some, None, length, map, refl, ap, sym, subst}
+use Rattle.std.proofs.Common.{◌≡◌, ◌∙◌, ℕ, ◌+◌, Bool, true, false, ◌&&◌, List, ◌∷◌, [], Option, Some, None, map, refl, ap, sym, subst}
 use Rattle.std.specs.Prelude.{◌↔◌, IsTrue, nat_lt, if◌then◌else◌}
+use Rattle.std.specs.Global.{Vec}
+use Rattle.std.specs.List.{AllZip}
 use Rattle.std.specs.Option.{option_map_or}
 use Rattle.guppy_packages.specs.declared.direction.DependencyDirection.{DependencyDirection}
 use Rattle.guppy_packages.specs.declared.direction.DependencyDirection.TheVariants.{Forward}
@@ -22,8 +24,11 @@ use Rattle.walk_engine.specs.Laws.{every}
 use Rattle.walk_engine.specs.Walks.{Content, Least}
 use Rattle.plan_whys.specs.Steps.{SpotText, WhyText}
 use Rattle.plan_whys.specs.NodeWhys.{IsWhyOf, node_of}
-use Rattle.plan_whys.specs.Whys.{Answers, IsOnBy}
-use Rattle.plan_whys.specs.inner.Nodes.{IsLeast, NodeAnswers}
+use Rattle.plan_whys.specs.Whys.{Answers, AnswersEach, IsOnBy}
+use Rattle.plan_whys.specs.inner.Nodes.{AnswersAt, IsLeast, NodeAnswers, SpotAnswers}
+use Rattle.plan_whys.specs.StepViews.{found_text, spot_text}
+use Rattle.plan_whys.specs.declared.steps.Spot.{Spot}
+use Rattle.plan_whys.specs.declared.steps.WhyStep.{WhyStep}
 
 -- the content of one build is that of each
 abbrev pub OneContent : Tables → Type 0
@@ -76,3 +81,16 @@ pub starts_are : (w : WorkspaceText) (s : SettingsText) (on : PairVisit) (v : Vi
     → ((n : ℕ) → I n ≡ is_start v.tables (map start_of taken) n) → (n : ℕ) → I n ≡ is_start on.visit.tables (on_starts w s) n
 starts_are w s on v places taken I visit are same nodes n =
     nodes n ∙ ap (λ (u : Visit). is_start u.tables (map start_of taken) n) visit ∙ ap (λ ps. is_start on.visit.tables (map start_of ps) n) same ∙ ap (λ starts. is_start on.visit.tables starts n) are
+
+spot_answered : (w : WorkspaceText) (s : SettingsText) (on : PairVisit) (I : ℕ → Bool) (spot : SpotText) (node : Option ℕ) (found : Option (List WhyText)) → node ≡ node_of on spot → ((k : ℕ) → I k ≡ is_start on.visit.tables (on_starts w s) k)
+    → AnswersAt on I node found → Answers w s on spot found
+spot_answered w s on I spot None found same starts answer = subst (Answers w s on spot) (sym answer) (off_without_node w s on spot None refl same)
+spot_answered w s on I spot (Some n) found same starts answer = answers_by_node w s on spot I n found same starts answer
+
+pub each_answered : (w : WorkspaceText) (s : SettingsText) (on : PairVisit) (I : ℕ → Bool) (spots : List Spot) (founds : List (Option (Vec WhyStep))) → ((k : ℕ) → I k ≡ is_start on.visit.tables (on_starts w s) k)
+    → AllZip (SpotAnswers on I) spots founds → AnswersEach w s on spots founds
+each_answered w s on I [] [] starts zip = tt
+each_answered w s on I [] (found ∷ founds) starts zip = absurd zip
+each_answered w s on I (at ∷ spots) [] starts zip = absurd zip
+each_answered w s on I (at ∷ spots) (found ∷ founds) starts zip =
+    (spot_answered w s on I (spot_text at) (node_of on (spot_text at)) (found_text found) refl starts zip.0, each_answered w s on I spots founds starts zip.1)

@@ -1,5 +1,6 @@
 -- The values that steps contain.
-use Rattle.std.specs.Prelude.{List, map, option_map}
+use Rattle.std.specs.Prelude.{List, Option, map, option_map}
+use Rattle.std.specs.Global.{Vec}
 use Rattle.feature_labels.specs.Names.{label_of}
 use Rattle.plan_whys.specs.Steps.{SpotText, ReasonText, WhyText}
 use Rattle.plan_whys.specs.Steps.ReasonText.{selected, from}
@@ -17,3 +18,6 @@ reason_text (From start gate) = from (spot_text start) (option_map spot_text gat
 
 abbrev pub why_text : WhyStep → WhyText
 why_text s = record { spot = spot_text s.at; reason = reason_text s.reason }
+
+abbrev pub found_text : Option (Vec WhyStep) → Option (List WhyText)
+found_text found = option_map (λ whys. map why_text whys.items) found

@@ -1,5 +1,7 @@
 -- Why a label is on in a plan.
 use Rattle.std.specs.Prelude.{◌≡◌, ℕ, true, false, List, Option, Some, None}
+use Rattle.std.specs.Global.{Vec}
+use Rattle.std.specs.List.{AllZip}
 use Rattle.cargo_plans.specs.Plans.{WordsText, AfterWords, settings_by}
 use Rattle.cargo_workspaces.specs.Workspaces.{WorkspaceText}
 use Rattle.plan_rows.specs.Steps.{SettingsText}
@@ -7,7 +9,10 @@ use Rattle.plan_starts.specs.PackageVisits.{PairVisit, is_on}
 use Rattle.plan_steps.specs.Plans.{IsOn}
 use Rattle.plan_units.specs.Commands.{on_starts}
 use Rattle.step_visits.specs.Visits.{is_start}
+use Rattle.plan_whys.specs.StepViews.{found_text, spot_text}
 use Rattle.plan_whys.specs.Steps.{SpotText, WhyText}
+use Rattle.plan_whys.specs.declared.steps.Spot.{Spot}
+use Rattle.plan_whys.specs.declared.steps.WhyStep.{WhyStep}
 pub use Rattle.plan_whys.specs.NodeWhys.{IsWhyOf, node_of}
 
 -- Some visit of step `resolved` goes before the visit `on`.
@@ -29,3 +34,11 @@ Answers w s on spot (Some whys) = Explains w s on spot whys
 -- The answer for the words of a command line.
 abbrev pub AnswersBy : WorkspaceText → WordsText → PairVisit → SpotText → Option (List WhyText) → Type 0
 AnswersBy w words on spot found = AfterWords w words (λ chosen. Answers w (settings_by words chosen) on spot found)
+
+-- The answers for several spots, in their order.
+abbrev pub AnswersEach : WorkspaceText → SettingsText → PairVisit → List Spot → List (Option (Vec WhyStep)) → Type 0
+AnswersEach w s on spots founds = AllZip (λ at found. Answers w s on (spot_text at) (found_text found)) spots founds
+
+-- The same for the words of a command line.
+abbrev pub AnswersEachBy : WorkspaceText → WordsText → PairVisit → List Spot → List (Option (Vec WhyStep)) → Type 0
+AnswersEachBy w words on spots founds = AfterWords w words (λ chosen. AnswersEach w (settings_by words chosen) on spots founds)

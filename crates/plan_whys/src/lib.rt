@@ -13,4 +13,4 @@ pub use direct_reasons::reasons;
 pub use laws::whys_lead_to_spots;
 pub use plan_rows::Side;
 pub use steps::{Spot, WhyReason, WhyStep};
-pub use whys::{why, why_by_settings};
+pub use whys::{why, why_by_settings, why_each, why_each_by_settings};

@@ -1,5 +1,6 @@
 //! Why a node of step `on` is on.
 ghost use Rattle.std.specs.Prelude.{◌≡◌, ℕ, IfOk, length, map, option_map};
+ghost use Rattle.std.specs.List.{AllZip};
 ghost use Rattle.guppy_packages.specs.declared.direction.DependencyDirection.TheVariants.{Forward};
 ghost use Rattle.guppy_support.specs.Bits.{has};
 ghost use Rattle.feature_core.specs.Built.{IsBuilt};
@@ -10,7 +11,7 @@ ghost use Rattle.walk_engine.specs.Laws.{every};
 ghost use Rattle.walk_engine.specs.Walks.{is_in};
 ghost use Rattle.plan_whys.specs.NodeWhys as spec;
 ghost use Rattle.plan_whys.specs.StepViews.{spot_text, why_text};
-ghost use Rattle.plan_whys.specs.inner.Nodes.{IsLeast, NodeAnswers};
+ghost use Rattle.plan_whys.specs.inner.Nodes.{IsLeast, NodeAnswers, SpotAnswers};
 
 use crate::explanations::{explanation_from, kept_steps};
 use crate::spots::steps_of;
@@ -30,7 +31,8 @@ pub(crate) fn node_of(on: &PackageVisit, at: Spot<'_>) -> Option<usize>
     if at.package >= count {
         return None;
     }
-    on.visited().node(at.side.base(count) + at.package, at.label)
+    on.visited()
+        .node(at.side.base(count) + at.package, at.label)
 }
 
 /// Returns why `node` is reached, or `None` if it isn't. `steps` is the explanation of the visit, from `initials`.
@@ -72,4 +74,67 @@ pub(crate) fn why_from<'p>(
     let built = on.visited().built();
     let steps = explanation_from(alloc, built, initials)?;
     why_node(alloc, on, built, initials, &steps, node)
+}
+
+/// Returns why `at` is reached, or `None` if it isn't. `steps` is the explanation of the visit, from `initials`.
+fn why_spot<'p>(
+    alloc: Global,
+    on: &'p PackageVisit,
+    built: &FeatureGraphData,
+    initials: &IxBitSet,
+    steps: &[Step],
+    at: Spot<'_>,
+) -> Result<Option<Vec<WhyStep<'p>>>, AllocError>
+    requires built { IsBuilt on.now.visit.tables built.now }
+    requires size { length initials.now ≡ length (node_packages on.now.visit.tables) }
+    requires explanation { IsExplanation (content_of Forward built.now) (has initials.now) every steps.now }
+    requires listed { (n : ℕ) → has on.now.visit.members n ≡ is_in (nodes_of steps.now) n }
+    ensures { IfOk result (SpotAnswers on.now (has initials.now) at.entry) }
+{
+    match node_of(on, at) {
+        None => Ok(None),
+        Some(node) => {
+            let found = why_node(alloc, on, built, initials, steps, node)?;
+            Ok(found)
+        }
+    }
+}
+
+/// Returns why each of `spots` is reached, or `None` for one that isn't. `steps` is the explanation of the visit, from `initials`.
+fn why_spots<'p>(
+    alloc: Global,
+    on: &'p PackageVisit,
+    built: &FeatureGraphData,
+    initials: &IxBitSet,
+    steps: &[Step],
+    spots: &[Spot<'_>],
+) -> Result<Vec<Option<Vec<WhyStep<'p>>>>, AllocError>
+    requires built { IsBuilt on.now.visit.tables built.now }
+    requires size { length initials.now ≡ length (node_packages on.now.visit.tables) }
+    requires explanation { IsExplanation (content_of Forward built.now) (has initials.now) every steps.now }
+    requires listed { (n : ℕ) → has on.now.visit.members n ≡ is_in (nodes_of steps.now) n }
+    ensures { IfOk result (λ founds. AllZip (SpotAnswers on.now (has initials.now)) spots.now founds.items) }
+{
+    let mut founds = Vec::with_capacity(alloc, spots.len())?;
+    for at in spots {
+        let found = why_spot(alloc, on, built, initials, steps, *at)?;
+        founds.push(found)?;
+    }
+    Ok(founds)
+}
+
+/// Returns why each of `spots` is reached, or `None` for one that isn't. The visit is the least that has `initials`.
+pub(crate) fn each_from<'p>(
+    alloc: Global,
+    on: &'p PackageVisit,
+    initials: &IxBitSet,
+    spots: &[Spot<'_>],
+) -> Result<Vec<Option<Vec<WhyStep<'p>>>>, AllocError>
+    requires size { length initials.now ≡ length (node_packages on.now.visit.tables) }
+    requires least { IsLeast on.now (has initials.now) }
+    ensures { IfOk result (λ founds. AllZip (SpotAnswers on.now (has initials.now)) spots.now founds.items) }
+{
+    let built = on.visited().built();
+    let steps = explanation_from(alloc, built, initials)?;
+    why_spots(alloc, on, built, initials, &steps, spots)
 }

@@ -10,10 +10,10 @@ ghost use Rattle.plan_steps.specs.PlanViews.{plan_text};
 ghost use Rattle.plan_units.specs.Commands.{on_starts};
 ghost use Rattle.step_visits.specs.Visits.{is_start};
 ghost use Rattle.plan_whys.specs.StepViews.{spot_text, why_text};
-ghost use Rattle.plan_whys.specs.Whys.{Answers, AnswersBy, IsOnBy};
+ghost use Rattle.plan_whys.specs.Whys.{Answers, AnswersBy, AnswersEach, AnswersEachBy, IsOnBy};
 ghost use Rattle.plan_whys.specs.inner.Nodes.{IsLeast};
 
-use crate::nodes::{node_of, why_from};
+use crate::nodes::{each_from, node_of, why_from};
 use crate::steps::{Spot, WhyStep};
 use cargo_plans::PlanWords;
 use cargo_workspaces::Workspace;
@@ -94,6 +94,51 @@ pub fn why<'p, P: Platform>(
             };
             let found = why_by_settings(alloc, workspace, &settings, plan, at)?;
             Ok(found)
+        }
+        Err(_) => Err(AllocError),
+    }
+}
+
+/// Returns the answer of `why_by_settings` for each of `spots`, by one walk.
+pub fn why_each_by_settings<'p, P: Platform>(
+    alloc: Global,
+    workspace: &Workspace<'_>,
+    settings: &Settings<'_, '_, P>,
+    plan: &'p Plan<'_>,
+    spots: &[Spot<'_>],
+) -> Result<Vec<Option<Vec<WhyStep<'p>>>>, AllocError>
+    requires count { length settings.now.commands.now ≡ length (workspace_text workspace.now).packages }
+    requires on { IsOnBy (workspace_text workspace.now) (settings_text P.holds settings.now) (plan_text plan.now).on }
+    ensures { IfOk result (λ founds. AnswersEach (workspace_text workspace.now) (settings_text P.holds settings.now) (plan_text plan.now).on spots.now founds.items) }
+{
+    let on = plan.on();
+    let initials = initials_of(alloc, workspace, settings, on)?;
+    let founds = each_from(alloc, on, &initials, spots)?;
+    Ok(founds)
+}
+
+/// Returns the answer of `why` for each of `spots`, by one walk.
+pub fn why_each<'p, P: Platform>(
+    alloc: Global,
+    workspace: &Workspace<'_>,
+    words: &PlanWords<'_, '_, P>,
+    plan: &'p Plan<'_>,
+    spots: &[Spot<'_>],
+) -> Result<Vec<Option<Vec<WhyStep<'p>>>>, AllocError>
+    requires { IsPlanOf (workspace_text workspace.now) (words_text P.holds words.now) (plan_text plan.now) }
+    ensures { IfOk result (λ founds. AnswersEachBy (workspace_text workspace.now) (words_text P.holds words.now) (plan_text plan.now).on spots.now founds.items) }
+{
+    match choose(alloc, workspace, &words.selection) {
+        Ok(chosen) => {
+            let settings = Settings {
+                split: words.selection.split,
+                test: words.test,
+                commands: &chosen.commands,
+                host: words.host,
+                targets: words.targets,
+            };
+            let founds = why_each_by_settings(alloc, workspace, &settings, plan, spots)?;
+            Ok(founds)
         }
         Err(_) => Err(AllocError),
     }

@@ -1,18 +1,21 @@
 -- Steps whose numbers are those of nodes and ways.
 use Rattle.std.specs.Prelude.{◌≡◌, ◌↔◌, ℕ, ◌<◌, Bool, List, Option, Some, None, ⊤, IsTrue, IsFalse, All}
+use Rattle.std.specs.Global.{Vec}
 use Rattle.guppy_packages.specs.declared.direction.DependencyDirection.TheVariants.{Forward}
 use Rattle.guppy_support.specs.Bits.{has}
 use Rattle.feature_core.specs.Built.{Built, IsBuilt}
 use Rattle.feature_core.specs.Offers.{content_of}
 use Rattle.walk_engine.specs.Laws.{every}
 use Rattle.walk_engine.specs.Walks.{Content, Least, Way, IsWay, has_gate}
-use Rattle.walk_engine.specs.declared.walks.Half.{Half}
 use Rattle.walk_engine.specs.declared.walks.Step.{Step}
 use Rattle.walk_engine.specs.declared.walks.StepReason.{StepReason}
 use Rattle.walk_engine.specs.declared.walks.StepReason.TheVariants.{Initial, Edge, Offer}
 use Rattle.plan_starts.specs.PackageVisits.{PairVisit}
 use Rattle.plan_whys.specs.Steps.{WhyText}
-use Rattle.plan_whys.specs.NodeWhys.{IsWhyOf}
+use Rattle.plan_whys.specs.NodeWhys.{IsWhyOf, node_of}
+use Rattle.plan_whys.specs.StepViews.{found_text, spot_text}
+use Rattle.plan_whys.specs.declared.steps.Spot.{Spot}
+use Rattle.plan_whys.specs.declared.steps.WhyStep.{WhyStep}
 
 -- The reason's way is there, and its start is one of `nodes` nodes; so is the gate, if the half waits for it.
 abbrev pub IsReasonInside : ℕ → Content → StepReason → Type 0
@@ -34,3 +37,12 @@ IsLeast on I = (b : Built) → IsBuilt on.visit.tables b → (n : ℕ) → IsTru
 abbrev pub NodeAnswers : PairVisit → (ℕ → Bool) → ℕ → Option (List WhyText) → Type 0
 NodeAnswers on I n None = IsFalse (has on.visit.members n)
 NodeAnswers on I n (Some whys) = IsTrue (has on.visit.members n) × IsWhyOf on I n whys
+
+-- The same for the node of a spot, if it has one.
+abbrev pub AnswersAt : PairVisit → (ℕ → Bool) → Option ℕ → Option (List WhyText) → Type 0
+AnswersAt on I None found = found ≡ None
+AnswersAt on I (Some n) found = NodeAnswers on I n found
+
+-- The same for a spot.
+abbrev pub SpotAnswers : PairVisit → (ℕ → Bool) → Spot → Option (Vec WhyStep) → Type 0
+SpotAnswers on I at found = AnswersAt on I (node_of on (spot_text at)) (found_text found)

@@ -1,4 +1,4 @@
-use Rattle.std.proofs.Common.{◌<◌, ◌∙◌, arith, length, subst}
+use Rattle.std.proofs.Common.{◌∙◌, arith}
 use Rattle.guppy_support.specs.Bits.{has}
 use Rattle.plan_whys.specs.Reasons.{reasons_by}
 use Rattle.plan_whys.proofs.ReasonLists.{way_step}

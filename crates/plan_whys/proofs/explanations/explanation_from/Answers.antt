@@ -1,4 +1,4 @@
-use Rattle.std.proofs.Common.{ℕ, Bool, subst}
+use Rattle.std.proofs.Common.{subst}
 use Rattle.std.specs.Prelude.{◌↔◌, IsTrue}
 use Rattle.guppy_support.specs.Bits.{has}
 use Rattle.feature_core.specs.Ways.{Reading}

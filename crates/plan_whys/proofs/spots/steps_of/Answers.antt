@@ -15,7 +15,7 @@ loop-step-preserved c =
     let next = map why_text c.push.new.self.items in
     let before = subst (λ (r : Reading). AllZip (IsStepOf on r.holds) (take ix steps) old) (sym c.new-table.ensures) c.loop-step.invariant in
     let after =
-        zip_next (IsStepOf on c.new-table.result.holds) steps old next ix _ (why_text c.step_of.result) (omega (arith, c.loop-step-test.true)) before c.step_of.ensures
-        (map_pushed why_text c.loop-step.whys.items c.push.new.self.items c.step_of.result c.in_ok-push.ensures.items)
+    zip_next (IsStepOf on c.new-table.result.holds) steps old next ix _ (why_text c.step_of.result) (omega (arith, c.loop-step-test.true)) before c.step_of.ensures
+    (map_pushed why_text c.loop-step.whys.items c.push.new.self.items c.step_of.result c.in_ok-push.ensures.items)
     in
     subst (λ (r : Reading). AllZip (IsStepOf on r.holds) (take (ix + 1) steps) next) c.new-table.ensures after

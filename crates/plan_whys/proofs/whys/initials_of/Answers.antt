@@ -1,5 +1,4 @@
 use Rattle.std.proofs.Common.{subst}
-use Rattle.guppy_packages.specs.Tables.{Tables}
 use Rattle.guppy_support.specs.Bits.{has}
 use Rattle.cargo_workspaces.specs.WorkspaceView.{workspace_text}
 use Rattle.plan_rows.specs.SettingsView.{settings_text}

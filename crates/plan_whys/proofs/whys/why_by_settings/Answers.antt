@@ -1,4 +1,4 @@
-use Rattle.std.proofs.Common.{◌≡◌, ◌∙◌, None, Some, map, subst, sym}
+use Rattle.std.proofs.Common.{◌∙◌, None, map, subst, sym}
 use Rattle.std.specs.Prelude.{option_map}
 use Rattle.guppy_support.specs.Bits.{has}
 use Rattle.cargo_workspaces.specs.WorkspaceView.{workspace_text}
