@@ -1,2 +1,3 @@
 pub mod Says
 pub mod Shown
+pub mod Zips

@@ -12,9 +12,10 @@ module _ {X : Type 0} (IsShown : X → List Text → Type 0) where
   shown_push (y ∷ ys) x shown here (first, more, is_first, are_more, all) is =
       (first, more ++ here, is_first, shown_push ys x more here are_more is, ap (λ s. s ++ here) all ∙ append_assoc first more here)
 
-  pub shown_more : {Y : Type 0} (view : Y → X) (items : List Y) (i : ℕ) (y : Y) (shown here new : List Text) → i < length items → y ≡ get_or items i y
-      → AreShown IsShown (map view (take i items)) shown → IsShown (view y) here → new ≡ shown ++ here → AreShown IsShown (map view (take (i + 1) items)) new
-  shown_more view items i y shown here new within is are one grown =
-      let there : take i items ++ y ∷ [] ≡ take (i + 1) items = ap (λ z. take i items ++ z ∷ []) is ∙ sym (take_more items i y within) in
-      let viewed : map view (take i items) ++ view y ∷ [] ≡ map view (take (i + 1) items) = sym (map-append view (take i items) (y ∷ [])) ∙ ap (map view) there in
-      subst (λ xs. AreShown IsShown xs new) viewed (subst (AreShown IsShown (map view (take i items) ++ view y ∷ [])) (sym grown) (shown_push (map view (take i items)) (view y) shown here are one))
+  pub shown_more : {Y : Type 0} (view : Y → X) (items : List Y) (i : ℕ) (y : Y) (shown here new : List Text) → i < length items
+      → AreShown IsShown (map view (take i items)) shown → IsShown (view (get_or items i y)) here → new ≡ shown ++ here → AreShown IsShown (map view (take (i + 1) items)) new
+  shown_more view items i y shown here new within are one grown =
+      let x = get_or items i y in
+      let there : take i items ++ x ∷ [] ≡ take (i + 1) items = sym (take_more items i y within) in
+      let viewed : map view (take i items) ++ view x ∷ [] ≡ map view (take (i + 1) items) = sym (map-append view (take i items) (x ∷ [])) ∙ ap (map view) there in
+      subst (λ xs. AreShown IsShown xs new) viewed (subst (AreShown IsShown (map view (take i items) ++ view x ∷ [])) (sym grown) (shown_push (map view (take i items)) (view x) shown here are one))

@@ -1,5 +1,6 @@
 -- The values that answers and texts contain.
-use Rattle.std.specs.Prelude.{ℕ, List, [], ◌∷◌, Option, Some, None, map, Vec}
+use Rattle.std.specs.Prelude.{ℕ, List, [], ◌∷◌, Option, Some, None, map}
+use Rattle.std.specs.Global.{Vec}
 use Rattle.cargo_workspaces.specs.Workspaces.{Text}
 use Rattle.feats_answers.specs.AnswerTexts.{AnswerText}
 use Rattle.feats_answers.specs.declared.answer.Answer.{Answer}

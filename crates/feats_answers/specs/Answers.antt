@@ -1,11 +1,12 @@
 -- The answers to questions about a build.
-use Rattle.std.specs.Prelude.{◌≡◌, List, false, map}
+use Rattle.std.specs.Prelude.{◌≡◌, List, [], ◌∷◌, false, codes}
 use Rattle.cargo_workspaces.specs.Workspaces.{Text, WorkspaceText}
 use Rattle.cargo_plans.specs.Plans.{WordsText}
 use Rattle.plan_names.specs.Faults.{package_named}
 use Rattle.plan_platforms.specs.DeclaredSpecs.{declared_specs}
 use Rattle.plan_steps.specs.Plans.{PlanText}
 use Rattle.feats_files.specs.Files.{FileText}
+use Rattle.feats_files.specs.Messages.{joined}
 use Rattle.feats_words.specs.Requests.{QuestionText, plan, why, why_not, specs, list}
 use Rattle.feats_words.specs.declared.command_arguments.Format.{Format}
 use Rattle.feats_answers.specs.AnswerTexts.{AnswerText}
@@ -33,6 +34,6 @@ IsAnswerTo (list word) form files w words build = IsPositive (IsListText form w 
 abbrev pub IsNoAnswerTo : QuestionText → WorkspaceText → WordsText → Text → Type 0
 IsNoAnswerTo plan w words = λ _. ⊥
 IsNoAnswerTo (why word) w words = IsPartRefusal w words word
-IsNoAnswerTo (why_not word) w words = λ _. ⊥
+IsNoAnswerTo (why_not word) w words = λ message. message ≡ joined (codes "why-not isn't answered yet" ∷ [])
 IsNoAnswerTo specs w words = λ _. ⊥
 IsNoAnswerTo (list word) w words = IsNameRefusal w.packages (package_named w.packages word)

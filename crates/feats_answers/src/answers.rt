@@ -29,7 +29,7 @@ use crate::spec_texts::spec_text;
 use crate::why_texts::why_texts;
 use cargo_plans::{Plan, PlanWords};
 use cargo_workspaces::Workspace;
-use feats_files::{Fault, PlatformFile};
+use feats_files::{Fault, PlatformFile, refused};
 use feats_words::{CommandArguments, Format, Question};
 use plan_platforms::{DeclaredSpec, HeldSpecs};
 use std::alloc::{AllocError, Global};
@@ -49,12 +49,12 @@ fn plan_answer(
 }
 
 /// Returns the answer to `specs`.
-fn specs_answer(
+fn specs_answer<'n>(
     alloc: Global,
     format: Format,
-    files: &[PlatformFile<'_>],
+    files: &[PlatformFile<'n>],
     specs: &[DeclaredSpec<'_>],
-    words: &PlanWords<'_, '_, HeldSpecs<'_>>,
+    words: &PlanWords<'_, 'n, HeldSpecs<'_>>,
 ) -> Result<Answer, AllocError>
     ensures { IfOk result (λ answer. IsPositive (IsSpecText format (map declared_text specs.now) (places (map file_text files.now) (words_text holds_on words.now).host (words_text holds_on words.now).targets)) (answer_text answer)) }
 {
@@ -80,13 +80,13 @@ fn list_answer(
 }
 
 /// Returns the answer to `why` with this word.
-fn why_answer(
+fn why_answer<'w>(
     alloc: Global,
     format: Format,
-    workspace: &Workspace<'_>,
-    words: &PlanWords<'_, '_, HeldSpecs<'_>>,
+    workspace: &'w Workspace<'_>,
+    words: &PlanWords<'w, '_, HeldSpecs<'_>>,
     plan: &Plan<'_>,
-    word: &str,
+    word: &'w str,
 ) -> Result<Answer, Fault>
     requires plan { IsPlanOf (workspace_text workspace.now) (words_text holds_on words.now) (plan_text plan.now) }
     ensures answer { IfOk result (λ answer. IsWhyAnswer format (workspace_text workspace.now) (words_text holds_on words.now) (plan_text plan.now) word.now (answer_text answer)) }
@@ -100,13 +100,13 @@ fn why_answer(
 
 /// Returns the answer to the question of `arguments` about `plan`, which is that of `words`; `specs` are the platform specs of the
 /// workspace, and `files` those of the target platforms. It is refused if a word of the question doesn't name what is wanted.
-pub fn answer_to(
+pub fn answer_to<'w, 'n>(
     alloc: Global,
-    arguments: &CommandArguments<'_>,
-    files: &[PlatformFile<'_>],
-    workspace: &Workspace<'_>,
+    arguments: &CommandArguments<'w>,
+    files: &[PlatformFile<'n>],
+    workspace: &'w Workspace<'_>,
     specs: &[DeclaredSpec<'_>],
-    words: &PlanWords<'_, '_, HeldSpecs<'_>>,
+    words: &PlanWords<'w, 'n, HeldSpecs<'_>>,
     plan: &Plan<'_>,
 ) -> Result<Answer, Fault>
     requires specs { map declared_text specs.now ≡ declared_specs (workspace_text workspace.now).packages }
@@ -118,7 +118,7 @@ pub fn answer_to(
     match arguments.question {
         Question::Plan => Ok(plan_answer(alloc, format, files, workspace, plan)?),
         Question::Why(word) => why_answer(alloc, format, workspace, words, plan, word),
-        Question::WhyNot(_) => Err(Fault::Memory),
+        Question::WhyNot(_) => Err(refused(alloc, &["why-not isn't answered yet"])),
         Question::Specs => Ok(specs_answer(alloc, format, files, specs, words)?),
         Question::List(word) => list_answer(alloc, format, workspace, plan, word),
     }

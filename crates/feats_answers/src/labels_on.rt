@@ -1,5 +1,7 @@
 //! The labels that are on in a plan.
+ghost use Rattle.std.specs.Prelude.{◌≡◌};
 ghost use Rattle.plan_starts.specs.PackageVisits.{is_on};
+ghost use Rattle.plan_steps.specs.PlanViews.{plan_text};
 ghost use Rattle.feats_answers.specs.LabelsOn.{labels_on};
 
 use cargo_plans::{Plan, Side};
@@ -15,7 +17,9 @@ pub(crate) struct PlanLabels<'p> {
 }
 
 /// Returns the labels that are on in `plan`.
-pub(crate) fn labels_of<'p>(plan: &'p Plan<'_>) -> PlanLabels<'p> {
+pub(crate) fn labels_of<'p>(plan: &'p Plan<'_>) -> PlanLabels<'p>
+    ensures { labels_on result ≡ (plan_text plan.now).on }
+{
     PlanLabels { on: plan.on() }
 }
 

@@ -1,5 +1,5 @@
 //! The text about the features of a package.
-ghost use Rattle.std.specs.Prelude.{◌≡◌, ◌<◌, Ok, IfOk, IfErr, length};
+ghost use Rattle.std.specs.Prelude.{◌≡◌, ◌<◌, Ok, IfOk, IfErr, length, option_map, slice_get};
 ghost use Rattle.cargo_workspaces.specs.Views.{package_text};
 ghost use Rattle.cargo_workspaces.specs.WorkspaceView.{workspace_text};
 ghost use Rattle.plan_names.specs.Faults.{package_named};
@@ -48,6 +48,13 @@ fn number_of(alloc: Global, workspace: &Workspace<'_>, word: &str) -> Result<usi
     }
 }
 
+/// Returns package `ix`.
+fn package_at<'p, 'v>(workspace: &'p Workspace<'v>, ix: usize) -> Option<&'p Package<'v>>
+    ensures { option_map (λ p. package_text p.now) result ≡ slice_get (workspace_text workspace.now).packages ix }
+{
+    workspace.packages().get(ix)
+}
+
 /// Returns the text about the features of the package that `word` names.
 pub(crate) fn list_text(
     alloc: Global,
@@ -60,7 +67,7 @@ pub(crate) fn list_text(
     ensures fault { IfErr result (λ fault. Says fault (IsNameRefusal (workspace_text workspace.now).packages (package_named (workspace_text workspace.now).packages word.now))) }
 {
     let ix = number_of(alloc, workspace, word)?;
-    match workspace.packages().get(ix) {
+    match package_at(workspace, ix) {
         Some(package) => Ok(package_features(alloc, format, plan, ix, package)?),
         None => Err(Fault::Memory),
     }

@@ -91,7 +91,7 @@ fn parts_among<'w>(
 pub(crate) fn parts_of<'w>(
     alloc: Global,
     workspace: &'w Workspace<'_>,
-    words: &PlanWords<'_, '_, HeldSpecs<'_>>,
+    words: &PlanWords<'w, '_, HeldSpecs<'_>>,
     word: &'w str,
 ) -> Result<Vec<Named<'w>>, Fault>
     ensures parts { IfOk result (λ named. spec.ArePartsOf (workspace_text workspace.now) (words_text holds_on words.now) word.now (map named_text named.items)) }

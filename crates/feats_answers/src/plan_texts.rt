@@ -26,7 +26,10 @@ fn triples_of<'f>(alloc: Global, files: &[PlatformFile<'f>]) -> Result<Vec<&'f s
 }
 
 /// Returns the names of the target platforms of `files`: a single one is `target`, and several have their triples.
-pub(crate) fn target_names<'f>(alloc: Global, files: &[PlatformFile<'f>]) -> Result<Vec<&'f str>, AllocError>
+pub(crate) fn target_names<'f>(
+    alloc: Global,
+    files: &[PlatformFile<'f>],
+) -> Result<Vec<&'f str>, AllocError>
     ensures { IfOk result (λ names. texts names.items ≡ spec.target_names (map file_text files.now)) }
 {
     match files {

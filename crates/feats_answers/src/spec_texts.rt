@@ -29,13 +29,13 @@ fn text_in(
 }
 
 /// Returns the text about `specs`, on the host and on the target platforms of `files`.
-pub(crate) fn spec_text<'n>(
+pub(crate) fn spec_text<'n, 's>(
     alloc: Global,
     format: Format,
     specs: &[DeclaredSpec<'_>],
     files: &[PlatformFile<'n>],
-    host: &'n HeldSpecs<'_>,
-    targets: &'n [HeldSpecs<'_>],
+    host: &'n HeldSpecs<'s>,
+    targets: &'n [HeldSpecs<'s>],
 ) -> Result<Vec<u8>, AllocError>
     ensures { IfOk result (λ text. spec.IsSpecText format (map declared_text specs.now) (spec.places (map file_text files.now) (holds_on host.now) (map holds_on targets.now)) text.items) }
 {

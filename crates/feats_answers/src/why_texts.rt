@@ -24,9 +24,7 @@ use std::alloc::{AllocError, Global};
 use why_lines::{WhySettings, why_lines, why_objects};
 
 /// Returns the settings of the steps' lines.
-fn why_settings<'n, 's>(
-    words: &PlanWords<'_, 'n, HeldSpecs<'s>>,
-) -> WhySettings<'n, HeldSpecs<'s>>
+fn why_settings<'n, 's>(words: &PlanWords<'_, 'n, HeldSpecs<'s>>) -> WhySettings<'n, HeldSpecs<'s>>
     ensures { settings_text holds_on result ≡ spec.why_settings (words_text holds_on words.now) }
 {
     WhySettings {
@@ -85,15 +83,15 @@ fn push_part(
     workspace: &Workspace<'_>,
     words: &PlanWords<'_, '_, HeldSpecs<'_>>,
     plan: &Plan<'_>,
-    named: Named<'_>,
+    named: &Named<'_>,
     texts: &mut Vec<Vec<u8>>,
 ) -> Result<(), AllocError>
     requires plan { IsPlanOf (workspace_text workspace.now) (words_text holds_on words.now) (plan_text plan.now) }
-    ensures { OnOk result ((shown : List Text) × spec.IsPartShown format (workspace_text workspace.now) (words_text holds_on words.now) (plan_text plan.now) (named_text named.entry) shown × (texts_of texts.new.items ≡ texts_of texts.old.items ++ shown)) }
+    ensures { OnOk result ((shown : List Text) × spec.IsPartShown format (workspace_text workspace.now) (words_text holds_on words.now) (plan_text plan.now) (named_text named.now) shown × (texts_of texts.new.items ≡ texts_of texts.old.items ++ shown)) }
 {
-    let on_target = spot_on(Side::Target, named);
+    let on_target = spot_on(Side::Target, *named);
     push_spot(alloc, format, workspace, words, plan, on_target, texts)?;
-    let on_host = spot_on(Side::Host, named);
+    let on_host = spot_on(Side::Host, *named);
     push_spot(alloc, format, workspace, words, plan, on_host, texts)
 }
 
@@ -111,7 +109,7 @@ pub(crate) fn why_texts(
 {
     let mut texts = Vec::new(alloc);
     for one in named {
-        push_part(alloc, format, workspace, words, plan, *one, &mut texts)?;
+        push_part(alloc, format, workspace, words, plan, one, &mut texts)?;
     }
     Ok(texts)
 }

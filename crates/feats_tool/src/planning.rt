@@ -70,13 +70,13 @@ fn words_by<'s, 'n, 'h>(
 }
 
 /// Returns the answer about the plan for `words`. `specs` are the platform specs of the workspace.
-fn planned_answer(
+fn planned_answer<'w, 'n>(
     alloc: Global,
-    arguments: &CommandArguments<'_>,
-    files: &PlanFiles<'_>,
-    workspace: &Workspace<'_>,
+    arguments: &CommandArguments<'w>,
+    files: &PlanFiles<'n>,
+    workspace: &'w Workspace<'_>,
     specs: &[DeclaredSpec<'_>],
-    words: &PlanWords<'_, '_, HeldSpecs<'_>>,
+    words: &PlanWords<'w, 'n, HeldSpecs<'_>>,
 ) -> Result<Answer, Fault>
     requires { map declared_text specs.now ≡ declared_specs (workspace_text workspace.now).packages }
     ensures answer { IfOk result (λ answer. IsPlannedAnswer (inputs_text arguments.now files.now) (workspace_text workspace.now) (words_text holds_on words.now) (answer_text answer)) }
@@ -98,12 +98,12 @@ fn planned_answer(
 }
 
 /// Returns the answer about `workspace`.
-pub(crate) fn workspace_answer(
+pub(crate) fn workspace_answer<'w>(
     alloc: Global,
-    arguments: &CommandArguments<'_>,
+    arguments: &'w CommandArguments<'_>,
     files: &PlanFiles<'_>,
     basis: &Basis,
-    workspace: &Workspace<'_>,
+    workspace: &'w Workspace<'_>,
 ) -> Result<Answer, Fault>
     ensures answer { IfOk result (λ answer. IsWorkspaceAnswer (inputs_text arguments.now files.now) (basis_text basis.now) (workspace_text workspace.now) (answer_text answer)) }
     ensures fault { IfErr result (λ fault. Says fault (IsWorkspaceRefusal (inputs_text arguments.now files.now) (basis_text basis.now) (workspace_text workspace.now))) }

@@ -7,7 +7,7 @@ use Rattle.spec_lists.specs.Views.{place_text}
 use Rattle.feats_answers.specs.SpecTexts.{named_places}
 use Rattle.feats_answers.proofs.places.push_targets.Given as goal
 
-abbrev pub invariant-loop-platform : goal.invariant-loop-platform
-invariant-loop-platform l =
+abbrev pub invariant-loop-name : goal.invariant-loop-name
+invariant-loop-name l =
     map (place_text holds_on) l.initial.places.items ++ named_places (texts l.names) (map holds_on l.targets)
-    ≡ map (place_text holds_on) l.places.items ++ named_places (texts (iter_rest (zip_first l.platform-iterator))) (map holds_on (iter_rest (zip_second l.platform-iterator)))
+    ≡ map (place_text holds_on) l.places.items ++ named_places (texts (iter_rest (zip_first l.name-iterator))) (map holds_on (iter_rest (zip_second l.name-iterator)))

@@ -11,5 +11,5 @@ use Rattle.feats_answers.proofs.why_texts.why_texts.Goals as goal
 pub loop-one-preserved : goal.loop-one-preserved
 loop-one-preserved c =
     let one = c.in_ok-push_part.ensures in
-    shown_more (IsPartShown c.args.format (workspace_text c.args.workspace.now) (words_text holds_on c.args.words.now) (plan_text c.args.plan.now)) named_text c.args.named.now c.loop-one.one-index c.one-item.result
-    (texts_of c.loop-one.texts.items) one.0 _ c.loop-one-test.true c.one-item.is c.loop-one.invariant one.1 one.2
+    shown_more (IsPartShown c.args.format (workspace_text c.args.workspace.now) (words_text holds_on c.args.words.now) (plan_text c.args.plan.now)) named_text c.args.named.now c.loop-one.one-index _
+    (texts_of c.loop-one.texts.items) one.0 _ c.loop-one-test.true c.loop-one.invariant one.1 one.2
