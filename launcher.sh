@@ -162,9 +162,10 @@ add_value() {
 # Runs the program `feats`, some of whose options name files. The arguments are its own.
 launch_feats() {
   local words=()
-  # A pipe that is closed at its other end, for which the status of cat is that of SIGPIPE, is no fault.
+  # A pipe that is closed at its other end, for which the status of cat is that of SIGPIPE, is no fault. There is an answer, perhaps a
+  # negative one.
   unwritten() {
-    if [ "$1" -eq 141 ]; then exit "$2"; fi
+    if [ "$1" -eq 141 ]; then exit 0; fi
     echo "feats: cannot write the answer" >&2
     exit 2
   }

@@ -1,8 +1,8 @@
 //! The program `feats COMMAND`.
 //!
-//! `feats plan` prints the packages that a build compiles, each with its place and its features. The answer, and the text of `--help`,
-//! go to standard output. A fault is one line on standard error, or `clap`'s text about the words; the exit status is then 2. A
-//! pipe that is closed at its other end is no fault.
+//! Each command answers a question about one build: `plan`, `why`, `why-not`, `specs` and `list`. The answer, and the text of `--help`,
+//! go to standard output; the exit status of a negative answer is 1. A fault is one line on standard error, or `clap`'s text about the
+//! words; the exit status is then 2. A pipe that is closed at its other end is no fault.
 #![tactic(auto)]
 
 ghost use Rattle.std.specs.Prelude.{◌≡◌, false, IfOk};
@@ -12,8 +12,8 @@ use byte_devices::{ByteInput, Failed, FromReader, write_all};
 use clap::Error;
 use clap::error::ErrorKind as MistakeKind;
 use feats_files::{Fault, PlatformFile, ToPipe, bytes_of, no_command, not_text, unopened};
-use feats_tool::{PlanFiles, plan_arguments, platform_file, run};
-use feats_words::{PlanArguments, PlanRequest, PlatformWord, Request, ResolverSource, parse};
+use feats_tool::{PlanFiles, command_arguments, platform_file, run};
+use feats_words::{CommandArguments, PlatformWord, Request, ResolverSource, parse};
 use std::alloc::{AllocError, Global};
 use std::fs::File;
 use std::io::ErrorKind;
@@ -60,7 +60,10 @@ fn platforms<'f>(
 }
 
 /// Returns the files that `arguments` name, besides the document.
-fn plan_files<'f>(rt: &HostRuntime, arguments: &PlanArguments<'f>) -> Result<PlanFiles<'f>, Fault> {
+fn plan_files<'f>(
+    rt: &HostRuntime,
+    arguments: &CommandArguments<'f>,
+) -> Result<PlanFiles<'f>, Fault> {
     let manifest = manifest(rt, arguments.resolver)?;
     let host = platform(rt, arguments.host)?;
     let targets = platforms(rt, &arguments.targets)?;
@@ -71,29 +74,29 @@ fn plan_files<'f>(rt: &HostRuntime, arguments: &PlanArguments<'f>) -> Result<Pla
     })
 }
 
-/// Writes the answer over the document of `reader` to standard output.
+/// Writes the answer over the document of `reader` to standard output. Returns whether it is negative.
 fn write_answer<R: ByteInput>(
     rt: &HostRuntime,
-    arguments: &PlanArguments<'_>,
+    arguments: &CommandArguments<'_>,
     files: &PlanFiles<'_>,
     reader: &mut R,
-) -> Result<(), Fault>
+) -> Result<bool, Fault>
     requires { R.failed reader.old ≡ false }
 {
     let mut writer = ToPipe::new(io::writer(rt));
     let ended = run(rt.alloc(), arguments, files, reader, &mut writer);
     if writer.is_closed() {
-        return Ok(());
+        return Ok(false);
     }
     ended
 }
 
-/// Answers `arguments`, over these files and the document that they name.
+/// Answers `arguments`, over these files and the document that they name. Returns whether the answer is negative.
 fn answer(
     rt: &HostRuntime,
-    arguments: &PlanArguments<'_>,
+    arguments: &CommandArguments<'_>,
     files: &PlanFiles<'_>,
-) -> Result<(), Fault> {
+) -> Result<bool, Fault> {
     if arguments.metadata == "-" {
         let mut reader = FromReader::new(rt.stdin());
         return write_answer(rt, arguments, files, &mut reader);
@@ -102,9 +105,9 @@ fn answer(
     write_answer(rt, arguments, files, &mut reader)
 }
 
-/// Answers a request for a plan.
-fn plan(rt: &HostRuntime, request: PlanRequest<'_>) -> Result<(), Fault> {
-    let arguments = plan_arguments(rt.alloc(), request)?;
+/// Answers a request. Returns whether the answer is negative.
+fn answer_request(rt: &HostRuntime, request: Request<'_>) -> Result<bool, Fault> {
+    let arguments = command_arguments(rt.alloc(), request)?;
     let files = plan_files(rt, &arguments)?;
     answer(rt, &arguments, &files)
 }
@@ -129,16 +132,18 @@ fn text_of(alloc: Global, error: &Error) -> Result<String, AllocError> {
     format!(in alloc; "{error}")
 }
 
-/// Writes the text of `--help` to standard output.
-fn help(rt: &HostRuntime, error: &Error) -> Result<(), Fault> {
+/// Writes the text of `--help` to standard output. Returns false: no answer is negative.
+fn help(rt: &HostRuntime, error: &Error) -> Result<bool, Fault> {
     let text = text_of(rt.alloc(), error)?;
-    write_text(rt, text.as_str())
+    write_text(rt, text.as_str())?;
+    Ok(false)
 }
 
-/// Returns the exit status of a run that ended so, and says the fault.
-fn ended(rt: &HostRuntime, outcome: Result<(), Fault>) -> ExitCode {
+/// Returns the exit status of a run that ended so, where an answer may be negative, and says the fault.
+fn ended(rt: &HostRuntime, outcome: Result<bool, Fault>) -> ExitCode {
     match outcome {
-        Ok(()) => ExitCode::SUCCESS,
+        Ok(false) => ExitCode::SUCCESS,
+        Ok(true) => ExitCode::from(1),
         Err(fault) => {
             let _ = eprintln!(rt; "feats: {fault}");
             ExitCode::from(2)
@@ -161,7 +166,7 @@ fn unparsed(rt: &HostRuntime, error: &Error) -> ExitCode {
 /// Answers `words`, the first of which is the program's name, and returns the exit status.
 fn answer_words(rt: &HostRuntime, words: &[&str]) -> ExitCode {
     match parse(rt.alloc(), words) {
-        Ok(Some(Request::Plan(request))) => ended(rt, plan(rt, request)),
+        Ok(Some(request)) => ended(rt, answer_request(rt, request)),
         Ok(None) => ended(rt, Err(no_command(rt.alloc()))),
         Err(error) => unparsed(rt, &error),
     }

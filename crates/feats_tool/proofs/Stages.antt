@@ -1,27 +1,38 @@
--- The refusal of a plan as one of its workspace.
+-- What is answered about a plan as an answer about its workspace.
 use Rattle.std.proofs.Common.{◌≡◌, List, Bool, subst, sym}
 use Rattle.cargo_workspaces.specs.Workspaces.{Text, WorkspaceText}
+use Rattle.cargo_plans.specs.Plans.{WordsText}
 use Rattle.platform_specs.specs.Expressions.{Target}
 use Rattle.plan_platforms.specs.DeclaredSpecs.{DeclaredText, declared_specs}
 use Rattle.plan_platforms.specs.HeldSpecs.{AreHeld}
 use Rattle.feats_files.specs.Platforms.{AreHeldOnEach}
-use Rattle.feats_tool.specs.Answers.{AreHolding, IsPlanRefusal, IsWorkspaceRefusal, of_plan}
+use Rattle.feats_answers.specs.AnswerTexts.{AnswerText}
+use Rattle.feats_tool.specs.Answers.{AreHolding, IsPlannedAnswer, IsPlannedRefusal, IsWorkspaceAnswer, IsWorkspaceRefusal, of_plan}
 use Rattle.feats_tool.specs.Bases.{BasisText}
 use Rattle.feats_tool.specs.Inputs.{InputsText}
 use Rattle.feats_tool.specs.Selections.{words_of}
 
 -- the specs and the targets are known under other names
 module _ (inputs : InputsText) (basis : BasisText) (w : WorkspaceText) (host : Text → Bool) (targets : List (Text → Bool)) where
-  pub held_refused :
+  pub are_holding :
       (specs : List DeclaredText) → specs ≡ declared_specs w.packages → AreHeld basis.host specs host
       → (others : List DeclaredText) → others ≡ declared_specs w.packages → (on : List Target) → on ≡ basis.targets
-      → (each : List (Text → Bool)) → targets ≡ each → AreHeldOnEach on others each
-      → (m : Text) → IsPlanRefusal w (words_of inputs.arguments basis.version host targets) m → IsWorkspaceRefusal inputs basis w m
-  held_refused specs are held others same on all each named are_held m h =
+      → (each : List (Text → Bool)) → targets ≡ each → AreHeldOnEach on others each → AreHolding w basis host targets
+  are_holding specs are held others same on all each named are_held =
       let by_targets : AreHeldOnEach basis.targets others each = subst (λ ts. AreHeldOnEach ts others each) all are_held in
       let by_specs : AreHeldOnEach basis.targets (declared_specs w.packages) each = subst (λ s. AreHeldOnEach basis.targets s each) same by_targets in
-      let holding : AreHolding w basis host targets = record {
+      record {
         on_host = subst (λ s. AreHeld basis.host s host) are held;
         on_targets = subst (λ ts. AreHeldOnEach basis.targets (declared_specs w.packages) ts) (sym named) by_specs;
-      } in
-      of_plan host targets holding h
+      }
+
+  pub held_refused : (words : WordsText) → words ≡ words_of inputs.arguments basis.version host targets → AreHolding w basis host targets → (m : Text) → IsPlannedRefusal inputs w words m → IsWorkspaceRefusal inputs basis w m
+  held_refused words by holding m h = of_plan host targets holding (subst (λ (s : WordsText). IsPlannedRefusal inputs w s m) by h)
+
+  pub held_answered : (words : WordsText) → words ≡ words_of inputs.arguments basis.version host targets → AreHolding w basis host targets → (a : AnswerText) → IsPlannedAnswer inputs w words a → IsWorkspaceAnswer inputs basis w a
+  held_answered words by holding a h = record {
+    host = host;
+    targets = targets;
+    are_holding = holding;
+    is_answer = subst (λ (s : WordsText). IsPlannedAnswer inputs w s a) by h;
+  }

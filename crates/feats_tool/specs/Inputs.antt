@@ -1,9 +1,9 @@
--- What an answer of `plan` is made from, besides the document.
+-- What an answer is made from, besides the document.
 use Rattle.std.specs.Prelude.{List, map}
 use Rattle.cargo_workspaces.specs.Workspaces.{Text}
 use Rattle.feats_words.specs.Arguments.{ArgumentsText}
 use Rattle.feats_words.specs.Views.{arguments_text}
-use Rattle.feats_words.specs.declared.plan_arguments.PlanArguments.{PlanArguments}
+use Rattle.feats_words.specs.declared.command_arguments.CommandArguments.{CommandArguments}
 use Rattle.feats_files.specs.Files.{FileText}
 use Rattle.feats_files.specs.FileViews.{file_text}
 use Rattle.feats_tool.specs.declared.inputs.PlanFiles.{PlanFiles}
@@ -15,5 +15,5 @@ pub record InputsText : Type 0 where
   pub host : FileText
   pub targets : List FileText
 
-abbrev pub inputs_text : PlanArguments → PlanFiles → InputsText
+abbrev pub inputs_text : CommandArguments → PlanFiles → InputsText
 inputs_text a f = record { arguments = arguments_text a; manifest = f.manifest.items; host = file_text f.host; targets = map file_text f.targets.items }

@@ -2,8 +2,6 @@ pub mod Answers
 pub mod Bases
 pub mod BasisView
 pub mod Inputs
-pub mod PlanMessages
 pub mod Run
 pub mod Selections
-pub mod Texts
 pub mod WordFaults

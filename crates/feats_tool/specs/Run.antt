@@ -5,6 +5,7 @@ use Rattle.cargo_workspaces.specs.Workspaces.{Text}
 use Rattle.feats_files.specs.Messages.{joined}
 use Rattle.feats_files.specs.declared.fault.Fault.{Fault}
 use Rattle.feats_files.specs.declared.fault.Fault.TheVariants as fault
+use Rattle.feats_answers.specs.AnswerTexts.{AnswerText}
 use Rattle.feats_tool.specs.Answers.{IsAnswer, IsNoAnswer}
 use Rattle.feats_tool.specs.Inputs.{InputsText}
 
@@ -14,9 +15,10 @@ unread_message path = joined (codes "cannot read `" ∷ path ∷ codes "`" ∷ [
 
 -- A run over the bytes `left` wrote a beginning of the answer.
 pub record WritesBeginning (inputs : InputsText) (left old new : Option Text) : Type 0 where
+  pub is_negative : Bool
   pub front : Text
   pub rest : Text
-  pub is_answer : IfSome left (λ bytes. IsAnswer inputs bytes (front ++ rest))
+  pub is_answer : IfSome left (λ bytes. IsAnswer inputs bytes (record { content = front ++ rest; is_negative = is_negative }))
   pub written : Appends old new front
 
 -- Why a run over the bytes `left` has no answer: a read failed, or the bytes have none.

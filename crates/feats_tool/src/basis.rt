@@ -7,7 +7,7 @@ ghost use Rattle.feats_tool.specs.Inputs.{inputs_text};
 
 use crate::inputs::PlanFiles;
 use feats_files::{Fault, resolver, target, target_platforms};
-use feats_words::PlanArguments;
+use feats_words::CommandArguments;
 use manifest_resolvers::Resolver;
 use platform_specs::TargetCfg;
 use std::alloc::Global;
@@ -25,7 +25,7 @@ pub(crate) struct Basis {
 /// targets.
 pub(crate) fn basis_of(
     alloc: Global,
-    arguments: &PlanArguments<'_>,
+    arguments: &CommandArguments<'_>,
     files: &PlanFiles<'_>,
 ) -> Result<Basis, Fault>
     ensures basis { IfOk result (λ basis. IsBasis (inputs_text arguments.now files.now) (basis_text basis)) }

@@ -1,4 +1,4 @@
-//! The engine of the program `feats`: reads the document of a workspace, makes a plan, and writes it.
+//! The engine of the program `feats`: reads the document of a workspace, makes a plan, and writes the answer to a question about it.
 #![tactic(auto)]
 
 mod answers;
@@ -6,12 +6,10 @@ mod basis;
 mod documents;
 mod engine;
 mod inputs;
-mod plan_messages;
 mod planning;
-mod texts;
 mod word_faults;
 
 pub use answers::answer;
 pub use engine::run;
 pub use inputs::{PlanFiles, platform_file};
-pub use word_faults::plan_arguments;
+pub use word_faults::command_arguments;

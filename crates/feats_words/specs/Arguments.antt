@@ -1,4 +1,4 @@
--- The arguments of `plan`, parsed from the words of a request.
+-- The arguments of a command, parsed from the words of a request.
 use Rattle.std.specs.Prelude.{List, Bool, Option, None, Some, Result, Ok, Err, flat_map, codes, ok_or, if◌then◌else◌}
 use Rattle.std.specs.Str.{bytes_eq}
 use Rattle.std.specs.Option.{option_map_or}
@@ -9,9 +9,9 @@ use Rattle.manifest_resolvers.specs.Resolvers.{resolver_named}
 use Rattle.feats_words.specs.FeatureWords.{words_in}
 use Rattle.feats_words.specs.PlatformWords.{PlatformText, platform_word}
 use Rattle.feats_words.specs.Refusals.{Refusal, bad_platform, bad_resolver, two_resolvers, bad_format, each, ◌>>=◌}
-use Rattle.feats_words.specs.Requests.{PlanText}
-use Rattle.feats_words.specs.declared.plan_arguments.Format.{Format}
-use Rattle.feats_words.specs.declared.plan_arguments.Format.TheVariants.{Text as text_format, Json as json_format}
+use Rattle.feats_words.specs.Requests.{QuestionText, RequestText}
+use Rattle.feats_words.specs.declared.command_arguments.Format.{Format}
+use Rattle.feats_words.specs.declared.command_arguments.Format.TheVariants.{Text as text_format, Json as json_format}
 
 -- Where the version of the resolver comes from: it is given, or a root manifest chooses it.
 pub data SourceText : Type 0 where
@@ -19,6 +19,7 @@ pub data SourceText : Type 0 where
   manifest_at : Text → SourceText
 
 pub record ArgumentsText : Type 0 where
+  pub question : QuestionText
   pub metadata : Text
   pub host : PlatformText
   pub targets : List PlatformText
@@ -59,22 +60,23 @@ format_named word =
 abbrev pub format : Option Text → Result Format Refusal
 format word = option_map_or format_named word (Ok text_format)
 
-abbrev pub arguments : PlanText → Result ArgumentsText Refusal
-arguments p =
-    platform p.host >>= λ host.
-    platforms p.targets >>= λ targets.
-    resolver_source p.resolver p.manifest >>= λ resolver.
-    format p.format >>= λ form.
+abbrev pub arguments : RequestText → Result ArgumentsText Refusal
+arguments r =
+    platform r.host >>= λ host.
+    platforms r.targets >>= λ targets.
+    resolver_source r.resolver r.manifest >>= λ resolver.
+    format r.format >>= λ form.
     Ok (record {
-      metadata = p.metadata;
+      question = r.question;
+      metadata = r.metadata;
       host = host;
       targets = targets;
       resolver = resolver;
-      packages = p.packages;
-      workspace = p.workspace;
-      features = flat_map words_in p.features;
-      all_features = p.all_features;
-      no_default_features = p.no_default_features;
-      tests = p.tests;
+      packages = r.packages;
+      workspace = r.workspace;
+      features = flat_map words_in r.features;
+      all_features = r.all_features;
+      no_default_features = r.no_default_features;
+      tests = r.tests;
       format = form;
     })

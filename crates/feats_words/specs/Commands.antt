@@ -21,6 +21,10 @@ lettered_rule name letter = record (repeated_rule name) { short = Some letter }
 abbrev pub flag_rule : Text → Rule
 flag_rule name = record (new_rule name) { long = Some name; action = Some SetTrue }
 
+-- A word without an option, which is given exactly once.
+abbrev pub word_rule : Text → Rule
+word_rule name = record (new_rule name) { action = Some Set; value_names = 1; required = true }
+
 -- The options that name the files.
 abbrev pub file_rules : List Rule
 file_rules =
@@ -34,8 +38,29 @@ selection_rules =
     ∷ lettered_rule (codes "features") 70 ∷ flag_rule (codes "all-features") ∷ flag_rule (codes "no-default-features")
     ∷ flag_rule (codes "tests") ∷ option_rule (codes "format") ∷ []
 
+-- A command with such words, and with the options of all commands.
+abbrev pub command_shape : Text → List Rule → Shape
+command_shape name words = record (new_shape name) { rules = words ++ (file_rules ++ selection_rules) }
+
 abbrev pub plan_shape : Shape
-plan_shape = record (new_shape (codes "plan")) { rules = file_rules ++ selection_rules }
+plan_shape = command_shape (codes "plan") []
+
+abbrev pub why_shape : Shape
+why_shape = command_shape (codes "why") (word_rule (codes "feature") ∷ [])
+
+abbrev pub why_not_shape : Shape
+why_not_shape = command_shape (codes "why-not") (word_rule (codes "feature") ∷ [])
+
+abbrev pub specs_shape : Shape
+specs_shape = command_shape (codes "specs") []
+
+abbrev pub list_shape : Shape
+list_shape = command_shape (codes "list") (word_rule (codes "spec") ∷ [])
+
+-- The program without its commands, of which one must be given.
+abbrev pub bare_app : App
+bare_app = record (new_app (codes "feats")) { top = record (new_shape (codes "feats")) { subcommand_required = true } }
 
 abbrev pub feats_app : App
-feats_app = with_subcommand (record (new_app (codes "feats")) { top = record (new_shape (codes "feats")) { subcommand_required = true } }) plan_shape
+feats_app =
+    with_subcommand (with_subcommand (with_subcommand (with_subcommand (with_subcommand bare_app plan_shape) why_shape) why_not_shape) specs_shape) list_shape

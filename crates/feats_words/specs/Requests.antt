@@ -1,5 +1,5 @@
 -- What a command line asks for.
-use Rattle.std.specs.Prelude.{List, [], Bool, false, Option, None, Some, map, unwrap_or, option_and_then, codes, if◌then◌else◌}
+use Rattle.std.specs.Prelude.{List, [], Bool, false, Option, None, Some, map, unwrap_or, option_map, option_and_then, codes, if◌then◌else◌}
 use Rattle.std.specs.Borrow.{Bor}
 use Rattle.std.specs.Str.{bytes_eq}
 use Rattle.std.specs.Option.{option_map_or}
@@ -9,8 +9,17 @@ use Rattle.feats_words.specs.Commands.{feats_app}
 abbrev pub texts : List (Bor Text) → List Text
 texts = map (λ t. t.now)
 
--- What the command `plan` is asked for.
-pub record PlanText : Type 0 where
+-- The question that a command asks about a build.
+pub data QuestionText : Type 0 where
+  plan : QuestionText
+  why : Text → QuestionText
+  why_not : Text → QuestionText
+  specs : QuestionText
+  list : Text → QuestionText
+
+-- What a command line asks for.
+pub record RequestText : Type 0 where
+  pub question : QuestionText
   pub metadata : Text
   pub host : Text
   pub targets : List Text
@@ -24,10 +33,7 @@ pub record PlanText : Type 0 where
   pub tests : Bool
   pub format : Option Text
 
-pub data RequestText : Type 0 where
-  plan : PlanText → RequestText
-
--- The value of an option; of an option that is required; the values of one that may be given several times.
+-- The value of an option; of an option or a word that is required; the values of an option that may be given several times.
 abbrev pub value : Text → List Row → Option Text
 value name rows = first_of name rows
 
@@ -41,8 +47,19 @@ values name rows = unwrap_or (all_of name rows) []
 abbrev pub is_given : Text → List Row → Bool
 is_given name rows = option_map_or (λ value. bytes_eq value (codes "true")) (first_of name rows) false
 
-abbrev pub plan_asked : List Row → PlanText
-plan_asked rows = record {
+-- The question of the command with a name, by the rows of its words.
+abbrev pub question_of : Text → List Row → Option QuestionText
+question_of name rows =
+    if bytes_eq name (codes "plan") then Some plan
+    else (if bytes_eq name (codes "why") then Some (why (required_value (codes "feature") rows))
+    else (if bytes_eq name (codes "why-not") then Some (why_not (required_value (codes "feature") rows))
+    else (if bytes_eq name (codes "specs") then Some specs
+    else (if bytes_eq name (codes "list") then Some (list (required_value (codes "spec") rows))
+    else None))))
+
+abbrev pub asked : QuestionText → List Row → RequestText
+asked question rows = record {
+  question = question;
   metadata = required_value (codes "metadata") rows;
   host = required_value (codes "host") rows;
   targets = values (codes "target") rows;
@@ -57,9 +74,9 @@ plan_asked rows = record {
   format = value (codes "format") rows;
 }
 
--- What the command of a name is asked for by its options.
+-- What the command of a name is asked for by its words and options.
 abbrev pub request_of : Text × List Row → Option RequestText
-request_of command = if bytes_eq command.0 (codes "plan") then Some (plan (plan_asked command.1)) else None
+request_of command = option_map (λ question. asked question command.1) (question_of command.0 command.1)
 
 -- What a command line asks for; the first word is the program's name.
 abbrev pub request_in : List Text → Option RequestText

@@ -1,15 +1,15 @@
 -- The values that Rust's types contain.
 use Rattle.std.specs.Prelude.{map, option_map}
-use Rattle.feats_words.specs.Requests.{PlanText, RequestText, plan, texts}
+use Rattle.feats_words.specs.Requests.{QuestionText, RequestText, list, plan, specs, texts, why, why_not}
 use Rattle.feats_words.specs.Arguments.{ArgumentsText, SourceText, version_given, manifest_at}
 use Rattle.feats_words.specs.PlatformWords.{PlatformText}
-use Rattle.feats_words.specs.declared.plan_arguments.PlanArguments.{PlanArguments}
-use Rattle.feats_words.specs.declared.plan_arguments.ResolverSource.{ResolverSource}
-use Rattle.feats_words.specs.declared.plan_arguments.ResolverSource.TheVariants as source
+use Rattle.feats_words.specs.declared.command_arguments.CommandArguments.{CommandArguments}
+use Rattle.feats_words.specs.declared.command_arguments.ResolverSource.{ResolverSource}
+use Rattle.feats_words.specs.declared.command_arguments.ResolverSource.TheVariants as source
 use Rattle.feats_words.specs.declared.platform_words.PlatformWord.{PlatformWord}
-use Rattle.feats_words.specs.declared.request.PlanRequest.{PlanRequest}
+use Rattle.feats_words.specs.declared.request.Question.{Question}
+use Rattle.feats_words.specs.declared.request.Question.TheVariants as question
 use Rattle.feats_words.specs.declared.request.Request.{Request}
-use Rattle.feats_words.specs.declared.request.Request.TheVariants as request
 
 abbrev pub platform_text : PlatformWord → PlatformText
 platform_text p = record { triple = p.triple.now; path = p.path.now }
@@ -18,8 +18,16 @@ abbrev pub source_text : ResolverSource → SourceText
 source_text (source.Version resolver) = version_given resolver
 source_text (source.Manifest path) = manifest_at path.now
 
-abbrev pub arguments_text : PlanArguments → ArgumentsText
+abbrev pub question_text : Question → QuestionText
+question_text question.Plan = plan
+question_text (question.Why word) = why word.now
+question_text (question.WhyNot word) = why_not word.now
+question_text question.Specs = specs
+question_text (question.List word) = list word.now
+
+abbrev pub arguments_text : CommandArguments → ArgumentsText
 arguments_text a = record {
+  question = question_text a.question;
   metadata = a.metadata.now;
   host = platform_text a.host;
   targets = map platform_text a.targets.items;
@@ -33,8 +41,9 @@ arguments_text a = record {
   format = a.format;
 }
 
-abbrev pub plan_text : PlanRequest → PlanText
-plan_text r = record {
+abbrev pub request_text : Request → RequestText
+request_text r = record {
+  question = question_text r.question;
   metadata = r.metadata.now;
   host = r.host.now;
   targets = texts r.targets.items;
@@ -48,6 +57,3 @@ plan_text r = record {
   tests = r.tests;
   format = option_map (λ t. t.now) r.format;
 }
-
-abbrev pub request_text : Request → RequestText
-request_text (request.Plan r) = plan (plan_text r)

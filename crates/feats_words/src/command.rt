@@ -1,5 +1,5 @@
 //! The commands of the program and their options, as `clap` knows them.
-ghost use Rattle.std.specs.Prelude.{◌≡◌, false, IfOk};
+ghost use Rattle.std.specs.Prelude.{◌≡◌, ◌++◌, ◌∷◌, [], false, IfOk};
 ghost use Rattle.clap.specs.Words.{app_of, rule_of};
 ghost use Rattle.clap.specs.declared.builder.command.Command.TheViews.{out-Command};
 ghost use Rattle.feats_words.specs.Commands as spec;
@@ -14,6 +14,30 @@ Example:
   rustc --print cfg >host.cfg
   feats plan --metadata metadata.json --host x86_64-unknown-linux-gnu=host.cfg -p server -F tls
 ";
+
+const WHY_EXAMPLE: &str = "\
+Example, with the files of `feats plan --help`:
+  feats why --metadata metadata.json --host x86_64-unknown-linux-gnu=host.cfg -p server libc/extra_traits
+";
+
+const WHY_NOT_EXAMPLE: &str = "\
+Example, with the files of `feats plan --help`:
+  feats why-not --metadata metadata.json --host x86_64-unknown-linux-gnu=host.cfg -p server libc/extra_traits
+";
+
+const SPECS_EXAMPLE: &str = "\
+Example, with the files of `feats plan --help`:
+  feats specs --metadata metadata.json --host x86_64-unknown-linux-gnu=host.cfg
+";
+
+const LIST_EXAMPLE: &str = "\
+Example, with the files of `feats plan --help`:
+  feats list --metadata metadata.json --host x86_64-unknown-linux-gnu=host.cfg -p server libc
+";
+
+/// The help of the word FEATURE.
+const FEATURE_HELP: &str = "\
+SPEC/NAME, SPEC/dep:NAME, SPEC for the package itself, or a feature's name alone; `*` stands for any text in a name";
 
 /// Returns an option with a value, which is given at most once.
 fn option<'a>(alloc: Global, name: &'a str, value: &'a str, help: &'a str) -> Arg<'a>
@@ -66,6 +90,18 @@ fn flag<'a>(alloc: Global, name: &'a str, help: &'a str) -> Arg<'a>
         .long(name)
         .action(ArgAction::SetTrue)
         .help(help)
+}
+
+/// Returns a word without an option, which is given exactly once.
+fn word<'a>(alloc: Global, name: &'a str, value: &'a str, help: &'a str) -> Arg<'a>
+    ensures rule { rule_of result ≡ spec.word_rule name.entry.now }
+    ensures local { result.global ≡ false }
+{
+    Arg::new(alloc, name)
+        .action(ArgAction::Set)
+        .value_name(value)
+        .help(help)
+        .required(true)
 }
 
 /// Adds the options that name the files.
@@ -146,22 +182,127 @@ fn with_selection(alloc: Global, command: Command<'_>) -> Result<Command<'_>, Al
         ))
 }
 
+/// Adds the options of all commands.
+fn with_options(alloc: Global, command: Command<'_>) -> Result<Command<'_>, AllocError>
+    requires { (out-Command command).has_globals ≡ false }
+    ensures { IfOk result (λ r. AddsRules command.entry r (spec.file_rules ++ spec.selection_rules)) }
+{
+    with_selection(alloc, with_files(alloc, command)?)
+}
+
+/// Returns a command without words of its own.
+fn wordless<'a>(
+    alloc: Global,
+    name: &'a str,
+    about: &'a str,
+    example: &'a str,
+) -> Result<Command<'a>, AllocError>
+    ensures { IfOk result (λ r. IsSubcommand r (spec.command_shape name.entry.now [])) }
+{
+    let command = Command::new(alloc, name).about(about).after_help(example);
+    with_options(alloc, command)
+}
+
+/// Returns a command with one word.
+fn worded<'a>(
+    alloc: Global,
+    name: &'a str,
+    about: &'a str,
+    example: &'a str,
+    word: Arg<'a>,
+) -> Result<Command<'a>, AllocError>
+    requires { word.global ≡ false }
+    ensures { IfOk result (λ r. IsSubcommand r (spec.command_shape name.entry.now (rule_of word.entry ∷ []))) }
+{
+    let command = Command::new(alloc, name).about(about).after_help(example);
+    with_options(alloc, command.arg(word)?)
+}
+
 /// Returns the command `plan`.
 fn plan_command<'a>(alloc: Global) -> Result<Command<'a>, AllocError>
     ensures { IfOk result (λ r. IsSubcommand r spec.plan_shape) }
 {
-    let command = Command::new(alloc, "plan")
-        .about("Prints the packages that Cargo builds, each with its features")
-        .after_help(PLAN_EXAMPLE);
-    with_selection(alloc, with_files(alloc, command)?)
+    wordless(
+        alloc,
+        "plan",
+        "Prints the packages that Cargo builds, each with its features",
+        PLAN_EXAMPLE,
+    )
+}
+
+/// Returns the command `why`.
+fn why_command<'a>(alloc: Global) -> Result<Command<'a>, AllocError>
+    ensures { IfOk result (λ r. IsSubcommand r spec.why_shape) }
+{
+    worded(
+        alloc,
+        "why",
+        "Prints the steps from what is selected to a feature that is on",
+        WHY_EXAMPLE,
+        word(alloc, "feature", "FEATURE", FEATURE_HELP),
+    )
+}
+
+/// Returns the command `why-not`.
+fn why_not_command<'a>(alloc: Global) -> Result<Command<'a>, AllocError>
+    ensures { IfOk result (λ r. IsSubcommand r spec.why_not_shape) }
+{
+    worded(
+        alloc,
+        "why-not",
+        "Prints which wider selections turn on a feature that is off",
+        WHY_NOT_EXAMPLE,
+        word(alloc, "feature", "FEATURE", FEATURE_HELP),
+    )
+}
+
+/// Returns the command `specs`.
+fn specs_command<'a>(alloc: Global) -> Result<Command<'a>, AllocError>
+    ensures { IfOk result (λ r. IsSubcommand r spec.specs_shape) }
+{
+    wordless(
+        alloc,
+        "specs",
+        "Prints the platform specs of the workspace, and the platforms for which each holds",
+        SPECS_EXAMPLE,
+    )
+}
+
+/// Returns the command `list`.
+fn list_command<'a>(alloc: Global) -> Result<Command<'a>, AllocError>
+    ensures { IfOk result (λ r. IsSubcommand r spec.list_shape) }
+{
+    worded(
+        alloc,
+        "list",
+        "Prints the features of a package: whether each is on, and its items",
+        LIST_EXAMPLE,
+        word(
+            alloc,
+            "spec",
+            "SPEC",
+            "The package: NAME, NAME@VERSION or an id",
+        ),
+    )
+}
+
+/// Returns the program without its commands.
+fn bare_command<'a>(alloc: Global) -> Command<'a>
+    ensures { app_of result ≡ spec.bare_app }
+{
+    Command::new(alloc, "feats")
+        .about("Says which features Cargo turns on in a build, and why")
+        .subcommand_required(true)
 }
 
 /// Returns the program with its commands.
 pub(crate) fn feats_command<'a>(alloc: Global) -> Result<Command<'a>, AllocError>
     ensures { IfOk result (λ r. app_of r ≡ spec.feats_app) }
 {
-    Command::new(alloc, "feats")
-        .about("Says which features Cargo turns on in a build, and why")
-        .subcommand_required(true)
-        .subcommand(plan_command(alloc)?)
+    bare_command(alloc)
+        .subcommand(plan_command(alloc)?)?
+        .subcommand(why_command(alloc)?)?
+        .subcommand(why_not_command(alloc)?)?
+        .subcommand(specs_command(alloc)?)?
+        .subcommand(list_command(alloc)?)
 }

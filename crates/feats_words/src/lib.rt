@@ -2,14 +2,14 @@
 #![tactic(auto)]
 
 mod command;
+mod command_arguments;
 mod fault;
-mod plan_arguments;
 mod platform_words;
 mod request;
 mod splitting;
 
+pub use command_arguments::{CommandArguments, Format, ResolverSource, arguments};
 pub use fault::WordsFault;
-pub use plan_arguments::{Format, PlanArguments, ResolverSource, arguments};
 pub use platform_words::{PlatformWord, platform_word};
-pub use request::{PlanRequest, Request, parse};
+pub use request::{Question, Request, parse};
 pub use splitting::feature_words;

@@ -4,15 +4,31 @@ ghost use Rattle.clap.specs.Words.{FailsBy, fault_of, found_of, rows_of, subcomm
 ghost use Rattle.feats_words.specs.Commands.{feats_app};
 ghost use Rattle.feats_words.specs.Requests as spec;
 ghost use Rattle.feats_words.specs.Requests.{texts};
-ghost use Rattle.feats_words.specs.Views.{plan_text, request_text};
+ghost use Rattle.feats_words.specs.Views.{question_text, request_text};
 
 use crate::command::feats_command;
 use clap::{ArgMatches, Error};
 use std::alloc::{AllocError, Global};
 
-/// What the command `plan` is asked for.
+/// The question that a command asks about a build.
+#[derive(Clone, Copy)]
+pub enum Question<'a> {
+    /// Which packages are built?
+    Plan,
+    /// Why is this feature on?
+    Why(&'a str),
+    /// Why is this feature off?
+    WhyNot(&'a str),
+    /// Which platform specs hold?
+    Specs,
+    /// Which features does the package of this spec have?
+    List(&'a str),
+}
+
+/// What a command line asks for.
 #[derive(Drop)]
-pub struct PlanRequest<'a> {
+pub struct Request<'a> {
+    pub question: Question<'a>,
     /// The path of the document, or `-`.
     pub metadata: &'a str,
     /// The word of the host, as `TRIPLE=CFGFILE`.
@@ -33,14 +49,7 @@ pub struct PlanRequest<'a> {
     pub format: Option<&'a str>,
 }
 
-/// What a command line asks for.
-#[derive(Drop)]
-pub enum Request<'a> {
-    /// The packages that are built.
-    Plan(PlanRequest<'a>),
-}
-
-/// Returns the value of a required option.
+/// Returns the value of an option or a word that is required.
 fn required_value<'a>(matches: &ArgMatches<'a>, name: &str) -> &'a str
     ensures { result.now ≡ spec.required_value name.now (rows_of (found_of matches.now)) }
 {
@@ -90,11 +99,30 @@ fn is_given(matches: &ArgMatches<'_>, name: &str) -> bool
     }
 }
 
-/// Returns what the matches of `plan` ask for.
-fn plan_request<'a>(alloc: Global, matches: &ArgMatches<'a>) -> Result<PlanRequest<'a>, AllocError>
-    ensures { IfOk result (λ request. plan_text request ≡ spec.plan_asked (rows_of (found_of matches.now))) }
+/// Returns the question of the command with this name. None if there is no such command.
+fn question_of<'a>(name: &str, matches: &ArgMatches<'a>) -> Option<Question<'a>>
+    ensures { option_map question_text result ≡ spec.question_of name.now (rows_of (found_of matches.now)) }
 {
-    Ok(PlanRequest {
+    match name {
+        "plan" => Some(Question::Plan),
+        "why" => Some(Question::Why(required_value(matches, "feature"))),
+        "why-not" => Some(Question::WhyNot(required_value(matches, "feature"))),
+        "specs" => Some(Question::Specs),
+        "list" => Some(Question::List(required_value(matches, "spec"))),
+        _ => None,
+    }
+}
+
+/// Returns what a question and the options of its command ask for.
+fn asked<'a>(
+    alloc: Global,
+    question: Question<'a>,
+    matches: &ArgMatches<'a>,
+) -> Result<Request<'a>, AllocError>
+    ensures { IfOk result (λ request. request_text request ≡ spec.asked (question_text question.entry) (rows_of (found_of matches.now))) }
+{
+    Ok(Request {
+        question,
         metadata: required_value(matches, "metadata"),
         host: required_value(matches, "host"),
         targets: values(alloc, matches, "target")?,
@@ -110,7 +138,7 @@ fn plan_request<'a>(alloc: Global, matches: &ArgMatches<'a>) -> Result<PlanReque
     })
 }
 
-/// Returns what the command of this name is asked for by its options. None if there is no such command.
+/// Returns what the command with this name is asked for by its options. None if there is no such command.
 fn request_of<'a>(
     alloc: Global,
     name: &str,
@@ -118,11 +146,13 @@ fn request_of<'a>(
 ) -> Result<Option<Request<'a>>, AllocError>
     ensures { IfOk result (λ request. option_map request_text request ≡ spec.request_of (name.now, rows_of (found_of matches.now))) }
 {
-    if name == "plan" {
-        let request = plan_request(alloc, matches)?;
-        return Ok(Some(Request::Plan(request)));
+    match question_of(name, matches) {
+        Some(question) => {
+            let request = asked(alloc, question, matches)?;
+            Ok(Some(request))
+        }
+        None => Ok(None),
     }
-    Ok(None)
 }
 
 /// Returns the values of the options of `words`; the first word is the program's name.

@@ -1,6 +1,6 @@
 use Rattle.std.proofs.Common.{refl, sym, subst}
 use Rattle.feats_words.specs.Views.{source_text}
-use Rattle.feats_words.specs.declared.plan_arguments.ResolverSource.{ResolverSource}
+use Rattle.feats_words.specs.declared.command_arguments.ResolverSource.{ResolverSource}
 use Rattle.feats_files.specs.Files.{IsVersionRefusal, manifest_message}
 use Rattle.feats_files.proofs.Says.{says_of}
 use Rattle.feats_files.proofs.files.resolver.Goals as goal

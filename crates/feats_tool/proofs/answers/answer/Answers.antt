@@ -16,5 +16,5 @@ pub returns-clause-fault : goal.returns-clause-fault
 returns-clause-fault c =
     let inputs = inputs_text c.args.arguments.now c.args.files.now in
     let basis = basis_text c.in_ok-basis.basis in
-    if_err_more c.bytes_text.result (IsBytesRefusal inputs basis c.args.bytes.now) (IsNoAnswer inputs c.args.bytes.now)
-    (λ m h. of_bytes basis c.in_ok-basis.ensures.basis h) c.bytes_text.ensures.fault
+    if_err_more c.bytes_answer.result (IsBytesRefusal inputs basis c.args.bytes.now) (IsNoAnswer inputs c.args.bytes.now)
+    (λ m h. of_bytes basis c.in_ok-basis.ensures.basis h) c.bytes_answer.ensures.fault

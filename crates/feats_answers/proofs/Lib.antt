@@ -1,0 +1,3 @@
+pub mod Says
+pub mod Shown
+pub mod Zips

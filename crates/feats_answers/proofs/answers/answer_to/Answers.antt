@@ -1,0 +1,42 @@
+use Rattle.std.proofs.Common.{map, subst, sym}
+use Rattle.std.proofs.lemmas.Result.{IfOk-weaker}
+use Rattle.cargo_plans.specs.WordsView.{words_text}
+use Rattle.cargo_workspaces.specs.WorkspaceView.{workspace_text}
+use Rattle.plan_platforms.specs.HeldSpecs.{holds_on}
+use Rattle.plan_steps.specs.PlanViews.{plan_text}
+use Rattle.feats_files.specs.FileViews.{file_text}
+use Rattle.feats_words.specs.Views.{question_text}
+use Rattle.feats_words.specs.declared.request.Question.{Question}
+use Rattle.feats_answers.specs.AnswerTexts.{AnswerText}
+use Rattle.feats_answers.specs.AnswerViews.{answer_text}
+use Rattle.feats_answers.specs.Answers.{IsAnswerTo, IsPositive}
+use Rattle.feats_answers.specs.SpecTexts.{IsSpecText, places}
+use Rattle.feats_answers.proofs.answers.answer_to.Goals as goal
+
+pub returns-in_ok-plan_answer-in-Plan-clause-answer : goal.returns-in_ok-plan_answer-in-Plan-clause-answer
+returns-in_ok-plan_answer-in-Plan-clause-answer c =
+    let w = workspace_text c.args.workspace.now in
+    subst (λ (q : Question). IsAnswerTo (question_text q) c.args.arguments.now.format (map file_text c.args.files.now) w (words_text holds_on c.args.words.now) (plan_text c.args.plan.now) (answer_text c.in_ok-plan_answer-in-Plan.field-0))
+    (sym c.in-Plan.is) c.in_ok-plan_answer-in-Plan.ensures
+
+pub returns-in-Why-clause-answer : goal.returns-in-Why-clause-answer
+returns-in-Why-clause-answer c =
+    let w = workspace_text c.args.workspace.now in
+    IfOk-weaker c.why_answer.result _ _ (λ a h. subst (λ (q : Question). IsAnswerTo (question_text q) c.args.arguments.now.format (map file_text c.args.files.now) w (words_text holds_on c.args.words.now) (plan_text c.args.plan.now) (answer_text a))
+    (sym c.in-Why.is) h) c.why_answer.ensures.answer
+
+pub returns-in_ok-specs_answer-in-Specs-clause-answer : goal.returns-in_ok-specs_answer-in-Specs-clause-answer
+returns-in_ok-specs_answer-in-Specs-clause-answer c =
+    let w = workspace_text c.args.workspace.now in
+    let words = words_text holds_on c.args.words.now in
+    let form = c.args.arguments.now.format in
+    let files = map file_text c.args.files.now in
+    let answer = answer_text c.in_ok-specs_answer-in-Specs.field-0 in
+    subst (λ (q : Question). IsAnswerTo (question_text q) form files w words (plan_text c.args.plan.now) answer) (sym c.in-Specs.is)
+    (subst (λ declared. IsPositive (IsSpecText form declared (places files words.host words.targets)) answer) c.requires.specs c.in_ok-specs_answer-in-Specs.ensures)
+
+pub returns-in-List-clause-answer : goal.returns-in-List-clause-answer
+returns-in-List-clause-answer c =
+    let w = workspace_text c.args.workspace.now in
+    IfOk-weaker c.list_answer.result _ _ (λ a h. subst (λ (q : Question). IsAnswerTo (question_text q) c.args.arguments.now.format (map file_text c.args.files.now) w (words_text holds_on c.args.words.now) (plan_text c.args.plan.now) (answer_text a))
+    (sym c.in-List.is) h) c.list_answer.ensures.answer

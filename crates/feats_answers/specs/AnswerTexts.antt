@@ -1,0 +1,13 @@
+-- The answer to a question: its text, and whether it is no.
+use Rattle.std.specs.Prelude.{Bool, true, false}
+use Rattle.cargo_workspaces.specs.Workspaces.{Text}
+
+pub record AnswerText : Type 0 where
+  pub content : Text
+  pub is_negative : Bool
+
+abbrev pub positive : Text → AnswerText
+positive text = record { content = text; is_negative = false }
+
+abbrev pub negative : Text → AnswerText
+negative text = record { content = text; is_negative = true }

@@ -1,0 +1,6 @@
+-- The visit by which labels are on.
+use Rattle.plan_starts.specs.PackageVisits.{PairVisit}
+use Rattle.feats_answers.specs.declared.labels_on.PlanLabels.{PlanLabels}
+
+abbrev pub labels_on : PlanLabels → PairVisit
+labels_on v = v.on.now

@@ -1,0 +1,11 @@
+pub mod AnswerTexts
+pub mod AnswerViews
+pub mod Answers
+pub mod Gathered
+pub mod LabelsOn
+pub mod ListTexts
+pub mod NameMessages
+pub mod Parts
+pub mod PlanTexts
+pub mod SpecTexts
+pub mod WhyTexts

@@ -1,0 +1,36 @@
+//! The labels that are on in a plan.
+ghost use Rattle.std.specs.Prelude.{◌≡◌};
+ghost use Rattle.plan_starts.specs.PackageVisits.{is_on};
+ghost use Rattle.plan_steps.specs.PlanViews.{plan_text};
+ghost use Rattle.feats_answers.specs.LabelsOn.{labels_on};
+
+use cargo_plans::{Plan, Side};
+use feature_labels::FeatureLabel;
+use feature_lists::LabelsOn;
+use plan_rows::TurnedOn;
+use plan_starts::PackageVisit;
+
+/// The labels that are on in a plan.
+#[derive(Clone, Copy)]
+pub(crate) struct PlanLabels<'p> {
+    pub(crate) on: &'p PackageVisit,
+}
+
+/// Returns the labels that are on in `plan`.
+pub(crate) fn labels_of<'p>(plan: &'p Plan<'_>) -> PlanLabels<'p>
+    ensures { labels_on result ≡ (plan_text plan.now).on }
+{
+    PlanLabels { on: plan.on() }
+}
+
+impl LabelsOn for PlanLabels<'_> {
+    ghost on = { λ v. is_on (labels_on v) };
+
+    fn is_on(&self, side: Side, ix: usize, label: FeatureLabel<'_>) -> bool {
+        match label {
+            FeatureLabel::Base => self.on.has_package(side, ix),
+            FeatureLabel::Named(name) => self.on.has_feature(side, ix, name),
+            FeatureLabel::OptionalDependency(name) => TurnedOn::is_on(self.on, side, ix, name),
+        }
+    }
+}

@@ -1,0 +1,17 @@
+//! The answers to the questions about a build: a text for each command.
+#![tactic(auto)]
+
+mod answer;
+mod answers;
+mod gathered;
+mod labels_on;
+mod list_texts;
+mod name_messages;
+mod parts;
+mod places;
+mod plan_texts;
+mod spec_texts;
+mod why_texts;
+
+pub use answer::Answer;
+pub use answers::answer_to;

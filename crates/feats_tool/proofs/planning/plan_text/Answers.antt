@@ -1,7 +1,0 @@
-use Rattle.std.proofs.lemmas.Result.{err_from_is_err_and}
-use Rattle.feats_tool.proofs.planning.plan_text.Goals as goal
-
-pub returns-in_err-text_of_units-in-Ok-clause-fault : goal.returns-in_err-text_of_units-in-Ok-clause-fault
-returns-in_err-text_of_units-in-Ok-clause-fault c =
-    let p = err_from_is_err_and c.from_residual.result c.from_residual.ensures.1 in
-    rw (p.1, p.2) tt

@@ -1,0 +1,133 @@
+//! The arguments of a command, parsed from the words of a request.
+ghost use Rattle.std.specs.Prelude.{map, option_map};
+ghost use Rattle.feats_words.specs.Arguments as spec;
+ghost use Rattle.feats_words.specs.Refusals.{Gives};
+ghost use Rattle.feats_words.specs.Requests.{texts};
+ghost use Rattle.feats_words.specs.Views.{arguments_text, platform_text, request_text, source_text};
+
+use crate::fault::WordsFault;
+use crate::platform_words::{PlatformWord, platform_word};
+use crate::request::{Question, Request};
+use crate::splitting::feature_words;
+use manifest_resolvers::Resolver;
+use std::alloc::Global;
+
+/// Where the version of the resolver comes from.
+#[derive(Clone, Copy)]
+pub enum ResolverSource<'a> {
+    Version(Resolver),
+    /// The root manifest at this path.
+    Manifest(&'a str),
+}
+
+/// The forms of an answer.
+#[derive(Clone, Copy, PartialEq, Eq, Debug)]
+pub enum Format {
+    Text,
+    Json,
+}
+
+/// The arguments of a command.
+#[derive(Drop)]
+pub struct CommandArguments<'a> {
+    pub question: Question<'a>,
+    /// The path of the document, or `-`.
+    pub metadata: &'a str,
+    pub host: PlatformWord<'a>,
+    pub targets: Vec<PlatformWord<'a>>,
+    pub resolver: ResolverSource<'a>,
+    pub packages: Vec<&'a str>,
+    pub workspace: bool,
+    /// The feature words, which are split already.
+    pub features: Vec<&'a str>,
+    pub all_features: bool,
+    pub no_default_features: bool,
+    pub tests: bool,
+    pub format: Format,
+}
+
+/// Returns the platform of `word`, or `Platform` if it isn't `TRIPLE=CFGFILE`.
+fn platform(word: &str) -> Result<PlatformWord<'_>, WordsFault<'_>>
+    ensures { Gives platform_text result (spec.platform word.now) }
+{
+    match platform_word(word) {
+        Some(platform) => Ok(platform),
+        None => Err(WordsFault::Platform(word)),
+    }
+}
+
+/// Returns the platforms of `words`, or `Platform` with the first that isn't `TRIPLE=CFGFILE`.
+fn platforms<'a>(alloc: Global, words: &[&'a str]) -> Result<Vec<PlatformWord<'a>>, WordsFault<'a>>
+    ensures { Gives (λ platforms. map platform_text platforms.items) result (spec.platforms (texts words.now)) }
+{
+    let mut platforms = Vec::new(alloc);
+    for word in words {
+        platforms.push(platform(word)?)?;
+    }
+    Ok(platforms)
+}
+
+/// Returns the version of the resolver that `word` names.
+fn version(word: &str) -> Result<ResolverSource<'_>, WordsFault<'_>>
+    ensures { Gives source_text result (spec.version word.now) }
+{
+    match Resolver::named(word) {
+        Some(resolver) => Ok(ResolverSource::Version(resolver)),
+        None => Err(WordsFault::Resolver(word)),
+    }
+}
+
+/// Returns the source of the resolver's version: 2, if neither is given.
+fn resolver_source<'a>(
+    word: Option<&'a str>,
+    manifest: Option<&'a str>,
+) -> Result<ResolverSource<'a>, WordsFault<'a>>
+    ensures { Gives source_text result (spec.resolver_source (option_map (λ t. t.now) word.entry) (option_map (λ t. t.now) manifest.entry)) }
+{
+    match (word, manifest) {
+        (Some(_), Some(_)) => Err(WordsFault::TwoResolvers),
+        (Some(word), None) => version(word),
+        (None, Some(path)) => Ok(ResolverSource::Manifest(path)),
+        (None, None) => Ok(ResolverSource::Version(Resolver::V2)),
+    }
+}
+
+/// Returns the format that `word` names: text, if there is none.
+fn format_of(word: Option<&str>) -> Result<Format, WordsFault<'_>>
+    ensures { Gives (λ f. f) result (spec.format (option_map (λ t. t.now) word.entry)) }
+{
+    match word {
+        None | Some("text") => Ok(Format::Text),
+        Some("json") => Ok(Format::Json),
+        Some(word) => Err(WordsFault::Format(word)),
+    }
+}
+
+/// Returns the arguments of a request. The error is the first word that can't be read: of the host, of the targets, of the resolver, of
+/// the format; or `Memory`.
+pub fn arguments<'a>(
+    alloc: Global,
+    request: Request<'a>,
+) -> Result<CommandArguments<'a>, WordsFault<'a>>
+    ensures { Gives arguments_text result (spec.arguments (request_text request.entry)) }
+{
+    let host = platform(request.host)?;
+    let targets = platforms(alloc, &request.targets)?;
+    let resolver = resolver_source(request.resolver, request.manifest)?;
+    let format = format_of(request.format)?;
+    let features = feature_words(alloc, &request.features)?;
+    Ok(CommandArguments {
+        question: request.question,
+        metadata: request.metadata,
+        host,
+        targets,
+        resolver,
+        packages: request.packages,
+        workspace: request.workspace,
+        features,
+        all_features: request.all_features,
+        no_default_features: request.no_default_features,
+        tests: request.tests,
+        format,
+    })
+}

@@ -1,0 +1,44 @@
+-- Messages about selections that have no plan.
+use Rattle.std.specs.Prelude.{ℕ, List, [], ◌∷◌, ◌++◌, flat_map, codes}
+use Rattle.cargo_workspaces.specs.Workspaces.{Text, PackageText}
+use Rattle.plan_rows.specs.declared.side.Side.{Side}
+use Rattle.plan_rows.specs.declared.side.Side.TheVariants as side
+use Rattle.plan_words.specs.declared.fault.WordFault.{WordFault}
+use Rattle.plan_words.specs.declared.fault.WordFault.TheVariants as word
+use Rattle.cargo_plans.specs.declared.fault.PlanFault.{PlanFault}
+use Rattle.cargo_plans.specs.declared.fault.PlanFault.TheVariants as fault
+use Rattle.feats_files.specs.Messages.{joined}
+use Rattle.feats_files.specs.Platforms.{id_at}
+
+-- The line with the id of package `p`.
+abbrev pub id_line : List PackageText → ℕ → Text
+id_line packages p = 10 ∷ (codes "  " ++ id_at packages p)
+
+abbrev pub several_message : List PackageText → Text → List ℕ → Text
+several_message packages word candidates =
+    joined (codes "several packages fit `" ∷ word ∷ codes "`: write NAME@VERSION or one of these ids" ∷ []) ++ flat_map (id_line packages) candidates
+
+abbrev pub word_message : List PackageText → WordFault → Text
+word_message packages (word.UnknownPackage w) = joined (codes "no package of the document fits `" ∷ w.now ∷ codes "`: write NAME, NAME@VERSION or an id" ∷ [])
+word_message packages (word.AmbiguousPackage w candidates) = several_message packages w.now candidates.items
+word_message packages word.NoMember = joined (codes "features are asked for, and no selected package is a member of the workspace: select a member, or leave the features out" ∷ [])
+word_message packages (word.UnknownFeature w) = joined (codes "no selected member has `" ∷ w.now ∷ codes "`: write a feature of a selected member, or DEPENDENCY/FEATURE" ∷ [])
+word_message packages (word.NoFeature p feature) = joined (codes "package " ∷ id_at packages p ∷ codes " has no feature `" ∷ feature.now ∷ codes "`: look it up in its manifest" ∷ [])
+word_message packages (word.NoDependency p dependency) = joined (codes "package " ∷ id_at packages p ∷ codes " declares no dependency `" ∷ dependency.now ∷ codes "`: look it up in its manifest" ∷ [])
+word_message packages word.Memory = codes "out of memory"
+
+abbrev pub side_word : Side → Text
+side_word side.Target = codes "target"
+side_word side.Host = codes "host"
+
+abbrev pub not_on_message : List PackageText → ℕ → Text → Text
+not_on_message packages p side = joined (codes "package " ∷ id_at packages p ∷ codes " isn't built for the " ∷ side ∷ codes ": select a member that depends on it too" ∷ [])
+
+abbrev pub plan_message : List PackageText → PlanFault → Text
+plan_message packages (fault.Words e) = word_message packages e
+plan_message packages (fault.NoTests p) = joined (codes "package " ∷ id_at packages p ∷ codes " isn't a member of the workspace, and its tests need its dependencies for development: leave --tests out" ∷ [])
+plan_message packages (fault.NotOn p side) = not_on_message packages p (side_word side)
+plan_message packages (fault.Lacking p name) =
+    joined (codes "the document has no package for the optional dependency `" ∷ name.now ∷ codes "` of " ∷ id_at packages p
+    ∷ codes ": make it by `cargo metadata --format-version 1 --all-features --features WORDS` with the words of the selection" ∷ [])
+plan_message packages fault.Memory = codes "out of memory"

@@ -1,0 +1,172 @@
+//! The refusals of selections that have no plan.
+ghost use Rattle.std.specs.Prelude.{◌≡◌, IfOk};
+ghost use Rattle.cargo_workspaces.specs.WorkspaceView.{workspace_text};
+ghost use Rattle.feats_files.specs.Messages.{IsRefused};
+ghost use Rattle.feats_files.specs.Parts.{parts_text};
+ghost use Rattle.plan_messages.specs.Messages as spec;
+
+use cargo_plans::{PlanFault, Side, WordFault};
+use cargo_workspaces::Workspace;
+use feats_files::{Fault, id_at, refused};
+use std::alloc::{AllocError, Global};
+
+/// Returns the parts of the message about a word that several packages fit.
+fn several_parts<'p>(
+    alloc: Global,
+    workspace: &'p Workspace<'_>,
+    word: &'p str,
+    candidates: &[usize],
+) -> Result<Vec<&'p str>, AllocError>
+    ensures { IfOk result (λ parts. parts_text parts.items ≡ spec.several_message (workspace_text workspace.now).packages word.now candidates.now) }
+{
+    let mut parts = Vec::new(alloc);
+    parts.push("several packages fit `")?;
+    parts.push(word)?;
+    parts.push("`: write NAME@VERSION or one of these ids")?;
+    for candidate in candidates {
+        parts.push("\n  ")?;
+        parts.push(id_at(workspace, *candidate))?;
+    }
+    Ok(parts)
+}
+
+/// Returns the refusal of a word that several packages fit.
+fn several_refused<'p>(
+    alloc: Global,
+    workspace: &'p Workspace<'_>,
+    word: &'p str,
+    candidates: &[usize],
+) -> Fault
+    ensures { IsRefused (spec.several_message (workspace_text workspace.now).packages word.now candidates.now) result }
+{
+    match several_parts(alloc, workspace, word, candidates) {
+        Ok(parts) => refused(alloc, &parts),
+        Err(_) => Fault::Memory,
+    }
+}
+
+/// Returns the refusal of the words of a selection.
+fn selection_refused<'p>(alloc: Global, workspace: &'p Workspace<'_>, fault: WordFault<'p>) -> Fault
+    ensures { IsRefused (spec.word_message (workspace_text workspace.now).packages fault.entry) result }
+{
+    match fault {
+        WordFault::UnknownPackage(word) => refused(
+            alloc,
+            &[
+                "no package of the document fits `",
+                word,
+                "`: write NAME, NAME@VERSION or an id",
+            ],
+        ),
+        WordFault::AmbiguousPackage { word, candidates } => {
+            several_refused(alloc, workspace, word, &candidates)
+        }
+        WordFault::NoMember => refused(
+            alloc,
+            &[
+                "features are asked for, and no selected package is a member of the workspace: select a member, or leave the features out",
+            ],
+        ),
+        WordFault::UnknownFeature(word) => refused(
+            alloc,
+            &[
+                "no selected member has `",
+                word,
+                "`: write a feature of a selected member, or DEPENDENCY/FEATURE",
+            ],
+        ),
+        WordFault::NoFeature { package, feature } => refused(
+            alloc,
+            &[
+                "package ",
+                id_at(workspace, package),
+                " has no feature `",
+                feature,
+                "`: look it up in its manifest",
+            ],
+        ),
+        WordFault::NoDependency {
+            package,
+            dependency,
+        } => refused(
+            alloc,
+            &[
+                "package ",
+                id_at(workspace, package),
+                " declares no dependency `",
+                dependency,
+                "`: look it up in its manifest",
+            ],
+        ),
+        WordFault::Memory => Fault::Memory,
+    }
+}
+
+/// Returns the word for `side`.
+fn side_word(side: Side) -> &'static str
+    ensures { result.now ≡ spec.side_word side }
+{
+    match side {
+        Side::Target => "target",
+        Side::Host => "host",
+    }
+}
+
+/// Returns the refusal of a package that isn't on, on the side with this word.
+fn not_on_refused<'p>(
+    alloc: Global,
+    workspace: &'p Workspace<'_>,
+    package: usize,
+    side: &'p str,
+) -> Fault
+    ensures { IsRefused (spec.not_on_message (workspace_text workspace.now).packages «package» side.now) result }
+{
+    refused(
+        alloc,
+        &[
+            "package ",
+            id_at(workspace, package),
+            " isn't built for the ",
+            side,
+            ": select a member that depends on it too",
+        ],
+    )
+}
+
+/// Returns the refusal of a selection that has no plan.
+pub fn plan_refused<'p>(
+    alloc: Global,
+    workspace: &'p Workspace<'_>,
+    fault: PlanFault<'p>,
+) -> Fault
+    ensures { IsRefused (spec.plan_message (workspace_text workspace.now).packages fault.entry) result }
+{
+    match fault {
+        PlanFault::Words(fault) => selection_refused(alloc, workspace, fault),
+        PlanFault::NoTests { package } => refused(
+            alloc,
+            &[
+                "package ",
+                id_at(workspace, package),
+                " isn't a member of the workspace, and its tests need its dependencies for development: leave --tests out",
+            ],
+        ),
+        PlanFault::NotOn { package, side } => {
+            not_on_refused(alloc, workspace, package, side_word(side))
+        }
+        PlanFault::Lacking {
+            package,
+            dependency,
+        } => refused(
+            alloc,
+            &[
+                "the document has no package for the optional dependency `",
+                dependency,
+                "` of ",
+                id_at(workspace, package),
+                ": make it by `cargo metadata --format-version 1 --all-features --features WORDS` with the words of the selection",
+            ],
+        ),
+        PlanFault::Memory => Fault::Memory,
+    }
+}
