@@ -134,11 +134,7 @@ fn not_on_refused<'p>(
 }
 
 /// Returns the refusal of a selection that has no plan.
-pub fn plan_refused<'p>(
-    alloc: Global,
-    workspace: &'p Workspace<'_>,
-    fault: PlanFault<'p>,
-) -> Fault
+pub fn plan_refused<'p>(alloc: Global, workspace: &'p Workspace<'_>, fault: PlanFault<'p>) -> Fault
     ensures { IsRefused (spec.plan_message (workspace_text workspace.now).packages fault.entry) result }
 {
     match fault {
