@@ -1,5 +1,5 @@
 #!/usr/bin/env python3
-"""A model of the names of `feats why|why-not|list` (docs/PLANS.md, "Names"), for a document of `cargo metadata`.
+"""A model of the names of `feats why|why-not|list` (docs/WHY.md, "Names"), for a document of `cargo metadata`.
 
 A part is (ID, None) for a package, (ID, "NAME") for a feature, (ID, "dep:NAME") for an optional dependency.
 Run alone, it checks the worked rows below; the last line is `N passed, M failed`.

@@ -1,6 +1,6 @@
 -- The widest words turn on all that other words do.
 use Rattle.std.proofs.Common.{◌≡◌, ◌⊎◌, inl, inr, ⊎_elim, ℕ, ◌+◌, List, [], ◌∷◌, ◌++◌, Bool, true, false, not, Option, None, Some, Ok, length, map, refl, ap, sym, ◌∙◌, subst, if◌then◌else◌, codes, arith, eq-eqb}
-use Rattle.std.specs.Prelude.{◌==◌, ◌&&◌, Contains, filter, nat_eq, option_and_then, slice_get}
+use Rattle.std.specs.Prelude.{◌&&◌, Contains, nat_eq, option_and_then, slice_get}
 use Rattle.std.specs.Cmp.Lexicographic.{bytes_decides}
 use Rattle.std.specs.List.{after_first, before_first, list_any}
 use Rattle.std.specs.Option.{option_or}
@@ -10,7 +10,6 @@ use Rattle.std.proofs.lemmas.List.Elements.{Contains-append_cases, Contains-appe
 use Rattle.feature_core.proofs.AddsLemmas.{Contains-cases, Contains-none, element_at_place}
 use Rattle.feature_core.proofs.PushLemmas.{from_filter, from_map, into_filter, into_map}
 use Rattle.cargo_workspaces.specs.Workspaces.{FeatureText, PackageText, Text, WorkspaceText}
-use Rattle.plan_rows.specs.Commands.{command_of}
 use Rattle.plan_starts.specs.PackageVisits.{is_on}
 use Rattle.plan_words.specs.Choices.{ChosenText, StartedText, choose, command, commands_from, commands_of, members_among, root_of, started}
 use Rattle.plan_words.specs.FeatureWords.{Addressed, PartsText, addressed, addressed_by, addressed_to, first_of, has_feature, is_slash, items_of_words, may_ask, member_called, own_item, own_item_by, parts_of, takes_defaults, usual_items, value_if, without_mark}
@@ -20,11 +19,11 @@ use Rattle.plan_words.specs.Refusals.{Refusal, no_dependency, no_feature, unless
 use Rattle.plan_words.specs.Selections.{SelectionText}
 use Rattle.cargo_plans.specs.Plans.{settings_by}
 use Rattle.plan_laws.specs.Growth.{CommandsGrow}
-use Rattle.plan_laws.specs.Widening.{AsksNoDependency, CoversWord, NoSelectionTurnsOn, SettingsGrow, WidestTurnsAllOn, widest_selection}
+use Rattle.plan_laws.specs.Widening.{AsksNoDependency, CoversWord, NoSelectionTurnsOn, WidestTurnsAllOn, widest_selection}
 use Rattle.plan_laws.proofs.Members.{any_member, both_true, from_filter_map, member_any, one_if, same_some}
 use Rattle.plan_laws.proofs.MoreEntries.{into_filter_map}
 use Rattle.plan_laws.proofs.MoreSteps.{command_there}
-use Rattle.plan_laws.proofs.MoreWords.{command_at, command_back, made, same_ok, shape, started_is, then_ok, unless_ok}
+use Rattle.plan_laws.proofs.MoreWords.{command_at, command_back, same_ok, shape, started_is, then_ok, unless_ok}
 use Rattle.plan_laws.proofs.Wider.{larger_turns_nothing_off}
 
 value_some : {X : Type 0} (b : Bool) (x y : X) → value_if b x ≡ Some y → (b ≡ true) × (x ≡ y)

@@ -61,7 +61,6 @@ pub(crate) fn kept_steps(
     ensures { IfOk result (λ found. MatchOption found (IsFalse (is_in (nodes_of steps.now) node))
         (λ kept. IsWhy (content_of Forward built.now) (has initials.now) every steps.now node kept.items)) }
 {
-    let _ = initials.size();
     match feature_core::why(alloc, built, DependencyDirection::Forward, steps, node) {
         Ok(found) => Ok(found),
         Err(_) => Err(AllocError),

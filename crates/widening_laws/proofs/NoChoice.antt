@@ -1,6 +1,6 @@
 -- What is off with all widenings together is off in the plan of the widest words.
 use Rattle.std.proofs.Common.{◌≡◌, ℕ, Bool, true, false, Option, None, Some, refl}
-use Rattle.std.specs.Prelude.{◌||◌, Contains, IsFalse, IsTrue}
+use Rattle.std.specs.Prelude.{◌||◌, Contains, IsFalse}
 use Rattle.feature_labels.specs.Names.{LabelName}
 use Rattle.cargo_workspaces.specs.Workspaces.{DeclarationText, PackageText, Text, WorkspaceText}
 use Rattle.plan_rows.specs.Steps.{admits}
@@ -8,7 +8,7 @@ use Rattle.plan_rows.specs.declared.side.Side.TheVariants.{Host, Target}
 use Rattle.plan_starts.specs.PackageVisits.{is_on}
 use Rattle.plan_steps.specs.Plans.{PlanText}
 use Rattle.cargo_plans.specs.Plans.{WordsText}
-use Rattle.plan_laws.specs.Widening.{IsCovered, IsOff, IsWidest, NoSelectionTurnsOn}
+use Rattle.plan_laws.specs.Widening.{IsOff, IsWidest, NoSelectionTurnsOn}
 use Rattle.plan_widenings.specs.Findings.{are_some, sides_of}
 use Rattle.plan_widenings.specs.Widenings.{widened}
 use Rattle.plan_widenings.specs.declared.widening.Widening.TheVariants as widening

@@ -1,2 +1,0 @@
-pub mod Gathered
-pub mod Sides

@@ -1,4 +1,0 @@
-pub mod Answers
-pub mod Lines
-pub mod Objects
-pub mod inner
