@@ -23,7 +23,7 @@ returns-clause-answer c =
     let on_targets = ap (map declared_text) c.deref-2.ensures.value ∙ c.in_ok-specs.ensures in
     let holding = are_holding inputs basis w host targets (map declared_text c.deref.result.now) on_host c.in_ok-host.ensures.held (map declared_text c.deref-2.result.now) on_targets
     c.deref-3.result.now c.deref-3.ensures.value (map holds_on c.in_ok-targets.targets.items) (ap (map holds_on) c.deref-4.ensures.value) c.in_ok-targets.ensures.held in
-    IfOk-weaker c.planned_answer.result _ _ (λ a h. held_answered inputs basis w host targets (words_text holds_on c.words_by.result) c.words_by.ensures holding (answer_text a) h) c.planned_answer.ensures.answer
+    IfOk-weaker c.planned_answer.result _ _ (λ a h. held_answered inputs basis w host targets (words_text holds_on c.words_by-words.result) c.words_by-words.ensures holding (answer_text a) h) c.planned_answer.ensures.answer
 
 pub returns-clause-fault : goal.returns-clause-fault
 returns-clause-fault c =
@@ -36,5 +36,5 @@ returns-clause-fault c =
     let on_targets = ap (map declared_text) c.deref-2.ensures.value ∙ c.in_ok-specs.ensures in
     let holding = are_holding inputs basis w host targets (map declared_text c.deref.result.now) on_host c.in_ok-host.ensures.held (map declared_text c.deref-2.result.now) on_targets
     c.deref-3.result.now c.deref-3.ensures.value (map holds_on c.in_ok-targets.targets.items) (ap (map holds_on) c.deref-4.ensures.value) c.in_ok-targets.ensures.held in
-    if_err_more c.planned_answer.result (IsPlannedRefusal inputs w (words_text holds_on c.words_by.result)) (IsWorkspaceRefusal inputs basis w)
-    (held_refused inputs basis w host targets (words_text holds_on c.words_by.result) c.words_by.ensures holding) c.planned_answer.ensures.fault
+    if_err_more c.planned_answer.result (IsPlannedRefusal inputs w (words_text holds_on c.words_by-words.result)) (IsWorkspaceRefusal inputs basis w)
+    (held_refused inputs basis w host targets (words_text holds_on c.words_by-words.result) c.words_by-words.ensures holding) c.planned_answer.ensures.fault
