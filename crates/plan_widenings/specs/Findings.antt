@@ -15,7 +15,6 @@ use Rattle.plan_widenings.specs.Widenings.{widened}
 use Rattle.plan_widenings.specs.declared.finding.Finding.{Finding}
 use Rattle.plan_widenings.specs.declared.finding.Finding.TheVariants as finding
 use Rattle.plan_widenings.specs.declared.sides.Sides.{Sides}
-use Rattle.plan_widenings.specs.declared.widening.Widening.{Widening}
 use Rattle.plan_widenings.specs.declared.widening.Widening.TheVariants as widening
 
 -- On which sides a label of package `p` is on.

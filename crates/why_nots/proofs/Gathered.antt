@@ -40,11 +40,16 @@ said_more P f vs first all new v x so p grown = record {
   is_all = grown ∙ ap (λ z. z ++ f v x) so.is_all ∙ append_assoc first (texts_of f vs so.values) (f v x) ∙ ap (λ z. first ++ z) (sym (texts_more P f vs so.values v x so.have));
 }
 
-pub said_next : {X : Type 0} (P : Widening → X → Type 0) (f : Widening → X → List ℕ) (i : ℕ) (d v : Widening) (first all new : List ℕ) (x : X) → i < length widenings → v ≡ get_or widenings i d
-    → AreSaidSo P f (take i widenings) first all → P v x → new ≡ all ++ f v x → AreSaidSo P f (take (i + 1) widenings) first new
-said_next P f i d v first all new x within is so p grown =
-    let at : take i widenings ++ v ∷ [] ≡ take (i + 1) widenings = ap (λ z. take i widenings ++ z ∷ []) is ∙ sym (take_more widenings i d within) in
-    subst (λ vs. AreSaidSo P f vs first new) at (said_more P f (take i widenings) first all new v x so p grown)
+said_next : {X : Type 0} (P : Widening → X → Type 0) (f : Widening → X → List ℕ) (vs : List Widening) (i : ℕ) (d v : Widening) (first all new : List ℕ) (x : X) → i < length vs → v ≡ get_or vs i d
+    → AreSaidSo P f (take i vs) first all → P v x → new ≡ all ++ f v x → AreSaidSo P f (take (i + 1) vs) first new
+said_next P f vs i d v first all new x within is so p grown =
+    let at : take i vs ++ v ∷ [] ≡ take (i + 1) vs = ap (λ z. take i vs ++ z ∷ []) is ∙ sym (take_more vs i d within) in
+    subst (λ z. AreSaidSo P f z first new) at (said_more P f (take i vs) first all new v x so p grown)
+
+-- the loop's step
+pub said_step : {X : Type 0} (P : Widening → X → Type 0) (f : Widening → X → List ℕ) (vs : List Widening) (i : ℕ) (d : Widening) (first all new : List ℕ) → i < length vs → AreSaidSo P f (take i vs) first all
+    → (x : X) → P (get_or vs i d) x → new ≡ all ++ f (get_or vs i d) x → AreSaidSo P f (take (i + 1) vs) first new
+said_step P f vs i d first all new within so x p grown = said_next P f vs i d (get_or vs i d) first all new x within refl so p grown
 
 -- a value for each widening
 abbrev pub by_widening : {X : Type 0} → X → X → X → X → X → Widening → X
@@ -60,21 +65,24 @@ pub record AllAreSaid {X : Type 0} (P : Widening → X → Type 0) (f : Widening
   pub have : (v : Widening) → P v (value v)
   pub is_all : all ≡ first ++ flat_map (λ v. f v (value v)) widenings
 
-pub all_said : {X : Type 0} (P : Widening → X → Type 0) (f : Widening → X → List ℕ) (first all : List ℕ) → AreSaidSo P f widenings first all → AllAreSaid P f first all
-all_said P f first all so = go so.values so.have so.is_all
-  where
-    go : (xs : List X) → AllZip P widenings xs → all ≡ first ++ texts_of f widenings xs → AllAreSaid P f first all
-    go (a ∷ b ∷ c ∷ d ∷ e ∷ []) (p, q, r, s, t, _) is = record { value = by_widening a b c d e; have = each; is_all = is }
-      where
-        each : (v : Widening) → P v (by_widening a b c d e v)
-        each widening.AllFeatures = p
-        each widening.AllMembers = q
-        each widening.Tests = r
-        each widening.EveryPlatform = s
-        each widening.Together = t
-    go [] h is = absurd h
-    go (a ∷ []) h is = absurd h.1
-    go (a ∷ b ∷ []) h is = absurd h.1.1
-    go (a ∷ b ∷ c ∷ []) h is = absurd h.1.1.1
-    go (a ∷ b ∷ c ∷ d ∷ []) h is = absurd h.1.1.1.1
-    go (a ∷ b ∷ c ∷ d ∷ e ∷ g ∷ xs) h is = absurd h.1.1.1.1.1
+each_has : {X : Type 0} (P : Widening → X → Type 0) (a b c d e : X) → AllZip P widenings (a ∷ b ∷ c ∷ d ∷ e ∷ []) → (v : Widening) → P v (by_widening a b c d e v)
+each_has P a b c d e h widening.AllFeatures = h.0
+each_has P a b c d e h widening.AllMembers = h.1.0
+each_has P a b c d e h widening.Tests = h.1.1.0
+each_has P a b c d e h widening.EveryPlatform = h.1.1.1.0
+each_has P a b c d e h widening.Together = h.1.1.1.1.0
+
+from_values : {X : Type 0} (P : Widening → X → Type 0) (f : Widening → X → List ℕ) (first all : List ℕ) (xs : List X) → AllZip P widenings xs → all ≡ first ++ texts_of f widenings xs → AllAreSaid P f first all
+from_values P f first all (a ∷ b ∷ c ∷ d ∷ e ∷ []) h is = record { value = by_widening a b c d e; have = each_has P a b c d e h; is_all = is }
+from_values P f first all [] h is = absurd h
+from_values P f first all (a ∷ []) h is = absurd h.1
+from_values P f first all (a ∷ b ∷ []) h is = absurd h.1.1
+from_values P f first all (a ∷ b ∷ c ∷ []) h is = absurd h.1.1.1
+from_values P f first all (a ∷ b ∷ c ∷ d ∷ []) h is = absurd h.1.1.1.1
+from_values P f first all (a ∷ b ∷ c ∷ d ∷ e ∷ g ∷ xs) h is = absurd h.1.1.1.1.1
+
+-- the loop's end
+pub all_said : {X : Type 0} (P : Widening → X → Type 0) (f : Widening → X → List ℕ) (vs : List Widening) (first all : List ℕ) → vs ≡ widenings → AreSaidSo P f vs first all → AllAreSaid P f first all
+all_said P f vs first all is so =
+    let done = subst (λ z. AreSaidSo P f z first all) is so in
+    from_values P f first all done.values done.have done.is_all

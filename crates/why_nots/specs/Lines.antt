@@ -3,12 +3,10 @@ use Rattle.std.specs.Prelude.{◌≡◌, ℕ, List, Bool}
 use Rattle.feature_labels.specs.Names.{LabelName}
 use Rattle.cargo_workspaces.specs.Workspaces.{Text, PackageText, WorkspaceText}
 use Rattle.cargo_plans.specs.Plans.{WordsText}
-use Rattle.plan_platforms.specs.DeclaredSpecs.{DeclaredText}
-use Rattle.plan_platforms.specs.HeldSpecs.{is_declared}
 use Rattle.plan_widenings.specs.Widenings.{widened}
 use Rattle.plan_widenings.specs.declared.widening.Widening.{Widening}
 use Rattle.widening_lines.specs.Lines.{SaidText, why_not_lines}
-use Rattle.widening_lines.specs.Lines.SaidText as said
+use Rattle.widening_lines.specs.Lines as said
 use Rattle.why_lines.specs.Lines.{why_lines}
 use Rattle.why_lines.specs.Settings.{SettingsText}
 use Rattle.why_nots.specs.Answers.{AnswerText, IsAnswer, explained, off, not_planned}
@@ -33,11 +31,8 @@ pub record IsSaid (w : WorkspaceText) (words : WordsText) (p : ℕ) (label : Lab
 abbrev pub AreSaid : WorkspaceText → WordsText → (Text → Bool) → ℕ → LabelName → (Widening → SaidText) → Type 0
 AreSaid w words every p label said = (v : Widening) → IsSaid w (widened every v words) p label (said v)
 
--- THE LINES about the label of package `p`, which is called `name`: what is said of it by the words with each widening. `every` is a
--- platform on which exactly the specs hold.
-pub record IsWhyNotLines (w : WorkspaceText) (specs : List DeclaredText) (words : WordsText) (p : ℕ) (label : LabelName) (name text : Text) : Type 0 where
-  pub every : Text → Bool
-  pub is_every : (t : Text) → every t ≡ is_declared specs t
+-- THE LINES about the label of package `p`, which is called `name`: what is said of it by the words with each widening.
+pub record IsWhyNotLines (w : WorkspaceText) (words : WordsText) (every : Text → Bool) (p : ℕ) (label : LabelName) (name text : Text) : Type 0 where
   pub said : Widening → SaidText
   pub are_said : AreSaid w words every p label said
   pub is_text : text ≡ why_not_lines name said

@@ -5,8 +5,6 @@ use Rattle.feature_labels.specs.Names.{LabelName}
 use Rattle.cargo_workspaces.specs.Workspaces.{Text, PackageText, WorkspaceText}
 use Rattle.cargo_plans.specs.Plans.{WordsText}
 use Rattle.line_parts.specs.Members.{flag_member, object_line, optional_member, text_member}
-use Rattle.plan_platforms.specs.DeclaredSpecs.{DeclaredText}
-use Rattle.plan_platforms.specs.HeldSpecs.{is_declared}
 use Rattle.plan_widenings.specs.Widenings.{widened, widenings}
 use Rattle.plan_widenings.specs.declared.widening.Widening.{Widening}
 use Rattle.plan_widenings.specs.declared.widening.Widening.TheVariants as widening
@@ -54,10 +52,8 @@ pub record IsLine (w : WorkspaceText) (words : WordsText) (p : ℕ) (label : Lab
 abbrev pub AreLines : WorkspaceText → WordsText → (Text → Bool) → ℕ → LabelName → (Widening → Text) → Type 0
 AreLines w words every p label line = (v : Widening) → IsLine w (widened every v words) p label v (line v)
 
--- THE OBJECTS about the label of package `p`: a line about each widening. `every` is a platform on which exactly the specs hold.
-pub record IsWhyNotObjects (w : WorkspaceText) (specs : List DeclaredText) (words : WordsText) (p : ℕ) (label : LabelName) (text : Text) : Type 0 where
-  pub every : Text → Bool
-  pub is_every : (t : Text) → every t ≡ is_declared specs t
+-- THE OBJECTS about the label of package `p`: a line about each widening.
+pub record IsWhyNotObjects (w : WorkspaceText) (words : WordsText) (every : Text → Bool) (p : ℕ) (label : LabelName) (text : Text) : Type 0 where
   pub line : Widening → Text
   pub are_lines : AreLines w words every p label line
   pub is_text : text ≡ flat_map line widenings

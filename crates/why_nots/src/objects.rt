@@ -1,5 +1,5 @@
 //! Answers as JSON objects.
-ghost use Rattle.std.specs.Prelude.{◌≡◌, ◌++◌, IfOk, OnOk, flat_map, map, true};
+ghost use Rattle.std.specs.Prelude.{◌≡◌, ◌++◌, IfOk, OnOk, flat_map, true};
 ghost use Rattle.cargo_plans.specs.Plans.{IsPlanOf};
 ghost use Rattle.cargo_plans.specs.WordsView.{words_text};
 ghost use Rattle.cargo_workspaces.specs.Workspaces.{Text};
@@ -7,7 +7,6 @@ ghost use Rattle.cargo_workspaces.specs.WorkspaceView.{workspace_text};
 ghost use Rattle.feature_labels.specs.Names.{label_of};
 ghost use Rattle.line_parts.specs.Members.{Appends};
 ghost use Rattle.plan_platforms.specs.HeldSpecs.{holds_on};
-ghost use Rattle.plan_platforms.specs.Views.{declared_text};
 ghost use Rattle.plan_starts.specs.PackageVisits.{is_on};
 ghost use Rattle.plan_steps.specs.PlanViews.{plan_text};
 ghost use Rattle.plan_whys.specs.StepViews.{spot_text};
@@ -27,7 +26,7 @@ use cargo_workspaces::Workspace;
 use feature_labels::FeatureLabel;
 use json::Writer;
 use line_parts::{begin_line, end_line, write_flag, write_member};
-use plan_platforms::{DeclaredSpec, HeldSpecs, every_spec};
+use plan_platforms::HeldSpecs;
 use plan_whys::{Spot, why};
 use plan_widenings::{Finding, Widening, found_by, widened};
 use std::alloc::{AllocError, Global};
@@ -181,19 +180,18 @@ fn push_lines<'n, 's>(
 }
 
 /// Returns a line about `label` of package `package`, which is off by `words`, for each widening of the selection: a JSON object that says
-/// whether the label is on there, and why; or why there is no plan. `specs` are the platform specs that the declarations of `workspace` name.
-pub fn why_not_objects<'s>(
+/// whether the label is on there, and why; or why there is no plan. `every` is the platform on which each platform spec of `workspace` holds.
+pub fn why_not_objects<'n, 's>(
     alloc: Global,
     workspace: &Workspace<'_>,
-    specs: &[DeclaredSpec<'s>],
-    words: &PlanWords<'_, '_, HeldSpecs<'s>>,
+    words: &PlanWords<'_, 'n, HeldSpecs<'s>>,
+    every: &'n HeldSpecs<'s>,
     package: usize,
     label: FeatureLabel<'_>,
 ) -> Result<Vec<u8>, AllocError>
-    ensures { IfOk result (λ text. IsWhyNotObjects (workspace_text workspace.now) (map declared_text specs.now) (words_text holds_on words.now) «package» (label_of label.entry) text.items) }
+    ensures { IfOk result (λ text. IsWhyNotObjects (workspace_text workspace.now) (words_text holds_on words.now) (holds_on every.now) «package» (label_of label.entry) text.items) }
 {
-    let every = every_spec(alloc, specs)?;
     let mut text = Vec::new(alloc);
-    push_lines(alloc, &mut text, workspace, words, &every, package, label)?;
+    push_lines(alloc, &mut text, workspace, words, every, package, label)?;
     Ok(text)
 }

@@ -1,5 +1,5 @@
 -- What an answer says of a feature that is off, for each widening of the selection.
-use Rattle.std.specs.Prelude.{ℕ, List, [], ◌∷◌, ◌++◌, Bool, true, flat_map, codes, ◌==◌, if◌then◌else◌}
+use Rattle.std.specs.Prelude.{ℕ, [], ◌∷◌, ◌++◌, Bool, true, flat_map, codes, ◌==◌, if◌then◌else◌}
 use Rattle.cargo_workspaces.specs.Workspaces.{Text}
 use Rattle.plan_widenings.specs.declared.widening.Widening.{Widening}
 use Rattle.plan_widenings.specs.declared.widening.Widening.TheVariants as widening

@@ -57,11 +57,7 @@ fn push_said(text: &mut Vec<u8>, said: Said<'_>) -> Result<(), AllocError>
 }
 
 /// Appends the line that ends an answer, if the feature is off with all widenings together.
-fn push_closing(
-    text: &mut Vec<u8>,
-    widening: Widening,
-    said: Said<'_>,
-) -> Result<(), AllocError>
+fn push_closing(text: &mut Vec<u8>, widening: Widening, said: Said<'_>) -> Result<(), AllocError>
     ensures { OnOk result (text.new.items ≡ text.old.items ++ spec.closing widening (said_text said.entry)) }
 {
     match (widening, said) {

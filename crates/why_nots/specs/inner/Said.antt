@@ -10,7 +10,7 @@ use Rattle.plan_steps.specs.Plans.{PlanText}
 use Rattle.plan_whys.specs.Steps.{SpotText, WhyText}
 use Rattle.plan_whys.specs.Whys.{AnswersBy}
 use Rattle.widening_lines.specs.Lines.{SaidText}
-use Rattle.widening_lines.specs.Lines.SaidText as said
+use Rattle.widening_lines.specs.Lines as said
 use Rattle.why_lines.specs.Lines.{why_lines}
 use Rattle.why_nots.specs.Answers.{AnswerText, IsAnswer}
 use Rattle.why_nots.specs.Lines.{settings_of}

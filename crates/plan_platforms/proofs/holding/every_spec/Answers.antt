@@ -7,4 +7,4 @@ pub loop-declared-preserved : goal.loop-declared-preserved
 loop-declared-preserved c = λ text.
     let i = c.loop-declared.declared-index in
     every_more c.args.specs.now i (get_or c.args.specs.now i _) _ _ (holds_on c.loop-declared.held) (holds_on c.keep.new.held) text c.loop-declared-test.true refl
-        (c.loop-declared.invariant text) (c.in_ok-keep.ensures (record { ref_ptr = (0, 0); now = text }))
+    (c.loop-declared.invariant text) (c.in_ok-keep.ensures (record { ref_ptr = (0, 0); now = text }))
