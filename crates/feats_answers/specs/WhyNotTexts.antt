@@ -31,8 +31,8 @@ IsOffText format.Json w words every part text = IsWhyNotObjects w words every pa
 
 -- What is shown of a part: which wider selections turn it on; nothing, if it is on.
 pub data IsOffShown (form : Format) (w : WorkspaceText) (words : WordsText) (every : Text → Bool) (plan : PlanText) (part : NamedText) (shown : List Text) : Type 0 where
-  is_on : is_part_on plan part ≡ true → shown ≡ [] → IsOffShown form w words every plan part shown
-  is_off : is_part_on plan part ≡ false → (text : Text) → IsOffText form w words every part text → shown ≡ text ∷ [] → IsOffShown form w words every plan part shown
+  of_on : is_part_on plan part ≡ true → shown ≡ [] → IsOffShown form w words every plan part shown
+  of_off : is_part_on plan part ≡ false → (text : Text) → IsOffText form w words every part text → shown ≡ text ∷ [] → IsOffShown form w words every plan part shown
 
 abbrev pub on_end : Text
 on_end = codes " is on in this build: ask why\n"
