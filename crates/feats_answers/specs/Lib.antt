@@ -8,4 +8,5 @@ pub mod NameMessages
 pub mod Parts
 pub mod PlanTexts
 pub mod SpecTexts
+pub mod WhyNotTexts
 pub mod WhyTexts

@@ -18,6 +18,7 @@ ghost use Rattle.feats_answers.specs.NameMessages.{IsNameRefusal};
 ghost use Rattle.feats_answers.specs.Parts.{IsPartRefusal};
 ghost use Rattle.feats_answers.specs.PlanTexts.{text_of_units};
 ghost use Rattle.feats_answers.specs.SpecTexts.{IsSpecText, places};
+ghost use Rattle.feats_answers.specs.WhyNotTexts.{IsWhyNotAnswer};
 ghost use Rattle.feats_answers.specs.WhyTexts.{IsWhyAnswer};
 
 use crate::answer::{Answer, positive};
@@ -26,12 +27,13 @@ use crate::list_texts::list_text;
 use crate::parts::parts_of;
 use crate::plan_texts::text_of_units;
 use crate::spec_texts::spec_text;
+use crate::why_not_texts::why_not_texts;
 use crate::why_texts::why_texts;
 use cargo_plans::{Plan, PlanWords};
 use cargo_workspaces::Workspace;
-use feats_files::{Fault, PlatformFile, refused};
+use feats_files::{Fault, PlatformFile};
 use feats_words::{CommandArguments, Format, Question};
-use plan_platforms::{DeclaredSpec, HeldSpecs};
+use plan_platforms::{DeclaredSpec, HeldSpecs, every_spec};
 use std::alloc::{AllocError, Global};
 
 /// Returns the answer to `plan`.
@@ -98,15 +100,35 @@ fn why_answer<'w>(
     Ok(gathered(alloc, format, workspace, word, &named, end, &texts)?)
 }
 
+/// Returns the answer to `why-not` with this word. `specs` are the platform specs of the workspace.
+fn why_not_answer<'w, 's>(
+    alloc: Global,
+    format: Format,
+    workspace: &'w Workspace<'_>,
+    specs: &[DeclaredSpec<'s>],
+    words: &PlanWords<'w, '_, HeldSpecs<'s>>,
+    plan: &Plan<'_>,
+    word: &'w str,
+) -> Result<Answer, Fault>
+    ensures answer { IfOk result (λ answer. IsWhyNotAnswer format (workspace_text workspace.now) (map declared_text specs.now) (words_text holds_on words.now) (plan_text plan.now) word.now (answer_text answer)) }
+    ensures fault { IfErr result (λ fault. Says fault (IsPartRefusal (workspace_text workspace.now) (words_text holds_on words.now) word.now)) }
+{
+    let named = parts_of(alloc, workspace, words, word)?;
+    let every = every_spec(alloc, specs)?;
+    let texts = why_not_texts(alloc, format, workspace, words, &every, plan, &named)?;
+    let end = " is on in this build: ask why\n";
+    Ok(gathered(alloc, format, workspace, word, &named, end, &texts)?)
+}
+
 /// Returns the answer to the question of `arguments` about `plan`, which is that of `words`; `specs` are the platform specs of the
 /// workspace, and `files` those of the target platforms. It is refused if a word of the question doesn't name what is wanted.
-pub fn answer_to<'w, 'n>(
+pub fn answer_to<'w, 'n, 's>(
     alloc: Global,
     arguments: &CommandArguments<'w>,
     files: &[PlatformFile<'n>],
     workspace: &'w Workspace<'_>,
-    specs: &[DeclaredSpec<'_>],
-    words: &PlanWords<'w, 'n, HeldSpecs<'_>>,
+    specs: &[DeclaredSpec<'s>],
+    words: &PlanWords<'w, 'n, HeldSpecs<'s>>,
     plan: &Plan<'_>,
 ) -> Result<Answer, Fault>
     requires specs { map declared_text specs.now ≡ declared_specs (workspace_text workspace.now).packages }
@@ -118,7 +140,9 @@ pub fn answer_to<'w, 'n>(
     match arguments.question {
         Question::Plan => Ok(plan_answer(alloc, format, files, workspace, plan)?),
         Question::Why(word) => why_answer(alloc, format, workspace, words, plan, word),
-        Question::WhyNot(_) => Err(refused(alloc, &["why-not isn't answered yet"])),
+        Question::WhyNot(word) => {
+            why_not_answer(alloc, format, workspace, specs, words, plan, word)
+        }
         Question::Specs => Ok(specs_answer(alloc, format, files, specs, words)?),
         Question::List(word) => list_answer(alloc, format, workspace, plan, word),
     }

@@ -11,6 +11,7 @@ mod parts;
 mod places;
 mod plan_texts;
 mod spec_texts;
+mod why_not_texts;
 mod why_texts;
 
 pub use answer::Answer;

@@ -70,13 +70,13 @@ fn words_by<'s, 'n, 'h>(
 }
 
 /// Returns the answer about the plan for `words`. `specs` are the platform specs of the workspace.
-fn planned_answer<'w, 'n>(
+fn planned_answer<'w, 'n, 's>(
     alloc: Global,
     arguments: &CommandArguments<'w>,
     files: &PlanFiles<'n>,
     workspace: &'w Workspace<'_>,
-    specs: &[DeclaredSpec<'_>],
-    words: &PlanWords<'w, 'n, HeldSpecs<'_>>,
+    specs: &[DeclaredSpec<'s>],
+    words: &PlanWords<'w, 'n, HeldSpecs<'s>>,
 ) -> Result<Answer, Fault>
     requires { map declared_text specs.now ≡ declared_specs (workspace_text workspace.now).packages }
     ensures answer { IfOk result (λ answer. IsPlannedAnswer (inputs_text arguments.now files.now) (workspace_text workspace.now) (words_text holds_on words.now) (answer_text answer)) }

@@ -11,6 +11,7 @@ use Rattle.feats_answers.specs.AnswerTexts.{AnswerText}
 use Rattle.feats_answers.specs.AnswerViews.{answer_text}
 use Rattle.feats_answers.specs.Answers.{IsAnswerTo, IsPositive}
 use Rattle.feats_answers.specs.SpecTexts.{IsSpecText, places}
+use Rattle.feats_answers.specs.WhyNotTexts.{IsWhyNotAnswer}
 use Rattle.feats_answers.proofs.answers.answer_to.Goals as goal
 
 pub returns-in_ok-plan_answer-in-Plan-clause-answer : goal.returns-in_ok-plan_answer-in-Plan-clause-answer
@@ -40,3 +41,11 @@ returns-in-List-clause-answer c =
     let w = workspace_text c.args.workspace.now in
     IfOk-weaker c.list_answer.result _ _ (λ a h. subst (λ (q : Question). IsAnswerTo (question_text q) c.args.arguments.now.format (map file_text c.args.files.now) w (words_text holds_on c.args.words.now) (plan_text c.args.plan.now) (answer_text a))
     (sym c.in-List.is) h) c.list_answer.ensures.answer
+
+pub returns-in-WhyNot-clause-answer : goal.returns-in-WhyNot-clause-answer
+returns-in-WhyNot-clause-answer c =
+    let w = workspace_text c.args.workspace.now in
+    let words = words_text holds_on c.args.words.now in
+    let form = c.args.arguments.now.format in
+    IfOk-weaker c.why_not_answer.result _ _ (λ a h. subst (λ (q : Question). IsAnswerTo (question_text q) form (map file_text c.args.files.now) w words (plan_text c.args.plan.now) (answer_text a)) (sym c.in-WhyNot.is)
+    (subst (λ declared. IsWhyNotAnswer form w declared words (plan_text c.args.plan.now) c.in-WhyNot.word.now (answer_text a)) c.requires.specs h)) c.why_not_answer.ensures.answer

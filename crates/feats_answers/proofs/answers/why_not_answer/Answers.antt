@@ -1,0 +1,30 @@
+use Rattle.std.proofs.Common.{◌∙◌, ap, map, subst}
+use Rattle.cargo_plans.specs.WordsView.{words_text}
+use Rattle.cargo_workspaces.specs.WorkspaceView.{workspace_text}
+use Rattle.plan_names.specs.Views.{named_text}
+use Rattle.plan_platforms.specs.HeldSpecs.{holds_on}
+use Rattle.plan_steps.specs.PlanViews.{plan_text}
+use Rattle.feats_answers.specs.AnswerViews.{texts_of}
+use Rattle.feats_answers.specs.Gathered.{AreShown, gathered}
+use Rattle.feats_answers.specs.WhyNotTexts.{IsOffShown, on_end}
+use Rattle.feats_answers.proofs.answers.why_not_answer.Goals as goal
+
+pub returns-clause-answer : goal.returns-clause-answer
+returns-clause-answer c =
+    let w = workspace_text c.args.workspace.now in
+    let words = words_text holds_on c.args.words.now in
+    let every = holds_on c.in_ok-every.every in
+    let plan = plan_text c.args.plan.now in
+    let form = c.args.format in
+    let named = c.in_ok-named.named.items in
+    record {
+      every = every;
+      is_every = c.in_ok-every.ensures;
+      parts = map named_text named;
+      are_parts = c.in_ok-named.ensures.parts;
+      shown = texts_of c.in_ok-texts.texts.items;
+      are_shown = subst (λ ns. AreShown (IsOffShown form w words every plan) (map named_text ns) (texts_of c.in_ok-texts.texts.items)) c.deref.ensures.value c.in_ok-texts.ensures;
+      is_answer = c.in_ok-gathered.ensures
+          ∙ ap (λ ns. gathered form w.packages c.args.word.now (map named_text ns) on_end (texts_of c.deref-3.result.now)) c.deref-2.ensures.value
+          ∙ ap (λ ts. gathered form w.packages c.args.word.now (map named_text named) on_end (texts_of ts)) c.deref-3.ensures.value;
+    }

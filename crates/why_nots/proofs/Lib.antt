@@ -1,0 +1,4 @@
+pub mod FindingLemmas
+pub mod Gathered
+pub mod Sides
+pub mod Tokens

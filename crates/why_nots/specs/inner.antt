@@ -1,0 +1,2 @@
+-- Definitions for private functions.
+pub mod Said
