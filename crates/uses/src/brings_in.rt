@@ -7,9 +7,7 @@ ghost use Rattle.uses.specs.Answers.{IsLedTo};
 
 use crate::failure::Failure;
 use crate::out::Out;
-use guppy_features::{
-    DependencyDirection, Error, FeatureGraph, FeatureId, FeatureLabel, FeatureSet, PackageId,
-};
+use guppy_features::{DependencyDirection, Error, FeatureGraph, FeatureId, FeatureSet, PackageId};
 use std::alloc::Global;
 
 /// Returns the features to which `id` leads over all edges, for every platform, with `id` itself.
@@ -38,24 +36,23 @@ pub fn brought_in_by<'g, 'a>(
     query.resolve(alloc)
 }
 
-/// Prints both sets, for two features.
-pub fn show(out: &mut Out, alloc: Global, graph: FeatureGraph<'_>) -> Result<(), Failure> {
+/// Prints the features that an item turns on.
+fn show_forward(out: &Out, alloc: Global, graph: FeatureGraph<'_>) -> Result<(), Failure> {
     let main = PackageId::new(alloc, "main")?;
-    let union = FeatureId::new(&main, FeatureLabel::Named("smallvec-union"));
-    out.set(
-        "main/smallvec-union brings in",
-        &brings_in(alloc, graph, union)?,
-    );
-    show_reverse(out, alloc, graph)
+    let union = FeatureId::named(&main, "smallvec-union");
+    let set = brings_in(alloc, graph, union);
+    out.set("main/smallvec-union brings in", set)
 }
 
 /// Prints the features that lead to the base of a dependency.
-fn show_reverse(out: &mut Out, alloc: Global, graph: FeatureGraph<'_>) -> Result<(), Failure> {
+fn show_reverse(out: &Out, alloc: Global, graph: FeatureGraph<'_>) -> Result<(), Failure> {
     let sv = PackageId::new(alloc, "sv")?;
-    let base = FeatureId::new(&sv, FeatureLabel::Base);
-    out.set(
-        "sv/[base] is brought in by",
-        &brought_in_by(alloc, graph, base)?,
-    );
-    Ok(())
+    let set = brought_in_by(alloc, graph, FeatureId::base(&sv));
+    out.set("sv/[base] is brought in by", set)
+}
+
+/// Prints both sets, for two features.
+pub fn show(out: &Out, alloc: Global, graph: FeatureGraph<'_>) -> Result<(), Failure> {
+    show_forward(out, alloc, graph)?;
+    show_reverse(out, alloc, graph)
 }

@@ -7,7 +7,7 @@ ghost use Rattle.uses.specs.Answers.{CountsWorkspace};
 use crate::failure::Failure;
 use crate::out::Out;
 use guppy_features::{
-    Error, FeatureFilter, FeatureGraph, FeatureId, FeatureIdFilter, FeatureLabel, FeatureQuery,
+    Error, FeatureFilter, FeatureGraph, FeatureId, FeatureIdFilter, FeatureQuery,
     NamedFeatureFilter, PackageId, StandardFeatures, feature_id_filter, named_feature_filter,
 };
 use std::alloc::Global;
@@ -42,7 +42,9 @@ fn by_names<'g>(
     base: &mut CountedBases,
 ) -> Result<FeatureQuery<'g>, Error<'g>> {
     let mut filter = named_feature_filter(alloc, base, names)?;
-    select_by_names(alloc, graph, &mut filter)
+    let selected = select_by_names(alloc, graph, &mut filter);
+    drop(filter);
+    selected
 }
 
 /// Selects by `filter`, whose base stays the same reference.
@@ -65,7 +67,9 @@ fn by_ids<'g>(
     base: &mut CountedBases,
 ) -> Result<FeatureQuery<'g>, Error<'g>> {
     let mut filter = feature_id_filter(alloc, base, ids)?;
-    select_by_ids(alloc, graph, &mut filter)
+    let selected = select_by_ids(alloc, graph, &mut filter);
+    drop(filter);
+    selected
 }
 
 /// Selects by `filter`, whose base stays the same reference.
@@ -80,31 +84,34 @@ fn select_by_ids<'g, 'a>(
     graph.query_workspace(alloc, filter)
 }
 
-/// Prints the features that are selected by names.
-pub fn show(out: &mut Out, alloc: Global, graph: FeatureGraph<'_>) -> Result<(), Failure> {
-    let mut counted = Counted {
-        base: StandardFeatures::None,
-        asked: 0,
-    };
-    let query = by_names(alloc, graph, &["smallvec"], &mut counted)?;
-    out.set("selected by names", query.initials());
+/// Prints the count of a filter.
+fn show_count(out: &Out, counted: &CountedBases) {
     out.part("asked ");
     out.line(counted.asked);
-    show_by_ids(out, alloc, graph, &mut counted)
 }
 
 /// Prints the features that are selected by ids, with the count of a filter that was asked before.
 fn show_by_ids(
-    out: &mut Out,
+    out: &Out,
     alloc: Global,
     graph: FeatureGraph<'_>,
     counted: &mut CountedBases,
 ) -> Result<(), Failure> {
     let main = PackageId::new(alloc, "main")?;
-    let id = FeatureId::new(&main, FeatureLabel::OptionalDependency("smallvec"));
-    let query = by_ids(alloc, graph, &[id], counted)?;
-    out.set("selected by ids", query.initials());
-    out.part("asked ");
-    out.line(counted.asked);
+    let id = FeatureId::optional_dependency(&main, "smallvec");
+    out.initials("selected by ids", by_ids(alloc, graph, &[id], counted))
+}
+
+/// Prints the features that are selected by names, and those that are selected by ids.
+pub fn show(out: &Out, alloc: Global, graph: FeatureGraph<'_>) -> Result<(), Failure> {
+    let mut counted = Counted {
+        base: StandardFeatures::None,
+        asked: 0,
+    };
+    let query = by_names(alloc, graph, &["smallvec"], &mut counted);
+    out.initials("selected by names", query)?;
+    show_count(out, &counted);
+    show_by_ids(out, alloc, graph, &mut counted)?;
+    show_count(out, &counted);
     Ok(())
 }

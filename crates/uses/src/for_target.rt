@@ -3,9 +3,9 @@ use crate::failure::Failure;
 use crate::out::Out;
 use crate::workspace::selected;
 use byte_devices::{FromReader, read_all};
-use graph_platforms::{held_specs, resolve_for};
+use graph_platforms::{PlatformFault, held_specs, resolve_for};
 use guppy_features::{
-    DependencyKind, FeatureGraph, FeatureGraphData, FeatureGraphExt, PackageGraph,
+    DependencyKind, Explained, FeatureGraph, FeatureGraphData, FeatureGraphExt, PackageGraph,
 };
 use platform_specs::TargetCfg;
 use row_files::graph_of;
@@ -22,62 +22,111 @@ pub struct Given {
     pub cfg: String,
 }
 
-/// Prints the specs of the graph that hold for `target`, and how many features of the workspace's default build are on.
-fn show_on(
-    out: &mut Out,
+/// Prints the specs of the graph that hold for `target`.
+fn show_held(
+    out: &Out,
     alloc: Global,
     graph: FeatureGraph<'_>,
     target: &TargetCfg,
 ) -> Result<(), Failure> {
-    for spec in &held_specs(alloc, graph.package_graph(), target)? {
+    let held = held_specs(alloc, graph.package_graph(), target)?;
+    for spec in &held {
         out.part("holds: ");
         out.line(*spec);
     }
-    let kinds = [DependencyKind::Normal, DependencyKind::Build];
-    let query = selected(alloc, graph, &[])?;
-    let explained = resolve_for(alloc, query, &kinds, target)?;
-    out.part("on for ");
-    out.part(target.triple());
-    out.part(": ");
-    out.part(explained.set().len());
-    out.part(" of ");
-    out.part(graph.feature_count());
-    out.line(" features");
     Ok(())
+}
+
+/// Prints how many of the `all` features are on for `target`, or returns the fault.
+fn show_count(
+    out: &Out,
+    all: usize,
+    target: &TargetCfg,
+    explained: Result<Explained<'_>, PlatformFault<'_>>,
+) -> Result<(), Failure> {
+    match explained {
+        Ok(explained) => {
+            out.part("on for ");
+            out.part(target.triple());
+            out.part(": ");
+            out.part(explained.set().len());
+            out.part(" of ");
+            out.part(all);
+            out.line(" features");
+            drop(explained);
+            Ok(())
+        }
+        Err(fault) => Err(Failure::from(fault)),
+    }
+}
+
+/// Prints the specs of the graph that hold for `target`, and how many features of the workspace's default build are on.
+fn show_on(
+    out: &Out,
+    alloc: Global,
+    graph: FeatureGraph<'_>,
+    target: &TargetCfg,
+) -> Result<(), Failure> {
+    show_held(out, alloc, graph, target)?;
+    let query = selected(alloc, graph, &[])?;
+    let kinds = [DependencyKind::Normal, DependencyKind::Build];
+    let explained = resolve_for(alloc, query, &kinds, target);
+    show_count(out, graph.feature_count(), target, explained)
 }
 
 /// Prints the features that are on for `target` over `packages`.
 fn show_over(
-    out: &mut Out,
+    out: &Out,
     alloc: Global,
     packages: &PackageGraph,
     target: &TargetCfg,
 ) -> Result<(), Failure> {
     let built = FeatureGraphData::build(alloc, packages, 1)?;
-    show_on(out, alloc, packages.feature_graph(&built), target)
+    let shown = show_on(out, alloc, packages.feature_graph(&built), target);
+    drop(built);
+    shown
 }
 
 /// Returns the bytes of the file of this path.
 fn bytes_of(rt: &HostRuntime, path: &str) -> Result<Vec<u8>, Failure> {
-    let Ok(file) = File::open(rt, path) else {
-        return Err(Failure::Unread);
-    };
-    let mut reader = FromReader::new(file);
-    Ok(read_all(rt.alloc(), &mut reader)?)
+    match File::open(rt, path) {
+        Ok(file) => Ok(read_all(rt.alloc(), &mut FromReader::new(file))?),
+        Err(_) => Err(Failure::Unread),
+    }
+}
+
+/// Returns the target of `triple` and the bytes of a cfg text.
+fn target_of(alloc: Global, triple: &str, bytes: &[u8]) -> Result<TargetCfg, Failure> {
+    match str::from_utf8(bytes) {
+        Ok(text) => Ok(TargetCfg::parse(alloc, triple, text)?),
+        Err(_) => Err(Failure::Cfg),
+    }
 }
 
 /// Returns the target of `given`.
-fn target_of(rt: &HostRuntime, given: &Given) -> Result<TargetCfg, Failure> {
+fn target(rt: &HostRuntime, given: &Given) -> Result<TargetCfg, Failure> {
     let bytes = bytes_of(rt, given.cfg.as_str())?;
-    let Ok(text) = str::from_utf8(&bytes) else {
-        return Err(Failure::Cfg);
-    };
-    Ok(TargetCfg::parse(rt.alloc(), given.triple.as_str(), text)?)
+    target_of(rt.alloc(), given.triple.as_str(), &bytes)
+}
+
+/// Returns the package graph of `given`.
+fn packages(rt: &HostRuntime, given: &Given) -> Result<PackageGraph, Failure> {
+    let bytes = bytes_of(rt, given.rows.as_str())?;
+    Ok(graph_of(rt.alloc(), &bytes)?)
+}
+
+/// Prints the features that are on for `target` over the rows of `given`.
+fn show_for(out: &Out, rt: &HostRuntime, given: &Given, target: &TargetCfg) -> Result<(), Failure> {
+    let packages = packages(rt, given)?;
+    let shown = show_over(out, rt.alloc(), &packages, target);
+    drop(packages);
+    shown
 }
 
 /// Prints the features that are on for a target over the files of `given`.
-pub fn show(out: &mut Out, rt: &HostRuntime, given: &Given) -> Result<(), Failure> {
-    let target = target_of(rt, given)?;
-    let packages = graph_of(rt.alloc(), &bytes_of(rt, given.rows.as_str())?)?;
-    show_over(out, rt.alloc(), &packages, &target)
+pub fn show(out: &Out, rt: &HostRuntime, given: &Given) -> Result<(), Failure> {
+    let target = target(rt, given)?;
+    let shown = show_for(out, rt, given, &target);
+    drop(target);
+    shown
 }

@@ -69,7 +69,7 @@ pub fn findings<'g>(
 }
 
 /// Prints the findings of a policy against two features; the build turns one of them on.
-pub fn show(out: &mut Out, alloc: Global, graph: FeatureGraph<'_>) -> Result<(), Failure> {
+pub fn show(out: &Out, alloc: Global, graph: FeatureGraph<'_>) -> Result<(), Failure> {
     let app = PackageId::new(alloc, "app")?;
     let serde = PackageId::new(alloc, "serde")?;
     lint(out, alloc, graph, &app, &serde)
@@ -77,7 +77,7 @@ pub fn show(out: &mut Out, alloc: Global, graph: FeatureGraph<'_>) -> Result<(),
 
 /// Prints the findings for a build of one package's default features.
 fn lint<'g>(
-    out: &mut Out,
+    out: &Out,
     alloc: Global,
     graph: FeatureGraph<'g>,
     app: &'g PackageId,
@@ -92,9 +92,20 @@ fn lint<'g>(
     show_findings(out, alloc, query, platform, &forbidden)
 }
 
-/// Prints a line for each forbidden feature that is on: the feature, and the steps on which it rests.
+/// Prints a forbidden feature that is on, and the steps on which it rests.
+fn show_finding(out: &Out, finding: &Finding<'_>) {
+    out.part("forbidden:");
+    out.id(finding.id);
+    out.part(" since");
+    for (id, _) in finding.why.iter() {
+        out.id(*id);
+    }
+    out.line("");
+}
+
+/// Prints a line for each forbidden feature that is on.
 fn show_findings<'g>(
-    out: &mut Out,
+    out: &Out,
     alloc: Global,
     query: FeatureQuery<'g>,
     platform: PlatformVisitor<'_>,
@@ -102,13 +113,8 @@ fn show_findings<'g>(
 ) -> Result<(), Failure> {
     let found = findings(alloc, query, platform, forbidden)?;
     for one in found.iter() {
-        out.part("forbidden:");
-        out.id(one.id);
-        out.part(" since");
-        for (id, _) in one.why.iter() {
-            out.id(*id);
-        }
-        out.line("");
+        show_finding(out, one);
     }
+    drop(found);
     Ok(())
 }

@@ -30,7 +30,7 @@ mod workspace;
 use crate::failure::Failure;
 use crate::for_target::Given;
 use crate::out::Out;
-use guppy_features::{FeatureGraph, FeatureGraphData, FeatureGraphExt};
+use guppy_features::{FeatureGraph, FeatureGraphData, FeatureGraphExt, PackageGraph};
 use row_files::graph_of;
 use std::alloc::Global;
 use std::env;
@@ -66,7 +66,7 @@ const EXAMPLES: &[(Example, &str); 10] = &[
 
 /// Runs an example over a graph.
 fn show_over(
-    out: &mut Out,
+    out: &Out,
     alloc: Global,
     example: Example,
     graph: FeatureGraph<'_>,
@@ -84,16 +84,30 @@ fn show_over(
     }
 }
 
-/// Makes the graph of a text of rows, and runs an example over it. The bytes of a row file are read in the same way. For
-/// rows of your own call `PackageGraph::from_rows` in place of `graph_of`.
-fn show(out: &mut Out, alloc: Global, example: Example, text: &str) -> Result<(), Failure> {
+/// Builds the feature graph of `packages`, and runs an example over it.
+fn show_built(
+    out: &Out,
+    alloc: Global,
+    example: Example,
+    packages: &PackageGraph,
+) -> Result<(), Failure> {
+    let built = FeatureGraphData::build(alloc, packages, 1)?;
+    let shown = show_over(out, alloc, example, packages.feature_graph(&built));
+    drop(built);
+    shown
+}
+
+/// Makes the package graph of a text of rows, and runs an example over it. The bytes of a row file are read in the same way.
+/// For rows of your own call `PackageGraph::from_rows` in place of `graph_of`.
+fn show(out: &Out, alloc: Global, example: Example, text: &str) -> Result<(), Failure> {
     let packages = graph_of(alloc, text.as_bytes())?;
-    let built = FeatureGraphData::build(alloc, &packages, 1)?;
-    show_over(out, alloc, example, packages.feature_graph(&built))
+    let shown = show_built(out, alloc, example, &packages);
+    drop(packages);
+    shown
 }
 
 /// Runs all examples, in order.
-fn show_all(out: &mut Out, alloc: Global) -> Result<(), Failure> {
+fn show_all(out: &Out, alloc: Global) -> Result<(), Failure> {
     for (example, text) in EXAMPLES {
         show(out, alloc, *example, text)?;
     }
@@ -112,7 +126,7 @@ fn given(rt: &HostRuntime) -> Result<Option<Given>, Failure> {
 }
 
 /// Runs all examples, and the one over files if there are any.
-fn show_each(out: &mut Out, rt: &HostRuntime) -> Result<(), Failure> {
+fn show_each(out: &Out, rt: &HostRuntime) -> Result<(), Failure> {
     show_all(out, rt.alloc())?;
     if let Some(given) = given(rt)? {
         for_target::show(out, rt, &given)?;
@@ -121,8 +135,8 @@ fn show_each(out: &mut Out, rt: &HostRuntime) -> Result<(), Failure> {
 }
 
 fn main(rt: HostRuntime) -> ExitCode {
-    let mut out = Out::new(rt.stdout());
-    let shown = show_each(&mut out, &rt);
+    let out = Out::new(rt.stdout());
+    let shown = show_each(&out, &rt);
     if shown.is_err() || out.has_failed() {
         ExitCode::FAILURE
     } else {

@@ -11,9 +11,8 @@ ghost use Rattle.uses.specs.Answers.{holds_on, is_on_platform, by_links};
 use crate::failure::Failure;
 use crate::out::Out;
 use guppy_features::{
-    ConditionalLink, DependencyKind, Error, FeatureGraph, FeatureId, FeatureLabel,
-    FeatureLinkContext, FeatureLinkVisitor, FeatureQuery, FeatureSet, PackageId, PlatformStatus,
-    Spec, laws,
+    ConditionalLink, DependencyKind, Error, FeatureGraph, FeatureId, FeatureLinkContext,
+    FeatureLinkVisitor, FeatureQuery, FeatureSet, PackageId, PlatformStatus, Spec, laws,
 };
 use std::alloc::Global;
 
@@ -71,36 +70,33 @@ pub fn on_platform<'g>(
     query.resolve_with(alloc, &mut platform)
 }
 
-/// Prints the features that a feature turns on for two platforms, and for build scripts.
-pub fn show(out: &mut Out, alloc: Global, graph: FeatureGraph<'_>) -> Result<(), Failure> {
-    let main = PackageId::new(alloc, "main")?;
-    let id = FeatureId::new(&main, FeatureLabel::Named("serde"));
-    let mut platform = OnePlatform {
-        spec: "cfg(unix)",
-        kind: DependencyKind::Normal,
-    };
-    show_on(out, alloc, graph, id, platform)?;
-    platform.spec = "cfg(any())";
-    show_on(out, alloc, graph, id, platform)?;
-    platform.kind = DependencyKind::Build;
-    show_on(out, alloc, graph, id, platform)
-}
-
 /// Prints the features that a feature turns on for one platform.
 fn show_on(
-    out: &mut Out,
+    out: &Out,
     alloc: Global,
     graph: FeatureGraph<'_>,
     id: FeatureId<'_>,
     platform: OnePlatform<'_>,
 ) -> Result<(), Failure> {
-    let query = graph.query_forward(alloc, &[id])?;
-    let set = on_platform(alloc, query, platform)?;
     out.part(if platform.kind == DependencyKind::Build {
         "for builds on "
     } else {
         "on "
     });
-    out.set(platform.spec, &set);
+    let query = graph.query_forward(alloc, &[id])?;
+    out.set(platform.spec, on_platform(alloc, query, platform))
+}
+
+/// Prints the features that a feature turns on for two platforms, and for build scripts.
+pub fn show(out: &Out, alloc: Global, graph: FeatureGraph<'_>) -> Result<(), Failure> {
+    let main = PackageId::new(alloc, "main")?;
+    let id = FeatureId::named(&main, "serde");
+    for (spec, kind) in [
+        ("cfg(unix)", DependencyKind::Normal),
+        ("cfg(any())", DependencyKind::Normal),
+        ("cfg(any())", DependencyKind::Build),
+    ] {
+        show_on(out, alloc, graph, id, OnePlatform { spec, kind })?;
+    }
     Ok(())
 }

@@ -119,7 +119,7 @@ pub fn by_closure<'g>(alloc: Global, query: FeatureQuery<'g>) -> Result<FeatureS
 }
 
 /// Prints the features that a query turns on by each of several boxed visitors.
-fn show_boxed(out: &mut Out, alloc: Global, query: &FeatureQuery<'_>) -> Result<(), Failure> {
+fn show_boxed(out: &Out, alloc: Global, query: &FeatureQuery<'_>) -> Result<(), Failure> {
     let shipped: Box<dyn FeatureLinkObject> = Box::new(alloc, Shipped { calls: 0 })?;
     let for_tests: Box<dyn FeatureLinkObject> = Box::new(
         alloc,
@@ -128,37 +128,39 @@ fn show_boxed(out: &mut Out, alloc: Global, query: &FeatureQuery<'_>) -> Result<
     let mut visitors = [shipped, for_tests];
     for visitor in visitors.iter_mut() {
         let again = query.try_clone(alloc)?;
-        let set = again.resolve_with(alloc, visitor)?;
-        out.set("by a box", &set);
+        out.set("by a box", again.resolve_with(alloc, visitor))?;
     }
     Ok(())
 }
 
-/// Prints the features that a query turns on by one visitor, lent twice, with its count after each run.
-fn show_lent(out: &mut Out, alloc: Global, query: &FeatureQuery<'_>) -> Result<(), Failure> {
-    let mut visitor = Shipped { calls: 0 };
-    out.set(
-        "lent",
-        &by_loan(alloc, query.try_clone(alloc)?, &mut visitor)?,
-    );
-    out.part("asked ");
-    out.line(visitor.calls);
-    out.set(
-        "lent again",
-        &by_loan(alloc, query.try_clone(alloc)?, &mut visitor)?,
-    );
+/// Prints the features that a query turns on by a visitor that is lent, after `text`, and the visitor's count.
+fn show_lent(
+    out: &Out,
+    alloc: Global,
+    text: &str,
+    query: &FeatureQuery<'_>,
+    visitor: &mut Shipped,
+) -> Result<(), Failure> {
+    let again = query.try_clone(alloc)?;
+    out.set(text, by_loan(alloc, again, visitor))?;
     out.part("asked ");
     out.line(visitor.calls);
     Ok(())
 }
 
+/// Prints the features that a query turns on by one visitor in each form; the lent one is lent twice.
+fn show_each(out: &Out, alloc: Global, query: &FeatureQuery<'_>) -> Result<(), Failure> {
+    let mut visitor = Shipped { calls: 0 };
+    show_lent(out, alloc, "lent", query, &mut visitor)?;
+    show_lent(out, alloc, "lent again", query, &mut visitor)?;
+    show_boxed(out, alloc, query)
+}
+
 /// Prints the features that a feature turns on by one visitor in each form.
-pub fn show(out: &mut Out, alloc: Global, graph: FeatureGraph<'_>) -> Result<(), Failure> {
+pub fn show(out: &Out, alloc: Global, graph: FeatureGraph<'_>) -> Result<(), Failure> {
     let main = PackageId::new(alloc, "main")?;
-    let id = FeatureId::new(&main, FeatureLabel::Named("smallvec"));
+    let id = FeatureId::named(&main, "smallvec");
     let query = graph.query_forward(alloc, &[id])?;
-    show_lent(out, alloc, &query)?;
-    show_boxed(out, alloc, &query)?;
-    out.set("by a closure", &by_closure(alloc, query)?);
-    Ok(())
+    show_each(out, alloc, &query)?;
+    out.set("by a closure", by_closure(alloc, query))
 }

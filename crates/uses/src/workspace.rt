@@ -40,10 +40,8 @@ pub fn build<'g>(
 }
 
 /// Prints the selected features and those that they turn on, by default and with a name.
-pub fn show(out: &mut Out, alloc: Global, graph: FeatureGraph<'_>) -> Result<(), Failure> {
-    out.set("default build", &build(alloc, graph, &[])?);
-    let query = selected(alloc, graph, &["color"])?;
-    out.set("selected with color", query.initials());
-    out.set("build with color", &query.resolve(alloc)?);
-    Ok(())
+pub fn show(out: &Out, alloc: Global, graph: FeatureGraph<'_>) -> Result<(), Failure> {
+    out.set("default build", build(alloc, graph, &[]))?;
+    out.initials("selected with color", selected(alloc, graph, &["color"]))?;
+    out.set("build with color", build(alloc, graph, &["color"]))
 }

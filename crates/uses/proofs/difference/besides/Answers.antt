@@ -8,6 +8,6 @@ returns c =
     let with = c.in_ok-with in
     let less = c.in_ok-without in
     IfOk-weaker
-    c.difference.result _ _
+    c.difference-rest.result _ _
     (λ set combined n. without (has with.with.members n) (has less.without.members n) (has set.members n) _ _ (combined.each n) (with.ensures.exact n) (less.ensures.exact n))
-    c.difference.ensures.combined
+    c.difference-rest.ensures.combined

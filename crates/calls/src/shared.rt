@@ -1,0 +1,14 @@
+//! Shared parts: row files, the words of a call, and standard output.
+mod failure;
+mod files;
+mod given;
+mod numbers;
+mod out;
+mod words;
+
+pub use failure::Failure;
+pub use files::{bytes_of, package_graph, script};
+pub use given::{Given, Words, ids_of, next_id};
+pub use numbers::insert;
+pub use out::Out;
+pub use words::{FromWord, all_of, cut, direction_of, halves, label_of, number, parts, word_at};
