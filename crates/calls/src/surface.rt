@@ -22,6 +22,7 @@ use crate::surface::checks::{Start, check, check_exact};
 use crate::surface::explanations::platform;
 use crate::surface::filters::{select_ids, select_names, select_plain};
 use crate::surface::in_set::in_set;
+pub use crate::surface::items::tell_counted;
 use crate::surface::look_ups::{figures, look_ups, verify, warnings};
 use crate::surface::pairs::{cycles, first_cycle, pair, tied};
 use crate::surface::queries::{has, of_query};

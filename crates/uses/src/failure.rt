@@ -7,7 +7,7 @@ use row_files::RowFileError;
 use std::alloc::{AllocError, AllocFailed};
 
 /// The error of an example. A user's program would say more.
-#[derive(Clone, Copy, PartialEq, Eq, Debug)]
+#[derive(Clone, Copy)]
 pub enum Failure {
     /// The text isn't a row file.
     Rows,

@@ -1,37 +1,15 @@
 //! Edges as text, and copies of edges.
-use crate::shared::Out;
+use crate::shared::{Out, name_of, tell_status};
 use feature_core::{ConditionalLinkImpl, EnabledLink, FeatureEdge, SlashForm, WeakSlashImpl};
-use feature_labels::LinkDeclarations;
-use guppy_packages::PlatformStatus;
 use std::alloc::{AllocError, Global};
-
-/// Writes `before`, and then `status` as `always`, `never`, or the specs.
-fn tell_status(out: &Out, before: &str, status: PlatformStatus<'_>) {
-    out.part(before);
-    match status {
-        PlatformStatus::Never => out.part("never"),
-        PlatformStatus::Always => out.part("always"),
-        PlatformStatus::PlatformDependent(specs) => {
-            let mut between = "";
-            for spec in specs {
-                out.text(between, spec.text());
-                between = "|";
-            }
-        }
-    }
-}
 
 /// Writes `before`, the declarations that `link` covers, its status for each kind, and the numbers of its package links.
 fn tell_link(out: &Out, before: &str, link: &ConditionalLinkImpl) {
     out.part(before);
-    out.part(match link.declarations() {
-        LinkDeclarations::Unsplit => "unsplit",
-        LinkDeclarations::Required => "required",
-        LinkDeclarations::Optional => "optional",
-    });
-    tell_status(out, " normal=", link.normal());
-    tell_status(out, " build=", link.build());
-    tell_status(out, " dev=", link.dev());
+    out.part(name_of(link.declarations()));
+    tell_status(out, " normal=", "never", "always", link.normal());
+    tell_status(out, " build=", "never", "always", link.build());
+    tell_status(out, " dev=", "never", "always", link.dev());
     let mut between = " links=";
     for number in link.package_link_ixs() {
         out.number(between, *number);

@@ -3,21 +3,12 @@ ghost use Rattle.std.specs.Prelude.{◌<◌, length};
 ghost use Rattle.feature_core.specs.Built.{IsBuilt};
 
 use crate::graphs::edge::{copied, tell_edge};
-use crate::shared::{Failure, Out, label_of, package_graph, parts};
+use crate::shared::{Failure, Out, label_of, package_graph, parts, tell_warning};
 use feature_core::laws::warning_equality;
 use feature_core::{FeatureGraphData, FeatureGraphWarning};
 use feature_labels::FeatureId;
 use guppy_packages::{PackageGraph, PackageId};
 use std::alloc::{AllocError, Global};
-
-/// Writes `before`, and then `place` or `none`, as a line.
-fn tell_place(out: &Out, before: &str, place: Option<usize>) {
-    match place {
-        Some(place) => out.number(before, place),
-        None => out.text(before, "none"),
-    }
-    out.line("");
-}
 
 /// Writes the stamp, the counts of nodes and edges, and the first edge whose link is present for no kind. Returns no error.
 pub fn figures(out: &Out, built: &FeatureGraphData) -> Result<(), Failure> {
@@ -25,7 +16,8 @@ pub fn figures(out: &Out, built: &FeatureGraphData) -> Result<(), Failure> {
     out.shown(built.stamp());
     out.number(", nodes ", built.node_count());
     out.number(", edges ", built.edge_count());
-    tell_place(out, ", absent ", built.first_absent_link());
+    out.place(", absent ", built.first_absent_link());
+    out.line("");
     Ok(())
 }
 
@@ -68,11 +60,9 @@ fn tell_node(
 {
     let (package, label) = parts(word);
     let package = PackageId::new(alloc, package)?;
-    tell_place(
-        out,
-        "",
-        built.node(graph, FeatureId::new(&package, label_of(label))),
-    );
+    let id = FeatureId::new(&package, label_of(label));
+    out.place("", built.node(graph, id));
+    out.line("");
     Ok(())
 }
 
@@ -153,22 +143,6 @@ fn tell_weak_links(out: &Out, built: &FeatureGraphData) {
         out.number(" gate=", *gate);
         out.line("");
     }
-}
-
-/// Writes `warning`, without the end of the line.
-fn tell_warning(out: &Out, warning: &FeatureGraphWarning) {
-    let (word, package_id, feature_name) = match warning {
-        FeatureGraphWarning::MissingFeature {
-            package_id,
-            feature_name,
-        } => ("missing ", package_id, feature_name),
-        FeatureGraphWarning::SelfLoop {
-            package_id,
-            feature_name,
-        } => ("self-loop ", package_id, feature_name),
-    };
-    out.text(word, package_id.repr());
-    out.text(" ", feature_name.as_str());
 }
 
 /// Writes each warning on a line, with `again` if an earlier one is equal.

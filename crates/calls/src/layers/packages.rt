@@ -6,18 +6,10 @@ use guppy_packages::{
 };
 use std::alloc::Global;
 
-/// Writes `before`, and then `place` or `none`.
-fn tell_place(out: &Out, before: &str, place: Option<usize>) {
-    match place {
-        Some(place) => out.number(before, place),
-        None => out.text(before, "none"),
-    }
-}
-
 /// Writes a named feature of `package`, its place and its items.
 fn tell_feature(out: &Out, package: PackageMetadata<'_>, feature: &NamedFeature) {
     out.text("feature ", feature.name());
-    tell_place(out, " at ", package.feature_place(feature.name()));
+    out.place(" at ", package.feature_place(feature.name()));
     out.part(":");
     for ix in 0..feature.item_count() {
         out.text(" ", feature.item(ix));
@@ -49,7 +41,7 @@ fn tell_package(out: &Out, package: PackageMetadata<'_>) {
     }
     for name in package.optional_deps() {
         out.text("optional ", name.as_str());
-        tell_place(out, " at ", package.optional_place(name.as_str()));
+        out.place(" at ", package.optional_place(name.as_str()));
         out.line("");
     }
 }
@@ -122,8 +114,8 @@ pub fn place(out: &Out, alloc: Global, graph: &PackageGraph, words: &str) -> Res
         Ok(package) => {
             out.shown(package.id());
             out.number(" is package ", package.package_ix());
-            tell_place(out, ", ", package.feature_place(name));
-            tell_place(out, " among its features, ", package.optional_place(name));
+            out.place(", ", package.feature_place(name));
+            out.place(" among its features, ", package.optional_place(name));
             out.line(" among its optional names");
         }
         Err(error) => out.debug_line(error),

@@ -1,9 +1,9 @@
 //! Calls on the specs of a package graph.
 use crate::platforms::Start;
-use crate::shared::{Failure, Given, all_of, halves, ids_of};
+use crate::shared::{Failure, Given, all_of, halves, ids_of, kinds_of};
+use crate::surface::tell_counted;
 use graph_platforms::{PlatformFault, held_specs, resolve_for};
-use guppy_features::{DependencyKind, Error, Explained, FeatureId, FeatureQuery};
-use std::alloc::{AllocError, Global};
+use guppy_features::{DependencyKind, Error, FeatureId, FeatureQuery};
 
 /// Writes the first malformed spec.
 fn tell_fault(start: Start<'_>, fault: PlatformFault<'_>) -> Result<(), Failure> {
@@ -31,37 +31,6 @@ pub fn held(start: Start<'_>) -> Result<(), Failure> {
     }
 }
 
-/// Returns the kind that `word` names.
-fn kind_of(word: &str) -> Option<DependencyKind> {
-    match word {
-        "normal" => Some(DependencyKind::Normal),
-        "build" => Some(DependencyKind::Build),
-        "dev" => Some(DependencyKind::Development),
-        _ => None,
-    }
-}
-
-/// Returns the kinds that `words` name, with commas between them; other words name none.
-fn kinds_of(alloc: Global, words: &str) -> Result<Vec<DependencyKind>, AllocError> {
-    let mut kinds = Vec::new(alloc);
-    for word in words.split(',') {
-        if let Some(kind) = kind_of(word) {
-            kinds.push(kind)?;
-        }
-    }
-    Ok(kinds)
-}
-
-/// Writes the features of a set.
-fn tell_set(start: Start<'_>, explained: &Explained<'_>) {
-    start.out.number("", explained.set().len());
-    start.out.part(":");
-    for id in explained.set().ids_by_node() {
-        start.out.id(id);
-    }
-    start.out.line("");
-}
-
 /// Writes the features that are on for the target.
 fn tell_on(
     start: Start<'_>,
@@ -70,7 +39,8 @@ fn tell_on(
 ) -> Result<(), Failure> {
     match resolve_for(start.alloc, query, kinds, start.target) {
         Ok(explained) => {
-            tell_set(start, &explained);
+            tell_counted(start.out, ":", explained.set().ids_by_node());
+            drop(explained);
             Ok(())
         }
         Err(fault) => tell_fault(start, fault),

@@ -101,6 +101,14 @@ impl Out {
         self.line(if answer { "true" } else { "false" });
     }
 
+    /// Writes `before`, and then `place` or `none`.
+    pub fn place(&self, before: &str, place: Option<usize>) {
+        match place {
+            Some(place) => self.number(before, place),
+            None => self.text(before, "none"),
+        }
+    }
+
     /// Writes a space and then `id`.
     pub fn id(&self, id: FeatureId<'_>) {
         self.part(" ");

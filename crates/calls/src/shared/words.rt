@@ -1,9 +1,9 @@
 //! Parsing of a call's words.
 use crate::shared::failure::Failure;
 use feature_labels::FeatureLabel;
-use guppy_packages::{DependencyDirection, PackageId, Spec};
+use guppy_packages::{DependencyDirection, DependencyKind, PackageId, Spec};
 use guppy_support::Edge;
-use std::alloc::Global;
+use std::alloc::{AllocError, Global};
 
 /// Returns the parts of `text` before and after its first space; all of `text` and an empty part without a space.
 pub fn cut(text: &str) -> (&str, &str) {
@@ -107,4 +107,19 @@ pub fn all_of<'w, T: FromWord<'w>>(alloc: Global, text: &'w str) -> Result<Vec<T
         all.push(T::from_word(alloc, word)?)?;
     }
     Ok(all)
+}
+
+/// Returns the dependency kinds that `words` name, separated by commas; other words are skipped. `AllocError` if an
+/// allocation fails.
+pub fn kinds_of(alloc: Global, words: &str) -> Result<Vec<DependencyKind>, AllocError> {
+    let mut kinds = Vec::new(alloc);
+    for word in words.split(',') {
+        match word {
+            "normal" => kinds.push(DependencyKind::Normal)?,
+            "build" => kinds.push(DependencyKind::Build)?,
+            "dev" => kinds.push(DependencyKind::Development)?,
+            _ => {}
+        }
+    }
+    Ok(kinds)
 }

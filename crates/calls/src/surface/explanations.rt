@@ -1,12 +1,11 @@
 //! Explanations as text, and calls that resolve for a platform.
-use crate::shared::{Failure, Out, Words, all_of, cut};
+use crate::shared::{Failure, Out, Words, all_of, cut, kinds_of};
 use crate::surface::checks::Start;
 use crate::surface::items::tell_counted;
 use crate::surface::links::tell_ends;
 use crate::surface::steps::Step;
 use crate::surface::told::tell_error;
 use guppy_features::{DependencyKind, Error, Explained, PlatformVisitor, Reason};
-use std::alloc::{AllocError, Global};
 
 /// Writes each step on a line: its feature and its reason.
 pub fn tell_steps(out: &Out, steps: &[Step<'_>]) {
@@ -61,21 +60,6 @@ pub fn tell_as(
         "shown" => out.debug_line(explained),
         _ => {}
     }
-}
-
-/// Returns the dependency kinds that `words` name, separated by commas; other words are skipped. `AllocError` if an
-/// allocation fails.
-fn kinds_of(alloc: Global, words: &str) -> Result<Vec<DependencyKind>, AllocError> {
-    let mut kinds = Vec::new(alloc);
-    for word in words.split(',') {
-        match word {
-            "normal" => kinds.push(DependencyKind::Normal)?,
-            "build" => kinds.push(DependencyKind::Build)?,
-            "dev" => kinds.push(DependencyKind::Development)?,
-            _ => {}
-        }
-    }
-    Ok(kinds)
 }
 
 /// Writes an explanation and the results of both checks, or the error.

@@ -1,24 +1,8 @@
 //! Links and edges as text.
-use crate::shared::Out;
+use crate::shared::{Out, name_of, tell_status};
 use guppy_features::{
-    ConditionalLink, FeatureEdge, FeatureId, LinkDeclarations, PackageLink, PlatformStatus,
-    SlashForm,
+    ConditionalLink, FeatureEdge, FeatureId, LinkDeclarations, PackageLink, SlashForm,
 };
-
-/// Writes `status`: `-` for never, `*` for always, and otherwise the specs.
-fn tell_status(out: &Out, status: PlatformStatus<'_>) {
-    match status {
-        PlatformStatus::Never => out.part(" -"),
-        PlatformStatus::Always => out.part(" *"),
-        PlatformStatus::PlatformDependent(specs) => {
-            let mut between = " ";
-            for spec in specs {
-                out.text(between, spec.text());
-                between = "|";
-            }
-        }
-    }
-}
 
 /// Writes the ends `from` and `to` of a link, and the declarations that it covers.
 pub fn tell_ends(
@@ -29,11 +13,7 @@ pub fn tell_ends(
 ) {
     out.shown(from);
     out.id(to);
-    out.part(match declarations {
-        LinkDeclarations::Unsplit => " unsplit",
-        LinkDeclarations::Required => " required",
-        LinkDeclarations::Optional => " optional",
-    });
+    out.text(" ", name_of(declarations));
 }
 
 /// Writes the ends of `link`, and the name of its declarations.
@@ -43,11 +23,11 @@ pub fn tell_package_link(out: &Out, link: PackageLink<'_>) {
     out.text(":", link.dep_name());
 }
 
-/// Writes the normal, build and dev status of `link`, its package links, and `dev-only` for a dev-only link.
+/// Writes the normal, build and dev status of `link` (`-` for never, `*` for always), its package links, and `dev-only` for a dev-only link.
 pub fn tell_rest(out: &Out, link: ConditionalLink<'_>) {
-    tell_status(out, link.normal());
-    tell_status(out, link.build());
-    tell_status(out, link.dev());
+    tell_status(out, " ", "-", "*", link.normal());
+    tell_status(out, " ", "-", "*", link.build());
+    tell_status(out, " ", "-", "*", link.dev());
     for package_link in link.package_links() {
         tell_package_link(out, package_link);
     }

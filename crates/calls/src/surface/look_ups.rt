@@ -1,8 +1,8 @@
 //! Calls that look up facts of the graph or of one feature.
-use crate::shared::Out;
+use crate::shared::{Out, tell_warning};
 use crate::surface::told::{tell_answer, tell_error};
 use guppy_features::{
-    Error, FeatureGraph, FeatureGraphWarning, FeatureId, FeatureList, FeatureMetadata,
+    Error, FeatureGraph, FeatureId, FeatureList, FeatureMetadata,
 };
 use std::alloc::Global;
 
@@ -22,18 +22,7 @@ pub fn warnings(out: &Out, features: FeatureGraph<'_>) {
     out.number("", warnings.len());
     out.line("");
     for warning in warnings {
-        let (word, package_id, feature_name) = match warning {
-            FeatureGraphWarning::MissingFeature {
-                package_id,
-                feature_name,
-            } => ("missing ", package_id, feature_name),
-            FeatureGraphWarning::SelfLoop {
-                package_id,
-                feature_name,
-            } => ("self-loop ", package_id, feature_name),
-        };
-        out.text(word, package_id.repr());
-        out.text(" ", feature_name.as_str());
+        tell_warning(out, warning);
         out.line("");
     }
 }
