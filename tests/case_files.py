@@ -22,7 +22,7 @@ A file of cases has these lines:
     steps NODES        (of `build`) the output explains these nodes, which are separated by spaces. Any steps are right that
                        judge_build.py accepts
 
-The program `calls` has four parts: `program calls PART` names one. The words of its cases are the files of a section, which
+The program `guppy_vectors` has four parts: `program guppy_vectors PART` names one. The words of its cases are the files of a section, which
 follow the part on the first line of standard input. The word FILE is the path alone, and LAST is the path of the row file before.
 Such a case also has these lines:
 
@@ -82,8 +82,8 @@ PLACES = ('all', 'none', f'only {0x5555555555555555}', 'only 3')
 # The calls that explain or check explanations, and the first words of lines that may be left to the judge.
 EXPLAINED = ('check', 'check-exact', 'platform', 'explain', 'checked', 'shown', 'same')
 STEPS = (b'step ', b'refused ')
-# Parts of the program `calls`.
-GRAPHS, SURFACE = 'calls graphs', 'calls surface'
+# Parts of the program `guppy_vectors`.
+GRAPHS, SURFACE = 'guppy_vectors graphs', 'guppy_vectors surface'
 SECONDS = 60
 
 
@@ -123,7 +123,7 @@ class Case:
         self.nodes = None
 
     def has_calls(self):
-        return self.program.startswith('calls ')
+        return self.program.startswith('guppy_vectors ')
 
     def is_explained(self):
         """Returns whether the case explains or checks explanations."""
@@ -218,7 +218,7 @@ class Case:
             self.add_call(rest)
         elif word in ('each', 'answers', 'edits', 'platforms'):
             self.add_directive(word, rest)
-        elif word in ('specs', 'random', 'changes', 'deep', 'on') and self.program == 'calls platforms':
+        elif word in ('specs', 'random', 'changes', 'deep', 'on') and self.program == 'guppy_vectors platforms':
             self.add_platform(word, rest)
         elif word == 'steps':
             self.nodes = [int(it) for it in rest.split()]
@@ -286,7 +286,7 @@ def in_form(text, form):
 
 
 def section(program, words, calls):
-    """Returns a section of the program `calls`: its part and files, and the calls."""
+    """Returns a section of the program `guppy_vectors`: its part and files, and the calls."""
     return b' '.join([b'=', program.split(' ')[1].encode(), *words]) + b'\n' + calls
 
 
