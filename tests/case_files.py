@@ -22,25 +22,26 @@ A file of cases has these lines:
     steps NODES        (of `build`) the output explains these nodes, which are separated by spaces. Any steps are right that
                        judge_build.py accepts
 
-In a program of calls (surface_calls, layer_calls, graph_calls, platform_calls) the word FILE is the path alone, and LAST is the path of the
-row file before. Such a case also has these lines:
+The program `guppy_vectors` has four parts: `program guppy_vectors PART` names one. The words of its cases are the files of a section, which
+follow the part on the first line of standard input. The word FILE is the path alone, and LAST is the path of the row file before.
+Such a case also has these lines:
 
-    < CALL             a line of standard input, which the program repeats. The word FORM in it is replaced by each of the
+    < CALL             a further line of standard input, which the program repeats. The word FORM in it is replaced by each of the
                        four forms of visitors and filters, and BY, EDGES, OVER and ANY by each of the words below. The case
                        runs once for each, and must print the same
     or                 begins other lines that may be printed after the last call, in place of those above
-    each DIRECTION     (of graph_calls and surface_calls, with no other call) walks in this direction from each two nodes, by
+    each DIRECTION     (of `graphs` and `surface`, with no other call) walks in this direction from each two nodes, by
                        each of four rules
     answers N DIRECTION NODES
                        (the same) a walk from these nodes for each set of accepted offers. These sets have N complete runs in
                        all; the walk's offers must be one of them, and all must have the walk's result
     edits DIRECTION IDS
-                       (of surface_calls, with no other call) checks explanations from these features, and each small change
+                       (of `surface`, with no other call) checks explanations from these features, and each small change
                        of them: a step left out, repeated, moved, or with another reason; another refused link
     platforms DIRECTION SPECS
                        (the same) the features on each platform, described by some of these specs, from each two features
 
-A case of platform_calls has a triple as its first word, and a cfg text as its second, FILE or LAST. These lines add calls, with what
+A case of `platforms` has a triple as its first word, and a cfg text as its second, FILE or LAST. These lines add calls, with what
 platform_model.py says of them:
 
     specs of PATH      each spec of this table, whose lines are a spec and the triples for which cargo uses it
@@ -81,6 +82,8 @@ PLACES = ('all', 'none', f'only {0x5555555555555555}', 'only 3')
 # The calls that explain or check explanations, and the first words of lines that may be left to the judge.
 EXPLAINED = ('check', 'check-exact', 'platform', 'explain', 'checked', 'shown', 'same')
 STEPS = (b'step ', b'refused ')
+# Parts of the program `guppy_vectors`.
+GRAPHS, SURFACE = 'guppy_vectors graphs', 'guppy_vectors surface'
 SECONDS = 60
 
 
@@ -99,9 +102,10 @@ def chain(last):
 
 
 def program_of(name):
-    """Returns the path of a crate's program. PROGRAM in the environment replaces that of `features`."""
+    """Returns the path of a crate's program, without its part. PROGRAM in the environment replaces that of `features`."""
     if name in ('judge', 'judge_build'):
         return f'{TOP}/tests/{name}.py'
+    name = name.split(' ')[0]
     built = f'{TOP}/crates/{name}/out/{name}'
     return os.path.abspath(os.environ.get('PROGRAM', built) if name == 'features' else built)
 
@@ -119,11 +123,11 @@ class Case:
         self.nodes = None
 
     def has_calls(self):
-        return self.program.endswith('_calls')
+        return self.program.startswith('guppy_vectors ')
 
     def is_explained(self):
         """Returns whether the case explains or checks explanations."""
-        return self.program == 'surface_calls' and any(call.split(':')[0].split(' ')[0] in EXPLAINED for call in self.calls)
+        return self.program == SURFACE and any(call.split(':')[0].split(' ')[0] in EXPLAINED for call in self.calls)
 
     def outs(self):
         """Returns the texts that may be printed: only the empty one if standard output can't be written."""
@@ -143,7 +147,7 @@ class Case:
         self.is_judged = True
         graph = judge.Graph(self.rows)
         nodes = range(len(graph.nodes))
-        if self.program == 'surface_calls':
+        if self.program == SURFACE:
             for rule, node, other in itertools.product(PLACES, map(graph.text, nodes), map(graph.text, nodes)):
                 self.add_call(f'checked {direction} BY {rule}: {node} {other}')
                 self.add_call(f'same {direction} BY {rule}: {node} {other}')
@@ -164,7 +168,7 @@ class Case:
             self.add_call(call)
 
     def target(self):
-        """The target of a case of platform_calls."""
+        """The target of a case of `platforms`."""
         text = self.rows if self.words[1] == b'FILE' else self.last
         return platform_model.Target(self.words[0].decode(), text.decode())
 
@@ -173,7 +177,7 @@ class Case:
         self.printed[-1].append(answer)
 
     def add_platform(self, word, rest):
-        """Calls of platform_calls, with the answers of the model."""
+        """Calls of `platforms`, with the answers of the model."""
         target = self.target()
         if word == 'specs' and rest == 'held':
             self.add_call('held')
@@ -214,7 +218,7 @@ class Case:
             self.add_call(rest)
         elif word in ('each', 'answers', 'edits', 'platforms'):
             self.add_directive(word, rest)
-        elif word in ('specs', 'random', 'changes', 'deep', 'on') and self.program == 'platform_calls':
+        elif word in ('specs', 'random', 'changes', 'deep', 'on') and self.program == 'guppy_vectors platforms':
             self.add_platform(word, rest)
         elif word == 'steps':
             self.nodes = [int(it) for it in rest.split()]
@@ -281,21 +285,30 @@ def in_form(text, form):
     return b'\n'.join(b' '.join(form[it].encode() if it in form else it for it in line.split(b' ')) for line in text.split(b'\n'))
 
 
+def section(program, words, calls):
+    """Returns a section of the program `guppy_vectors`: its part and files, and the calls."""
+    return b' '.join([b'=', program.split(' ')[1].encode(), *words]) + b'\n' + calls
+
+
 class Run:
     """A run of a case: its arguments, its standard input, and the texts that may be printed."""
 
     def __init__(self, case, words, stdin, outs):
         self.case, self.words, self.stdin, self.outs = case, words, stdin, outs
 
+    def read(self):
+        """Returns what the program reads: the calls of a section follow its part and files."""
+        return section(self.case.program, self.words, self.stdin) if self.case.has_calls() else self.stdin
+
     def outcome(self, room, environment=None):
         """Runs the program, and returns its standard output, its standard error and its exit status."""
         given = self.case.given
         closes = {'closed stdin': 0, 'closed stdout': 1}.get(given)
         with tempfile.TemporaryFile() as source, open('/dev/full', 'wb') as full:
-            source.write(self.stdin if given != 'empty stdin' else b'')
+            source.write(self.read() if given != 'empty stdin' else b'')
             source.seek(0)
             ran = subprocess.run(
-                [program_of(self.case.program), *self.words], stdin=source,
+                [program_of(self.case.program), *([] if self.case.has_calls() else self.words)], stdin=source,
                 stdout=full if given == 'full stdout' else subprocess.PIPE, stderr=subprocess.PIPE, timeout=SECONDS,
                 cwd=room, env=environment, preexec_fn=None if closes is None else lambda: os.close(closes))
         return ran.stdout or b'', ran.stderr, ran.returncode
@@ -322,7 +335,7 @@ class Run:
         """Returns the part of a printed text that is compared with a wanted one."""
         if not self.case.has_calls():
             return printed
-        unseen = (b'read ', b'reads ') if self.case.program == 'graph_calls' else ()
+        unseen = (b'read ', b'reads ') if self.case.program == GRAPHS else ()
         if self.case.is_explained() and not any(it.startswith(STEPS) for it in wanted.split(b'\n')):
             unseen = STEPS
         lines = [it for it in printed.split(b'\n') if not it.startswith(unseen) and (it[:2] == b'< ' or not self.case.is_judged)]
@@ -332,9 +345,9 @@ class Run:
         """Returns why the questions to a visitor aren't a run by the rules, or None."""
         if self.case.is_explained():
             return judge_explained.fault_of(self.case.rows, lines)
-        if self.case.program == 'surface_calls':
+        if self.case.program == SURFACE:
             return judge.fault_of(self.case.rows, lines)
-        if self.case.program != 'graph_calls':
+        if self.case.program != GRAPHS:
             return None
         fault = judge.fault_of_walks(self.case.rows, lines)
         if fault is None and self.case.runs is not None:

@@ -1,9 +1,9 @@
 #!/usr/bin/env python3
 """Checks runs of offers against the rules, by plain functions over paths.
 
-`fault_of(rows, printed)` checks each run of offers in the output of surface_calls over a row file, except in calls that
+`fault_of(rows, printed)` checks each run of offers in the output of the part `surface` of `guppy_vectors` over a row file, except in calls that
 explain: each line that begins with '- ' is an offer with its answer, in the order of the questions. `fault_of_walks` checks the
-output of graph_calls, where an offer is the number of an edge and a letter: F for its full link, R and O for the halves of a
+output of the part `graphs`, where an offer is the number of an edge and a letter: F for its full link, R and O for the halves of a
 weak edge.
 
 As a program it reads a row file from standard input, and prints its own results:

@@ -1,6 +1,6 @@
 """Checks explanations by ids against the rules, by plain functions over steps.
 
-`fault_of(rows, printed)` checks the calls that explain in the output of surface_calls over a row file: the runs of offers
+`fault_of(rows, printed)` checks the calls that explain in the output of the part `surface` of `guppy_vectors` over a row file: the runs of offers
 (judge.py), the steps, the refused links, and the results of checks. A step is a node and a reason, which is the text `initial`,
 `edge FROM TO`, or `link FROM TO DECLARATIONS`. A refused link is the text `FROM TO DECLARATIONS`.
 """

@@ -2,7 +2,7 @@
 """A reference model of platform specs, by docs/PLATFORMS.md and nothing else: which texts are specs, how a spec is printed, and
 whether it holds for a target. It is written to be read.
 
-    platform_model.py TRIPLE CFG-FILE SPEC...      prints for each spec what `platform_calls` prints of `spec SPEC`
+    platform_model.py TRIPLE CFG-FILE SPEC...      prints for each spec what the part `platforms` of `guppy_vectors` prints of `spec SPEC`
     platform_model.py                              compares the model with cargo's answers in tests/targets/specs.txt
 
 A spec is a tuple: ('platform', name), ('cfg', E); an E is ('fact', name, value or None), ('constant', bool), ('not', E),
@@ -202,7 +202,7 @@ class Target:
         return holds(parse(text), self.triple, self.facts)
 
     def answer(self, text):
-        """What `platform_calls` prints of a spec."""
+        """What the part `platforms` of `guppy_vectors` prints of a spec."""
         try:
             spec = parse(text)
         except Malformed:

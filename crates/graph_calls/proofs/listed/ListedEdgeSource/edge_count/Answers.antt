@@ -1,5 +1,0 @@
-use Rattle.graph_calls.proofs.ListedWays.{listed_content}
-use Rattle.graph_calls.proofs.listed.ListedEdgeSource.edge_count.Goals as goal
-
-pub returns-clause-nodes : goal.returns-clause-nodes
-returns-clause-nodes c = listed_content c.args.self.now.nodes c.args.self.now.ways.items c.args.self.now.within
