@@ -159,6 +159,7 @@ fn unparsed(rt: &HostRuntime, error: &Error) -> ExitCode {
     if !error.use_stderr() {
         return ended(rt, help(rt, error));
     }
+    // A failed write to standard error can't be reported anywhere.
     let _ = error.print(rt);
     ExitCode::from(2)
 }

@@ -30,7 +30,7 @@ IsAnswerTo (why_not word) form files w words build = IsWhyNotAnswer form w (decl
 IsAnswerTo specs form files w words build = IsPositive (IsSpecText form (declared_specs w.packages) (places files words.host words.targets))
 IsAnswerTo (list word) form files w words build = IsPositive (IsListText form w build word)
 
--- The message why a question has no answer: its word doesn't name what is wanted.
+-- The message that refuses a question: its word names nothing, or several things.
 abbrev pub IsNoAnswerTo : QuestionText → WorkspaceText → WordsText → Text → Type 0
 IsNoAnswerTo plan w words = λ _. ⊥
 IsNoAnswerTo (why word) w words = IsPartRefusal w words word

@@ -12,7 +12,7 @@ abbrev pub AreShown : {X : Type 0} → (X → List Text → Type 0) → List X �
 AreShown IsShown [] shown = shown ≡ []
 AreShown IsShown (x ∷ xs) shown = (here : List Text) × (more : List Text) × IsShown x here × AreShown IsShown xs more × (shown ≡ here ++ more)
 
--- What is between two texts: an empty line, and nothing between objects.
+-- The separator of two texts: an empty line in text, and none between JSON objects.
 abbrev pub gap : Format → Text
 gap format.Text = 10 ∷ []
 gap format.Json = []

@@ -33,6 +33,6 @@ IsNameMessage packages (unknown word) message = IsUnknownMessage word message
 IsNameMessage packages (several word candidates) message = message ≡ several_message packages word candidates
 IsNameMessage packages out_of_memory message = ⊥
 
--- The message why a word doesn't name what is wanted.
+-- The message about a word that names nothing, or several things.
 abbrev pub IsNameRefusal : {X : Type 0} → List PackageText → Result X NameRefusal → Text → Type 0
 IsNameRefusal packages given message = (refusal : NameRefusal) × (given ≡ Err refusal) × IsNameMessage packages refusal message

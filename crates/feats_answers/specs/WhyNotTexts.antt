@@ -29,7 +29,7 @@ abbrev pub IsOffText : Format → WorkspaceText → WordsText → (Text → Bool
 IsOffText format.Text w words every part text = IsWhyNotLines w words every part.owner (label_of_part part.part) (title_of_part w.packages part) text
 IsOffText format.Json w words every part text = IsWhyNotObjects w words every part.owner (label_of_part part.part) text
 
--- What is shown of a part: which wider selections turn it on; nothing, if it is on.
+-- `shown` contains the text about `part` if it is off in `plan`, and is empty if it is on.
 pub data IsOffShown (form : Format) (w : WorkspaceText) (words : WordsText) (every : Text → Bool) (plan : PlanText) (part : NamedText) (shown : List Text) : Type 0 where
   of_on : is_part_on plan part ≡ true → shown ≡ [] → IsOffShown form w words every plan part shown
   of_off : is_part_on plan part ≡ false → (text : Text) → IsOffText form w words every part text → shown ≡ text ∷ [] → IsOffShown form w words every plan part shown

@@ -26,13 +26,13 @@ abbrev pub steps_text : Format → List PackageText → WordsText → List WhyTe
 steps_text format.Text packages words steps = why_lines packages (why_settings words) steps
 steps_text format.Json packages words steps = why_objects packages (why_settings words) steps
 
--- What is shown of a spot: why it is on; nothing, if it is off.
+-- `shown` contains the text of the steps to `spot` if it is on, and is empty if it is off.
 pub record IsSpotShown (form : Format) (w : WorkspaceText) (words : WordsText) (plan : PlanText) (spot : SpotText) (shown : List Text) : Type 0 where
   pub found : Option (List WhyText)
   pub is_found : AnswersBy w words plan.on spot found
   pub is_shown : shown ≡ option_map_or (λ steps. steps_text form w.packages words steps ∷ []) found []
 
--- What is shown of a part: why it is on, on each side.
+-- `shown` contains the text of `part` for the target side, and then that for the host side.
 pub record IsPartShown (form : Format) (w : WorkspaceText) (words : WordsText) (plan : PlanText) (part : NamedText) (shown : List Text) : Type 0 where
   pub on_target : List Text
   pub on_host : List Text

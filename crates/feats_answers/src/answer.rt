@@ -7,7 +7,7 @@ ghost use Rattle.feats_answers.specs.AnswerViews.{answer_text};
 #[derive(Drop)]
 pub struct Answer {
     pub text: Vec<u8>,
-    /// Whether the answer is no: what is asked about isn't so in the build.
+    /// True for `why` if nothing that the word names is on, and for `why-not` if all of it is on.
     pub is_negative: bool,
 }
 

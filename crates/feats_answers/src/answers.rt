@@ -121,7 +121,8 @@ fn why_not_answer<'w, 's>(
 }
 
 /// Returns the answer to the question of `arguments` about `plan`, which is that of `words`; `specs` are the platform specs of the
-/// workspace, and `files` those of the target platforms. It is refused if a word of the question doesn't name what is wanted.
+/// workspace, and `files` are those of the target platforms. Returns `Refused` if the word of the question names nothing or several
+/// things, and `Memory` if an allocation fails.
 pub fn answer_to<'w, 'n, 's>(
     alloc: Global,
     arguments: &CommandArguments<'w>,
