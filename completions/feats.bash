@@ -1,0 +1,134 @@
+# Completions of bash for `feats`, `cargo feats` and `cargo-feats`. Made by completions/make from the texts of --help.
+
+# Prints the words of a list. The arguments are the program, feats or cargo, and the name of a command or `commands`.
+_feats_list() {
+  case "$1 $2" in
+    'feats commands') echo 'plan why why-not specs list help' ;;
+    'feats plan' | 'feats why' | 'feats why-not' | 'feats specs' | 'feats list') echo '--metadata --host --target --resolver --manifest -p --package --workspace -F --features --all-features --no-default-features --tests --format -h --help' ;;
+    'feats help') echo '' ;;
+    'cargo commands') echo 'plan why why-not specs list' ;;
+    'cargo plan' | 'cargo why' | 'cargo why-not' | 'cargo specs' | 'cargo list') echo '--target --resolver --manifest -p --package --workspace -F --features --all-features --no-default-features --tests --format -h --help --manifest-path --locked --offline --frozen' ;;
+  esac
+}
+
+# Prints what completes the value of an option, or nothing if it has none. The arguments are the program and the option.
+_feats_value() {
+  case "$1 $2" in
+    'feats --metadata' | 'feats --manifest' | 'cargo --manifest' | 'cargo --manifest-path') echo files ;;
+    'feats --host' | 'feats --target') echo platforms ;;
+    'feats --resolver' | 'cargo --resolver') echo 'words 1 2 3' ;;
+    'feats -p' | 'feats --package' | 'cargo -p' | 'cargo --package') echo packages ;;
+    'feats -F' | 'feats --features' | 'cargo -F' | 'cargo --features') echo none ;;
+    'feats --format' | 'cargo --format') echo 'words text json' ;;
+    'cargo --target') echo triples ;;
+  esac
+}
+
+# Prints what completes a word of a command. The arguments are the command and the number of the word.
+_feats_word() {
+  case "$1 $2" in
+    'why 0' | 'why-not 0' | 'list 0') echo packages ;;
+    'help 0') echo 'words plan why why-not specs list' ;;
+  esac
+}
+
+# Prints the names of the packages in the nearest Cargo.lock.
+_feats_packages() {
+  local folder=$PWD
+  until [ -f "$folder/Cargo.lock" ]; do
+    [ -n "$folder" ] || return
+    folder=${folder%/*}
+  done
+  sed -n 's/^name = "\(.*\)"$/\1/p' "$folder/Cargo.lock" | sort -u
+}
+
+# Completes `part`, the last word or what follows its `=`, by what a table says.
+_feats_by_kind() {
+  local part=$2
+  case $1 in
+    files) COMPREPLY=($(compgen -f -- "$part")) && compopt -o filenames 2>/dev/null ;;
+    platforms)
+      if [[ $part == *=* ]]; then
+        _feats_by_kind files "${part#*=}"
+      else
+        COMPREPLY=($(compgen -S = -W "$(rustc --print target-list 2>/dev/null)" -- "$part"))
+        compopt -o nospace 2>/dev/null
+      fi
+      ;;
+    triples) COMPREPLY=($(compgen -W "host-tuple $(rustc --print target-list 2>/dev/null)" -- "$part")) ;;
+    packages) COMPREPLY=($(compgen -W "$(_feats_packages)" -- "$part")) ;;
+    words\ *) COMPREPLY=($(compgen -W "${1#words }" -- "$part")) ;;
+  esac
+}
+
+# Sets `line` to the words up to the cursor. Bash splits a word at its `=`; here it is whole.
+_feats_join() {
+  local word last=-1 open=
+  for word in "${COMP_WORDS[@]:0:COMP_CWORD+1}"; do
+    if [ "$last" -ge 0 ] && { [ "$word" = = ] || [ -n "$open" ]; }; then
+      line[last]+=$word
+    else
+      last=$((last + 1))
+      line[last]=$word
+    fi
+    open=
+    if [ "$word" = = ]; then open=yes; fi
+  done
+}
+
+# Completes the last word of `line`. The arguments are the program, and the number of words before the command.
+_feats_complete() {
+  local program=$1 count=$((${#line[@]} - 1)) at=$2 command= number=0 kind= word
+  local current=${line[count]}
+  for (( ; at < count; at++)); do
+    word=${line[at]} kind=
+    case $word in
+      --*=*) ;;
+      -*) kind=$(_feats_value "$program" "$word") ;;
+      *) if [ -n "$command" ]; then number=$((number + 1)); else command=$word; fi ;;
+    esac
+    # (the value of an option is no word of the command)
+    if [ -n "$kind" ]; then at=$((at + 1)); fi
+  done
+  if [ -n "$kind" ] && [ "$at" -gt "$count" ]; then
+    _feats_by_kind "$kind" "$current"
+  elif [[ $current == --*=* ]]; then
+    _feats_by_kind "$(_feats_value "$program" "${current%%=*}")" "${current#*=}"
+  elif [ -z "$command" ]; then
+    COMPREPLY=($(compgen -W "$(_feats_list "$program" commands) --help" -- "$current"))
+  elif [[ $current == -* ]]; then
+    COMPREPLY=($(compgen -W "$(_feats_list "$program" "$command")" -- "$current"))
+  else
+    _feats_by_kind "$(_feats_word "$command" "$number")" "$current"
+  fi
+}
+
+# `feats` and `cargo-feats`.
+_feats() {
+  local line=() program=feats
+  if [[ ${COMP_WORDS[0]} == *cargo-feats ]]; then program=cargo; fi
+  COMPREPLY=()
+  _feats_join
+  _feats_complete "$program" 1
+}
+
+# `cargo`: after `feats` as cargo-feats, and else as without this file.
+_feats_of_cargo() {
+  local line=() at=1
+  COMPREPLY=()
+  if [[ ${COMP_WORDS[1]-} == +* ]]; then at=2; fi
+  if [ "$COMP_CWORD" -gt "$at" ] && [ "${COMP_WORDS[at]}" = feats ]; then
+    _feats_join
+    _feats_complete cargo $((at + 1))
+  elif [ -n "$_feats_cargo_before" ]; then
+    "$_feats_cargo_before" "$@"
+  fi
+}
+
+complete -F _feats feats cargo-feats
+# (the package bash-completion loads the completions of cargo when they are first needed)
+if ! complete -p cargo >/dev/null 2>&1 && declare -F _completion_loader >/dev/null; then _completion_loader cargo; fi
+if [[ $(complete -p cargo 2>/dev/null) != *_feats_of_cargo* ]]; then
+  _feats_cargo_before=$(complete -p cargo 2>/dev/null | sed -n 's/.* -F \([^ ]*\).*/\1/p')
+fi
+complete -o bashdefault -o default -F _feats_of_cargo cargo
