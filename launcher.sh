@@ -79,7 +79,7 @@ try_unproved() {
   esac
   # The last two lines are from rt try.
   head -n -2 -- "$room/faults" >&2
-  [ ! -s "$room/output" ] || cat -- "$room/output" 2>/dev/null || unwritten $? "$status"
+  [ ! -s "$room/output" ] || LC_ALL=C cat -- "$room/output" 2>"$room/unwritten" || unwritten $? "$status"
   exit "$status"
 }
 
@@ -162,10 +162,10 @@ add_value() {
 # Runs the program `feats`, some of whose options name files. The arguments are its own.
 launch_feats() {
   local words=()
-  # A pipe that is closed at its other end, for which the status of cat is that of SIGPIPE, is no fault. There is an answer, perhaps a
-  # negative one.
+  # A pipe that is closed at its other end is no fault: then the status of cat is that of SIGPIPE, or cat says so where the signal is
+  # ignored. There is an answer, perhaps a negative one.
   unwritten() {
-    if [ "$1" -eq 141 ]; then exit 0; fi
+    if [ "$1" -eq 141 ] || grep -q 'Broken pipe' "$room/unwritten"; then exit 0; fi
     echo "feats: cannot write the answer" >&2
     exit 2
   }
