@@ -24,22 +24,18 @@ crates_of() {
 
 # Prints why the proved program of a crate can't be run, or nothing if it can.
 why_not_current() {
-  local name=$1 program=$top/crates/$1/out/$1 crate file
+  local name=$1 program=$top/crates/$1/out/$1 crate folder file sources=("$top/crates.txt")
   if [ ! -x "$program" ]; then
     echo "no proved program is built"
     return
   fi
-  if [ "$top/crates.txt" -nt "$program" ]; then
-    echo "crates.txt is newer than the proved program"
-    return
-  fi
   for crate in $(crates_of "$name"); do
-    file=$(find "$top/crates/$crate"/{src,specs,proofs} -type f -newer "$program" -print -quit 2>/dev/null || true)
-    if [ -n "$file" ]; then
-      echo "${file#"$top/"} is newer than the proved program"
-      return
-    fi
+    for folder in "$top/crates/$crate"/{src,specs,proofs}; do
+      if [ -d "$folder" ]; then sources+=("$folder"); fi
+    done
   done
+  file=$(find "${sources[@]}" -type f -newer "$program" -print -quit 2>/dev/null || true)
+  if [ -n "$file" ]; then echo "${file#"$top/"} is newer than the proved program"; fi
 }
 
 # Prints on standard error why there is no output, and exits.
