@@ -4,6 +4,8 @@
 mod labels;
 mod objects;
 mod platforms;
+mod reasoned_lines;
+mod reasoned_objects;
 mod reasons;
 mod relations;
 mod rows;
@@ -12,6 +14,8 @@ mod table;
 
 pub use labels::spot_label;
 pub use objects::{why_objects, write_steps};
-pub use plan_whys::{Spot, WhyReason, WhyStep};
+pub use plan_whys::{ReasonedStep, Spot, WhyReason, WhyStep};
+pub use reasoned_lines::reasoned_lines;
+pub use reasoned_objects::reasoned_objects;
 pub use settings::WhySettings;
 pub use table::why_lines;
