@@ -3,7 +3,7 @@ use Rattle.plan_steps.specs.PlanViews.{plan_text}
 use Rattle.plan_whys.specs.Reasons.{IsReasoned}
 use Rattle.plan_whys.specs.StepViews.{reasoned_text, why_text}
 use Rattle.plan_whys.proofs.StepLists.{map_pushed, zip_viewed}
-use Rattle.plan_whys.proofs.reasoned_steps.reasoned_steps.Goals as goal
+use Rattle.plan_whys.proofs.step_reasons.reasoned_steps.Goals as goal
 
 pub loop-step-preserved : goal.loop-step-preserved
 loop-step-preserved c =

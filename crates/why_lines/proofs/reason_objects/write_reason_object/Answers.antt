@@ -1,7 +1,7 @@
 use Rattle.std.proofs.Common.{[], ◌∷◌}
 use Rattle.json.specs.Token.{begin_object}
 use Rattle.why_lines.proofs.Tokens.{appended, on_ok, wrote}
-use Rattle.why_lines.proofs.reasoned_objects.write_reason_object.Goals as goal
+use Rattle.why_lines.proofs.reason_objects.write_reason_object.Goals as goal
 
 pub returns : goal.returns
 returns g c = on_ok c.end_object.result (wrote _ _ _ _ c.end_object.ensures) (λ last.

@@ -4,7 +4,7 @@ use Rattle.why_lines.specs.ReasonedObjects.{reason_object}
 use Rattle.why_lines.specs.Settings.{settings_text}
 use Rattle.plan_whys.specs.StepViews.{reason_text, spot_text}
 use Rattle.why_lines.proofs.Loops.{flat_more}
-use Rattle.why_lines.proofs.reasoned_objects.write_reason_objects.Goals as goal
+use Rattle.why_lines.proofs.reason_objects.write_reason_objects.Goals as goal
 
 pub loop-reason-preserved : goal.loop-reason-preserved
 loop-reason-preserved g c =

@@ -4,7 +4,7 @@ use Rattle.why_lines.specs.ReasonedObjects.{reasoned_line, reasoned_objects}
 use Rattle.why_lines.specs.Settings.{settings_text}
 use Rattle.plan_whys.specs.StepViews.{reasoned_text}
 use Rattle.why_lines.proofs.Loops.{flat_more}
-use Rattle.why_lines.proofs.reasoned_objects.reasoned_lines.Goals as goal
+use Rattle.why_lines.proofs.reason_objects.reasoned_lines.Goals as goal
 
 pub loop-step-preserved : goal.loop-step-preserved
 loop-step-preserved g c =

@@ -3,7 +3,7 @@ use Rattle.cargo_workspaces.specs.Views.{package_text}
 use Rattle.why_lines.specs.ReasonedObjects.{reasoned_objects}
 use Rattle.why_lines.specs.Settings.{settings_text}
 use Rattle.plan_whys.specs.StepViews.{reasoned_text}
-use Rattle.why_lines.proofs.reasoned_objects.reasoned_lines.Given as goal
+use Rattle.why_lines.proofs.reason_objects.reasoned_lines.Given as goal
 
 abbrev pub invariant-loop-step : goal.invariant-loop-step
 invariant-loop-step g l =

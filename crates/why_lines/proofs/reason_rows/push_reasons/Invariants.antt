@@ -5,7 +5,7 @@ use Rattle.why_lines.specs.Settings.{settings_text}
 use Rattle.plan_whys.specs.StepViews.{reason_text, spot_text}
 use Rattle.why_lines.specs.inner.Labelled.{packages_of}
 use Rattle.why_lines.specs.inner.Rows.{row_text}
-use Rattle.why_lines.proofs.reasoned_lines.push_reasons.Given as goal
+use Rattle.why_lines.proofs.reason_rows.push_reasons.Given as goal
 
 abbrev pub invariant-loop-reason : goal.invariant-loop-reason
 invariant-loop-reason g l =

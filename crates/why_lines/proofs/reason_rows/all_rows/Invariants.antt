@@ -4,7 +4,7 @@ use Rattle.why_lines.specs.Settings.{settings_text}
 use Rattle.plan_whys.specs.StepViews.{reasoned_text}
 use Rattle.why_lines.specs.inner.Labelled.{packages_of}
 use Rattle.why_lines.specs.inner.Rows.{row_text}
-use Rattle.why_lines.proofs.reasoned_lines.all_rows.Given as goal
+use Rattle.why_lines.proofs.reason_rows.all_rows.Given as goal
 
 abbrev pub invariant-loop-step : goal.invariant-loop-step
 invariant-loop-step g l =

@@ -2,7 +2,7 @@ use Rattle.std.proofs.Common.{[], ◌∷◌}
 use Rattle.std.specs.Prelude.{codes}
 use Rattle.json.specs.Token.{begin_array, key}
 use Rattle.why_lines.proofs.Tokens.{appended, on_ok, wrote}
-use Rattle.why_lines.proofs.reasoned_objects.write_reasons.Goals as goal
+use Rattle.why_lines.proofs.reason_objects.write_reasons.Goals as goal
 
 pub returns : goal.returns
 returns g c = on_ok c.end_array.result (wrote _ _ _ _ c.end_array.ensures) (λ last.

@@ -3,7 +3,7 @@ use Rattle.cargo_workspaces.specs.Views.{package_text}
 use Rattle.why_lines.specs.ReasonedObjects.{reason_object}
 use Rattle.why_lines.specs.Settings.{settings_text}
 use Rattle.plan_whys.specs.StepViews.{reason_text, spot_text}
-use Rattle.why_lines.proofs.reasoned_objects.write_reason_objects.Given as goal
+use Rattle.why_lines.proofs.reason_objects.write_reason_objects.Given as goal
 
 abbrev pub invariant-loop-reason : goal.invariant-loop-reason
 invariant-loop-reason g l =

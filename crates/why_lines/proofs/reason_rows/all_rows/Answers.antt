@@ -6,7 +6,7 @@ use Rattle.plan_whys.specs.StepViews.{reasoned_text}
 use Rattle.why_lines.specs.inner.Labelled.{packages_of}
 use Rattle.why_lines.specs.inner.Rows.{row_text}
 use Rattle.why_lines.proofs.Loops.{flat_more}
-use Rattle.why_lines.proofs.reasoned_lines.all_rows.Goals as goal
+use Rattle.why_lines.proofs.reason_rows.all_rows.Goals as goal
 
 pub loop-step-preserved : goal.loop-step-preserved
 loop-step-preserved g c =
