@@ -25,7 +25,7 @@ pub record IsPositive (claim : Text → Type 0) (answer : AnswerText) : Type 0 w
 -- THE ANSWER to a question about the build of these words, for the target platforms of these files.
 abbrev pub IsAnswerTo : QuestionText → Format → List FileText → WorkspaceText → WordsText → PlanText → AnswerText → Type 0
 IsAnswerTo plan form files w words build = IsPositive (λ text. text ≡ text_of_units form files w.packages build.units)
-IsAnswerTo (why word) form files w words build = IsWhyAnswer form w words build word
+IsAnswerTo (why word all) form files w words build = IsWhyAnswer form all w words build word
 IsAnswerTo (why_not word) form files w words build = IsWhyNotAnswer form w (declared_specs w.packages) words build word
 IsAnswerTo specs form files w words build = IsPositive (IsSpecText form (declared_specs w.packages) (places files words.host words.targets))
 IsAnswerTo (list word) form files w words build = IsPositive (IsListText form w build word)
@@ -33,7 +33,7 @@ IsAnswerTo (list word) form files w words build = IsPositive (IsListText form w 
 -- The message that refuses a question: its word names nothing, or several things.
 abbrev pub IsNoAnswerTo : QuestionText → WorkspaceText → WordsText → Text → Type 0
 IsNoAnswerTo plan w words = λ _. ⊥
-IsNoAnswerTo (why word) w words = IsPartRefusal w words word
+IsNoAnswerTo (why word all) w words = IsPartRefusal w words word
 IsNoAnswerTo (why_not word) w words = IsPartRefusal w words word
 IsNoAnswerTo specs w words = λ _. ⊥
 IsNoAnswerTo (list word) w words = IsNameRefusal w.packages (package_named w.packages word)

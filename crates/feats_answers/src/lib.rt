@@ -7,11 +7,11 @@ mod gathered;
 mod labels_on;
 mod list_texts;
 mod name_messages;
+mod off_parts;
 mod parts;
 mod places;
 mod plan_texts;
 mod spec_texts;
-mod why_not_texts;
 mod why_texts;
 
 pub use answer::Answer;

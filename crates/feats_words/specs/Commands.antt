@@ -46,7 +46,7 @@ abbrev pub plan_shape : Shape
 plan_shape = command_shape (codes "plan") []
 
 abbrev pub why_shape : Shape
-why_shape = command_shape (codes "why") (word_rule (codes "feature") ∷ [])
+why_shape = command_shape (codes "why") (word_rule (codes "feature") ∷ flag_rule (codes "all") ∷ [])
 
 abbrev pub why_not_shape : Shape
 why_not_shape = command_shape (codes "why-not") (word_rule (codes "feature") ∷ [])

@@ -9,10 +9,10 @@ use Rattle.feats_words.specs.Commands.{feats_app}
 abbrev pub texts : List (Bor Text) → List Text
 texts = map (λ t. t.now)
 
--- The question that a command asks about a build.
+-- The question that a command asks about a build. `why` also says whether every direct reason is wanted.
 pub data QuestionText : Type 0 where
   plan : QuestionText
-  why : Text → QuestionText
+  why : Text → Bool → QuestionText
   why_not : Text → QuestionText
   specs : QuestionText
   list : Text → QuestionText
@@ -51,7 +51,7 @@ is_given name rows = option_map_or (λ value. bytes_eq value (codes "true")) (fi
 abbrev pub question_of : Text → List Row → Option QuestionText
 question_of name rows =
     if bytes_eq name (codes "plan") then Some plan
-    else (if bytes_eq name (codes "why") then Some (why (required_value (codes "feature") rows))
+    else (if bytes_eq name (codes "why") then Some (why (required_value (codes "feature") rows) (is_given (codes "all") rows))
     else (if bytes_eq name (codes "why-not") then Some (why_not (required_value (codes "feature") rows))
     else (if bytes_eq name (codes "specs") then Some specs
     else (if bytes_eq name (codes "list") then Some (list (required_value (codes "spec") rows))

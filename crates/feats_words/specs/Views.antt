@@ -20,7 +20,7 @@ source_text (source.Manifest path) = manifest_at path.now
 
 abbrev pub question_text : Question → QuestionText
 question_text question.Plan = plan
-question_text (question.Why word) = why word.now
+question_text (question.Why feature all) = why feature.now all
 question_text (question.WhyNot word) = why_not word.now
 question_text question.Specs = specs
 question_text (question.List word) = list word.now

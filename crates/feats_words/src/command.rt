@@ -18,6 +18,8 @@ Example:
 const WHY_EXAMPLE: &str = "\
 Example, with the files of `feats plan --help`:
   feats why --metadata metadata.json --host x86_64-unknown-linux-gnu=host.cfg -p server libc/extra_traits
+The same with every direct reason of each step:
+  feats why --all --metadata metadata.json --host x86_64-unknown-linux-gnu=host.cfg -p server libc/extra_traits
 ";
 
 const WHY_NOT_EXAMPLE: &str = "\
@@ -234,13 +236,16 @@ fn plan_command<'a>(alloc: Global) -> Result<Command<'a>, AllocError>
 fn why_command<'a>(alloc: Global) -> Result<Command<'a>, AllocError>
     ensures { IfOk result (λ r. IsSubcommand r spec.why_shape) }
 {
-    worded(
-        alloc,
-        "why",
-        "Prints the steps from what is selected to a feature that is on",
-        WHY_EXAMPLE,
-        word(alloc, "feature", "FEATURE", FEATURE_HELP),
-    )
+    let command = Command::new(alloc, "why")
+        .about("Prints the steps from what is selected to a feature that is on")
+        .after_help(WHY_EXAMPLE)
+        .arg(word(alloc, "feature", "FEATURE", FEATURE_HELP))?
+        .arg(flag(
+            alloc,
+            "all",
+            "Print every direct reason of each step, and not only one",
+        ))?;
+    with_options(alloc, command)
 }
 
 /// Returns the command `why-not`.

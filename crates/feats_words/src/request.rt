@@ -15,8 +15,8 @@ use std::alloc::{AllocError, Global};
 pub enum Question<'a> {
     /// Which packages are built?
     Plan,
-    /// Why is this feature on?
-    Why(&'a str),
+    /// Why is this feature on? With `all`, every direct reason is wanted.
+    Why { feature: &'a str, all: bool },
     /// Why is this feature off?
     WhyNot(&'a str),
     /// Which platform specs hold?
@@ -105,7 +105,10 @@ fn question_of<'a>(name: &str, matches: &ArgMatches<'a>) -> Option<Question<'a>>
 {
     match name {
         "plan" => Some(Question::Plan),
-        "why" => Some(Question::Why(required_value(matches, "feature"))),
+        "why" => Some(Question::Why {
+            feature: required_value(matches, "feature"),
+            all: is_given(matches, "all"),
+        }),
         "why-not" => Some(Question::WhyNot(required_value(matches, "feature"))),
         "specs" => Some(Question::Specs),
         "list" => Some(Question::List(required_value(matches, "spec"))),
