@@ -35,12 +35,14 @@ node_line n title = codes "    n" ++ decimal n ++ codes " [label = " ++ quoted t
 abbrev pub nodes_in : ℕ → ℕ → List NodeText → Text
 nodes_in k n nodes = joined_from (λ n node. if node.cluster == k then node_line n node.title else []) n nodes
 
--- A cluster with its label and its nodes; nothing, if it has no node.
+-- Cluster `k` with its label and its nodes.
+abbrev pub block_text : List NodeText → ℕ → Text → Text
+block_text nodes k label =
+    codes "  subgraph cluster_" ++ decimal k ++ codes " {\n    label = " ++ quoted label ++ codes ";\n" ++ nodes_in k 0 nodes ++ codes "  }\n"
+
+-- The same; nothing, if it has no node.
 abbrev pub cluster_text : List NodeText → ℕ → Text → Text
-cluster_text nodes k label =
-    if list_any (λ node. node.cluster == k) nodes
-    then codes "  subgraph cluster_" ++ decimal k ++ codes " {\n    label = " ++ quoted label ++ codes ";\n" ++ nodes_in k 0 nodes ++ codes "  }\n"
-    else []
+cluster_text nodes k label = if list_any (λ node. node.cluster == k) nodes then block_text nodes k label else []
 
 -- `  n3 -> n8;`
 abbrev pub link_line : ℕ × ℕ → Text

@@ -93,7 +93,7 @@ fn push_node_of(
     number: usize,
     node: DotNode<'_>,
 ) -> Result<(), AllocError>
-    ensures { OnOk result (text.new.items ≡ text.old.items ++ (if node.cluster == cluster then spec.node_line number node.title.now else [])) }
+    ensures { OnOk result (text.new.items ≡ text.old.items ++ (if node.entry.cluster == cluster then spec.node_line number node.entry.title.now else [])) }
 {
     if node.cluster == cluster {
         push_node(alloc, text, number, node.title)?;
@@ -128,6 +128,25 @@ fn is_used(cluster: usize, nodes: &[DotNode<'_>]) -> bool
     false
 }
 
+/// Appends `cluster` with its label and its nodes.
+fn push_block(
+    alloc: Global,
+    text: &mut Vec<u8>,
+    cluster: usize,
+    label: &str,
+    nodes: &[DotNode<'_>],
+) -> Result<(), AllocError>
+    ensures { OnOk result (text.new.items ≡ text.old.items ++ spec.block_text (map node_text nodes.now) cluster label.now) }
+{
+    push_str(text, "  subgraph cluster_")?;
+    push_number(alloc, text, cluster)?;
+    push_str(text, " {\n    label = ")?;
+    push_quoted(text, label)?;
+    push_str(text, ";\n")?;
+    push_nodes(alloc, text, cluster, nodes)?;
+    push_str(text, "  }\n")
+}
+
 /// Appends `cluster` with its label and its nodes, if it has nodes.
 fn push_cluster(
     alloc: Global,
@@ -138,16 +157,10 @@ fn push_cluster(
 ) -> Result<(), AllocError>
     ensures { OnOk result (text.new.items ≡ text.old.items ++ spec.cluster_text (map node_text nodes.now) cluster label.now) }
 {
-    if !is_used(cluster, nodes) {
-        return Ok(());
+    if is_used(cluster, nodes) {
+        push_block(alloc, text, cluster, label, nodes)?;
     }
-    push_str(text, "  subgraph cluster_")?;
-    push_number(alloc, text, cluster)?;
-    push_str(text, " {\n    label = ")?;
-    push_quoted(text, label)?;
-    push_str(text, ";\n")?;
-    push_nodes(alloc, text, cluster, nodes)?;
-    push_str(text, "  }\n")
+    Ok(())
 }
 
 /// Appends the clusters that have nodes.
