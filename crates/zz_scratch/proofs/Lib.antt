@@ -1,0 +1,4 @@
+pub mod Indexes
+pub mod Tables
+pub mod Joined
+pub mod WayLemmas

@@ -1,0 +1,6 @@
+//! Scratch.
+#![tactic(auto)]
+
+mod places;
+
+pub use places::links_between;
