@@ -28,7 +28,8 @@ gate_matters : (ask : Ask) (g h : Bool) → (IsTrue (is_gated ask) → g ≡ h) 
 gate_matters asks.Nobody g h same = refl
 gate_matters asks.Full g h same = refl
 gate_matters (asks.Weak required true) g h same = ap (λ b. required || not true || b) (same refl)
-gate_matters (asks.Weak required false) g h same = refl
+gate_matters (asks.Weak true false) g h same = refl
+gate_matters (asks.Weak false false) g h same = refl
 
 pub edge_counts : (M : ℕ → Bool) (edge : TableEdge) (w : Way) → IsEdge w edge → (M edge.start && is_followed edge.ask (M edge.gate)) ≡ counts M w
 edge_counts M edge w is =
@@ -100,6 +101,9 @@ ascending_once ps up i j p a b = ⊎_elim
         let second : slice_index_or ps n p ≡ p = get_or_from_slice_get ps n p p h in
         before_self p (subst (IsBefore p) second (subst (λ z. IsBefore z (slice_index_or ps n p)) first (up m n p less (slice_get_within ps n p h))))
 
+none_once : HasNoRepeats {X = ℕ × ℕ} []
+none_once i j p a b = cc
+
 cons_once : {X : Type 0} (x : X) (xs : List X) → (Contains xs x → ⊥) → HasNoRepeats xs → HasNoRepeats (x ∷ xs)
 cons_once x xs apart once zero zero y a b = refl
 cons_once x xs apart once zero (suc j) y a b =
@@ -127,7 +131,7 @@ module _ (M : ℕ → Bool) (weak : List (ℕ × ℕ)) where
       (Contains-append_cases (ends_if M (way Forward weak e)) (counted_ends M (ways Forward es weak)) p h)
 
   pub counted_once : (es : List (ℕ × ℕ × EdgeFacts)) → HasNoRepeats (ends_of es) → HasNoRepeats (counted_ends M (ways Forward es weak))
-  counted_once [] once i j p a b = cc
+  counted_once [] once = none_once
   counted_once (e ∷ es) once =
       kept_once (counts M (way Forward weak e)) (e.0, e.1) (counted_ends M (ways Forward es weak))
       (λ h. first_once (e.0, e.1) (ends_of es) once (counted_in es (e.0, e.1) h)) (counted_once es (later_once (e.0, e.1) (ends_of es) once))

@@ -1,4 +1,0 @@
-pub mod Indexes
-pub mod Tables
-pub mod Joined
-pub mod WayLemmas

@@ -1,6 +1,0 @@
-//! Scratch.
-#![tactic(auto)]
-
-mod places;
-
-pub use places::links_between;
