@@ -8,15 +8,6 @@ use Rattle.plan_links.specs.inner.Pairs.{AreBelow}
 use Rattle.plan_links.specs.inner.Places.{ArePlaces, both, noted, place_in}
 use Rattle.plan_links.proofs.Indexes.{length_taken, position_pushed, take_next}
 
--- a blank table
-got_same : {X : Type 0} (n k : ℕ) (x : X) → k < n → slice_get (replicate n x) k ≡ Some x
-got_same zero k x h = absurd (omega (arith, h))
-got_same (suc n) zero x h = refl
-got_same (suc n) (suc k) x h = got_same n k x (omega (arith, h))
-
-pub none_noted : (size : ℕ) (numbers : List ℕ) (places : List (Option ℕ)) → places ≡ replicate size None → ArePlaces size (take 0 numbers) places
-none_noted size numbers places is k below = ap (λ l. slice_get l k) is ∙ got_same size k None below
-
 -- one more number
 pub next_noted : (size : ℕ) (numbers : List ℕ) (i n : ℕ) (old new : List (Option ℕ)) → slice_get numbers i ≡ Some n → ArePlaces size (take i numbers) old
     → ((k : ℕ) → slice_get new k ≡ option_map (noted (n == k) i) (slice_get old k)) → ArePlaces size (take (i + 1) numbers) new
@@ -27,9 +18,6 @@ next_noted size numbers i n old new at are step k below = step k ∙ ap (option_
         ap (λ l. index_of l k) (take_next numbers i n at)
         ∙ position_pushed (λ m. m == k) (take i numbers) n
         ∙ ap (λ (z : ℕ). option_or (index_of (take i numbers) k) (if n == k then Some z else None)) (length_taken numbers i n at)
-
-pub all_noted : (size : ℕ) (numbers : List ℕ) (i : ℕ) (places : List (Option ℕ)) → length numbers ≤ i → ArePlaces size (take i numbers) places → ArePlaces size numbers places
-all_noted size numbers i places past are = subst (λ l. ArePlaces size l places) (take_all i numbers past) are
 
 -- the links by the table are those by the indexes
 place_is : (size : ℕ) (numbers : List ℕ) (places : List (Option ℕ)) (k : ℕ) → ArePlaces size numbers places → k < size → place_in places k ≡ index_of numbers k

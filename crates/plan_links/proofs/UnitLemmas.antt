@@ -42,12 +42,6 @@ capped_same limit n e below = go (nat_lt n limit) refl
         let past = not_below n limit is in
         test_false (limit - 1) e (λ same. omega (arith, same, below)) ∙ sym (test_false n e (λ same. omega (arith, same, below, past)))
 
-pub capped_below : (limit n : ℕ) → n < limit → n ≡ capped limit n
-capped_below limit n below = sym (ap (λ b. if b then n else limit - 1) (lt-ltb n limit below))
-
-pub capped_past : (limit n : ℕ) → limit ≤ n → limit - 1 ≡ capped limit n
-capped_past limit n past = sym (ap (λ b. if b then n else limit - 1) (le-ltb n limit past))
-
 capped_index : (count e : ℕ) (units : List UnitText) → e < 2 ^ 64 - 1 → index_of (map (capped_entry count) units) e ≡ index_of (map (entry_of count) units) e
 capped_index count e units below =
     position-map (capped_entry count) (λ n. n == e) units
@@ -81,8 +75,8 @@ pairs_once t pairs taken are is same = subst HasNoRepeats (sym (same ∙ is)) ar
 -- Links between units.
 
 module _ (plan : PlanText) (are : AreTables plan.built.tables) (room : length plan.built.tables.packages < 2 ^ 64) where
-  abbrev keys : List ℕ
-  keys = map (capped_entry plan.on.count) plan.units
+  abbrev capped_entries : List ℕ
+  capped_entries = map (capped_entry plan.on.count) plan.units
 
   link_at : (l : LinkTable) → Contains plan.built.tables.links l → (l.from < 2 ^ 64 - 1) × (l.to < 2 ^ 64 - 1)
   link_at l (k, within, is) =
@@ -91,7 +85,7 @@ module _ (plan : PlanText) (are : AreTables plan.built.tables) (room : length pl
       let to = ends.1 in
       (omega (arith, from, room), omega (arith, to, room))
 
-  depends : (a b : ℕ) → Joins keys (map pair_of plan.built.tables.links) a b → DependsOn plan a b
+  depends : (a b : ℕ) → Joins capped_entries (map pair_of plan.built.tables.links) a b → DependsOn plan a b
   depends a b r =
       let x = from_map pair_of plan.built.tables.links r.pair r.is_pair in
       let l = x.0 in
@@ -99,11 +93,11 @@ module _ (plan : PlanText) (are : AreTables plan.built.tables) (room : length pl
       record {
         link = l;
         is_link = x.1;
-        leaves = sym (capped_index plan.on.count l.from plan.units below.0) ∙ ap (λ (p : ℕ × ℕ). index_of keys p.0) x.2 ∙ r.first;
-        leads = sym (capped_index plan.on.count l.to plan.units below.1) ∙ ap (λ (p : ℕ × ℕ). index_of keys p.1) x.2 ∙ r.second;
+        leaves = sym (capped_index plan.on.count l.from plan.units below.0) ∙ ap (λ (p : ℕ × ℕ). index_of capped_entries p.0) x.2 ∙ r.first;
+        leads = sym (capped_index plan.on.count l.to plan.units below.1) ∙ ap (λ (p : ℕ × ℕ). index_of capped_entries p.1) x.2 ∙ r.second;
       }
 
-  joins : (a b : ℕ) → DependsOn plan a b → Joins keys (map pair_of plan.built.tables.links) a b
+  joins : (a b : ℕ) → DependsOn plan a b → Joins capped_entries (map pair_of plan.built.tables.links) a b
   joins a b d =
       let l = d.link in
       let below = link_at l d.is_link in
@@ -114,8 +108,8 @@ module _ (plan : PlanText) (are : AreTables plan.built.tables) (room : length pl
         second = capped_index plan.on.count l.to plan.units below.1 ∙ d.leads;
       }
 
-  units_by_keys : (links : List (ℕ × ℕ)) → ArePairsOf (Joins keys (map pair_of plan.built.tables.links)) links → AreUnitLinks plan links
-  units_by_keys links is = record {
+  units_by_entries : (links : List (ℕ × ℕ)) → ArePairsOf (Joins capped_entries (map pair_of plan.built.tables.links)) links → AreUnitLinks plan links
+  units_by_entries links is = record {
     ascend = is.ascend;
     exact = λ a b. ((λ h. depends a b ((is.exact a b).0 h)), (λ d. (is.exact a b).1 (joins a b d)));
   }
@@ -129,7 +123,7 @@ units_linked plan v t count size units keys taken_keys pairs taken links visit t
     in
     let pairs_here : taken ≡ map pair_of plan.built.tables.links = pairs_same ∙ pairs_are ∙ ap (λ (z : Tables). map pair_of z.links) here in
     let small : length plan.built.tables.packages < 2 ^ 64 = subst (λ n. n < 2 ^ 64) (long ∙ ap (λ (z : Tables). length z.packages) here) room in
-    units_by_keys plan (subst AreTables here are) small links
+    units_by_entries plan (subst AreTables here are) small links
     (subst (λ ps. ArePairsOf (Joins (map (capped_entry plan.on.count) plan.units) ps) links) pairs_here (subst (λ ks. ArePairsOf (Joins ks taken) links) keys_here is))
 
 -- Roots.

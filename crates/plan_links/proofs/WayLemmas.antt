@@ -21,30 +21,6 @@ use Rattle.plan_links.specs.SpotLinks.{counts, is_followed}
 use Rattle.plan_links.specs.inner.Pairs.{AreBelow, counted_ends, ends_if}
 use Rattle.plan_links.proofs.Joined.{first_once, later_once}
 
--- Whether an edge counts.
-
--- the gate matters only where the edge is gated
-gate_matters : (ask : Ask) (g h : Bool) → (IsTrue (is_gated ask) → g ≡ h) → is_followed ask g ≡ is_followed ask h
-gate_matters asks.Nobody g h same = refl
-gate_matters asks.Full g h same = refl
-gate_matters (asks.Weak required true) g h same = ap (λ b. required || not true || b) (same refl)
-gate_matters (asks.Weak true false) g h same = refl
-gate_matters (asks.Weak false false) g h same = refl
-
-pub edge_counts : (M : ℕ → Bool) (edge : TableEdge) (w : Way) → IsEdge w edge → (M edge.start && is_followed edge.ask (M edge.gate)) ≡ counts M w
-edge_counts M edge w is =
-    ap (λ s. M s && is_followed edge.ask (M edge.gate)) is.start
-    ∙ ap (λ b. M w.start && b) (ap (λ a. is_followed a (M edge.gate)) is.ask ∙ gate_matters w.ask (M edge.gate) (M w.gate) (λ t. ap M (is.gate t)))
-
-pub pushed_if : (M : ℕ → Bool) (edge : TableEdge) (w : Way) (flag : Bool) (old new : List (ℕ × ℕ)) → IsEdge w edge → flag ≡ counts M w → flag ≡ true → new ≡ old ++ (edge.start, edge.far) ∷ [] → new ≡ old ++ ends_if M w
-pushed_if M edge w flag old new is same holds pushed =
-    pushed
-    ∙ (λ i. old ++ (is.start i, is.far i) ∷ [])
-    ∙ ap (λ b. old ++ (if b then (w.start, w.far) ∷ [] else [])) (sym holds ∙ same)
-
-pub kept_if : (M : ℕ → Bool) (edge : TableEdge) (w : Way) (flag : Bool) (old : List (ℕ × ℕ)) → old ++ [] ≡ old → flag ≡ counts M w → flag ≡ false → old ≡ old ++ ends_if M w
-kept_if M edge w flag old nothing same fails = sym nothing ∙ ap (λ b. old ++ (if b then (w.start, w.far) ∷ [] else [])) (sym fails ∙ same)
-
 -- The ends of the ways before and after one.
 
 drop_at : (ws : List Way) (k : ℕ) → k < length ws → (w : Way) × (slice_get ws k ≡ Some w) × (drop k ws ≡ w ∷ drop (k + 1) ws)

@@ -3,11 +3,11 @@
 
 mod numbers;
 mod places;
-mod spot_links;
 mod spots;
-mod unit_links;
+mod units;
+mod ways;
 
 pub use plan_whys::{Side, Spot};
-pub use spot_links::spot_links;
 pub use spots::{on_spots, root_spots};
-pub use unit_links::{root_units, unit_links};
+pub use units::{root_units, unit_links};
+pub use ways::spot_links;

@@ -1,7 +1,7 @@
 use Rattle.std.proofs.Common.{◌∙◌}
 use Rattle.guppy_packages.specs.Metadata.{link_table_of}
 use Rattle.plan_links.proofs.UnitLemmas.{pair_found}
-use Rattle.plan_links.proofs.unit_links.pair_of.Goals as goal
+use Rattle.plan_links.proofs.units.pair_of.Goals as goal
 
 pub returns : goal.returns
 returns c =

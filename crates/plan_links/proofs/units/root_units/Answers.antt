@@ -6,7 +6,7 @@ use Rattle.plan_steps.specs.PlanViews.{plan_text}
 use Rattle.plan_units.specs.UnitViews.{unit_text}
 use Rattle.step_visits.specs.Visits.{is_start}
 use Rattle.plan_links.proofs.UnitLemmas.{roots_are}
-use Rattle.plan_links.proofs.unit_links.root_units.Goals as goal
+use Rattle.plan_links.proofs.units.root_units.Goals as goal
 
 pub returns : goal.returns
 returns c =

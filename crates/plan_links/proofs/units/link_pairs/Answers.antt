@@ -1,7 +1,7 @@
 use Rattle.std.proofs.Common.{arith, map}
 use Rattle.guppy_packages.specs.Tables.{pair_of}
 use Rattle.plan_links.proofs.UnitLemmas.{all_pushed, pair_pushed}
-use Rattle.plan_links.proofs.unit_links.link_pairs.Goals as goal
+use Rattle.plan_links.proofs.units.link_pairs.Goals as goal
 
 pub loop-number-preserved : goal.loop-number-preserved
 loop-number-preserved c =

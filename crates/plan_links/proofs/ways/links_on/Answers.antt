@@ -3,7 +3,7 @@ use Rattle.guppy_packages.specs.Tables.{Tables}
 use Rattle.guppy_packages.specs.declared.direction.DependencyDirection.TheVariants.{Forward}
 use Rattle.feature_core.specs.Built.{IsBuilt}
 use Rattle.plan_links.proofs.SpotLemmas.{ends_below, ends_once, spots_linked}
-use Rattle.plan_links.proofs.spot_links.links_on.Goals as goal
+use Rattle.plan_links.proofs.ways.links_on.Goals as goal
 
 pub links_between-requires-clause-below : goal.links_between-requires-clause-below
 links_between-requires-clause-below c =

@@ -4,7 +4,7 @@ use Rattle.plan_starts.specs.Lists.{joined_from}
 use Rattle.plan_units.specs.Units.{UnitText}
 use Rattle.plan_units.specs.UnitViews.{unit_text}
 use Rattle.plan_links.specs.inner.Starting.{starting, starts_at}
-use Rattle.plan_links.proofs.unit_links.roots_of.Given as goal
+use Rattle.plan_links.proofs.units.roots_of.Given as goal
 
 abbrev pub invariant-loop-number : goal.invariant-loop-number
 invariant-loop-number l =

@@ -1,7 +1,7 @@
 use Rattle.std.proofs.Common.{◌≡◌, ◌++◌, drop, map}
 use Rattle.plan_units.specs.UnitViews.{unit_text}
 use Rattle.plan_links.specs.inner.Pairs.{capped_entry}
-use Rattle.plan_links.proofs.unit_links.capped_entries.Given as goal
+use Rattle.plan_links.proofs.units.capped_entries.Given as goal
 
 abbrev pub invariant-loop-unit : goal.invariant-loop-unit
 invariant-loop-unit l =

@@ -2,7 +2,7 @@ use Rattle.std.proofs.Common.{arith}
 use Rattle.guppy_support.specs.Bits.{has}
 use Rattle.plan_links.specs.inner.Pairs.{counted_ends}
 use Rattle.plan_links.proofs.WayLemmas.{way_step}
-use Rattle.plan_links.proofs.spot_links.way_pairs.Goals as goal
+use Rattle.plan_links.proofs.ways.way_pairs.Goals as goal
 
 pub loop-number-preserved : goal.loop-number-preserved
 loop-number-preserved c =

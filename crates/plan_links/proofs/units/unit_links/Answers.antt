@@ -3,7 +3,7 @@ use Rattle.plan_starts.specs.PackageVisits.{PairVisit}
 use Rattle.plan_steps.specs.PlanViews.{plan_text}
 use Rattle.plan_units.specs.UnitViews.{unit_text}
 use Rattle.plan_links.proofs.UnitLemmas.{pairs_below, pairs_once, units_linked}
-use Rattle.plan_links.proofs.unit_links.unit_links.Goals as goal
+use Rattle.plan_links.proofs.units.unit_links.Goals as goal
 
 pub links_between-requires-clause-below : goal.links_between-requires-clause-below
 links_between-requires-clause-below c =
