@@ -1,8 +1,7 @@
 -- Tables with the index of each number.
-use Rattle.std.proofs.Common.{◌≡◌, ◌∙◌, ℕ, zero, suc, ◌+◌, ◌<◌, ◌≤◌, List, [], ◌∷◌, ◌++◌, take, length, replicate, Option, Some, None, refl, ap, ap₂, sym, subst, arith, if◌then◌else◌}
+use Rattle.std.proofs.Common.{◌≡◌, ◌∙◌, ℕ, suc, ◌+◌, ◌<◌, List, [], ◌∷◌, ◌++◌, take, Option, Some, None, refl, ap, ap₂, sym, arith, if◌then◌else◌}
 use Rattle.std.specs.Prelude.{◌==◌, flat_map, option_and_then, option_map, slice_get}
 use Rattle.std.specs.Option.{option_or}
-use Rattle.std.proofs.lemmas.List.{take_all}
 use Rattle.plan_links.specs.Links.{index_of}
 use Rattle.plan_links.specs.inner.Pairs.{AreBelow}
 use Rattle.plan_links.specs.inner.Places.{ArePlaces, both, noted, place_in}

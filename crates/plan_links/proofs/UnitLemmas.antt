@@ -1,8 +1,7 @@
 -- The links of the tables as those between units.
-use Rattle.std.proofs.Common.{◌≡◌, ◌∙◌, ℕ, zero, suc, ◌+◌, ◌-◌, ◌<◌, ◌≤◌, ◌^◌, Bool, true, false, List, [], ◌∷◌, ◌++◌, length, map, take, Option, Some, None, refl, ap, sym, subst, arith, if◌then◌else◌}
-use Rattle.std.specs.Prelude.{◌==◌, ◌↔◌, All, Contains, nat_lt, option_map, position, slice_get}
-use Rattle.std.specs.Option.{option_map_or}
-use Rattle.std.proofs.lemmas.Bool.{eqb-true, le-ltb, lt-ltb}
+use Rattle.std.proofs.Common.{◌≡◌, ◌∙◌, ℕ, zero, suc, ◌+◌, ◌-◌, ◌<◌, ◌≤◌, ◌^◌, Bool, true, false, List, [], ◌∷◌, ◌++◌, length, map, take, Some, None, refl, ap, sym, subst, arith, if◌then◌else◌}
+use Rattle.std.specs.Prelude.{◌==◌, All, Contains, nat_lt, position, slice_get}
+use Rattle.std.proofs.lemmas.Bool.{eqb-true}
 use Rattle.std.proofs.lemmas.Bool.Decides.{nat_tests}
 use Rattle.std.proofs.lemmas.List.{length-map, take_all}
 use Rattle.std.proofs.lemmas.Option.{slice_get-get_or}
@@ -14,8 +13,8 @@ use Rattle.plan_steps.specs.Plans.{PlanText}
 use Rattle.plan_units.specs.Units.{UnitText}
 use Rattle.step_visits.specs.Visits.{Visit, is_start, node_at}
 use Rattle.step_visits.proofs.Places.{none_past}
-use Rattle.plan_links.specs.Links.{ArePairsOf, index_of, indexes_of}
-use Rattle.plan_links.specs.UnitLinks.{AreUnitLinks, DependsOn, entries_of, entry_of, root_units}
+use Rattle.plan_links.specs.Links.{ArePairsOf, index_of}
+use Rattle.plan_links.specs.UnitLinks.{AreUnitLinks, DependsOn, entry_of, root_units}
 use Rattle.plan_links.specs.inner.Pairs.{AreBelow, Joins, capped, capped_entry}
 use Rattle.plan_links.specs.inner.Starting.{starting}
 use Rattle.plan_links.proofs.Indexes.{take_next}

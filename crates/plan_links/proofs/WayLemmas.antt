@@ -1,6 +1,6 @@
 -- The ways that count, and their ends.
-use Rattle.std.proofs.Common.{◌≡◌, ◌∙◌, ◌⊎◌, inl, inr, ⊎_elim, ℕ, zero, suc, ◌+◌, ◌<◌, Bool, true, false, ◌&&◌, ◌||◌, List, [], ◌∷◌, ◌++◌, length, map, drop, append_assoc, Some, refl, ap, sym, subst, arith, if◌then◌else◌}
-use Rattle.std.specs.Prelude.{All, AllPairs, Contains, IsTrue, flat_map, not, slice_get, slice_index_or}
+use Rattle.std.proofs.Common.{◌≡◌, ◌∙◌, inl, inr, ⊎_elim, ℕ, zero, suc, ◌+◌, ◌<◌, Bool, true, false, List, [], ◌∷◌, ◌++◌, length, drop, append_assoc, Some, refl, ap, sym, subst, arith, if◌then◌else◌}
+use Rattle.std.specs.Prelude.{All, AllPairs, Contains, slice_get, slice_index_or}
 use Rattle.std.specs.List.{AllByRecursion}
 use Rattle.std.proofs.lemmas.List.Elements.{All-append, All-from_recursion, Contains-append_cases}
 use Rattle.std.proofs.lemmas.Bool.{cases_lt}
@@ -12,12 +12,8 @@ use Rattle.feature_core.specs.Built.{ends_of}
 use Rattle.feature_core.specs.Pairs.{IsBefore}
 use Rattle.feature_core.specs.Ways.{way, ways}
 use Rattle.feature_links.specs.Facts.{EdgeFacts}
-use Rattle.walk_checks.specs.Tables.{IsEdge}
-use Rattle.walk_checks.specs.declared.table.TableEdge.{TableEdge}
-use Rattle.walk_engine.specs.Walks.{Content, EndsAreNodes, IsWay, Way, is_gated}
-use Rattle.walk_engine.specs.declared.walks.Ask.{Ask}
-use Rattle.walk_engine.specs.declared.walks.Ask.TheVariants as asks
-use Rattle.plan_links.specs.SpotLinks.{counts, is_followed}
+use Rattle.walk_engine.specs.Walks.{Content, EndsAreNodes, IsWay, Way}
+use Rattle.plan_links.specs.SpotLinks.{counts}
 use Rattle.plan_links.specs.inner.Pairs.{AreBelow, counted_ends, ends_if}
 use Rattle.plan_links.proofs.Joined.{first_once, later_once}
 

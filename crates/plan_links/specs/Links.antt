@@ -1,5 +1,5 @@
 -- Links as pairs of numbers.
-use Rattle.std.specs.Prelude.{◌↔◌, ◌==◌, ℕ, ◌+◌, List, [], ◌∷◌, Bool, Option, AllPairs, Contains, if◌then◌else◌, position}
+use Rattle.std.specs.Prelude.{◌↔◌, ◌==◌, ℕ, List, [], ◌∷◌, Bool, Option, AllPairs, Contains, if◌then◌else◌, position}
 use Rattle.feature_core.specs.Pairs.{IsBefore}
 use Rattle.plan_starts.specs.Lists.{joined_from}
 

@@ -1,5 +1,5 @@
 -- The index of each number, as a table.
-use Rattle.std.specs.Prelude.{◌≡◌, ℕ, ◌<◌, List, [], ◌∷◌, Bool, Option, Some, None, if◌then◌else◌, option_and_then, option_map, slice_get}
+use Rattle.std.specs.Prelude.{◌≡◌, ℕ, ◌<◌, List, [], ◌∷◌, Bool, Option, Some, None, if◌then◌else◌, option_and_then, slice_get}
 use Rattle.std.specs.Option.{option_or}
 use Rattle.plan_links.specs.Links.{index_of}
 
