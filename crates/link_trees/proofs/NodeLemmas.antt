@@ -1,9 +1,49 @@
 -- What is known of each node, after a change.
-use Rattle.std.proofs.Common.{◌≡◌, ◌∙◌, ap, sym, refl, subst, ℕ, zero, suc, ◌+◌, ◌<◌, ◌⊎◌, List, [], ◌∷◌, length, set, get_or, false, cond, not, ◌||◌, nat_eq, inl, inr, arith, le_of_suc-le-suc, not-suc-le-zero}
+use Rattle.std.proofs.Common.{◌≡◌, ◌∙◌, ap, sym, refl, subst, ℕ, zero, suc, ◌+◌, ◌<◌, ◌≤◌, ◌⊎◌, List, [], ◌∷◌, ◌++◌, map, filter, length, take, set, get_or, Bool, true, false, cond, not, ◌||◌, nat_eq, inl, inr, arith, le_of_suc-le-suc, not-suc-le-zero}
 use Rattle.std.proofs.lemmas.Bool.{cases_eq, eq-eqb, ne_eqb}
-use Rattle.link_trees.specs.Branches.{is_empty}
-use Rattle.link_trees.specs.inner.Nodes.{TakesEnds, ends_at, shown_at, total}
+use Rattle.std.proofs.lemmas.List.{length_push, map-append}
+use Rattle.std.proofs.lemmas.List.Elements.{filter_more}
+use Rattle.link_trees.specs.Branches.{ends_of, is_empty}
+use Rattle.link_trees.specs.inner.Nodes.{AreSame, TakesEnds, ends_at, shown_at, total}
 use Rattle.link_trees.specs.declared.nodes.Node.{Node}
+
+ends_push : (nodes : List Node) (n : Node) (k : ℕ) → n.ends.items ≡ [] → ends_at (nodes ++ n ∷ []) k ≡ ends_at nodes k
+ends_push [] n zero h = h
+ends_push [] n (suc k) h = refl
+ends_push (m ∷ ms) n zero h = refl
+ends_push (m ∷ ms) n (suc k) h = ends_push ms n k h
+
+shown_push : (nodes : List Node) (n : Node) (k : ℕ) → n.is_shown ≡ false → shown_at (nodes ++ n ∷ []) k ≡ shown_at nodes k
+shown_push [] n zero h = h
+shown_push [] n (suc k) h = refl
+shown_push (m ∷ ms) n zero h = refl
+shown_push (m ∷ ms) n (suc k) h = shown_push ms n k h
+
+-- a node without links was appended
+pub same_push : (first nodes new : List Node) (n : Node) → AreSame first nodes → new ≡ nodes ++ n ∷ [] → n.ends.items ≡ [] → n.is_shown ≡ false → AreSame first new
+same_push first nodes new n same is none hidden = record {
+  ends = λ k. ap (λ z. ends_at z k) is ∙ ends_push nodes n k none ∙ same.ends k;
+  shown = λ k. ap (λ z. shown_at z k) is ∙ shown_push nodes n k hidden ∙ same.shown k;
+}
+
+pub length_more : (i : ℕ) (nodes new : List Node) (n : Node) → i ≤ length nodes → new ≡ nodes ++ n ∷ [] → i + 1 ≤ length new
+length_more i nodes new n h is = let e : length new ≡ length nodes + 1 = ap length is ∙ length_push nodes n in omega arith
+
+ends_more : (links : List (ℕ × ℕ)) (i : ℕ) (d : ℕ × ℕ) (node : ℕ) → i < length links
+    → ends_of (take i links) node ++ cond (nat_eq (get_or links i d).0 node) ((get_or links i d).1 ∷ []) [] ≡ ends_of (take (i + 1) links) node
+ends_more links i d node h = sym (
+    ap (map (λ l. l.1)) (filter_more (λ l. nat_eq l.0 node) links i d h)
+    ∙ map-append (λ l. l.1) (filter (λ l. nat_eq l.0 node) (take i links)) (cond (nat_eq (get_or links i d).0 node) (get_or links i d ∷ []) [])
+    ∙ ap (λ z. ends_of (take i links) node ++ z) (one (nat_eq (get_or links i d).0 node)))
+  where
+    one : (b : Bool) → map (λ l. l.1) (cond b (get_or links i d ∷ []) []) ≡ cond b ((get_or links i d).1 ∷ []) []
+    one true = refl
+    one false = refl
+
+-- one more link was added
+pub ends_added : (links : List (ℕ × ℕ)) (i : ℕ) (d : ℕ × ℕ) (node : ℕ) (old new : List ℕ) → i < length links → old ≡ ends_of (take i links) node
+    → new ≡ old ++ cond (nat_eq (get_or links i d).0 node) ((get_or links i d).1 ∷ []) [] → new ≡ ends_of (take (i + 1) links) node
+ends_added links i d node old new h was is = is ∙ ap (λ z. z ++ cond (nat_eq (get_or links i d).0 node) ((get_or links i d).1 ∷ []) []) was ∙ ends_more links i d node h
 
 -- a look-up after a write
 at_same : {A : Type 0} (f : List Node → ℕ → A) (g : Node → A) → ((m : Node) (ms : List Node) → f (m ∷ ms) zero ≡ g m) → ((m : Node) (ms : List Node) (k : ℕ) → f (m ∷ ms) (suc k) ≡ f ms k)

@@ -1,13 +1,14 @@
 -- The order of pairs.
-use Rattle.std.proofs.Common.{arith, ℕ, ◌<◌, ◌≤◌, ◌⊎◌, inl, inr, ⊎_elim, ◌≡◌, Bool, true, false, List, IsSorted, AllPairs, refl, cond}
+use Rattle.std.proofs.Common.{arith, ℕ, ◌<◌, ◌≤◌, ◌⊎◌, inl, inr, ⊎_elim, ◌≡◌, Bool, true, false, List, IsSorted, AllPairs, refl, cond, ◌∙◌, ap, sym, ◌+◌, [], ◌∷◌, ◌++◌, map, take, length, get_or}
 use Rattle.std.specs.Cmp.{IsTotalOrder, nat_cmp_total, on_total, then_total}
 use Rattle.std.specs.Ordering.{is_lt, nat_cmp, ordering_then}
 use Rattle.std.specs.Prelude.{nat_lt, ◌==◌, slice_index_or}
 use Rattle.std.specs.declared.cmp.Ordering.{Ordering}
 use Rattle.std.specs.declared.cmp.Ordering.TheVariants.{Less, Equal, Greater}
 use Rattle.std.proofs.lemmas.Bool.Decides.{nat_tests}
+use Rattle.std.proofs.lemmas.List.{map-append, take_more}
 use Rattle.std.proofs.lemmas.List.Sorted.{sorted_far, ranks_by}
-use Rattle.link_trees.specs.Reversals.{IsNoLater}
+use Rattle.link_trees.specs.Reversals.{IsNoLater, turned}
 
 -- by the first numbers, and then by the second
 abbrev pub pair_cmp : ℕ × ℕ → ℕ × ℕ → Ordering
@@ -49,3 +50,9 @@ pair_total = then_total (on_total (λ (t : ℕ × ℕ). t.0) nat_cmp_total) (on_
 
 pub all_up : (links : List (ℕ × ℕ)) → IsSorted pair_cmp links → AllPairs IsNoLater links
 all_up links s i j d l m = up_from (slice_index_or links i d) (slice_index_or links j d) (sorted_far (λ x y. is_lt (pair_cmp x y)) (ranks_by pair_total (λ x. x)) links s i j d (omega arith) m)
+
+-- one more link was turned round
+pub turned_more : (links : List (ℕ × ℕ)) (i : ℕ) (d : ℕ × ℕ) (old new : List (ℕ × ℕ)) → i < length links → old ≡ map turned (take i links) → new ≡ old ++ turned (get_or links i d) ∷ [] → new ≡ map turned (take (i + 1) links)
+turned_more links i d old new h was is =
+    is ∙ ap (λ z. z ++ turned (get_or links i d) ∷ []) was
+    ∙ sym (ap (map turned) (take_more links i d h) ∙ map-append turned (take i links) (get_or links i d ∷ []))
