@@ -44,13 +44,13 @@ abbrev pub StepsFrom : ℕ → List Branch → Type 0
 StepsFrom depth [] = ⊤
 StepsFrom depth (b ∷ after) = (b.depth ≤ depth) × StepsFrom (b.depth + 1) after
 
--- The branches are those of trees, each under its root.
+-- The branches are those of trees: each is under the nearest branch before it that is one level up, and `is_last` says whether its level ends.
 pub record AreTrees (branches : List Branch) : Type 0 where
   pub steps : StepsFrom 0 branches
   pub is_last : (before after : List Branch) (b : Branch) → branches ≡ before ++ b ∷ after → b.is_last ≡ not (goes_on b.depth after)
 
--- The branch is right between the branches before it and those after it: below it are the ends of its node's links, each once and in
--- order, unless they are shown above it already or are too deep.
+-- The branch is right between the branches before it and those after it: one level below it are the ends of its node's links, in order,
+-- unless they are shown above it already or are too deep.
 pub record IsRight (links : List (ℕ × ℕ)) (limit : Option ℕ) (before : List Branch) (b : Branch) (after : List Branch) : Type 0 where
   pub children : children b.depth after ≡ shown_ends links limit before b.node b.depth
   pub is_again : b.is_again ≡ (is_expanded_in limit before b.node && not (is_empty (ends_of links b.node)))

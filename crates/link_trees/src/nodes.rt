@@ -38,7 +38,7 @@ fn add_link(alloc: Global, nodes: &mut Vec<Node>, from: usize, to: usize) -> Res
     Ok(())
 }
 
-/// Returns the nodes with `links`.
+/// Returns the nodes with `links`: as many as the greatest start of a link needs.
 pub(crate) fn nodes_of(alloc: Global, links: &[(usize, usize)]) -> Result<Vec<Node>, AllocError>
     ensures ends { IfOk result (λ nodes. (node : ℕ) → spec.ends_at nodes.items node ≡ ends_of links.now node) }
     ensures shown { IfOk result (λ nodes. (node : ℕ) → spec.shown_at nodes.items node ≡ false) }

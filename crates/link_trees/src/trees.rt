@@ -74,7 +74,8 @@ fn show(
 
 /// Returns the branches of the trees of `roots`, in the order in which `cargo tree` prints them. Below a branch are the ends of its node's
 /// links, in the order of `links`; if they are shown below an earlier branch, they aren't shown again. With a `limit` no branch is
-/// deeper: 1 shows the roots and the ends of their links. A node whose first branch is at the limit is expanded at a later branch that isn't.
+/// deeper: 1 shows the roots and the ends of their links. A node whose first branch is at the limit is expanded at its first branch above
+/// the limit. Memory grows with the greatest start of a link.
 pub fn branches(
     alloc: Global,
     links: &[(usize, usize)],
