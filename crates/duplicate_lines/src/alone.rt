@@ -22,15 +22,15 @@ fn push_row<'u, 'v, 'w>(
 ) -> Result<(), AllocError>
     ensures { OnOk result (map shown_text shown.new.items ≡ map shown_text shown.old.items ++ spec.row_at (map package_text packages.now) place.now (package_text «package».now) (member_unit_text row.entry)) }
 {
-    match packages.get(row.member) {
-        Some(member) => shown.push(Shown::Alone {
+    if let Some(member) = packages.get(row.member) {
+        shown.push(Shown::Alone {
             package,
             place,
             member,
             features: &row.unit.features,
-        }),
-        None => Ok(()),
+        })?;
     }
+    Ok(())
 }
 
 /// Appends the lines of `package`, as each of `rows` builds it for `place`.

@@ -19,10 +19,10 @@ fn push_version<'u, 'v, 'w>(
 ) -> Result<(), AllocError>
     ensures { OnOk result (map shown_text shown.new.items ≡ map shown_text shown.old.items ++ spec.version_at (map package_text packages.now) number) }
 {
-    match packages.get(number) {
-        Some(package) => shown.push(Shown::Version { package }),
-        None => Ok(()),
+    if let Some(package) = packages.get(number) {
+        shown.push(Shown::Version { package })?;
     }
+    Ok(())
 }
 
 /// Appends the lines of packages with these numbers.
