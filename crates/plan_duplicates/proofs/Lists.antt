@@ -1,5 +1,5 @@
 -- Steps of loops over lists.
-use Rattle.std.proofs.Common.{◌≡◌, ℕ, suc, ◌+◌, ◌<◌, List, [], ◌∷◌, ◌++◌, Bool, true, false, cond, length, map, filter, drop, get_or, refl, ap, sym, ◌∙◌, add-one, drop-cons, append_assoc}
+use Rattle.std.proofs.Common.{◌≡◌, ℕ, suc, ◌+◌, ◌<◌, List, [], ◌∷◌, ◌++◌, Bool, true, false, cond, length, map, filter, drop, get_or, refl, ap, sym, ◌∙◌, add-one, drop-cons, append_assoc, arith}
 use Rattle.std.specs.List.{AllByRecursion}
 use Rattle.std.proofs.lemmas.List.{append-nil, map-append}
 use Rattle.plan_starts.specs.Lists.{joined_from}
@@ -15,6 +15,20 @@ joined_more g f xs i x all so_far new within is so grown =
     let rest = joined_from f (i + 1) (map g (drop (i + 1) xs)) in
     so ∙ ap (λ ys. so_far ++ joined_from f i (map g ys)) (cut_at xs i x within is)
     ∙ sym (append_assoc so_far (f i (g x)) rest)
+    ∙ ap (λ z. z ++ rest) (sym grown)
+
+-- the rest of a list from a place on
+rest_at : {X : Type 0} (xs : List X) (i : ℕ) → i < length xs → (x : X) × (drop i xs ≡ x ∷ drop (i + 1) xs)
+rest_at [] i within = absurd (omega arith)
+rest_at (y ∷ ys) i within = (get_or (y ∷ ys) i y, rw (add-one) (drop-cons (y ∷ ys) i y within))
+
+-- one more place, and what is joined for its number
+pub numbered_more : {X Y Z : Type 0} (g : X → Y) (f : ℕ → List Z) (xs : List X) (i : ℕ) (all so_far new : List Z) → i < length xs
+    → all ≡ so_far ++ joined_from (λ k y. f k) i (map g (drop i xs)) → new ≡ so_far ++ f i → all ≡ new ++ joined_from (λ k y. f k) (i + 1) (map g (drop (i + 1) xs))
+numbered_more g f xs i all so_far new within so grown =
+    let rest = joined_from (λ k y. f k) (i + 1) (map g (drop (i + 1) xs)) in
+    so ∙ ap (λ ys. so_far ++ joined_from (λ k y. f k) i (map g ys)) (rest_at xs i within).1
+    ∙ sym (append_assoc so_far (f i) rest)
     ∙ ap (λ z. z ++ rest) (sym grown)
 
 kept_or_not : {Y : Type 0} (b : Bool) (y : Y) (rest : List Y) → cond b (y ∷ rest) rest ≡ cond b (y ∷ []) [] ++ rest
