@@ -1,8 +1,8 @@
 //! What is built several times, as lines in columns or as JSON objects.
 #![tactic(auto)]
 
-mod all_shown;
 mod alone;
+mod gathered;
 mod joined;
 mod listed;
 mod manifest_lines;
@@ -12,7 +12,7 @@ mod rows;
 mod shown;
 mod table;
 
-pub use all_shown::all_shown;
+pub use gathered::all_shown;
 pub use objects::duplicate_objects;
 pub use shown::Shown;
 pub use table::duplicate_lines;

@@ -2,6 +2,7 @@
 use Rattle.std.specs.Prelude.{◌≡◌, ℕ, List, [], Bool, length, nat_lt}
 use Rattle.std.specs.Borrow.{Bor}
 use Rattle.std.specs.BTreeMap.{BTreeMap, get_by}
+use Rattle.std.specs.Cmp.Lexicographic.{slice_cmp}
 use Rattle.std.specs.Global.{Vec}
 use Rattle.std.specs.Option.{option_map_or}
 use Rattle.std.specs.Ordering.{nat_cmp}
@@ -16,7 +17,7 @@ group_at groups q = option_map_or (λ g. g.items) (get_by (nat_cmp q) groups) []
 
 -- The numbers of a name; empty if there are none.
 abbrev pub named : BTreeMap (Bor Text) (Vec ℕ) → Text → List ℕ
-named names q = option_map_or (λ g. g.items) (get_by (λ k. text_cmp q k.now) names) []
+named names q = option_map_or (λ g. g.items) (get_by (λ k. slice_cmp nat_cmp q k.now) names) []
 
 -- The order of a map's keys.
 abbrev pub key_cmp : Bor Text → Bor Text → Ordering
