@@ -1,15 +1,13 @@
 -- Spots of packages that are marked.
-use Rattle.std.proofs.Common.{◌≡◌, ℕ, ◌<◌, List, [], ◌∷◌, Bool, true, false, cond, ◌&&◌, refl, ap, sym, ◌∙◌, filter}
+use Rattle.std.proofs.Common.{◌≡◌, ℕ, ◌<◌, List, [], ◌∷◌, Bool, true, false, cond, ◌&&◌, refl, ap, subst, ◌∙◌, filter}
 use Rattle.std.specs.Prelude.{Result, Ok, Err, IfOk, nat_eq, nat_lt}
 use Rattle.std.specs.Borrow.{Bor}
 use Rattle.std.specs.List.{list_any}
 use Rattle.std.proofs.lemmas.Bool.{ltb-true}
 use Rattle.feature_labels.specs.Names.{LabelName}
-use Rattle.plan_names.specs.Names.{NamedText}
-use Rattle.plan_rows.specs.Steps.{is_host}
 use Rattle.plan_rows.specs.declared.side.Side.{Side}
 use Rattle.plan_rows.specs.declared.side.Side.TheVariants.{Host, Target}
-use Rattle.plan_starts.specs.PackageVisits.{PairVisit, is_on, reaches_at}
+use Rattle.plan_starts.specs.PackageVisits.{PairVisit, is_on}
 use Rattle.plan_whys.specs.Steps.{SpotText}
 use Rattle.policy_checks.specs.Builds.{BuildText, built_for}
 use Rattle.policy_checks.specs.Spots.{is_spot_on, is_spot_on_for}
@@ -47,6 +45,19 @@ passes_is b triple target host t h s = go (is_spot_on b s) refl
     go false e = refl
 
 -- the spots that pass by marks are those that are on for the platform
-pub marked_spots : (b : BuildText) (triple : List ℕ) (target host : List Bool) (spots : List SpotText) → Marks b.plan.on.count target (built_for b triple Target) → Marks b.plan.on.count host (built_for b triple Host)
+marked_spots : (b : BuildText) (triple : List ℕ) (target host : List Bool) (spots : List SpotText) → Marks b.plan.on.count target (built_for b triple Target) → Marks b.plan.on.count host (built_for b triple Host)
     → filter (λ (s : SpotText). is_spot_on b s && is_marked target host s) spots ≡ filter (is_spot_on_for b triple) spots
 marked_spots b triple target host spots t h = filter_same _ _ (passes_is b triple target host t h) spots
+
+-- and so are those of a call
+pub for_platform : {V E : Type 0} (r : Result V E) (view : V → List SpotText) (b : BuildText) (triple : List ℕ) (on : PairVisit) (count : ℕ) (t h : Bor (List Bool)) (target host : List Bool) (spots : List SpotText)
+    → on ≡ b.plan.on → count ≡ on.count → t.now ≡ target → h.now ≡ host → Marks count target (built_for b triple Target) → Marks count host (built_for b triple Host)
+    → IfOk r (λ v. view v ≡ filter (passes on (Marked t h)) spots) → IfOk r (λ v. view v ≡ filter (is_spot_on_for b triple) spots)
+for_platform (Ok v) view b triple on count t h target host spots is_on counts is_t is_h marks_t marks_h e =
+    let same : count ≡ b.plan.on.count = counts ∙ ap (λ (o : PairVisit). o.count) is_on in
+    e
+    ∙ ap (λ (o : PairVisit). filter (passes o (Marked t h)) spots) is_on
+    ∙ ap (λ (l : List Bool). filter (λ (s : SpotText). is_spot_on b s && is_marked l h.now s) spots) is_t
+    ∙ ap (λ (l : List Bool). filter (λ (s : SpotText). is_spot_on b s && is_marked target l s) spots) is_h
+    ∙ marked_spots b triple target host spots (subst (λ (n : ℕ). Marks n target (built_for b triple Target)) same marks_t) (subst (λ (n : ℕ). Marks n host (built_for b triple Host)) same marks_h)
+for_platform (Err x) view b triple on count t h target host spots is_on counts is_t is_h marks_t marks_h e = tt

@@ -1,5 +1,5 @@
 -- A build that a policy is about.
-use Rattle.std.specs.Prelude.{ℕ, List, ◌∷◌, Bool, true, false, not, map, filter, slice_get, unwrap_or, ◌&&◌}
+use Rattle.std.specs.Prelude.{ℕ, List, [], ◌∷◌, Bool, not, map, filter, slice_get, unwrap_or, ◌&&◌, if◌then◌else◌}
 use Rattle.std.specs.List.{list_any}
 use Rattle.std.specs.Str.{bytes_eq}
 use Rattle.cargo_workspaces.specs.Workspaces.{PackageText, Text}

@@ -1,13 +1,13 @@
 -- What is found of a rule in a build.
-use Rattle.std.specs.Prelude.{ℕ, List, [], ◌∷◌, Bool, Option, Some, None, Result, Ok, Err, filter, map, length, nat_eq, nat_lt, if◌then◌else◌}
+use Rattle.std.specs.Prelude.{ℕ, List, [], ◌∷◌, Option, Some, None, filter, map, length, nat_eq, nat_lt, if◌then◌else◌}
 use Rattle.std.specs.List.{list_any}
 use Rattle.cargo_workspaces.specs.Workspaces.{Text}
-use Rattle.plan_names.specs.Faults.{NameRefusal, out_of_memory, parts_named, several, unknown}
 use Rattle.plan_names.specs.Names.{NamedText, of_package, whole}
 use Rattle.plan_whys.specs.Steps.{SpotText}
 use Rattle.plan_words.specs.PackageWords.{packages_of_word}
 use Rattle.policies.specs.Rules.{KindText, deny, deny_duplicates, require}
 use Rattle.policy_checks.specs.Builds.{BuildText, built, is_platform}
+use Rattle.policy_checks.specs.Meanings.{MeaningText, meaning_in, one_of, these}
 use Rattle.policy_checks.specs.Spots.{spots_on, spots_on_for}
 
 -- A rule is kept; or it is broken, for a deny at these spots; or its word has several meanings; or its triple is that of no platform of
@@ -18,15 +18,10 @@ pub data FoundText : Type 0 where
   ambiguous : Text → List NamedText → FoundText
   no_platform : Text → FoundText
 
--- What is found of the parts that a word names: none, if it names nothing.
-abbrev pub of_parts : (List NamedText → FoundText) → Result (List NamedText) NameRefusal → FoundText
-of_parts found (Ok parts) = found parts
-of_parts found (Err (unknown word)) = found []
-of_parts found (Err (several word candidates)) = ambiguous word candidates
-of_parts found (Err out_of_memory) = found []
-
-abbrev pub of_word : BuildText → (List NamedText → FoundText) → Text → FoundText
-of_word b found word = of_parts found (parts_named b.packages b.selected word)
+-- What is found of what a word means.
+abbrev pub of_meaning : (List NamedText → FoundText) → MeaningText → FoundText
+of_meaning found (these parts) = found parts
+of_meaning found (one_of word candidates) = ambiguous word candidates
 
 -- A deny is broken at the spots where it is, if there are any.
 abbrev pub denied_at : List SpotText → FoundText
@@ -38,16 +33,24 @@ abbrev pub required_at : List SpotText → FoundText
 required_at [] = broken []
 required_at (s ∷ spots) = kept
 
--- `deny FEATURE`, `deny FEATURE on TRIPLE` and `require FEATURE`.
+-- `deny FEATURE` and `deny FEATURE on TRIPLE`.
 abbrev pub denied : BuildText → Text → FoundText
-denied b word = of_word b (λ parts. denied_at (spots_on b parts)) word
+denied b word = of_meaning (λ parts. denied_at (spots_on b parts)) (meaning_in b word)
+
+abbrev pub denied_for : BuildText → Text → Text → FoundText
+denied_for b word triple = of_meaning (λ parts. denied_at (spots_on_for b triple parts)) (meaning_in b word)
 
 abbrev pub denied_on : BuildText → Text → Text → FoundText
 denied_on b word triple =
-    if is_platform b triple then of_word b (λ parts. denied_at (spots_on_for b triple parts)) word else no_platform triple
+    if is_platform b triple then denied_for b word triple else no_platform triple
 
+abbrev pub denied_where : BuildText → Text → Option Text → FoundText
+denied_where b word None = denied b word
+denied_where b word (Some triple) = denied_on b word triple
+
+-- `require FEATURE`.
 abbrev pub required : BuildText → Text → FoundText
-required b word = of_word b (λ parts. required_at (spots_on b parts)) word
+required b word = of_meaning (λ parts. required_at (spots_on b parts)) (meaning_in b word)
 
 -- Packages that are among those that are built.
 abbrev pub built_among : BuildText → List ℕ → List ℕ
@@ -63,7 +66,6 @@ abbrev pub duplicates_denied : BuildText → Text → FoundText
 duplicates_denied b word = denied_if_several b (built_among b (packages_of_word b.packages word))
 
 abbrev pub found_of : BuildText → KindText → FoundText
-found_of b (deny word None) = denied b word
-found_of b (deny word (Some triple)) = denied_on b word triple
+found_of b (deny word on) = denied_where b word on
 found_of b (require word) = required b word
 found_of b (deny_duplicates word) = duplicates_denied b word

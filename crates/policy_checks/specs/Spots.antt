@@ -1,5 +1,5 @@
 -- The spots of parts of packages: each part on each side.
-use Rattle.std.specs.Prelude.{List, [], ◌∷◌, ◌&&◌, Bool, nat_eq, filter, flat_map}
+use Rattle.std.specs.Prelude.{List, [], ◌∷◌, Bool, ◌&&◌, nat_eq, filter, flat_map}
 use Rattle.std.specs.List.{list_any}
 use Rattle.cargo_workspaces.specs.Workspaces.{Text}
 use Rattle.feature_labels.specs.Names.{LabelName}

@@ -4,7 +4,7 @@ ghost use Rattle.policies.specs.Views.{rule_text};
 ghost use Rattle.policy_checks.specs.Checks as spec;
 ghost use Rattle.policy_checks.specs.Found.{found_of};
 ghost use Rattle.policy_checks.specs.Views.{build_text, refusal_text, verdict_text};
-ghost use Rattle.policy_checks.specs.inner.Meanings.{found_text};
+ghost use Rattle.policy_checks.specs.inner.Returned.{found_text};
 ghost use Rattle.policy_checks.specs.inner.Verdicts.{Adds, IsRefusal};
 
 use crate::build::Build;

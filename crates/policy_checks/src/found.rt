@@ -1,15 +1,15 @@
 //! What is found of a rule.
-ghost use Rattle.std.specs.Prelude.{◌≡◌, IfOk, filter, map, nat_eq};
+ghost use Rattle.std.specs.Prelude.{◌≡◌, IfOk, map, nat_eq, option_map};
 ghost use Rattle.std.specs.List.{list_any};
 ghost use Rattle.plan_names.specs.Names.{of_package, whole};
 ghost use Rattle.plan_names.specs.Views.{named_text};
 ghost use Rattle.plan_units.specs.UnitViews.{unit_text};
 ghost use Rattle.plan_whys.specs.StepViews.{spot_text};
 ghost use Rattle.policies.specs.Views.{kind_text};
+ghost use Rattle.policy_checks.specs.Builds.{built};
 ghost use Rattle.policy_checks.specs.Found as spec;
-ghost use Rattle.policy_checks.specs.Spots.{spots_on_for};
 ghost use Rattle.policy_checks.specs.Views.{build_text};
-ghost use Rattle.policy_checks.specs.inner.Meanings.{found_text};
+ghost use Rattle.policy_checks.specs.inner.Returned.{found_text};
 
 use crate::build::Build;
 use crate::meaning::{Meaning, meaning_of};
@@ -80,7 +80,7 @@ fn denied_for<'b>(
     word: &'b str,
     triple: &str,
 ) -> Result<Found<'b>, AllocError>
-    ensures { IfOk result (λ found. found_text found ≡ spec.of_word (build_text build.entry) (λ parts. spec.denied_at (spots_on_for (build_text build.entry) triple.now parts)) word.now) }
+    ensures { IfOk result (λ found. found_text found ≡ spec.denied_for (build_text build.entry) word.now triple.now) }
 {
     match meaning_of(alloc, build, word)? {
         Meaning::Parts(parts) => Ok(denied_at(spots_on_for(alloc, build, triple, &parts)?)),
@@ -104,6 +104,21 @@ fn denied_on<'b>(
     }
 }
 
+/// Returns what is found of `deny` with this word, on the platform `on` if there is one.
+fn denied_where<'b>(
+    alloc: Global,
+    build: Build<'b, '_, '_, '_>,
+    word: &'b str,
+    on: Option<&'b str>,
+) -> Result<Found<'b>, AllocError>
+    ensures { IfOk result (λ found. found_text found ≡ spec.denied_where (build_text build.entry) word.now (option_map (λ t. t.now) on.entry)) }
+{
+    match on {
+        None => denied(alloc, build, word),
+        Some(triple) => denied_on(alloc, build, word, triple),
+    }
+}
+
 /// Returns what is found of `require` with this word.
 fn required<'b>(
     alloc: Global,
@@ -122,7 +137,7 @@ fn required<'b>(
 }
 
 /// Returns whether package `number` is that of one of `units`.
-fn is_built(units: &[Unit<'_>], number: usize) -> bool
+fn is_among(units: &[Unit<'_>], number: usize) -> bool
     ensures { result ≡ list_any (nat_eq number) (map (λ u. u.number) (map unit_text units.now)) }
 {
     for unit in units {
@@ -133,17 +148,24 @@ fn is_built(units: &[Unit<'_>], number: usize) -> bool
     false
 }
 
-/// Returns those of the packages `numbers` that `units` have.
+/// Returns whether package `number` is built.
+fn is_built(build: Build<'_, '_, '_, '_>, number: usize) -> bool
+    ensures { result ≡ list_any (nat_eq number) (built (build_text build.entry)) }
+{
+    is_among(build.plan.units(), number)
+}
+
+/// Returns those of the packages `numbers` that are built.
 fn built_among(
     alloc: Global,
-    units: &[Unit<'_>],
+    build: Build<'_, '_, '_, '_>,
     numbers: &[usize],
 ) -> Result<Vec<usize>, AllocError>
-    ensures { IfOk result (λ among. among.items ≡ filter (λ p. list_any (nat_eq p) (map (λ u. u.number) (map unit_text units.now))) numbers.now) }
+    ensures { IfOk result (λ among. among.items ≡ spec.built_among (build_text build.entry) numbers.now) }
 {
     let mut among = Vec::new(alloc);
     for number in numbers {
-        if is_built(units, *number) {
+        if is_built(build, *number) {
             among.push(*number)?;
         }
     }
@@ -189,7 +211,7 @@ fn duplicates_denied<'b>(
     ensures { IfOk result (λ found. found_text found ≡ spec.duplicates_denied (build_text build.entry) word.now) }
 {
     let numbers = packages_of_word(alloc, build.workspace, word)?;
-    let among = built_among(alloc, build.plan.units(), &numbers)?;
+    let among = built_among(alloc, build, &numbers)?;
     denied_if_several(alloc, build, &among)
 }
 
@@ -202,11 +224,7 @@ pub(crate) fn found_of<'b>(
     ensures { IfOk result (λ found. found_text found ≡ spec.found_of (build_text build.entry) (kind_text kind.entry)) }
 {
     match kind {
-        RuleKind::Deny { feature, on: None } => denied(alloc, build, feature),
-        RuleKind::Deny {
-            feature,
-            on: Some(triple),
-        } => denied_on(alloc, build, feature, triple),
+        RuleKind::Deny { feature, on } => denied_where(alloc, build, feature, on),
         RuleKind::Require { feature } => required(alloc, build, feature),
         RuleKind::DenyDuplicates { spec } => duplicates_denied(alloc, build, spec),
     }

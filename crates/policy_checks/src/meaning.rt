@@ -1,8 +1,10 @@
 //! What the words of rules mean.
-ghost use Rattle.std.specs.Prelude.{IfOk, Err};
-ghost use Rattle.plan_names.specs.Faults.{parts_named, refusal_of};
+ghost use Rattle.std.specs.Prelude.{◌≡◌, Err, IfOk, List, Result};
+ghost use Rattle.plan_names.specs.Faults.{IfNotMemory, NameRefusal, refusal_of};
+ghost use Rattle.plan_names.specs.Names.{NamedText};
+ghost use Rattle.policy_checks.specs.Meanings as spec;
 ghost use Rattle.policy_checks.specs.Views.{build_text};
-ghost use Rattle.policy_checks.specs.inner.Meanings.{IsMeaning};
+ghost use Rattle.policy_checks.specs.inner.Returned.{meaning_text};
 
 use crate::build::Build;
 use plan_names::{NameFault, Named, parts_named};
@@ -20,9 +22,9 @@ pub(crate) enum Meaning<'w> {
     },
 }
 
-/// Returns the meaning of a word that doesn't name what is wanted.
+/// Returns the meaning of a word that has this fault.
 fn meaning_by<'w>(alloc: Global, fault: NameFault<'w>) -> Result<Meaning<'w>, AllocError>
-    ensures { IfOk result (IsMeaning (Err (refusal_of fault.entry))) }
+    ensures { (given : Result (List NamedText) NameRefusal) → IfNotMemory (refusal_of fault.entry) (given ≡ Err (refusal_of fault.entry)) → IfOk result (λ meaning. meaning_text meaning ≡ spec.meaning_of given) }
 {
     match fault {
         NameFault::Unknown { word: _ } => Ok(Meaning::Parts(Vec::new(alloc))),
@@ -37,7 +39,7 @@ pub(crate) fn meaning_of<'b>(
     build: Build<'b, '_, '_, '_>,
     word: &'b str,
 ) -> Result<Meaning<'b>, AllocError>
-    ensures { IfOk result (IsMeaning (parts_named (build_text build.entry).packages (build_text build.entry).selected word.now)) }
+    ensures { IfOk result (λ meaning. meaning_text meaning ≡ spec.meaning_in (build_text build.entry) word.now) }
 {
     match parts_named(alloc, build.workspace, build.selected, word) {
         Ok(named) => Ok(Meaning::Parts(named)),

@@ -1,11 +1,11 @@
 -- A deny that is kept where more is on.
-use Rattle.std.proofs.Common.{◌≡◌, ℕ, List, [], ◌∷◌, Bool, true, false, cond, ◌&&◌, ◌||◌, refl, ap, sym, subst, ◌∙◌, filter, flat_map, map, Result, Ok, Err}
+use Rattle.std.proofs.Common.{◌≡◌, ℕ, List, [], ◌∷◌, Bool, true, false, cond, ◌&&◌, ◌||◌, refl, ap, sym, subst, ◌∙◌, filter, flat_map, map}
 use Rattle.std.specs.Prelude.{nat_eq, Contains, slice_get, unwrap_or}
 use Rattle.std.specs.List.{Any, list_any}
 use Rattle.std.specs.Str.{bytes_eq}
 use Rattle.std.proofs.lemmas.List.Folds.{Any-from_list_any, list_any_at}
 use Rattle.cargo_workspaces.specs.Workspaces.{IsWorkspace, PackageText, Text, WorkspaceText}
-use Rattle.plan_names.specs.Faults.{NameRefusal, out_of_memory, parts_named, several, unknown}
+use Rattle.plan_names.specs.Faults.{parts_named}
 use Rattle.plan_names.specs.Names.{NamedText}
 use Rattle.plan_rows.specs.declared.side.Side.{Side}
 use Rattle.plan_units.specs.Units.{UnitText}
@@ -16,7 +16,8 @@ use Rattle.cargo_plans.specs.Plans.{IsPlanOf, WordsText}
 use Rattle.plan_laws.specs.Widening.{IsCovered, IsOnIn, IsWidest, WidestTurnsAllOn}
 use Rattle.plan_whys.specs.Steps.{SpotText}
 use Rattle.policy_checks.specs.Builds.{BuildText, built_for, has_side, is_built_for, is_platform, triple_of}
-use Rattle.policy_checks.specs.Found.{FoundText, denied, denied_at, denied_on, kept, no_platform, of_parts}
+use Rattle.policy_checks.specs.Found.{FoundText, denied, denied_at, denied_for, denied_on, kept, no_platform, of_meaning}
+use Rattle.policy_checks.specs.Meanings.{MeaningText, meaning_in, meaning_of, one_of, these}
 use Rattle.policy_checks.specs.Spots.{is_spot_on, is_spot_on_for, on_both_sides, spots_on, spots_on_for}
 use Rattle.policy_laws.specs.EveryChoice.{AreBuilds, HasNoMoreBuilt, HasNoMoreOn, NoChoiceBreaksDeny, NoChoiceBreaksDenyForPlatform}
 
@@ -34,23 +35,23 @@ none_at : (spots : List SpotText) → denied_at spots ≡ kept → spots ≡ []
 none_at [] e = refl
 none_at (s ∷ spots) e = cc
 
--- what is found of parts, by spots of which there are fewer
-fewer : (f g : List NamedText → List SpotText) → ((parts : List NamedText) → g parts ≡ [] → f parts ≡ []) → (r : Result (List NamedText) NameRefusal)
-    → of_parts (λ parts. denied_at (g parts)) r ≡ kept → of_parts (λ parts. denied_at (f parts)) r ≡ kept
-fewer f g h (Ok parts) e = ap denied_at (h parts (none_at (g parts) e))
-fewer f g h (Err (unknown word)) e = ap denied_at (h [] (none_at (g []) e))
-fewer f g h (Err (several word candidates)) e = cc
-fewer f g h (Err out_of_memory) e = ap denied_at (h [] (none_at (g []) e))
+-- what is found of a word, by spots of which there are fewer
+fewer : (f g : List NamedText → List SpotText) → ((parts : List NamedText) → g parts ≡ [] → f parts ≡ []) → (m n : MeaningText) → m ≡ n
+    → of_meaning (λ parts. denied_at (g parts)) m ≡ kept → of_meaning (λ parts. denied_at (f parts)) n ≡ kept
+fewer f g h m n same e = go n (sym (ap (of_meaning (λ parts. denied_at (g parts))) same) ∙ e)
+  where
+    go : (x : MeaningText) → of_meaning (λ parts. denied_at (g parts)) x ≡ kept → of_meaning (λ parts. denied_at (f parts)) x ≡ kept
+    go (these parts) e = ap denied_at (h parts (none_at (g parts) e))
+    go (one_of word candidates) e = cc
 
 -- a word means the same in both builds
-same_names : (c b : BuildText) (word : Text) → c.packages ≡ b.packages → c.selected ≡ b.selected → parts_named b.packages b.selected word ≡ parts_named c.packages c.selected word
-same_names c b word p s = ap (λ (x : List PackageText). parts_named x b.selected word) (sym p) ∙ ap (λ (x : List ℕ). parts_named c.packages x word) (sym s)
+same_meaning : (c b : BuildText) (word : Text) → HasNoMoreOn c b → meaning_in b word ≡ meaning_in c word
+same_meaning c b word h = ap (λ (x : List PackageText). meaning_of (parts_named x b.selected word)) (sym h.packages) ∙ ap (λ (x : List ℕ). meaning_of (parts_named c.packages x word)) (sym h.selected)
 
 pub stays_kept : (c b : BuildText) (word : Text) → HasNoMoreOn c b → denied b word ≡ kept → denied c word ≡ kept
 stays_kept c b word h e =
     fewer (spots_on c) (spots_on b) (λ parts none. filter_less (is_spot_on c) (is_spot_on b) (λ s. h.on s.side s.number s.label) (flat_map on_both_sides parts) none)
-    (parts_named c.packages c.selected word)
-    (subst (λ (r : Result (List NamedText) NameRefusal). of_parts (λ parts. denied_at (spots_on b parts)) r ≡ kept) (same_names c b word h.packages h.selected) e)
+    (meaning_in b word) (meaning_in c word) (same_meaning c b word h) e
 
 both : (a b : Bool) → (a && b) ≡ true → (a ≡ true) × (b ≡ true)
 both true b h = (refl, h)
@@ -104,14 +105,10 @@ module _ (c b : BuildText) (same : HasNoMoreOn c b) (m : HasNoMoreBuilt c b) whe
   pub stays_kept_on : (word triple : Text) → denied_on b word triple ≡ kept → denied_on c word triple ≡ kept
   stays_kept_on word triple e = go (is_platform b triple) (is_platform c triple) (platform_same triple) e
     where
-      found : (x : BuildText) → FoundText
-      found x = of_parts (λ parts. denied_at (spots_on_for x triple parts)) (parts_named x.packages x.selected word)
-
-      go : (p q : Bool) → q ≡ p → cond p (found b) (no_platform triple) ≡ kept → cond q (found c) (no_platform triple) ≡ kept
+      go : (p q : Bool) → q ≡ p → cond p (denied_for b word triple) (no_platform triple) ≡ kept → cond q (denied_for c word triple) (no_platform triple) ≡ kept
       go true true k e =
           fewer (spots_on_for c triple) (spots_on_for b triple) (λ parts none. filter_less (is_spot_on_for c triple) (is_spot_on_for b triple) (on_more triple) (flat_map on_both_sides parts) none)
-          (parts_named c.packages c.selected word)
-          (subst (λ (r : Result (List NamedText) NameRefusal). of_parts (λ parts. denied_at (spots_on_for b triple parts)) r ≡ kept) (same_names c b word same.packages same.selected) e)
+          (meaning_in b word) (meaning_in c word) (same_meaning c b word same) e
       go true false k e = cc
       go false q k e = cc
 
@@ -130,9 +127,9 @@ no_choice law w words widest p q is wide covered small large c b builds word e =
 -- what is kept everywhere is kept for a platform
 kept_for : (c : BuildText) (word triple : Text) → is_platform c triple ≡ true → denied c word ≡ kept → denied_on c word triple ≡ kept
 kept_for c word triple known e =
-    ap (λ x. cond x (of_parts (λ parts. denied_at (spots_on_for c triple parts)) (parts_named c.packages c.selected word)) (no_platform triple)) known
+    ap (λ x. cond x (denied_for c word triple) (no_platform triple)) known
     ∙ fewer (spots_on_for c triple) (spots_on c) (λ parts none. filter_less (is_spot_on_for c triple) (is_spot_on c) (λ s h. (both (is_spot_on c s) _ h).0) (flat_map on_both_sides parts) none)
-    (parts_named c.packages c.selected word) e
+    (meaning_in c word) (meaning_in c word) refl e
 
 pub no_choice_on : WidestTurnsAllOn → NoChoiceBreaksDenyForPlatform
 no_choice_on law w words widest p q is wide covered small large c b builds word triple known e =

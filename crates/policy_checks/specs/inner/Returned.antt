@@ -1,19 +1,17 @@
 -- What a word means, and what is found.
-use Rattle.std.specs.Prelude.{◌≡◌, List, Result, map}
-use Rattle.plan_names.specs.Faults.{NameRefusal}
-use Rattle.plan_names.specs.Names.{NamedText}
+use Rattle.std.specs.Prelude.{map}
 use Rattle.plan_names.specs.Views.{named_text}
 use Rattle.plan_whys.specs.StepViews.{spot_text}
-use Rattle.policy_checks.specs.Found.{FoundText, ambiguous, broken, kept, no_platform, of_parts}
+use Rattle.policy_checks.specs.Found.{FoundText, ambiguous, broken, kept, no_platform}
+use Rattle.policy_checks.specs.Meanings.{MeaningText, one_of, these}
 use Rattle.policy_checks.specs.declared.found.Found.{Found}
 use Rattle.policy_checks.specs.declared.found.Found.TheVariants as found
 use Rattle.policy_checks.specs.declared.meaning.Meaning.{Meaning}
 use Rattle.policy_checks.specs.declared.meaning.Meaning.TheVariants as meaning
 
--- What is found of a word by its parts is what is found of the meaning.
-abbrev pub IsMeaning : Result (List NamedText) NameRefusal → Meaning → Type 0
-IsMeaning given (meaning.Parts parts) = (f : List NamedText → FoundText) → of_parts f given ≡ f (map named_text parts.items)
-IsMeaning given (meaning.Several word candidates) = (f : List NamedText → FoundText) → of_parts f given ≡ ambiguous word.now (map named_text candidates.items)
+abbrev pub meaning_text : Meaning → MeaningText
+meaning_text (meaning.Parts parts) = these (map named_text parts.items)
+meaning_text (meaning.Several word candidates) = one_of word.now (map named_text candidates.items)
 
 abbrev pub found_text : Found → FoundText
 found_text found.Kept = kept

@@ -3,7 +3,7 @@ use Rattle.std.specs.Prelude.{nat_eq}
 use Rattle.std.specs.List.{list_any}
 use Rattle.plan_units.specs.Units.{UnitText}
 use Rattle.plan_units.specs.UnitViews.{unit_text}
-use Rattle.policy_checks.proofs.found.is_built.Given as goal
+use Rattle.policy_checks.proofs.found.is_among.Given as goal
 
 abbrev pub invariant-loop-unit : goal.invariant-loop-unit
 invariant-loop-unit l =
