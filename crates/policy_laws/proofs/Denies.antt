@@ -24,12 +24,12 @@ use Rattle.policy_laws.specs.EveryChoice.{AreBuilds, HasNoMoreBuilt, HasNoMoreOn
 -- a test that passes less keeps nothing where the other keeps nothing
 filter_less : {X : Type 0} (p q : X → Bool) → ((x : X) → p x ≡ true → q x ≡ true) → (xs : List X) → filter q xs ≡ [] → filter p xs ≡ []
 filter_less p q h [] e = refl
-filter_less p q h (x ∷ xs) e = go (p x) (q x) (h x) e
+filter_less p q h (x ∷ xs) e = go (p x) (q x) (h x) (filter_less p q h xs) e
   where
-    go : (a b : Bool) → (a ≡ true → b ≡ true) → cond b (x ∷ filter q xs) (filter q xs) ≡ [] → cond a (x ∷ filter p xs) (filter p xs) ≡ []
-    go a true k e = cc
-    go true false k e = let clash : false ≡ true = k refl in cc
-    go false false k e = filter_less p q h xs e
+    go : (a b : Bool) → (a ≡ true → b ≡ true) → (filter q xs ≡ [] → filter p xs ≡ []) → cond b (x ∷ filter q xs) (filter q xs) ≡ [] → cond a (x ∷ filter p xs) (filter p xs) ≡ []
+    go a true k more e = cc
+    go true false k more e = let clash : false ≡ true = k refl in cc
+    go false false k more e = more e
 
 none_at : (spots : List SpotText) → denied_at spots ≡ kept → spots ≡ []
 none_at [] e = refl

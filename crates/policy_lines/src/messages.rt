@@ -19,7 +19,7 @@ use std::alloc::{AllocError, Global};
 
 /// Returns the refusal with this message, or `Memory` if there is none.
 fn refused_by(message: Result<String, AllocError>) -> Fault
-    ensures { (text : Text) → IfOk message.entry (λ m. string_bytes m ≡ text) → Says result (λ m. m ≡ text) }
+    ensures { (text : Text) → IfOk message (λ m. string_bytes m ≡ text) → Says result (λ m. m ≡ text) }
 {
     match message {
         Ok(message) => Fault::Refused { message },
@@ -55,7 +55,7 @@ fn malformed_message(
 
 /// Returns the refusal of the policy `file`: its first malformed line, and what is wrong with it.
 pub fn policy_refused(alloc: Global, file: &str, fault: PolicyFault) -> Fault
-    ensures { Says result (spec.IsPolicyMessage file.now fault.entry) }
+    ensures { Says result (spec.IsPolicyMessage file.now fault) }
 {
     match fault {
         PolicyFault::Malformed { line, problem } => {

@@ -1,6 +1,7 @@
 //! The words of rules.
 ghost use Rattle.std.specs.Prelude.{◌≡◌, ◌++◌, IfOk, OnOk, option_map, string_bytes};
 ghost use Rattle.std.specs.Fmt.{decimal};
+ghost use Rattle.policies.specs.Rules.{deny};
 ghost use Rattle.policies.specs.Views.{kind_text};
 ghost use Rattle.policy_lines.specs.Lines as spec;
 
@@ -50,24 +51,31 @@ fn push_platform(text: &mut Vec<u8>, on: Option<&str>) -> Result<(), AllocError>
     }
 }
 
+/// Appends `verb` and `word`.
+fn push_words(text: &mut Vec<u8>, verb: &str, word: &str) -> Result<(), AllocError>
+    ensures { OnOk result (text.new.items ≡ text.old.items ++ (verb.now ++ word.now)) }
+{
+    push(text, verb)?;
+    push(text, word)
+}
+
+/// Appends a `deny` in its own words.
+fn push_deny(text: &mut Vec<u8>, feature: &str, on: Option<&str>) -> Result<(), AllocError>
+    ensures { OnOk result (text.new.items ≡ text.old.items ++ spec.kind_words (deny feature.now (option_map (λ t. t.now) on.entry))) }
+{
+    push(text, "deny ")?;
+    push(text, feature)?;
+    push_platform(text, on)
+}
+
 /// Appends a rule of this kind in its own words.
 pub(crate) fn push_kind(text: &mut Vec<u8>, kind: RuleKind<'_>) -> Result<(), AllocError>
     ensures { OnOk result (text.new.items ≡ text.old.items ++ spec.kind_words (kind_text kind.entry)) }
 {
     match kind {
-        RuleKind::Deny { feature, on } => {
-            push(text, "deny ")?;
-            push(text, feature)?;
-            push_platform(text, on)
-        }
-        RuleKind::Require { feature } => {
-            push(text, "require ")?;
-            push(text, feature)
-        }
-        RuleKind::DenyDuplicates { spec } => {
-            push(text, "deny-duplicates ")?;
-            push(text, spec)
-        }
+        RuleKind::Deny { feature, on } => push_deny(text, feature, on),
+        RuleKind::Require { feature } => push_words(text, "require ", feature),
+        RuleKind::DenyDuplicates { spec } => push_words(text, "deny-duplicates ", spec),
     }
 }
 
