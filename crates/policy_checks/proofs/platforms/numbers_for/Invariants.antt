@@ -1,0 +1,11 @@
+use Rattle.std.proofs.Common.{◌≡◌, ◌++◌, ℕ, List, filter, map, drop}
+use Rattle.plan_units.specs.Units.{UnitText}
+use Rattle.plan_units.specs.UnitViews.{unit_text}
+use Rattle.policy_checks.specs.Builds.{is_built_for}
+use Rattle.policy_checks.specs.Views.{build_text}
+use Rattle.policy_checks.proofs.platforms.numbers_for.Given as goal
+
+abbrev pub invariant-loop-unit : goal.invariant-loop-unit
+invariant-loop-unit l =
+    let numbers = λ (units : List UnitText). map (λ (u : UnitText). u.number) (filter (is_built_for (build_text l.build) l.triple l.side) units) in
+    numbers (map unit_text l.units) ≡ l.numbers.items ++ numbers (map unit_text (drop l.unit-index l.units))

@@ -1,0 +1,71 @@
+-- What is found of a rule in a build.
+use Rattle.std.specs.Prelude.{ℕ, List, [], ◌∷◌, Option, Some, None, filter, map, length, nat_eq, nat_lt, if◌then◌else◌}
+use Rattle.std.specs.List.{list_any}
+use Rattle.cargo_workspaces.specs.Workspaces.{Text}
+use Rattle.plan_names.specs.Names.{NamedText, of_package, whole}
+use Rattle.plan_whys.specs.Steps.{SpotText}
+use Rattle.plan_words.specs.PackageWords.{packages_of_word}
+use Rattle.policies.specs.Rules.{KindText, deny, deny_duplicates, require}
+use Rattle.policy_checks.specs.Builds.{BuildText, built, is_platform}
+use Rattle.policy_checks.specs.Meanings.{MeaningText, meaning_in, one_of, these}
+use Rattle.policy_checks.specs.Spots.{spots_on, spots_on_for}
+
+-- A rule is kept; or it is broken, for a deny at these spots; or its word has several meanings; or its triple is that of no platform of
+-- the build.
+pub data FoundText : Type 0 where
+  kept : FoundText
+  broken : List SpotText → FoundText
+  ambiguous : Text → List NamedText → FoundText
+  no_platform : Text → FoundText
+
+-- What is found of what a word means.
+abbrev pub of_meaning : (List NamedText → FoundText) → MeaningText → FoundText
+of_meaning found (these parts) = found parts
+of_meaning found (one_of word candidates) = ambiguous word candidates
+
+-- A deny is broken at the spots where it is, if there are any.
+abbrev pub denied_at : List SpotText → FoundText
+denied_at [] = kept
+denied_at (s ∷ spots) = broken (s ∷ spots)
+
+-- A require is broken if there are none.
+abbrev pub required_at : List SpotText → FoundText
+required_at [] = broken []
+required_at (s ∷ spots) = kept
+
+-- `deny FEATURE` and `deny FEATURE on TRIPLE`.
+abbrev pub denied : BuildText → Text → FoundText
+denied b word = of_meaning (λ parts. denied_at (spots_on b parts)) (meaning_in b word)
+
+abbrev pub denied_for : BuildText → Text → Text → FoundText
+denied_for b word triple = of_meaning (λ parts. denied_at (spots_on_for b triple parts)) (meaning_in b word)
+
+abbrev pub denied_on : BuildText → Text → Text → FoundText
+denied_on b word triple =
+    if is_platform b triple then denied_for b word triple else no_platform triple
+
+abbrev pub denied_where : BuildText → Text → Option Text → FoundText
+denied_where b word None = denied b word
+denied_where b word (Some triple) = denied_on b word triple
+
+-- `require FEATURE`.
+abbrev pub required : BuildText → Text → FoundText
+required b word = of_meaning (λ parts. required_at (spots_on b parts)) (meaning_in b word)
+
+-- Packages that are among those that are built.
+abbrev pub built_among : BuildText → List ℕ → List ℕ
+built_among b numbers = filter (λ p. list_any (nat_eq p) (built b)) numbers
+
+-- Packages of one name: more than one is too many.
+abbrev pub denied_if_several : BuildText → List ℕ → FoundText
+denied_if_several b numbers =
+    if nat_lt 1 (length numbers) then broken (spots_on b (map (λ p. of_package p whole) numbers)) else kept
+
+-- `deny-duplicates SPEC`.
+abbrev pub duplicates_denied : BuildText → Text → FoundText
+duplicates_denied b word = denied_if_several b (built_among b (packages_of_word b.packages word))
+
+abbrev pub found_of : BuildText → KindText → FoundText
+found_of b (deny word on) = denied_where b word on
+found_of b (require word) = required b word
+found_of b (deny_duplicates word) = duplicates_denied b word

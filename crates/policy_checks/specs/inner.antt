@@ -1,0 +1,5 @@
+-- Definitions that only contracts of private functions use.
+pub mod Marks
+pub mod Returned
+pub mod Scopes
+pub mod Verdicts

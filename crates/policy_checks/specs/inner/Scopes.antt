@@ -1,0 +1,16 @@
+-- Which spots count.
+use Rattle.std.specs.Prelude.{ℕ, List, Bool, false, ◌&&◌, map, slice_index_or, if◌then◌else◌}
+use Rattle.plan_rows.specs.Steps.{is_host}
+use Rattle.plan_starts.specs.PackageVisits.{PairVisit, is_on}
+use Rattle.plan_whys.specs.Steps.{SpotText}
+use Rattle.policy_checks.specs.declared.on_spots.Scope.{Scope}
+use Rattle.policy_checks.specs.declared.on_spots.Scope.TheVariants as scope
+
+-- Whether a package is marked, on a side.
+abbrev pub is_marked : List Bool → List Bool → SpotText → Bool
+is_marked target host s = slice_index_or (if is_host s.side then host else target) s.number false
+
+-- Whether a spot is on, and counts.
+abbrev pub passes : PairVisit → Scope → SpotText → Bool
+passes on scope.Everywhere s = is_on on s.side s.number s.label
+passes on (scope.Marked target host) s = is_on on s.side s.number s.label && is_marked target.now host.now s

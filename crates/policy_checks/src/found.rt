@@ -1,0 +1,231 @@
+//! What is found of a rule.
+ghost use Rattle.std.specs.Prelude.{◌≡◌, IfOk, map, nat_eq, option_map};
+ghost use Rattle.std.specs.List.{list_any};
+ghost use Rattle.plan_names.specs.Names.{of_package, whole};
+ghost use Rattle.plan_names.specs.Views.{named_text};
+ghost use Rattle.plan_units.specs.UnitViews.{unit_text};
+ghost use Rattle.plan_whys.specs.StepViews.{spot_text};
+ghost use Rattle.policies.specs.Views.{kind_text};
+ghost use Rattle.policy_checks.specs.Builds.{built};
+ghost use Rattle.policy_checks.specs.Found as spec;
+ghost use Rattle.policy_checks.specs.Views.{build_text};
+ghost use Rattle.policy_checks.specs.inner.Returned.{found_text};
+
+use crate::build::Build;
+use crate::meaning::{Meaning, meaning_of};
+use crate::on_spots::{spots_on, spots_on_for};
+use crate::platforms::is_platform;
+use cargo_plans::Unit;
+use plan_names::{Named, Part};
+use plan_whys::Spot;
+use plan_words::packages_of_word;
+use policies::RuleKind;
+use std::alloc::{AllocError, Global};
+
+/// What is found of a rule.
+#[derive(Drop)]
+pub(crate) enum Found<'w> {
+    Kept,
+    /// It is broken, at these spots.
+    Broken(Vec<Spot<'w>>),
+    /// Its word has several meanings.
+    Several {
+        word: &'w str,
+        candidates: Vec<Named<'w>>,
+    },
+    /// Its triple is that of no platform of the build.
+    NoPlatform(&'w str),
+}
+
+/// Returns what is found of a `deny` whose parts are on at `spots`.
+fn denied_at<'w>(spots: Vec<Spot<'w>>) -> Found<'w>
+    ensures { found_text result ≡ spec.denied_at (map spot_text spots.entry.items) }
+{
+    if spots.is_empty() {
+        Found::Kept
+    } else {
+        Found::Broken(spots)
+    }
+}
+
+/// Returns what is found of a `require` whose parts are on at `spots`.
+fn required_at<'w>(alloc: Global, spots: &[Spot<'w>]) -> Found<'w>
+    ensures { found_text result ≡ spec.required_at (map spot_text spots.now) }
+{
+    if spots.is_empty() {
+        Found::Broken(Vec::new(alloc))
+    } else {
+        Found::Kept
+    }
+}
+
+/// Returns what is found of `deny` with this word.
+fn denied<'b>(
+    alloc: Global,
+    build: Build<'b, '_, '_, '_>,
+    word: &'b str,
+) -> Result<Found<'b>, AllocError>
+    ensures { IfOk result (λ found. found_text found ≡ spec.denied (build_text build.entry) word.now) }
+{
+    match meaning_of(alloc, build, word)? {
+        Meaning::Parts(parts) => Ok(denied_at(spots_on(alloc, build, &parts)?)),
+        Meaning::Several { word, candidates } => Ok(Found::Several { word, candidates }),
+    }
+}
+
+/// Returns what is found of `deny` with this word on a platform of `build`.
+fn denied_for<'b>(
+    alloc: Global,
+    build: Build<'b, '_, '_, '_>,
+    word: &'b str,
+    triple: &str,
+) -> Result<Found<'b>, AllocError>
+    ensures { IfOk result (λ found. found_text found ≡ spec.denied_for (build_text build.entry) word.now triple.now) }
+{
+    match meaning_of(alloc, build, word)? {
+        Meaning::Parts(parts) => Ok(denied_at(spots_on_for(alloc, build, triple, &parts)?)),
+        Meaning::Several { word, candidates } => Ok(Found::Several { word, candidates }),
+    }
+}
+
+/// Returns what is found of `deny` with this word on the platform `triple`.
+fn denied_on<'b>(
+    alloc: Global,
+    build: Build<'b, '_, '_, '_>,
+    word: &'b str,
+    triple: &'b str,
+) -> Result<Found<'b>, AllocError>
+    ensures { IfOk result (λ found. found_text found ≡ spec.denied_on (build_text build.entry) word.now triple.now) }
+{
+    if is_platform(build, triple) {
+        denied_for(alloc, build, word, triple)
+    } else {
+        Ok(Found::NoPlatform(triple))
+    }
+}
+
+/// Returns what is found of `deny` with this word, on the platform `on` if there is one.
+fn denied_where<'b>(
+    alloc: Global,
+    build: Build<'b, '_, '_, '_>,
+    word: &'b str,
+    on: Option<&'b str>,
+) -> Result<Found<'b>, AllocError>
+    ensures { IfOk result (λ found. found_text found ≡ spec.denied_where (build_text build.entry) word.now (option_map (λ t. t.now) on.entry)) }
+{
+    match on {
+        None => denied(alloc, build, word),
+        Some(triple) => denied_on(alloc, build, word, triple),
+    }
+}
+
+/// Returns what is found of `require` with this word.
+fn required<'b>(
+    alloc: Global,
+    build: Build<'b, '_, '_, '_>,
+    word: &'b str,
+) -> Result<Found<'b>, AllocError>
+    ensures { IfOk result (λ found. found_text found ≡ spec.required (build_text build.entry) word.now) }
+{
+    match meaning_of(alloc, build, word)? {
+        Meaning::Parts(parts) => {
+            let spots = spots_on(alloc, build, &parts)?;
+            Ok(required_at(alloc, &spots))
+        }
+        Meaning::Several { word, candidates } => Ok(Found::Several { word, candidates }),
+    }
+}
+
+/// Returns whether package `number` is that of one of `units`.
+fn is_among(units: &[Unit<'_>], number: usize) -> bool
+    ensures { result ≡ list_any (nat_eq number) (map (λ u. u.number) (map unit_text units.now)) }
+{
+    for unit in units {
+        if number == unit.package {
+            return true;
+        }
+    }
+    false
+}
+
+/// Returns whether package `number` is built.
+fn is_built(build: Build<'_, '_, '_, '_>, number: usize) -> bool
+    ensures { result ≡ list_any (nat_eq number) (built (build_text build.entry)) }
+{
+    is_among(build.plan.units(), number)
+}
+
+/// Returns those of the packages `numbers` that are built.
+fn built_among(
+    alloc: Global,
+    build: Build<'_, '_, '_, '_>,
+    numbers: &[usize],
+) -> Result<Vec<usize>, AllocError>
+    ensures { IfOk result (λ among. among.items ≡ spec.built_among (build_text build.entry) numbers.now) }
+{
+    let mut among = Vec::new(alloc);
+    for number in numbers {
+        if is_built(build, *number) {
+            among.push(*number)?;
+        }
+    }
+    Ok(among)
+}
+
+/// Returns the packages `numbers`, themselves.
+fn wholes<'w>(alloc: Global, numbers: &[usize]) -> Result<Vec<Named<'w>>, AllocError>
+    ensures { IfOk result (λ named. map named_text named.items ≡ map (λ p. of_package p whole) numbers.now) }
+{
+    let mut named = Vec::with_capacity(alloc, numbers.len())?;
+    for number in numbers {
+        named.push(Named {
+            package: *number,
+            part: Part::Package,
+        })?;
+    }
+    Ok(named)
+}
+
+/// Returns what is found of the packages `numbers`, which are built, and of which one is wanted at most.
+fn denied_if_several<'b>(
+    alloc: Global,
+    build: Build<'b, '_, '_, '_>,
+    numbers: &[usize],
+) -> Result<Found<'b>, AllocError>
+    ensures { IfOk result (λ found. found_text found ≡ spec.denied_if_several (build_text build.entry) numbers.now) }
+{
+    if numbers.len() > 1 {
+        let named = wholes(alloc, numbers)?;
+        Ok(Found::Broken(spots_on(alloc, build, &named)?))
+    } else {
+        Ok(Found::Kept)
+    }
+}
+
+/// Returns what is found of `deny-duplicates` with this word.
+fn duplicates_denied<'b>(
+    alloc: Global,
+    build: Build<'b, '_, '_, '_>,
+    word: &str,
+) -> Result<Found<'b>, AllocError>
+    ensures { IfOk result (λ found. found_text found ≡ spec.duplicates_denied (build_text build.entry) word.now) }
+{
+    let numbers = packages_of_word(alloc, build.workspace, word)?;
+    let among = built_among(alloc, build, &numbers)?;
+    denied_if_several(alloc, build, &among)
+}
+
+/// Returns what is found of a rule of this kind in `build`.
+pub(crate) fn found_of<'b>(
+    alloc: Global,
+    build: Build<'b, '_, '_, '_>,
+    kind: RuleKind<'b>,
+) -> Result<Found<'b>, AllocError>
+    ensures { IfOk result (λ found. found_text found ≡ spec.found_of (build_text build.entry) (kind_text kind.entry)) }
+{
+    match kind {
+        RuleKind::Deny { feature, on } => denied_where(alloc, build, feature, on),
+        RuleKind::Require { feature } => required(alloc, build, feature),
+        RuleKind::DenyDuplicates { spec } => duplicates_denied(alloc, build, spec),
+    }
+}

@@ -1,0 +1,4 @@
+//! The laws of `check --every-choice`.
+#![tactic(auto)]
+
+pub mod laws;

@@ -1,0 +1,23 @@
+-- The JSON objects of broken rules.
+use Rattle.std.specs.Prelude.{List, ◌∷◌, ◌++◌, Option, None, codes}
+use Rattle.json.specs.Token.{Token, begin_object}
+use Rattle.line_parts.specs.Members.{number_member, object_line, optional_member, text_member}
+use Rattle.policies.specs.Lines.{Text}
+use Rattle.policies.specs.Rules.{KindText, RuleText, deny, deny_duplicates, require}
+
+-- The members of what a rule demands: its first word, the word that it is about, and its platform or null.
+abbrev pub kind_members : Text → Text → Option Text → List Token
+kind_members verb word on = text_member (codes "rule") verb ++ (text_member (codes "word") word ++ optional_member (codes "platform") on)
+
+abbrev pub members_of : KindText → List Token
+members_of (deny word on) = kind_members (codes "deny") word on
+members_of (require word) = kind_members (codes "require") word None
+members_of (deny_duplicates word) = kind_members (codes "deny-duplicates") word None
+
+-- The members of a rule, with the number of its line, and its reason or null.
+abbrev pub rule_members : RuleText → List Token
+rule_members r = number_member (codes "line") r.line ++ (members_of r.kind ++ optional_member (codes "reason") r.reason)
+
+-- The line of a rule.
+abbrev pub rule_line : RuleText → Text
+rule_line r = object_line (begin_object ∷ rule_members r)

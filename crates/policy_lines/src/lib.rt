@@ -1,0 +1,10 @@
+#![tactic(auto)]
+
+mod lines;
+mod messages;
+mod objects;
+mod words;
+
+pub use lines::push_verdict;
+pub use messages::{check_refused, policy_refused};
+pub use objects::{push_object, write_rule};

@@ -1,0 +1,53 @@
+//! Broken rules as JSON objects.
+ghost use Rattle.std.specs.Prelude.{◌≡◌, ◌++◌, IfOk, OnOk, option_map};
+ghost use Rattle.line_parts.specs.Members.{Appends};
+ghost use Rattle.policies.specs.Views.{kind_text, rule_text};
+ghost use Rattle.policy_lines.specs.Objects as spec;
+
+use json::Writer;
+use line_parts::{begin_line, end_line, write_member, write_number, write_optional};
+use policies::{Rule, RuleKind};
+use std::alloc::AllocError;
+
+/// Writes the members of a rule that begins with `verb`, about `word` and for the platform `on`.
+fn write_words(
+    writer: &mut Writer,
+    verb: &str,
+    word: &str,
+    on: Option<&str>,
+) -> Result<(), AllocError>
+    ensures { OnOk result (Appends writer.old writer.new (spec.kind_members verb.now word.now (option_map (λ t. t.now) on.entry))) }
+{
+    write_member(writer, "rule", verb)?;
+    write_member(writer, "word", word)?;
+    write_optional(writer, "platform", on)
+}
+
+/// Writes the members of a rule of this kind.
+fn write_kind(writer: &mut Writer, kind: RuleKind<'_>) -> Result<(), AllocError>
+    ensures { OnOk result (Appends writer.old writer.new (spec.members_of (kind_text kind.entry))) }
+{
+    match kind {
+        RuleKind::Deny { feature, on } => write_words(writer, "deny", feature, on),
+        RuleKind::Require { feature } => write_words(writer, "require", feature, None),
+        RuleKind::DenyDuplicates { spec } => write_words(writer, "deny-duplicates", spec, None),
+    }
+}
+
+/// Writes the members of `rule`: its line, its first word, the word that it is about, its platform or null, and its reason or null.
+pub fn write_rule(writer: &mut Writer, rule: Rule<'_>) -> Result<(), AllocError>
+    ensures { OnOk result (Appends writer.old writer.new (spec.rule_members (rule_text rule.entry))) }
+{
+    write_number(writer, "line", rule.line)?;
+    write_kind(writer, rule.kind)?;
+    write_optional(writer, "reason", rule.reason)
+}
+
+/// Appends the object of `rule`, and a line feed.
+pub fn push_object(text: Vec<u8>, rule: Rule<'_>) -> Result<Vec<u8>, AllocError>
+    ensures { IfOk result (λ new. new.items ≡ text.items ++ spec.rule_line (rule_text rule.entry)) }
+{
+    let mut writer = begin_line(text)?;
+    write_rule(&mut writer, rule)?;
+    end_line(writer)
+}
