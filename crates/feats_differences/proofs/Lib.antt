@@ -1,1 +1,2 @@
+pub mod WhyLists
 pub mod Zips
