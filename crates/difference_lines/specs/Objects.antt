@@ -1,5 +1,5 @@
 -- The JSON objects of what differs between two plans.
-use Rattle.std.specs.Prelude.{List, [], ◌∷◌, ◌++◌, map, flat_map, codes, if◌then◌else◌}
+use Rattle.std.specs.Prelude.{List, ◌∷◌, ◌++◌, map, flat_map, codes, if◌then◌else◌}
 use Rattle.json.specs.Token.{Token, begin_object}
 use Rattle.cargo_workspaces.specs.Workspaces.{Text, PackageText}
 use Rattle.line_parts.specs.Members.{object_line, text_member, texts_member}

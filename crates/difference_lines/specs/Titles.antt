@@ -1,8 +1,8 @@
 -- The titles of packages that differ.
-use Rattle.std.specs.Prelude.{List, [], ◌++◌, ◌∷◌, Bool, ◌&&◌, ◌||◌, codes, unwrap_or, if◌then◌else◌}
+use Rattle.std.specs.Prelude.{List, [], ◌++◌, ◌∷◌, Bool, ◌&&◌, codes, unwrap_or, if◌then◌else◌}
 use Rattle.std.specs.Str.{bytes_eq}
 use Rattle.cargo_workspaces.specs.Workspaces.{Text, PackageText}
-use Rattle.plan_lines.specs.Lines.{is_repeated, label_of, name_of, source_text}
+use Rattle.plan_lines.specs.Lines.{label_of, source_text}
 
 -- The names and versions of the packages of both workspaces.
 pub record NamesText : Type 0 where

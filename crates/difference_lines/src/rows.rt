@@ -41,7 +41,11 @@ fn push_whys(alloc: Global, rows: &mut Vec<Row>, comes: &[Turned<'_>]) -> Result
 }
 
 /// Returns the row of a package that comes.
-fn new_row(alloc: Global, repeated: &Repeated<'_, '_>, new: &Shown<'_, '_, '_>) -> Result<Row, AllocError>
+fn new_row(
+    alloc: Global,
+    repeated: &Repeated<'_, '_>,
+    new: &Shown<'_, '_, '_>,
+) -> Result<Row, AllocError>
     requires { AreRepeated repeated.now }
     ensures { IfOk result (λ row. row_text row ≡ spec.new_row (names_text repeated.now) (shown_text new.now)) }
 {
@@ -56,7 +60,11 @@ fn new_row(alloc: Global, repeated: &Repeated<'_, '_>, new: &Shown<'_, '_, '_>) 
 }
 
 /// Returns the row of a package that goes.
-fn old_row(alloc: Global, repeated: &Repeated<'_, '_>, old: &Shown<'_, '_, '_>) -> Result<Row, AllocError>
+fn old_row(
+    alloc: Global,
+    repeated: &Repeated<'_, '_>,
+    old: &Shown<'_, '_, '_>,
+) -> Result<Row, AllocError>
     requires { AreRepeated repeated.now }
     ensures { IfOk result (λ row. row_text row ≡ spec.old_row (names_text repeated.now) (shown_text old.now)) }
 {

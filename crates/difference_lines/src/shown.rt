@@ -18,7 +18,9 @@ pub enum Difference<'u, 'v, 'w> {
         why: String,
     },
     /// The package goes.
-    Goes { old: Shown<'u, 'v, 'w> },
+    Goes {
+        old: Shown<'u, 'v, 'w>,
+    },
     /// The package stays or changes its version, and features come and go.
     Changes {
         old: Shown<'u, 'v, 'w>,

@@ -54,11 +54,7 @@ fn push_version(text: &mut String, sources: bool, package: &Package<'_>) -> Resu
 }
 
 /// Returns the name and both versions; with the sources, if the versions are equal.
-fn moved_title(
-    alloc: Global,
-    old: &Package<'_>,
-    new: &Package<'_>,
-) -> Result<String, AllocError>
+fn moved_title(alloc: Global, old: &Package<'_>, new: &Package<'_>) -> Result<String, AllocError>
     ensures { IfOk result (λ title. string_bytes title ≡ spec.moved_title (package_text old.now) (package_text new.now)) }
 {
     let sources = old.version == new.version;

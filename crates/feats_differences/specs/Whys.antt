@@ -1,5 +1,5 @@
 -- Why parts and features come: the last step of each `why`.
-use Rattle.std.specs.Prelude.{◌≡◌, ℕ, ◌-◌, List, [], ◌∷◌, ◌++◌, Option, Some, None, Bool, drop, length, map, slice_get, ◌⊎◌}
+use Rattle.std.specs.Prelude.{◌≡◌, ℕ, ◌-◌, List, [], ◌∷◌, ◌++◌, Option, Some, None, Bool, drop, flat_map, length, map, slice_get, ◌⊎◌}
 use Rattle.std.specs.Char.{encode_utf8}
 use Rattle.std.specs.List.{AllZip}
 use Rattle.std.specs.Option.{option_map_or}
@@ -9,6 +9,7 @@ use Rattle.feats_answers.specs.WhyTexts.{why_settings}
 use Rattle.feature_labels.specs.Names.{LabelName}
 use Rattle.feature_labels.specs.Names.LabelName.{base, named}
 use Rattle.plan_differences.specs.Changes.{ChangeText}
+use Rattle.plan_differences.specs.Differences.{DifferencesText}
 use Rattle.plan_differences.specs.Parts.{PartText}
 use Rattle.plan_rows.specs.Steps.{side_of}
 use Rattle.plan_rows.specs.declared.side.Side.{Side}
@@ -58,3 +59,16 @@ pub record AreWhys (b : BuildText) (spots : List SpotText) (whys : List Text) : 
   pub founds : List (Option (List WhyText))
   pub are_found : AfterWords b.workspace b.words (λ chosen. AllZip (Answers b.workspace (settings_by b.words chosen) b.plan.on) spots founds)
   pub are_whys : AllZip (IsLastStep b) founds whys
+
+-- The last steps of each `why`: of the parts that come, of the features that come in parts whose version or source changes, and of those
+-- that come in other parts.
+pub record WhysText : Type 0 where
+  pub parts : List Text
+  pub moved : List Text
+  pub kept : List Text
+
+-- The last steps of these differences.
+pub record AreAllWhys (b : BuildText) (d : DifferencesText) (whys : WhysText) : Type 0 where
+  pub are_parts : AreWhys b (part_spots b d.comes) whys.parts
+  pub are_moved : AreWhys b (flat_map (feature_spots b) d.moved) whys.moved
+  pub are_kept : AreWhys b (flat_map (feature_spots b) d.kept) whys.kept

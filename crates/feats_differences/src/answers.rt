@@ -1,41 +1,38 @@
 //! The answer to `diff`.
-ghost use Rattle.std.specs.Prelude.{◌≡◌, IfOk, map, string_bytes};
+ghost use Rattle.std.specs.Prelude.{◌≡◌, IfOk, map};
 ghost use Rattle.cargo_plans.specs.Plans.{IsPlanOf};
 ghost use Rattle.cargo_workspaces.specs.WorkspaceView.{workspace_text};
 ghost use Rattle.difference_lines.specs.Views.{difference_text};
 ghost use Rattle.feats_answers.specs.AnswerViews.{answer_text};
 ghost use Rattle.feats_differences.specs.Answers as spec;
 ghost use Rattle.feats_differences.specs.Shown as shown_as;
-ghost use Rattle.feats_differences.specs.Views.{build_text};
-ghost use Rattle.plan_differences.specs.Views.{change_text, differences_text};
+ghost use Rattle.feats_differences.specs.Views.{build_text, whys_text};
+ghost use Rattle.plan_differences.specs.Views.{differences_text};
 
 use crate::builds::Build;
-use crate::changes::changes_of;
 use crate::parts::parts_of;
 use crate::shown::{push_changes, push_comes, push_gone};
-use crate::whys::{feature_whys, part_whys};
+use crate::whys::{Whys, whys_of};
 use cargo_workspaces::Workspace;
 use difference_lines::{Difference, difference_lines, difference_objects};
 use feats_answers::Answer;
 use feats_words::Format;
-use plan_differences::{Change, Differences, differences_between};
+use plan_differences::{Differences, differences_between};
 use std::alloc::{AllocError, Global};
 
-/// Returns what is shown of `differences`, of which `changes` are the changes that are shown.
+/// Returns what is shown of `differences`, with the last steps of each `why`.
 fn all_shown<'u, 'v, 'w>(
     alloc: Global,
     differences: &Differences<'u, 'v, 'w>,
-    changes: &[&Change<'u, 'v, 'w>],
-    part_whys: &[String],
-    feature_whys: &[String],
+    whys: &Whys,
 ) -> Result<Vec<Difference<'u, 'v, 'w>>, AllocError>
-    requires { map (λ c. change_text c.now) changes.now ≡ shown_as.changes_of (differences_text differences.now) }
-    ensures { IfOk result (λ shown. map difference_text shown.items ≡ shown_as.all_shown (differences_text differences.now) (map string_bytes part_whys.now) (map string_bytes feature_whys.now)) }
+    ensures { IfOk result (λ shown. map difference_text shown.items ≡ shown_as.all_shown (differences_text differences.now) (whys_text whys.now)) }
 {
     let mut shown = Vec::new(alloc);
-    push_comes(alloc, &mut shown, &differences.comes, part_whys)?;
+    push_comes(alloc, &mut shown, &differences.comes, &whys.parts)?;
     push_gone(&mut shown, &differences.gone)?;
-    push_changes(alloc, &mut shown, changes, feature_whys)?;
+    push_changes(alloc, &mut shown, true, &differences.moved, &whys.moved)?;
+    push_changes(alloc, &mut shown, false, &differences.kept, &whys.kept)?;
     Ok(shown)
 }
 
@@ -68,10 +65,8 @@ fn text_of(
     requires plan { IsPlanOf (build_text new.now).workspace (build_text new.now).words (build_text new.now).plan }
     ensures { IfOk result (λ text. spec.IsDiffText format (build_text old.now) (build_text new.now) (differences_text differences.now) text.items) }
 {
-    let changes = changes_of(alloc, differences)?;
-    let parts = part_whys(alloc, new, &differences.comes)?;
-    let features = feature_whys(alloc, new, &changes)?;
-    let shown = all_shown(alloc, differences, &changes, &parts, &features)?;
+    let whys = whys_of(alloc, new, differences)?;
+    let shown = all_shown(alloc, differences, &whys)?;
     text_in(alloc, format, old.workspace, new.workspace, &shown)
 }
 

@@ -3,7 +3,6 @@
 
 mod answers;
 mod builds;
-mod changes;
 mod parts;
 mod shown;
 mod whys;

@@ -1,5 +1,5 @@
 //! What is shown of the differences of two builds.
-ghost use Rattle.std.specs.Prelude.{◌≡◌, ◌++◌, IfOk, OnOk, drop, map, string_bytes};
+ghost use Rattle.std.specs.Prelude.{◌≡◌, ◌++◌, ◌∷◌, [], IfOk, OnOk, drop, if◌then◌else◌, map, string_bytes};
 ghost use Rattle.cargo_workspaces.specs.Views.{texts};
 ghost use Rattle.difference_lines.specs.Shown.{gone as text_of_gone};
 ghost use Rattle.difference_lines.specs.Views.{difference_text, turned_text};
@@ -112,18 +112,37 @@ fn shown_change<'u, 'v, 'w>(
     })
 }
 
-/// Appends `changes`, where `whys` are the texts of the features that come in them.
+/// Appends `change`, if `all` or if a feature comes or goes in it; `whys` begin with the texts of the features that come.
+fn push_change<'u, 'v, 'w>(
+    alloc: Global,
+    shown: &mut Vec<Difference<'u, 'v, 'w>>,
+    all: bool,
+    change: &Change<'u, 'v, 'w>,
+    whys: &[String],
+) -> Result<(), AllocError>
+    ensures { OnOk result (map difference_text shown.new.items ≡ map difference_text shown.old.items ++ (if spec.is_shown all (change_text change.now) then spec.change_shown (map string_bytes whys.now) (change_text change.now) ∷ [] else [])) }
+{
+    if all || !change.keeps_features() {
+        let one = shown_change(alloc, change, whys)?;
+        shown.push(one)?;
+    }
+    Ok(())
+}
+
+/// Appends `changes`, or those in which a feature comes or goes if `all` is false. `whys` are the texts of the features that come in
+/// all of them.
 pub(crate) fn push_changes<'u, 'v, 'w>(
     alloc: Global,
     shown: &mut Vec<Difference<'u, 'v, 'w>>,
-    changes: &[&Change<'u, 'v, 'w>],
+    all: bool,
+    changes: &[Change<'u, 'v, 'w>],
     whys: &[String],
 ) -> Result<(), AllocError>
-    ensures { OnOk result (map difference_text shown.new.items ≡ map difference_text shown.old.items ++ spec.changes_shown (map string_bytes whys.now) (map (λ c. change_text c.now) changes.now)) }
+    ensures { OnOk result (map difference_text shown.new.items ≡ map difference_text shown.old.items ++ spec.changes_shown all (map string_bytes whys.now) (map change_text changes.now)) }
 {
     let mut left = whys;
     for change in changes {
-        shown.push(shown_change(alloc, change, left)?)?;
+        push_change(alloc, shown, all, change, left)?;
         left = rest_of(left, change.comes.len());
     }
     Ok(())

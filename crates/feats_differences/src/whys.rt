@@ -4,9 +4,9 @@ ghost use Rattle.std.specs.List.{AllZip};
 ghost use Rattle.cargo_plans.specs.Plans.{IsPlanOf};
 ghost use Rattle.feature_labels.specs.Names.{label_of};
 ghost use Rattle.feats_answers.specs.WhyTexts as answers;
-ghost use Rattle.feats_differences.specs.Views.{build_text};
+ghost use Rattle.feats_differences.specs.Views.{build_text, whys_text};
 ghost use Rattle.feats_differences.specs.Whys as spec;
-ghost use Rattle.plan_differences.specs.Views.{change_text, part_text};
+ghost use Rattle.plan_differences.specs.Views.{change_text, differences_text, part_text};
 ghost use Rattle.plan_platforms.specs.HeldSpecs.{holds_on};
 ghost use Rattle.plan_rows.specs.Steps as steps_of_plans;
 ghost use Rattle.plan_whys.specs.StepViews.{found_text, spot_text, why_text};
@@ -15,11 +15,22 @@ ghost use Rattle.why_lines.specs.Settings.{settings_text};
 use crate::builds::Build;
 use cargo_plans::{Place, Side};
 use feature_labels::FeatureLabel;
-use plan_differences::{Change, Part};
+use plan_differences::{Change, Differences, Part};
 use plan_platforms::HeldSpecs;
 use plan_whys::{Spot, WhyStep, why_each};
 use std::alloc::{AllocError, Global};
 use why_lines::{WhySettings, why_lines};
+
+/// The last steps of each `why`.
+#[derive(Drop)]
+pub(crate) struct Whys {
+    /// Those of the parts that come.
+    pub(crate) parts: Vec<String>,
+    /// Those of the features that come in parts whose version or source changes.
+    pub(crate) moved: Vec<String>,
+    /// Those of the features that come in other parts.
+    pub(crate) kept: Vec<String>,
+}
 
 /// Returns the side whose features `place` has.
 fn side_at(split: bool, place: Place) -> Side
@@ -92,9 +103,9 @@ fn push_spots<'w>(
 fn feature_spots<'w>(
     alloc: Global,
     build: &Build<'_, '_, '_, '_, '_>,
-    changes: &[&Change<'_, '_, 'w>],
+    changes: &[Change<'_, '_, 'w>],
 ) -> Result<Vec<Spot<'w>>, AllocError>
-    ensures { IfOk result (λ spots. map spot_text spots.items ≡ flat_map (spec.feature_spots (build_text build.now)) (map (λ c. change_text c.now) changes.now)) }
+    ensures { IfOk result (λ spots. map spot_text spots.items ≡ flat_map (spec.feature_spots (build_text build.now)) (map change_text changes.now)) }
 {
     let mut spots = Vec::new(alloc);
     for change in changes {
@@ -104,7 +115,7 @@ fn feature_spots<'w>(
 }
 
 /// Returns the settings of the steps' lines.
-fn why_settings<'b, 's>(build: &Build<'b, '_, '_, 'b, 's>) -> WhySettings<'b, HeldSpecs<'s>>
+fn why_settings<'n, 's>(build: &Build<'_, '_, '_, 'n, 's>) -> WhySettings<'n, HeldSpecs<'s>>
     ensures { settings_text holds_on result ≡ answers.why_settings (build_text build.now).words }
 {
     WhySettings {
@@ -161,7 +172,7 @@ fn last_steps(
 }
 
 /// Returns the last step of why each of `spots` is on, by one walk.
-fn whys_of(
+fn last_steps_of(
     alloc: Global,
     build: &Build<'_, '_, '_, '_, '_>,
     spots: &[Spot<'_>],
@@ -174,7 +185,7 @@ fn whys_of(
 }
 
 /// Returns the last step of why each of `parts` is on.
-pub(crate) fn part_whys(
+fn part_whys(
     alloc: Global,
     build: &Build<'_, '_, '_, '_, '_>,
     parts: &[Part<'_, '_, '_>],
@@ -183,18 +194,33 @@ pub(crate) fn part_whys(
     ensures { IfOk result (λ whys. spec.AreWhys (build_text build.now) (spec.part_spots (build_text build.now) (map part_text parts.now)) (map string_bytes whys.items)) }
 {
     let spots = part_spots(alloc, build, parts)?;
-    whys_of(alloc, build, &spots)
+    last_steps_of(alloc, build, &spots)
 }
 
 /// Returns the last step of why each feature that comes in `changes` is on.
-pub(crate) fn feature_whys(
+fn feature_whys(
     alloc: Global,
     build: &Build<'_, '_, '_, '_, '_>,
-    changes: &[&Change<'_, '_, '_>],
+    changes: &[Change<'_, '_, '_>],
 ) -> Result<Vec<String>, AllocError>
     requires plan { IsPlanOf (build_text build.now).workspace (build_text build.now).words (build_text build.now).plan }
-    ensures { IfOk result (λ whys. spec.AreWhys (build_text build.now) (flat_map (spec.feature_spots (build_text build.now)) (map (λ c. change_text c.now) changes.now)) (map string_bytes whys.items)) }
+    ensures { IfOk result (λ whys. spec.AreWhys (build_text build.now) (flat_map (spec.feature_spots (build_text build.now)) (map change_text changes.now)) (map string_bytes whys.items)) }
 {
     let spots = feature_spots(alloc, build, changes)?;
-    whys_of(alloc, build, &spots)
+    last_steps_of(alloc, build, &spots)
+}
+
+/// Returns the last step of why each part and each feature of `differences` that comes is on.
+pub(crate) fn whys_of(
+    alloc: Global,
+    build: &Build<'_, '_, '_, '_, '_>,
+    differences: &Differences<'_, '_, '_>,
+) -> Result<Whys, AllocError>
+    requires plan { IsPlanOf (build_text build.now).workspace (build_text build.now).words (build_text build.now).plan }
+    ensures { IfOk result (λ whys. spec.AreAllWhys (build_text build.now) (differences_text differences.now) (whys_text whys)) }
+{
+    let parts = part_whys(alloc, build, &differences.comes)?;
+    let moved = feature_whys(alloc, build, &differences.moved)?;
+    let kept = feature_whys(alloc, build, &differences.kept)?;
+    Ok(Whys { parts, moved, kept })
 }

@@ -1,12 +1,12 @@
 -- Two lists in an order, joined in one pass.
-use Rattle.std.proofs.Common.{◌≡◌, ◌∙◌, sym, refl, ap, ℕ, zero, suc, List, [], ◌∷◌, ◌++◌, map, length, drop, Bool, true, false, cond, IsPermutation}
+use Rattle.std.proofs.Common.{◌≡◌, ◌∙◌, sym, refl, ap, ℕ, zero, suc, List, [], ◌∷◌, ◌++◌, map, length, drop, Bool, true, false, cond}
 use Rattle.std.specs.List.{AllByRecursion, filter, zip}
 use Rattle.std.specs.Cmp.{IsTotalOrder, alike_right}
 use Rattle.std.specs.Ordering.{is_eq, is_lt, ordering_reverse, ordering_then}
 use Rattle.std.specs.declared.cmp.Ordering.{Ordering}
 use Rattle.std.specs.declared.cmp.Ordering.TheVariants.{Less, Equal, Greater}
 use Rattle.std.proofs.lemmas.List.Sorted.{IsPermutation-refl, IsPermutation-cons, IsPermutation-trans, IsPermutation-sym, IsPermutation-middle}
-use Rattle.plan_differences.specs.Orders.{Ascends, PartOrder, name_cmp, part_cmp, version_cmp}
+use Rattle.plan_differences.specs.Orders.{Ascends, PartOrder, name_cmp, part_cmp}
 use Rattle.plan_differences.specs.Pairings.{ArePaired, IsPartition, PairingText, is_like, likes}
 use Rattle.plan_differences.specs.Parts.{PartText}
 use Rattle.plan_differences.specs.inner.Joined.{chosen, joined, joined_from, with_gone, with_new, with_pair}

@@ -65,7 +65,7 @@ module _ (cmp : PartOrder) (old new : List Part) (i j : ℕ) (x y : Part) (old_l
   took_both gone comes pairs more p e both is =
       let f : PairingText = record { gone = map part_text gone; pairs = map pair_text pairs; comes = map part_text comes } in
       ap (λ (g : List (PartText × PartText)). left (drop (i + 1) old) (drop (j + 1) new) (record { gone = map part_text gone; pairs = g; comes = map part_text comes }))
-        (ap (map pair_text) is ∙ map-append pair_text pairs (p ∷ []) ∙ ap (λ e. map pair_text pairs ++ e ∷ []) both)
+      (ap (map pair_text) is ∙ map-append pair_text pairs (p ∷ []) ∙ ap (λ e. map pair_text pairs ++ e ∷ []) both)
       ∙ equal cmp (part_text x) (part_text y) (map part_text (drop (i + 1) old)) (map part_text (drop (j + 1) new)) f e
       ∙ sym (at_both f)
 

@@ -1,5 +1,5 @@
 -- Sorted parts.
-use Rattle.std.proofs.Common.{arith, ℕ, zero, suc, ◌<◌, ◌≤◌, ◌≡◌, false, List, [], ◌∷◌, map, length, IsSorted}
+use Rattle.std.proofs.Common.{arith, ℕ, suc, ◌<◌, ◌≡◌, false, List, [], ◌∷◌, map, length, IsSorted}
 use Rattle.std.specs.Prelude.{slice_index_or}
 use Rattle.std.specs.List.{AllByRecursion}
 use Rattle.std.specs.Ordering.{is_lt}

@@ -34,7 +34,18 @@ divided old new sorted_old sorted_new p q h k l m = record {
 pub differ : (old new sorted_old sorted_new : List PartText) (p q : PairingText) → AreInOrder old sorted_old → AreInOrder new sorted_new → ArePaired part_cmp sorted_old sorted_new p → ArePaired name_cmp p.gone p.comes q
     → AreDifferences old new (record { comes = q.comes; gone = q.gone; moved = map change_of q.pairs; kept = map change_of p.pairs })
 differ old new sorted_old sorted_new p q h k l m = record {
-  sorted_old = sorted_old; sorted_new = sorted_new; is_old = h; is_new = k; same = p; others = q; are_same = l; are_others = m; kept = refl; moved = refl; gone = refl; comes = refl;
+  sorted_old = sorted_old;
+  sorted_new = sorted_new;
+  is_old = h;
+  is_new = k;
+  same = p;
+  others = q;
+  are_same = l;
+  are_others = m;
+  kept = refl;
+  moved = refl;
+  gone = refl;
+  comes = refl;
 }
 
 -- the same values, read through references

@@ -1,5 +1,5 @@
 -- The ranks of versions.
-use Rattle.std.specs.Prelude.{Result, Ok, Err, Bool, false, length, ◌==◌}
+use Rattle.std.specs.Prelude.{Result, Ok, Err, false, length, ◌==◌}
 use Rattle.semver.specs.Identifiers.{parts_of}
 use Rattle.semver.specs.Parse.{Parts, version_parts}
 use Rattle.semver.specs.declared.Version.{Version}

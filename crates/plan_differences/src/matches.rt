@@ -52,15 +52,24 @@ fn take_next<'u, 'v, 'w>(
     match compare_by(by, &x, &y) {
         Ordering::Less => {
             found.gone.push(x)?;
-            Ok(Taken { old: taken.old + 1, new: taken.new })
+            Ok(Taken {
+                old: taken.old + 1,
+                new: taken.new,
+            })
         }
         Ordering::Equal => {
             found.pairs.push(Pair { old: x, new: y })?;
-            Ok(Taken { old: taken.old + 1, new: taken.new + 1 })
+            Ok(Taken {
+                old: taken.old + 1,
+                new: taken.new + 1,
+            })
         }
         Ordering::Greater => {
             found.comes.push(y)?;
-            Ok(Taken { old: taken.old, new: taken.new + 1 })
+            Ok(Taken {
+                old: taken.old,
+                new: taken.new + 1,
+            })
         }
     }
 }

@@ -1,5 +1,5 @@
 -- Words with marks.
-use Rattle.std.specs.Prelude.{List, ◌++◌}
+use Rattle.std.specs.Prelude.{◌++◌}
 use Rattle.cargo_workspaces.specs.Workspaces.{Text}
 use Rattle.difference_lines.specs.declared.columns.Word.{Word}
 

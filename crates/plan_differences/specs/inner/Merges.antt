@@ -1,5 +1,5 @@
 -- The state of the pass that joins two lists.
-use Rattle.std.specs.Prelude.{◌≡◌, ◌+◌, ◌-◌, ◌<◌, ◌≤◌, ℕ, List, drop, map}
+use Rattle.std.specs.Prelude.{◌+◌, ◌-◌, ◌<◌, ◌≤◌, ℕ, List, drop, map}
 use Rattle.plan_differences.specs.Pairings.{PairingText}
 use Rattle.plan_differences.specs.Views.{pair_text, part_text}
 use Rattle.plan_differences.specs.inner.Joined.{cmp_by, followed_by, joined}

@@ -1,4 +1,4 @@
-use Rattle.std.proofs.Common.{◌∙◌, ap, cond, map, sym}
+use Rattle.std.proofs.Common.{◌∙◌, ap, cond, sym}
 use Rattle.cargo_workspaces.specs.Views.{package_text}
 use Rattle.difference_lines.specs.Titles.{moved_title}
 use Rattle.difference_lines.specs.inner.Names.{names_text}

@@ -7,5 +7,5 @@ use Rattle.feats_differences.proofs.shown.push_changes.Given as goal
 
 abbrev pub invariant-loop-change : goal.invariant-loop-change
 invariant-loop-change l =
-    map difference_text l.initial.shown.items ++ changes_shown (map string_bytes l.whys) (map (λ c. change_text c.now) l.changes)
-    ≡ map difference_text l.shown.items ++ changes_shown (map string_bytes l.left) (map (λ c. change_text c.now) (drop l.change-index l.changes))
+    map difference_text l.initial.shown.items ++ changes_shown l.all (map string_bytes l.whys) (map change_text l.changes)
+    ≡ map difference_text l.shown.items ++ changes_shown l.all (map string_bytes l.left) (map change_text (drop l.change-index l.changes))

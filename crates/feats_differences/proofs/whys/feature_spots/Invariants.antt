@@ -7,5 +7,5 @@ use Rattle.feats_differences.proofs.whys.feature_spots.Given as goal
 
 abbrev pub invariant-loop-change : goal.invariant-loop-change
 invariant-loop-change l =
-    flat_map (feature_spots (build_text l.build)) (map (λ c. change_text c.now) l.changes)
-    ≡ map spot_text l.spots.items ++ flat_map (feature_spots (build_text l.build)) (map (λ c. change_text c.now) (drop l.change-index l.changes))
+    flat_map (feature_spots (build_text l.build)) (map change_text l.changes)
+    ≡ map spot_text l.spots.items ++ flat_map (feature_spots (build_text l.build)) (map change_text (drop l.change-index l.changes))

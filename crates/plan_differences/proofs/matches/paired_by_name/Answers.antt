@@ -1,5 +1,5 @@
 use Rattle.std.proofs.Common.{map, subst, sym}
-use Rattle.plan_differences.specs.Orders.{Ascends, name_cmp, name_total}
+use Rattle.plan_differences.specs.Orders.{name_cmp, name_total}
 use Rattle.plan_differences.specs.Pairings.{ArePaired, IsPartition}
 use Rattle.plan_differences.specs.Views.{part_text}
 use Rattle.plan_differences.proofs.Joins.{by_name, join}

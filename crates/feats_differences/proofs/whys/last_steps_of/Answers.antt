@@ -2,7 +2,7 @@ use Rattle.std.proofs.Common.{map}
 use Rattle.std.specs.String.{string_bytes}
 use Rattle.feats_differences.specs.Views.{build_text}
 use Rattle.feats_differences.proofs.WhyLists.{ok_with, whys_from}
-use Rattle.feats_differences.proofs.whys.whys_of.Goals as goal
+use Rattle.feats_differences.proofs.whys.last_steps_of.Goals as goal
 
 pub returns : goal.returns
 returns c =
