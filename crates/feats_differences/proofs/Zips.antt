@@ -7,9 +7,3 @@ zip_views R f g [] [] h = tt
 zip_views R f g [] (y ∷ ys) h = absurd h
 zip_views R f g (x ∷ xs) [] h = absurd h
 zip_views R f g (x ∷ xs) (y ∷ ys) h = (h.0, zip_views R f g xs ys h.1)
-
-pub zip_firsts : {A B C : Type 0} (R : C → B → Type 0) (f : A → C) (xs : List A) (ys : List B) → AllZip (λ a b. R (f a) b) xs ys → AllZip R (map f xs) ys
-zip_firsts R f [] [] h = tt
-zip_firsts R f [] (y ∷ ys) h = absurd h
-zip_firsts R f (x ∷ xs) [] h = absurd h
-zip_firsts R f (x ∷ xs) (y ∷ ys) h = (h.0, zip_firsts R f xs ys h.1)

@@ -1,7 +1,6 @@
 -- Why parts and features come: the last step of each `why`.
-use Rattle.std.specs.Prelude.{◌≡◌, ℕ, ◌-◌, List, [], ◌∷◌, ◌++◌, Option, Some, None, Bool, drop, flat_map, length, map, slice_get, ◌⊎◌}
-use Rattle.std.specs.Char.{encode_utf8}
-use Rattle.std.specs.List.{AllZip}
+use Rattle.std.specs.Prelude.{◌≡◌, ℕ, ◌-◌, List, [], ◌∷◌, Option, Some, None, Bool, true, drop, flat_map, if◌then◌else◌, length, map, nat_eq, slice_get, take}
+use Rattle.std.specs.List.{AllZip, ends_with}
 use Rattle.std.specs.Option.{option_map_or}
 use Rattle.cargo_plans.specs.Plans.{AfterWords, settings_by}
 use Rattle.cargo_workspaces.specs.Workspaces.{Text}
@@ -41,24 +40,24 @@ part_spots b parts = map (λ p. spot_of b p base) parts
 abbrev pub feature_spots : BuildText → ChangeText → List SpotText
 feature_spots b c = map (λ name. spot_of b c.new (named name)) c.comes
 
--- A line without its last character, which is its end.
-abbrev pub IsWithoutEnd : Text → Text → Type 0
-IsWithoutEnd line text = ((line ≡ []) × (text ≡ [])) ⊎ ((c : ℕ) × (line ≡ text ++ encode_utf8 c))
+-- A line without the line feed at its end.
+abbrev pub without_feed : Text → Text
+without_feed line = if ends_with nat_eq line (10 ∷ []) then take (length line - 1) line else line
 
 -- The line of the last step, as `why` shows it.
-abbrev pub last_line : BuildText → List WhyText → Text
-last_line b steps = why_lines b.workspace.packages (why_settings b.words) (drop (length steps - 1) steps)
+abbrev pub last_step : BuildText → List WhyText → Text
+last_step b steps = without_feed (why_lines b.workspace.packages (why_settings b.words) (drop (length steps - 1) steps))
 
--- The text of an answer of `why`; none for what is off.
-abbrev pub IsLastStep : BuildText → Option (List WhyText) → Text → Type 0
-IsLastStep b None text = text ≡ []
-IsLastStep b (Some steps) text = IsWithoutEnd (last_line b steps) text
+-- The last step of an answer of `why`; nothing for what is off.
+abbrev pub last_found : BuildText → Option (List WhyText) → Text
+last_found b None = []
+last_found b (Some steps) = last_step b steps
 
 -- For each of the spots, the last step of why it is on.
 pub record AreWhys (b : BuildText) (spots : List SpotText) (whys : List Text) : Type 0 where
   pub founds : List (Option (List WhyText))
   pub are_found : AfterWords b.workspace b.words (λ chosen. AllZip (Answers b.workspace (settings_by b.words chosen) b.plan.on) spots founds)
-  pub are_whys : AllZip (IsLastStep b) founds whys
+  pub are_whys : whys ≡ map (last_found b) founds
 
 -- The last steps of each `why`: of the parts that come, of the features that come in parts whose version or source changes, and of those
 -- that come in other parts.

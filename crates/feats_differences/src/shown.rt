@@ -1,5 +1,5 @@
 //! What is shown of the differences of two builds.
-ghost use Rattle.std.specs.Prelude.{◌≡◌, ◌++◌, ◌∷◌, [], IfOk, OnOk, drop, if◌then◌else◌, map, string_bytes};
+ghost use Rattle.std.specs.Prelude.{◌≡◌, ◌++◌, ◌∷◌, [], IfOk, OnOk, drop, if◌then◌else◌, length, map, string_bytes};
 ghost use Rattle.cargo_workspaces.specs.Views.{texts};
 ghost use Rattle.difference_lines.specs.Shown.{gone as text_of_gone};
 ghost use Rattle.difference_lines.specs.Views.{difference_text, turned_text};
@@ -33,12 +33,12 @@ fn copy_at(alloc: Global, texts: &[String], number: usize) -> Result<String, All
     }
 }
 
-/// Returns the texts from number `count` on.
-fn rest_of(texts: &[String], count: usize) -> &[String]
-    ensures { result.now ≡ drop count texts.now }
+/// Returns the texts after those of `names`.
+fn rest_after<'t>(texts: &'t [String], names: &[&str]) -> &'t [String]
+    ensures { result.now ≡ drop (length names.now) texts.now }
 {
-    if count < texts.len() {
-        &texts[count..]
+    if names.len() < texts.len() {
+        &texts[names.len()..]
     } else {
         &[]
     }
@@ -143,7 +143,7 @@ pub(crate) fn push_changes<'u, 'v, 'w>(
     let mut left = whys;
     for change in changes {
         push_change(alloc, shown, all, change, left)?;
-        left = rest_of(left, change.comes.len());
+        left = rest_after(left, change.comes.as_slice());
     }
     Ok(())
 }

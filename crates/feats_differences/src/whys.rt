@@ -1,6 +1,5 @@
 //! Why parts and features come: the last step of each `why`.
 ghost use Rattle.std.specs.Prelude.{◌≡◌, ◌++◌, ◌-◌, IfOk, OnOk, drop, flat_map, length, map, string_bytes};
-ghost use Rattle.std.specs.List.{AllZip};
 ghost use Rattle.cargo_plans.specs.Plans.{IsPlanOf};
 ghost use Rattle.feature_labels.specs.Names.{label_of};
 ghost use Rattle.feats_answers.specs.WhyTexts as answers;
@@ -8,7 +7,6 @@ ghost use Rattle.feats_differences.specs.Views.{build_text, whys_text};
 ghost use Rattle.feats_differences.specs.Whys as spec;
 ghost use Rattle.plan_differences.specs.Views.{change_text, differences_text, part_text};
 ghost use Rattle.plan_platforms.specs.HeldSpecs.{holds_on};
-ghost use Rattle.plan_rows.specs.Steps as steps_of_plans;
 ghost use Rattle.plan_whys.specs.StepViews.{found_text, spot_text, why_text};
 ghost use Rattle.why_lines.specs.Settings.{settings_text};
 
@@ -127,19 +125,35 @@ fn why_settings<'n, 's>(build: &Build<'_, '_, '_, 'n, 's>) -> WhySettings<'n, He
     }
 }
 
+/// Returns `line` without the line feed at its end.
+fn without_feed(line: &str) -> &str
+    ensures { result.now ≡ spec.without_feed line.now }
+{
+    match line.strip_suffix('\n') {
+        Some(front) => front,
+        None => line,
+    }
+}
+
+/// Returns the last of `steps`.
+fn last_of<'t, 'p>(steps: &'t [WhyStep<'p>]) -> &'t [WhyStep<'p>]
+    ensures { result.now ≡ drop (length steps.now - 1) steps.now }
+{
+    let from = steps.len().saturating_sub(1);
+    &steps[from..]
+}
+
 /// Returns the line of the last of `steps`, without its end.
 fn last_step(
     alloc: Global,
     build: &Build<'_, '_, '_, '_, '_>,
     steps: &[WhyStep<'_>],
 ) -> Result<String, AllocError>
-    ensures { IfOk result (λ text. spec.IsWithoutEnd (spec.last_line (build_text build.now) (map why_text steps.now)) (string_bytes text)) }
+    ensures { IfOk result (λ text. string_bytes text ≡ spec.last_step (build_text build.now) (map why_text steps.now)) }
 {
     let settings = why_settings(build);
-    let from = steps.len().saturating_sub(1);
-    let mut line = why_lines(alloc, build.workspace, &settings, &steps[from..])?;
-    let _end = line.pop();
-    Ok(line)
+    let line = why_lines(alloc, build.workspace, &settings, last_of(steps))?;
+    String::from_str(alloc, without_feed(line.as_str()))
 }
 
 /// Returns the line of the last step of `found`, without its end; nothing if there are no steps.
@@ -148,10 +162,10 @@ fn last_found(
     build: &Build<'_, '_, '_, '_, '_>,
     found: &Option<Vec<WhyStep<'_>>>,
 ) -> Result<String, AllocError>
-    ensures { IfOk result (λ text. spec.IsLastStep (build_text build.now) (found_text found.now) (string_bytes text)) }
+    ensures { IfOk result (λ text. string_bytes text ≡ spec.last_found (build_text build.now) (found_text found.now)) }
 {
     match found {
-        Some(steps) => last_step(alloc, build, steps),
+        Some(steps) => last_step(alloc, build, steps.as_slice()),
         None => Ok(String::new(alloc)),
     }
 }
@@ -162,7 +176,7 @@ fn last_steps(
     build: &Build<'_, '_, '_, '_, '_>,
     founds: &[Option<Vec<WhyStep<'_>>>],
 ) -> Result<Vec<String>, AllocError>
-    ensures { IfOk result (λ whys. AllZip (λ found text. spec.IsLastStep (build_text build.now) (found_text found) text) founds.now (map string_bytes whys.items)) }
+    ensures { IfOk result (λ whys. map string_bytes whys.items ≡ map (spec.last_found (build_text build.now)) (map found_text founds.now)) }
 {
     let mut whys = Vec::with_capacity(alloc, founds.len())?;
     for found in founds {
