@@ -1,0 +1,4 @@
+pub mod PartLists
+pub mod ShownLists
+pub mod WhyLists
+pub mod Zips

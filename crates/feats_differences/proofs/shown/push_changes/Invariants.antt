@@ -1,0 +1,11 @@
+use Rattle.std.proofs.Common.{◌≡◌, ◌++◌, map, drop}
+use Rattle.std.specs.String.{string_bytes}
+use Rattle.difference_lines.specs.Views.{difference_text}
+use Rattle.feats_differences.specs.Shown.{changes_shown}
+use Rattle.plan_differences.specs.Views.{change_text}
+use Rattle.feats_differences.proofs.shown.push_changes.Given as goal
+
+abbrev pub invariant-loop-change : goal.invariant-loop-change
+invariant-loop-change l =
+    map difference_text l.initial.shown.items ++ changes_shown l.all (map string_bytes l.whys) (map change_text l.changes)
+    ≡ map difference_text l.shown.items ++ changes_shown l.all (map string_bytes l.left) (map change_text (drop l.change-index l.changes))

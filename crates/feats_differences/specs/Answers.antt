@@ -1,0 +1,32 @@
+-- The answer to `diff`.
+use Rattle.std.specs.Prelude.{◌≡◌, List, not}
+use Rattle.cargo_workspaces.specs.Workspaces.{Text, PackageText}
+use Rattle.difference_lines.specs.Lines.{difference_lines}
+use Rattle.difference_lines.specs.Objects.{difference_objects}
+use Rattle.difference_lines.specs.Shown.{DifferenceText}
+use Rattle.feats_answers.specs.AnswerTexts.{AnswerText}
+use Rattle.feats_words.specs.declared.command_arguments.Format.{Format}
+use Rattle.feats_words.specs.declared.command_arguments.Format.TheVariants as format
+use Rattle.plan_differences.specs.Differences.{AreDifferences, DifferencesText, IsPartitioned}
+use Rattle.plan_differences.specs.Equality.{are_equal}
+use Rattle.feats_differences.specs.Builds.{BuildText, parts_of}
+use Rattle.feats_differences.specs.Shown.{all_shown}
+use Rattle.feats_differences.specs.Whys.{AreAllWhys, WhysText}
+
+abbrev pub text_in : Format → List PackageText → List PackageText → List DifferenceText → Text
+text_in format.Text old new shown = difference_lines old new shown
+text_in format.Json old new shown = difference_objects shown
+
+-- The text of these differences: with each part and feature that comes, the last step of why it is on in the new build.
+pub record IsDiffText (form : Format) (old new : BuildText) (differences : DifferencesText) (text : Text) : Type 0 where
+  pub whys : WhysText
+  pub are_whys : AreAllWhys new differences whys
+  pub is_text : text ≡ text_in form old.workspace.packages new.workspace.packages (all_shown differences whys)
+
+-- THE ANSWER to `diff`: what differs between two builds. It is negative if they differ.
+pub record IsDiffAnswer (form : Format) (old new : BuildText) (answer : AnswerText) : Type 0 where
+  pub differences : DifferencesText
+  pub are_differences : AreDifferences (parts_of old) (parts_of new) differences
+  pub is_partition : IsPartitioned (parts_of old) (parts_of new) differences
+  pub is_text : IsDiffText form old new differences answer.content
+  pub is_no : answer.is_negative ≡ not (are_equal differences)

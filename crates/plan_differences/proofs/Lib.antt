@@ -1,0 +1,5 @@
+pub mod Joins
+pub mod Merges
+pub mod Names
+pub mod Sorted
+pub mod Whole

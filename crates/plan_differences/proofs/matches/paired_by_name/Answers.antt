@@ -1,0 +1,15 @@
+use Rattle.std.proofs.Common.{map, subst, sym}
+use Rattle.plan_differences.specs.Orders.{name_cmp, name_total}
+use Rattle.plan_differences.specs.Pairings.{ArePaired, IsPartition}
+use Rattle.plan_differences.specs.Views.{part_text}
+use Rattle.plan_differences.proofs.Joins.{by_name, join}
+use Rattle.plan_differences.proofs.Names.{ok_with}
+use Rattle.plan_differences.proofs.matches.paired_by_name.Goals as goal
+
+pub returns-clause-paired : goal.returns-clause-paired
+returns-clause-paired c =
+    ok_with _ _ c.joined.result c.joined.ensures (λ found is. subst (λ p. ArePaired name_cmp (map part_text c.args.old.now) (map part_text c.args.new.now) p) (sym is) (join name_cmp name_total _ _ (by_name _ c.requires.0) (by_name _ c.requires.1)).paired)
+
+pub returns-clause-partition : goal.returns-clause-partition
+returns-clause-partition c =
+    ok_with _ _ c.joined.result c.joined.ensures (λ found is. subst (λ p. IsPartition (map part_text c.args.old.now) (map part_text c.args.new.now) p) (sym is) (join name_cmp name_total _ _ (by_name _ c.requires.0) (by_name _ c.requires.1)).divided)

@@ -1,0 +1,9 @@
+pub mod Changes
+pub mod Differences
+pub mod Equality
+pub mod Orders
+pub mod Pairings
+pub mod Parts
+pub mod Ranks
+pub mod Views
+pub mod inner
