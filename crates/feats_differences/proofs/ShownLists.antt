@@ -12,7 +12,6 @@ use Rattle.difference_lines.specs.declared.shown.Difference.{Difference}
 use Rattle.feats_differences.specs.Shown.{all_shown, change_shown, changes_shown, comes_from, is_shown, shown_of}
 use Rattle.feats_differences.specs.Views.{whys_text}
 use Rattle.feats_differences.specs.declared.whys.Whys.{Whys}
-use Rattle.plan_differences.specs.Changes.{ChangeText}
 use Rattle.plan_differences.specs.Views.{change_text, differences_text, part_text}
 use Rattle.plan_differences.specs.declared.comparing.Differences.{Differences}
 use Rattle.plan_differences.specs.declared.feature_changes.Change.{Change}
@@ -50,7 +49,7 @@ shown_all d w comes went moved kept parts_whys moved_whys kept_whys h1 h2 h3 h4 
     let ea : a ≡ la = is_a ∙ ap (λ (ds : List Difference). map difference_text ds ++ comes_from (map string_bytes parts_whys) 0 (map part_text comes)) none ∙ ap (λ (ws : List (String Global)). comes_from (map string_bytes ws) 0 (map part_text comes)) h5 ∙ ap (λ (ps : List Part). comes_from (map string_bytes w.parts.items) 0 (map part_text ps)) h1 in
     let eb : b ≡ la ++ lb = is_b ∙ ap (λ (z : List DifferenceText). z ++ map (λ p. gone (shown_of p)) (map part_text went)) ea ∙ ap (λ (ps : List Part). la ++ map (λ p. gone (shown_of p)) (map part_text ps)) h2 in
     let ec : c ≡ (la ++ lb) ++ lc = is_c ∙ ap (λ (z : List DifferenceText). z ++ changes_shown true (map string_bytes moved_whys) (map change_text moved)) eb
-        ∙ ap (λ (ws : List (String Global)). (la ++ lb) ++ changes_shown true (map string_bytes ws) (map change_text moved)) h6 ∙ ap (λ (cs : List Change). (la ++ lb) ++ changes_shown true (map string_bytes w.moved.items) (map change_text cs)) h3 in
+    ∙ ap (λ (ws : List (String Global)). (la ++ lb) ++ changes_shown true (map string_bytes ws) (map change_text moved)) h6 ∙ ap (λ (cs : List Change). (la ++ lb) ++ changes_shown true (map string_bytes w.moved.items) (map change_text cs)) h3 in
     let ee : e ≡ ((la ++ lb) ++ lc) ++ le = is_e ∙ ap (λ (z : List DifferenceText). z ++ changes_shown false (map string_bytes kept_whys) (map change_text kept)) ec
-        ∙ ap (λ (ws : List (String Global)). ((la ++ lb) ++ lc) ++ changes_shown false (map string_bytes ws) (map change_text kept)) h7 ∙ ap (λ (cs : List Change). ((la ++ lb) ++ lc) ++ changes_shown false (map string_bytes w.kept.items) (map change_text cs)) h4 in
+    ∙ ap (λ (ws : List (String Global)). ((la ++ lb) ++ lc) ++ changes_shown false (map string_bytes ws) (map change_text kept)) h7 ∙ ap (λ (cs : List Change). ((la ++ lb) ++ lc) ++ changes_shown false (map string_bytes w.kept.items) (map change_text cs)) h4 in
     ee ∙ append_assoc (la ++ lb) lc le ∙ append_assoc la lb (lc ++ le)

@@ -3,7 +3,7 @@ use Rattle.std.proofs.Common.{ℕ, ◌≡◌, ◌∙◌, ◌≢◌, ◌-◌, Lis
 use Rattle.std.proofs.lemmas.List.{drop-map, length-map, take-append-drop}
 use Rattle.std.specs.Cmp.Lexicographic.{bytes_decides}
 use Rattle.std.specs.Global.{Vec}
-use Rattle.std.specs.List.{AllZip, ends_with}
+use Rattle.std.specs.List.{ends_with}
 use Rattle.std.specs.Prelude.{IfOk, nat_eq}
 use Rattle.cargo_plans.specs.Plans.{settings_by}
 use Rattle.cargo_workspaces.specs.Workspaces.{Text}

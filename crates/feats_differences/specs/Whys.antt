@@ -1,5 +1,5 @@
 -- Why parts and features come: the last step of each `why`.
-use Rattle.std.specs.Prelude.{◌≡◌, ℕ, ◌-◌, List, [], ◌∷◌, Option, Some, None, Bool, true, drop, flat_map, if◌then◌else◌, length, map, nat_eq, slice_get, take}
+use Rattle.std.specs.Prelude.{◌≡◌, ◌-◌, List, [], ◌∷◌, Option, Some, None, Bool, true, drop, flat_map, if◌then◌else◌, length, map, nat_eq, slice_get, take}
 use Rattle.std.specs.List.{AllZip, ends_with}
 use Rattle.std.specs.Option.{option_map_or}
 use Rattle.cargo_plans.specs.Plans.{AfterWords, settings_by}

@@ -28,10 +28,7 @@ fn place_name<'n>(targets: &[&'n str], place: Place) -> &'n str
 }
 
 /// Returns the package that `unit` is.
-fn package_of<'b, 'v>(
-    build: &Build<'b, 'v, '_, '_, '_>,
-    unit: &Unit<'_>,
-) -> Option<&'b Package<'v>>
+fn package_of<'b, 'v>(build: &Build<'b, 'v, '_, '_, '_>, unit: &Unit<'_>) -> Option<&'b Package<'v>>
     ensures { option_map (λ p. package_text p.now) result ≡ slice_get (build_text build.now).workspace.packages (unit_text unit.now).number }
 {
     build.workspace.packages().get(unit.package)

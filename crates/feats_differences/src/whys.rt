@@ -35,13 +35,7 @@ fn side_at(split: bool, place: Place) -> Side
     ensures { result ≡ spec.side_at split place }
 {
     match place {
-        Place::Host => {
-            if split {
-                Side::Host
-            } else {
-                Side::Target
-            }
-        }
+        Place::Host => { if split { Side::Host } else { Side::Target } }
         Place::Target(_) => Side::Target,
     }
 }

@@ -1,5 +1,4 @@
 use Rattle.std.proofs.Common.{◌∙◌, List, ap, map}
-use Rattle.std.proofs.Common.{string_bytes}
 use Rattle.feats_answers.specs.WhyTexts.{why_settings}
 use Rattle.feats_differences.specs.Views.{build_text}
 use Rattle.feats_differences.specs.Whys.{without_feed}
