@@ -1,5 +1,5 @@
 pub mod Each
 pub mod Gathered
-pub mod Sections
+pub mod FoundLemmas
 pub mod Tokens
 pub mod Zips

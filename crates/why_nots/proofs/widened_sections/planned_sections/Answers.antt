@@ -6,7 +6,7 @@ use Rattle.plan_platforms.specs.HeldSpecs.{holds_on}
 use Rattle.plan_steps.specs.PlanViews.{plan_text}
 use Rattle.why_nots.specs.PartView.{part_text}
 use Rattle.why_nots.specs.inner.Lists.{texts_of}
-use Rattle.why_nots.proofs.Sections.{planned}
+use Rattle.why_nots.proofs.FoundLemmas.{planned}
 use Rattle.why_nots.proofs.widened_sections.planned_sections.Goals as goal
 
 pub returns : goal.returns
