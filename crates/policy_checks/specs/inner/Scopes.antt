@@ -1,5 +1,5 @@
 -- Which spots count.
-use Rattle.std.specs.Prelude.{ℕ, List, Bool, false, ◌&&◌, map, slice_index_or, if◌then◌else◌}
+use Rattle.std.specs.Prelude.{List, Bool, false, ◌&&◌, slice_index_or, if◌then◌else◌}
 use Rattle.plan_rows.specs.Steps.{is_host}
 use Rattle.plan_starts.specs.PackageVisits.{PairVisit, is_on}
 use Rattle.plan_whys.specs.Steps.{SpotText}

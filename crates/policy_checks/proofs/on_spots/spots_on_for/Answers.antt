@@ -1,4 +1,4 @@
-use Rattle.std.proofs.Common.{List, map}
+use Rattle.std.proofs.Common.{map}
 use Rattle.std.specs.Prelude.{flat_map}
 use Rattle.plan_names.specs.Views.{named_text}
 use Rattle.plan_whys.specs.StepViews.{spot_text}

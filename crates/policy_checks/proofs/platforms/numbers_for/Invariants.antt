@@ -1,4 +1,4 @@
-use Rattle.std.proofs.Common.{◌≡◌, ◌++◌, ℕ, List, filter, map, drop}
+use Rattle.std.proofs.Common.{◌≡◌, ◌++◌, List, filter, map, drop}
 use Rattle.plan_units.specs.Units.{UnitText}
 use Rattle.plan_units.specs.UnitViews.{unit_text}
 use Rattle.policy_checks.specs.Builds.{is_built_for}
