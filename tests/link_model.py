@@ -42,10 +42,16 @@ def name_of_unit(plan, entry):
 
 # Features.
 
+def is_own(table, node, to):
+    """Whether a link to itself isn't one: a base has one only if its package depends on itself, and a feature has none."""
+    entry, kind, _ = node
+    return node == to and not (kind == 'base' and any(it.to == entry and not it.is_optional for it in table[entry].dependencies))
+
+
 def spot_links(plan):
-    """The pairs of nodes of step `on`, both on, of which the first turns on the second. A base has no link to itself."""
+    """The pairs of nodes of step `on`, both on, of which the first turns on the second."""
     table = plan.on_table()
-    return {(node, to) for node in plan.on for to in of_node(table, plan.on, node) if to in plan.on and not (node == to and node[1] == 'base')}
+    return {(node, to) for node in plan.on for to in of_node(table, plan.on, node) if to in plan.on and not is_own(table, node, to)}
 
 
 def root_spots(plan):
