@@ -9,7 +9,7 @@ import sys
 
 sys.dont_write_bytecode = True
 
-from plan_model import COMMAND, HOST, TARGET, Plan, Refused, document_of, of_node, platform_of_word, selection_of, words_of
+from plan_model import COMMAND, HOST, TARGET, Plan, Refused, document_of, of_node, parts_of, platform_of_word, selection_of, words_of
 
 
 # Packages.
@@ -42,10 +42,20 @@ def name_of_unit(plan, entry):
 
 # Features.
 
+def has_loop(table, node):
+    """Whether a node has a link to itself: only through a dependency of its package on itself."""
+    entry, kind, name = node
+    own = [it for it in table[entry].dependencies if it.to == entry]
+    if kind == 'base':
+        return any(not it.is_optional for it in own)
+    items = table[entry].features[name] if kind == 'feature' else []
+    return any(feature == name and it.name == to for to, feature, _ in map(parts_of, items) for it in own)
+
+
 def spot_links(plan):
-    """The pairs of nodes of step `on`, both on, of which the first turns on the second. A base has no link to itself."""
+    """The pairs of nodes of step `on`, both on, of which the first turns on the second."""
     table = plan.on_table()
-    return {(node, to) for node in plan.on for to in of_node(table, plan.on, node) if to in plan.on and not (node == to and node[1] == 'base')}
+    return {(node, to) for node in plan.on for to in of_node(table, plan.on, node) if to in plan.on and (node != to or has_loop(table, node))}
 
 
 def root_spots(plan):
