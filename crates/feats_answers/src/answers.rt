@@ -13,6 +13,7 @@ ghost use Rattle.feats_files.specs.Messages.{Says};
 ghost use Rattle.feats_words.specs.Views.{question_text};
 ghost use Rattle.feats_answers.specs.AnswerViews.{answer_text};
 ghost use Rattle.feats_answers.specs.Answers.{IsAnswerTo, IsNoAnswerTo, IsPositive};
+ghost use Rattle.feats_answers.specs.DuplicateTexts.{IsDuplicatesText};
 ghost use Rattle.feats_answers.specs.ListTexts.{IsListText};
 ghost use Rattle.feats_answers.specs.NameMessages.{IsNameRefusal};
 ghost use Rattle.feats_answers.specs.Parts.{IsPartRefusal};
@@ -22,6 +23,7 @@ ghost use Rattle.feats_answers.specs.WhyNotTexts.{IsWhyNotAnswer};
 ghost use Rattle.feats_answers.specs.WhyTexts.{IsWhyAnswer};
 
 use crate::answer::{Answer, positive};
+use crate::duplicate_texts::duplicates_text;
 use crate::gathered::gathered;
 use crate::list_texts::list_text;
 use crate::off_parts::off_parts;
@@ -80,6 +82,21 @@ fn list_answer(
         Ok(text) => Ok(positive(text)),
         Err(fault) => Err(fault),
     }
+}
+
+/// Returns the answer to `duplicates`.
+fn duplicates_answer<'w>(
+    alloc: Global,
+    format: Format,
+    files: &[PlatformFile<'_>],
+    workspace: &'w Workspace<'_>,
+    words: &PlanWords<'w, '_, HeldSpecs<'_>>,
+    plan: &Plan<'_>,
+) -> Result<Answer, AllocError>
+    ensures { IfOk result (λ answer. IsPositive (IsDuplicatesText format (map file_text files.now) (workspace_text workspace.now) (words_text holds_on words.now) (plan_text plan.now)) (answer_text answer)) }
+{
+    let text = duplicates_text(alloc, format, files, workspace, words, plan)?;
+    Ok(positive(text))
 }
 
 /// Returns the answer to `why` with this word. With `all` it has every direct reason of each step.
@@ -151,5 +168,8 @@ pub fn answer_to<'w, 'n, 's>(
         }
         Question::Specs => Ok(specs_answer(alloc, format, files, specs, words)?),
         Question::List(word) => list_answer(alloc, format, workspace, plan, word),
+        Question::Duplicates => {
+            Ok(duplicates_answer(alloc, format, files, workspace, words, plan)?)
+        }
     }
 }

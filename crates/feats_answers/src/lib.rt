@@ -3,6 +3,7 @@
 
 mod answer;
 mod answers;
+mod duplicate_texts;
 mod gathered;
 mod labels_on;
 mod list_texts;

@@ -16,6 +16,7 @@ pub data QuestionText : Type 0 where
   why_not : Text → QuestionText
   specs : QuestionText
   list : Text → QuestionText
+  duplicates : QuestionText
 
 -- What a command line asks for.
 pub record RequestText : Type 0 where
@@ -55,7 +56,8 @@ question_of name rows =
     else (if bytes_eq name (codes "why-not") then Some (why_not (required_value (codes "feature") rows))
     else (if bytes_eq name (codes "specs") then Some specs
     else (if bytes_eq name (codes "list") then Some (list (required_value (codes "spec") rows))
-    else None))))
+    else (if bytes_eq name (codes "duplicates") then Some duplicates
+    else None)))))
 
 abbrev pub asked : QuestionText → List Row → RequestText
 asked question rows = record {

@@ -1,6 +1,6 @@
 -- The values that Rust's types contain.
 use Rattle.std.specs.Prelude.{map, option_map}
-use Rattle.feats_words.specs.Requests.{QuestionText, RequestText, list, plan, specs, texts, why, why_not}
+use Rattle.feats_words.specs.Requests.{QuestionText, RequestText, duplicates, list, plan, specs, texts, why, why_not}
 use Rattle.feats_words.specs.Arguments.{ArgumentsText, SourceText, version_given, manifest_at}
 use Rattle.feats_words.specs.PlatformWords.{PlatformText}
 use Rattle.feats_words.specs.declared.command_arguments.CommandArguments.{CommandArguments}
@@ -24,6 +24,7 @@ question_text (question.Why feature all) = why feature.now all
 question_text (question.WhyNot word) = why_not word.now
 question_text question.Specs = specs
 question_text (question.List word) = list word.now
+question_text question.Duplicates = duplicates
 
 abbrev pub arguments_text : CommandArguments → ArgumentsText
 arguments_text a = record {

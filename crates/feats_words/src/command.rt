@@ -37,6 +37,11 @@ Example, with the files of `feats plan --help`:
   feats list --metadata metadata.json --host x86_64-unknown-linux-gnu=host.cfg -p server libc
 ";
 
+const DUPLICATES_EXAMPLE: &str = "\
+Example, with the files of `feats plan --help`:
+  feats duplicates --metadata metadata.json --host x86_64-unknown-linux-gnu=host.cfg --workspace
+";
+
 /// The help of the word FEATURE.
 const FEATURE_HELP: &str = "\
 SPEC/NAME, SPEC/dep:NAME, SPEC for the package itself, or a feature's name alone; `*` stands for any text in a name";
@@ -291,6 +296,18 @@ fn list_command<'a>(alloc: Global) -> Result<Command<'a>, AllocError>
     )
 }
 
+/// Returns the command `duplicates`.
+fn duplicates_command<'a>(alloc: Global) -> Result<Command<'a>, AllocError>
+    ensures { IfOk result (λ r. IsSubcommand r spec.duplicates_shape) }
+{
+    wordless(
+        alloc,
+        "duplicates",
+        "Prints packages that are built in several versions or with different features",
+        DUPLICATES_EXAMPLE,
+    )
+}
+
 /// Returns the program without its commands.
 fn bare_command<'a>(alloc: Global) -> Command<'a>
     ensures { app_of result ≡ spec.bare_app }
@@ -309,5 +326,6 @@ pub(crate) fn feats_command<'a>(alloc: Global) -> Result<Command<'a>, AllocError
         .subcommand(why_command(alloc)?)?
         .subcommand(why_not_command(alloc)?)?
         .subcommand(specs_command(alloc)?)?
-        .subcommand(list_command(alloc)?)
+        .subcommand(list_command(alloc)?)?
+        .subcommand(duplicates_command(alloc)?)
 }

@@ -23,6 +23,8 @@ pub enum Question<'a> {
     Specs,
     /// Which features does the package of this spec have?
     List(&'a str),
+    /// What is built several times?
+    Duplicates,
 }
 
 /// What a command line asks for.
@@ -112,6 +114,7 @@ fn question_of<'a>(name: &str, matches: &ArgMatches<'a>) -> Option<Question<'a>>
         "why-not" => Some(Question::WhyNot(required_value(matches, "feature"))),
         "specs" => Some(Question::Specs),
         "list" => Some(Question::List(required_value(matches, "spec"))),
+        "duplicates" => Some(Question::Duplicates),
         _ => None,
     }
 }
