@@ -17,6 +17,8 @@ pub data QuestionText : Type 0 where
   specs : QuestionText
   list : Text → QuestionText
   duplicates : QuestionText
+  tree : Option Text → QuestionText
+  dot : QuestionText
 
 -- What a command line asks for.
 pub record RequestText : Type 0 where
@@ -33,6 +35,8 @@ pub record RequestText : Type 0 where
   pub no_default_features : Bool
   pub tests : Bool
   pub format : Option Text
+  pub edges : Option Text
+  pub depth : Option Text
 
 -- The value of an option; of an option or a word that is required; the values of an option that may be given several times.
 abbrev pub value : Text → List Row → Option Text
@@ -57,7 +61,9 @@ question_of name rows =
     else (if bytes_eq name (codes "specs") then Some specs
     else (if bytes_eq name (codes "list") then Some (list (required_value (codes "spec") rows))
     else (if bytes_eq name (codes "duplicates") then Some duplicates
-    else None)))))
+    else (if bytes_eq name (codes "tree") then Some (tree (value (codes "invert") rows))
+    else (if bytes_eq name (codes "dot") then Some dot
+    else None)))))))
 
 abbrev pub asked : QuestionText → List Row → RequestText
 asked question rows = record {
@@ -74,6 +80,8 @@ asked question rows = record {
   no_default_features = is_given (codes "no-default-features") rows;
   tests = is_given (codes "tests") rows;
   format = value (codes "format") rows;
+  edges = value (codes "edges") rows;
+  depth = value (codes "depth") rows;
 }
 
 -- What the command of a name is asked for by its words and options.

@@ -25,6 +25,10 @@ pub enum Question<'a> {
     List(&'a str),
     /// What is built several times?
     Duplicates,
+    /// What depends on what? With `invert`, what depends on the part that this word names?
+    Tree { invert: Option<&'a str> },
+    /// What depends on what, as a graph?
+    Dot,
 }
 
 /// What a command line asks for.
@@ -49,6 +53,10 @@ pub struct Request<'a> {
     pub no_default_features: bool,
     pub tests: bool,
     pub format: Option<&'a str>,
+    /// What a tree or a graph shows.
+    pub edges: Option<&'a str>,
+    /// How deep a tree is.
+    pub depth: Option<&'a str>,
 }
 
 /// Returns the value of an option or a word that is required.
@@ -115,6 +123,10 @@ fn question_of<'a>(name: &str, matches: &ArgMatches<'a>) -> Option<Question<'a>>
         "specs" => Some(Question::Specs),
         "list" => Some(Question::List(required_value(matches, "spec"))),
         "duplicates" => Some(Question::Duplicates),
+        "tree" => Some(Question::Tree {
+            invert: value(matches, "invert"),
+        }),
+        "dot" => Some(Question::Dot),
         _ => None,
     }
 }
@@ -141,6 +153,8 @@ fn asked<'a>(
         no_default_features: is_given(matches, "no-default-features"),
         tests: is_given(matches, "tests"),
         format: value(matches, "format"),
+        edges: value(matches, "edges"),
+        depth: value(matches, "depth"),
     })
 }
 
