@@ -1,8 +1,9 @@
-"""Judges the steps of `feats why --format json` over the tables of plan_model.py.
+"""Judges the steps of `feats why --format json`, also with `--all`, over the tables of plan_model.py.
 
 Steps are an explanation if each node is on, is listed once, and is turned on by its `from` where the nodes of earlier steps are on (a weak
 item waits for its gate). They are exactly what the last node rests on if each other step is the `from` or the gate of a later one. The
-command features aren't shown: a step whose `from` is null begins at one.
+command features aren't shown: a step whose `from` is null begins at one. With `--all` the reasons of a step are right if they begin at
+exactly the nodes that are on and turn its node on; a reason without a gate needs none, and one with a gate suffices where only that is on.
 """
 import plan_model
 from plan_model import COMMAND
@@ -50,3 +51,31 @@ def fault_of_steps(plan, steps, asked):
     if not before or before[-1] != asked:
         return f'the last step is {before[-1:]}, not {asked}'
     return next((f'nothing rests on {it}' for it in before[:-1] if it not in used), None)
+
+
+def starts_of_reason(plan, reason):
+    """The nodes at which a reason begins. If it begins at the selection, these are the command features."""
+    return starts_of(plan) if reason['from'] is None else [node_of(reason['from'])]
+
+
+def fault_of_reason(plan, table, node, reason):
+    """Returns why the reason isn't one for the node, or None."""
+    gates = [] if reason['gate'] is None else [node_of(reason['gate'])]
+    if any(it not in plan.on for it in gates):
+        return f'the gate {gates} of {node} is not on'
+    if not any(node in plan_model.of_node(table, set(gates), start) for start in starts_of_reason(plan, reason)):
+        return f'{reason} is no reason for {node}'
+    return None
+
+
+def fault_of_reasons(plan, step):
+    """Returns why the reasons of a step aren't all direct reasons of its node, or None."""
+    table, node, reasons = plan.on_table(), node_of(step), step['reasons']
+    wanted = {None if it in starts_of(plan) else it for it in plan.on if it != node and node in plan_model.of_node(table, plan.on, it)}
+    came = {None if it['from'] is None else node_of(it['from']) for it in reasons}
+    if came != wanted:
+        return f'{node} is turned on by {wanted}, came {came}'
+    own = {name: step[name] for name in ('reason', 'from', 'gate', 'platforms')}
+    if own not in reasons:
+        return f'the reason of {node} is not one of {reasons}'
+    return next((fault for it in reasons if (fault := fault_of_reason(plan, table, node, it))), None)

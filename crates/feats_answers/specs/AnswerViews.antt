@@ -1,5 +1,5 @@
 -- The values that answers and texts contain.
-use Rattle.std.specs.Prelude.{ℕ, List, [], ◌∷◌, Option, Some, None, map}
+use Rattle.std.specs.Prelude.{ℕ, List, map}
 use Rattle.std.specs.Global.{Vec}
 use Rattle.cargo_workspaces.specs.Workspaces.{Text}
 use Rattle.feats_answers.specs.AnswerTexts.{AnswerText}
@@ -10,7 +10,3 @@ answer_text a = record { content = a.text.items; is_negative = a.is_negative }
 
 abbrev pub texts_of : List (Vec ℕ) → List Text
 texts_of texts = map (λ t. t.items) texts
-
-abbrev pub texts_in : Option (Vec ℕ) → List Text
-texts_in None = []
-texts_in (Some t) = t.items ∷ []

@@ -1,6 +1,7 @@
 pub mod AnswerTexts
 pub mod AnswerViews
 pub mod Answers
+pub mod DuplicateTexts
 pub mod Gathered
 pub mod LabelsOn
 pub mod ListTexts

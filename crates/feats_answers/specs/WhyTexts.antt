@@ -1,15 +1,17 @@
 -- The text about why a feature is on.
-use Rattle.std.specs.Prelude.{◌≡◌, List, [], ◌∷◌, ◌++◌, Option, option_map, codes}
-use Rattle.std.specs.Option.{option_map_or}
+use Rattle.std.specs.Prelude.{◌≡◌, List, [], ◌∷◌, Bool, true, false, flat_map, Option, None, Some, codes}
 use Rattle.cargo_workspaces.specs.Workspaces.{Text, PackageText, WorkspaceText}
 use Rattle.cargo_plans.specs.Plans.{WordsText}
 use Rattle.plan_names.specs.Names.{NamedText}
 use Rattle.plan_rows.specs.declared.side.Side.TheVariants.{Target, Host}
 use Rattle.plan_steps.specs.Plans.{PlanText}
-use Rattle.plan_whys.specs.Steps.{SpotText, WhyText}
+use Rattle.plan_whys.specs.Reasons.{AreReasoned}
+use Rattle.plan_whys.specs.Steps.{ReasonedText, SpotText, WhyText}
 use Rattle.plan_whys.specs.Whys.{AnswersBy}
 use Rattle.why_lines.specs.Lines.{why_lines}
 use Rattle.why_lines.specs.Objects.{why_objects}
+use Rattle.why_lines.specs.ReasonedLines.{reasoned_lines}
+use Rattle.why_lines.specs.ReasonedObjects.{reasoned_objects}
 use Rattle.why_lines.specs.Settings.{SettingsText}
 use Rattle.feats_words.specs.declared.command_arguments.Format.{Format}
 use Rattle.feats_words.specs.declared.command_arguments.Format.TheVariants as format
@@ -26,27 +28,45 @@ abbrev pub steps_text : Format → List PackageText → WordsText → List WhyTe
 steps_text format.Text packages words steps = why_lines packages (why_settings words) steps
 steps_text format.Json packages words steps = why_objects packages (why_settings words) steps
 
+-- The same with every direct reason of each step.
+abbrev pub reasoned_text : Format → List PackageText → WordsText → List ReasonedText → Text
+reasoned_text format.Text packages words steps = reasoned_lines packages (why_settings words) steps
+reasoned_text format.Json packages words steps = reasoned_objects packages (why_settings words) steps
+
+-- The text with every direct reason in the plan.
+pub record IsReasonedText (form : Format) (packages : List PackageText) (words : WordsText) (plan : PlanText) (steps : List WhyText) (text : Text) : Type 0 where
+  pub reasoned : List ReasonedText
+  pub are_reasoned : AreReasoned plan.on steps reasoned
+  pub is_text : text ≡ reasoned_text form packages words reasoned
+
+-- The text of an explanation, which has every direct reason if `all` is true.
+abbrev pub IsStepsText : Format → Bool → List PackageText → WordsText → PlanText → List WhyText → Text → Type 0
+IsStepsText form true packages words plan steps text = IsReasonedText form packages words plan steps text
+IsStepsText form false packages words plan steps text = text ≡ steps_text form packages words steps
+
+-- `shown` contains the text of the steps that were found, and is empty if none were.
+abbrev pub IsFoundShown : Format → Bool → List PackageText → WordsText → PlanText → Option (List WhyText) → List Text → Type 0
+IsFoundShown form all packages words plan None shown = shown ≡ []
+IsFoundShown form all packages words plan (Some steps) shown = (text : Text) × IsStepsText form all packages words plan steps text × (shown ≡ text ∷ [])
+
 -- `shown` contains the text of the steps to `spot` if it is on, and is empty if it is off.
-pub record IsSpotShown (form : Format) (w : WorkspaceText) (words : WordsText) (plan : PlanText) (spot : SpotText) (shown : List Text) : Type 0 where
+pub record IsSpotShown (form : Format) (all : Bool) (w : WorkspaceText) (words : WordsText) (plan : PlanText) (spot : SpotText) (shown : List Text) : Type 0 where
   pub found : Option (List WhyText)
   pub is_found : AnswersBy w words plan.on spot found
-  pub is_shown : shown ≡ option_map_or (λ steps. steps_text form w.packages words steps ∷ []) found []
+  pub is_shown : IsFoundShown form all w.packages words plan found shown
 
--- `shown` contains the text of `part` for the target side, and then that for the host side.
-pub record IsPartShown (form : Format) (w : WorkspaceText) (words : WordsText) (plan : PlanText) (part : NamedText) (shown : List Text) : Type 0 where
-  pub on_target : List Text
-  pub on_host : List Text
-  pub is_target : IsSpotShown form w words plan (spot_on Target part) on_target
-  pub is_host : IsSpotShown form w words plan (spot_on Host part) on_host
-  pub is_shown : shown ≡ on_target ++ on_host
+-- A part on the target side, and then on the host side.
+abbrev pub spots_of_part : NamedText → List SpotText
+spots_of_part part = spot_on Target part ∷ spot_on Host part ∷ []
 
 abbrev pub off_end : Text
 off_end = codes " is off in this build: ask why-not\n"
 
--- The answer to `why` with this word: why each part that it names is on. If none is on, it says no.
-pub record IsWhyAnswer (form : Format) (w : WorkspaceText) (words : WordsText) (plan : PlanText) (word : Text) (answer : AnswerText) : Type 0 where
+-- The answer to `why` with this word: why each part that it names is on, side by side. If none is on, it says no. With `all` it has every
+-- direct reason of each step.
+pub record IsWhyAnswer (form : Format) (all : Bool) (w : WorkspaceText) (words : WordsText) (plan : PlanText) (word : Text) (answer : AnswerText) : Type 0 where
   pub parts : List NamedText
   pub are_parts : ArePartsOf w words word parts
   pub shown : List Text
-  pub are_shown : AreShown (IsPartShown form w words plan) parts shown
+  pub are_shown : AreShown (IsSpotShown form all w words plan) (flat_map spots_of_part parts) shown
   pub is_answer : answer ≡ gathered form w.packages word parts off_end shown

@@ -13,6 +13,7 @@ ghost use Rattle.feats_files.specs.Messages.{Says};
 ghost use Rattle.feats_words.specs.Views.{question_text};
 ghost use Rattle.feats_answers.specs.AnswerViews.{answer_text};
 ghost use Rattle.feats_answers.specs.Answers.{IsAnswerTo, IsNoAnswerTo, IsPositive};
+ghost use Rattle.feats_answers.specs.DuplicateTexts.{IsDuplicatesText};
 ghost use Rattle.feats_answers.specs.ListTexts.{IsListText};
 ghost use Rattle.feats_answers.specs.NameMessages.{IsNameRefusal};
 ghost use Rattle.feats_answers.specs.Parts.{IsPartRefusal};
@@ -22,12 +23,13 @@ ghost use Rattle.feats_answers.specs.WhyNotTexts.{IsWhyNotAnswer};
 ghost use Rattle.feats_answers.specs.WhyTexts.{IsWhyAnswer};
 
 use crate::answer::{Answer, positive};
+use crate::duplicate_texts::duplicates_text;
 use crate::gathered::gathered;
 use crate::list_texts::list_text;
+use crate::off_parts::off_parts;
 use crate::parts::parts_of;
 use crate::plan_texts::text_of_units;
 use crate::spec_texts::spec_text;
-use crate::why_not_texts::why_not_texts;
 use crate::why_texts::why_texts;
 use cargo_plans::{Plan, PlanWords};
 use cargo_workspaces::Workspace;
@@ -35,6 +37,7 @@ use feats_files::{Fault, PlatformFile};
 use feats_words::{CommandArguments, Format, Question};
 use plan_platforms::{DeclaredSpec, HeldSpecs, every_spec};
 use std::alloc::{AllocError, Global};
+use why_nots::why_not_texts;
 
 /// Returns the answer to `plan`.
 fn plan_answer(
@@ -81,21 +84,37 @@ fn list_answer(
     }
 }
 
-/// Returns the answer to `why` with this word.
+/// Returns the answer to `duplicates`.
+fn duplicates_answer<'w>(
+    alloc: Global,
+    format: Format,
+    files: &[PlatformFile<'_>],
+    workspace: &'w Workspace<'_>,
+    words: &PlanWords<'w, '_, HeldSpecs<'_>>,
+    plan: &Plan<'_>,
+) -> Result<Answer, AllocError>
+    ensures { IfOk result (λ answer. IsPositive (IsDuplicatesText format (map file_text files.now) (workspace_text workspace.now) (words_text holds_on words.now) (plan_text plan.now)) (answer_text answer)) }
+{
+    let text = duplicates_text(alloc, format, files, workspace, words, plan)?;
+    Ok(positive(text))
+}
+
+/// Returns the answer to `why` with this word. With `all` it has every direct reason of each step.
 fn why_answer<'w>(
     alloc: Global,
     format: Format,
+    all: bool,
     workspace: &'w Workspace<'_>,
     words: &PlanWords<'w, '_, HeldSpecs<'_>>,
     plan: &Plan<'_>,
     word: &'w str,
 ) -> Result<Answer, Fault>
     requires plan { IsPlanOf (workspace_text workspace.now) (words_text holds_on words.now) (plan_text plan.now) }
-    ensures answer { IfOk result (λ answer. IsWhyAnswer format (workspace_text workspace.now) (words_text holds_on words.now) (plan_text plan.now) word.now (answer_text answer)) }
+    ensures answer { IfOk result (λ answer. IsWhyAnswer format all (workspace_text workspace.now) (words_text holds_on words.now) (plan_text plan.now) word.now (answer_text answer)) }
     ensures fault { IfErr result (λ fault. Says fault (IsPartRefusal (workspace_text workspace.now) (words_text holds_on words.now) word.now)) }
 {
     let named = parts_of(alloc, workspace, words, word)?;
-    let texts = why_texts(alloc, format, workspace, words, plan, &named)?;
+    let texts = why_texts(alloc, format, all, workspace, words, plan, &named)?;
     let end = " is off in this build: ask why-not\n";
     Ok(gathered(alloc, format, workspace, word, &named, end, &texts)?)
 }
@@ -115,7 +134,8 @@ fn why_not_answer<'w, 's>(
 {
     let named = parts_of(alloc, workspace, words, word)?;
     let every = every_spec(alloc, specs)?;
-    let texts = why_not_texts(alloc, format, workspace, words, &every, plan, &named)?;
+    let off = off_parts(alloc, plan, &named)?;
+    let texts = why_not_texts(alloc, format, workspace, words, &every, &off)?;
     let end = " is on in this build: ask why\n";
     Ok(gathered(alloc, format, workspace, word, &named, end, &texts)?)
 }
@@ -140,11 +160,16 @@ pub fn answer_to<'w, 'n, 's>(
     let format = arguments.format;
     match arguments.question {
         Question::Plan => Ok(plan_answer(alloc, format, files, workspace, plan)?),
-        Question::Why(word) => why_answer(alloc, format, workspace, words, plan, word),
+        Question::Why { feature, all } => {
+            why_answer(alloc, format, all, workspace, words, plan, feature)
+        }
         Question::WhyNot(word) => {
             why_not_answer(alloc, format, workspace, specs, words, plan, word)
         }
         Question::Specs => Ok(specs_answer(alloc, format, files, specs, words)?),
         Question::List(word) => list_answer(alloc, format, workspace, plan, word),
+        Question::Duplicates => {
+            Ok(duplicates_answer(alloc, format, files, workspace, words, plan)?)
+        }
     }
 }

@@ -3,15 +3,16 @@
 
 mod answer;
 mod answers;
+mod duplicate_texts;
 mod gathered;
 mod labels_on;
 mod list_texts;
 mod name_messages;
+mod off_parts;
 mod parts;
 mod places;
 mod plan_texts;
 mod spec_texts;
-mod why_not_texts;
 mod why_texts;
 
 pub use answer::Answer;

@@ -1,5 +1,5 @@
 //! The text about why a feature is on.
-ghost use Rattle.std.specs.Prelude.{◌≡◌, ◌++◌, List, IfOk, OnOk, map};
+ghost use Rattle.std.specs.Prelude.{◌≡◌, ◌++◌, List, IfOk, OnOk, flat_map, map};
 ghost use Rattle.cargo_workspaces.specs.Workspaces.{Text};
 ghost use Rattle.cargo_workspaces.specs.WorkspaceView.{workspace_text};
 ghost use Rattle.cargo_plans.specs.Plans.{IsPlanOf};
@@ -7,7 +7,7 @@ ghost use Rattle.cargo_plans.specs.WordsView.{words_text};
 ghost use Rattle.plan_names.specs.Views.{named_text};
 ghost use Rattle.plan_platforms.specs.HeldSpecs.{holds_on};
 ghost use Rattle.plan_steps.specs.PlanViews.{plan_text};
-ghost use Rattle.plan_whys.specs.StepViews.{spot_text, why_text};
+ghost use Rattle.plan_whys.specs.StepViews.{found_text, reasoned_text as reasoned_view, spot_text, why_text};
 ghost use Rattle.why_lines.specs.Settings.{settings_text};
 ghost use Rattle.feats_answers.specs.AnswerViews.{texts_of};
 ghost use Rattle.feats_answers.specs.Gathered.{AreShown};
@@ -19,9 +19,9 @@ use cargo_workspaces::Workspace;
 use feats_words::Format;
 use plan_names::Named;
 use plan_platforms::HeldSpecs;
-use plan_whys::{Spot, WhyStep, why};
+use plan_whys::{ReasonedStep, Spot, WhyStep, reasoned_steps, why_each};
 use std::alloc::{AllocError, Global};
-use why_lines::{WhySettings, why_lines, why_objects};
+use why_lines::{WhySettings, reasoned_lines, reasoned_objects, why_lines, why_objects};
 
 /// Returns the settings of the steps' lines.
 fn why_settings<'n, 's>(words: &PlanWords<'_, 'n, HeldSpecs<'s>>) -> WhySettings<'n, HeldSpecs<'s>>
@@ -53,63 +53,122 @@ fn steps_text(
     }
 }
 
-/// Appends the text of why `at` is on in `plan`, if it is on.
-fn push_spot(
+/// Returns the text of `steps`, with every direct reason of each.
+fn reasoned_text(
     alloc: Global,
     format: Format,
     workspace: &Workspace<'_>,
     words: &PlanWords<'_, '_, HeldSpecs<'_>>,
-    plan: &Plan<'_>,
-    at: Spot<'_>,
-    texts: &mut Vec<Vec<u8>>,
-) -> Result<(), AllocError>
-    requires plan { IsPlanOf (workspace_text workspace.now) (words_text holds_on words.now) (plan_text plan.now) }
-    ensures { OnOk result ((shown : List Text) × spec.IsSpotShown format (workspace_text workspace.now) (words_text holds_on words.now) (plan_text plan.now) (spot_text at.entry) shown × (texts_of texts.new.items ≡ texts_of texts.old.items ++ shown)) }
+    steps: &[ReasonedStep<'_>],
+) -> Result<Vec<u8>, AllocError>
+    ensures { IfOk result (λ text. text.items ≡ spec.reasoned_text format (workspace_text workspace.now).packages (words_text holds_on words.now) (map reasoned_view steps.now)) }
 {
-    match why(alloc, workspace, words, plan, at)? {
-        Some(steps) => {
-            let text = steps_text(alloc, format, workspace, words, &steps)?;
-            texts.push(text)?;
-            Ok(())
-        }
-        None => Ok(()),
+    let settings = why_settings(words);
+    match format {
+        Format::Text => Ok(reasoned_lines(alloc, workspace, &settings, steps)?.into_bytes()),
+        Format::Json => reasoned_objects(alloc, workspace, &settings, steps),
     }
 }
 
-/// Appends the texts of why `named` is on in `plan`, for each side on which it is on.
-fn push_part(
+/// Returns the text of `steps`, which explain why a spot is on in `plan`, with every direct reason of each.
+fn text_with_reasons(
     alloc: Global,
     format: Format,
     workspace: &Workspace<'_>,
     words: &PlanWords<'_, '_, HeldSpecs<'_>>,
     plan: &Plan<'_>,
-    named: &Named<'_>,
-    texts: &mut Vec<Vec<u8>>,
-) -> Result<(), AllocError>
-    requires plan { IsPlanOf (workspace_text workspace.now) (words_text holds_on words.now) (plan_text plan.now) }
-    ensures { OnOk result ((shown : List Text) × spec.IsPartShown format (workspace_text workspace.now) (words_text holds_on words.now) (plan_text plan.now) (named_text named.now) shown × (texts_of texts.new.items ≡ texts_of texts.old.items ++ shown)) }
+    steps: &[WhyStep<'_>],
+) -> Result<Vec<u8>, AllocError>
+    ensures { IfOk result (λ text. spec.IsReasonedText format (workspace_text workspace.now).packages (words_text holds_on words.now) (plan_text plan.now) (map why_text steps.now) text.items) }
 {
-    let on_target = spot_on(Side::Target, *named);
-    push_spot(alloc, format, workspace, words, plan, on_target, texts)?;
-    let on_host = spot_on(Side::Host, *named);
-    push_spot(alloc, format, workspace, words, plan, on_host, texts)
+    let reasoned = reasoned_steps(alloc, plan, steps)?;
+    reasoned_text(alloc, format, workspace, words, &reasoned)
 }
 
-/// Returns the texts of why each of `named` is on in `plan`.
+/// Returns the text of `steps`, which explain why a spot is on in `plan`. With `all` it has every direct reason of each step.
+fn text_of(
+    alloc: Global,
+    format: Format,
+    all: bool,
+    workspace: &Workspace<'_>,
+    words: &PlanWords<'_, '_, HeldSpecs<'_>>,
+    plan: &Plan<'_>,
+    steps: &[WhyStep<'_>],
+) -> Result<Vec<u8>, AllocError>
+    ensures { IfOk result (λ text. spec.IsStepsText format all (workspace_text workspace.now).packages (words_text holds_on words.now) (plan_text plan.now) (map why_text steps.now) text.items) }
+{
+    if all {
+        text_with_reasons(alloc, format, workspace, words, plan, steps)
+    } else {
+        steps_text(alloc, format, workspace, words, steps)
+    }
+}
+
+/// Returns the text of the steps `found`, or no text if there are none.
+fn found_shown(
+    alloc: Global,
+    format: Format,
+    all: bool,
+    workspace: &Workspace<'_>,
+    words: &PlanWords<'_, '_, HeldSpecs<'_>>,
+    plan: &Plan<'_>,
+    found: &Option<Vec<WhyStep<'_>>>,
+) -> Result<Vec<Vec<u8>>, AllocError>
+    ensures { IfOk result (λ shown. spec.IsFoundShown format all (workspace_text workspace.now).packages (words_text holds_on words.now) (plan_text plan.now) (found_text found.now) (texts_of shown.items)) }
+{
+    let mut shown = Vec::new(alloc);
+    if let Some(steps) = found {
+        shown.push(text_of(alloc, format, all, workspace, words, plan, steps)?)?;
+    }
+    Ok(shown)
+}
+
+/// Returns the texts of the steps in `founds`.
+fn founds_shown(
+    alloc: Global,
+    format: Format,
+    all: bool,
+    workspace: &Workspace<'_>,
+    words: &PlanWords<'_, '_, HeldSpecs<'_>>,
+    plan: &Plan<'_>,
+    founds: &[Option<Vec<WhyStep<'_>>>],
+) -> Result<Vec<Vec<u8>>, AllocError>
+    ensures { IfOk result (λ texts. AreShown (spec.IsFoundShown format all (workspace_text workspace.now).packages (words_text holds_on words.now) (plan_text plan.now)) (map found_text founds.now) (texts_of texts.items)) }
+{
+    let mut texts = Vec::new(alloc);
+    for found in founds {
+        let mut shown = found_shown(alloc, format, all, workspace, words, plan, found)?;
+        texts.append(&mut shown)?;
+    }
+    Ok(texts)
+}
+
+/// Returns the spots of `named`: each on the target side, and then on the host side.
+fn spots_of<'w>(alloc: Global, named: &[Named<'w>]) -> Result<Vec<Spot<'w>>, AllocError>
+    ensures { IfOk result (λ spots. map spot_text spots.items ≡ flat_map spec.spots_of_part (map named_text named.now)) }
+{
+    let mut spots = Vec::new(alloc);
+    for one in named {
+        spots.push(spot_on(Side::Target, *one))?;
+        spots.push(spot_on(Side::Host, *one))?;
+    }
+    Ok(spots)
+}
+
+/// Returns the texts of why each of `named` is on in `plan`, side by side. With `all` they have every direct reason of each step.
 pub(crate) fn why_texts(
     alloc: Global,
     format: Format,
+    all: bool,
     workspace: &Workspace<'_>,
     words: &PlanWords<'_, '_, HeldSpecs<'_>>,
     plan: &Plan<'_>,
     named: &[Named<'_>],
 ) -> Result<Vec<Vec<u8>>, AllocError>
     requires plan { IsPlanOf (workspace_text workspace.now) (words_text holds_on words.now) (plan_text plan.now) }
-    ensures { IfOk result (λ texts. AreShown (spec.IsPartShown format (workspace_text workspace.now) (words_text holds_on words.now) (plan_text plan.now)) (map named_text named.now) (texts_of texts.items)) }
+    ensures { IfOk result (λ texts. AreShown (spec.IsSpotShown format all (workspace_text workspace.now) (words_text holds_on words.now) (plan_text plan.now)) (flat_map spec.spots_of_part (map named_text named.now)) (texts_of texts.items)) }
 {
-    let mut texts = Vec::new(alloc);
-    for one in named {
-        push_part(alloc, format, workspace, words, plan, one, &mut texts)?;
-    }
-    Ok(texts)
+    let spots = spots_of(alloc, named)?;
+    let founds = why_each(alloc, workspace, words, plan, &spots)?;
+    founds_shown(alloc, format, all, workspace, words, plan, &founds)
 }

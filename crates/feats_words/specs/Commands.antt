@@ -46,7 +46,7 @@ abbrev pub plan_shape : Shape
 plan_shape = command_shape (codes "plan") []
 
 abbrev pub why_shape : Shape
-why_shape = command_shape (codes "why") (word_rule (codes "feature") ∷ [])
+why_shape = command_shape (codes "why") (word_rule (codes "feature") ∷ flag_rule (codes "all") ∷ [])
 
 abbrev pub why_not_shape : Shape
 why_not_shape = command_shape (codes "why-not") (word_rule (codes "feature") ∷ [])
@@ -57,10 +57,26 @@ specs_shape = command_shape (codes "specs") []
 abbrev pub list_shape : Shape
 list_shape = command_shape (codes "list") (word_rule (codes "spec") ∷ [])
 
+abbrev pub duplicates_shape : Shape
+duplicates_shape = command_shape (codes "duplicates") []
+
+-- An option with a letter, which is given at most once.
+abbrev pub short_rule : Text → ℕ → Rule
+short_rule name letter = record (option_rule name) { short = Some letter }
+
+abbrev pub edges_rule : Rule
+edges_rule = short_rule (codes "edges") 101
+
+abbrev pub tree_shape : Shape
+tree_shape = command_shape (codes "tree") (edges_rule ∷ short_rule (codes "invert") 105 ∷ option_rule (codes "depth") ∷ [])
+
+abbrev pub dot_shape : Shape
+dot_shape = command_shape (codes "dot") (edges_rule ∷ [])
+
 -- The program without its commands, of which one must be given.
 abbrev pub bare_app : App
 bare_app = record (new_app (codes "feats")) { top = record (new_shape (codes "feats")) { subcommand_required = true } }
 
 abbrev pub feats_app : App
 feats_app =
-    with_subcommand (with_subcommand (with_subcommand (with_subcommand (with_subcommand bare_app plan_shape) why_shape) why_not_shape) specs_shape) list_shape
+    with_subcommand (with_subcommand (with_subcommand (with_subcommand (with_subcommand (with_subcommand (with_subcommand (with_subcommand bare_app plan_shape) why_shape) why_not_shape) specs_shape) list_shape) duplicates_shape) tree_shape) dot_shape

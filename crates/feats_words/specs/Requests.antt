@@ -9,13 +9,16 @@ use Rattle.feats_words.specs.Commands.{feats_app}
 abbrev pub texts : List (Bor Text) → List Text
 texts = map (λ t. t.now)
 
--- The question that a command asks about a build.
+-- The question that a command asks about a build. `why` also says whether every direct reason is wanted.
 pub data QuestionText : Type 0 where
   plan : QuestionText
-  why : Text → QuestionText
+  why : Text → Bool → QuestionText
   why_not : Text → QuestionText
   specs : QuestionText
   list : Text → QuestionText
+  duplicates : QuestionText
+  tree : Option Text → QuestionText
+  dot : QuestionText
 
 -- What a command line asks for.
 pub record RequestText : Type 0 where
@@ -32,6 +35,8 @@ pub record RequestText : Type 0 where
   pub no_default_features : Bool
   pub tests : Bool
   pub format : Option Text
+  pub edges : Option Text
+  pub depth : Option Text
 
 -- The value of an option; of an option or a word that is required; the values of an option that may be given several times.
 abbrev pub value : Text → List Row → Option Text
@@ -51,11 +56,14 @@ is_given name rows = option_map_or (λ value. bytes_eq value (codes "true")) (fi
 abbrev pub question_of : Text → List Row → Option QuestionText
 question_of name rows =
     if bytes_eq name (codes "plan") then Some plan
-    else (if bytes_eq name (codes "why") then Some (why (required_value (codes "feature") rows))
+    else (if bytes_eq name (codes "why") then Some (why (required_value (codes "feature") rows) (is_given (codes "all") rows))
     else (if bytes_eq name (codes "why-not") then Some (why_not (required_value (codes "feature") rows))
     else (if bytes_eq name (codes "specs") then Some specs
     else (if bytes_eq name (codes "list") then Some (list (required_value (codes "spec") rows))
-    else None))))
+    else (if bytes_eq name (codes "duplicates") then Some duplicates
+    else (if bytes_eq name (codes "tree") then Some (tree (value (codes "invert") rows))
+    else (if bytes_eq name (codes "dot") then Some dot
+    else None)))))))
 
 abbrev pub asked : QuestionText → List Row → RequestText
 asked question rows = record {
@@ -72,6 +80,8 @@ asked question rows = record {
   no_default_features = is_given (codes "no-default-features") rows;
   tests = is_given (codes "tests") rows;
   format = value (codes "format") rows;
+  edges = value (codes "edges") rows;
+  depth = value (codes "depth") rows;
 }
 
 -- What the command of a name is asked for by its words and options.

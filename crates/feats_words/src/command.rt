@@ -18,6 +18,8 @@ Example:
 const WHY_EXAMPLE: &str = "\
 Example, with the files of `feats plan --help`:
   feats why --metadata metadata.json --host x86_64-unknown-linux-gnu=host.cfg -p server libc/extra_traits
+The same with every direct reason of each step:
+  feats why --all --metadata metadata.json --host x86_64-unknown-linux-gnu=host.cfg -p server libc/extra_traits
 ";
 
 const WHY_NOT_EXAMPLE: &str = "\
@@ -33,6 +35,22 @@ Example, with the files of `feats plan --help`:
 const LIST_EXAMPLE: &str = "\
 Example, with the files of `feats plan --help`:
   feats list --metadata metadata.json --host x86_64-unknown-linux-gnu=host.cfg -p server libc
+";
+
+const DUPLICATES_EXAMPLE: &str = "\
+Example, with the files of `feats plan --help`:
+  feats duplicates --metadata metadata.json --host x86_64-unknown-linux-gnu=host.cfg --workspace
+";
+
+const TREE_EXAMPLE: &str = "\
+Examples, with the files of `feats plan --help`:
+  feats tree --metadata metadata.json --host x86_64-unknown-linux-gnu=host.cfg -p server --depth 2
+  feats tree --metadata metadata.json --host x86_64-unknown-linux-gnu=host.cfg -p server --invert libc
+";
+
+const DOT_EXAMPLE: &str = "\
+Example, with the files of `feats plan --help`:
+  feats dot --metadata metadata.json --host x86_64-unknown-linux-gnu=host.cfg -p server | dot -Tsvg >server.svg
 ";
 
 /// The help of the word FEATURE.
@@ -79,6 +97,14 @@ fn lettered<'a>(
     ensures local { result.global ≡ false }
 {
     repeated(alloc, name, value, help).short(letter)
+}
+
+/// Returns an option with a value and a letter, which is given at most once.
+fn short<'a>(alloc: Global, name: &'a str, letter: char, value: &'a str, help: &'a str) -> Arg<'a>
+    ensures rule { rule_of result ≡ spec.short_rule name.entry.now letter }
+    ensures local { result.global ≡ false }
+{
+    option(alloc, name, value, help).short(letter)
 }
 
 /// Returns an option without a value.
@@ -234,13 +260,16 @@ fn plan_command<'a>(alloc: Global) -> Result<Command<'a>, AllocError>
 fn why_command<'a>(alloc: Global) -> Result<Command<'a>, AllocError>
     ensures { IfOk result (λ r. IsSubcommand r spec.why_shape) }
 {
-    worded(
-        alloc,
-        "why",
-        "Prints the steps from what is selected to a feature that is on",
-        WHY_EXAMPLE,
-        word(alloc, "feature", "FEATURE", FEATURE_HELP),
-    )
+    let command = Command::new(alloc, "why")
+        .about("Prints the steps from what is selected to a feature that is on")
+        .after_help(WHY_EXAMPLE)
+        .arg(word(alloc, "feature", "FEATURE", FEATURE_HELP))?
+        .arg(flag(
+            alloc,
+            "all",
+            "Print every direct reason of each step, and not only one",
+        ))?;
+    with_options(alloc, command)
 }
 
 /// Returns the command `why-not`.
@@ -286,6 +315,64 @@ fn list_command<'a>(alloc: Global) -> Result<Command<'a>, AllocError>
     )
 }
 
+/// Returns the command `duplicates`.
+fn duplicates_command<'a>(alloc: Global) -> Result<Command<'a>, AllocError>
+    ensures { IfOk result (λ r. IsSubcommand r spec.duplicates_shape) }
+{
+    wordless(
+        alloc,
+        "duplicates",
+        "Prints packages that are built in several versions or with different features",
+        DUPLICATES_EXAMPLE,
+    )
+}
+
+/// Returns the option that says what a tree or a graph shows.
+fn edges<'a>(alloc: Global) -> Arg<'a>
+    ensures rule { rule_of result ≡ spec.edges_rule }
+    ensures local { result.global ≡ false }
+{
+    short(
+        alloc,
+        "edges",
+        'e',
+        "EDGES",
+        "`packages` (the default) or `features`",
+    )
+}
+
+/// Returns the command `tree`.
+fn tree_command<'a>(alloc: Global) -> Result<Command<'a>, AllocError>
+    ensures { IfOk result (λ r. IsSubcommand r spec.tree_shape) }
+{
+    let command = Command::new(alloc, "tree")
+        .about("Prints what depends on what, as a tree")
+        .after_help(TREE_EXAMPLE)
+        .arg(edges(alloc))?
+        .arg(short(
+            alloc,
+            "invert",
+            'i',
+            "WORD",
+            "Print what depends on the package or the feature that the word names",
+        ))?
+        .arg(option(alloc, "depth", "N", "Print nothing below this depth"))?;
+    with_options(alloc, command)
+}
+
+/// Returns the command `dot`.
+fn dot_command<'a>(alloc: Global) -> Result<Command<'a>, AllocError>
+    ensures { IfOk result (λ r. IsSubcommand r spec.dot_shape) }
+{
+    worded(
+        alloc,
+        "dot",
+        "Prints what depends on what, as a graph for Graphviz",
+        DOT_EXAMPLE,
+        edges(alloc),
+    )
+}
+
 /// Returns the program without its commands.
 fn bare_command<'a>(alloc: Global) -> Command<'a>
     ensures { app_of result ≡ spec.bare_app }
@@ -304,5 +391,8 @@ pub(crate) fn feats_command<'a>(alloc: Global) -> Result<Command<'a>, AllocError
         .subcommand(why_command(alloc)?)?
         .subcommand(why_not_command(alloc)?)?
         .subcommand(specs_command(alloc)?)?
-        .subcommand(list_command(alloc)?)
+        .subcommand(list_command(alloc)?)?
+        .subcommand(duplicates_command(alloc)?)?
+        .subcommand(tree_command(alloc)?)?
+        .subcommand(dot_command(alloc)?)
 }

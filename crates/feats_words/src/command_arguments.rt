@@ -5,6 +5,7 @@ ghost use Rattle.feats_words.specs.Refusals.{Gives};
 ghost use Rattle.feats_words.specs.Requests.{texts};
 ghost use Rattle.feats_words.specs.Views.{arguments_text, platform_text, request_text, source_text};
 
+use crate::depths::depth_of;
 use crate::fault::WordsFault;
 use crate::platform_words::{PlatformWord, platform_word};
 use crate::request::{Question, Request};
@@ -27,6 +28,15 @@ pub enum Format {
     Json,
 }
 
+/// What a tree or a graph shows.
+#[derive(Clone, Copy)]
+pub enum Edges {
+    /// The packages that are built.
+    Packages,
+    /// The features that are on.
+    Features,
+}
+
 /// The arguments of a command.
 #[derive(Drop)]
 pub struct CommandArguments<'a> {
@@ -44,6 +54,9 @@ pub struct CommandArguments<'a> {
     pub no_default_features: bool,
     pub tests: bool,
     pub format: Format,
+    pub edges: Edges,
+    /// How deep a tree is; `None` is no limit.
+    pub depth: Option<usize>,
 }
 
 /// Returns the platform of `word`, or `Platform` if it isn't `TRIPLE=CFGFILE`.
@@ -103,8 +116,19 @@ fn format_of(word: Option<&str>) -> Result<Format, WordsFault<'_>>
     }
 }
 
+/// Returns what `word` names: packages, if there is none.
+fn edges_of(word: Option<&str>) -> Result<Edges, WordsFault<'_>>
+    ensures { Gives (λ e. e) result (spec.edges (option_map (λ t. t.now) word.entry)) }
+{
+    match word {
+        None | Some("packages") => Ok(Edges::Packages),
+        Some("features") => Ok(Edges::Features),
+        Some(word) => Err(WordsFault::Edges(word)),
+    }
+}
+
 /// Returns the arguments of a request. The error is the first word that can't be read: of the host, of the targets, of the resolver, of
-/// the format; or `Memory`.
+/// the format, of the edges, of the depth; or `Memory`.
 pub fn arguments<'a>(
     alloc: Global,
     request: Request<'a>,
@@ -115,6 +139,8 @@ pub fn arguments<'a>(
     let targets = platforms(alloc, &request.targets)?;
     let resolver = resolver_source(request.resolver, request.manifest)?;
     let format = format_of(request.format)?;
+    let edges = edges_of(request.edges)?;
+    let depth = depth_of(request.depth)?;
     let features = feature_words(alloc, &request.features)?;
     Ok(CommandArguments {
         question: request.question,
@@ -129,5 +155,7 @@ pub fn arguments<'a>(
         no_default_features: request.no_default_features,
         tests: request.tests,
         format,
+        edges,
+        depth,
     })
 }

@@ -15,14 +15,20 @@ use std::alloc::{AllocError, Global};
 pub enum Question<'a> {
     /// Which packages are built?
     Plan,
-    /// Why is this feature on?
-    Why(&'a str),
+    /// Why is this feature on? With `all`, every direct reason is wanted.
+    Why { feature: &'a str, all: bool },
     /// Why is this feature off?
     WhyNot(&'a str),
     /// Which platform specs hold?
     Specs,
     /// Which features does the package of this spec have?
     List(&'a str),
+    /// What is built several times?
+    Duplicates,
+    /// What depends on what? With `invert`, what depends on the part that this word names?
+    Tree { invert: Option<&'a str> },
+    /// What depends on what, as a graph?
+    Dot,
 }
 
 /// What a command line asks for.
@@ -47,6 +53,10 @@ pub struct Request<'a> {
     pub no_default_features: bool,
     pub tests: bool,
     pub format: Option<&'a str>,
+    /// What a tree or a graph shows.
+    pub edges: Option<&'a str>,
+    /// How deep a tree is.
+    pub depth: Option<&'a str>,
 }
 
 /// Returns the value of an option or a word that is required.
@@ -105,10 +115,18 @@ fn question_of<'a>(name: &str, matches: &ArgMatches<'a>) -> Option<Question<'a>>
 {
     match name {
         "plan" => Some(Question::Plan),
-        "why" => Some(Question::Why(required_value(matches, "feature"))),
+        "why" => Some(Question::Why {
+            feature: required_value(matches, "feature"),
+            all: is_given(matches, "all"),
+        }),
         "why-not" => Some(Question::WhyNot(required_value(matches, "feature"))),
         "specs" => Some(Question::Specs),
         "list" => Some(Question::List(required_value(matches, "spec"))),
+        "duplicates" => Some(Question::Duplicates),
+        "tree" => Some(Question::Tree {
+            invert: value(matches, "invert"),
+        }),
+        "dot" => Some(Question::Dot),
         _ => None,
     }
 }
@@ -135,6 +153,8 @@ fn asked<'a>(
         no_default_features: is_given(matches, "no-default-features"),
         tests: is_given(matches, "tests"),
         format: value(matches, "format"),
+        edges: value(matches, "edges"),
+        depth: value(matches, "depth"),
     })
 }
 

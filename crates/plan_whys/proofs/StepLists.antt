@@ -67,6 +67,21 @@ module _ {B S : Type 0} (R : Step → B → Type 0) (At : ℕ → S → Type 0) 
       (λ e. Contains-append_right (spot y ∷ []) (map spot (take k ys)) s (earlier_at steps ys k n s one is zip.1 e at))
       (or_cases (step.node == n) (is_in (take k (nodes_of steps)) n) h)
 
+-- the next element of each list, where the first list is seen by `view`
+module _ {A B C : Type 0} (R : C → B → Type 0) (view : A → C) where
+  viewed_more : (xs : List A) (ys : List B) (i : ℕ) (x : A) (y : B) → slice_get xs i ≡ Some x → AllZip R (map view (take i xs)) ys → R (view x) y → AllZip R (map view (take (i + 1) xs)) (ys ++ y ∷ [])
+  viewed_more [] ys i x y at zip r = cc
+  viewed_more (z ∷ xs) [] zero x y at zip r = let same : x ≡ z = cc in (subst (λ v. R (view v) y) same r, tt)
+  viewed_more (z ∷ xs) (w ∷ ys) zero x y at zip r = absurd zip
+  viewed_more (z ∷ xs) [] (suc i) x y at zip r = absurd zip
+  viewed_more (z ∷ xs) (w ∷ ys) (suc i) x y at zip r =
+      let next : suc (i + 1) ≡ suc i + 1 = omega arith in
+      subst (λ m. AllZip R (map view (take m (z ∷ xs))) (w ∷ ys ++ y ∷ [])) next (zip.0, viewed_more xs ys i x y at zip.1 r)
+
+  pub zip_viewed : (xs : List A) (ys next : List B) (i : ℕ) (d : A) (y : B) → i < length xs → AllZip R (map view (take i xs)) ys → R (view (slice_index_or xs i d)) y → next ≡ ys ++ y ∷ [] → AllZip R (map view (take (i + 1) xs)) next
+  zip_viewed xs ys next i d y within zip r same =
+      subst (AllZip R (map view (take (i + 1) xs))) (sym same) (viewed_more xs ys i (slice_index_or xs i d) y (slice_get-get_or xs i d within) zip r)
+
 -- the views of a list with one more element
 pub map_pushed : {X Y : Type 0} (f : X → Y) (old new : List X) (x : X) → new ≡ old ++ x ∷ [] → map f new ≡ map f old ++ f x ∷ []
 map_pushed f old new x same = ap (map f) same ∙ map-append f old (x ∷ [])

@@ -13,7 +13,7 @@ use Rattle.walk_engine.specs.declared.walks.Ask.TheVariants as asks
 use Rattle.walk_engine.specs.declared.walks.Half.TheVariants as half
 use Rattle.walk_engine.specs.declared.walks.StepReason.{StepReason}
 use Rattle.walk_engine.specs.declared.walks.StepReason.TheVariants.{Edge, Offer}
-use Rattle.plan_whys.specs.Steps.{SpotText, ReasonText, IsReasonOf}
+use Rattle.plan_whys.specs.Steps.{SpotText, ReasonText, ReasonedText, WhyText, IsReasonOf}
 use Rattle.plan_whys.specs.Whys.{node_of}
 
 -- The reasons by the halves of weak edge `e`.
@@ -48,3 +48,12 @@ AreReasonsOf on (Some n) reasons = AreReasonsAt on n reasons
 -- The reasons why a spot is on.
 abbrev pub AreReasons : PairVisit → SpotText → List ReasonText → Type 0
 AreReasons on spot reasons = AreReasonsOf on (node_of on spot) reasons
+
+-- The step, with every reason why its spot is on.
+pub record IsReasoned (on : PairVisit) (step : WhyText) (reasoned : ReasonedText) : Type 0 where
+  pub is_step : reasoned.step ≡ step
+  pub are_reasons : AreReasons on step.spot reasoned.reasons
+
+-- All steps, in their order.
+abbrev pub AreReasoned : PairVisit → List WhyText → List ReasonedText → Type 0
+AreReasoned on steps reasoned = AllZip (IsReasoned on) steps reasoned

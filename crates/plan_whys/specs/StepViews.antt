@@ -2,8 +2,9 @@
 use Rattle.std.specs.Prelude.{List, Option, map, option_map}
 use Rattle.std.specs.Global.{Vec}
 use Rattle.feature_labels.specs.Names.{label_of}
-use Rattle.plan_whys.specs.Steps.{SpotText, ReasonText, WhyText}
+use Rattle.plan_whys.specs.Steps.{SpotText, ReasonText, ReasonedText, WhyText}
 use Rattle.plan_whys.specs.Steps.ReasonText.{selected, from}
+use Rattle.plan_whys.specs.declared.steps.ReasonedStep.{ReasonedStep}
 use Rattle.plan_whys.specs.declared.steps.Spot.{Spot}
 use Rattle.plan_whys.specs.declared.steps.WhyReason.{WhyReason}
 use Rattle.plan_whys.specs.declared.steps.WhyReason.TheVariants.{Selected, From}
@@ -18,6 +19,9 @@ reason_text (From start gate) = from (spot_text start) (option_map spot_text gat
 
 abbrev pub why_text : WhyStep → WhyText
 why_text s = record { spot = spot_text s.at; reason = reason_text s.reason }
+
+abbrev pub reasoned_text : ReasonedStep → ReasonedText
+reasoned_text r = record { step = why_text r.step; reasons = map reason_text r.reasons.items }
 
 abbrev pub found_text : Option (Vec WhyStep) → Option (List WhyText)
 found_text found = option_map (λ whys. map why_text whys.items) found

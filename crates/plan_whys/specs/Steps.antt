@@ -28,6 +28,11 @@ pub record WhyText : Type 0 where
   pub spot : SpotText
   pub reason : ReasonText
 
+-- A step, and every direct reason of its spot.
+pub record ReasonedText : Type 0 where
+  pub step : WhyText
+  pub reasons : List ReasonText
+
 -- The spot of a label of entry `k`, of `count` packages: the entries on the host side follow those on the target side.
 abbrev pub spot_at : ℕ → ℕ → LabelName → SpotText
 spot_at count k label = if nat_lt k count then record { side = Target; number = k; label = label } else record { side = Host; number = k - count; label = label }

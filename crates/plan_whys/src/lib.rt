@@ -6,11 +6,13 @@ mod explanations;
 mod laws;
 mod nodes;
 mod spots;
+mod step_reasons;
 mod steps;
 mod whys;
 
 pub use direct_reasons::reasons;
 pub use laws::whys_lead_to_spots;
 pub use plan_rows::Side;
-pub use steps::{Spot, WhyReason, WhyStep};
+pub use step_reasons::reasoned_steps;
+pub use steps::{ReasonedStep, Spot, WhyReason, WhyStep};
 pub use whys::{why, why_by_settings, why_each, why_each_by_settings};

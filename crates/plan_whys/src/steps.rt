@@ -30,3 +30,10 @@ pub struct WhyStep<'w> {
     pub at: Spot<'w>,
     pub reason: WhyReason<'w>,
 }
+
+/// A step, and every direct reason of its spot.
+#[derive(Drop)]
+pub struct ReasonedStep<'w> {
+    pub step: WhyStep<'w>,
+    pub reasons: Vec<WhyReason<'w>>,
+}

@@ -5,15 +5,11 @@ use Rattle.cargo_workspaces.specs.Workspaces.{Text, WorkspaceText}
 use Rattle.plan_rows.specs.declared.side.Side.{Side}
 use Rattle.plan_rows.specs.declared.side.Side.TheVariants.{Host, Target}
 use Rattle.plan_starts.specs.PackageVisits.{PairVisit, is_on}
-use Rattle.plan_steps.specs.PlanViews.{plan_text}
 use Rattle.plan_steps.specs.Plans.{PlanText}
 use Rattle.cargo_plans.specs.Plans.{IsPlanOf, WordsText}
-use Rattle.cargo_plans.specs.Refusals.{IsRefusal}
 use Rattle.cargo_plans.specs.declared.fault.PlanFault.{PlanFault}
 use Rattle.cargo_plans.specs.declared.fault.PlanFault.TheVariants as fault
 use Rattle.plan_widenings.specs.Widenings.{widened}
-use Rattle.plan_widenings.specs.declared.finding.Finding.{Finding}
-use Rattle.plan_widenings.specs.declared.finding.Finding.TheVariants as finding
 use Rattle.plan_widenings.specs.declared.sides.Sides.{Sides}
 use Rattle.plan_widenings.specs.declared.widening.Widening.TheVariants as widening
 
@@ -45,12 +41,6 @@ pub record IsOnBy (w : WorkspaceText) (words : WordsText) (p : ℕ) (label : Lab
 abbrev pub is_memory : PlanFault → Bool
 is_memory fault.Memory = true
 is_memory _ = false
-
--- What is found of a label of package `p`, by some words.
-abbrev pub IsFinding : WorkspaceText → WordsText → ℕ → LabelName → Finding → Type 0
-IsFinding w words p label (finding.On sides plan) = IsOnBy w words p label sides (plan_text plan)
-IsFinding w words p label finding.Off = IsOff w words p label
-IsFinding w words p label (finding.Refused e) = IsRefusal w words e × IsFalse (is_memory e)
 
 -- OFF EVERYWHERE: the label is off in a plan of the words with all widenings together.
 abbrev pub IsOffEverywhere : WorkspaceText → WordsText → (Text → Bool) → ℕ → LabelName → Type 0

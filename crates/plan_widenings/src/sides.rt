@@ -2,11 +2,13 @@
 ghost use Rattle.std.specs.Prelude.{◌≡◌};
 ghost use Rattle.feature_labels.specs.Names.{label_of};
 ghost use Rattle.plan_starts.specs.PackageVisits.{is_on};
+ghost use Rattle.plan_steps.specs.PlanViews.{plan_text};
 ghost use Rattle.plan_widenings.specs.Findings as spec;
 
 use feature_labels::FeatureLabel;
 use plan_rows::{Side, TurnedOn};
 use plan_starts::PackageVisit;
+use plan_steps::Plan;
 
 /// The sides on which a feature is on.
 #[derive(Clone, Copy)]
@@ -39,10 +41,11 @@ fn is_on(on: &PackageVisit, side: Side, package: usize, label: FeatureLabel<'_>)
     }
 }
 
-/// Returns the sides on which `label` of package `package` is on, by the visit of step `on`.
-pub(crate) fn sides_of(on: &PackageVisit, package: usize, label: FeatureLabel<'_>) -> Sides
-    ensures { result ≡ spec.sides_of on.now «package» (label_of label.entry) }
+/// Returns the sides on which `label` of package `package` is on in `plan`.
+pub fn sides_of(plan: &Plan<'_>, package: usize, label: FeatureLabel<'_>) -> Sides
+    ensures { result ≡ spec.sides_of (plan_text plan.now).on «package» (label_of label.entry) }
 {
+    let on = plan.on();
     Sides {
         target: is_on(on, Side::Target, package, label),
         host: is_on(on, Side::Host, package, label),

@@ -3,6 +3,8 @@ pub mod Lines
 pub mod Objects
 pub mod Platforms
 pub mod Reasons
+pub mod ReasonedLines
+pub mod ReasonedObjects
 pub mod Relations
 pub mod Settings
 pub mod inner

@@ -4,6 +4,8 @@
 mod labels;
 mod objects;
 mod platforms;
+mod reason_objects;
+mod reason_rows;
 mod reasons;
 mod relations;
 mod rows;
@@ -12,6 +14,8 @@ mod table;
 
 pub use labels::spot_label;
 pub use objects::{why_objects, write_steps};
-pub use plan_whys::{Spot, WhyReason, WhyStep};
+pub use plan_whys::{ReasonedStep, Spot, WhyReason, WhyStep};
+pub use reason_objects::reasoned_objects;
+pub use reason_rows::reasoned_lines;
 pub use settings::WhySettings;
 pub use table::why_lines;

@@ -80,7 +80,7 @@ fn side_word(side: Side) -> &'static str
 }
 
 /// Writes the members of `spot`.
-fn write_spot(
+pub(crate) fn write_spot(
     writer: &mut Writer,
     packages: &[Package<'_>],
     spot: Spot<'_>,
@@ -178,7 +178,7 @@ fn write_platforms(writer: &mut Writer, platforms: &[&str]) -> Result<(), AllocE
 }
 
 /// Returns the platforms for which `reason` leads to `at`.
-fn reason_platforms<'v, P: Platform>(
+pub(crate) fn reason_platforms<'v, P: Platform>(
     alloc: Global,
     settings: &WhySettings<'_, P>,
     packages: &[Package<'v>],
@@ -194,7 +194,7 @@ fn reason_platforms<'v, P: Platform>(
 }
 
 /// Writes the members of `reason`, by which `at` is on for `platforms`.
-fn write_reason(
+pub(crate) fn write_reason(
     writer: &mut Writer,
     packages: &[Package<'_>],
     platforms: &[&str],

@@ -23,7 +23,7 @@ pub(crate) struct Row {
 }
 
 /// Returns the row of `step`.
-fn row_of<P: Platform>(
+pub(crate) fn row_of<P: Platform>(
     alloc: Global,
     labels: &Labels<'_, '_>,
     settings: &WhySettings<'_, P>,

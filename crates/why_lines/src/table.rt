@@ -56,7 +56,7 @@ fn push_row(text: &mut String, row: &Row, width: usize) -> Result<(), AllocError
 }
 
 /// Returns the lines of `rows`.
-fn table_of(alloc: Global, rows: &[Row]) -> Result<String, AllocError>
+pub(crate) fn table_of(alloc: Global, rows: &[Row]) -> Result<String, AllocError>
     ensures { IfOk result (λ text. string_bytes text ≡ spec.table_of (map row_text rows.now)) }
 {
     let width = label_width(rows);

@@ -1,4 +1,5 @@
-pub mod FindingLemmas
+pub mod Each
 pub mod Gathered
-pub mod Sides
+pub mod FoundLemmas
 pub mod Tokens
+pub mod Zips

@@ -1,2 +1,2 @@
 -- Definitions for private functions.
-pub mod Said
+pub mod Lists

@@ -5,7 +5,9 @@ ghost use Rattle.feature_labels.specs.Names.{label_of};
 ghost use Rattle.line_parts.specs.Members.{Appends};
 ghost use Rattle.why_lines.specs.Objects as names;
 ghost use Rattle.why_nots.specs.Objects as spec;
+ghost use Rattle.why_nots.specs.PartView.{part_text};
 
+use crate::parts::OffPart;
 use cargo_workspaces::Workspace;
 use feature_labels::FeatureLabel;
 use json::Writer;
@@ -43,18 +45,17 @@ fn dependency_name<'l>(label: FeatureLabel<'l>) -> Option<&'l str>
     }
 }
 
-/// Writes the members that name `label` of package `package`.
-fn write_label(
+/// Writes the members that name `part`.
+fn write_part(
     writer: &mut Writer,
     workspace: &Workspace<'_>,
-    package: usize,
-    label: FeatureLabel<'_>,
+    part: OffPart<'_>,
 ) -> Result<(), AllocError>
-    ensures { OnOk result (Appends writer.old writer.new (spec.label_tokens (workspace_text workspace.now).packages «package» (label_of label.entry))) }
+    ensures { OnOk result (Appends writer.old writer.new (spec.part_tokens (workspace_text workspace.now).packages (part_text part.entry))) }
 {
-    write_member(writer, "package", id_at(workspace, package))?;
-    write_optional(writer, "feature", feature_name(label))?;
-    write_optional(writer, "dependency", dependency_name(label))
+    write_member(writer, "package", id_at(workspace, part.package))?;
+    write_optional(writer, "feature", feature_name(part.label))?;
+    write_optional(writer, "dependency", dependency_name(part.label))
 }
 
 /// Returns the word for `widening`.
@@ -70,16 +71,15 @@ fn widening_word(widening: Widening) -> &'static str
     }
 }
 
-/// Writes the members that begin the object about `label` of package `package` and `widening`.
+/// Writes the members that begin the object about `part` and `widening`.
 pub(crate) fn write_head(
     writer: &mut Writer,
     workspace: &Workspace<'_>,
-    package: usize,
-    label: FeatureLabel<'_>,
+    part: OffPart<'_>,
     widening: Widening,
 ) -> Result<(), AllocError>
-    ensures { OnOk result (Appends writer.old writer.new (spec.head_tokens (workspace_text workspace.now).packages «package» (label_of label.entry) widening)) }
+    ensures { OnOk result (Appends writer.old writer.new (spec.head_tokens (workspace_text workspace.now).packages (part_text part.entry) widening)) }
 {
-    write_label(writer, workspace, package, label)?;
+    write_part(writer, workspace, part)?;
     write_member(writer, "widening", widening_word(widening))
 }

@@ -1,12 +1,17 @@
 //! The answers about features that are off: what more of a selection turns them on.
 #![tactic(auto)]
 
+mod answer;
+mod joined;
 mod labels;
-mod lines;
 mod messages;
 mod objects;
-mod said;
+mod parts;
+mod sections;
 mod settings;
+mod spots;
+mod texts;
+mod widened_sections;
 
-pub use lines::why_not_lines;
-pub use objects::why_not_objects;
+pub use parts::OffPart;
+pub use texts::why_not_texts;

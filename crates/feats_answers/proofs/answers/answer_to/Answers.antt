@@ -36,6 +36,12 @@ returns-in_ok-specs_answer-in-Specs-clause-answer c =
     subst (λ (q : Question). IsAnswerTo (question_text q) form files w words (plan_text c.args.plan.now) answer) (sym c.in-Specs.is)
     (subst (λ declared. IsPositive (IsSpecText form declared (places files words.host words.targets)) answer) c.requires.specs c.in_ok-specs_answer-in-Specs.ensures)
 
+pub returns-in_ok-duplicates_answer-in-Duplicates-clause-answer : goal.returns-in_ok-duplicates_answer-in-Duplicates-clause-answer
+returns-in_ok-duplicates_answer-in-Duplicates-clause-answer c =
+    let w = workspace_text c.args.workspace.now in
+    subst (λ (q : Question). IsAnswerTo (question_text q) c.args.arguments.now.format (map file_text c.args.files.now) w (words_text holds_on c.args.words.now) (plan_text c.args.plan.now) (answer_text c.in_ok-duplicates_answer-in-Duplicates.field-0))
+    (sym c.in-Duplicates.is) c.in_ok-duplicates_answer-in-Duplicates.ensures
+
 pub returns-in-List-clause-answer : goal.returns-in-List-clause-answer
 returns-in-List-clause-answer c =
     let w = workspace_text c.args.workspace.now in

@@ -1,12 +1,16 @@
-use Rattle.std.proofs.Common.{◌∙◌, ap, map, subst}
+use Rattle.std.proofs.Common.{◌∙◌, List, ap, map, subst}
+use Rattle.std.specs.List.{AllZip}
 use Rattle.cargo_plans.specs.WordsView.{words_text}
 use Rattle.cargo_workspaces.specs.WorkspaceView.{workspace_text}
 use Rattle.plan_names.specs.Views.{named_text}
 use Rattle.plan_platforms.specs.HeldSpecs.{holds_on}
 use Rattle.plan_steps.specs.PlanViews.{plan_text}
+use Rattle.why_nots.specs.PartView.{part_text}
+use Rattle.why_nots.specs.Parts.{PartText}
+use Rattle.why_nots.specs.Texts.{IsWhyNotText}
 use Rattle.feats_answers.specs.AnswerViews.{texts_of}
-use Rattle.feats_answers.specs.Gathered.{AreShown, gathered}
-use Rattle.feats_answers.specs.WhyNotTexts.{IsOffShown, on_end}
+use Rattle.feats_answers.specs.Gathered.{gathered}
+use Rattle.feats_answers.specs.WhyNotTexts.{off_parts, on_end}
 use Rattle.feats_answers.proofs.answers.why_not_answer.Goals as goal
 
 pub returns-clause-answer : goal.returns-clause-answer
@@ -17,14 +21,16 @@ returns-clause-answer c =
     let plan = plan_text c.args.plan.now in
     let form = c.args.format in
     let named = c.in_ok-named.named.items in
+    let shown = texts_of c.in_ok-texts.texts.items in
     record {
       every = every;
       is_every = c.in_ok-every.ensures;
       parts = map named_text named;
       are_parts = c.in_ok-named.ensures.parts;
-      shown = texts_of c.in_ok-texts.texts.items;
-      are_shown = subst (λ ns. AreShown (IsOffShown form w words every plan) (map named_text ns) (texts_of c.in_ok-texts.texts.items)) c.deref.ensures.value c.in_ok-texts.ensures;
+      shown = shown;
+      are_shown = subst (λ (parts : List PartText). AllZip (IsWhyNotText form w words every) parts shown)
+          (ap (map part_text) c.deref-2.ensures.value ∙ c.in_ok-off.ensures ∙ ap (λ ns. off_parts plan (map named_text ns)) c.deref.ensures.value) c.in_ok-texts.ensures;
       is_answer = c.in_ok-gathered.ensures
-          ∙ ap (λ ns. gathered form w.packages c.args.word.now (map named_text ns) on_end (texts_of c.deref-3.result.now)) c.deref-2.ensures.value
-          ∙ ap (λ ts. gathered form w.packages c.args.word.now (map named_text named) on_end (texts_of ts)) c.deref-3.ensures.value;
+          ∙ ap (λ ns. gathered form w.packages c.args.word.now (map named_text ns) on_end (texts_of c.deref-4.result.now)) c.deref-3.ensures.value
+          ∙ ap (λ ts. gathered form w.packages c.args.word.now (map named_text named) on_end (texts_of ts)) c.deref-4.ensures.value;
     }

@@ -1,2 +1,0 @@
--- Definitions for private functions.
-pub mod Shown

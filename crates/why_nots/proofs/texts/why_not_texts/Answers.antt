@@ -1,0 +1,66 @@
+use Rattle.std.proofs.Common.{◌≡◌, ◌<◌, ◌≤◌, ◌∙◌, Bool, List, [], ◌∷◌, ap, arith, get_or, length, map, subst, sym}
+use Rattle.std.proofs.lemmas.List.{take_all}
+use Rattle.std.specs.List.{AllZip}
+use Rattle.cargo_plans.specs.Plans.{WordsText}
+use Rattle.cargo_workspaces.specs.Workspaces.{Text, WorkspaceText}
+use Rattle.feats_words.specs.declared.command_arguments.Format.{Format}
+use Rattle.why_nots.specs.Parts.{PartText}
+use Rattle.why_nots.specs.Texts.{IsWhyNotText}
+use Rattle.cargo_plans.specs.WordsView.{words_text}
+use Rattle.cargo_workspaces.specs.WorkspaceView.{workspace_text}
+use Rattle.plan_platforms.specs.HeldSpecs.{holds_on}
+use Rattle.plan_widenings.specs.Widenings.{widened}
+use Rattle.why_nots.specs.PartView.{part_text}
+use Rattle.why_nots.specs.Texts.{IsSection, head_text}
+use Rattle.why_nots.specs.inner.Lists.{texts_of}
+use Rattle.plan_widenings.specs.declared.widening.Widening.{Widening}
+use Rattle.why_nots.specs.inner.Lists.{joined}
+use Rattle.why_nots.proofs.Each.{IsSo, all_done, begun, each_step}
+use Rattle.why_nots.proofs.Gathered.{AllAreSaid}
+use Rattle.why_nots.proofs.texts.why_not_texts.Goals as goal
+
+text_done : (form : Format) (w : WorkspaceText) (words : WordsText) (every : Text → Bool) (parts : List PartText) (texts : List Text)
+    → AllZip (λ part text. AllAreSaid (λ v t. IsSection form w (widened every v words) v part t) (λ v s. s) (head_text form w.packages part) text) parts texts → AllZip (IsWhyNotText form w words every) parts texts
+text_done form w words every [] [] so = tt
+text_done form w words every [] (t ∷ ts) so = absurd so
+text_done form w words every (p ∷ ps) [] so = absurd so
+text_done form w words every (p ∷ ps) (t ∷ ts) so = (record { section = so.0.value; are_sections = so.0.have; is_text = so.0.is_all }, text_done form w words every ps ts so.1)
+
+sections_as : (form : Format) (w : WorkspaceText) (words wider : WordsText) (v : Widening) (parts : List PartText) (sections : List Text) → words ≡ wider → AllZip (IsSection form w words v) parts sections
+    → AllZip (IsSection form w wider v) parts sections
+sections_as form w words wider v parts sections e h = subst (λ z. AllZip (IsSection form w z v) parts sections) e h
+
+pub loop-widening-init : goal.loop-widening-init
+loop-widening-init c =
+    let w = workspace_text c.args.workspace.now in
+    let words = words_text holds_on c.args.words.now in
+    let every = holds_on c.args.every.now in
+    begun (λ part v text. IsSection c.args.form w (widened every v words) v part text) (head_text c.args.form w.packages) (map part_text c.args.parts.now) (texts_of c.in_ok-texts.texts.items) c.in_ok-texts.ensures
+
+pub loop-widening-preserved : goal.loop-widening-preserved
+loop-widening-preserved c =
+    let w = workspace_text c.args.workspace.now in
+    let words = words_text holds_on c.args.words.now in
+    let every = holds_on c.args.every.now in
+    let parts = map part_text c.args.parts.now in
+    let vs = c.all-all.result in
+    let i = c.loop-widening.widening-index in
+    let within : i < length vs = subst (λ z. i < length z) (sym c.all-all.ensures) c.loop-widening-test.true in
+    let given = c.in_ok-texts-2.ensures in
+    each_step (λ part v text. IsSection c.args.form w (widened every v words) v part text) (head_text c.args.form w.packages) vs i _ parts (texts_of c.loop-widening.texts.items) given.0 (texts_of c.in_ok-texts-2.texts.items) within c.loop-widening.invariant
+    (sections_as c.args.form w _ _ _ parts given.0 c.widened-wider.ensures given.1)
+    (given.2 ∙ ap (λ ts. joined (texts_of ts) given.0) c.deref.ensures.value)
+
+pub returns : goal.returns
+returns c =
+    let w = workspace_text c.args.workspace.now in
+    let words = words_text holds_on c.args.words.now in
+    let every = holds_on c.args.every.now in
+    let parts = map part_text c.args.parts.now in
+    let vs = c.all-all.result in
+    let i = c.loop-widening.widening-index in
+    let IsText = λ (part : PartText) (v : Widening) (text : Text). IsSection c.args.form w (widened every v words) v part text in
+    let beyond : length vs ≤ i = omega arith in
+    let so = subst (λ z. AllZip (IsSo IsText (head_text c.args.form w.packages) z) parts (texts_of c.loop-widening.texts.items)) (take_all i vs beyond) c.loop-widening.invariant in
+    text_done c.args.form w words every parts (texts_of c.loop-widening.texts.items)
+    (all_done IsText (head_text c.args.form w.packages) vs parts (texts_of c.loop-widening.texts.items) c.all-all.ensures so)

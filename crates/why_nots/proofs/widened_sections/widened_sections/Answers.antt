@@ -1,0 +1,16 @@
+use Rattle.std.proofs.Common.{map, rules}
+use Rattle.std.proofs.lemmas.Result.{IfOk-weaker}
+use Rattle.cargo_plans.specs.WordsView.{words_text}
+use Rattle.cargo_workspaces.specs.WorkspaceView.{workspace_text}
+use Rattle.plan_platforms.specs.HeldSpecs.{holds_on}
+use Rattle.why_nots.specs.PartView.{part_text}
+use Rattle.why_nots.specs.inner.Lists.{texts_of}
+use Rattle.why_nots.proofs.FoundLemmas.{unplanned}
+use Rattle.why_nots.proofs.widened_sections.widened_sections.Goals as goal
+
+pub returns-in-Err : goal.returns-in-Err
+returns-in-Err c =
+    IfOk-weaker c.unplanned_sections.result _ _ (λ sections shown.
+    unplanned c.args.form (workspace_text c.args.workspace.now) (words_text holds_on c.args.words.now) c.args.widening c.in-Err.fault (map part_text c.args.parts.now) (texts_of sections.items)
+    c.in-Err.ensures.fault (search rules) shown)
+    c.unplanned_sections.ensures

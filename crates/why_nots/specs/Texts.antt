@@ -1,0 +1,41 @@
+-- The text about a part that is off.
+use Rattle.std.specs.Prelude.{◌≡◌, List, [], ◌∷◌, ◌++◌, Bool, flat_map}
+use Rattle.json.specs.Token.{begin_object}
+use Rattle.cargo_workspaces.specs.Workspaces.{Text, PackageText, WorkspaceText}
+use Rattle.cargo_plans.specs.Plans.{WordsText}
+use Rattle.feats_words.specs.declared.command_arguments.Format.{Format}
+use Rattle.feats_words.specs.declared.command_arguments.Format.TheVariants as format
+use Rattle.line_parts.specs.Members.{object_line}
+use Rattle.plan_widenings.specs.Widenings.{widened, widenings}
+use Rattle.plan_widenings.specs.declared.widening.Widening.{Widening}
+use Rattle.widening_lines.specs.Lines.{off_line, widening_lines}
+use Rattle.why_nots.specs.Answers.{AnswerText, IsAnswer}
+use Rattle.why_nots.specs.Lines.{said_of}
+use Rattle.why_nots.specs.Objects.{answer_tokens, head_tokens}
+use Rattle.why_nots.specs.Parts.{PartText, title_of}
+
+-- The beginning of a text: a line that says that the part is off. Objects have none.
+abbrev pub head_text : Format → List PackageText → PartText → Text
+head_text format.Text packages part = off_line (title_of packages part)
+head_text format.Json packages part = []
+
+-- What is said of a widening, where its words have this answer about the part.
+abbrev pub section_text : Format → List PackageText → WordsText → Widening → PartText → AnswerText → Text
+section_text format.Text packages words v part answer = widening_lines v (said_of packages words answer)
+section_text format.Json packages words v part answer = object_line (begin_object ∷ (head_tokens packages part v ++ answer_tokens packages words answer))
+
+-- What is said of a widening, by which the words are these.
+pub record IsSection (form : Format) (w : WorkspaceText) (words : WordsText) (v : Widening) (part : PartText) (text : Text) : Type 0 where
+  pub answer : AnswerText
+  pub is_answer : IsAnswer w words part answer
+  pub is_text : text ≡ section_text form w.packages words v part answer
+
+-- What is said of it for each widening. `every` is which platform specs hold on every platform.
+abbrev pub AreSections : Format → WorkspaceText → WordsText → (Text → Bool) → PartText → (Widening → Text) → Type 0
+AreSections form w words every part section = (v : Widening) → IsSection form w (widened every v words) v part (section v)
+
+-- THE TEXT about a part: what is said of it for each widening.
+pub record IsWhyNotText (form : Format) (w : WorkspaceText) (words : WordsText) (every : Text → Bool) (part : PartText) (text : Text) : Type 0 where
+  pub section : Widening → Text
+  pub are_sections : AreSections form w words every part section
+  pub is_text : text ≡ head_text form w.packages part ++ flat_map section widenings

@@ -1,0 +1,35 @@
+//! The spots at which parts are looked for.
+ghost use Rattle.std.specs.Prelude.{◌≡◌, IfOk, map};
+ghost use Rattle.plan_steps.specs.PlanViews.{plan_text};
+ghost use Rattle.plan_whys.specs.StepViews.{spot_text};
+ghost use Rattle.why_nots.specs.PartView.{part_text};
+ghost use Rattle.why_nots.specs.inner.Lists as spec;
+
+use crate::parts::{OffPart, spot_on};
+use cargo_plans::Plan;
+use plan_whys::Spot;
+use plan_widenings::sides_of;
+use std::alloc::{AllocError, Global};
+
+/// Returns `part` on the first side on which it is on in `plan`; on the host, if it is off.
+fn first_spot<'w>(plan: &Plan<'_>, part: OffPart<'w>) -> Spot<'w>
+    ensures { spot_text result ≡ spec.first_spot (plan_text plan.now).on (part_text part.entry) }
+{
+    let sides = sides_of(plan, part.package, part.label);
+    spot_on(sides.first(), part)
+}
+
+/// Returns the first spot of each of `parts`.
+pub(crate) fn first_spots<'w>(
+    alloc: Global,
+    plan: &Plan<'_>,
+    parts: &[OffPart<'w>],
+) -> Result<Vec<Spot<'w>>, AllocError>
+    ensures { IfOk result (λ spots. map spot_text spots.items ≡ map (spec.first_spot (plan_text plan.now).on) (map part_text parts.now)) }
+{
+    let mut spots = Vec::with_capacity(alloc, parts.len())?;
+    for part in parts {
+        spots.push(first_spot(plan, *part))?;
+    }
+    Ok(spots)
+}

@@ -1,0 +1,105 @@
+//! The texts about parts that are off.
+ghost use Rattle.std.specs.Prelude.{◌≡◌, List, IfOk, map};
+ghost use Rattle.std.specs.List.{AllZip};
+ghost use Rattle.cargo_plans.specs.WordsView.{words_text};
+ghost use Rattle.cargo_workspaces.specs.Workspaces.{Text};
+ghost use Rattle.cargo_workspaces.specs.WorkspaceView.{workspace_text};
+ghost use Rattle.plan_platforms.specs.HeldSpecs.{holds_on};
+ghost use Rattle.widening_lines.specs.Lines.{off_line};
+ghost use Rattle.why_nots.specs.PartView.{part_text};
+ghost use Rattle.why_nots.specs.Texts as spec;
+ghost use Rattle.why_nots.specs.inner.Lists.{joined as joined_texts, texts_of};
+
+use crate::joined::joined;
+use crate::parts::{OffPart, title_of};
+use crate::widened_sections::widened_sections;
+use cargo_plans::PlanWords;
+use cargo_workspaces::Workspace;
+use feats_words::Format;
+use plan_platforms::HeldSpecs;
+use plan_widenings::{Widening, widened};
+use std::alloc::{AllocError, Global};
+use widening_lines::push_off;
+
+/// Returns the line that says that `name` is off.
+fn off_line_of(alloc: Global, name: &str) -> Result<Vec<u8>, AllocError>
+    ensures { IfOk result (λ text. text.items ≡ off_line name.now) }
+{
+    let mut text = Vec::new(alloc);
+    push_off(&mut text, name)?;
+    Ok(text)
+}
+
+/// Returns the beginning of the text about `part`.
+fn head_of(
+    alloc: Global,
+    form: Format,
+    workspace: &Workspace<'_>,
+    part: OffPart<'_>,
+) -> Result<Vec<u8>, AllocError>
+    ensures { IfOk result (λ text. text.items ≡ spec.head_text form (workspace_text workspace.now).packages (part_text part.entry)) }
+{
+    match form {
+        Format::Text => {
+            let title = title_of(alloc, workspace, part)?;
+            off_line_of(alloc, title.as_str())
+        }
+        Format::Json => Ok(Vec::new(alloc)),
+    }
+}
+
+/// Returns the beginnings of the texts about `parts`.
+fn heads_of(
+    alloc: Global,
+    form: Format,
+    workspace: &Workspace<'_>,
+    parts: &[OffPart<'_>],
+) -> Result<Vec<Vec<u8>>, AllocError>
+    ensures { IfOk result (λ texts. texts_of texts.items ≡ map (spec.head_text form (workspace_text workspace.now).packages) (map part_text parts.now)) }
+{
+    let mut heads = Vec::with_capacity(alloc, parts.len())?;
+    for part in parts {
+        heads.push(head_of(alloc, form, workspace, *part)?)?;
+    }
+    Ok(heads)
+}
+
+/// Returns `texts`, each with what is said of `widening`, whose words are `words`, about the part of `parts` in its place.
+fn with_sections(
+    alloc: Global,
+    form: Format,
+    workspace: &Workspace<'_>,
+    words: &PlanWords<'_, '_, HeldSpecs<'_>>,
+    widening: Widening,
+    parts: &[OffPart<'_>],
+    texts: &[Vec<u8>],
+) -> Result<Vec<Vec<u8>>, AllocError>
+    ensures { IfOk result (λ longer. (sections : List Text) × AllZip (spec.IsSection form (workspace_text workspace.now) (words_text holds_on words.now) widening) (map part_text parts.now) sections
+        × (texts_of longer.items ≡ joined_texts (texts_of texts.now) sections)) }
+{
+    let sections = widened_sections(alloc, form, workspace, words, widening, parts)?;
+    joined(alloc, texts, &sections)
+}
+
+/// Returns the texts about `parts`, which are off by `words`: for each widening of the selection, whether the part is on there, and why; or
+/// why there is no plan. If a part is off with all of them together, the last line of its text says that no choice of members, features,
+/// tests and platforms turns it on. `every` is the platform on which each platform spec of `workspace` holds. The plan of a widening is made
+/// once.
+pub fn why_not_texts<'n, 's>(
+    alloc: Global,
+    form: Format,
+    workspace: &Workspace<'_>,
+    words: &PlanWords<'_, 'n, HeldSpecs<'s>>,
+    every: &'n HeldSpecs<'s>,
+    parts: &[OffPart<'_>],
+) -> Result<Vec<Vec<u8>>, AllocError>
+    ensures { IfOk result (λ texts. AllZip (spec.IsWhyNotText form (workspace_text workspace.now) (words_text holds_on words.now) (holds_on every.now)) (map part_text parts.now) (texts_of texts.items)) }
+{
+    let mut texts = heads_of(alloc, form, workspace, parts)?;
+    let all = Widening::all();
+    for widening in &all {
+        let wider = widened(words, *widening, every);
+        texts = with_sections(alloc, form, workspace, &wider, *widening, parts, &texts)?;
+    }
+    Ok(texts)
+}

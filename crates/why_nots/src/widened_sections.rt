@@ -1,0 +1,132 @@
+//! What is said of one widening about several parts.
+ghost use Rattle.std.specs.Prelude.{◌≡◌, IfOk, map};
+ghost use Rattle.std.specs.List.{AllZip};
+ghost use Rattle.cargo_plans.specs.Plans.{IsPlanOf};
+ghost use Rattle.cargo_plans.specs.Refusals.{IsRefusal};
+ghost use Rattle.cargo_plans.specs.WordsView.{words_text};
+ghost use Rattle.cargo_workspaces.specs.WorkspaceView.{workspace_text};
+ghost use Rattle.plan_messages.specs.Messages.{plan_message};
+ghost use Rattle.plan_platforms.specs.HeldSpecs.{holds_on};
+ghost use Rattle.plan_steps.specs.PlanViews.{plan_text};
+ghost use Rattle.plan_whys.specs.StepViews.{found_text};
+ghost use Rattle.why_nots.specs.PartView.{part_text};
+ghost use Rattle.why_nots.specs.Texts.{IsSection};
+ghost use Rattle.why_nots.specs.inner.Lists as spec;
+ghost use Rattle.why_nots.specs.inner.Lists.{texts_of};
+
+use crate::answer::{Answer, answer_of};
+use crate::messages::message_of;
+use crate::parts::OffPart;
+use crate::sections::section_of;
+use crate::spots::first_spots;
+use cargo_plans::{Plan, PlanFault, PlanWords, plan};
+use cargo_workspaces::Workspace;
+use feats_words::Format;
+use plan_platforms::HeldSpecs;
+use plan_whys::{WhyStep, why_each};
+use plan_widenings::Widening;
+use std::alloc::{AllocError, Global};
+
+/// Returns what is said of `widening` about each of `parts`, by the steps `founds` that were found for it.
+fn found_sections(
+    alloc: Global,
+    form: Format,
+    workspace: &Workspace<'_>,
+    words: &PlanWords<'_, '_, HeldSpecs<'_>>,
+    widening: Widening,
+    parts: &[OffPart<'_>],
+    founds: &[Option<Vec<WhyStep<'_>>>],
+) -> Result<Vec<Vec<u8>>, AllocError>
+    ensures { IfOk result (λ sections. texts_of sections.items ≡ spec.found_sections form (workspace_text workspace.now).packages (words_text holds_on words.now) widening (map part_text parts.now) (map found_text founds.now)) }
+{
+    let mut sections = Vec::with_capacity(alloc, parts.len())?;
+    for (part, found) in parts.iter().zip(founds) {
+        let answer = answer_of(found);
+        sections.push(section_of(alloc, form, workspace, words, widening, *part, answer)?)?;
+    }
+    Ok(sections)
+}
+
+/// Returns what is said of `widening` about each of `parts`, where its words `words` have no plan, and `message` says why.
+fn refused_sections(
+    alloc: Global,
+    form: Format,
+    workspace: &Workspace<'_>,
+    words: &PlanWords<'_, '_, HeldSpecs<'_>>,
+    widening: Widening,
+    parts: &[OffPart<'_>],
+    message: &str,
+) -> Result<Vec<Vec<u8>>, AllocError>
+    ensures { IfOk result (λ sections. texts_of sections.items ≡ spec.refused_sections form (workspace_text workspace.now).packages (words_text holds_on words.now) widening message.now (map part_text parts.now)) }
+{
+    let mut sections = Vec::with_capacity(alloc, parts.len())?;
+    for part in parts {
+        let answer = Answer::NotPlanned(message);
+        sections.push(section_of(alloc, form, workspace, words, widening, *part, answer)?)?;
+    }
+    Ok(sections)
+}
+
+/// Returns what is said of `widening` about each of `parts`, where `plan` is the plan of its words `words`.
+fn planned_sections(
+    alloc: Global,
+    form: Format,
+    workspace: &Workspace<'_>,
+    words: &PlanWords<'_, '_, HeldSpecs<'_>>,
+    widening: Widening,
+    parts: &[OffPart<'_>],
+    plan: &Plan<'_>,
+) -> Result<Vec<Vec<u8>>, AllocError>
+    requires { IsPlanOf (workspace_text workspace.now) (words_text holds_on words.now) (plan_text plan.now) }
+    ensures { IfOk result (λ sections. AllZip (IsSection form (workspace_text workspace.now) (words_text holds_on words.now) widening) (map part_text parts.now) (texts_of sections.items)) }
+{
+    let spots = first_spots(alloc, plan, parts)?;
+    let founds = why_each(alloc, workspace, words, plan, &spots)?;
+    found_sections(alloc, form, workspace, words, widening, parts, &founds)
+}
+
+/// Returns what is said of `widening` about each of `parts`, where its words `words` have no plan, for the reason `fault`.
+fn unplanned_sections<'p>(
+    alloc: Global,
+    form: Format,
+    workspace: &'p Workspace<'_>,
+    words: &PlanWords<'_, '_, HeldSpecs<'_>>,
+    widening: Widening,
+    parts: &[OffPart<'_>],
+    fault: PlanFault<'p>,
+) -> Result<Vec<Vec<u8>>, AllocError>
+    ensures { IfOk result (λ sections. texts_of sections.items ≡ spec.refused_sections form (workspace_text workspace.now).packages (words_text holds_on words.now) widening (plan_message (workspace_text workspace.now).packages fault.entry) (map part_text parts.now)) }
+{
+    let message = message_of(alloc, workspace, fault)?;
+    refused_sections(
+        alloc,
+        form,
+        workspace,
+        words,
+        widening,
+        parts,
+        message.as_str(),
+    )
+}
+
+/// Returns what is said of `widening`, whose words are `words`, about each of `parts`. It makes one plan.
+pub(crate) fn widened_sections(
+    alloc: Global,
+    form: Format,
+    workspace: &Workspace<'_>,
+    words: &PlanWords<'_, '_, HeldSpecs<'_>>,
+    widening: Widening,
+    parts: &[OffPart<'_>],
+) -> Result<Vec<Vec<u8>>, AllocError>
+    ensures { IfOk result (λ sections. AllZip (IsSection form (workspace_text workspace.now) (words_text holds_on words.now) widening) (map part_text parts.now) (texts_of sections.items)) }
+{
+    match plan(alloc, workspace, words) {
+        Ok(plan) => {
+            let sections = planned_sections(alloc, form, workspace, words, widening, parts, &plan);
+            drop(plan);
+            sections
+        }
+        Err(PlanFault::Memory) => Err(AllocError),
+        Err(fault) => unplanned_sections(alloc, form, workspace, words, widening, parts, fault),
+    }
+}
