@@ -1,6 +1,5 @@
 -- Trees of the packages that a plan builds, as text or as JSON objects.
-use Rattle.std.specs.Prelude.{◌≡◌, ◌==◌, ℕ, List, [], ◌∷◌, Bool, Option, Some, None, AllPairs, map, if◌then◌else◌}
-use Rattle.std.specs.List.{IsPermutation}
+use Rattle.std.specs.Prelude.{◌≡◌, ◌==◌, ℕ, List, Option, AllPairs, IsPermutation, map}
 use Rattle.cargo_workspaces.specs.Workspaces.{Text, PackageText}
 use Rattle.feats_words.specs.declared.command_arguments.Format.{Format}
 use Rattle.feats_words.specs.declared.command_arguments.Format.TheVariants as format

@@ -1,6 +1,6 @@
 //! Trees of the packages that a plan builds.
 ghost use Rattle.std.specs.Prelude.{◌≡◌, ◌++◌, ◌∷◌, [], ◌==◌, IfOk, OnOk, map, if◌then◌else◌};
-ghost use Rattle.cargo_workspaces.specs.Views.{texts};
+ghost use Rattle.cargo_workspaces.specs.Views.{package_text, texts};
 ghost use Rattle.cargo_workspaces.specs.WorkspaceView.{workspace_text};
 ghost use Rattle.plan_steps.specs.PlanViews.{plan_text};
 ghost use Rattle.plan_units.specs.UnitViews.{unit_text};
@@ -46,7 +46,14 @@ pub fn package_tree(
 {
     let links = unit_links(alloc, plan)?;
     let roots = root_units(alloc, plan)?;
-    unit_tree(alloc, form, &links, &roots, limit, shown(names, workspace, plan))
+    unit_tree(
+        alloc,
+        form,
+        &links,
+        &roots,
+        limit,
+        shown(names, workspace, plan),
+    )
 }
 
 /// Appends `number` if `unit` is one of package `package`.
@@ -91,5 +98,12 @@ pub fn inverted_package_tree(
     let links = unit_links(alloc, plan)?;
     let turned = reversed(alloc, &links)?;
     let roots = units_of(alloc, plan.units(), package)?;
-    unit_tree(alloc, form, &turned, &roots, limit, shown(names, workspace, plan))
+    unit_tree(
+        alloc,
+        form,
+        &turned,
+        &roots,
+        limit,
+        shown(names, workspace, plan),
+    )
 }
