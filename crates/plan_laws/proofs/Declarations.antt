@@ -46,7 +46,7 @@ plans_follow w s selected plan is made P follows chosen u h =
     let built = made.holds.2 in
     let rules : TargetRules = record { settings = s; packages = w.packages; kept = made.kept; on = made.on } in
     let from = starts_by w s selected made.kept made.on in
-    let visit = visit_is w s made.on from built.built built.is_built in
+    let visit = visit_is w s made.on from plan.built built.is_built in
     let begins = subst (λ z. (x : ℕ × LabelName) → Contains (start_places (length s.targets) z) x → IsTrue (in_place w is P follows x.0)) (sym (starts_are w s selected made.kept made.on)) (starts_in w is P follows rules refl selected chosen (length s.targets)) in
-    let reached = reached_follows w is P follows s made.on (flag_at (dev_flags s.test (length s.targets) from)) (start_places (length s.targets) from) built.built begins visit in
-    units_in w is P follows made.on built.built reached s.split (length s.targets) u (subst (λ z. Contains z u) built.are_units h)
+    let reached = reached_follows w is P follows s made.on (flag_at (dev_flags s.test (length s.targets) from)) (start_places (length s.targets) from) plan.built begins visit in
+    units_in w is P follows made.on plan.built reached s.split (length s.targets) u (subst (λ z. Contains z u) built.are_units h)

@@ -108,9 +108,9 @@ more_turns_nothing_off w s commands selected larger p q is grow among a b u h =
     let y = b.holds.2 in
     let rules : TargetRules = record { settings = s; packages = w.packages; kept = a.kept; on = a.on } in
     let others : TargetRules = record { settings = more_s; packages = w.packages; kept = b.kept; on = b.on } in
-    let left = subst (λ z. IsVisitOf (rows_of (built_entries w s (turned_on a.on) (flag_at (dev_flags s.test n z)))) (start_places n z) x.built) (starts_are w s selected a.kept a.on) (built_is w s a.on (starts_by w s selected a.kept a.on) x.built x.is_built) in
-    let right = subst (λ z. IsVisitOf (rows_of (built_entries w more_s (turned_on b.on) (flag_at (dev_flags s.test n z)))) (start_places n z) y.built) (starts_are w more_s larger b.kept b.on) (built_is w more_s b.on (starts_by w more_s larger b.kept b.on) y.built y.is_built) in
-    let reached = built_reached w is s commands grow a.on b.on (starts_of rules selected) (starts_of others larger) x.built y.built (λ side p name. on side p (optional name))
+    let left = subst (λ z. IsVisitOf (rows_of (built_entries w s (turned_on a.on) (flag_at (dev_flags s.test n z)))) (start_places n z) p.built) (starts_are w s selected a.kept a.on) (built_is w s a.on (starts_by w s selected a.kept a.on) p.built x.is_built) in
+    let right = subst (λ z. IsVisitOf (rows_of (built_entries w more_s (turned_on b.on) (flag_at (dev_flags s.test n z)))) (start_places n z) q.built) (starts_are w more_s larger b.kept b.on) (built_is w more_s b.on (starts_by w more_s larger b.kept b.on) q.built y.is_built) in
+    let reached = built_reached w is s commands grow a.on b.on (starts_of rules selected) (starts_of others larger) p.built q.built (λ side p name. on side p (optional name))
     (devs_grow w is s commands grow a.kept b.kept a.on b.on kept on selected larger among s.test n) (places_grow w is s commands grow a.kept b.kept a.on b.on kept on selected larger among n) left right in
-    let r = units_there a.on b.on x.built y.built on reached w.packages s.split n u (subst (λ z. Contains z u) x.are_units h) in
+    let r = units_there a.on b.on p.built q.built on reached w.packages s.split n u (subst (λ z. Contains z u) x.are_units h) in
     (r.0, subst (λ z. Contains z r.0) (sym y.are_units) r.1, r.2, r.3, r.4)

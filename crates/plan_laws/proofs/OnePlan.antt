@@ -152,8 +152,8 @@ one_plan one w s selected p q a b =
     let from = starts_are w s selected a.kept a.on ∙ same_starts s w.packages selected a.kept b.kept a.on b.on kept on ∙ sym (starts_are w s selected b.kept b.on) in
     let x = a.holds.2 in
     let y = b.holds.2 in
-    let built = same_built one w s a.on b.on (starts_by w s selected a.kept a.on) (starts_by w s selected b.kept b.on) x.built y.built on from x.is_built y.is_built in
-    x.are_units ∙ same_units a.on b.on x.built y.built on built w.packages s.split (length s.targets) ∙ sym y.are_units
+    let built = same_built one w s a.on b.on (starts_by w s selected a.kept a.on) (starts_by w s selected b.kept b.on) p.built q.built on from x.is_built y.is_built in
+    x.are_units ∙ same_units a.on b.on p.built q.built on built w.packages s.split (length s.targets) ∙ sym y.are_units
 
 same_chosen : (c d : ChosenText) → ◌≡◌ {A = Result ChosenText Refusal} (Ok c) (Ok d) → c ≡ d
 same_chosen c d h = cc

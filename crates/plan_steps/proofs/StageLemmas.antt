@@ -1,23 +1,19 @@
 -- The stages of a plan.
-use Rattle.std.proofs.Common.{◌≡◌, ℕ, ◌+◌, ◌*◌, ◌<◌, ◌≤◌, ◌^◌, List, Result, Ok, Err, None, length, map, refl, subst, sym, arith}
+use Rattle.std.proofs.Common.{◌≡◌, ℕ, List, Result, Ok, Err, None, refl, subst, sym}
 use Rattle.std.specs.Prelude.{IfOk}
-use Rattle.std.specs.Global.{Vec}
 use Rattle.std.proofs.lemmas.Result.{IfOk-weaker}
 use Rattle.cargo_workspaces.specs.Workspaces.{PackageText, WorkspaceText}
 use Rattle.plan_rows.specs.Steps.{SettingsText}
 use Rattle.plan_starts.specs.PackageVisits.{PairVisit}
-use Rattle.plan_starts.specs.Starts.{Starts, starts_of}
+use Rattle.plan_starts.specs.Starts.{starts_of}
 use Rattle.plan_starts.specs.StartViews.{starts_text}
 use Rattle.plan_starts.specs.declared.starts.Starts.{Starts as Found}
-use Rattle.plan_units.specs.Units.{units_of}
-use Rattle.plan_units.specs.UnitViews.{unit_text}
-use Rattle.plan_units.specs.declared.unit.Unit.{Unit}
-use Rattle.step_visits.specs.Visits.{Visit}
-use Rattle.plan_steps.specs.Plans.{AreBuilt, IsBuiltFrom, IsOn, IsPlan, IsResolved, PlanText, starts_by, without_tests}
+use Rattle.plan_steps.specs.Plans.{IsOn, IsPlan, IsResolved, PlanText, starts_by, without_tests}
 use Rattle.plan_steps.specs.PlanViews.{IsRefused, Plans}
 use Rattle.plan_steps.specs.declared.fault.StepFault.{StepFault}
 use Rattle.plan_steps.specs.declared.fault.StepFault.TheVariants as fault
 use Rattle.plan_steps.specs.declared.plan.Plan.{Plan}
+use Rattle.plan_steps.specs.declared.stages.Built.{Built}
 use Rattle.plan_steps.specs.inner.Stages.{Builds, Planned, Stops}
 
 module _ {E : Type 0} where
@@ -26,23 +22,6 @@ module _ {E : Type 0} where
   unfolding starts_by
   started_by w s selected kept on packages r same =
       IfOk-weaker r _ _ (λ found is. subst (λ (ps : List PackageText). starts_text found ≡ starts_of (record { settings = s; packages = ps; kept = kept; on = on }) selected) same is)
-
-  pub units_built : (w : WorkspaceText) (s : SettingsText) (on : PairVisit) (from : Starts) (built : Visit) (packages : List PackageText) (targets : ℕ) (r : Result (Vec Unit) E) → IsBuiltFrom w s on from built → packages ≡ w.packages
-      → targets ≡ length s.targets → IfOk r (λ units. map unit_text units.items ≡ units_of s.split on built packages targets) → IfOk r (λ units. AreBuilt w s on from (map unit_text units.items))
-  units_built w s on from built packages targets r is same count =
-      IfOk-weaker r _ _ (λ units are. record {
-        built = built;
-        is_built = is;
-        are_units = subst (λ n. map unit_text units.items ≡ units_of s.split on built w.packages n) count (subst (λ ps. map unit_text units.items ≡ units_of s.split on built ps targets) same are);
-      })
-
--- there is room for the entries
-pub room_for : (n m t u ids : ℕ) → n ≡ m → t ≡ u → m + u * m ≤ ids → ids < 2 ^ 64 → n + t * n < 2 ^ 64
-room_for n m t u ids same count room small =
-    subst (λ k. k + t * k < 2 ^ 64) (sym same) (subst (λ k. m + k * m < 2 ^ 64) (sym count) (go (u * m) room))
-  where
-    go : (k : ℕ) → m + k ≤ ids → m + k < 2 ^ 64
-    go k h = omega (arith, h, small)
 
 -- why there is no plan, by the visits of the first two steps
 pub stopped : (w : WorkspaceText) (s : SettingsText) (selected : List ℕ) (kept on : PairVisit) (e : StepFault) → without_tests w s selected ≡ None → IsResolved w s kept → IsOn w s kept on
@@ -53,11 +32,11 @@ stopped w s selected kept on (fault.Lacking p name) tests resolved turned stops 
 stopped w s selected kept on fault.Memory tests resolved turned stops = tt
 
 -- the plan, or why there is none, by the visits of the first two steps
-pub planned_so : (w : WorkspaceText) (s : SettingsText) (selected : List ℕ) (kept on : PairVisit) (units : Result (Vec Unit) StepFault) (r : Result Plan StepFault) → without_tests w s selected ≡ None → IsResolved w s kept → IsOn w s kept on
-    → Builds w s on (starts_by w s selected kept on) units → Planned on units r → Plans w s selected r
-planned_so w s selected kept on (Ok units) (Ok plan) tests resolved turned builds made =
+pub planned_so : (w : WorkspaceText) (s : SettingsText) (selected : List ℕ) (kept on : PairVisit) (built : Result Built StepFault) (r : Result Plan StepFault) → without_tests w s selected ≡ None → IsResolved w s kept → IsOn w s kept on
+    → Builds w s on (starts_by w s selected kept on) built → Planned on built r → Plans w s selected r
+planned_so w s selected kept on (Ok built) (Ok plan) tests resolved turned builds made =
     subst (λ (p : PlanText). IsPlan w s selected p) (sym made) (record { have_tests = tests; kept = kept; on = on; is_resolved = resolved; is_turned_on = turned; holds = (refl, builds.0, builds.1) })
-planned_so w s selected kept on (Ok units) (Err e) tests resolved turned builds made = absurd made
+planned_so w s selected kept on (Ok built) (Err e) tests resolved turned builds made = absurd made
 planned_so w s selected kept on (Err e) (Ok plan) tests resolved turned builds made = absurd made
 planned_so w s selected kept on (Err e) (Err f) tests resolved turned builds made =
     subst (λ (z : StepFault). IsRefused w s selected z) (sym made) (stopped w s selected kept on e tests resolved turned builds)

@@ -57,9 +57,8 @@ module _ {E : Type 0} where
   built_tables w s on from flags rows r same are =
       IfOk-weaker r _ _ (λ t is. subst (λ z. tables_of (rows_of (built_entries w s (turned_on on) (flag_at z))) ≡ Ok t) same (subst (λ z. tables_of z ≡ Ok t) are is))
 
-  pub built_visit : (w : WorkspaceText) (s : SettingsText) (on : PairVisit) (from : Starts) (targets : ℕ) (places taken : List (ℕ × FeatureLabel)) (t : Tables) (r : Result Visit E) → AreBuiltTables w s on from t
-      → targets ≡ length s.targets → map start_of places ≡ start_places targets from → taken ≡ places → IfOk r (λ v. IsVisit t (map start_of taken) v) → IfOk r (λ v. IsBuiltFrom w s on from v)
+  pub built_visit : (w : WorkspaceText) (s : SettingsText) (on : PairVisit) (from : Starts) (places : List (ℕ × FeatureLabel)) (t : Tables) (r : Result Visit E) → AreBuiltTables w s on from t
+      → map start_of places ≡ start_places (length s.targets) from → IfOk r (λ v. IsVisit t (map start_of places) v) → IfOk r (λ v. IsBuiltFrom w s on from v)
   unfolding IsBuiltFrom AreBuiltTables
-  built_visit w s on from targets places taken t r are count begin same =
-      let starts : map start_of places ≡ start_places (length s.targets) from = subst (λ n. map start_of places ≡ start_places n from) count begin in
-      IfOk-weaker r _ _ (λ v is. visit_of (rows_of (built_entries w s (turned_on on) (flag_at (dev_flags s.test (length s.targets) from)))) (start_places (length s.targets) from) (map start_of taken) t v are (given_as _ places taken starts same) is)
+  built_visit w s on from places t r are starts =
+      IfOk-weaker r _ _ (λ v is. visit_of (rows_of (built_entries w s (turned_on on) (flag_at (dev_flags s.test (length s.targets) from)))) (start_places (length s.targets) from) (map start_of places) t v are starts is)

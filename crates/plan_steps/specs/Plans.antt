@@ -1,5 +1,6 @@
 -- Plans: what the visits of the three steps show.
 use Rattle.std.specs.Prelude.{◌≡◌, ℕ, List, Bool, Option, Some, None, length, if◌then◌else◌}
+use Rattle.feature_labels.specs.Names.{LabelName}
 use Rattle.feature_labels.specs.Names.LabelName.{optional}
 use Rattle.cargo_workspaces.specs.Workspaces.{Text, WorkspaceText}
 use Rattle.plan_rows.specs.Steps.{SettingsText, resolved_entries, on_entries, built_entries}
@@ -46,12 +47,6 @@ not_on w s on from = first_missing s.split on from w.packages
 unfoldable pub lacks : WorkspaceText → SettingsText → PairVisit → Option (ℕ × Text)
 lacks w s on = lacking.first_lacking on s.commands w.packages
 
--- These packages are built.
-pub record AreBuilt (w : WorkspaceText) (s : SettingsText) (on : PairVisit) (from : Starts) (units : List UnitText) : Type 0 where
-  pub built : Visit
-  pub is_built : IsBuiltFrom w s on from built
-  pub are_units : units ≡ units_of s.split on built w.packages (length s.targets)
-
 -- All that starts is on, and nothing is lacking.
 abbrev pub IsComplete : WorkspaceText → SettingsText → PairVisit → Starts → Type 0
 IsComplete w s on from = (not_on w s on from ≡ None) × (lacks w s on ≡ None)
@@ -65,15 +60,23 @@ pub record AfterSteps (w : WorkspaceText) (s : SettingsText) (selected : List �
   pub is_turned_on : IsOn w s kept on
   pub holds : P kept on
 
--- What a plan contains: the packages that are built, and the visit of step `on`.
+-- What a plan contains: the packages that are built, the visits of steps `on` and `built`, and the places at which step `built` starts.
 pub record PlanText : Type 0 where
   pub units : List UnitText
   pub on : PairVisit
+  pub built : Visit
+  pub starts : List (ℕ × LabelName)
+
+-- The packages of the plan are those that are built from `from`.
+pub record AreBuilt (w : WorkspaceText) (s : SettingsText) (on : PairVisit) (from : Starts) (plan : PlanText) : Type 0 where
+  pub are_starts : plan.starts ≡ start_places (length s.targets) from
+  pub is_built : IsBuiltFrom w s on from plan.built
+  pub are_units : plan.units ≡ units_of s.split on plan.built w.packages (length s.targets)
 
 -- A PLAN of the selected packages.
 abbrev pub IsPlan : WorkspaceText → SettingsText → List ℕ → PlanText → Type 0
 IsPlan w s selected plan =
-    AfterSteps w s selected (λ kept on. (plan.on ≡ on) × IsComplete w s on (starts_by w s selected kept on) × AreBuilt w s on (starts_by w s selected kept on) plan.units)
+    AfterSteps w s selected (λ kept on. (plan.on ≡ on) × IsComplete w s on (starts_by w s selected kept on) × AreBuilt w s on (starts_by w s selected kept on) plan)
 
 -- The tests of package `p` can't be built.
 abbrev pub HasNoTests : WorkspaceText → SettingsText → List ℕ → ℕ → Type 0

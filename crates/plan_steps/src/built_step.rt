@@ -10,9 +10,10 @@ ghost use Rattle.plan_steps.specs.inner.StepTables.{AreBuiltTables};
 
 use crate::entries::target_count;
 use cargo_workspaces::Workspace;
+use feature_labels::FeatureLabel;
 use guppy_packages::PackageGraph;
 use plan_rows::{Ids, Platform, Settings, rows_built};
-use plan_starts::{PackageVisit, Starts, dev_flags, start_places};
+use plan_starts::{PackageVisit, Starts, dev_flags};
 use std::alloc::{AllocError, Global};
 use step_visits::{Visited, visit};
 
@@ -51,24 +52,25 @@ fn tables<P: Platform>(
     tables_of_flags(alloc, ids, workspace, settings, on, starts, &with_dev)
 }
 
-/// Returns the visit of `tables`, which are those of the step.
+/// Returns the visit of `tables`, which are those of the step, from `places`, which are those of `starts`.
 fn visited<P: Platform>(
     alloc: Global,
     workspace: &Workspace<'_>,
     settings: &Settings<'_, '_, P>,
     on: &PackageVisit,
     starts: &Starts,
+    places: &[(usize, FeatureLabel<'static>)],
     tables: PackageGraph,
 ) -> Result<Visited, AllocError>
-    requires { AreBuiltTables (workspace_text workspace.now) (settings_text P.holds settings.now) on.now (starts_text starts.now) tables }
+    requires tables { AreBuiltTables (workspace_text workspace.now) (settings_text P.holds settings.now) on.now (starts_text starts.now) tables }
+    requires places { map start_of places.now ≡ spec.start_places (length (settings_text P.holds settings.now).targets) (starts_text starts.now) }
     ensures { IfOk result (λ built. IsBuiltFrom (workspace_text workspace.now) (settings_text P.holds settings.now) on.now (starts_text starts.now) built) }
 {
-    let places = start_places(alloc, target_count(settings), starts)?;
-    visit(alloc, tables, &places)
+    visit(alloc, tables, places)
 }
 
-/// Returns the visit of step `built` from `starts`: `on` is the visit of step `on`, and `ids` has at least one id for each package in
-/// each place. An allocation's failure is the only error.
+/// Returns the visit of step `built` from `starts`, whose places are `places`: `on` is the visit of step `on`, and `ids` has at least
+/// one id for each package in each place. An allocation's failure is the only error.
 pub(crate) fn built_step<P: Platform>(
     alloc: Global,
     ids: &Ids,
@@ -76,10 +78,12 @@ pub(crate) fn built_step<P: Platform>(
     settings: &Settings<'_, '_, P>,
     on: &PackageVisit,
     starts: &Starts,
+    places: &[(usize, FeatureLabel<'static>)],
 ) -> Result<Visited, AllocError>
-    requires { length (workspace_text workspace.now).packages + length settings.now.targets.now * length (workspace_text workspace.now).packages ≤ ids.now }
+    requires room { length (workspace_text workspace.now).packages + length settings.now.targets.now * length (workspace_text workspace.now).packages ≤ ids.now }
+    requires places { map start_of places.now ≡ spec.start_places (length (settings_text P.holds settings.now).targets) (starts_text starts.now) }
     ensures { IfOk result (λ built. IsBuiltFrom (workspace_text workspace.now) (settings_text P.holds settings.now) on.now (starts_text starts.now) built) }
 {
     let tables = tables(alloc, ids, workspace, settings, on, starts)?;
-    visited(alloc, workspace, settings, on, starts, tables)
+    visited(alloc, workspace, settings, on, starts, places, tables)
 }

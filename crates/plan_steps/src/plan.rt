@@ -3,10 +3,13 @@ ghost use Rattle.std.specs.Prelude.{◌≡◌, map};
 ghost use Rattle.feature_labels.specs.Names.LabelName.{named};
 ghost use Rattle.plan_starts.specs.PackageVisits.{is_on};
 ghost use Rattle.plan_units.specs.UnitViews.{unit_text};
+ghost use Rattle.step_visits.specs.Visits.{start_of};
 
+use feature_labels::FeatureLabel;
 use plan_rows::Side;
 use plan_starts::PackageVisit;
 use plan_units::Unit;
+use step_visits::Visited;
 
 /// The packages that are built, with their features, and which features are on.
 #[derive(Drop)]
@@ -14,6 +17,10 @@ pub struct Plan<'w> {
     pub(crate) units: Vec<Unit<'w>>,
     /// The visit of step `on`.
     pub(crate) on: PackageVisit,
+    /// The visit of step `built`.
+    pub(crate) built: Visited,
+    /// The places at which step `built` starts.
+    pub(crate) starts: Vec<(usize, FeatureLabel<'static>)>,
 }
 
 impl<'w> Plan<'w> {
@@ -32,6 +39,21 @@ impl<'w> Plan<'w> {
         ensures { result.now ≡ (plan_text self.now).on }
     {
         &self.on
+    }
+
+    /// Returns the visit of step `built`. The entry of a package has the package's number on the host; on target platform `k`, `k + 1`
+    /// times the number of packages more.
+    pub fn built(&self) -> &Visited
+        ensures { result.now ≡ (plan_text self.now).built }
+    {
+        &self.built
+    }
+
+    /// Returns the places at which step `built` starts: the base of each entry that starts, in the order of the entries.
+    pub fn starts(&self) -> &[(usize, FeatureLabel<'static>)]
+        ensures { map start_of result.now ≡ (plan_text self.now).starts }
+    {
+        self.starts.as_slice()
     }
 
     /// Returns whether `feature` of package `package` is on, on `side`.

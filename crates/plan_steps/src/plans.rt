@@ -14,22 +14,26 @@ use crate::fault::StepFault;
 use crate::on_step::on_step;
 use crate::plan::Plan;
 use crate::resolved_step::resolved_step;
-use crate::stages::units_by;
+use crate::stages::{Built, build_of};
 use cargo_workspaces::Workspace;
 use plan_rows::{Ids, Platform, Settings};
 use plan_starts::PackageVisit;
-use plan_units::Unit;
 use std::alloc::Global;
 
-/// Returns the plan of `units`, or their fault. `on` is the visit of step `on`.
+/// Returns the plan of what is built, or the fault. `on` is the visit of step `on`.
 fn planned<'w>(
     on: PackageVisit,
-    units: Result<Vec<Unit<'w>>, StepFault<'w>>,
+    built: Result<Built<'w>, StepFault<'w>>,
 ) -> Result<Plan<'w>, StepFault<'w>>
-    ensures { Planned on units.entry result }
+    ensures { Planned on built.entry result }
 {
-    match units {
-        Ok(units) => Ok(Plan { units, on }),
+    match built {
+        Ok(built) => Ok(Plan {
+            units: built.units,
+            on,
+            built: built.visited,
+            starts: built.starts,
+        }),
         Err(fault) => {
             drop(on);
             Err(fault)
@@ -55,8 +59,8 @@ fn plan_of_visits<'w, P: Platform>(
     requires on { spec.IsOn (workspace_text workspace.now) (settings_text P.holds settings.now) kept.now on }
     ensures { Plans (workspace_text workspace.now) (settings_text P.holds settings.now) selected.now result }
 {
-    let units = units_by(alloc, ids, workspace, settings, kept, &on, selected);
-    planned(on, units)
+    let built = build_of(alloc, ids, workspace, settings, kept, &on, selected);
+    planned(on, built)
 }
 
 /// Returns the plan of the `selected` packages, whose tests can be built: `kept` is the visit of step `resolved`, and `ids` has at least

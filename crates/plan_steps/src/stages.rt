@@ -4,19 +4,33 @@ ghost use Rattle.std.specs.List.{list_all};
 ghost use Rattle.cargo_workspaces.specs.WorkspaceView.{workspace_text};
 ghost use Rattle.plan_rows.specs.SettingsView.{settings_text};
 ghost use Rattle.plan_starts.specs.StartViews.{starts_text};
-ghost use Rattle.plan_units.specs.UnitViews.{unit_text};
+ghost use Rattle.plan_starts.specs.Starts as spec;
+ghost use Rattle.step_visits.specs.Visits.{start_of};
 ghost use Rattle.plan_steps.specs.Plans.{AreBuilt, starts_by};
-ghost use Rattle.plan_steps.specs.inner.Stages.{Builds};
+ghost use Rattle.plan_steps.specs.inner.Stages.{Builds, plan_with};
 
 use crate::built_step::built_step;
 use crate::checks::check;
 use crate::entries::target_count;
 use crate::fault::StepFault;
 use cargo_workspaces::Workspace;
+use feature_labels::FeatureLabel;
 use plan_rows::{Ids, Platform, Settings};
-use plan_starts::{PackageVisit, Starts, TargetRules, starts_of};
+use plan_starts::{PackageVisit, Starts, TargetRules, start_places, starts_of};
 use plan_units::{Unit, units_of};
 use std::alloc::{AllocError, Global};
+use step_visits::Visited;
+
+/// What is built.
+#[derive(Drop)]
+pub(crate) struct Built<'w> {
+    /// The packages, with their features.
+    pub(crate) units: Vec<Unit<'w>>,
+    /// The visit of step `built`.
+    pub(crate) visited: Visited,
+    /// The places at which the step starts.
+    pub(crate) starts: Vec<(usize, FeatureLabel<'static>)>,
+}
 
 /// Returns which of the `selected` packages start, and where: `kept` and `on` are the visits of the first two steps. An allocation's
 /// failure is the only error.
@@ -40,52 +54,79 @@ fn started<P: Platform>(
     starts_of(alloc, &rules, selected)
 }
 
-/// Returns the packages that are built from `starts`: `on` is the visit of step `on`, and `ids` has at least one id for each package
-/// in each place. An allocation's failure is the only error.
-fn built_units<'w, P: Platform>(
+/// What is built from the places `places` of `starts`: the packages, and the visit of the step. `on` is the visit of step `on`, and `ids`
+/// has at least one id for each package in each place. An allocation's failure is the only error.
+fn built_by<'w, P: Platform>(
     alloc: Global,
     ids: &Ids,
     workspace: &'w Workspace<'_>,
     settings: &Settings<'_, '_, P>,
     on: &PackageVisit,
     starts: &Starts,
-) -> Result<Vec<Unit<'w>>, AllocError>
-    requires { length (workspace_text workspace.now).packages + length settings.now.targets.now * length (workspace_text workspace.now).packages ≤ ids.now }
-    ensures { IfOk result (λ units. AreBuilt (workspace_text workspace.now) (settings_text P.holds settings.now) on.now (starts_text starts.now) (map unit_text units.items)) }
+    places: Vec<(usize, FeatureLabel<'static>)>,
+) -> Result<Built<'w>, AllocError>
+    requires room { length (workspace_text workspace.now).packages + length settings.now.targets.now * length (workspace_text workspace.now).packages ≤ ids.now }
+    requires places { map start_of places.items ≡ spec.start_places (length (settings_text P.holds settings.now).targets) (starts_text starts.now) }
+    ensures { IfOk result (λ built. AreBuilt (workspace_text workspace.now) (settings_text P.holds settings.now) on.now (starts_text starts.now) (plan_with on.now built)) }
 {
     let _limit = ids.count();
     let targets = target_count(settings);
-    let built = built_step(alloc, ids, workspace, settings, on, starts)?;
+    let visited = built_step(alloc, ids, workspace, settings, on, starts, &places)?;
     let packages = workspace.packages();
-    let units = units_of(alloc, settings.split, on, &built, packages, targets);
-    drop(built);
-    units
+    match units_of(alloc, settings.split, on, &visited, packages, targets) {
+        Ok(units) => Ok(Built {
+            units,
+            visited,
+            starts: places,
+        }),
+        Err(fault) => {
+            drop(visited);
+            Err(fault)
+        }
+    }
 }
 
-/// Returns the packages that are built from `starts`, or the first reason why nothing is.
-fn checked_units<'w, P: Platform>(
+/// Returns what is built from `starts`: `on` is the visit of step `on`, and `ids` has at least one id for each package in each place. An
+/// allocation's failure is the only error.
+fn built_from<'w, P: Platform>(
+    alloc: Global,
+    ids: &Ids,
+    workspace: &'w Workspace<'_>,
+    settings: &Settings<'_, '_, P>,
+    on: &PackageVisit,
+    starts: &Starts,
+) -> Result<Built<'w>, AllocError>
+    requires { length (workspace_text workspace.now).packages + length settings.now.targets.now * length (workspace_text workspace.now).packages ≤ ids.now }
+    ensures { IfOk result (λ built. AreBuilt (workspace_text workspace.now) (settings_text P.holds settings.now) on.now (starts_text starts.now) (plan_with on.now built)) }
+{
+    let places = start_places(alloc, target_count(settings), starts)?;
+    built_by(alloc, ids, workspace, settings, on, starts, places)
+}
+
+/// Returns what is built from `starts`, or the first reason why nothing is.
+fn checked_build<'w, P: Platform>(
     alloc: Global,
     ids: &Ids,
     workspace: &'w Workspace<'_>,
     settings: &Settings<'_, 'w, P>,
     on: &PackageVisit,
     starts: &Starts,
-) -> Result<Vec<Unit<'w>>, StepFault<'w>>
+) -> Result<Built<'w>, StepFault<'w>>
     requires { length (workspace_text workspace.now).packages + length settings.now.targets.now * length (workspace_text workspace.now).packages ≤ ids.now }
     ensures { Builds (workspace_text workspace.now) (settings_text P.holds settings.now) on.now (starts_text starts.now) result }
 {
     match check(workspace, settings, on, starts) {
         Some(fault) => Err(fault),
-        None => match built_units(alloc, ids, workspace, settings, on, starts) {
-            Ok(units) => Ok(units),
+        None => match built_from(alloc, ids, workspace, settings, on, starts) {
+            Ok(built) => Ok(built),
             Err(_) => Err(StepFault::Memory),
         },
     }
 }
 
-/// Returns the packages that are built for the `selected` packages, or the first reason why nothing is: `kept` and `on` are the visits
-/// of the first two steps, and `ids` has at least one id for each package in each place.
-pub(crate) fn units_by<'w, P: Platform>(
+/// Returns what is built for the `selected` packages, or the first reason why nothing is: `kept` and `on` are the visits of the first two
+/// steps, and `ids` has at least one id for each package in each place.
+pub(crate) fn build_of<'w, P: Platform>(
     alloc: Global,
     ids: &Ids,
     workspace: &'w Workspace<'_>,
@@ -93,11 +134,11 @@ pub(crate) fn units_by<'w, P: Platform>(
     kept: &PackageVisit,
     on: &PackageVisit,
     selected: &[usize],
-) -> Result<Vec<Unit<'w>>, StepFault<'w>>
+) -> Result<Built<'w>, StepFault<'w>>
     requires selected { IsTrue (list_all (λ p. nat_lt p (length (workspace_text workspace.now).packages)) selected.now) }
     requires room { length (workspace_text workspace.now).packages + length settings.now.targets.now * length (workspace_text workspace.now).packages ≤ ids.now }
     ensures { Builds (workspace_text workspace.now) (settings_text P.holds settings.now) on.now (starts_by (workspace_text workspace.now) (settings_text P.holds settings.now) selected.now kept.now on.now) result }
 {
     let starts = started(alloc, workspace, settings, kept, on, selected)?;
-    checked_units(alloc, ids, workspace, settings, on, &starts)
+    checked_build(alloc, ids, workspace, settings, on, &starts)
 }

@@ -1,17 +1,17 @@
 -- What the stages of a plan return.
 use Rattle.std.specs.Prelude.{◌≡◌, map, Option, Some, None, Result, Ok, Err, ⊤}
-use Rattle.std.specs.Global.{Vec}
 use Rattle.cargo_workspaces.specs.Workspaces.{WorkspaceText}
 use Rattle.plan_rows.specs.Steps.{SettingsText}
 use Rattle.plan_starts.specs.PackageVisits.{PairVisit}
 use Rattle.plan_starts.specs.Starts.{Starts}
 use Rattle.plan_units.specs.UnitViews.{unit_text}
-use Rattle.plan_units.specs.declared.unit.Unit.{Unit}
-use Rattle.plan_steps.specs.Plans.{AreBuilt, IsComplete, lacks, not_on}
+use Rattle.step_visits.specs.Visits.{start_of}
+use Rattle.plan_steps.specs.Plans.{AreBuilt, IsComplete, PlanText, lacks, not_on}
 use Rattle.plan_steps.specs.PlanViews.{plan_text}
 use Rattle.plan_steps.specs.declared.fault.StepFault.{StepFault}
 use Rattle.plan_steps.specs.declared.fault.StepFault.TheVariants as fault
 use Rattle.plan_steps.specs.declared.plan.Plan.{Plan}
+use Rattle.plan_steps.specs.declared.stages.Built.{Built}
 
 -- Why nothing is built, where packages start.
 abbrev pub Stops : WorkspaceText → SettingsText → PairVisit → Starts → StepFault → Type 0
@@ -25,14 +25,18 @@ abbrev pub Checks : WorkspaceText → SettingsText → PairVisit → Starts → 
 Checks w s on from None = IsComplete w s on from
 Checks w s on from (Some e) = Stops w s on from e
 
--- The packages that are built, or the first reason why none is.
-abbrev pub Builds : WorkspaceText → SettingsText → PairVisit → Starts → Result (Vec Unit) StepFault → Type 0
-Builds w s on from (Ok units) = IsComplete w s on from × AreBuilt w s on from (map unit_text units.items)
+-- The plan of what is built, where `on` is the visit of step `on`.
+abbrev pub plan_with : PairVisit → Built → PlanText
+plan_with on b = record { units = map unit_text b.units.items; on = on; built = b.visited; starts = map start_of b.starts.items }
+
+-- What is built, or the first reason why nothing is.
+abbrev pub Builds : WorkspaceText → SettingsText → PairVisit → Starts → Result Built StepFault → Type 0
+Builds w s on from (Ok built) = IsComplete w s on from × AreBuilt w s on from (plan_with on built)
 Builds w s on from (Err e) = Stops w s on from e
 
--- The plan of the packages that are built, or their fault.
-abbrev pub Planned : PairVisit → Result (Vec Unit) StepFault → Result Plan StepFault → Type 0
-Planned on (Ok units) (Ok plan) = plan_text plan ≡ record { units = map unit_text units.items; on = on }
-Planned on (Ok units) (Err e) = ⊥
+-- The plan of what is built, or the fault.
+abbrev pub Planned : PairVisit → Result Built StepFault → Result Plan StepFault → Type 0
+Planned on (Ok built) (Ok plan) = plan_text plan ≡ plan_with on built
+Planned on (Ok built) (Err e) = ⊥
 Planned on (Err e) (Ok plan) = ⊥
 Planned on (Err e) (Err f) = f ≡ e

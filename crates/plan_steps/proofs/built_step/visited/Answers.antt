@@ -6,5 +6,5 @@ use Rattle.plan_steps.proofs.built_step.visited.Goals as goal
 
 pub returns : goal.returns
 returns g c =
-    built_visit (workspace_text c.args.workspace.now) (settings_text g.P.Platform.holds c.args.settings.now) c.args.on.now (starts_text c.args.starts.now) c.target_count.result c.in_ok-places.places.items c.deref.result.now c.args.tables c.visit.result
-    c.requires c.target_count.ensures.text c.in_ok-places.ensures c.deref.ensures.value c.visit.ensures
+    built_visit (workspace_text c.args.workspace.now) (settings_text g.P.Platform.holds c.args.settings.now) c.args.on.now (starts_text c.args.starts.now) c.args.places.now c.args.tables c.visit.result
+    c.requires.tables c.requires.places c.visit.ensures

@@ -5,5 +5,5 @@ use Rattle.plan_steps.proofs.plans.plan_of_visits.Goals as goal
 
 pub returns : goal.returns
 returns g c =
-    planned_so (workspace_text c.args.workspace.now) (settings_text g.P.Platform.holds c.args.settings.now) c.args.selected.now c.args.kept.now c.args.on c.units_by-units.result c.planned.result
-    c.requires.tests c.requires.resolved c.requires.on c.units_by-units.ensures c.planned.ensures
+    planned_so (workspace_text c.args.workspace.now) (settings_text g.P.Platform.holds c.args.settings.now) c.args.selected.now c.args.kept.now c.args.on c.build_of-built.result c.planned.result
+    c.requires.tests c.requires.resolved c.requires.on c.build_of-built.ensures c.planned.ensures

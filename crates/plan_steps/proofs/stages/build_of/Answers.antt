@@ -3,8 +3,8 @@ use Rattle.cargo_workspaces.specs.WorkspaceView.{workspace_text}
 use Rattle.plan_rows.specs.SettingsView.{settings_text}
 use Rattle.plan_starts.specs.Starts.{Starts}
 use Rattle.plan_steps.specs.inner.Stages.{Builds}
-use Rattle.plan_steps.proofs.stages.units_by.Goals as goal
+use Rattle.plan_steps.proofs.stages.build_of.Goals as goal
 
 pub returns : goal.returns
 returns g c =
-    subst (λ (from : Starts). Builds (workspace_text c.args.workspace.now) (settings_text g.P.Platform.holds c.args.settings.now) c.args.on.now from c.checked_units.result) c.in_ok-starts.ensures c.checked_units.ensures
+    subst (λ (from : Starts). Builds (workspace_text c.args.workspace.now) (settings_text g.P.Platform.holds c.args.settings.now) c.args.on.now from c.checked_build.result) c.in_ok-starts.ensures c.checked_build.ensures

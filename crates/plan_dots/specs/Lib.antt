@@ -1,0 +1,2 @@
+pub mod Dots
+pub mod Views

@@ -1,0 +1,6 @@
+//! Graphs as Graphviz shows them.
+#![tactic(auto)]
+
+mod dots;
+
+pub use dots::{DotNode, dot_text};

@@ -1,0 +1,4 @@
+pub mod Links
+pub mod SpotLinks
+pub mod UnitLinks
+pub mod inner

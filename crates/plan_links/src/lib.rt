@@ -1,0 +1,13 @@
+//! Links between the packages that a plan builds, and between the features that are on in it.
+#![tactic(auto)]
+
+mod numbers;
+mod places;
+mod spots;
+mod units;
+mod ways;
+
+pub use plan_whys::{Side, Spot};
+pub use spots::{on_spots, root_spots};
+pub use units::{root_units, unit_links};
+pub use ways::spot_links;
