@@ -1,0 +1,7 @@
+pub mod Branches
+pub mod Lines
+pub mod Objects
+pub mod Reach
+pub mod Reversals
+pub mod Titles
+pub mod inner
