@@ -46,7 +46,14 @@ pub fn package_tree(
 {
     let links = unit_links(alloc, plan)?;
     let roots = root_units(alloc, plan)?;
-    unit_tree(alloc, form, &links, &roots, limit, shown(names, workspace, plan))
+    unit_tree(
+        alloc,
+        form,
+        &links,
+        &roots,
+        limit,
+        shown(names, workspace, plan),
+    )
 }
 
 /// Appends `number` if `unit` is one of package `package`.
@@ -91,5 +98,12 @@ pub fn inverted_package_tree(
     let links = unit_links(alloc, plan)?;
     let turned = reversed(alloc, &links)?;
     let roots = units_of(alloc, plan.units(), package)?;
-    unit_tree(alloc, form, &turned, &roots, limit, shown(names, workspace, plan))
+    unit_tree(
+        alloc,
+        form,
+        &turned,
+        &roots,
+        limit,
+        shown(names, workspace, plan),
+    )
 }
