@@ -9,5 +9,6 @@ pub mod NameMessages
 pub mod Parts
 pub mod PlanTexts
 pub mod SpecTexts
+pub mod TreeTexts
 pub mod WhyNotTexts
 pub mod WhyTexts

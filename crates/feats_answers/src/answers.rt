@@ -30,6 +30,7 @@ use crate::off_parts::off_parts;
 use crate::parts::parts_of;
 use crate::plan_texts::text_of_units;
 use crate::spec_texts::spec_text;
+use crate::tree_texts::{dot_answer, inverted_answer, tree_answer};
 use crate::why_texts::why_texts;
 use cargo_plans::{Plan, PlanWords};
 use cargo_workspaces::Workspace;
@@ -154,7 +155,7 @@ pub fn answer_to<'w, 'n, 's>(
 ) -> Result<Answer, Fault>
     requires specs { map declared_text specs.now ≡ declared_specs (workspace_text workspace.now).packages }
     requires plan { IsPlanOf (workspace_text workspace.now) (words_text holds_on words.now) (plan_text plan.now) }
-    ensures answer { IfOk result (λ answer. IsAnswerTo (question_text arguments.now.question) arguments.now.format (map file_text files.now) (workspace_text workspace.now) (words_text holds_on words.now) (plan_text plan.now) (answer_text answer)) }
+    ensures answer { IfOk result (λ answer. IsAnswerTo (question_text arguments.now.question) arguments.now.format arguments.now.depth (map file_text files.now) (workspace_text workspace.now) (words_text holds_on words.now) (plan_text plan.now) (answer_text answer)) }
     ensures fault { IfErr result (λ fault. Says fault (IsNoAnswerTo (question_text arguments.now.question) (workspace_text workspace.now) (words_text holds_on words.now))) }
 {
     let format = arguments.format;
@@ -171,5 +172,14 @@ pub fn answer_to<'w, 'n, 's>(
         Question::Duplicates => {
             Ok(duplicates_answer(alloc, format, files, workspace, words, plan)?)
         }
+        Question::Tree { invert: None } => {
+            let depth = arguments.depth;
+            Ok(tree_answer(alloc, format, files, workspace, plan, depth)?)
+        }
+        Question::Tree { invert: Some(word) } => {
+            let depth = arguments.depth;
+            inverted_answer(alloc, format, files, workspace, plan, word, depth)
+        }
+        Question::Dot => Ok(dot_answer(alloc, files, workspace, plan)?),
     }
 }

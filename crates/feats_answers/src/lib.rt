@@ -13,6 +13,7 @@ mod parts;
 mod places;
 mod plan_texts;
 mod spec_texts;
+mod tree_texts;
 mod why_texts;
 
 pub use answer::Answer;

@@ -37,10 +37,6 @@ pub fn words_refused(alloc: Global, fault: WordsFault<'_>) -> Fault
             alloc,
             &["`", word, "` isn't a format: write text or json"],
         ),
-        WordsFault::Edges(word) => refused(
-            alloc,
-            &["`", word, "` isn't what a tree shows: write packages or features"],
-        ),
         WordsFault::Depth(word) => refused(
             alloc,
             &["`", word, "` isn't a depth: write a decimal number"],

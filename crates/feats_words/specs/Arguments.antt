@@ -9,10 +9,8 @@ use Rattle.manifest_resolvers.specs.Resolvers.{resolver_named}
 use Rattle.feats_words.specs.Depths.{depth}
 use Rattle.feats_words.specs.FeatureWords.{words_in}
 use Rattle.feats_words.specs.PlatformWords.{PlatformText, platform_word}
-use Rattle.feats_words.specs.Refusals.{Refusal, bad_platform, bad_resolver, two_resolvers, bad_format, bad_edges, each, ◌>>=◌}
+use Rattle.feats_words.specs.Refusals.{Refusal, bad_platform, bad_resolver, two_resolvers, bad_format, each, ◌>>=◌}
 use Rattle.feats_words.specs.Requests.{QuestionText, RequestText}
-use Rattle.feats_words.specs.declared.command_arguments.Edges.{Edges}
-use Rattle.feats_words.specs.declared.command_arguments.Edges.TheVariants.{Packages, Features}
 use Rattle.feats_words.specs.declared.command_arguments.Format.{Format}
 use Rattle.feats_words.specs.declared.command_arguments.Format.TheVariants.{Text as text_format, Json as json_format}
 
@@ -34,7 +32,6 @@ pub record ArgumentsText : Type 0 where
   pub no_default_features : Bool
   pub tests : Bool
   pub format : Format
-  pub edges : Edges
   pub depth : Option ℕ
 
 abbrev pub platform : Text → Result PlatformText Refusal
@@ -65,21 +62,12 @@ format_named word =
 abbrev pub format : Option Text → Result Format Refusal
 format word = option_map_or format_named word (Ok text_format)
 
-abbrev pub edges_named : Text → Result Edges Refusal
-edges_named word =
-    if bytes_eq word (codes "packages") then Ok Packages
-    else (if bytes_eq word (codes "features") then Ok Features else Err (bad_edges word))
-
-abbrev pub edges : Option Text → Result Edges Refusal
-edges word = option_map_or edges_named word (Ok Packages)
-
 abbrev pub arguments : RequestText → Result ArgumentsText Refusal
 arguments r =
     platform r.host >>= λ host.
     platforms r.targets >>= λ targets.
     resolver_source r.resolver r.manifest >>= λ resolver.
     format r.format >>= λ form.
-    edges r.edges >>= λ shown.
     depth r.depth >>= λ limit.
     Ok (record {
       question = r.question;
@@ -94,6 +82,5 @@ arguments r =
       no_default_features = r.no_default_features;
       tests = r.tests;
       format = form;
-      edges = shown;
       depth = limit;
     })

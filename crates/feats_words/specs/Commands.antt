@@ -64,14 +64,11 @@ duplicates_shape = command_shape (codes "duplicates") []
 abbrev pub short_rule : Text → ℕ → Rule
 short_rule name letter = record (option_rule name) { short = Some letter }
 
-abbrev pub edges_rule : Rule
-edges_rule = short_rule (codes "edges") 101
-
 abbrev pub tree_shape : Shape
-tree_shape = command_shape (codes "tree") (edges_rule ∷ short_rule (codes "invert") 105 ∷ option_rule (codes "depth") ∷ [])
+tree_shape = command_shape (codes "tree") (short_rule (codes "invert") 105 ∷ option_rule (codes "depth") ∷ [])
 
 abbrev pub dot_shape : Shape
-dot_shape = command_shape (codes "dot") (edges_rule ∷ [])
+dot_shape = command_shape (codes "dot") []
 
 -- The program without its commands, of which one must be given.
 abbrev pub bare_app : App

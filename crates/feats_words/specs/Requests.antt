@@ -35,7 +35,6 @@ pub record RequestText : Type 0 where
   pub no_default_features : Bool
   pub tests : Bool
   pub format : Option Text
-  pub edges : Option Text
   pub depth : Option Text
 
 -- The value of an option; of an option or a word that is required; the values of an option that may be given several times.
@@ -80,7 +79,6 @@ asked question rows = record {
   no_default_features = is_given (codes "no-default-features") rows;
   tests = is_given (codes "tests") rows;
   format = value (codes "format") rows;
-  edges = value (codes "edges") rows;
   depth = value (codes "depth") rows;
 }
 

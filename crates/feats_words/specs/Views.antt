@@ -42,7 +42,6 @@ arguments_text a = record {
   no_default_features = a.no_default_features;
   tests = a.tests;
   format = a.format;
-  edges = a.edges;
   depth = a.depth;
 }
 
@@ -61,6 +60,5 @@ request_text r = record {
   no_default_features = r.no_default_features;
   tests = r.tests;
   format = option_map (λ t. t.now) r.format;
-  edges = option_map (λ t. t.now) r.edges;
   depth = option_map (λ t. t.now) r.depth;
 }

@@ -327,20 +327,6 @@ fn duplicates_command<'a>(alloc: Global) -> Result<Command<'a>, AllocError>
     )
 }
 
-/// Returns the option that says what a tree or a graph shows.
-fn edges<'a>(alloc: Global) -> Arg<'a>
-    ensures rule { rule_of result ≡ spec.edges_rule }
-    ensures local { result.global ≡ false }
-{
-    short(
-        alloc,
-        "edges",
-        'e',
-        "EDGES",
-        "`packages` (the default) or `features`",
-    )
-}
-
 /// Returns the command `tree`.
 fn tree_command<'a>(alloc: Global) -> Result<Command<'a>, AllocError>
     ensures { IfOk result (λ r. IsSubcommand r spec.tree_shape) }
@@ -348,13 +334,12 @@ fn tree_command<'a>(alloc: Global) -> Result<Command<'a>, AllocError>
     let command = Command::new(alloc, "tree")
         .about("Prints what depends on what, as a tree")
         .after_help(TREE_EXAMPLE)
-        .arg(edges(alloc))?
         .arg(short(
             alloc,
             "invert",
             'i',
-            "WORD",
-            "Print what depends on the package or the feature that the word names",
+            "SPEC",
+            "Print what depends on the package: NAME, NAME@VERSION or an id",
         ))?
         .arg(option(alloc, "depth", "N", "Print nothing below this depth"))?;
     with_options(alloc, command)
@@ -364,12 +349,11 @@ fn tree_command<'a>(alloc: Global) -> Result<Command<'a>, AllocError>
 fn dot_command<'a>(alloc: Global) -> Result<Command<'a>, AllocError>
     ensures { IfOk result (λ r. IsSubcommand r spec.dot_shape) }
 {
-    worded(
+    wordless(
         alloc,
         "dot",
         "Prints what depends on what, as a graph for Graphviz",
         DOT_EXAMPLE,
-        edges(alloc),
     )
 }
 

@@ -28,15 +28,6 @@ pub enum Format {
     Json,
 }
 
-/// What a tree or a graph shows.
-#[derive(Clone, Copy)]
-pub enum Edges {
-    /// The packages that are built.
-    Packages,
-    /// The features that are on.
-    Features,
-}
-
 /// The arguments of a command.
 #[derive(Drop)]
 pub struct CommandArguments<'a> {
@@ -54,7 +45,6 @@ pub struct CommandArguments<'a> {
     pub no_default_features: bool,
     pub tests: bool,
     pub format: Format,
-    pub edges: Edges,
     /// How deep a tree is; `None` is no limit.
     pub depth: Option<usize>,
 }
@@ -116,19 +106,8 @@ fn format_of(word: Option<&str>) -> Result<Format, WordsFault<'_>>
     }
 }
 
-/// Returns what `word` names: packages, if there is none.
-fn edges_of(word: Option<&str>) -> Result<Edges, WordsFault<'_>>
-    ensures { Gives (λ e. e) result (spec.edges (option_map (λ t. t.now) word.entry)) }
-{
-    match word {
-        None | Some("packages") => Ok(Edges::Packages),
-        Some("features") => Ok(Edges::Features),
-        Some(word) => Err(WordsFault::Edges(word)),
-    }
-}
-
 /// Returns the arguments of a request. The error is the first word that can't be read: of the host, of the targets, of the resolver, of
-/// the format, of the edges, of the depth; or `Memory`.
+/// the format, of the depth; or `Memory`.
 pub fn arguments<'a>(
     alloc: Global,
     request: Request<'a>,
@@ -139,7 +118,6 @@ pub fn arguments<'a>(
     let targets = platforms(alloc, &request.targets)?;
     let resolver = resolver_source(request.resolver, request.manifest)?;
     let format = format_of(request.format)?;
-    let edges = edges_of(request.edges)?;
     let depth = depth_of(request.depth)?;
     let features = feature_words(alloc, &request.features)?;
     Ok(CommandArguments {
@@ -155,7 +133,6 @@ pub fn arguments<'a>(
         no_default_features: request.no_default_features,
         tests: request.tests,
         format,
-        edges,
         depth,
     })
 }

@@ -14,8 +14,6 @@ pub enum WordsFault<'a> {
     TwoResolvers,
     /// The word isn't a format.
     Format(&'a str),
-    /// The word isn't `packages` or `features`.
-    Edges(&'a str),
     /// The word isn't a decimal number.
     Depth(&'a str),
     /// An allocation failed.

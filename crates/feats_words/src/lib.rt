@@ -9,7 +9,7 @@ mod platform_words;
 mod request;
 mod splitting;
 
-pub use command_arguments::{CommandArguments, Edges, Format, ResolverSource, arguments};
+pub use command_arguments::{CommandArguments, Format, ResolverSource, arguments};
 pub use fault::WordsFault;
 pub use platform_words::{PlatformWord, platform_word};
 pub use request::{Question, Request, parse};

@@ -53,8 +53,6 @@ pub struct Request<'a> {
     pub no_default_features: bool,
     pub tests: bool,
     pub format: Option<&'a str>,
-    /// What a tree or a graph shows.
-    pub edges: Option<&'a str>,
     /// How deep a tree is.
     pub depth: Option<&'a str>,
 }
@@ -153,7 +151,6 @@ fn asked<'a>(
         no_default_features: is_given(matches, "no-default-features"),
         tests: is_given(matches, "tests"),
         format: value(matches, "format"),
-        edges: value(matches, "edges"),
         depth: value(matches, "depth"),
     })
 }

@@ -1,0 +1,106 @@
+//! The lines about the plans of single members.
+ghost use Rattle.std.specs.Prelude.{◌≡◌, ◌++◌, OnOk, map, flat_map};
+ghost use Rattle.cargo_workspaces.specs.Views.{package_text, texts};
+ghost use Rattle.plan_duplicates.specs.Views.{alone_text, member_unit_text};
+ghost use Rattle.duplicate_lines.specs.Shown as spec;
+ghost use Rattle.duplicate_lines.specs.Views.{shown_text};
+
+use crate::joined::{is_from_default_registry, joined_features};
+use crate::place_names::place_name;
+use crate::shown::Shown;
+use cargo_workspaces::Package;
+use plan_duplicates::{Alone, MemberUnit};
+use std::alloc::{AllocError, Global};
+
+/// Appends the line of `package`, as `row` builds it for `place`.
+fn push_row<'u, 'v, 'w>(
+    shown: &mut Vec<Shown<'u, 'v, 'w>>,
+    packages: &'u [Package<'v>],
+    place: &'u str,
+    package: &'u Package<'v>,
+    row: MemberUnit<'u, 'w>,
+) -> Result<(), AllocError>
+    ensures { OnOk result (map shown_text shown.new.items ≡ map shown_text shown.old.items ++ spec.row_at (map package_text packages.now) place.now (package_text «package».now) (member_unit_text row.entry)) }
+{
+    if let Some(member) = packages.get(row.member) {
+        shown.push(Shown::Alone {
+            package,
+            place,
+            member,
+            features: &row.unit.features,
+        })?;
+    }
+    Ok(())
+}
+
+/// Appends the lines of `package`, as each of `rows` builds it for `place`.
+fn push_rows<'u, 'v, 'w>(
+    shown: &mut Vec<Shown<'u, 'v, 'w>>,
+    packages: &'u [Package<'v>],
+    place: &'u str,
+    package: &'u Package<'v>,
+    rows: &[MemberUnit<'u, 'w>],
+) -> Result<(), AllocError>
+    ensures { OnOk result (map shown_text shown.new.items ≡ map shown_text shown.old.items ++ flat_map (spec.row_at (map package_text packages.now) place.now (package_text «package».now)) (map member_unit_text rows.now)) }
+{
+    for row in rows {
+        push_row(shown, packages, place, package, *row)?;
+    }
+    Ok(())
+}
+
+/// Appends the line with the features that `package` has in one of `rows`, if it is from the default registry.
+fn push_joined<'u, 'v, 'w>(
+    alloc: Global,
+    shown: &mut Vec<Shown<'u, 'v, 'w>>,
+    place: &'u str,
+    package: &'u Package<'v>,
+    rows: &[MemberUnit<'u, 'w>],
+) -> Result<(), AllocError>
+    ensures { OnOk result (map shown_text shown.new.items ≡ map shown_text shown.old.items ++ spec.joined_at place.now (package_text «package».now) (map member_unit_text rows.now)) }
+{
+    if is_from_default_registry(package) {
+        shown.push(Shown::Joined {
+            package,
+            place,
+            features: joined_features(alloc, package, rows)?,
+        })?;
+    }
+    Ok(())
+}
+
+/// Appends the lines of `alone`.
+fn push_one<'u, 'v, 'w>(
+    alloc: Global,
+    shown: &mut Vec<Shown<'u, 'v, 'w>>,
+    names: &[&'u str],
+    packages: &'u [Package<'v>],
+    alone: &Alone<'u, 'w>,
+) -> Result<(), AllocError>
+    ensures { OnOk result (map shown_text shown.new.items ≡ map shown_text shown.old.items ++ spec.alone_of (texts names.now) (map package_text packages.now) (alone_text alone.now)) }
+{
+    match packages.get(alone.package) {
+        Some(package) => {
+            let place = place_name(names, alone.place);
+            push_rows(shown, packages, place, package, &alone.units)?;
+            push_joined(alloc, shown, place, package, &alone.units)
+        }
+        None => Ok(()),
+    }
+}
+
+/// Appends the lines of each of `list`.
+pub(crate) fn push_alone<'u, 'v, 'w>(
+    alloc: Global,
+    shown: &mut Vec<Shown<'u, 'v, 'w>>,
+    names: &[&'u str],
+    packages: &'u [Package<'v>],
+    list: &[Alone<'u, 'w>],
+) -> Result<(), AllocError>
+    ensures { OnOk result (map shown_text shown.new.items ≡ map shown_text shown.old.items ++ flat_map (spec.alone_of (texts names.now) (map package_text packages.now)) (map alone_text list.now)) }
+{
+    for alone in list {
+        push_one(alloc, shown, names, packages, alone)?;
+    }
+    Ok(())
+}

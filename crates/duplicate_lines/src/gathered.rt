@@ -1,0 +1,33 @@
+//! The lines about what is built several times.
+ghost use Rattle.std.specs.Prelude.{◌≡◌, ◌++◌, IfOk, map};
+ghost use Rattle.cargo_workspaces.specs.Views.{package_text, texts};
+ghost use Rattle.plan_duplicates.specs.DuplicatesView.{duplicates_text};
+ghost use Rattle.plan_duplicates.specs.Views.{member_plan_text};
+ghost use Rattle.duplicate_lines.specs.Shown as spec;
+ghost use Rattle.duplicate_lines.specs.Views.{shown_text};
+
+use crate::alone::push_alone;
+use crate::listed::{push_places, push_refusals, push_versions};
+use crate::shown::Shown;
+use cargo_workspaces::Package;
+use plan_duplicates::{Duplicates, MemberPlan};
+use std::alloc::{AllocError, Global};
+
+/// Returns a line for each package in `found`, and for each of `plans` that isn't a plan: versions, places, what single members get,
+/// and members without a plan. `packages` are those of the workspace, and the target platforms have the names `names`.
+pub fn all_shown<'u, 'v, 'w>(
+    alloc: Global,
+    names: &[&'u str],
+    packages: &'u [Package<'v>],
+    found: &Duplicates<'u, 'w>,
+    plans: &'u [MemberPlan<'w>],
+) -> Result<Vec<Shown<'u, 'v, 'w>>, AllocError>
+    ensures { IfOk result (λ shown. map shown_text shown.items ≡ spec.all_shown (texts names.now) (map package_text packages.now) (duplicates_text found.now) (map member_plan_text plans.now)) }
+{
+    let mut shown = Vec::new(alloc);
+    push_versions(&mut shown, packages, &found.versions)?;
+    push_places(&mut shown, names, packages, &found.places)?;
+    push_alone(alloc, &mut shown, names, packages, &found.alone)?;
+    push_refusals(&mut shown, packages, plans)?;
+    Ok(shown)
+}

@@ -1,0 +1,83 @@
+//! The features of a package in several plans together.
+ghost use Rattle.std.specs.Prelude.{◌≡◌, ◌++◌, ◌∷◌, [], List, IfOk, OnOk, map, flat_map, if◌then◌else◌};
+ghost use Rattle.cargo_workspaces.specs.Workspaces.{Text};
+ghost use Rattle.cargo_workspaces.specs.Views.{package_text, texts};
+ghost use Rattle.plan_duplicates.specs.Views.{member_unit_text};
+ghost use Rattle.duplicate_lines.specs.Shown as spec;
+ghost use Rattle.duplicate_lines.specs.inner.Sets.{HasTexts};
+
+use cargo_workspaces::Package;
+use plan_duplicates::MemberUnit;
+use std::alloc::{AllocError, Global};
+use std::collections::BTreeSet;
+
+/// Returns whether `package` is from the registry that a manifest names by default.
+pub(crate) fn is_from_default_registry(package: &Package<'_>) -> bool
+    ensures { result ≡ spec.is_from_default_registry (package_text «package».now) }
+{
+    match package.source {
+        Some(source) => source == "registry+https://github.com/rust-lang/crates.io-index",
+        None => false,
+    }
+}
+
+/// Inserts `features` into `set`.
+fn insert_all<'w>(set: &mut BTreeSet<&'w str>, features: &[&'w str]) -> Result<(), AllocError>
+    ensures { OnOk result ((names : List Text) → HasTexts set.old names → HasTexts set.new (names ++ texts features.now)) }
+{
+    for feature in features {
+        let _is_new = set.insert(*feature)?;
+    }
+    Ok(())
+}
+
+/// Returns the features of all `rows`.
+fn features_of<'w>(
+    alloc: Global,
+    rows: &[MemberUnit<'_, 'w>],
+) -> Result<BTreeSet<&'w str>, AllocError>
+    ensures { IfOk result (λ set. HasTexts set (flat_map (λ r. r.unit.features) (map member_unit_text rows.now))) }
+{
+    let mut set = BTreeSet::new(alloc);
+    for row in rows {
+        insert_all(&mut set, &row.unit.features)?;
+    }
+    Ok(set)
+}
+
+/// Appends `name`, if `flag`.
+fn push_name<'u>(names: &mut Vec<&'u str>, name: &'u str, flag: bool) -> Result<(), AllocError>
+    ensures { OnOk result (texts names.new.items ≡ texts names.old.items ++ (if flag then name.now ∷ [] else [])) }
+{
+    if flag {
+        names.push(name)?;
+    }
+    Ok(())
+}
+
+/// Returns the names of the features of `package` that `set` has.
+fn names_in<'u>(
+    alloc: Global,
+    package: &'u Package<'_>,
+    set: &BTreeSet<&str>,
+) -> Result<Vec<&'u str>, AllocError>
+    ensures { (some : List Text) → HasTexts set.now some → IfOk result (λ names. texts names.items ≡ spec.names_among (package_text «package».now) some) }
+{
+    let mut names = Vec::new(alloc);
+    for feature in &package.features {
+        push_name(&mut names, feature.name, set.contains(feature.name))?;
+    }
+    Ok(names)
+}
+
+/// Returns the names of the features of `package` that one of `rows` has, in the order of their bytes.
+pub(crate) fn joined_features<'u>(
+    alloc: Global,
+    package: &'u Package<'_>,
+    rows: &[MemberUnit<'_, '_>],
+) -> Result<Vec<&'u str>, AllocError>
+    ensures { IfOk result (λ names. texts names.items ≡ spec.joined_features (package_text «package».now) (map member_unit_text rows.now)) }
+{
+    let set = features_of(alloc, rows)?;
+    names_in(alloc, package, &set)
+}

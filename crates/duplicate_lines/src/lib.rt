@@ -1,0 +1,18 @@
+//! What is built several times, as lines in columns or as JSON objects.
+#![tactic(auto)]
+
+mod alone;
+mod gathered;
+mod joined;
+mod listed;
+mod manifest_lines;
+mod objects;
+mod place_names;
+mod rows;
+mod shown;
+mod table;
+
+pub use gathered::all_shown;
+pub use objects::duplicate_objects;
+pub use shown::Shown;
+pub use table::duplicate_lines;

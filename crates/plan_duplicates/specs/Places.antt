@@ -1,0 +1,23 @@
+-- Packages that are built with different features in different places.
+use Rattle.std.specs.Prelude.{ℕ, List, [], ◌∷◌, map, if◌then◌else◌}
+use Rattle.cargo_workspaces.specs.Workspaces.{PackageText}
+use Rattle.plan_starts.specs.Lists.{joined_from}
+use Rattle.plan_units.specs.Units.{UnitText}
+use Rattle.plan_duplicates.specs.Built as built
+use Rattle.plan_duplicates.specs.Built.{PlacedText, differ}
+
+-- A package, and its places with its features there.
+pub record PlacesText : Type 0 where
+  pub number : ℕ
+  pub places : List PlacedText
+
+-- Package `p` with its places, if its features differ.
+abbrev pub if_different : ℕ → List PlacedText → List PlacesText
+if_different p places = if differ (map (λ q. q.features) places) then record { number = p; places = places } ∷ [] else []
+
+abbrev pub places_at : List UnitText → ℕ → List PlacesText
+places_at units p = if_different p (built.places_of units p)
+
+-- The packages that are built with different features in different places, in the order of their numbers.
+abbrev pub places_of : List PackageText → List UnitText → List PlacesText
+places_of packages units = joined_from (λ p x. places_at units p) 0 packages

@@ -1,0 +1,3 @@
+-- Definitions for private functions.
+pub mod Groups
+pub mod Rows

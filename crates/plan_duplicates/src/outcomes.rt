@@ -1,0 +1,85 @@
+//! What the plan of one member alone builds, or why there is none.
+ghost use Rattle.std.specs.Prelude.{◌≡◌, ◌++◌, IfOk, map, string_bytes};
+ghost use Rattle.cargo_workspaces.specs.WorkspaceView.{workspace_text};
+ghost use Rattle.cargo_plans.specs.WordsView.{words_text};
+ghost use Rattle.plan_messages.specs.Messages.{plan_message};
+ghost use Rattle.plan_steps.specs.PlanViews.{plan_text};
+ghost use Rattle.plan_units.specs.UnitViews.{unit_text};
+ghost use Rattle.plan_duplicates.specs.MemberPlans.{IsOutcome, built};
+ghost use Rattle.plan_duplicates.specs.Views.{outcome_text};
+
+use cargo_plans::{Plan, PlanFault, PlanWords, Unit, plan};
+use cargo_workspaces::Workspace;
+use feats_files::Fault;
+use plan_messages::plan_refused;
+use plan_rows::Platform;
+use std::alloc::{AllocError, Global};
+
+/// What a selection builds, or why it has no plan.
+#[derive(Drop)]
+pub enum Outcome<'w> {
+    /// The packages that are built, in the order of the plan.
+    Built(Vec<Unit<'w>>),
+    /// The selection has no plan, with the message why.
+    NotPlanned(String),
+}
+
+/// Returns a copy of `unit`.
+fn copy_of<'w>(alloc: Global, unit: &Unit<'w>) -> Result<Unit<'w>, AllocError>
+    ensures { IfOk result (λ copy. unit_text copy ≡ unit_text unit.now) }
+{
+    Ok(Unit {
+        place: unit.place,
+        package: unit.package,
+        features: Vec::from_slice(alloc, &unit.features)?,
+    })
+}
+
+/// Returns copies of `units`.
+fn copies_of<'w>(alloc: Global, units: &[Unit<'w>]) -> Result<Vec<Unit<'w>>, AllocError>
+    ensures { IfOk result (λ copies. map unit_text copies.items ≡ map unit_text units.now) }
+{
+    let mut copies = Vec::with_capacity(alloc, units.len())?;
+    for unit in units {
+        copies.push(copy_of(alloc, unit)?)?;
+    }
+    Ok(copies)
+}
+
+/// Returns what `plan` builds. The plan is dropped, because it also has the visit of a whole step.
+fn built_by<'w>(alloc: Global, plan: Plan<'w>) -> Result<Outcome<'w>, AllocError>
+    ensures { IfOk result (λ outcome. outcome_text outcome ≡ built (plan_text plan.entry).units) }
+{
+    let units = copies_of(alloc, plan.units());
+    drop(plan);
+    Ok(Outcome::Built(units?))
+}
+
+/// Returns the message about `fault`, which a selection in `workspace` has.
+fn message_of<'p>(
+    alloc: Global,
+    workspace: &'p Workspace<'_>,
+    fault: PlanFault<'p>,
+) -> Result<String, AllocError>
+    ensures { IfOk result (λ message. string_bytes message ≡ plan_message (workspace_text workspace.now).packages fault.entry) }
+{
+    match plan_refused(alloc, workspace, fault) {
+        Fault::Refused { message } => Ok(message),
+        Fault::Memory | Fault::CannotWrite => Err(AllocError),
+    }
+}
+
+/// Returns what `words` build in `workspace`, or the message why they have no plan. An allocation's failure is the only error.
+pub(crate) fn outcome_of<'w, P: Platform>(
+    alloc: Global,
+    workspace: &'w Workspace<'_>,
+    words: &PlanWords<'w, '_, P>,
+) -> Result<Outcome<'w>, AllocError>
+    ensures { IfOk result (λ outcome. IsOutcome (workspace_text workspace.now) (words_text P.holds words.now) (outcome_text outcome)) }
+{
+    match plan(alloc, workspace, words) {
+        Ok(plan) => built_by(alloc, plan),
+        Err(PlanFault::Memory) => Err(AllocError),
+        Err(fault) => Ok(Outcome::NotPlanned(message_of(alloc, workspace, fault)?)),
+    }
+}
