@@ -1,5 +1,5 @@
 -- The texts of steps that were found, spot by spot.
-use Rattle.std.proofs.Common.{◌≡◌, ap, sym, subst, List, [], ◌∷◌, map, Option}
+use Rattle.std.proofs.Common.{◌≡◌, subst, List, [], ◌∷◌, map, Option}
 use Rattle.std.specs.Prelude.{Bool}
 use Rattle.std.specs.Global.{Vec}
 use Rattle.std.specs.List.{AllZip}

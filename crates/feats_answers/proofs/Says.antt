@@ -1,5 +1,5 @@
 -- Faults with messages.
-use Rattle.std.proofs.Common.{◌≡◌, Result, Ok, Err}
+use Rattle.std.proofs.Common.{◌≡◌, Result, Err}
 use Rattle.std.specs.Prelude.{List, string_bytes}
 use Rattle.cargo_workspaces.specs.Workspaces.{Text, PackageText}
 use Rattle.plan_names.specs.Faults.{NameRefusal, IfNotMemory, unknown, several, out_of_memory}

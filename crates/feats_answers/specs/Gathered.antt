@@ -1,5 +1,5 @@
 -- Answers of several texts.
-use Rattle.std.specs.Prelude.{◌≡◌, List, [], ◌∷◌, ◌++◌, flat_map, codes}
+use Rattle.std.specs.Prelude.{◌≡◌, List, [], ◌∷◌, ◌++◌, flat_map}
 use Rattle.cargo_workspaces.specs.Workspaces.{Text, PackageText}
 use Rattle.plan_names.specs.Names.{NamedText}
 use Rattle.feats_words.specs.declared.command_arguments.Format.{Format}

@@ -1,6 +1,6 @@
 -- What is said of one widening, from the steps that were found in its plan, or from the reason why there is no plan.
 use Rattle.std.proofs.Common.{◌≡◌, ◌∙◌, ap, sym, subst, refl, Bool, true, false, ◌||◌, List, [], ◌∷◌, map, Option, None, Some}
-use Rattle.std.specs.Prelude.{IsFalse, IsTrue, if◌then◌else◌, Ok}
+use Rattle.std.specs.Prelude.{IsFalse, IsTrue, if◌then◌else◌}
 use Rattle.std.specs.Global.{Vec}
 use Rattle.std.specs.List.{AllZip}
 use Rattle.cargo_plans.specs.Plans.{IsPlanOf, WordsText, settings_by}
@@ -11,15 +11,14 @@ use Rattle.feats_words.specs.declared.command_arguments.Format.{Format}
 use Rattle.plan_messages.specs.Messages.{plan_message}
 use Rattle.plan_rows.specs.declared.side.Side.{Side}
 use Rattle.plan_rows.specs.declared.side.Side.TheVariants.{Host, Target}
-use Rattle.plan_starts.specs.PackageVisits.{PairVisit, is_on}
+use Rattle.plan_starts.specs.PackageVisits.{is_on}
 use Rattle.plan_steps.specs.Plans.{PlanText}
 use Rattle.plan_whys.specs.StepViews.{found_text, spot_text}
 use Rattle.plan_whys.specs.Steps.{SpotText, WhyText}
 use Rattle.plan_whys.specs.Whys.{Answers, AnswersBy, AnswersEachBy}
 use Rattle.plan_whys.specs.declared.steps.Spot.{Spot}
 use Rattle.plan_whys.specs.declared.steps.WhyStep.{WhyStep}
-use Rattle.plan_widenings.specs.Findings.{are_some, first_side, is_memory, sides_of}
-use Rattle.plan_widenings.specs.declared.sides.Sides.{Sides}
+use Rattle.plan_widenings.specs.Findings.{is_memory, sides_of}
 use Rattle.plan_widenings.specs.declared.widening.Widening.{Widening}
 use Rattle.why_nots.specs.Answers.{IsAnswer, not_planned}
 use Rattle.why_nots.specs.Parts.{PartText}

@@ -7,7 +7,6 @@ use Rattle.plan_steps.specs.PlanViews.{plan_text}
 use Rattle.feats_files.specs.FileViews.{file_text}
 use Rattle.feats_words.specs.Views.{question_text}
 use Rattle.feats_words.specs.declared.request.Question.{Question}
-use Rattle.feats_answers.specs.AnswerTexts.{AnswerText}
 use Rattle.feats_answers.specs.AnswerViews.{answer_text}
 use Rattle.feats_answers.specs.Answers.{IsAnswerTo, IsPositive}
 use Rattle.feats_answers.specs.SpecTexts.{IsSpecText, places}
