@@ -37,13 +37,11 @@ any_more names x q old new grown was =
     grown ∙ or_flip (is_eq (text_cmp x q)) old ∙ rw (list_any-append (bytes_eq q) names (x ∷ []), one, was) refl
 
 -- the texts up to the next one
-pub texts_more : (names : List Text) (features : List (Bor Text)) (i : ℕ) (x : Bor Text) → i < length features → x ≡ get_or features i x
-    → (names ++ texts (take i features)) ++ x.now ∷ [] ≡ names ++ texts (take (i + 1) features)
-texts_more names features i x within is =
-    append_assoc names (texts (take i features)) (x.now ∷ [])
-    ∙ ap (λ z. names ++ z) (sym (
-    ap texts (take_more features i x within) ∙ map-append (λ (t : Bor Text). t.now) (take i features) (get_or features i x ∷ [])
-    ∙ ap (λ (y : Bor Text). texts (take i features) ++ y.now ∷ []) (sym is)))
+pub texts_more : (names : List Text) (features : List (Bor Text)) (i : ℕ) (d : Bor Text) → i < length features
+    → (names ++ texts (take i features)) ++ (get_or features i d).now ∷ [] ≡ names ++ texts (take (i + 1) features)
+texts_more names features i d within =
+    append_assoc names (texts (take i features)) ((get_or features i d).now ∷ [])
+    ∙ ap (λ z. names ++ z) (sym (ap texts (take_more features i d within) ∙ map-append (λ (t : Bor Text). t.now) (take i features) (get_or features i d ∷ [])))
 
 flat_map-append : {Y Z : Type 0} (f : Y → List Z) (xs ys : List Y) → flat_map f (xs ++ ys) ≡ flat_map f xs ++ flat_map f ys
 flat_map-append f [] ys = refl

@@ -88,9 +88,12 @@ alone_lines packages place rows x = flat_map (row_at packages place x) rows ++ j
 abbrev pub alone_of : List Text → List PackageText → AloneText → List ShownText
 alone_of names packages a = about packages (alone_lines packages (place_name names a.place) a.units) a.number
 
+abbrev pub refused_at : List PackageText → ℕ → Text → List ShownText
+refused_at packages m message = about packages (λ x. refused x message ∷ []) m
+
 abbrev pub refusal_at : List PackageText → ℕ → OutcomeText → List ShownText
 refusal_at packages m (built units) = []
-refusal_at packages m (not_planned message) = about packages (λ x. refused x message ∷ []) m
+refusal_at packages m (not_planned message) = refused_at packages m message
 
 abbrev pub refusal_of : List PackageText → MemberPlanText → List ShownText
 refusal_of packages p = refusal_at packages p.member p.outcome

@@ -7,7 +7,7 @@ ghost use Rattle.duplicate_lines.specs.Views.{shown_text};
 
 use crate::joined::{is_from_default_registry, joined_features};
 use crate::place_names::place_name;
-use crate::shown::Shown;
+use crate::shown::{Shown, package_at, push_shown};
 use cargo_workspaces::Package;
 use plan_duplicates::{Alone, MemberUnit};
 use std::alloc::{AllocError, Global};
@@ -22,15 +22,18 @@ fn push_row<'u, 'v, 'w>(
 ) -> Result<(), AllocError>
     ensures { OnOk result (map shown_text shown.new.items ≡ map shown_text shown.old.items ++ spec.row_at (map package_text packages.now) place.now (package_text «package».now) (member_unit_text row.entry)) }
 {
-    if let Some(member) = packages.get(row.member) {
-        shown.push(Shown::Alone {
-            package,
-            place,
-            member,
-            features: &row.unit.features,
-        })?;
+    match package_at(packages, row.member) {
+        Some(member) => push_shown(
+            shown,
+            Shown::Alone {
+                package,
+                place,
+                member,
+                features: &row.unit.features,
+            },
+        ),
+        None => Ok(()),
     }
-    Ok(())
 }
 
 /// Appends the lines of `package`, as each of `rows` builds it for `place`.
@@ -69,6 +72,21 @@ fn push_joined<'u, 'v, 'w>(
     Ok(())
 }
 
+/// Appends the lines of `package`, which `rows` build for `place`.
+fn push_group<'u, 'v, 'w>(
+    alloc: Global,
+    shown: &mut Vec<Shown<'u, 'v, 'w>>,
+    packages: &'u [Package<'v>],
+    place: &'u str,
+    package: &'u Package<'v>,
+    rows: &[MemberUnit<'u, 'w>],
+) -> Result<(), AllocError>
+    ensures { OnOk result (map shown_text shown.new.items ≡ map shown_text shown.old.items ++ spec.alone_lines (map package_text packages.now) place.now (map member_unit_text rows.now) (package_text «package».now)) }
+{
+    push_rows(shown, packages, place, package, rows)?;
+    push_joined(alloc, shown, place, package, rows)
+}
+
 /// Appends the lines of `alone`.
 fn push_one<'u, 'v, 'w>(
     alloc: Global,
@@ -79,12 +97,9 @@ fn push_one<'u, 'v, 'w>(
 ) -> Result<(), AllocError>
     ensures { OnOk result (map shown_text shown.new.items ≡ map shown_text shown.old.items ++ spec.alone_of (texts names.now) (map package_text packages.now) (alone_text alone.now)) }
 {
-    match packages.get(alone.package) {
-        Some(package) => {
-            let place = place_name(names, alone.place);
-            push_rows(shown, packages, place, package, &alone.units)?;
-            push_joined(alloc, shown, place, package, &alone.units)
-        }
+    let place = place_name(names, alone.place);
+    match package_at(packages, alone.package) {
+        Some(package) => push_group(alloc, shown, packages, place, package, &alone.units),
         None => Ok(()),
     }
 }

@@ -21,12 +21,20 @@ pub(crate) fn is_from_default_registry(package: &Package<'_>) -> bool
     }
 }
 
+/// Inserts `name` into `set`.
+fn insert_one<'w>(set: &mut BTreeSet<&'w str>, name: &'w str) -> Result<(), AllocError>
+    ensures { OnOk result ((names : List Text) → HasTexts set.old names → HasTexts set.new (names ++ name.entry.now ∷ [])) }
+{
+    let _is_new = set.insert(name)?;
+    Ok(())
+}
+
 /// Inserts `features` into `set`.
 fn insert_all<'w>(set: &mut BTreeSet<&'w str>, features: &[&'w str]) -> Result<(), AllocError>
     ensures { OnOk result ((names : List Text) → HasTexts set.old names → HasTexts set.new (names ++ texts features.now)) }
 {
-    for feature in features {
-        let _is_new = set.insert(*feature)?;
+    for &feature in features {
+        insert_one(set, feature)?;
     }
     Ok(())
 }

@@ -6,7 +6,7 @@ ghost use Rattle.duplicate_lines.specs.Shown as spec;
 ghost use Rattle.duplicate_lines.specs.Views.{shown_text};
 
 use crate::place_names::place_name;
-use crate::shown::Shown;
+use crate::shown::{Shown, package_at, push_shown};
 use cargo_workspaces::Package;
 use plan_duplicates::{MemberPlan, Outcome, PlaceFeatures, Places, Versions};
 use std::alloc::AllocError;
@@ -19,10 +19,10 @@ fn push_version<'u, 'v, 'w>(
 ) -> Result<(), AllocError>
     ensures { OnOk result (map shown_text shown.new.items ≡ map shown_text shown.old.items ++ spec.version_at (map package_text packages.now) number) }
 {
-    if let Some(package) = packages.get(number) {
-        shown.push(Shown::Version { package })?;
+    match package_at(packages, number) {
+        Some(package) => push_shown(shown, Shown::Version { package }),
+        None => Ok(()),
     }
-    Ok(())
 }
 
 /// Appends the lines of packages with these numbers.
@@ -82,7 +82,7 @@ fn push_package<'u, 'v, 'w>(
 ) -> Result<(), AllocError>
     ensures { OnOk result (map shown_text shown.new.items ≡ map shown_text shown.old.items ++ spec.places_at (texts names.now) (map package_text packages.now) number (map placed_text places.now)) }
 {
-    match packages.get(number) {
+    match package_at(packages, number) {
         Some(package) => push_each(shown, names, package, places),
         None => Ok(()),
     }
@@ -103,6 +103,21 @@ pub(crate) fn push_places<'u, 'v, 'w>(
     Ok(())
 }
 
+/// Appends the line of member `number`, which has no plan, with the message why.
+fn push_refusal<'u, 'v, 'w>(
+    shown: &mut Vec<Shown<'u, 'v, 'w>>,
+    packages: &'u [Package<'v>],
+    number: usize,
+    message: &'u str,
+) -> Result<(), AllocError>
+    ensures { OnOk result (map shown_text shown.new.items ≡ map shown_text shown.old.items ++ spec.refused_at (map package_text packages.now) number message.now) }
+{
+    match package_at(packages, number) {
+        Some(member) => push_shown(shown, Shown::NotPlanned { member, message }),
+        None => Ok(()),
+    }
+}
+
 /// Appends the line of member `number`, if `outcome` says that it has no plan.
 fn push_outcome<'u, 'v, 'w>(
     shown: &mut Vec<Shown<'u, 'v, 'w>>,
@@ -112,15 +127,10 @@ fn push_outcome<'u, 'v, 'w>(
 ) -> Result<(), AllocError>
     ensures { OnOk result (map shown_text shown.new.items ≡ map shown_text shown.old.items ++ spec.refusal_at (map package_text packages.now) number (outcome_text outcome.now)) }
 {
-    if let Outcome::NotPlanned(message) = outcome
-        && let Some(member) = packages.get(number)
-    {
-        shown.push(Shown::NotPlanned {
-            member,
-            message: message.as_str(),
-        })?;
+    match outcome {
+        Outcome::Built(_) => Ok(()),
+        Outcome::NotPlanned(message) => push_refusal(shown, packages, number, message.as_str()),
     }
-    Ok(())
 }
 
 /// Appends the lines of those of `plans` that aren't plans.

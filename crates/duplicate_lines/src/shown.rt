@@ -1,5 +1,10 @@
 //! What a line shows.
+ghost use Rattle.std.specs.Prelude.{◌≡◌, ◌++◌, ◌∷◌, [], OnOk, map, option_map, slice_get};
+ghost use Rattle.cargo_workspaces.specs.Views.{package_text};
+ghost use Rattle.duplicate_lines.specs.Views.{shown_text};
+
 use cargo_workspaces::Package;
+use std::alloc::AllocError;
 
 /// A line about what is built several times.
 #[derive(Drop)]
@@ -32,4 +37,25 @@ pub enum Shown<'u, 'v, 'w> {
         member: &'u Package<'v>,
         message: &'u str,
     },
+}
+
+/// Returns the package with the number `number`, if there is one.
+pub(crate) fn package_at<'u, 'v>(
+    packages: &'u [Package<'v>],
+    number: usize,
+) -> Option<&'u Package<'v>>
+    ensures { option_map (λ p. package_text p.now) result ≡ slice_get (map package_text packages.now) number }
+{
+    packages.get(number)
+}
+
+/// Appends `one`.
+pub(crate) fn push_shown<'u, 'v, 'w>(
+    shown: &mut Vec<Shown<'u, 'v, 'w>>,
+    one: Shown<'u, 'v, 'w>,
+) -> Result<(), AllocError>
+    ensures { OnOk result (map shown_text shown.new.items ≡ map shown_text shown.old.items ++ shown_text one.entry ∷ []) }
+{
+    shown.push(one)?;
+    Ok(())
 }

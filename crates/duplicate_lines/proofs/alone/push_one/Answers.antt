@@ -1,0 +1,28 @@
+use Rattle.std.proofs.Common.{◌∙◌, ◌++◌, [], List, Option, ap, map}
+use Rattle.std.specs.Option.{option_map_or}
+use Rattle.cargo_workspaces.specs.Views.{package_text, texts}
+use Rattle.cargo_workspaces.specs.Workspaces.{PackageText, Text}
+use Rattle.plan_duplicates.specs.Views.{member_unit_text}
+use Rattle.plan_duplicates.specs.declared.member_units.MemberUnit.{MemberUnit}
+use Rattle.duplicate_lines.specs.Shown.{alone_lines, place_name}
+use Rattle.duplicate_lines.specs.Views.{shown_text}
+use Rattle.duplicate_lines.proofs.Lists.{nothing}
+use Rattle.duplicate_lines.proofs.Tokens.{on_ok}
+use Rattle.duplicate_lines.proofs.alone.push_one.Goals as goal
+
+pub returns-in-Some : goal.returns-in-Some
+returns-in-Some c =
+    let old = map shown_text c.args.shown.now.items in
+    let packages = map package_text c.args.packages.now in
+    let x = package_text c.in-Some.«package».now in
+    let place = place_name (texts c.args.names.now) c.args.alone.now.place in
+    on_ok c.push_group.result c.push_group.ensures (λ grown. grown
+    ∙ ap (λ (p : Text). old ++ alone_lines packages p (map member_unit_text c.deref.result.now) x) c.place_name-place.ensures
+    ∙ ap (λ (rows : List MemberUnit). old ++ alone_lines packages place (map member_unit_text rows) x) c.deref.ensures.value
+    ∙ ap (λ (o : Option PackageText). old ++ option_map_or (alone_lines packages place (map member_unit_text c.args.alone.now.units.items)) o []) c.in-Some.ensures)
+
+pub returns-in-None : goal.returns-in-None
+returns-in-None c =
+    let packages = map package_text c.args.packages.now in
+    let place = place_name (texts c.args.names.now) c.args.alone.now.place in
+    nothing _ _ (ap (λ (o : Option PackageText). option_map_or (alone_lines packages place (map member_unit_text c.args.alone.now.units.items)) o []) c.in-None.ensures)
