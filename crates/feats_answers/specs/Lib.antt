@@ -1,6 +1,7 @@
 pub mod AnswerTexts
 pub mod AnswerViews
 pub mod Answers
+pub mod DuplicateTexts
 pub mod Gathered
 pub mod LabelsOn
 pub mod ListTexts
@@ -8,5 +9,6 @@ pub mod NameMessages
 pub mod Parts
 pub mod PlanTexts
 pub mod SpecTexts
+pub mod TreeTexts
 pub mod WhyNotTexts
 pub mod WhyTexts

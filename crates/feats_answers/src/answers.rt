@@ -13,6 +13,7 @@ ghost use Rattle.feats_files.specs.Messages.{Says};
 ghost use Rattle.feats_words.specs.Views.{question_text};
 ghost use Rattle.feats_answers.specs.AnswerViews.{answer_text};
 ghost use Rattle.feats_answers.specs.Answers.{IsAnswerTo, IsNoAnswerTo, IsPositive};
+ghost use Rattle.feats_answers.specs.DuplicateTexts.{IsDuplicatesText};
 ghost use Rattle.feats_answers.specs.ListTexts.{IsListText};
 ghost use Rattle.feats_answers.specs.NameMessages.{IsNameRefusal};
 ghost use Rattle.feats_answers.specs.Parts.{IsPartRefusal};
@@ -22,12 +23,14 @@ ghost use Rattle.feats_answers.specs.WhyNotTexts.{IsWhyNotAnswer};
 ghost use Rattle.feats_answers.specs.WhyTexts.{IsWhyAnswer};
 
 use crate::answer::{Answer, positive};
+use crate::duplicate_texts::duplicates_text;
 use crate::gathered::gathered;
 use crate::list_texts::list_text;
 use crate::off_parts::off_parts;
 use crate::parts::parts_of;
 use crate::plan_texts::text_of_units;
 use crate::spec_texts::spec_text;
+use crate::tree_texts::{dot_answer, inverted_answer, tree_answer};
 use crate::why_texts::why_texts;
 use cargo_plans::{Plan, PlanWords};
 use cargo_workspaces::Workspace;
@@ -80,6 +83,21 @@ fn list_answer(
         Ok(text) => Ok(positive(text)),
         Err(fault) => Err(fault),
     }
+}
+
+/// Returns the answer to `duplicates`.
+fn duplicates_answer<'w>(
+    alloc: Global,
+    format: Format,
+    files: &[PlatformFile<'_>],
+    workspace: &'w Workspace<'_>,
+    words: &PlanWords<'w, '_, HeldSpecs<'_>>,
+    plan: &Plan<'_>,
+) -> Result<Answer, AllocError>
+    ensures { IfOk result (λ answer. IsPositive (IsDuplicatesText format (map file_text files.now) (workspace_text workspace.now) (words_text holds_on words.now) (plan_text plan.now)) (answer_text answer)) }
+{
+    let text = duplicates_text(alloc, format, files, workspace, words, plan)?;
+    Ok(positive(text))
 }
 
 /// Returns the answer to `why` with this word. With `all` it has every direct reason of each step.
@@ -137,7 +155,7 @@ pub fn answer_to<'w, 'n, 's>(
 ) -> Result<Answer, Fault>
     requires specs { map declared_text specs.now ≡ declared_specs (workspace_text workspace.now).packages }
     requires plan { IsPlanOf (workspace_text workspace.now) (words_text holds_on words.now) (plan_text plan.now) }
-    ensures answer { IfOk result (λ answer. IsAnswerTo (question_text arguments.now.question) arguments.now.format (map file_text files.now) (workspace_text workspace.now) (words_text holds_on words.now) (plan_text plan.now) (answer_text answer)) }
+    ensures answer { IfOk result (λ answer. IsAnswerTo (question_text arguments.now.question) arguments.now.format arguments.now.depth (map file_text files.now) (workspace_text workspace.now) (words_text holds_on words.now) (plan_text plan.now) (answer_text answer)) }
     ensures fault { IfErr result (λ fault. Says fault (IsNoAnswerTo (question_text arguments.now.question) (workspace_text workspace.now) (words_text holds_on words.now))) }
 {
     let format = arguments.format;
@@ -151,5 +169,17 @@ pub fn answer_to<'w, 'n, 's>(
         }
         Question::Specs => Ok(specs_answer(alloc, format, files, specs, words)?),
         Question::List(word) => list_answer(alloc, format, workspace, plan, word),
+        Question::Duplicates => {
+            Ok(duplicates_answer(alloc, format, files, workspace, words, plan)?)
+        }
+        Question::Tree { invert: None } => {
+            let depth = arguments.depth;
+            Ok(tree_answer(alloc, format, files, workspace, plan, depth)?)
+        }
+        Question::Tree { invert: Some(word) } => {
+            let depth = arguments.depth;
+            inverted_answer(alloc, format, files, workspace, plan, word, depth)
+        }
+        Question::Dot => Ok(dot_answer(alloc, files, workspace, plan)?),
     }
 }

@@ -38,7 +38,12 @@ fn separated(alloc: Global, format: Format, texts: &[Vec<u8>]) -> Result<Vec<u8>
 }
 
 /// Returns the line that says no about `title`, with this end.
-fn no_line(alloc: Global, format: Format, title: String, end: &str) -> Result<Vec<u8>, AllocError>
+pub(crate) fn no_line(
+    alloc: Global,
+    format: Format,
+    title: String,
+    end: &str,
+) -> Result<Vec<u8>, AllocError>
     ensures { IfOk result (λ text. text.items ≡ spec.no_line format (string_bytes title) end.now) }
 {
     match format {

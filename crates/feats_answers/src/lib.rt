@@ -3,6 +3,7 @@
 
 mod answer;
 mod answers;
+mod duplicate_texts;
 mod gathered;
 mod labels_on;
 mod list_texts;
@@ -12,6 +13,7 @@ mod parts;
 mod places;
 mod plan_texts;
 mod spec_texts;
+mod tree_texts;
 mod why_texts;
 
 pub use answer::Answer;

@@ -37,7 +37,11 @@ fn package_features(
 }
 
 /// Returns the number of the package that `word` names.
-fn number_of(alloc: Global, workspace: &Workspace<'_>, word: &str) -> Result<usize, Fault>
+pub(crate) fn number_of(
+    alloc: Global,
+    workspace: &Workspace<'_>,
+    word: &str,
+) -> Result<usize, Fault>
     ensures number { IfOk result (λ p. package_named (workspace_text workspace.now).packages word.now ≡ Ok p) }
     ensures within { IfOk result (λ p. p < length (workspace_text workspace.now).packages) }
     ensures fault { IfErr result (λ fault. Says fault (IsNameRefusal (workspace_text workspace.now).packages (package_named (workspace_text workspace.now).packages word.now))) }

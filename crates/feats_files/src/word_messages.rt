@@ -37,6 +37,10 @@ pub fn words_refused(alloc: Global, fault: WordsFault<'_>) -> Fault
             alloc,
             &["`", word, "` isn't a format: write text or json"],
         ),
+        WordsFault::Depth(word) => refused(
+            alloc,
+            &["`", word, "` isn't a depth: write a decimal number"],
+        ),
         WordsFault::Memory => Fault::Memory,
     }
 }

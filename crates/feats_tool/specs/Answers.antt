@@ -23,7 +23,7 @@ use Rattle.feats_tool.specs.Selections.{words_of}
 pub record IsPlannedAnswer (inputs : InputsText) (w : WorkspaceText) (words : WordsText) (answer : AnswerText) : Type 0 where
   pub plan : PlanText
   pub is_plan : IsPlanOf w words plan
-  pub is_answer : IsAnswerTo inputs.arguments.question inputs.arguments.format inputs.targets w words plan answer
+  pub is_answer : IsAnswerTo inputs.arguments.question inputs.arguments.format inputs.arguments.depth inputs.targets w words plan answer
 
 -- The message why there is no such answer: the words have no plan, or the question has no answer.
 pub data IsPlannedRefusal (inputs : InputsText) (w : WorkspaceText) (words : WordsText) (message : Text) : Type 0 where

@@ -5,7 +5,6 @@ use Rattle.cargo_workspaces.specs.Workspaces.{Text}
 use Rattle.feats_files.specs.Messages.{joined}
 use Rattle.feats_files.specs.declared.fault.Fault.{Fault}
 use Rattle.feats_files.specs.declared.fault.Fault.TheVariants as fault
-use Rattle.feats_answers.specs.AnswerTexts.{AnswerText}
 use Rattle.feats_tool.specs.Answers.{IsAnswer, IsNoAnswer}
 use Rattle.feats_tool.specs.Inputs.{InputsText}
 

@@ -1,3 +1,4 @@
+pub mod Decimals
 pub mod Each
 pub mod Yields
 pub mod Building

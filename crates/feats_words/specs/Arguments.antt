@@ -1,11 +1,12 @@
 -- The arguments of a command, parsed from the words of a request.
-use Rattle.std.specs.Prelude.{List, Bool, Option, None, Some, Result, Ok, Err, flat_map, codes, ok_or, if◌then◌else◌}
+use Rattle.std.specs.Prelude.{ℕ, List, Bool, Option, None, Some, Result, Ok, Err, flat_map, codes, ok_or, if◌then◌else◌}
 use Rattle.std.specs.Str.{bytes_eq}
 use Rattle.std.specs.Option.{option_map_or}
 use Rattle.clap.specs.Words.{Text}
 use Rattle.manifest_resolvers.specs.declared.resolver.Resolver.{Resolver}
 use Rattle.manifest_resolvers.specs.declared.resolver.Resolver.TheVariants.{V2}
 use Rattle.manifest_resolvers.specs.Resolvers.{resolver_named}
+use Rattle.feats_words.specs.Depths.{depth}
 use Rattle.feats_words.specs.FeatureWords.{words_in}
 use Rattle.feats_words.specs.PlatformWords.{PlatformText, platform_word}
 use Rattle.feats_words.specs.Refusals.{Refusal, bad_platform, bad_resolver, two_resolvers, bad_format, each, ◌>>=◌}
@@ -31,6 +32,7 @@ pub record ArgumentsText : Type 0 where
   pub no_default_features : Bool
   pub tests : Bool
   pub format : Format
+  pub depth : Option ℕ
 
 abbrev pub platform : Text → Result PlatformText Refusal
 platform word = ok_or (platform_word word) (bad_platform word)
@@ -66,6 +68,7 @@ arguments r =
     platforms r.targets >>= λ targets.
     resolver_source r.resolver r.manifest >>= λ resolver.
     format r.format >>= λ form.
+    depth r.depth >>= λ limit.
     Ok (record {
       question = r.question;
       metadata = r.metadata;
@@ -79,4 +82,5 @@ arguments r =
       no_default_features = r.no_default_features;
       tests = r.tests;
       format = form;
+      depth = limit;
     })

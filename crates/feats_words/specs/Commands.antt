@@ -57,10 +57,23 @@ specs_shape = command_shape (codes "specs") []
 abbrev pub list_shape : Shape
 list_shape = command_shape (codes "list") (word_rule (codes "spec") ∷ [])
 
+abbrev pub duplicates_shape : Shape
+duplicates_shape = command_shape (codes "duplicates") []
+
+-- An option with a letter, which is given at most once.
+abbrev pub short_rule : Text → ℕ → Rule
+short_rule name letter = record (option_rule name) { short = Some letter }
+
+abbrev pub tree_shape : Shape
+tree_shape = command_shape (codes "tree") (short_rule (codes "invert") 105 ∷ option_rule (codes "depth") ∷ [])
+
+abbrev pub dot_shape : Shape
+dot_shape = command_shape (codes "dot") []
+
 -- The program without its commands, of which one must be given.
 abbrev pub bare_app : App
 bare_app = record (new_app (codes "feats")) { top = record (new_shape (codes "feats")) { subcommand_required = true } }
 
 abbrev pub feats_app : App
 feats_app =
-    with_subcommand (with_subcommand (with_subcommand (with_subcommand (with_subcommand bare_app plan_shape) why_shape) why_not_shape) specs_shape) list_shape
+    with_subcommand (with_subcommand (with_subcommand (with_subcommand (with_subcommand (with_subcommand (with_subcommand (with_subcommand bare_app plan_shape) why_shape) why_not_shape) specs_shape) list_shape) duplicates_shape) tree_shape) dot_shape

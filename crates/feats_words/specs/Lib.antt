@@ -1,4 +1,5 @@
 pub mod Arguments
+pub mod Depths
 pub mod Refusals
 pub mod Commands
 pub mod Requests

@@ -16,6 +16,9 @@ pub data QuestionText : Type 0 where
   why_not : Text → QuestionText
   specs : QuestionText
   list : Text → QuestionText
+  duplicates : QuestionText
+  tree : Option Text → QuestionText
+  dot : QuestionText
 
 -- What a command line asks for.
 pub record RequestText : Type 0 where
@@ -32,6 +35,7 @@ pub record RequestText : Type 0 where
   pub no_default_features : Bool
   pub tests : Bool
   pub format : Option Text
+  pub depth : Option Text
 
 -- The value of an option; of an option or a word that is required; the values of an option that may be given several times.
 abbrev pub value : Text → List Row → Option Text
@@ -55,7 +59,10 @@ question_of name rows =
     else (if bytes_eq name (codes "why-not") then Some (why_not (required_value (codes "feature") rows))
     else (if bytes_eq name (codes "specs") then Some specs
     else (if bytes_eq name (codes "list") then Some (list (required_value (codes "spec") rows))
-    else None))))
+    else (if bytes_eq name (codes "duplicates") then Some duplicates
+    else (if bytes_eq name (codes "tree") then Some (tree (value (codes "invert") rows))
+    else (if bytes_eq name (codes "dot") then Some dot
+    else None)))))))
 
 abbrev pub asked : QuestionText → List Row → RequestText
 asked question rows = record {
@@ -72,6 +79,7 @@ asked question rows = record {
   no_default_features = is_given (codes "no-default-features") rows;
   tests = is_given (codes "tests") rows;
   format = value (codes "format") rows;
+  depth = value (codes "depth") rows;
 }
 
 -- What the command of a name is asked for by its words and options.

@@ -1,6 +1,6 @@
 -- The values that Rust's types contain.
 use Rattle.std.specs.Prelude.{map, option_map}
-use Rattle.feats_words.specs.Requests.{QuestionText, RequestText, list, plan, specs, texts, why, why_not}
+use Rattle.feats_words.specs.Requests.{QuestionText, RequestText, dot, duplicates, list, plan, specs, texts, tree, why, why_not}
 use Rattle.feats_words.specs.Arguments.{ArgumentsText, SourceText, version_given, manifest_at}
 use Rattle.feats_words.specs.PlatformWords.{PlatformText}
 use Rattle.feats_words.specs.declared.command_arguments.CommandArguments.{CommandArguments}
@@ -24,6 +24,9 @@ question_text (question.Why feature all) = why feature.now all
 question_text (question.WhyNot word) = why_not word.now
 question_text question.Specs = specs
 question_text (question.List word) = list word.now
+question_text question.Duplicates = duplicates
+question_text (question.Tree invert) = tree (option_map (λ t. t.now) invert)
+question_text question.Dot = dot
 
 abbrev pub arguments_text : CommandArguments → ArgumentsText
 arguments_text a = record {
@@ -39,6 +42,7 @@ arguments_text a = record {
   no_default_features = a.no_default_features;
   tests = a.tests;
   format = a.format;
+  depth = a.depth;
 }
 
 abbrev pub request_text : Request → RequestText
@@ -56,4 +60,5 @@ request_text r = record {
   no_default_features = r.no_default_features;
   tests = r.tests;
   format = option_map (λ t. t.now) r.format;
+  depth = option_map (λ t. t.now) r.depth;
 }

@@ -37,6 +37,22 @@ Example, with the files of `feats plan --help`:
   feats list --metadata metadata.json --host x86_64-unknown-linux-gnu=host.cfg -p server libc
 ";
 
+const DUPLICATES_EXAMPLE: &str = "\
+Example, with the files of `feats plan --help`:
+  feats duplicates --metadata metadata.json --host x86_64-unknown-linux-gnu=host.cfg --workspace
+";
+
+const TREE_EXAMPLE: &str = "\
+Examples, with the files of `feats plan --help`:
+  feats tree --metadata metadata.json --host x86_64-unknown-linux-gnu=host.cfg -p server --depth 2
+  feats tree --metadata metadata.json --host x86_64-unknown-linux-gnu=host.cfg -p server --invert libc
+";
+
+const DOT_EXAMPLE: &str = "\
+Example, with the files of `feats plan --help`:
+  feats dot --metadata metadata.json --host x86_64-unknown-linux-gnu=host.cfg -p server | dot -Tsvg >server.svg
+";
+
 /// The help of the word FEATURE.
 const FEATURE_HELP: &str = "\
 SPEC/NAME, SPEC/dep:NAME, SPEC for the package itself, or a feature's name alone; `*` stands for any text in a name";
@@ -81,6 +97,14 @@ fn lettered<'a>(
     ensures local { result.global ≡ false }
 {
     repeated(alloc, name, value, help).short(letter)
+}
+
+/// Returns an option with a value and a letter, which is given at most once.
+fn short<'a>(alloc: Global, name: &'a str, letter: char, value: &'a str, help: &'a str) -> Arg<'a>
+    ensures rule { rule_of result ≡ spec.short_rule name.entry.now letter }
+    ensures local { result.global ≡ false }
+{
+    option(alloc, name, value, help).short(letter)
 }
 
 /// Returns an option without a value.
@@ -291,6 +315,48 @@ fn list_command<'a>(alloc: Global) -> Result<Command<'a>, AllocError>
     )
 }
 
+/// Returns the command `duplicates`.
+fn duplicates_command<'a>(alloc: Global) -> Result<Command<'a>, AllocError>
+    ensures { IfOk result (λ r. IsSubcommand r spec.duplicates_shape) }
+{
+    wordless(
+        alloc,
+        "duplicates",
+        "Prints packages that are built in several versions or with different features",
+        DUPLICATES_EXAMPLE,
+    )
+}
+
+/// Returns the command `tree`.
+fn tree_command<'a>(alloc: Global) -> Result<Command<'a>, AllocError>
+    ensures { IfOk result (λ r. IsSubcommand r spec.tree_shape) }
+{
+    let command = Command::new(alloc, "tree")
+        .about("Prints what depends on what, as a tree")
+        .after_help(TREE_EXAMPLE)
+        .arg(short(
+            alloc,
+            "invert",
+            'i',
+            "SPEC",
+            "Print what depends on the package: NAME, NAME@VERSION or an id",
+        ))?
+        .arg(option(alloc, "depth", "N", "Print nothing below this depth"))?;
+    with_options(alloc, command)
+}
+
+/// Returns the command `dot`.
+fn dot_command<'a>(alloc: Global) -> Result<Command<'a>, AllocError>
+    ensures { IfOk result (λ r. IsSubcommand r spec.dot_shape) }
+{
+    wordless(
+        alloc,
+        "dot",
+        "Prints what depends on what, as a graph for Graphviz",
+        DOT_EXAMPLE,
+    )
+}
+
 /// Returns the program without its commands.
 fn bare_command<'a>(alloc: Global) -> Command<'a>
     ensures { app_of result ≡ spec.bare_app }
@@ -309,5 +375,8 @@ pub(crate) fn feats_command<'a>(alloc: Global) -> Result<Command<'a>, AllocError
         .subcommand(why_command(alloc)?)?
         .subcommand(why_not_command(alloc)?)?
         .subcommand(specs_command(alloc)?)?
-        .subcommand(list_command(alloc)?)
+        .subcommand(list_command(alloc)?)?
+        .subcommand(duplicates_command(alloc)?)?
+        .subcommand(tree_command(alloc)?)?
+        .subcommand(dot_command(alloc)?)
 }

@@ -5,6 +5,7 @@ ghost use Rattle.feats_words.specs.Refusals.{Gives};
 ghost use Rattle.feats_words.specs.Requests.{texts};
 ghost use Rattle.feats_words.specs.Views.{arguments_text, platform_text, request_text, source_text};
 
+use crate::depths::depth_of;
 use crate::fault::WordsFault;
 use crate::platform_words::{PlatformWord, platform_word};
 use crate::request::{Question, Request};
@@ -44,6 +45,8 @@ pub struct CommandArguments<'a> {
     pub no_default_features: bool,
     pub tests: bool,
     pub format: Format,
+    /// How deep a tree is; `None` is no limit.
+    pub depth: Option<usize>,
 }
 
 /// Returns the platform of `word`, or `Platform` if it isn't `TRIPLE=CFGFILE`.
@@ -104,7 +107,7 @@ fn format_of(word: Option<&str>) -> Result<Format, WordsFault<'_>>
 }
 
 /// Returns the arguments of a request. The error is the first word that can't be read: of the host, of the targets, of the resolver, of
-/// the format; or `Memory`.
+/// the format, of the depth; or `Memory`.
 pub fn arguments<'a>(
     alloc: Global,
     request: Request<'a>,
@@ -115,6 +118,7 @@ pub fn arguments<'a>(
     let targets = platforms(alloc, &request.targets)?;
     let resolver = resolver_source(request.resolver, request.manifest)?;
     let format = format_of(request.format)?;
+    let depth = depth_of(request.depth)?;
     let features = feature_words(alloc, &request.features)?;
     Ok(CommandArguments {
         question: request.question,
@@ -129,5 +133,6 @@ pub fn arguments<'a>(
         no_default_features: request.no_default_features,
         tests: request.tests,
         format,
+        depth,
     })
 }

@@ -14,6 +14,8 @@ pub enum WordsFault<'a> {
     TwoResolvers,
     /// The word isn't a format.
     Format(&'a str),
+    /// The word isn't a decimal number.
+    Depth(&'a str),
     /// An allocation failed.
     Memory,
 }

@@ -3,6 +3,7 @@
 
 mod command;
 mod command_arguments;
+mod depths;
 mod fault;
 mod platform_words;
 mod request;

@@ -23,6 +23,12 @@ pub enum Question<'a> {
     Specs,
     /// Which features does the package of this spec have?
     List(&'a str),
+    /// What is built several times?
+    Duplicates,
+    /// What depends on what? With `invert`, what depends on the part that this word names?
+    Tree { invert: Option<&'a str> },
+    /// What depends on what, as a graph?
+    Dot,
 }
 
 /// What a command line asks for.
@@ -47,6 +53,8 @@ pub struct Request<'a> {
     pub no_default_features: bool,
     pub tests: bool,
     pub format: Option<&'a str>,
+    /// How deep a tree is.
+    pub depth: Option<&'a str>,
 }
 
 /// Returns the value of an option or a word that is required.
@@ -112,6 +120,11 @@ fn question_of<'a>(name: &str, matches: &ArgMatches<'a>) -> Option<Question<'a>>
         "why-not" => Some(Question::WhyNot(required_value(matches, "feature"))),
         "specs" => Some(Question::Specs),
         "list" => Some(Question::List(required_value(matches, "spec"))),
+        "duplicates" => Some(Question::Duplicates),
+        "tree" => Some(Question::Tree {
+            invert: value(matches, "invert"),
+        }),
+        "dot" => Some(Question::Dot),
         _ => None,
     }
 }
@@ -138,6 +151,7 @@ fn asked<'a>(
         no_default_features: is_given(matches, "no-default-features"),
         tests: is_given(matches, "tests"),
         format: value(matches, "format"),
+        depth: value(matches, "depth"),
     })
 }
 

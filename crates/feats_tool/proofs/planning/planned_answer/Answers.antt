@@ -22,7 +22,7 @@ returns-in-Ok-clause-answer c =
     IfOk-weaker c.answer_to.result _ _ (λ a h. record {
       plan = plan;
       is_plan = c.in-Ok.ensures.plan;
-      is_answer = subst (λ files. IsAnswerTo inputs.arguments.question inputs.arguments.format (map file_text files) w words plan (answer_text a)) c.deref.ensures.value h;
+      is_answer = subst (λ files. IsAnswerTo inputs.arguments.question inputs.arguments.format inputs.arguments.depth (map file_text files) w words plan (answer_text a)) c.deref.ensures.value h;
     }) c.answer_to.ensures.answer
 
 pub returns-in-Ok-clause-fault : goal.returns-in-Ok-clause-fault

@@ -5,7 +5,7 @@ use Rattle.cargo_workspaces.specs.WorkspaceView.{workspace_text}
 use Rattle.plan_platforms.specs.HeldSpecs.{holds_on}
 use Rattle.plan_platforms.specs.Views.{declared_text}
 use Rattle.feats_answers.specs.AnswerViews.{answer_text}
-use Rattle.feats_tool.specs.Answers.{AreHolding, IsPlannedRefusal, IsWorkspaceRefusal}
+use Rattle.feats_tool.specs.Answers.{IsPlannedRefusal, IsWorkspaceRefusal}
 use Rattle.feats_tool.specs.BasisView.{basis_text}
 use Rattle.feats_tool.specs.Inputs.{inputs_text}
 use Rattle.feats_tool.proofs.Says.{if_err_more}

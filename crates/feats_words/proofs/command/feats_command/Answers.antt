@@ -1,5 +1,5 @@
 use Rattle.std.proofs.lemmas.Result.{IfOk-weaker}
-use Rattle.feats_words.specs.Commands.{bare_app, list_shape, plan_shape, specs_shape, why_not_shape, why_shape}
+use Rattle.feats_words.specs.Commands.{bare_app, dot_shape, duplicates_shape, list_shape, plan_shape, specs_shape, tree_shape, why_not_shape, why_shape}
 use Rattle.feats_words.proofs.Building.{with_one}
 use Rattle.feats_words.proofs.command.feats_command.Goals as goal
 
@@ -9,4 +9,7 @@ returns c =
     let why = with_one _ _ _ _ why_shape plan c.in_ok-why_command.ensures c.in_ok-subcommand-2.ensures in
     let why_not = with_one _ _ _ _ why_not_shape why c.in_ok-why_not_command.ensures c.in_ok-subcommand-3.ensures in
     let specs = with_one _ _ _ _ specs_shape why_not c.in_ok-specs_command.ensures c.in_ok-subcommand-4.ensures in
-    IfOk-weaker c.subcommand-5.result _ _ (λ r h. with_one _ _ r _ list_shape specs c.in_ok-list_command.ensures h) c.subcommand-5.ensures
+    let list = with_one _ _ _ _ list_shape specs c.in_ok-list_command.ensures c.in_ok-subcommand-5.ensures in
+    let duplicates = with_one _ _ _ _ duplicates_shape list c.in_ok-duplicates_command.ensures c.in_ok-subcommand-6.ensures in
+    let tree = with_one _ _ _ _ tree_shape duplicates c.in_ok-tree_command.ensures c.in_ok-subcommand-7.ensures in
+    IfOk-weaker c.subcommand-8.result _ _ (λ r h. with_one _ _ r _ dot_shape tree c.in_ok-dot_command.ensures h) c.subcommand-8.ensures

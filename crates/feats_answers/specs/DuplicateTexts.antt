@@ -1,0 +1,31 @@
+-- The text about what is built several times.
+use Rattle.std.specs.Prelude.{◌≡◌, List}
+use Rattle.cargo_workspaces.specs.Workspaces.{Text, PackageText, WorkspaceText}
+use Rattle.cargo_plans.specs.Plans.{WordsText}
+use Rattle.duplicate_lines.specs.Lines.{duplicate_lines}
+use Rattle.duplicate_lines.specs.Objects.{duplicate_objects}
+use Rattle.duplicate_lines.specs.Shown.{ShownText, all_shown}
+use Rattle.feats_files.specs.Files.{FileText}
+use Rattle.feats_words.specs.declared.command_arguments.Format.{Format}
+use Rattle.feats_words.specs.declared.command_arguments.Format.TheVariants as format
+use Rattle.plan_duplicates.specs.Duplicates.{AreDuplicates, DuplicatesText}
+use Rattle.plan_duplicates.specs.MemberPlans.{ArePlansAlone, MemberPlanText}
+use Rattle.plan_steps.specs.Plans.{PlanText}
+use Rattle.plan_units.specs.Units.{UnitText}
+use Rattle.feats_answers.specs.PlanTexts.{target_names}
+
+abbrev pub duplicates_text : Format → List PackageText → List ShownText → Text
+duplicates_text format.Text packages shown = duplicate_lines packages shown
+duplicates_text format.Json packages shown = duplicate_objects shown
+
+-- The text about the duplicates among the units of a plan, beside the plans of members alone.
+pub record IsTextOfUnits (form : Format) (names : List Text) (packages : List PackageText) (units : List UnitText) (plans : List MemberPlanText) (text : Text) : Type 0 where
+  pub found : DuplicatesText
+  pub are_found : AreDuplicates packages names units plans found
+  pub is_text : text ≡ duplicates_text form packages (all_shown names packages found plans)
+
+-- The text about the duplicates of a plan, and about the plans of the selected members alone.
+pub record IsDuplicatesText (form : Format) (files : List FileText) (w : WorkspaceText) (words : WordsText) (plan : PlanText) (text : Text) : Type 0 where
+  pub plans : List MemberPlanText
+  pub are_plans : ArePlansAlone w words plans
+  pub is_text : IsTextOfUnits form (target_names files) w.packages plan.units plans text

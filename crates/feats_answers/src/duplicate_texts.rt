@@ -1,0 +1,106 @@
+//! The text about what is built several times.
+ghost use Rattle.std.specs.Prelude.{◌≡◌, IfOk, map};
+ghost use Rattle.cargo_workspaces.specs.Views.{package_text};
+ghost use Rattle.cargo_workspaces.specs.WorkspaceView.{workspace_text};
+ghost use Rattle.cargo_plans.specs.WordsView.{words_text};
+ghost use Rattle.duplicate_lines.specs.Shown.{all_shown as all_of};
+ghost use Rattle.duplicate_lines.specs.Views.{shown_text};
+ghost use Rattle.feats_files.specs.FileViews.{file_text};
+ghost use Rattle.plan_duplicates.specs.DuplicatesView.{duplicates_text as found_text};
+ghost use Rattle.plan_duplicates.specs.MemberPlans.{ArePlansAlone};
+ghost use Rattle.plan_duplicates.specs.Views.{member_plan_text};
+ghost use Rattle.plan_platforms.specs.HeldSpecs.{holds_on};
+ghost use Rattle.plan_steps.specs.PlanViews.{plan_text};
+ghost use Rattle.plan_units.specs.UnitViews.{unit_text};
+ghost use Rattle.feats_answers.specs.DuplicateTexts as spec;
+ghost use Rattle.feats_answers.specs.PlanTexts as names;
+
+use crate::plan_texts::target_names;
+use cargo_plans::{Plan, PlanWords, Unit};
+use cargo_workspaces::{Package, Workspace};
+use duplicate_lines::{Shown, all_shown, duplicate_lines, duplicate_objects};
+use feats_files::PlatformFile;
+use feats_words::Format;
+use plan_duplicates::{Duplicates, MemberPlan, duplicates_of, plans_alone};
+use plan_platforms::HeldSpecs;
+use std::alloc::{AllocError, Global};
+
+/// Returns the text of `shown`.
+fn text_of(
+    alloc: Global,
+    format: Format,
+    packages: &[Package<'_>],
+    shown: &[Shown<'_, '_, '_>],
+) -> Result<Vec<u8>, AllocError>
+    ensures { IfOk result (λ text. text.items ≡ spec.duplicates_text format (map package_text packages.now) (map shown_text shown.now)) }
+{
+    match format {
+        Format::Text => Ok(duplicate_lines(alloc, packages, shown)?.into_bytes()),
+        Format::Json => duplicate_objects(alloc, shown),
+    }
+}
+
+/// Returns the text about `found`, which are duplicates beside `plans`. `names` are those of the target platforms.
+fn text_of_found(
+    alloc: Global,
+    format: Format,
+    names: &[&str],
+    packages: &[Package<'_>],
+    found: &Duplicates<'_, '_>,
+    plans: &[MemberPlan<'_>],
+) -> Result<Vec<u8>, AllocError>
+    ensures { IfOk result (λ text. text.items ≡ spec.duplicates_text format (map package_text packages.now)
+        (all_of (map (λ t. t.now) names.now) (map package_text packages.now) (found_text found.now) (map member_plan_text plans.now))) }
+{
+    let shown = all_shown(alloc, names, packages, found, plans)?;
+    text_of(alloc, format, packages, &shown)
+}
+
+/// Returns the text about the duplicates among `units`, beside `plans`.
+fn text_of_units(
+    alloc: Global,
+    format: Format,
+    names: &[&str],
+    packages: &[Package<'_>],
+    units: &[Unit<'_>],
+    plans: &[MemberPlan<'_>],
+) -> Result<Vec<u8>, AllocError>
+    ensures { IfOk result (λ text. spec.IsTextOfUnits format (map (λ t. t.now) names.now) (map package_text packages.now) (map unit_text units.now) (map member_plan_text plans.now) text.items) }
+{
+    let found = duplicates_of(alloc, packages, names, units, plans)?;
+    let text = text_of_found(alloc, format, names, packages, &found, plans);
+    drop(found);
+    text
+}
+
+/// Returns the plans of the selected members alone.
+fn plans_of<'w>(
+    alloc: Global,
+    workspace: &'w Workspace<'_>,
+    words: &PlanWords<'w, '_, HeldSpecs<'_>>,
+) -> Result<Vec<MemberPlan<'w>>, AllocError>
+    ensures { IfOk result (λ plans. ArePlansAlone (workspace_text workspace.now) (words_text holds_on words.now) (map member_plan_text plans.items)) }
+{
+    match plans_alone(alloc, workspace, words) {
+        Ok(plans) => Ok(plans),
+        Err(_) => Err(AllocError),
+    }
+}
+
+/// Returns the text about what `plan` builds several times, which is the plan of `words`, and about the features that differ if each
+/// selected member is selected alone.
+pub(crate) fn duplicates_text<'w>(
+    alloc: Global,
+    format: Format,
+    files: &[PlatformFile<'_>],
+    workspace: &'w Workspace<'_>,
+    words: &PlanWords<'w, '_, HeldSpecs<'_>>,
+    plan: &Plan<'_>,
+) -> Result<Vec<u8>, AllocError>
+    ensures { IfOk result (λ text. spec.IsDuplicatesText format (map file_text files.now) (workspace_text workspace.now) (words_text holds_on words.now) (plan_text plan.now) text.items) }
+{
+    let names = target_names(alloc, files)?;
+    let plans = plans_of(alloc, workspace, words)?;
+    let packages = workspace.packages();
+    text_of_units(alloc, format, &names, packages, plan.units(), &plans)
+}

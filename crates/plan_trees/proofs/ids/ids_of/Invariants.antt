@@ -1,0 +1,11 @@
+use Rattle.std.proofs.Common.{◌≡◌, ◌++◌, drop, map}
+use Rattle.cargo_workspaces.specs.Views.{package_text, texts}
+use Rattle.plan_units.specs.Units.{UnitText}
+use Rattle.plan_units.specs.UnitViews.{unit_text}
+use Rattle.plan_trees.specs.Titles.{id_at}
+use Rattle.plan_trees.proofs.ids.ids_of.Given as goal
+
+abbrev pub invariant-loop-unit : goal.invariant-loop-unit
+invariant-loop-unit l =
+    let id = λ (u : UnitText). id_at (map package_text l.packages) u.number in
+    map id (map unit_text l.units) ≡ texts l.ids.items ++ map id (map unit_text (drop l.unit-index l.units))

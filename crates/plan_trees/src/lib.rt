@@ -1,0 +1,11 @@
+//! Trees and graphs of the packages that a plan builds.
+#![tactic(auto)]
+
+mod dots;
+mod ids;
+mod titles;
+mod tree_texts;
+mod trees;
+
+pub use dots::package_dot;
+pub use trees::{inverted_package_tree, package_tree};
