@@ -43,7 +43,7 @@ new_more y (x ∷ a) b pairs gone comes e h k l = cc
 
 -- ---- what is less than each part of a list
 
-module _ (cmp : PartOrder) (o : IsTotalOrder cmp) where
+module _ (cmp along : PartOrder) (o : IsTotalOrder cmp) where
   abbrev IsBelow : PartText → List PartText → Type 0
   IsBelow x zs = AllByRecursion (λ z. cmp x z ≡ Less) zs
 
@@ -155,36 +155,52 @@ module _ (cmp : PartOrder) (o : IsTotalOrder cmp) where
   -- ---- what has no partner is still in order
 
   abbrev IsFrom : PartText → List PartText → Type 0
-  IsFrom x zs = AllByRecursion (λ z. is_lt (cmp z x) ≡ false) zs
+  IsFrom x zs = AllByRecursion (λ z. is_lt (along z x) ≡ false) zs
 
   pub record IsOrdered (old new : List PartText) (p : PairingText) : Type 0 where
     pub old_from : (x : PartText) → IsFrom x old → IsFrom x p.gone
     pub new_from : (x : PartText) → IsFrom x new → IsFrom x p.comes
-    pub old_up : Ascends cmp old → Ascends cmp p.gone
-    pub new_up : Ascends cmp new → Ascends cmp p.comes
+    pub old_pairs_from : (x : PartText) → IsFrom x old → IsFrom x (map (λ e. e.0) p.pairs)
+    pub new_pairs_from : (x : PartText) → IsFrom x new → IsFrom x (map (λ e. e.1) p.pairs)
+    pub old_up : Ascends along old → Ascends along p.gone
+    pub new_up : Ascends along new → Ascends along p.comes
+    pub old_pairs_up : Ascends along old → Ascends along (map (λ e. e.0) p.pairs)
+    pub new_pairs_up : Ascends along new → Ascends along (map (λ e. e.1) p.pairs)
 
   ordered_gone : (x : PartText) (xs new : List PartText) (p : PairingText) → IsOrdered xs new p → IsOrdered (x ∷ xs) new (with_gone x p)
   ordered_gone x xs new p h = record {
     old_from = λ z k. (k.0, h.old_from z k.1);
     new_from = h.new_from;
+    old_pairs_from = λ z k. h.old_pairs_from z k.1;
+    new_pairs_from = h.new_pairs_from;
     old_up = λ k. (h.old_from x k.0, h.old_up k.1);
     new_up = h.new_up;
+    old_pairs_up = λ k. h.old_pairs_up k.1;
+    new_pairs_up = h.new_pairs_up;
   }
 
   ordered_new : (y : PartText) (old ys : List PartText) (p : PairingText) → IsOrdered old ys p → IsOrdered old (y ∷ ys) (with_new y p)
   ordered_new y old ys p h = record {
     old_from = h.old_from;
     new_from = λ z k. (k.0, h.new_from z k.1);
+    old_pairs_from = h.old_pairs_from;
+    new_pairs_from = λ z k. h.new_pairs_from z k.1;
     old_up = h.old_up;
     new_up = λ k. (h.new_from y k.0, h.new_up k.1);
+    old_pairs_up = h.old_pairs_up;
+    new_pairs_up = λ k. h.new_pairs_up k.1;
   }
 
   ordered_both : (x y : PartText) (xs ys : List PartText) (p : PairingText) → IsOrdered xs ys p → IsOrdered (x ∷ xs) (y ∷ ys) (with_pair x y p)
   ordered_both x y xs ys p h = record {
     old_from = λ z k. h.old_from z k.1;
     new_from = λ z k. h.new_from z k.1;
+    old_pairs_from = λ z k. (k.0, h.old_pairs_from z k.1);
+    new_pairs_from = λ z k. (k.0, h.new_pairs_from z k.1);
     old_up = λ k. h.old_up k.1;
     new_up = λ k. h.new_up k.1;
+    old_pairs_up = λ k. (h.old_pairs_from x k.0, h.old_pairs_up k.1);
+    new_pairs_up = λ k. (h.new_pairs_from y k.0, h.new_pairs_up k.1);
   }
 
   -- ---- the whole
@@ -220,7 +236,7 @@ module _ (cmp : PartOrder) (o : IsTotalOrder cmp) where
   join [] ys up new_up = record {
     paired = record { pairs = λ q. refl; gone = λ q. sym (drop_none (length (likes cmp q ys)) [] refl); comes = λ q. refl };
     divided = record { olds = IsPermutation-refl []; news = IsPermutation-refl ys };
-    ordered = record { old_from = λ x k. tt; new_from = λ x k. k; old_up = λ k. tt; new_up = λ k. k };
+    ordered = record { old_from = λ x k. tt; new_from = λ x k. k; old_pairs_from = λ x k. tt; new_pairs_from = λ x k. tt; old_up = λ k. tt; new_up = λ k. k; old_pairs_up = λ k. tt; new_pairs_up = λ k. tt };
   }
   join (x ∷ xs) ys up new_up = join_from x xs (joined cmp xs) (λ zs k. join xs zs up.1 k) up ys new_up
 

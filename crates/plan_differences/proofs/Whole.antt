@@ -4,7 +4,7 @@ use Rattle.std.proofs.lemmas.List.Sorted.{IsPermutation-append_right, IsPermutat
 use Rattle.plan_differences.specs.Changes.{ChangeText, change_of}
 use Rattle.plan_differences.specs.Differences.{AreDifferences, AreInOrder, DifferencesText, IsPartitioned}
 use Rattle.plan_differences.specs.Orders.{name_cmp, part_cmp}
-use Rattle.plan_differences.specs.Pairings.{ArePaired, IsPartition, PairingText}
+use Rattle.plan_differences.specs.Pairings.{AreAscending, ArePaired, IsPartition, PairingText}
 use Rattle.plan_differences.specs.Parts.{PartText}
 use Rattle.plan_differences.specs.Views.{pair_text, part_text}
 use Rattle.plan_differences.specs.declared.matches.Pair.{Pair}
@@ -31,9 +31,9 @@ divided old new sorted_old sorted_new p q h k l m = record {
   news = subst (λ z. IsPermutation new z) (sym (rw (news p.pairs, news q.pairs) refl)) (both_steps new sorted_new (map (λ e. e.1) p.pairs) p.comes (map (λ e. e.1) q.pairs) q.comes k.are_parts l.news m.news);
 }
 
-pub differ : (old new sorted_old sorted_new : List PartText) (p q : PairingText) → AreInOrder old sorted_old → AreInOrder new sorted_new → ArePaired part_cmp sorted_old sorted_new p → ArePaired name_cmp p.gone p.comes q
+pub differ : (old new sorted_old sorted_new : List PartText) (p q : PairingText) → AreInOrder old sorted_old → AreInOrder new sorted_new → ArePaired part_cmp sorted_old sorted_new p → ArePaired name_cmp p.gone p.comes q → AreAscending p → AreAscending q
     → AreDifferences old new (record { comes = q.comes; gone = q.gone; moved = map change_of q.pairs; kept = map change_of p.pairs })
-differ old new sorted_old sorted_new p q h k l m = record {
+differ old new sorted_old sorted_new p q h k l m up up_others = record {
   sorted_old = sorted_old;
   sorted_new = sorted_new;
   is_old = h;
@@ -42,6 +42,8 @@ differ old new sorted_old sorted_new p q h k l m = record {
   others = q;
   are_same = l;
   are_others = m;
+  same_ascend = up;
+  others_ascend = up_others;
   kept = refl;
   moved = refl;
   gone = refl;
@@ -68,9 +70,9 @@ module _ (old new : List PartText) (sorted_old sorted_new read_old read_new gone
       let m2 : IsPartition (map part_text p.gone.items) (map part_text p.comes.items) (pairing_text q) = subst (λ z. IsPartition (map part_text z) (map part_text p.comes.items) (pairing_text q)) is_gone (subst (λ z. IsPartition (map part_text gone) (map part_text z) (pairing_text q)) is_comes m) in
       subst (IsPartitioned old new) as_made (divided old new (map part_text sorted_old) (map part_text sorted_new) (pairing_text p) (pairing_text q) old_order new_order l2 m2)
 
-  pub whole_differences : ArePaired part_cmp (map part_text read_old) (map part_text read_new) (pairing_text p) → ArePaired name_cmp (map part_text gone) (map part_text comes) (pairing_text q)
+  pub whole_differences : ArePaired part_cmp (map part_text read_old) (map part_text read_new) (pairing_text p) → ArePaired name_cmp (map part_text gone) (map part_text comes) (pairing_text q) → AreAscending (pairing_text p) → AreAscending (pairing_text q)
       → AreDifferences old new (record { comes = map part_text q.comes.items; gone = map part_text q.gone.items; moved = moved; kept = kept })
-  whole_differences l m =
+  whole_differences l m up up_others =
       let l2 : ArePaired part_cmp (map part_text sorted_old) (map part_text sorted_new) (pairing_text p) = subst (λ z. ArePaired part_cmp (map part_text z) (map part_text sorted_new) (pairing_text p)) is_old (subst (λ z. ArePaired part_cmp (map part_text read_old) (map part_text z) (pairing_text p)) is_new l) in
       let m2 : ArePaired name_cmp (map part_text p.gone.items) (map part_text p.comes.items) (pairing_text q) = subst (λ z. ArePaired name_cmp (map part_text z) (map part_text p.comes.items) (pairing_text q)) is_gone (subst (λ z. ArePaired name_cmp (map part_text gone) (map part_text z) (pairing_text q)) is_comes m) in
-      subst (AreDifferences old new) as_made (differ old new (map part_text sorted_old) (map part_text sorted_new) (pairing_text p) (pairing_text q) old_order new_order l2 m2)
+      subst (AreDifferences old new) as_made (differ old new (map part_text sorted_old) (map part_text sorted_new) (pairing_text p) (pairing_text q) old_order new_order l2 m2 up up_others)

@@ -2,7 +2,7 @@
 use Rattle.std.specs.Prelude.{◌≡◌, List, ◌++◌, map, IsPermutation}
 use Rattle.plan_differences.specs.Changes.{ChangeText, change_of}
 use Rattle.plan_differences.specs.Orders.{Ascends, name_cmp, part_cmp}
-use Rattle.plan_differences.specs.Pairings.{ArePaired, PairingText}
+use Rattle.plan_differences.specs.Pairings.{AreAscending, ArePaired, PairingText}
 use Rattle.plan_differences.specs.Parts.{PartText}
 
 -- The parts that come and go; those whose version or source changes; those that stay as they are, but for their features.
@@ -18,7 +18,7 @@ pub record AreInOrder (parts sorted : List PartText) : Type 0 where
   pub ascends : Ascends part_cmp sorted
 
 -- THE DIFFERENCES of two plans. A part whose place, name, version and source are those of a part of the other plan stays. Of the others, those of one
--- place and name are paired in the order of their versions.
+-- place and name are paired in the order of their versions. Each list is in the order of place, name, version and source.
 pub record AreDifferences (old new : List PartText) (d : DifferencesText) : Type 0 where
   pub sorted_old : List PartText
   pub sorted_new : List PartText
@@ -28,6 +28,8 @@ pub record AreDifferences (old new : List PartText) (d : DifferencesText) : Type
   pub others : PairingText
   pub are_same : ArePaired part_cmp sorted_old sorted_new same
   pub are_others : ArePaired name_cmp same.gone same.comes others
+  pub same_ascend : AreAscending same
+  pub others_ascend : AreAscending others
   pub kept : d.kept ≡ map change_of same.pairs
   pub moved : d.moved ≡ map change_of others.pairs
   pub gone : d.gone ≡ others.gone

@@ -2,7 +2,7 @@
 use Rattle.std.specs.Prelude.{◌≡◌, List, ◌++◌, Bool, map, drop, length, IsPermutation}
 use Rattle.std.specs.List.{filter, zip}
 use Rattle.std.specs.Ordering.{is_eq}
-use Rattle.plan_differences.specs.Orders.{PartOrder}
+use Rattle.plan_differences.specs.Orders.{Ascends, PartOrder, part_cmp}
 use Rattle.plan_differences.specs.Parts.{PartText}
 
 -- Parts that go, pairs of an old part and a new one, and parts that come.
@@ -29,3 +29,10 @@ pub record ArePaired (cmp : PartOrder) (old new : List PartText) (p : PairingTex
 pub record IsPartition (old new : List PartText) (p : PairingText) : Type 0 where
   pub olds : IsPermutation old (map (λ e. e.0) p.pairs ++ p.gone)
   pub news : IsPermutation new (map (λ e. e.1) p.pairs ++ p.comes)
+
+-- The parts that go, those that come, and those of each side of the pairs are in the order of place, name, version and source.
+pub record AreAscending (p : PairingText) : Type 0 where
+  pub gone : Ascends part_cmp p.gone
+  pub comes : Ascends part_cmp p.comes
+  pub olds : Ascends part_cmp (map (λ e. e.0) p.pairs)
+  pub news : Ascends part_cmp (map (λ e. e.1) p.pairs)

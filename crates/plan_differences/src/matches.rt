@@ -1,7 +1,7 @@
 //! Parts of two plans, paired by an order.
 ghost use Rattle.std.specs.Prelude.{◌≡◌, ◌++◌, ◌<◌, ◌≤◌, ◌&&◌, IfOk, IsFalse, OnOk, drop, length, map, nat_lt};
 ghost use Rattle.plan_differences.specs.Orders.{Ascends, name_cmp, part_cmp};
-ghost use Rattle.plan_differences.specs.Pairings.{ArePaired, IsPartition};
+ghost use Rattle.plan_differences.specs.Pairings.{AreAscending, ArePaired, IsPartition};
 ghost use Rattle.plan_differences.specs.Differences.{AreInOrder};
 ghost use Rattle.plan_differences.specs.Views.{pair_text, part_text};
 ghost use Rattle.plan_differences.specs.inner.Joined.{cmp_by, followed_by, joined};
@@ -145,7 +145,7 @@ pub(crate) fn paired_by_version<'u, 'v, 'w>(
     requires { Ascends part_cmp (map part_text old.now) × Ascends part_cmp (map part_text new.now) }
     ensures paired { IfOk result (λ found. ArePaired part_cmp (map part_text old.now) (map part_text new.now) (pairing_text found)) }
     ensures partition { IfOk result (λ found. IsPartition (map part_text old.now) (map part_text new.now) (pairing_text found)) }
-    ensures ascends { IfOk result (λ found. Ascends part_cmp (pairing_text found).gone × Ascends part_cmp (pairing_text found).comes) }
+    ensures ascends { IfOk result (λ found. AreAscending (pairing_text found)) }
 {
     joined(alloc, By::Version, old, new)
 }
@@ -159,6 +159,7 @@ pub(crate) fn paired_by_name<'u, 'v, 'w>(
     requires { Ascends part_cmp (map part_text old.now) × Ascends part_cmp (map part_text new.now) }
     ensures paired { IfOk result (λ found. ArePaired name_cmp (map part_text old.now) (map part_text new.now) (pairing_text found)) }
     ensures partition { IfOk result (λ found. IsPartition (map part_text old.now) (map part_text new.now) (pairing_text found)) }
+    ensures ascends { IfOk result (λ found. AreAscending (pairing_text found)) }
 {
     joined(alloc, By::Name, old, new)
 }
