@@ -3,7 +3,8 @@
 Steps are an explanation if each node is on, is listed once, and is turned on by its `from` where the nodes of earlier steps are on (a weak
 item waits for its gate). They are exactly what the last node rests on if each other step is the `from` or the gate of a later one. The
 command features aren't shown: a step whose `from` is null begins at one. With `--all` the reasons of a step are right if they begin at
-exactly the nodes that are on and turn its node on; a reason without a gate needs none, and one with a gate suffices where only that is on.
+exactly the nodes that are on and turn its node on, where a node may be among its own reasons; a reason without a gate needs none, and one with a
+gate suffices where only that is on.
 """
 import plan_model
 from plan_model import COMMAND
@@ -73,7 +74,7 @@ def fault_of_reasons(plan, step):
     table, node, reasons = plan.on_table(), node_of(step), step['reasons']
     wanted = {None if it in starts_of(plan) else it for it in plan.on if it != node and node in plan_model.of_node(table, plan.on, it)}
     came = {None if it['from'] is None else node_of(it['from']) for it in reasons}
-    if came != wanted:
+    if came - {node} != wanted:
         return f'{node} is turned on by {wanted}, came {came}'
     own = {name: step[name] for name in ('reason', 'from', 'gate', 'platforms')}
     if own not in reasons:
