@@ -7,8 +7,9 @@ ghost use Rattle.plan_names.specs.Faults.{package_named as named_by};
 ghost use Rattle.plan_steps.specs.PlanViews.{plan_text};
 ghost use Rattle.plan_trees.specs.Dots.{IsPackageDot};
 ghost use Rattle.plan_trees.specs.Trees.{IsInvertedTree, IsPackageTree};
-ghost use Rattle.feats_answers.specs.AnswerTexts.{IsPositive};
+ghost use Rattle.feats_answers.specs.AnswerTexts.{IsPositive, negative as negative_text};
 ghost use Rattle.feats_answers.specs.AnswerViews.{answer_text};
+ghost use Rattle.feats_answers.specs.Gathered.{no_line as no_line_of};
 ghost use Rattle.feats_answers.specs.NameMessages.{IsNameRefusal};
 ghost use Rattle.feats_answers.specs.PlanTexts as names;
 ghost use Rattle.feats_answers.specs.TreeTexts as spec;
@@ -56,6 +57,14 @@ fn inverted_text(
     inverted_package_tree(alloc, format, &names, workspace, plan, number, depth)
 }
 
+/// Returns the answer that what `word` names isn't built.
+fn unbuilt(alloc: Global, format: Format, word: &str) -> Result<Answer, AllocError>
+    ensures { IfOk result (λ answer. answer_text answer ≡ negative_text (no_line_of format word.now spec.unbuilt_end)) }
+{
+    let title = String::from_str(alloc, word)?;
+    Ok(negative(no_line(alloc, format, title, " isn't built\n")?))
+}
+
 /// Returns the answer with `trees`. If they are empty, it says that what `word` names isn't built.
 fn answer_of_trees(
     alloc: Global,
@@ -65,11 +74,10 @@ fn answer_of_trees(
 ) -> Result<Answer, AllocError>
     ensures { IfOk result (λ answer. answer_text answer ≡ spec.inverted_answer format word.now trees.items) }
 {
-    if trees.is_empty() {
-        let title = String::from_str(alloc, word)?;
-        return Ok(negative(no_line(alloc, format, title, " isn't built\n")?));
+    match trees.as_slice() {
+        [] => unbuilt(alloc, format, word),
+        [_, ..] => Ok(positive(trees)),
     }
-    Ok(positive(trees))
 }
 
 /// Returns the answer with the trees of what depends on the package that `word` names.
