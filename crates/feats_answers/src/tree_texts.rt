@@ -1,5 +1,5 @@
 //! The trees of what depends on what.
-ghost use Rattle.std.specs.Prelude.{◌≡◌, IfOk, IfErr, map};
+ghost use Rattle.std.specs.Prelude.{◌≡◌, IfOk, IfErr, map, option_map};
 ghost use Rattle.cargo_workspaces.specs.WorkspaceView.{workspace_text};
 ghost use Rattle.feats_files.specs.FileViews.{file_text};
 ghost use Rattle.feats_files.specs.Messages.{Says};
@@ -26,7 +26,7 @@ use plan_trees::{inverted_package_tree, package_dot, package_tree};
 use std::alloc::{AllocError, Global};
 
 /// Returns the answer with the trees of what started packages depend on.
-pub(crate) fn tree_answer(
+fn tree_answer(
     alloc: Global,
     format: Format,
     files: &[PlatformFile<'_>],
@@ -81,7 +81,7 @@ fn answer_of_trees(
 }
 
 /// Returns the answer with the trees of what depends on the package that `word` names.
-pub(crate) fn inverted_answer(
+fn inverted_answer(
     alloc: Global,
     format: Format,
     files: &[PlatformFile<'_>],
@@ -96,6 +96,25 @@ pub(crate) fn inverted_answer(
     let number = number_of(alloc, workspace, word)?;
     let trees = inverted_text(alloc, format, files, workspace, plan, number, depth)?;
     Ok(answer_of_trees(alloc, format, word, trees)?)
+}
+
+/// Returns the answer to `tree`: with `invert`, about what depends on the package that this word names.
+pub(crate) fn answer_to_tree(
+    alloc: Global,
+    format: Format,
+    files: &[PlatformFile<'_>],
+    workspace: &Workspace<'_>,
+    plan: &Plan<'_>,
+    invert: Option<&str>,
+    depth: Option<usize>,
+) -> Result<Answer, Fault>
+    ensures answer { IfOk result (λ answer. spec.IsTreeAnswer format (map file_text files.now) (workspace_text workspace.now) (plan_text plan.now) (option_map (λ t. t.now) invert.entry) depth (answer_text answer)) }
+    ensures fault { IfErr result (λ fault. Says fault (spec.IsTreeRefusal (workspace_text workspace.now).packages (option_map (λ t. t.now) invert.entry))) }
+{
+    match invert {
+        None => Ok(tree_answer(alloc, format, files, workspace, plan, depth)?),
+        Some(word) => inverted_answer(alloc, format, files, workspace, plan, word, depth),
+    }
 }
 
 /// Returns the answer with the graph of what `plan` builds.

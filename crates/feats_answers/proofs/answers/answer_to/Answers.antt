@@ -1,4 +1,4 @@
-use Rattle.std.proofs.Common.{◌∙◌, ap, map, subst, sym}
+use Rattle.std.proofs.Common.{map, subst, sym}
 use Rattle.std.proofs.lemmas.Result.{IfOk-weaker}
 use Rattle.cargo_plans.specs.WordsView.{words_text}
 use Rattle.cargo_workspaces.specs.WorkspaceView.{workspace_text}
@@ -7,7 +7,6 @@ use Rattle.plan_steps.specs.PlanViews.{plan_text}
 use Rattle.feats_files.specs.FileViews.{file_text}
 use Rattle.feats_words.specs.Views.{question_text}
 use Rattle.feats_words.specs.declared.request.Question.{Question}
-use Rattle.feats_words.specs.declared.request.Question.TheVariants as question
 use Rattle.feats_answers.specs.AnswerViews.{answer_text}
 use Rattle.feats_answers.specs.Answers.{IsAnswerTo, IsPositive}
 use Rattle.feats_answers.specs.SpecTexts.{IsSpecText, places}
@@ -56,17 +55,11 @@ returns-in-WhyNot-clause-answer c =
     IfOk-weaker c.why_not_answer.result _ _ (λ a h. subst (λ (q : Question). IsAnswerTo (question_text q) form c.args.arguments.now.depth (map file_text c.args.files.now) w words (plan_text c.args.plan.now) (answer_text a)) (sym c.in-WhyNot.is)
     (subst (λ declared. IsWhyNotAnswer form w declared words (plan_text c.args.plan.now) c.in-WhyNot.word.now (answer_text a)) c.requires.specs h)) c.why_not_answer.ensures.answer
 
-pub returns-in_ok-tree_answer-in-Tree-None-clause-answer : goal.returns-in_ok-tree_answer-in-Tree-None-clause-answer
-returns-in_ok-tree_answer-in-Tree-None-clause-answer c =
+pub returns-in-Tree-clause-answer : goal.returns-in-Tree-clause-answer
+returns-in-Tree-clause-answer c =
     let w = workspace_text c.args.workspace.now in
-    subst (λ (q : Question). IsAnswerTo (question_text q) c.args.arguments.now.format c.args.arguments.now.depth (map file_text c.args.files.now) w (words_text holds_on c.args.words.now) (plan_text c.args.plan.now) (answer_text c.in_ok-tree_answer-in-Tree-None.field-0))
-    (sym (c.in-Tree-None.is ∙ ap question.Tree c.in-Tree-None.invert-is)) c.in_ok-tree_answer-in-Tree-None.ensures
-
-pub returns-in-Tree-Some-clause-answer : goal.returns-in-Tree-Some-clause-answer
-returns-in-Tree-Some-clause-answer c =
-    let w = workspace_text c.args.workspace.now in
-    IfOk-weaker c.inverted_answer.result _ _ (λ a h. subst (λ (q : Question). IsAnswerTo (question_text q) c.args.arguments.now.format c.args.arguments.now.depth (map file_text c.args.files.now) w (words_text holds_on c.args.words.now) (plan_text c.args.plan.now) (answer_text a))
-    (sym (c.in-Tree-Some.is ∙ ap question.Tree c.in-Tree-Some.invert-is)) h) c.inverted_answer.ensures.answer
+    IfOk-weaker c.answer_to_tree.result _ _ (λ a h. subst (λ (q : Question). IsAnswerTo (question_text q) c.args.arguments.now.format c.args.arguments.now.depth (map file_text c.args.files.now) w (words_text holds_on c.args.words.now) (plan_text c.args.plan.now) (answer_text a))
+    (sym c.in-Tree.is) h) c.answer_to_tree.ensures.answer
 
 pub returns-in_ok-dot_answer-in-Dot-clause-answer : goal.returns-in_ok-dot_answer-in-Dot-clause-answer
 returns-in_ok-dot_answer-in-Dot-clause-answer c =
