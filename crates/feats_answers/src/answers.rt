@@ -30,7 +30,7 @@ use crate::off_parts::off_parts;
 use crate::parts::parts_of;
 use crate::plan_texts::text_of_units;
 use crate::spec_texts::spec_text;
-use crate::tree_texts::{dot_answer, inverted_answer, tree_answer};
+use crate::tree_texts::{answer_to_tree, dot_answer};
 use crate::why_texts::why_texts;
 use cargo_plans::{Plan, PlanWords};
 use cargo_workspaces::Workspace;
@@ -172,13 +172,9 @@ pub fn answer_to<'w, 'n, 's>(
         Question::Duplicates => {
             Ok(duplicates_answer(alloc, format, files, workspace, words, plan)?)
         }
-        Question::Tree { invert: None } => {
+        Question::Tree { invert } => {
             let depth = arguments.depth;
-            Ok(tree_answer(alloc, format, files, workspace, plan, depth)?)
-        }
-        Question::Tree { invert: Some(word) } => {
-            let depth = arguments.depth;
-            inverted_answer(alloc, format, files, workspace, plan, word, depth)
+            answer_to_tree(alloc, format, files, workspace, plan, invert, depth)
         }
         Question::Dot => Ok(dot_answer(alloc, files, workspace, plan)?),
     }

@@ -1,5 +1,5 @@
 //! The trees of what depends on what.
-ghost use Rattle.std.specs.Prelude.{◌≡◌, IfOk, IfErr, map};
+ghost use Rattle.std.specs.Prelude.{◌≡◌, IfOk, IfErr, map, option_map};
 ghost use Rattle.cargo_workspaces.specs.WorkspaceView.{workspace_text};
 ghost use Rattle.feats_files.specs.FileViews.{file_text};
 ghost use Rattle.feats_files.specs.Messages.{Says};
@@ -7,8 +7,9 @@ ghost use Rattle.plan_names.specs.Faults.{package_named as named_by};
 ghost use Rattle.plan_steps.specs.PlanViews.{plan_text};
 ghost use Rattle.plan_trees.specs.Dots.{IsPackageDot};
 ghost use Rattle.plan_trees.specs.Trees.{IsInvertedTree, IsPackageTree};
-ghost use Rattle.feats_answers.specs.AnswerTexts.{IsPositive};
+ghost use Rattle.feats_answers.specs.AnswerTexts.{IsPositive, negative as negative_text};
 ghost use Rattle.feats_answers.specs.AnswerViews.{answer_text};
+ghost use Rattle.feats_answers.specs.Gathered.{no_line as no_line_of};
 ghost use Rattle.feats_answers.specs.NameMessages.{IsNameRefusal};
 ghost use Rattle.feats_answers.specs.PlanTexts as names;
 ghost use Rattle.feats_answers.specs.TreeTexts as spec;
@@ -25,7 +26,7 @@ use plan_trees::{inverted_package_tree, package_dot, package_tree};
 use std::alloc::{AllocError, Global};
 
 /// Returns the answer with the trees of what started packages depend on.
-pub(crate) fn tree_answer(
+fn tree_answer(
     alloc: Global,
     format: Format,
     files: &[PlatformFile<'_>],
@@ -56,6 +57,14 @@ fn inverted_text(
     inverted_package_tree(alloc, format, &names, workspace, plan, number, depth)
 }
 
+/// Returns the answer that what `word` names isn't built.
+fn unbuilt(alloc: Global, format: Format, word: &str) -> Result<Answer, AllocError>
+    ensures { IfOk result (λ answer. answer_text answer ≡ negative_text (no_line_of format word.now spec.unbuilt_end)) }
+{
+    let title = String::from_str(alloc, word)?;
+    Ok(negative(no_line(alloc, format, title, " isn't built\n")?))
+}
+
 /// Returns the answer with `trees`. If they are empty, it says that what `word` names isn't built.
 fn answer_of_trees(
     alloc: Global,
@@ -65,15 +74,14 @@ fn answer_of_trees(
 ) -> Result<Answer, AllocError>
     ensures { IfOk result (λ answer. answer_text answer ≡ spec.inverted_answer format word.now trees.items) }
 {
-    if trees.is_empty() {
-        let title = String::from_str(alloc, word)?;
-        return Ok(negative(no_line(alloc, format, title, " isn't built\n")?));
+    match trees.as_slice() {
+        [] => unbuilt(alloc, format, word),
+        [_, ..] => Ok(positive(trees)),
     }
-    Ok(positive(trees))
 }
 
 /// Returns the answer with the trees of what depends on the package that `word` names.
-pub(crate) fn inverted_answer(
+fn inverted_answer(
     alloc: Global,
     format: Format,
     files: &[PlatformFile<'_>],
@@ -88,6 +96,25 @@ pub(crate) fn inverted_answer(
     let number = number_of(alloc, workspace, word)?;
     let trees = inverted_text(alloc, format, files, workspace, plan, number, depth)?;
     Ok(answer_of_trees(alloc, format, word, trees)?)
+}
+
+/// Returns the answer to `tree`: with `invert`, about what depends on the package that this word names.
+pub(crate) fn answer_to_tree(
+    alloc: Global,
+    format: Format,
+    files: &[PlatformFile<'_>],
+    workspace: &Workspace<'_>,
+    plan: &Plan<'_>,
+    invert: Option<&str>,
+    depth: Option<usize>,
+) -> Result<Answer, Fault>
+    ensures answer { IfOk result (λ answer. spec.IsTreeAnswer format (map file_text files.now) (workspace_text workspace.now) (plan_text plan.now) (option_map (λ t. t.now) invert.entry) depth (answer_text answer)) }
+    ensures fault { IfErr result (λ fault. Says fault (spec.IsTreeRefusal (workspace_text workspace.now).packages (option_map (λ t. t.now) invert.entry))) }
+{
+    match invert {
+        None => Ok(tree_answer(alloc, format, files, workspace, plan, depth)?),
+        Some(word) => inverted_answer(alloc, format, files, workspace, plan, word, depth),
+    }
 }
 
 /// Returns the answer with the graph of what `plan` builds.

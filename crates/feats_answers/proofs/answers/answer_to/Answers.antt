@@ -54,3 +54,15 @@ returns-in-WhyNot-clause-answer c =
     let form = c.args.arguments.now.format in
     IfOk-weaker c.why_not_answer.result _ _ (λ a h. subst (λ (q : Question). IsAnswerTo (question_text q) form c.args.arguments.now.depth (map file_text c.args.files.now) w words (plan_text c.args.plan.now) (answer_text a)) (sym c.in-WhyNot.is)
     (subst (λ declared. IsWhyNotAnswer form w declared words (plan_text c.args.plan.now) c.in-WhyNot.word.now (answer_text a)) c.requires.specs h)) c.why_not_answer.ensures.answer
+
+pub returns-in-Tree-clause-answer : goal.returns-in-Tree-clause-answer
+returns-in-Tree-clause-answer c =
+    let w = workspace_text c.args.workspace.now in
+    IfOk-weaker c.answer_to_tree.result _ _ (λ a h. subst (λ (q : Question). IsAnswerTo (question_text q) c.args.arguments.now.format c.args.arguments.now.depth (map file_text c.args.files.now) w (words_text holds_on c.args.words.now) (plan_text c.args.plan.now) (answer_text a))
+    (sym c.in-Tree.is) h) c.answer_to_tree.ensures.answer
+
+pub returns-in_ok-dot_answer-in-Dot-clause-answer : goal.returns-in_ok-dot_answer-in-Dot-clause-answer
+returns-in_ok-dot_answer-in-Dot-clause-answer c =
+    let w = workspace_text c.args.workspace.now in
+    subst (λ (q : Question). IsAnswerTo (question_text q) c.args.arguments.now.format c.args.arguments.now.depth (map file_text c.args.files.now) w (words_text holds_on c.args.words.now) (plan_text c.args.plan.now) (answer_text c.in_ok-dot_answer-in-Dot.field-0))
+    (sym c.in-Dot.is) c.in_ok-dot_answer-in-Dot.ensures
