@@ -118,15 +118,15 @@ def detail_of(plan, kind, said):
     return said.get('line') or said.get('message') or ''
 
 
-def text_of(plan):
-    return table_of([(kind, plan.label(plan.packages[id]), detail_of(plan, kind, said)) for kind, id, said in lines_of(plan)])
+def text_of(plan, lines):
+    return table_of([(kind, plan.label(plan.packages[id]), detail_of(plan, kind, said)) for kind, id, said in lines])
 
 
-def objects_text_of(plan):
+def objects_text_of(plan, lines):
     def head(kind, package):
         return {'kind': kind, 'id': package.id, 'name': package.name, 'version': package.version}
 
-    return objects_of({**head(kind, plan.packages[id]), **said} for kind, id, said in lines_of(plan))
+    return objects_of({**head(kind, plan.packages[id]), **said} for kind, id, said in lines)
 
 
 def main():
@@ -139,7 +139,7 @@ def main():
         plan = Plan(document, plan_model.selection_of(words))
     except Refused as refused:
         sys.exit(str(refused))
-    sys.stdout.write((objects_text_of if is_json else text_of)(plan))
+    sys.stdout.write((objects_text_of if is_json else text_of)(plan, lines_of(plan)))
     return 0
 
 
