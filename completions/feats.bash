@@ -3,11 +3,15 @@
 # Prints the words of a list. The arguments are the program, feats or cargo, and the name of a command or `commands`.
 _feats_list() {
   case "$1 $2" in
-    'feats commands') echo 'plan why why-not specs list help' ;;
-    'feats plan' | 'feats why' | 'feats why-not' | 'feats specs' | 'feats list') echo '--metadata --host --target --resolver --manifest -p --package --workspace -F --features --all-features --no-default-features --tests --format -h --help' ;;
+    'feats commands') echo 'plan why why-not specs list duplicates tree dot help' ;;
+    'feats plan' | 'feats why-not' | 'feats specs' | 'feats list' | 'feats duplicates' | 'feats dot') echo '--metadata --host --target --resolver --manifest -p --package --workspace -F --features --all-features --no-default-features --tests --format -h --help' ;;
+    'feats why') echo '--all --metadata --host --target --resolver --manifest -p --package --workspace -F --features --all-features --no-default-features --tests --format -h --help' ;;
+    'feats tree') echo '-i --invert --depth --metadata --host --target --resolver --manifest -p --package --workspace -F --features --all-features --no-default-features --tests --format -h --help' ;;
     'feats help') echo '' ;;
-    'cargo commands') echo 'plan why why-not specs list' ;;
-    'cargo plan' | 'cargo why' | 'cargo why-not' | 'cargo specs' | 'cargo list') echo '--target --resolver --manifest -p --package --workspace -F --features --all-features --no-default-features --tests --format -h --help --manifest-path --locked --offline --frozen' ;;
+    'cargo commands') echo 'plan why why-not specs list duplicates tree dot' ;;
+    'cargo plan' | 'cargo why-not' | 'cargo specs' | 'cargo list' | 'cargo duplicates' | 'cargo dot') echo '--target --resolver --manifest -p --package --workspace -F --features --all-features --no-default-features --tests --format -h --help --manifest-path --locked --offline --frozen' ;;
+    'cargo why') echo '--all --target --resolver --manifest -p --package --workspace -F --features --all-features --no-default-features --tests --format -h --help --manifest-path --locked --offline --frozen' ;;
+    'cargo tree') echo '-i --invert --depth --target --resolver --manifest -p --package --workspace -F --features --all-features --no-default-features --tests --format -h --help --manifest-path --locked --offline --frozen' ;;
   esac
 }
 
@@ -17,8 +21,8 @@ _feats_value() {
     'feats --metadata' | 'feats --manifest' | 'cargo --manifest' | 'cargo --manifest-path') echo files ;;
     'feats --host' | 'feats --target') echo platforms ;;
     'feats --resolver' | 'cargo --resolver') echo 'words 1 2 3' ;;
-    'feats -p' | 'feats --package' | 'cargo -p' | 'cargo --package') echo packages ;;
-    'feats -F' | 'feats --features' | 'cargo -F' | 'cargo --features') echo none ;;
+    'feats -p' | 'feats --package' | 'feats -i' | 'feats --invert' | 'cargo -p' | 'cargo --package' | 'cargo -i' | 'cargo --invert') echo packages ;;
+    'feats -F' | 'feats --features' | 'feats --depth' | 'cargo -F' | 'cargo --features' | 'cargo --depth') echo none ;;
     'feats --format' | 'cargo --format') echo 'words text json' ;;
     'cargo --target') echo triples ;;
   esac
@@ -28,7 +32,7 @@ _feats_value() {
 _feats_word() {
   case "$1 $2" in
     'why 0' | 'why-not 0' | 'list 0') echo packages ;;
-    'help 0') echo 'words plan why why-not specs list' ;;
+    'help 0') echo 'words plan why why-not specs list duplicates tree dot' ;;
   esac
 }
 
