@@ -1,6 +1,7 @@
 """Runs programs at pseudo-terminals."""
 import fcntl
 import os
+import signal
 import struct
 import subprocess
 import termios
@@ -37,8 +38,14 @@ class Terminal:
         """Starts a program with its standard input, output and error here, unless `how` names others. If its input is here, this is its
         controlling terminal."""
         ends = {'stdin': self.far, 'stdout': self.far, 'stderr': self.far, **how}
-        controls = (lambda: fcntl.ioctl(0, termios.TIOCSCTTY, 0)) if ends['stdin'] == self.far else None
-        return subprocess.Popen(words, start_new_session=True, preexec_fn=controls, **ends)
+
+        def prepared():
+            # A shell that runs the tests in the background ignores interrupts, and its programs would inherit that.
+            signal.signal(signal.SIGINT, signal.SIG_DFL)
+            if ends['stdin'] == self.far:
+                fcntl.ioctl(0, termios.TIOCSCTTY, 0)
+
+        return subprocess.Popen(words, start_new_session=True, preexec_fn=prepared, **ends)
 
     def ended(self):
         """Closes the terminal after its programs have ended, and returns what they wrote to it."""
