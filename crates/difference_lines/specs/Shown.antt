@@ -1,4 +1,4 @@
--- What is shown of two plans.
+-- The differences of two plans, as the lines show them.
 use Rattle.std.specs.Prelude.{List}
 use Rattle.cargo_workspaces.specs.Workspaces.{Text}
 use Rattle.plan_lines.specs.Lines.{ShownText}

@@ -1,4 +1,4 @@
-//! What is shown of two plans.
+//! The differences of two plans, as the lines show them.
 use plan_lines::Shown;
 
 /// A feature that comes.

@@ -10,7 +10,7 @@ seen_or_not : {Y Z : Type 0} (h : Y → Z) (b : Bool) (y : Y) (rest : List Y) �
 seen_or_not h true y rest = refl
 seen_or_not h false y rest = refl
 
--- what is seen of one more item, which may pass the test
+-- the images of the items that pass the test, with one more item
 pub mapped_more : {X Y Z : Type 0} (g : X → Y) (test : Y → Bool) (h : Y → Z) (xs : List X) (i : ℕ) (x : X) (all so_far new : List Z) → i < length xs → x ≡ get_or xs i x
     → all ≡ so_far ++ map h (filter test (map g (drop i xs))) → new ≡ so_far ++ cond (test (g x)) (h (g x) ∷ []) [] → all ≡ new ++ map h (filter test (map g (drop (i + 1) xs)))
 mapped_more g test h xs i x all so_far new within is so grown =
@@ -20,7 +20,7 @@ mapped_more g test h xs i x all so_far new within is so grown =
     ∙ sym (append_assoc so_far (cond (test (g x)) (h (g x) ∷ []) []) (map h rest))
     ∙ ap (λ z. z ++ map h rest) (sym grown)
 
--- what is appended is nothing
+-- the appended list is empty
 pub nothing : {X : Type 0} (xs lines : List X) → [] ≡ lines → xs ≡ xs ++ lines
 nothing xs lines none = sym (append-nil xs) ∙ ap (λ z. xs ++ z) none
 

@@ -1,4 +1,4 @@
--- What is shown of what is built several times: a line for each package.
+-- The duplicates of a plan, as they are shown: a line for each package.
 use Rattle.std.specs.Prelude.{ℕ, List, [], ◌∷◌, ◌++◌, Bool, Option, false, map, flat_map, slice_get, unwrap_or, codes, if◌then◌else◌}
 use Rattle.std.specs.List.{filter, list_any}
 use Rattle.std.specs.Option.{option_map_or}

@@ -1,4 +1,4 @@
-//! The lines about what is built several times.
+//! The lines about the duplicates of a plan.
 ghost use Rattle.std.specs.Prelude.{◌≡◌, ◌++◌, IfOk, map};
 ghost use Rattle.cargo_workspaces.specs.Views.{package_text, texts};
 ghost use Rattle.plan_duplicates.specs.DuplicatesView.{duplicates_text};

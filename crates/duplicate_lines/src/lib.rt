@@ -1,4 +1,4 @@
-//! What is built several times, as lines in columns or as JSON objects.
+//! The duplicates of a plan, as lines in columns or as JSON objects.
 #![tactic(auto)]
 
 mod alone;

@@ -1,4 +1,4 @@
-//! What is built several times, as JSON objects.
+//! The duplicates of a plan, as JSON objects.
 ghost use Rattle.std.specs.Prelude.{◌≡◌, ◌++◌, IfOk, OnOk, map, flat_map};
 ghost use Rattle.cargo_workspaces.specs.Views.{package_text, texts};
 ghost use Rattle.line_parts.specs.Members.{Appends};

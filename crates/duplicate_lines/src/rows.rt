@@ -1,4 +1,4 @@
-//! The rows of the table that shows what is built several times.
+//! The rows of the table of duplicates.
 ghost use Rattle.std.specs.Prelude.{◌≡◌, List, IfOk, map, string_bytes};
 ghost use Rattle.cargo_workspaces.specs.Workspaces.{Text};
 ghost use Rattle.cargo_workspaces.specs.Views.{package_text, texts};

@@ -6,7 +6,7 @@ ghost use Rattle.duplicate_lines.specs.Views.{shown_text};
 use cargo_workspaces::Package;
 use std::alloc::AllocError;
 
-/// A line about what is built several times.
+/// A line about a package that is built several times.
 #[derive(Drop)]
 pub enum Shown<'u, 'v, 'w> {
     /// One of several packages of one name that are built.

@@ -1,4 +1,4 @@
-//! What is built several times, as text in columns.
+//! The duplicates of a plan, as text in columns.
 ghost use Rattle.std.specs.Prelude.{◌≡◌, ◌++◌, List, IfOk, map, string_bytes};
 ghost use Rattle.cargo_workspaces.specs.Workspaces.{Text};
 ghost use Rattle.cargo_workspaces.specs.Views.{package_text};
