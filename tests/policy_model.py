@@ -2,7 +2,8 @@
 """A model of policies: the grammar of a policy file, and which of its rules a build breaks.
 
 A rule is (LINE, VERB, WORD, TRIPLE or None, REASON or None), and a verdict (RULE, SPOTS). A spot is (SIDE, ID of a package, kind, name), with
-the kinds of plan_model.py. Run alone, it checks the worked rows below; the last line is `N passed, M failed`.
+the kinds of plan_model.py. For every choice a `deny` is judged for all platforms, in the plan of the widest selection. Run alone, it checks
+the worked rows below; the last line is `N passed, M failed`.
 """
 import sys
 
@@ -98,8 +99,9 @@ def parts_named(document, selected, line, word):
         raise Uncheckable(line, ('several', word, several.args[0])) from None
 
 
-def verdict_on(document, plan, rule):
-    """The spots that break a rule; None, if it is kept. `document` is the value of the JSON text, and `plan` a Plan of it."""
+def verdict_on(document, selected, plan, rule):
+    """The spots that break a rule; None, if it is kept. `document` is the value of the JSON text, and `plan` a Plan of it. The rule's word is
+    looked up in the packages `selected` first."""
     line, verb, word, triple, _ = rule
     if triple is not None and triple not in {it.triple for it in [plan.selection.host, *plan.selection.platforms()]}:
         raise Uncheckable(line, ('platform', triple))
@@ -107,16 +109,39 @@ def verdict_on(document, plan, rule):
         built = {id for _, id in plan.built}
         ids = [it['id'] for it in name_model.packages_named(document, word) if it['id'] in built]
         return [it for it in spots_of((id, None) for id in ids) if is_on(plan, it)] if len(ids) > 1 else None
-    spots = [it for it in spots_of(parts_named(document, plan.selected, line, word)) if is_on(plan, it)]
+    spots = [it for it in spots_of(parts_named(document, selected, line, word)) if is_on(plan, it)]
     if verb == 'require':
         return None if spots else []
     return [it for it in spots if triple is None or is_built_for(plan, triple, it)] or None
 
 
-def verdicts_of(document, plan, rules):
-    """The broken rules, each with the spots that break it, in their order; or Uncheckable."""
-    found = [(rule, verdict_on(document, plan, rule)) for rule in rules]
+def verdicts_of(document, plan, rules, widest=None):
+    """The broken rules, each with the spots that break it, in their order; or Uncheckable. `widest` is the plan of the widest selection, if the
+    rules are judged for every choice."""
+    found = [(rule, verdict_on(document, plan.selected, where, rule)) for where, rule in (judged(plan, widest, it) for it in rules)]
     return [it for it in found if it[1] is not None]
+
+
+# Every choice.
+
+class EveryPlatform:
+    """A platform on which each spec holds."""
+    triple = 'every'
+
+    def holds(self, spec):
+        return True
+
+
+def widest_of(selection):
+    """The widest selection: all members with all their features, tests, and a platform on which each spec holds."""
+    every = EveryPlatform()
+    return selection._replace(words=None, is_workspace=True, is_all=True, no_default=False, is_test=True, host=every, targets=[every])
+
+
+def judged(plan, widest, rule):
+    """The plan in which a rule is judged, and the rule as it is judged."""
+    line, verb, word, _, reason = rule
+    return (plan, rule) if widest is None or verb != 'deny' else (widest, (line, verb, word, None, reason))
 
 
 # The answers.
@@ -139,7 +164,7 @@ def verdict_lines(file, rule, whys):
 
 
 def object_of(rule):
-    """The members of the object of a broken rule."""
+    """The members of the object of a broken rule, without those that explain what breaks it."""
     line, verb, word, triple, reason = rule
     return {'line': line, 'rule': verb, 'word': word, 'platform': triple, 'reason': reason}
 
@@ -255,23 +280,50 @@ CHECKED = [
 ]
 
 
+# A line, and the rule that is broken for every choice, without its line, with the spots that break it; None, or why it can't be checked.
+CHECKED_WIDELY = [
+    ('deny app/b', ('deny', 'app/b', None, None), [(TARGET, 'app#1', 'feature', 'b')]),
+    ('deny app/b on one', ('deny', 'app/b', None, None), [(TARGET, 'app#1', 'feature', 'b')]),
+    ('deny app/b on three # why', ('deny', 'app/b', None, 'why'), [(TARGET, 'app#1', 'feature', 'b')]),
+    ('deny log@2 on one', ('deny', 'log@2', None, None), [(TARGET, 'log#2', 'base', ''), (HOST, 'log#2', 'base', '')]),
+    ('deny nothing', None, None),
+    ('deny log/std', None, ('several', 'log/std', [('log#1', 'std'), ('log#2', 'std')])),
+    ('require app/a', None, None),
+    ('require app/b', ('require', 'app/b', None, None), []),
+    ('deny-duplicates log', ('deny-duplicates', 'log', None, None), [(TARGET, 'log#1', 'base', ''), (HOST, 'log#2', 'base', '')]),
+    ('deny-duplicates new', None, None),
+]
+
+
 def a_platform(triple):
     return plan_model.Platform(triple, '')
 
 
-def checked(line):
+def a_plan(is_widest=False):
     selection = plan_model.Selection(a_platform('host'), [a_platform('one'), a_platform('two')], True, None, False, [], False, False, False)
-    plan = plan_model.Plan(plan_model.document_of(DOCUMENT), selection)
+    return plan_model.Plan(plan_model.document_of(DOCUMENT), widest_of(selection) if is_widest else selection)
+
+
+def checked(line):
     try:
-        verdicts = verdicts_of(DOCUMENT, plan, rules_of(line))
+        verdicts = verdicts_of(DOCUMENT, a_plan(), rules_of(line))
     except Uncheckable as fault:
         return fault.args[1]
     return verdicts[0][1] if verdicts else None
 
 
+def checked_widely(line):
+    try:
+        verdicts = verdicts_of(DOCUMENT, a_plan(), rules_of(line), a_plan(True))
+    except Uncheckable as fault:
+        return None, fault.args[1]
+    return (verdicts[0][0][1:], verdicts[0][1]) if verdicts else (None, None)
+
+
 def main():
     failed = 0
-    rows = [(outcome, *it) for it in WORKED] + [(checked, *it) for it in CHECKED]
+    rows = [(outcome, *it) for it in WORKED] + [(checked, *it) for it in CHECKED] + [(checked_widely, line, wanted) for line, *wanted in CHECKED_WIDELY]
+    rows = [(run, text, tuple(wanted) if run is checked_widely else wanted) for run, text, wanted in rows]
     for run, text, wanted in rows:
         came = run(text)
         if came != wanted:

@@ -11,7 +11,7 @@ use plan_units::Unit;
 use std::alloc::{AllocError, Global};
 
 /// Returns the id of package `ix`; nothing, if there is no such package.
-fn id_at<'p>(packages: &'p [Package<'_>], ix: usize) -> &'p str
+pub fn id_at<'p>(packages: &'p [Package<'_>], ix: usize) -> &'p str
     ensures { result.now ≡ spec.id_at (map package_text packages.now) ix }
 {
     match packages.get(ix) {

@@ -46,8 +46,9 @@ fn tree_text(
     branches_text(alloc, form, &branches, titles)
 }
 
-/// Returns the text of the trees of `roots`, whose nodes have these titles and ids.
-fn titled_text(
+/// Returns the text of the trees of `roots` over `links`, or their JSON objects. Node number `k` has the title and the id with this number.
+/// Nothing is deeper than `limit`. An allocation's failure is the only error.
+pub fn titled_text(
     alloc: Global,
     form: Format,
     links: &[(usize, usize)],

@@ -152,6 +152,22 @@ pub(crate) fn label_text(
     Ok(text)
 }
 
+/// Returns the label of each of `spots`.
+fn label_texts(
+    alloc: Global,
+    labels: &Labels<'_, '_>,
+    spots: &[Spot<'_>],
+) -> Result<Vec<String>, AllocError>
+    requires { AreLabels labels.now }
+    ensures { IfOk result (λ texts. map string_bytes texts.items ≡ map (spec.spot_label (packages_of labels.now) labels.now.sides) (map spot_text spots.now)) }
+{
+    let mut texts = Vec::with_capacity(alloc, spots.len())?;
+    for spot in spots {
+        texts.push(label_text(alloc, labels, *spot)?)?;
+    }
+    Ok(texts)
+}
+
 /// Returns the label of `spot`, which is in `workspace`: its package, `PACKAGE/FEATURE` or `PACKAGE/dep:NAME`. If `sides` is true,
 /// ` (host)` follows a spot on the host side.
 pub fn spot_label(
@@ -165,4 +181,18 @@ pub fn spot_label(
     let versions = names_of(alloc, workspace.packages())?;
     let labels = labels_of(alloc, workspace.packages(), &versions, sides)?;
     label_text(alloc, &labels, spot)
+}
+
+/// Returns the label of each of `spots`, which are in `workspace`, as `spot_label` does.
+pub fn spot_labels(
+    alloc: Global,
+    workspace: &Workspace<'_>,
+    sides: bool,
+    spots: &[Spot<'_>],
+) -> Result<Vec<String>, AllocError>
+    ensures { IfOk result (λ texts. map string_bytes texts.items ≡ map (spec.spot_label (workspace_text workspace.now).packages sides) (map spot_text spots.now)) }
+{
+    let versions = names_of(alloc, workspace.packages())?;
+    let labels = labels_of(alloc, workspace.packages(), &versions, sides)?;
+    label_texts(alloc, &labels, spots)
 }

@@ -12,7 +12,7 @@ mod rows;
 mod settings;
 mod table;
 
-pub use labels::spot_label;
+pub use labels::{spot_label, spot_labels};
 pub use objects::{why_objects, write_steps};
 pub use plan_whys::{ReasonedStep, Spot, WhyReason, WhyStep};
 pub use reason_objects::reasoned_objects;

@@ -2,7 +2,8 @@
 use Rattle.std.proofs.Common.{◌≡◌, ◌∙◌, ap, sym, subst, refl, Bool, true, false, ◌||◌, List, [], ◌∷◌, map, Option, None, Some}
 use Rattle.std.specs.Prelude.{IsFalse, IsTrue, if◌then◌else◌}
 use Rattle.std.specs.Global.{Vec}
-use Rattle.std.specs.List.{AllZip}
+use Rattle.std.specs.List.{AllZip, list_any}
+use Rattle.std.proofs.lemmas.Bool.{or_parts}
 use Rattle.cargo_plans.specs.Plans.{IsPlanOf, WordsText, settings_by}
 use Rattle.cargo_plans.specs.Refusals.{IsRefusal}
 use Rattle.cargo_plans.specs.declared.fault.PlanFault.{PlanFault}
@@ -20,15 +21,17 @@ use Rattle.plan_whys.specs.declared.steps.Spot.{Spot}
 use Rattle.plan_whys.specs.declared.steps.WhyStep.{WhyStep}
 use Rattle.plan_widenings.specs.Findings.{is_memory, sides_of}
 use Rattle.plan_widenings.specs.declared.widening.Widening.{Widening}
-use Rattle.why_nots.specs.Answers.{IsAnswer, not_planned}
+use Rattle.why_nots.specs.Answers.{IsAnswer, not_planned, off}
+use Rattle.why_nots.specs.PartView.{part_text}
 use Rattle.why_nots.specs.Parts.{PartText}
 use Rattle.why_nots.specs.Texts.{IsSection}
-use Rattle.why_nots.specs.inner.Lists.{answer_of, first_spot, found_sections, refused_sections}
+use Rattle.why_nots.specs.declared.parts.OffPart.{OffPart}
+use Rattle.why_nots.specs.inner.Lists.{answer_of, first_spot, found_sections, has_part, same_sections}
 
 -- what is off on its first side is off on both
 off_on_first : (t h : Bool) (on : Side → Bool) → t ≡ on Target → h ≡ on Host → on (if t then Target else Host) ≡ false → IsFalse (t || h)
-off_on_first true h on at_target at_host off = at_target ∙ off
-off_on_first false h on at_target at_host off = at_host ∙ off
+off_on_first true h on at_target at_host not_on = at_target ∙ not_on
+off_on_first false h on at_target at_host not_on = at_host ∙ not_on
 
 -- what is on on its first side is on
 on_on_first : (t h : Bool) (on : Side → Bool) → t ≡ on Target → h ≡ on Host → on (if t then Target else Host) ≡ true → IsTrue (t || h)
@@ -86,14 +89,31 @@ module _ (form : Format) (w : WorkspaceText) (words : WordsText) (v : Widening) 
       go (s ∷ ss) [] zip = absurd zip
       go (s ∷ ss) (f ∷ fs) zip = (record { chosen = answers.chosen; are_accepted = answers.are_accepted; holds = zip.0 }, go ss fs zip.1)
 
-  pub planned : (plan : PlanText) (parts : List PartText) (spots taken : List Spot) (founds given : List (Option (Vec WhyStep))) (sections : List Text) → IsPlanOf w words plan → map spot_text spots ≡ map (first_spot plan.on) parts
+  pub explained_by : (plan : PlanText) (parts : List PartText) (spots taken : List Spot) (founds given : List (Option (Vec WhyStep))) (sections : List Text) → IsPlanOf w words plan → map spot_text spots ≡ map (first_spot plan.on) parts
       → taken ≡ spots → AnswersEachBy w words plan.on taken founds → given ≡ founds → sections ≡ found_sections form w.packages words v parts (map found_text given) → AllZip (IsSection form w words v) parts sections
-  planned plan parts spots taken founds given sections is_plan same are answers is shown =
+  explained_by plan parts spots taken founds given sections is_plan same are answers is shown =
       subst (AllZip (IsSection form w words v) parts) (sym (shown ∙ ap (λ fs. found_sections form w.packages words v parts (map found_text fs)) is))
       (each_found plan parts spots founds is_plan same (by_each plan spots founds (subst (λ ss. AnswersEachBy w words plan.on ss founds) are answers)))
 
+  each_off : (plan : PlanText) (parts : List OffPart) → IsPlanOf w words plan → list_any (λ part. has_part plan.on (part_text part)) parts ≡ false
+      → AllZip (IsSection form w words v) (map part_text parts) (same_sections form w.packages words v off (map part_text parts))
+  each_off plan [] is_plan none = tt
+  each_off plan (p ∷ ps) is_plan none =
+      let parts_off = or_parts _ _ none in (
+        record {
+          answer = off;
+          is_answer = record { plan = plan; is_plan = is_plan; is_off = parts_off.0 };
+          is_text = refl;
+        },
+        each_off plan ps is_plan parts_off.1,
+      )
+
+  pub all_off : (plan : PlanText) (parts : List OffPart) (one_is : Bool) (sections : List Text) → IsPlanOf w words plan → one_is ≡ list_any (λ part. has_part plan.on (part_text part)) parts → one_is ≡ false
+      → sections ≡ same_sections form w.packages words v off (map part_text parts) → AllZip (IsSection form w words v) (map part_text parts) sections
+  all_off plan parts one_is sections is_plan says none shown = subst (AllZip (IsSection form w words v) (map part_text parts)) (sym shown) (each_off plan parts is_plan (sym says ∙ none))
+
   each_refused : (fault : PlanFault) (message : Text) (parts : List PartText) → IsRefusal w words fault → IsFalse (is_memory fault) → message ≡ plan_message w.packages fault
-      → AllZip (IsSection form w words v) parts (refused_sections form w.packages words v message parts)
+      → AllZip (IsSection form w words v) parts (same_sections form w.packages words v (not_planned message) parts)
   each_refused fault message [] refusal claimed is = tt
   each_refused fault message (p ∷ ps) refusal claimed is = (
     record {
@@ -105,6 +125,6 @@ module _ (form : Format) (w : WorkspaceText) (words : WordsText) (v : Widening) 
   )
 
   pub unplanned : (fault : PlanFault) (parts : List PartText) (sections : List Text) → IsRefusal w words fault → IsFalse (is_memory fault)
-      → sections ≡ refused_sections form w.packages words v (plan_message w.packages fault) parts → AllZip (IsSection form w words v) parts sections
+      → sections ≡ same_sections form w.packages words v (not_planned (plan_message w.packages fault)) parts → AllZip (IsSection form w words v) parts sections
   unplanned fault parts sections refusal claimed shown =
       subst (AllZip (IsSection form w words v) parts) (sym shown) (each_refused fault (plan_message w.packages fault) parts refusal claimed refl)

@@ -1,5 +1,6 @@
 //! The spots at which parts are looked for.
 ghost use Rattle.std.specs.Prelude.{◌≡◌, IfOk, map};
+ghost use Rattle.std.specs.List.{list_any};
 ghost use Rattle.plan_steps.specs.PlanViews.{plan_text};
 ghost use Rattle.plan_whys.specs.StepViews.{spot_text};
 ghost use Rattle.why_nots.specs.PartView.{part_text};
@@ -32,4 +33,19 @@ pub(crate) fn first_spots<'w>(
         spots.push(first_spot(plan, *part))?;
     }
     Ok(spots)
+}
+
+/// Returns whether `part` is on in `plan`, on either side.
+fn is_on(plan: &Plan<'_>, part: OffPart<'_>) -> bool
+    ensures { result ≡ spec.has_part (plan_text plan.now).on (part_text part.entry) }
+{
+    let sides = sides_of(plan, part.package, part.label);
+    sides.target || sides.host
+}
+
+/// Returns whether one of `parts` is on in `plan`.
+pub(crate) fn is_one_on(plan: &Plan<'_>, parts: &[OffPart<'_>]) -> bool
+    ensures { result ≡ list_any (λ part. spec.has_part (plan_text plan.now).on (part_text part)) parts.now }
+{
+    parts.iter().any(|part| is_on(plan, *part))
 }

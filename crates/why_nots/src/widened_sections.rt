@@ -9,16 +9,17 @@ ghost use Rattle.plan_messages.specs.Messages.{plan_message};
 ghost use Rattle.plan_platforms.specs.HeldSpecs.{holds_on};
 ghost use Rattle.plan_steps.specs.PlanViews.{plan_text};
 ghost use Rattle.plan_whys.specs.StepViews.{found_text};
+ghost use Rattle.why_nots.specs.Answers.{not_planned};
 ghost use Rattle.why_nots.specs.PartView.{part_text};
 ghost use Rattle.why_nots.specs.Texts.{IsSection};
 ghost use Rattle.why_nots.specs.inner.Lists as spec;
-ghost use Rattle.why_nots.specs.inner.Lists.{texts_of};
+ghost use Rattle.why_nots.specs.inner.Lists.{answer_text, texts_of};
 
 use crate::answer::{Answer, answer_of};
 use crate::messages::message_of;
 use crate::parts::OffPart;
 use crate::sections::section_of;
-use crate::spots::first_spots;
+use crate::spots::{first_spots, is_one_on};
 use cargo_plans::{Plan, PlanFault, PlanWords, plan};
 use cargo_workspaces::Workspace;
 use feats_words::Format;
@@ -47,28 +48,27 @@ fn found_sections(
     Ok(sections)
 }
 
-/// Returns what is said of `widening` about each of `parts`, where its words `words` have no plan, and `message` says why.
-fn refused_sections(
+/// Returns what is said of `widening` about each of `parts`, where the answer of its words `words` is the same about each.
+fn same_sections(
     alloc: Global,
     form: Format,
     workspace: &Workspace<'_>,
     words: &PlanWords<'_, '_, HeldSpecs<'_>>,
     widening: Widening,
     parts: &[OffPart<'_>],
-    message: &str,
+    answer: Answer<'_, '_>,
 ) -> Result<Vec<Vec<u8>>, AllocError>
-    ensures { IfOk result (λ sections. texts_of sections.items ≡ spec.refused_sections form (workspace_text workspace.now).packages (words_text holds_on words.now) widening message.now (map part_text parts.now)) }
+    ensures { IfOk result (λ sections. texts_of sections.items ≡ spec.same_sections form (workspace_text workspace.now).packages (words_text holds_on words.now) widening (answer_text answer.entry) (map part_text parts.now)) }
 {
     let mut sections = Vec::with_capacity(alloc, parts.len())?;
     for part in parts {
-        let answer = Answer::NotPlanned(message);
         sections.push(section_of(alloc, form, workspace, words, widening, *part, answer)?)?;
     }
     Ok(sections)
 }
 
-/// Returns what is said of `widening` about each of `parts`, where `plan` is the plan of its words `words`.
-fn planned_sections(
+/// Returns what is said of `widening` about each of `parts`, where `plan` is the plan of its words `words`, by a walk of the plan.
+fn explained_sections(
     alloc: Global,
     form: Format,
     workspace: &Workspace<'_>,
@@ -85,6 +85,28 @@ fn planned_sections(
     found_sections(alloc, form, workspace, words, widening, parts, &founds)
 }
 
+/// Returns what is said of `widening` about each of `parts`, where `plan` is the plan of its words `words`. The plan is walked only if one
+/// of the parts is on.
+fn planned_sections(
+    alloc: Global,
+    form: Format,
+    workspace: &Workspace<'_>,
+    words: &PlanWords<'_, '_, HeldSpecs<'_>>,
+    widening: Widening,
+    parts: &[OffPart<'_>],
+    plan: &Plan<'_>,
+) -> Result<Vec<Vec<u8>>, AllocError>
+    requires { IsPlanOf (workspace_text workspace.now) (words_text holds_on words.now) (plan_text plan.now) }
+    ensures { IfOk result (λ sections. AllZip (IsSection form (workspace_text workspace.now) (words_text holds_on words.now) widening) (map part_text parts.now) (texts_of sections.items)) }
+{
+    if is_one_on(plan, parts) {
+        explained_sections(alloc, form, workspace, words, widening, parts, plan)
+    } else {
+        let answer = Answer::Off;
+        same_sections(alloc, form, workspace, words, widening, parts, answer)
+    }
+}
+
 /// Returns what is said of `widening` about each of `parts`, where its words `words` have no plan, for the reason `fault`.
 fn unplanned_sections<'p>(
     alloc: Global,
@@ -95,18 +117,11 @@ fn unplanned_sections<'p>(
     parts: &[OffPart<'_>],
     fault: PlanFault<'p>,
 ) -> Result<Vec<Vec<u8>>, AllocError>
-    ensures { IfOk result (λ sections. texts_of sections.items ≡ spec.refused_sections form (workspace_text workspace.now).packages (words_text holds_on words.now) widening (plan_message (workspace_text workspace.now).packages fault.entry) (map part_text parts.now)) }
+    ensures { IfOk result (λ sections. texts_of sections.items ≡ spec.same_sections form (workspace_text workspace.now).packages (words_text holds_on words.now) widening (not_planned (plan_message (workspace_text workspace.now).packages fault.entry)) (map part_text parts.now)) }
 {
     let message = message_of(alloc, workspace, fault)?;
-    refused_sections(
-        alloc,
-        form,
-        workspace,
-        words,
-        widening,
-        parts,
-        message.as_str(),
-    )
+    let answer = Answer::NotPlanned(message.as_str());
+    same_sections(alloc, form, workspace, words, widening, parts, answer)
 }
 
 /// Returns what is said of `widening`, whose words are `words`, about each of `parts`. It makes one plan.

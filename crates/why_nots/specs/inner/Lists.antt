@@ -1,5 +1,5 @@
 -- The texts about several parts.
-use Rattle.std.specs.Prelude.{ℕ, List, ◌++◌, Option, Some, None, map}
+use Rattle.std.specs.Prelude.{ℕ, Bool, List, ◌++◌, Option, Some, None, map}
 use Rattle.std.specs.List.{zip}
 use Rattle.std.specs.Global.{Vec}
 use Rattle.cargo_workspaces.specs.Workspaces.{Text, PackageText}
@@ -8,7 +8,7 @@ use Rattle.feats_words.specs.declared.command_arguments.Format.{Format}
 use Rattle.plan_starts.specs.PackageVisits.{PairVisit}
 use Rattle.plan_whys.specs.StepViews.{why_text}
 use Rattle.plan_whys.specs.Steps.{SpotText, WhyText}
-use Rattle.plan_widenings.specs.Findings.{first_side, sides_of}
+use Rattle.plan_widenings.specs.Findings.{are_some, first_side, sides_of}
 use Rattle.plan_widenings.specs.declared.widening.Widening.{Widening}
 use Rattle.why_nots.specs.Answers.{AnswerText, explained, off, not_planned}
 use Rattle.why_nots.specs.Parts.{PartText, spot_on}
@@ -30,6 +30,10 @@ abbrev pub answer_of : Option (List WhyText) → AnswerText
 answer_of None = off
 answer_of (Some whys) = explained whys
 
+-- Whether the visit has the part, on either side.
+abbrev pub has_part : PairVisit → PartText → Bool
+has_part on part = are_some (sides_of on part.number part.label)
+
 -- The part on the first side on which the visit has it; on the host, if it is off.
 abbrev pub first_spot : PairVisit → PartText → SpotText
 first_spot on part = spot_on (first_side (sides_of on part.number part.label)) part
@@ -41,9 +45,9 @@ found_section form packages words v pair = section_text form packages words v pa
 abbrev pub found_sections : Format → List PackageText → WordsText → Widening → List PartText → List (Option (List WhyText)) → List Text
 found_sections form packages words v parts founds = map (found_section form packages words v) (zip parts founds)
 
--- The same, if there is no plan.
-abbrev pub refused_sections : Format → List PackageText → WordsText → Widening → Text → List PartText → List Text
-refused_sections form packages words v message parts = map (λ part. section_text form packages words v part (not_planned message)) parts
+-- The same, if the answer about each part is this one.
+abbrev pub same_sections : Format → List PackageText → WordsText → Widening → AnswerText → List PartText → List Text
+same_sections form packages words v answer parts = map (λ part. section_text form packages words v part answer) parts
 
 abbrev pub both : Text × Text → Text
 both pair = pair.0 ++ pair.1

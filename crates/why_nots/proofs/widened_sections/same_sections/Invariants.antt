@@ -3,10 +3,10 @@ use Rattle.cargo_plans.specs.WordsView.{words_text}
 use Rattle.cargo_workspaces.specs.WorkspaceView.{workspace_text}
 use Rattle.plan_platforms.specs.HeldSpecs.{holds_on}
 use Rattle.why_nots.specs.PartView.{part_text}
-use Rattle.why_nots.specs.inner.Lists.{refused_sections, texts_of}
-use Rattle.why_nots.proofs.widened_sections.refused_sections.Given as goal
+use Rattle.why_nots.specs.inner.Lists.{answer_text, same_sections, texts_of}
+use Rattle.why_nots.proofs.widened_sections.same_sections.Given as goal
 
 abbrev pub invariant-loop-part : goal.invariant-loop-part
 invariant-loop-part l =
-    let sections = refused_sections l.form (workspace_text l.workspace).packages (words_text holds_on l.words) l.widening l.message in
+    let sections = same_sections l.form (workspace_text l.workspace).packages (words_text holds_on l.words) l.widening (answer_text l.answer) in
     sections (map part_text l.parts) ≡ texts_of l.sections.items ++ sections (map part_text (drop l.part-index l.parts))

@@ -1,0 +1,2 @@
+pub mod RootLemmas
+pub mod Shown

@@ -1,0 +1,5 @@
+pub mod Dots
+pub mod Links
+pub mod Roots
+pub mod Titles
+pub mod Trees

@@ -1,0 +1,12 @@
+//! Trees and graphs of the features that are on in a plan.
+#![tactic(auto)]
+
+mod commands;
+mod dots;
+mod links;
+mod roots;
+mod titles;
+mod trees;
+
+pub use dots::feature_dot;
+pub use trees::{feature_tree, inverted_feature_tree};

@@ -1,0 +1,6 @@
+pub mod Founds
+pub mod Printed
+pub mod Refusals
+pub mod Scened
+pub mod Tokens
+pub mod Verdicts

@@ -1,0 +1,12 @@
+use Rattle.std.proofs.Common.{map, take}
+use Rattle.cargo_workspaces.specs.WorkspaceView.{workspace_text}
+use Rattle.policies.specs.Views.{rule_text}
+use Rattle.policy_answers.specs.QuestionViews.{question_text}
+use Rattle.policy_answers.specs.inner.PlannedViews.{scenes_by}
+use Rattle.policy_answers.proofs.Printed.{IsSo}
+use Rattle.policy_answers.proofs.rules.printed_rules.Given as goal
+
+abbrev pub invariant-loop-rule : goal.invariant-loop-rule
+invariant-loop-rule l =
+    let asked = question_text l.asked in
+    IsSo asked (scenes_by (workspace_text l.workspace) l.selected asked l.here l.widest) (map rule_text (take l.rule-index l.asked.rules.now)) l.printed.text.items l.printed.is_broken

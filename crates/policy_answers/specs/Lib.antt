@@ -1,0 +1,7 @@
+pub mod Answers
+pub mod Broken
+pub mod QuestionViews
+pub mod Questions
+pub mod Scenes
+pub mod Whys
+pub mod inner

@@ -1,0 +1,114 @@
+//! Answers to questions about policies.
+ghost use Rattle.std.specs.Prelude.{IfOk, IfErr, Some};
+ghost use Rattle.cargo_plans.specs.Plans.{IsPlanOf};
+ghost use Rattle.cargo_plans.specs.WordsView.{words_text};
+ghost use Rattle.cargo_workspaces.specs.WorkspaceView.{workspace_text};
+ghost use Rattle.feats_files.specs.Messages.{Says};
+ghost use Rattle.plan_platforms.specs.HeldSpecs.{holds_on};
+ghost use Rattle.plan_steps.specs.PlanViews.{plan_text};
+ghost use Rattle.policy_answers.specs.Answers as spec;
+ghost use Rattle.policy_answers.specs.Broken.{IsPolicyText, IsRulesRefusal};
+ghost use Rattle.policy_answers.specs.QuestionViews.{printed_text, question_text};
+ghost use Rattle.policy_answers.specs.Scenes.{IsScene, scene_of, widely};
+ghost use Rattle.policy_answers.specs.inner.PlannedViews.{scene_by};
+
+use crate::planned::Planned;
+use crate::question::{PolicyQuestion, PolicyText};
+use crate::rules::printed_rules;
+use cargo_plans::{Plan, PlanWords, plan};
+use cargo_workspaces::Workspace;
+use feats_files::Fault;
+use plan_messages::plan_refused;
+use plan_platforms::HeldSpecs;
+use plan_widenings::{Widening, widened};
+use plan_words::choose;
+use std::alloc::Global;
+
+/// Returns what is printed for every choice, where `widest` is the plan of the widest words `wide`.
+fn printed_with(
+    alloc: Global,
+    asked: PolicyQuestion<'_, '_, '_, '_>,
+    workspace: &Workspace<'_>,
+    selected: &[usize],
+    here: Planned<'_, '_, '_, '_, '_>,
+    wide: &PlanWords<'_, '_, HeldSpecs<'_>>,
+    widest: &Plan<'_>,
+) -> Result<PolicyText, Fault>
+    requires here { IsScene (scene_by (workspace_text workspace.now) selected.now (question_text asked) here) }
+    requires widest { IsPlanOf (workspace_text workspace.now) (words_text holds_on wide.now) (plan_text widest.now) }
+    ensures text { IfOk result (λ printed. IsPolicyText (question_text asked.entry) (widely (scene_by (workspace_text workspace.now) selected.now (question_text asked.entry) here.entry)
+        (scene_of (workspace_text workspace.now) selected.now (question_text asked.entry) (words_text holds_on wide.now) (plan_text widest.now))) (printed_text printed)) }
+    ensures fault { IfErr result (λ fault. Says fault (IsRulesRefusal (question_text asked.entry) (widely (scene_by (workspace_text workspace.now) selected.now (question_text asked.entry) here.entry)
+        (scene_of (workspace_text workspace.now) selected.now (question_text asked.entry) (words_text holds_on wide.now) (plan_text widest.now))))) }
+{
+    let planned = Planned {
+        words: wide,
+        plan: widest,
+    };
+    printed_rules(alloc, asked, workspace, selected, here, Some(planned))
+}
+
+/// Returns the answer for every choice, where `every` is a platform on which each platform spec holds. It makes the plan of the widest words.
+fn answer_widely<'w, 'n, 's>(
+    alloc: Global,
+    asked: PolicyQuestion<'_, '_, '_, '_>,
+    workspace: &'w Workspace<'_>,
+    selected: &[usize],
+    here: Planned<'_, '_, 'w, 'n, 's>,
+    every: &'n HeldSpecs<'s>,
+) -> Result<PolicyText, Fault>
+    requires { IsScene (scene_by (workspace_text workspace.now) selected.now (question_text asked) here) }
+    ensures answer { IfOk result (λ printed. spec.IsAnswerWith (scene_by (workspace_text workspace.now) selected.now (question_text asked.entry) here.entry) (question_text asked.entry) (Some (holds_on every.now)) (printed_text printed)) }
+    ensures fault { IfErr result (λ fault. Says fault (spec.IsRefusalWith (scene_by (workspace_text workspace.now) selected.now (question_text asked.entry) here.entry) (question_text asked.entry) (Some (holds_on every.now)))) }
+{
+    let wide = widened(here.words, Widening::Together, every);
+    match plan(alloc, workspace, &wide) {
+        Ok(widest) => {
+            let printed = printed_with(alloc, asked, workspace, selected, here, &wide, &widest);
+            drop(widest);
+            printed
+        }
+        Err(fault) => Err(plan_refused(alloc, workspace, fault)),
+    }
+}
+
+/// Returns the answer about the build that selects the packages `selected`. `plan` is its plan, that of `words`.
+fn answer_about<'w, 'n, 's>(
+    alloc: Global,
+    asked: PolicyQuestion<'_, '_, 'n, 's>,
+    workspace: &'w Workspace<'_>,
+    selected: &[usize],
+    words: &PlanWords<'w, 'n, HeldSpecs<'s>>,
+    plan: &Plan<'w>,
+) -> Result<PolicyText, Fault>
+    requires { IsPlanOf (workspace_text workspace.now) (words_text holds_on words.now) (plan_text plan.now) }
+    ensures answer { IfOk result (λ printed. spec.IsAnswerWith (scene_of (workspace_text workspace.now) selected.now (question_text asked.entry) (words_text holds_on words.now) (plan_text plan.now)) (question_text asked.entry) (question_text asked.entry).every (printed_text printed)) }
+    ensures fault { IfErr result (λ fault. Says fault (spec.IsRefusalWith (scene_of (workspace_text workspace.now) selected.now (question_text asked.entry) (words_text holds_on words.now) (plan_text plan.now)) (question_text asked.entry) (question_text asked.entry).every)) }
+{
+    let here = Planned { words, plan };
+    match asked.every {
+        Some(every) => answer_widely(alloc, asked, workspace, selected, here, every),
+        None => printed_rules(alloc, asked, workspace, selected, here, None),
+    }
+}
+
+/// Returns the broken rules of a policy in `plan`, which is that of `words`: each with what breaks it, and why that is on. For every choice
+/// each `deny` is judged in the plan of the widest words instead, for all platforms. If nothing is broken then, the build keeps the other
+/// rules, and by the law `no_choice_breaks_a_deny` no choice of members, features, tests and platforms breaks a `deny`. Returns `Refused` if
+/// the widest words have no plan, or else with the first rule that can't be checked; `Memory` if an allocation fails.
+pub fn policy_answer<'w, 'n, 's>(
+    alloc: Global,
+    asked: PolicyQuestion<'_, '_, 'n, 's>,
+    workspace: &'w Workspace<'_>,
+    words: &PlanWords<'w, 'n, HeldSpecs<'s>>,
+    plan: &Plan<'w>,
+) -> Result<PolicyText, Fault>
+    requires { IsPlanOf (workspace_text workspace.now) (words_text holds_on words.now) (plan_text plan.now) }
+    ensures answer { IfOk result (λ printed. spec.IsPolicyAnswer (workspace_text workspace.now) (words_text holds_on words.now) (plan_text plan.now) (question_text asked.entry) (printed_text printed)) }
+    ensures fault { IfErr result (λ fault. Says fault (spec.IsPolicyRefusal (workspace_text workspace.now) (words_text holds_on words.now) (plan_text plan.now) (question_text asked.entry))) }
+{
+    match choose(alloc, workspace, &words.selection) {
+        Ok(chosen) => answer_about(alloc, asked, workspace, &chosen.selected, words, plan),
+        Err(_) => Err(Fault::Memory),
+    }
+}

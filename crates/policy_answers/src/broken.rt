@@ -1,0 +1,111 @@
+//! The text of broken rules.
+ghost use Rattle.std.specs.Prelude.{IfOk, OnOk, ◌≡◌, map};
+ghost use Rattle.cargo_plans.specs.WordsView.{words_text};
+ghost use Rattle.cargo_workspaces.specs.WorkspaceView.{workspace_text};
+ghost use Rattle.plan_platforms.specs.HeldSpecs.{holds_on};
+ghost use Rattle.plan_whys.specs.StepViews.{found_text};
+ghost use Rattle.policies.specs.Views.{rule_text};
+ghost use Rattle.policy_answers.specs.Broken.{ArePrinted, IsBrokenText, broken_in};
+ghost use Rattle.policy_answers.specs.QuestionViews.{question_text};
+ghost use Rattle.policy_answers.specs.Scenes.{IsScene};
+ghost use Rattle.policy_answers.specs.Whys as spec;
+ghost use Rattle.policy_answers.specs.inner.Grown.{Grows};
+ghost use Rattle.policy_answers.specs.inner.PlannedViews.{scene_by};
+ghost use Rattle.policy_checks.specs.Views.{verdict_text};
+
+use crate::lines::rule_lines;
+use crate::objects::rule_object;
+use crate::planned::Planned;
+use crate::question::PolicyQuestion;
+use cargo_plans::PlanWords;
+use cargo_workspaces::Workspace;
+use feats_words::Format;
+use plan_platforms::HeldSpecs;
+use plan_whys::{WhyStep, why_each};
+use policies::Rule;
+use policy_checks::Verdict;
+use std::alloc::{AllocError, Global};
+
+/// Returns the text of the broken rule `rule`, with `founds`, which explain what breaks it.
+fn text_of_rule(
+    alloc: Global,
+    asked: PolicyQuestion<'_, '_, '_, '_>,
+    workspace: &Workspace<'_>,
+    words: &PlanWords<'_, '_, HeldSpecs<'_>>,
+    rule: Rule<'_>,
+    founds: &[Option<Vec<WhyStep<'_>>>],
+) -> Result<Vec<u8>, AllocError>
+    ensures { IfOk result (λ text. text.items ≡ spec.rule_text (question_text asked.entry) (workspace_text workspace.now).packages (words_text holds_on words.now) (rule_text rule.entry) (map found_text founds.now)) }
+{
+    match asked.format {
+        Format::Text => rule_lines(alloc, asked.file, workspace, words, rule, founds),
+        Format::Json => rule_object(alloc, workspace, words, rule, founds),
+    }
+}
+
+/// Returns the text of `verdict`, which is one about `planned`.
+fn text_of_verdict(
+    alloc: Global,
+    asked: PolicyQuestion<'_, '_, '_, '_>,
+    workspace: &Workspace<'_>,
+    selected: &[usize],
+    planned: Planned<'_, '_, '_, '_, '_>,
+    verdict: &Verdict<'_>,
+) -> Result<Vec<u8>, AllocError>
+    requires { IsScene (scene_by (workspace_text workspace.now) selected.now (question_text asked) planned) }
+    ensures { IfOk result (λ text. IsBrokenText (question_text asked.entry) (broken_in (scene_by (workspace_text workspace.now) selected.now (question_text asked.entry) planned.entry) (verdict_text verdict.now)) text.items) }
+{
+    let founds = why_each(
+        alloc,
+        workspace,
+        planned.words,
+        planned.plan,
+        &verdict.spots,
+    )?;
+    text_of_rule(
+        alloc,
+        asked,
+        workspace,
+        planned.words,
+        verdict.rule,
+        &founds,
+    )
+}
+
+/// Appends the text of `verdict`, which is one about `planned`.
+fn push_verdict(
+    alloc: Global,
+    asked: PolicyQuestion<'_, '_, '_, '_>,
+    workspace: &Workspace<'_>,
+    selected: &[usize],
+    planned: Planned<'_, '_, '_, '_, '_>,
+    verdict: &Verdict<'_>,
+    text: &mut Vec<u8>,
+) -> Result<(), AllocError>
+    requires { IsScene (scene_by (workspace_text workspace.now) selected.now (question_text asked) planned) }
+    ensures { OnOk result (Grows (IsBrokenText (question_text asked.entry) (broken_in (scene_by (workspace_text workspace.now) selected.now (question_text asked.entry) planned.entry) (verdict_text verdict.now))) text.old.items text.new.items) }
+{
+    let one = text_of_verdict(alloc, asked, workspace, selected, planned, verdict)?;
+    text.extend_from_slice(&one)
+}
+
+/// Returns the texts of `verdicts`, which are those about `planned`, one after the other. The build selects the packages `selected`.
+pub(crate) fn text_of_verdicts(
+    alloc: Global,
+    asked: PolicyQuestion<'_, '_, '_, '_>,
+    workspace: &Workspace<'_>,
+    selected: &[usize],
+    planned: Planned<'_, '_, '_, '_, '_>,
+    verdicts: &[Verdict<'_>],
+) -> Result<Vec<u8>, AllocError>
+    requires { IsScene (scene_by (workspace_text workspace.now) selected.now (question_text asked) planned) }
+    ensures { IfOk result (λ text. ArePrinted (question_text asked.entry) (map (broken_in (scene_by (workspace_text workspace.now) selected.now (question_text asked.entry) planned.entry)) (map verdict_text verdicts.now)) text.items) }
+{
+    let mut text = Vec::new(alloc);
+    for verdict in verdicts {
+        push_verdict(
+            alloc, asked, workspace, selected, planned, verdict, &mut text,
+        )?;
+    }
+    Ok(text)
+}

@@ -1,0 +1,14 @@
+//! The answers to `check`: the rules of a policy that a build breaks, or that some choice breaks, each with what breaks it and why that is on.
+#![tactic(auto)]
+
+mod answers;
+mod broken;
+mod lines;
+mod objects;
+mod planned;
+mod question;
+mod rules;
+mod settings;
+
+pub use answers::policy_answer;
+pub use question::{PolicyQuestion, PolicyText};

@@ -1,0 +1,133 @@
+//! The rules of a policy, one after the other.
+ghost use Rattle.std.specs.Prelude.{◌≡◌, ◌++◌, ◌||◌, IfOk, IfErr, OnOk};
+ghost use Rattle.cargo_workspaces.specs.WorkspaceView.{workspace_text};
+ghost use Rattle.feats_files.specs.Messages.{Says};
+ghost use Rattle.policies.specs.Views.{rule_text};
+ghost use Rattle.policy_answers.specs.Broken as spec;
+ghost use Rattle.policy_answers.specs.QuestionViews.{printed_text, question_text};
+ghost use Rattle.policy_answers.specs.Scenes.{IsScene, judged, judged_in, judged_widely};
+ghost use Rattle.policy_answers.specs.inner.Grown.{AreScenes};
+ghost use Rattle.policy_answers.specs.inner.PlannedViews.{scene_by, scenes_by};
+
+use crate::broken::text_of_verdicts;
+use crate::planned::{Planned, denied_everywhere};
+use crate::question::{PolicyQuestion, PolicyText};
+use cargo_workspaces::Workspace;
+use feats_files::Fault;
+use policies::{Rule, RuleKind};
+use policy_checks::{Build, check};
+use policy_lines::check_refused;
+use std::alloc::{AllocError, Global};
+use std::slice;
+
+/// Returns what is printed of `rule`, which is judged in `planned`.
+fn printed_in(
+    alloc: Global,
+    asked: PolicyQuestion<'_, '_, '_, '_>,
+    workspace: &Workspace<'_>,
+    selected: &[usize],
+    planned: Planned<'_, '_, '_, '_, '_>,
+    rule: Rule<'_>,
+) -> Result<PolicyText, Fault>
+    requires { IsScene (scene_by (workspace_text workspace.now) selected.now (question_text asked) planned) }
+    ensures text { IfOk result (λ printed. spec.IsRuleText (question_text asked.entry) (judged_in (scene_by (workspace_text workspace.now) selected.now (question_text asked.entry) planned.entry) (rule_text rule.entry)) (printed_text printed)) }
+    ensures fault { IfErr result (λ fault. Says fault (spec.IsRuleRefusal (question_text asked.entry) (judged_in (scene_by (workspace_text workspace.now) selected.now (question_text asked.entry) planned.entry) (rule_text rule.entry)))) }
+{
+    let build = Build {
+        workspace,
+        selected,
+        plan: planned.plan,
+        split: planned.words.selection.split,
+        host: asked.host,
+        targets: asked.targets,
+    };
+    match check(alloc, build, slice::from_ref(&rule)) {
+        Ok(verdicts) => {
+            let is_broken = !verdicts.is_empty();
+            let text = text_of_verdicts(alloc, asked, workspace, selected, planned, &verdicts)?;
+            Ok(PolicyText { text, is_broken })
+        }
+        Err(fault) => Err(check_refused(alloc, build, asked.file, fault)),
+    }
+}
+
+/// Returns what is printed of `rule` for every choice: a `deny` is judged in `widest` and for all platforms, another rule in `here`.
+fn printed_widely(
+    alloc: Global,
+    asked: PolicyQuestion<'_, '_, '_, '_>,
+    workspace: &Workspace<'_>,
+    selected: &[usize],
+    here: Planned<'_, '_, '_, '_, '_>,
+    widest: Planned<'_, '_, '_, '_, '_>,
+    rule: Rule<'_>,
+) -> Result<PolicyText, Fault>
+    requires here { IsScene (scene_by (workspace_text workspace.now) selected.now (question_text asked) here) }
+    requires widest { IsScene (scene_by (workspace_text workspace.now) selected.now (question_text asked) widest) }
+    ensures text { IfOk result (λ printed. spec.IsRuleText (question_text asked.entry) (judged_widely (scene_by (workspace_text workspace.now) selected.now (question_text asked.entry) here.entry) (scene_by (workspace_text workspace.now) selected.now (question_text asked.entry) widest.entry) (rule_text rule.entry)) (printed_text printed)) }
+    ensures fault { IfErr result (λ fault. Says fault (spec.IsRuleRefusal (question_text asked.entry) (judged_widely (scene_by (workspace_text workspace.now) selected.now (question_text asked.entry) here.entry) (scene_by (workspace_text workspace.now) selected.now (question_text asked.entry) widest.entry) (rule_text rule.entry)))) }
+{
+    match rule.kind {
+        RuleKind::Deny { feature, on: _ } => {
+            let everywhere = denied_everywhere(rule, feature);
+            printed_in(alloc, asked, workspace, selected, widest, everywhere)
+        }
+        RuleKind::Require { feature: _ } | RuleKind::DenyDuplicates { spec: _ } => {
+            printed_in(alloc, asked, workspace, selected, here, rule)
+        }
+    }
+}
+
+/// Returns what is printed of `rule`. If `widest` is given, it is judged for every choice.
+fn printed_of(
+    alloc: Global,
+    asked: PolicyQuestion<'_, '_, '_, '_>,
+    workspace: &Workspace<'_>,
+    selected: &[usize],
+    here: Planned<'_, '_, '_, '_, '_>,
+    widest: Option<Planned<'_, '_, '_, '_, '_>>,
+    rule: Rule<'_>,
+) -> Result<PolicyText, Fault>
+    requires { AreScenes (scenes_by (workspace_text workspace.now) selected.now (question_text asked) here widest) }
+    ensures text { IfOk result (λ printed. spec.IsRuleText (question_text asked.entry) (judged (scenes_by (workspace_text workspace.now) selected.now (question_text asked.entry) here.entry widest.entry) (rule_text rule.entry)) (printed_text printed)) }
+    ensures fault { IfErr result (λ fault. Says fault (spec.IsRuleRefusal (question_text asked.entry) (judged (scenes_by (workspace_text workspace.now) selected.now (question_text asked.entry) here.entry widest.entry) (rule_text rule.entry)))) }
+{
+    match widest {
+        Some(widest) => printed_widely(alloc, asked, workspace, selected, here, widest, rule),
+        None => printed_in(alloc, asked, workspace, selected, here, rule),
+    }
+}
+
+/// Appends `one` to `printed`.
+fn append(printed: &mut PolicyText, one: &PolicyText) -> Result<(), AllocError>
+    ensures text { OnOk result (printed.new.text.items ≡ printed.old.text.items ++ one.now.text.items) }
+    ensures is_broken { OnOk result (printed.new.is_broken ≡ (printed.old.is_broken || one.now.is_broken)) }
+{
+    printed.text.extend_from_slice(&one.text)?;
+    printed.is_broken = printed.is_broken || one.is_broken;
+    Ok(())
+}
+
+/// Returns what is printed of the rules of the policy. The build selects the packages `selected`, and `here` is its plan. If `widest` is
+/// given, the rules are judged for every choice.
+pub(crate) fn printed_rules(
+    alloc: Global,
+    asked: PolicyQuestion<'_, '_, '_, '_>,
+    workspace: &Workspace<'_>,
+    selected: &[usize],
+    here: Planned<'_, '_, '_, '_, '_>,
+    widest: Option<Planned<'_, '_, '_, '_, '_>>,
+) -> Result<PolicyText, Fault>
+    requires { AreScenes (scenes_by (workspace_text workspace.now) selected.now (question_text asked) here widest) }
+    ensures text { IfOk result (λ printed. spec.IsPolicyText (question_text asked.entry) (scenes_by (workspace_text workspace.now) selected.now (question_text asked.entry) here.entry widest.entry) (printed_text printed)) }
+    ensures fault { IfErr result (λ fault. Says fault (spec.IsRulesRefusal (question_text asked.entry) (scenes_by (workspace_text workspace.now) selected.now (question_text asked.entry) here.entry widest.entry))) }
+{
+    let mut printed = PolicyText {
+        text: Vec::new(alloc),
+        is_broken: false,
+    };
+    for rule in asked.rules {
+        let one = printed_of(alloc, asked, workspace, selected, here, widest, *rule)?;
+        append(&mut printed, &one)?;
+    }
+    Ok(printed)
+}
