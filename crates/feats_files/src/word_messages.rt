@@ -41,6 +41,14 @@ pub fn words_refused(alloc: Global, fault: WordsFault<'_>) -> Fault
             alloc,
             &["`", word, "` isn't a depth: write a decimal number"],
         ),
+        WordsFault::Edges(word) => refused(
+            alloc,
+            &[
+                "`",
+                word,
+                "` isn't a kind of edges: write packages or features",
+            ],
+        ),
         WordsFault::Memory => Fault::Memory,
     }
 }

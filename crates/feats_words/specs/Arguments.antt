@@ -7,12 +7,14 @@ use Rattle.manifest_resolvers.specs.declared.resolver.Resolver.{Resolver}
 use Rattle.manifest_resolvers.specs.declared.resolver.Resolver.TheVariants.{V2}
 use Rattle.manifest_resolvers.specs.Resolvers.{resolver_named}
 use Rattle.feats_words.specs.Depths.{depth}
+use Rattle.feats_words.specs.Edges.{edges}
 use Rattle.feats_words.specs.FeatureWords.{words_in}
 use Rattle.feats_words.specs.PlatformWords.{PlatformText, platform_word}
 use Rattle.feats_words.specs.Refusals.{Refusal, bad_platform, bad_resolver, two_resolvers, bad_format, each, ◌>>=◌}
 use Rattle.feats_words.specs.Requests.{QuestionText, RequestText}
 use Rattle.feats_words.specs.declared.command_arguments.Format.{Format}
 use Rattle.feats_words.specs.declared.command_arguments.Format.TheVariants.{Text as text_format, Json as json_format}
+use Rattle.feats_words.specs.declared.edges.Edges.{Edges}
 
 -- Where the version of the resolver comes from: it is given, or a root manifest chooses it.
 pub data SourceText : Type 0 where
@@ -22,6 +24,7 @@ pub data SourceText : Type 0 where
 pub record ArgumentsText : Type 0 where
   pub question : QuestionText
   pub metadata : Text
+  pub new : Option Text
   pub host : PlatformText
   pub targets : List PlatformText
   pub resolver : SourceText
@@ -33,6 +36,7 @@ pub record ArgumentsText : Type 0 where
   pub tests : Bool
   pub format : Format
   pub depth : Option ℕ
+  pub edges : Edges
 
 abbrev pub platform : Text → Result PlatformText Refusal
 platform word = ok_or (platform_word word) (bad_platform word)
@@ -69,9 +73,11 @@ arguments r =
     resolver_source r.resolver r.manifest >>= λ resolver.
     format r.format >>= λ form.
     depth r.depth >>= λ limit.
+    edges r.edges >>= λ nodes.
     Ok (record {
       question = r.question;
       metadata = r.metadata;
+      new = r.new;
       host = host;
       targets = targets;
       resolver = resolver;
@@ -83,4 +89,5 @@ arguments r =
       tests = r.tests;
       format = form;
       depth = limit;
+      edges = nodes;
     })

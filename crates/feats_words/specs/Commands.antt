@@ -25,11 +25,14 @@ flag_rule name = record (new_rule name) { long = Some name; action = Some SetTru
 abbrev pub word_rule : Text → Rule
 word_rule name = record (new_rule name) { action = Some Set; value_names = 1; required = true }
 
--- The options that name the files.
-abbrev pub file_rules : List Rule
-file_rules =
-    required_rule (codes "metadata") ∷ required_rule (codes "host") ∷ repeated_rule (codes "target")
-    ∷ option_rule (codes "resolver") ∷ option_rule (codes "manifest") ∷ []
+-- The option that names the document.
+abbrev pub document_rule : Rule
+document_rule = required_rule (codes "metadata")
+
+-- The options that name the files of the platforms and the resolver.
+abbrev pub platform_rules : List Rule
+platform_rules =
+    required_rule (codes "host") ∷ repeated_rule (codes "target") ∷ option_rule (codes "resolver") ∷ option_rule (codes "manifest") ∷ []
 
 -- The options that select packages and features.
 abbrev pub selection_rules : List Rule
@@ -38,9 +41,9 @@ selection_rules =
     ∷ lettered_rule (codes "features") 70 ∷ flag_rule (codes "all-features") ∷ flag_rule (codes "no-default-features")
     ∷ flag_rule (codes "tests") ∷ option_rule (codes "format") ∷ []
 
--- A command with such words, and with the options of all commands.
+-- A command about a document, with words of its own.
 abbrev pub command_shape : Text → List Rule → Shape
-command_shape name words = record (new_shape name) { rules = words ++ (file_rules ++ selection_rules) }
+command_shape name words = record (new_shape name) { rules = words ++ (document_rule ∷ (platform_rules ++ selection_rules)) }
 
 abbrev pub plan_shape : Shape
 plan_shape = command_shape (codes "plan") []
@@ -58,22 +61,38 @@ abbrev pub list_shape : Shape
 list_shape = command_shape (codes "list") (word_rule (codes "spec") ∷ [])
 
 abbrev pub duplicates_shape : Shape
-duplicates_shape = command_shape (codes "duplicates") []
+duplicates_shape = command_shape (codes "duplicates") (flag_rule (codes "alone") ∷ [])
 
 -- An option with a letter, which is given at most once.
 abbrev pub short_rule : Text → ℕ → Rule
 short_rule name letter = record (option_rule name) { short = Some letter }
 
+-- The option that says what the nodes of a tree or a graph are.
+abbrev pub edges_rule : Rule
+edges_rule = short_rule (codes "edges") 101
+
 abbrev pub tree_shape : Shape
-tree_shape = command_shape (codes "tree") (short_rule (codes "invert") 105 ∷ option_rule (codes "depth") ∷ [])
+tree_shape = command_shape (codes "tree") (short_rule (codes "invert") 105 ∷ option_rule (codes "depth") ∷ edges_rule ∷ [])
 
 abbrev pub dot_shape : Shape
-dot_shape = command_shape (codes "dot") []
+dot_shape = command_shape (codes "dot") (edges_rule ∷ [])
+
+abbrev pub check_shape : Shape
+check_shape = command_shape (codes "check") (word_rule (codes "policy") ∷ flag_rule (codes "every-choice") ∷ [])
+
+-- The command about two documents, which are words.
+abbrev pub diff_shape : Shape
+diff_shape = record (new_shape (codes "diff")) { rules = (word_rule (codes "old") ∷ word_rule (codes "new") ∷ []) ++ (platform_rules ++ selection_rules) }
 
 -- The program without its commands, of which one must be given.
 abbrev pub bare_app : App
 bare_app = record (new_app (codes "feats")) { top = record (new_shape (codes "feats")) { subcommand_required = true } }
 
+abbrev pub with_all : App → List Shape → App
+with_all app [] = app
+with_all app (shape ∷ shapes) = with_all (with_subcommand app shape) shapes
+
 abbrev pub feats_app : App
 feats_app =
-    with_subcommand (with_subcommand (with_subcommand (with_subcommand (with_subcommand (with_subcommand (with_subcommand (with_subcommand bare_app plan_shape) why_shape) why_not_shape) specs_shape) list_shape) duplicates_shape) tree_shape) dot_shape
+    with_all bare_app
+    (plan_shape ∷ why_shape ∷ why_not_shape ∷ specs_shape ∷ list_shape ∷ duplicates_shape ∷ tree_shape ∷ dot_shape ∷ check_shape ∷ diff_shape ∷ [])

@@ -1,5 +1,6 @@
 pub mod Arguments
 pub mod Depths
+pub mod Edges
 pub mod Refusals
 pub mod Commands
 pub mod Requests

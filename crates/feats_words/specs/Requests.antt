@@ -9,21 +9,24 @@ use Rattle.feats_words.specs.Commands.{feats_app}
 abbrev pub texts : List (Bor Text) → List Text
 texts = map (λ t. t.now)
 
--- The question that a command asks about a build. `why` also says whether every direct reason is wanted.
+-- The question that a command asks about a build. `why` also says whether every direct reason is wanted, `duplicates` whether the selected
+-- members are planned alone too, and `check`, whose word is the policy's file, whether it asks about every choice.
 pub data QuestionText : Type 0 where
   plan : QuestionText
   why : Text → Bool → QuestionText
   why_not : Text → QuestionText
   specs : QuestionText
   list : Text → QuestionText
-  duplicates : QuestionText
+  duplicates : Bool → QuestionText
   tree : Option Text → QuestionText
   dot : QuestionText
+  check : Text → Bool → QuestionText
 
 -- What a command line asks for.
 pub record RequestText : Type 0 where
   pub question : QuestionText
   pub metadata : Text
+  pub new : Option Text
   pub host : Text
   pub targets : List Text
   pub resolver : Option Text
@@ -36,6 +39,7 @@ pub record RequestText : Type 0 where
   pub tests : Bool
   pub format : Option Text
   pub depth : Option Text
+  pub edges : Option Text
 
 -- The value of an option; of an option or a word that is required; the values of an option that may be given several times.
 abbrev pub value : Text → List Row → Option Text
@@ -47,11 +51,15 @@ required_value name rows = unwrap_or (first_of name rows) []
 abbrev pub values : Text → List Row → List Text
 values name rows = unwrap_or (all_of name rows) []
 
+-- The document: the value of --metadata, or the first word of `diff`.
+abbrev pub document : List Row → Text
+document rows = unwrap_or (value (codes "metadata") rows) (required_value (codes "old") rows)
+
 -- Whether an option without a value is given.
 abbrev pub is_given : Text → List Row → Bool
 is_given name rows = option_map_or (λ value. bytes_eq value (codes "true")) (first_of name rows) false
 
--- The question of the command with a name, by the rows of its words.
+-- The question of the command with a name, by the rows of its words. `diff` compares what is built.
 abbrev pub question_of : Text → List Row → Option QuestionText
 question_of name rows =
     if bytes_eq name (codes "plan") then Some plan
@@ -59,15 +67,18 @@ question_of name rows =
     else (if bytes_eq name (codes "why-not") then Some (why_not (required_value (codes "feature") rows))
     else (if bytes_eq name (codes "specs") then Some specs
     else (if bytes_eq name (codes "list") then Some (list (required_value (codes "spec") rows))
-    else (if bytes_eq name (codes "duplicates") then Some duplicates
+    else (if bytes_eq name (codes "duplicates") then Some (duplicates (is_given (codes "alone") rows))
     else (if bytes_eq name (codes "tree") then Some (tree (value (codes "invert") rows))
     else (if bytes_eq name (codes "dot") then Some dot
-    else None)))))))
+    else (if bytes_eq name (codes "check") then Some (check (required_value (codes "policy") rows) (is_given (codes "every-choice") rows))
+    else (if bytes_eq name (codes "diff") then Some plan
+    else None)))))))))
 
 abbrev pub asked : QuestionText → List Row → RequestText
 asked question rows = record {
   question = question;
-  metadata = required_value (codes "metadata") rows;
+  metadata = document rows;
+  new = value (codes "new") rows;
   host = required_value (codes "host") rows;
   targets = values (codes "target") rows;
   resolver = value (codes "resolver") rows;
@@ -80,6 +91,7 @@ asked question rows = record {
   tests = is_given (codes "tests") rows;
   format = value (codes "format") rows;
   depth = value (codes "depth") rows;
+  edges = value (codes "edges") rows;
 }
 
 -- What the command of a name is asked for by its words and options.

@@ -1,6 +1,6 @@
 -- The values that Rust's types contain.
 use Rattle.std.specs.Prelude.{map, option_map}
-use Rattle.feats_words.specs.Requests.{QuestionText, RequestText, dot, duplicates, list, plan, specs, texts, tree, why, why_not}
+use Rattle.feats_words.specs.Requests.{QuestionText, RequestText, check, dot, duplicates, list, plan, specs, texts, tree, why, why_not}
 use Rattle.feats_words.specs.Arguments.{ArgumentsText, SourceText, version_given, manifest_at}
 use Rattle.feats_words.specs.PlatformWords.{PlatformText}
 use Rattle.feats_words.specs.declared.command_arguments.CommandArguments.{CommandArguments}
@@ -24,14 +24,16 @@ question_text (question.Why feature all) = why feature.now all
 question_text (question.WhyNot word) = why_not word.now
 question_text question.Specs = specs
 question_text (question.List word) = list word.now
-question_text question.Duplicates = duplicates
+question_text (question.Duplicates alone) = duplicates alone
 question_text (question.Tree invert) = tree (option_map (λ t. t.now) invert)
 question_text question.Dot = dot
+question_text (question.Check policy every_choice) = check policy.now every_choice
 
 abbrev pub arguments_text : CommandArguments → ArgumentsText
 arguments_text a = record {
   question = question_text a.question;
   metadata = a.metadata.now;
+  new = option_map (λ t. t.now) a.new;
   host = platform_text a.host;
   targets = map platform_text a.targets.items;
   resolver = source_text a.resolver;
@@ -43,12 +45,14 @@ arguments_text a = record {
   tests = a.tests;
   format = a.format;
   depth = a.depth;
+  edges = a.edges;
 }
 
 abbrev pub request_text : Request → RequestText
 request_text r = record {
   question = question_text r.question;
   metadata = r.metadata.now;
+  new = option_map (λ t. t.now) r.new;
   host = r.host.now;
   targets = texts r.targets.items;
   resolver = option_map (λ t. t.now) r.resolver;
@@ -61,4 +65,5 @@ request_text r = record {
   tests = r.tests;
   format = option_map (λ t. t.now) r.format;
   depth = option_map (λ t. t.now) r.depth;
+  edges = option_map (λ t. t.now) r.edges;
 }

@@ -5,57 +5,12 @@ ghost use Rattle.clap.specs.declared.builder.command.Command.TheViews.{out-Comma
 ghost use Rattle.feats_words.specs.Commands as spec;
 ghost use Rattle.feats_words.specs.inner.Building.{AddsRules, IsSubcommand};
 
+use crate::examples::{
+    CHECK_EXAMPLE, DIFF_EXAMPLE, DOT_EXAMPLE, DUPLICATES_EXAMPLE, FEATURE_HELP, LIST_EXAMPLE,
+    PLAN_EXAMPLE, SPECS_EXAMPLE, TREE_EXAMPLE, WHY_EXAMPLE, WHY_NOT_EXAMPLE,
+};
 use clap::{Arg, ArgAction, Command};
 use std::alloc::{AllocError, Global};
-
-const PLAN_EXAMPLE: &str = "\
-Example:
-  cargo metadata --format-version 1 --all-features >metadata.json
-  rustc --print cfg >host.cfg
-  feats plan --metadata metadata.json --host x86_64-unknown-linux-gnu=host.cfg -p server -F tls
-";
-
-const WHY_EXAMPLE: &str = "\
-Example, with the files of `feats plan --help`:
-  feats why --metadata metadata.json --host x86_64-unknown-linux-gnu=host.cfg -p server libc/extra_traits
-The same with every direct reason of each step:
-  feats why --all --metadata metadata.json --host x86_64-unknown-linux-gnu=host.cfg -p server libc/extra_traits
-";
-
-const WHY_NOT_EXAMPLE: &str = "\
-Example, with the files of `feats plan --help`:
-  feats why-not --metadata metadata.json --host x86_64-unknown-linux-gnu=host.cfg -p server libc/extra_traits
-";
-
-const SPECS_EXAMPLE: &str = "\
-Example, with the files of `feats plan --help`:
-  feats specs --metadata metadata.json --host x86_64-unknown-linux-gnu=host.cfg
-";
-
-const LIST_EXAMPLE: &str = "\
-Example, with the files of `feats plan --help`:
-  feats list --metadata metadata.json --host x86_64-unknown-linux-gnu=host.cfg -p server libc
-";
-
-const DUPLICATES_EXAMPLE: &str = "\
-Example, with the files of `feats plan --help`:
-  feats duplicates --metadata metadata.json --host x86_64-unknown-linux-gnu=host.cfg --workspace
-";
-
-const TREE_EXAMPLE: &str = "\
-Examples, with the files of `feats plan --help`:
-  feats tree --metadata metadata.json --host x86_64-unknown-linux-gnu=host.cfg -p server --depth 2
-  feats tree --metadata metadata.json --host x86_64-unknown-linux-gnu=host.cfg -p server --invert libc
-";
-
-const DOT_EXAMPLE: &str = "\
-Example, with the files of `feats plan --help`:
-  feats dot --metadata metadata.json --host x86_64-unknown-linux-gnu=host.cfg -p server | dot -Tsvg >server.svg
-";
-
-/// The help of the word FEATURE.
-const FEATURE_HELP: &str = "\
-SPEC/NAME, SPEC/dep:NAME, SPEC for the package itself, or a feature's name alone; `*` stands for any text in a name";
 
 /// Returns an option with a value, which is given at most once.
 fn option<'a>(alloc: Global, name: &'a str, value: &'a str, help: &'a str) -> Arg<'a>
@@ -130,18 +85,12 @@ fn word<'a>(alloc: Global, name: &'a str, value: &'a str, help: &'a str) -> Arg<
         .required(true)
 }
 
-/// Adds the options that name the files.
-fn with_files(alloc: Global, command: Command<'_>) -> Result<Command<'_>, AllocError>
+/// Adds the options that name the files of the platforms and the resolver.
+fn with_platforms(alloc: Global, command: Command<'_>) -> Result<Command<'_>, AllocError>
     requires { (out-Command command).has_globals ≡ false }
-    ensures { IfOk result (λ r. AddsRules command.entry r spec.file_rules) }
+    ensures { IfOk result (λ r. AddsRules command.entry r spec.platform_rules) }
 {
     command
-        .arg(required(
-            alloc,
-            "metadata",
-            "FILE",
-            "The output of `cargo metadata --format-version 1 --all-features`; `-` is standard input",
-        ))?
         .arg(required(
             alloc,
             "host",
@@ -208,12 +157,26 @@ fn with_selection(alloc: Global, command: Command<'_>) -> Result<Command<'_>, Al
         ))
 }
 
-/// Adds the options of all commands.
+/// Adds the options of commands without a document.
+fn with_common(alloc: Global, command: Command<'_>) -> Result<Command<'_>, AllocError>
+    requires { (out-Command command).has_globals ≡ false }
+    ensures { IfOk result (λ r. AddsRules command.entry r (spec.platform_rules ++ spec.selection_rules)) }
+{
+    with_selection(alloc, with_platforms(alloc, command)?)
+}
+
+/// Adds the options of a command about a document.
 fn with_options(alloc: Global, command: Command<'_>) -> Result<Command<'_>, AllocError>
     requires { (out-Command command).has_globals ≡ false }
-    ensures { IfOk result (λ r. AddsRules command.entry r (spec.file_rules ++ spec.selection_rules)) }
+    ensures { IfOk result (λ r. AddsRules command.entry r (spec.document_rule ∷ (spec.platform_rules ++ spec.selection_rules))) }
 {
-    with_selection(alloc, with_files(alloc, command)?)
+    let with_document = command.arg(required(
+        alloc,
+        "metadata",
+        "FILE",
+        "The output of `cargo metadata --format-version 1 --all-features`; `-` is standard input",
+    ))?;
+    with_common(alloc, with_document)
 }
 
 /// Returns a command without words of its own.
@@ -229,7 +192,7 @@ fn wordless<'a>(
     with_options(alloc, command)
 }
 
-/// Returns a command with one word.
+/// Returns a command with one word, or one option, of its own.
 fn worded<'a>(
     alloc: Global,
     name: &'a str,
@@ -319,11 +282,30 @@ fn list_command<'a>(alloc: Global) -> Result<Command<'a>, AllocError>
 fn duplicates_command<'a>(alloc: Global) -> Result<Command<'a>, AllocError>
     ensures { IfOk result (λ r. IsSubcommand r spec.duplicates_shape) }
 {
-    wordless(
+    worded(
         alloc,
         "duplicates",
         "Prints packages that are built in several versions or with different features",
         DUPLICATES_EXAMPLE,
+        flag(
+            alloc,
+            "alone",
+            "Print too where features differ if each selected member is built alone, and lines that join them",
+        ),
+    )
+}
+
+/// Returns the option that says what the nodes of a tree or a graph are.
+fn edges<'a>(alloc: Global) -> Arg<'a>
+    ensures rule { rule_of result ≡ spec.edges_rule }
+    ensures local { result.global ≡ false }
+{
+    short(
+        alloc,
+        "edges",
+        'e',
+        "KIND",
+        "`packages` (the default), or `features`: print what turns on what",
     )
 }
 
@@ -339,9 +321,10 @@ fn tree_command<'a>(alloc: Global) -> Result<Command<'a>, AllocError>
             "invert",
             'i',
             "SPEC",
-            "Print what depends on the package: NAME, NAME@VERSION or an id",
+            "Print what depends on the package: NAME, NAME@VERSION or an id; with `--edges features` what turns on the feature",
         ))?
-        .arg(option(alloc, "depth", "N", "Print nothing below this depth"))?;
+        .arg(option(alloc, "depth", "N", "Print nothing below this depth"))?
+        .arg(edges(alloc))?;
     with_options(alloc, command)
 }
 
@@ -349,12 +332,51 @@ fn tree_command<'a>(alloc: Global) -> Result<Command<'a>, AllocError>
 fn dot_command<'a>(alloc: Global) -> Result<Command<'a>, AllocError>
     ensures { IfOk result (λ r. IsSubcommand r spec.dot_shape) }
 {
-    wordless(
+    worded(
         alloc,
         "dot",
         "Prints what depends on what, as a graph for Graphviz",
         DOT_EXAMPLE,
+        edges(alloc),
     )
+}
+
+/// Returns the command `check`.
+fn check_command<'a>(alloc: Global) -> Result<Command<'a>, AllocError>
+    ensures { IfOk result (λ r. IsSubcommand r spec.check_shape) }
+{
+    let command = Command::new(alloc, "check")
+        .about("Prints the rules of a policy that a build breaks, and why")
+        .after_help(CHECK_EXAMPLE)
+        .arg(word(alloc, "policy", "POLICY", "The file with the rules"))?
+        .arg(flag(
+            alloc,
+            "every-choice",
+            "Check each `deny` for every choice of members, features of members, tests and platforms",
+        ))?;
+    with_options(alloc, command)
+}
+
+/// Returns the command `diff`.
+fn diff_command<'a>(alloc: Global) -> Result<Command<'a>, AllocError>
+    ensures { IfOk result (λ r. IsSubcommand r spec.diff_shape) }
+{
+    let command = Command::new(alloc, "diff")
+        .about("Prints the packages and features that differ between two builds")
+        .after_help(DIFF_EXAMPLE)
+        .arg(word(
+            alloc,
+            "old",
+            "OLD",
+            "The output of `cargo metadata --format-version 1 --all-features` before a change; `-` is standard input",
+        ))?
+        .arg(word(
+            alloc,
+            "new",
+            "NEW",
+            "That after the change; `-` is standard input",
+        ))?;
+    with_common(alloc, command)
 }
 
 /// Returns the program without its commands.
@@ -378,5 +400,7 @@ pub(crate) fn feats_command<'a>(alloc: Global) -> Result<Command<'a>, AllocError
         .subcommand(list_command(alloc)?)?
         .subcommand(duplicates_command(alloc)?)?
         .subcommand(tree_command(alloc)?)?
-        .subcommand(dot_command(alloc)?)
+        .subcommand(dot_command(alloc)?)?
+        .subcommand(check_command(alloc)?)?
+        .subcommand(diff_command(alloc)?)
 }

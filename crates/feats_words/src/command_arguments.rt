@@ -6,6 +6,7 @@ ghost use Rattle.feats_words.specs.Requests.{texts};
 ghost use Rattle.feats_words.specs.Views.{arguments_text, platform_text, request_text, source_text};
 
 use crate::depths::depth_of;
+use crate::edges::{Edges, edges_of};
 use crate::fault::WordsFault;
 use crate::platform_words::{PlatformWord, platform_word};
 use crate::request::{Question, Request};
@@ -34,6 +35,8 @@ pub struct CommandArguments<'a> {
     pub question: Question<'a>,
     /// The path of the document, or `-`.
     pub metadata: &'a str,
+    /// The path of the document with which `diff` compares it, or `-`.
+    pub new: Option<&'a str>,
     pub host: PlatformWord<'a>,
     pub targets: Vec<PlatformWord<'a>>,
     pub resolver: ResolverSource<'a>,
@@ -47,6 +50,8 @@ pub struct CommandArguments<'a> {
     pub format: Format,
     /// How deep a tree is; `None` is no limit.
     pub depth: Option<usize>,
+    /// What the nodes of a tree or a graph are.
+    pub edges: Edges,
 }
 
 /// Returns the platform of `word`, or `Platform` if it isn't `TRIPLE=CFGFILE`.
@@ -107,7 +112,7 @@ fn format_of(word: Option<&str>) -> Result<Format, WordsFault<'_>>
 }
 
 /// Returns the arguments of a request. The error is the first word that can't be read: of the host, of the targets, of the resolver, of
-/// the format, of the depth; or `Memory`.
+/// the format, of the depth, of the edges; or `Memory`.
 pub fn arguments<'a>(
     alloc: Global,
     request: Request<'a>,
@@ -119,10 +124,12 @@ pub fn arguments<'a>(
     let resolver = resolver_source(request.resolver, request.manifest)?;
     let format = format_of(request.format)?;
     let depth = depth_of(request.depth)?;
+    let edges = edges_of(request.edges)?;
     let features = feature_words(alloc, &request.features)?;
     Ok(CommandArguments {
         question: request.question,
         metadata: request.metadata,
+        new: request.new,
         host,
         targets,
         resolver,
@@ -134,5 +141,6 @@ pub fn arguments<'a>(
         tests: request.tests,
         format,
         depth,
+        edges,
     })
 }

@@ -16,6 +16,8 @@ pub enum WordsFault<'a> {
     Format(&'a str),
     /// The word isn't a decimal number.
     Depth(&'a str),
+    /// The word is neither `packages` nor `features`.
+    Edges(&'a str),
     /// An allocation failed.
     Memory,
 }

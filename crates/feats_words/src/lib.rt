@@ -4,12 +4,15 @@
 mod command;
 mod command_arguments;
 mod depths;
+mod edges;
+mod examples;
 mod fault;
 mod platform_words;
 mod request;
 mod splitting;
 
 pub use command_arguments::{CommandArguments, Format, ResolverSource, arguments};
+pub use edges::Edges;
 pub use fault::WordsFault;
 pub use platform_words::{PlatformWord, platform_word};
 pub use request::{Question, Request, parse};

@@ -23,12 +23,14 @@ pub enum Question<'a> {
     Specs,
     /// Which features does the package of this spec have?
     List(&'a str),
-    /// What is built several times?
-    Duplicates,
+    /// What is built several times? With `alone`, where do features differ if each selected member is built alone?
+    Duplicates { alone: bool },
     /// What depends on what? With `invert`, what depends on the part that this word names?
     Tree { invert: Option<&'a str> },
     /// What depends on what, as a graph?
     Dot,
+    /// Which rules of the policy in this file are broken? With `every_choice`, which `deny` does some choice break?
+    Check { policy: &'a str, every_choice: bool },
 }
 
 /// What a command line asks for.
@@ -37,6 +39,8 @@ pub struct Request<'a> {
     pub question: Question<'a>,
     /// The path of the document, or `-`.
     pub metadata: &'a str,
+    /// The path of the document with which `diff` compares it, or `-`.
+    pub new: Option<&'a str>,
     /// The word of the host, as `TRIPLE=CFGFILE`.
     pub host: &'a str,
     /// The words of the target platforms.
@@ -55,6 +59,8 @@ pub struct Request<'a> {
     pub format: Option<&'a str>,
     /// How deep a tree is.
     pub depth: Option<&'a str>,
+    /// What the nodes of a tree or a graph are.
+    pub edges: Option<&'a str>,
 }
 
 /// Returns the value of an option or a word that is required.
@@ -67,11 +73,21 @@ fn required_value<'a>(matches: &ArgMatches<'a>, name: &str) -> &'a str
     }
 }
 
-/// Returns the value of an option.
+/// Returns the value of an option or a word.
 fn value<'a>(matches: &ArgMatches<'a>, name: &str) -> Option<&'a str>
     ensures { option_map (λ s. s.now) result ≡ spec.value name.now (rows_of (found_of matches.now)) }
 {
     matches.get_str(name)
+}
+
+/// Returns the path of the document: the value of `--metadata`, or the first word of `diff`.
+fn document<'a>(matches: &ArgMatches<'a>) -> &'a str
+    ensures { result.now ≡ spec.document (rows_of (found_of matches.now)) }
+{
+    match value(matches, "metadata") {
+        Some(path) => path,
+        None => required_value(matches, "old"),
+    }
 }
 
 /// Returns a list of the texts of `given`.
@@ -107,7 +123,7 @@ fn is_given(matches: &ArgMatches<'_>, name: &str) -> bool
     }
 }
 
-/// Returns the question of the command with this name. None if there is no such command.
+/// Returns the question of the command with this name; `diff` compares what is built. None if there is no such command.
 fn question_of<'a>(name: &str, matches: &ArgMatches<'a>) -> Option<Question<'a>>
     ensures { option_map question_text result ≡ spec.question_of name.now (rows_of (found_of matches.now)) }
 {
@@ -120,11 +136,18 @@ fn question_of<'a>(name: &str, matches: &ArgMatches<'a>) -> Option<Question<'a>>
         "why-not" => Some(Question::WhyNot(required_value(matches, "feature"))),
         "specs" => Some(Question::Specs),
         "list" => Some(Question::List(required_value(matches, "spec"))),
-        "duplicates" => Some(Question::Duplicates),
+        "duplicates" => Some(Question::Duplicates {
+            alone: is_given(matches, "alone"),
+        }),
         "tree" => Some(Question::Tree {
             invert: value(matches, "invert"),
         }),
         "dot" => Some(Question::Dot),
+        "check" => Some(Question::Check {
+            policy: required_value(matches, "policy"),
+            every_choice: is_given(matches, "every-choice"),
+        }),
+        "diff" => Some(Question::Plan),
         _ => None,
     }
 }
@@ -139,7 +162,8 @@ fn asked<'a>(
 {
     Ok(Request {
         question,
-        metadata: required_value(matches, "metadata"),
+        metadata: document(matches),
+        new: value(matches, "new"),
         host: required_value(matches, "host"),
         targets: values(alloc, matches, "target")?,
         resolver: value(matches, "resolver"),
@@ -152,6 +176,7 @@ fn asked<'a>(
         tests: is_given(matches, "tests"),
         format: value(matches, "format"),
         depth: value(matches, "depth"),
+        edges: value(matches, "edges"),
     })
 }
 

@@ -1,5 +1,5 @@
 use Rattle.std.proofs.lemmas.Result.{IfOk-weaker}
-use Rattle.feats_words.specs.Commands.{bare_app, dot_shape, duplicates_shape, list_shape, plan_shape, specs_shape, tree_shape, why_not_shape, why_shape}
+use Rattle.feats_words.specs.Commands.{bare_app, check_shape, diff_shape, dot_shape, duplicates_shape, list_shape, plan_shape, specs_shape, tree_shape, why_not_shape, why_shape}
 use Rattle.feats_words.proofs.Building.{with_one}
 use Rattle.feats_words.proofs.command.feats_command.Goals as goal
 
@@ -12,4 +12,6 @@ returns c =
     let list = with_one _ _ _ _ list_shape specs c.in_ok-list_command.ensures c.in_ok-subcommand-5.ensures in
     let duplicates = with_one _ _ _ _ duplicates_shape list c.in_ok-duplicates_command.ensures c.in_ok-subcommand-6.ensures in
     let tree = with_one _ _ _ _ tree_shape duplicates c.in_ok-tree_command.ensures c.in_ok-subcommand-7.ensures in
-    IfOk-weaker c.subcommand-8.result _ _ (λ r h. with_one _ _ r _ dot_shape tree c.in_ok-dot_command.ensures h) c.subcommand-8.ensures
+    let dot = with_one _ _ _ _ dot_shape tree c.in_ok-dot_command.ensures c.in_ok-subcommand-8.ensures in
+    let check = with_one _ _ _ _ check_shape dot c.in_ok-check_command.ensures c.in_ok-subcommand-9.ensures in
+    IfOk-weaker c.subcommand-10.result _ _ (λ r h. with_one _ _ r _ diff_shape check c.in_ok-diff_command.ensures h) c.subcommand-10.ensures

@@ -1,0 +1,66 @@
+//! What the help of a command ends with, and the help of words of several commands.
+
+pub(crate) const PLAN_EXAMPLE: &str = "\
+Example:
+  cargo metadata --format-version 1 --all-features >metadata.json
+  rustc --print cfg >host.cfg
+  feats plan --metadata metadata.json --host x86_64-unknown-linux-gnu=host.cfg -p server -F tls
+";
+
+pub(crate) const WHY_EXAMPLE: &str = "\
+Example, with the files of `feats plan --help`:
+  feats why --metadata metadata.json --host x86_64-unknown-linux-gnu=host.cfg -p server libc/extra_traits
+The same with every direct reason of each step:
+  feats why --all --metadata metadata.json --host x86_64-unknown-linux-gnu=host.cfg -p server libc/extra_traits
+";
+
+pub(crate) const WHY_NOT_EXAMPLE: &str = "\
+Example, with the files of `feats plan --help`:
+  feats why-not --metadata metadata.json --host x86_64-unknown-linux-gnu=host.cfg -p server libc/extra_traits
+";
+
+pub(crate) const SPECS_EXAMPLE: &str = "\
+Example, with the files of `feats plan --help`:
+  feats specs --metadata metadata.json --host x86_64-unknown-linux-gnu=host.cfg
+";
+
+pub(crate) const LIST_EXAMPLE: &str = "\
+Example, with the files of `feats plan --help`:
+  feats list --metadata metadata.json --host x86_64-unknown-linux-gnu=host.cfg -p server libc
+";
+
+pub(crate) const DUPLICATES_EXAMPLE: &str = "\
+Examples, with the files of `feats plan --help`; the second plans each selected member alone too:
+  feats duplicates --metadata metadata.json --host x86_64-unknown-linux-gnu=host.cfg --workspace
+  feats duplicates --alone --metadata metadata.json --host x86_64-unknown-linux-gnu=host.cfg --workspace
+";
+
+pub(crate) const TREE_EXAMPLE: &str = "\
+Examples, with the files of `feats plan --help`:
+  feats tree --metadata metadata.json --host x86_64-unknown-linux-gnu=host.cfg -p server --depth 2
+  feats tree --metadata metadata.json --host x86_64-unknown-linux-gnu=host.cfg -p server --invert libc
+  feats tree --metadata metadata.json --host x86_64-unknown-linux-gnu=host.cfg -p server --edges features
+";
+
+pub(crate) const DOT_EXAMPLE: &str = "\
+Example, with the files of `feats plan --help`:
+  feats dot --metadata metadata.json --host x86_64-unknown-linux-gnu=host.cfg -p server | dot -Tsvg >server.svg
+";
+
+pub(crate) const CHECK_EXAMPLE: &str = "\
+A policy has a rule on each line: `deny FEATURE [on TRIPLE]`, `require FEATURE` or `deny-duplicates SPEC`, each perhaps with `# REASON`.
+Examples, with the files of `feats plan --help`; the second asks whether any choice of features of the members breaks a `deny`:
+  feats check --metadata metadata.json --host x86_64-unknown-linux-gnu=host.cfg -p server policy.txt
+  feats check --every-choice --metadata metadata.json --host x86_64-unknown-linux-gnu=host.cfg -p server policy.txt
+";
+
+pub(crate) const DIFF_EXAMPLE: &str = "\
+Example, with the files of `feats plan --help`, and two outputs of `cargo metadata`:
+  feats diff old.json new.json --host x86_64-unknown-linux-gnu=host.cfg -p server
+Two builds of one workspace, whose words follow `--`:
+  feats diff --metadata metadata.json --host x86_64-unknown-linux-gnu=host.cfg -- -p server -- -p server --all-features
+";
+
+/// The help of the word FEATURE.
+pub(crate) const FEATURE_HELP: &str = "\
+SPEC/NAME, SPEC/dep:NAME, SPEC for the package itself, or a feature's name alone; `*` stands for any text in a name";
