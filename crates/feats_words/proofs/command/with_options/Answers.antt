@@ -7,5 +7,5 @@ use Rattle.feats_words.proofs.command.with_options.Goals as goal
 pub returns : goal.returns
 returns c =
     let none = begun c.args.command c.requires in
-    let document = added _ _ _ _ _ document_rule none c.in_ok-arg.ensures c.required.ensures.rule c.required.ensures.local in
+    let document = added _ _ _ _ _ document_rule none c.in_ok-with_document.ensures c.required.ensures.rule c.required.ensures.local in
     IfOk-weaker c.with_common.result _ _ (λ r h. added_all c.args.command _ r (document_rule ∷ []) (platform_rules ++ selection_rules) document h) c.with_common.ensures
