@@ -63,11 +63,19 @@ give() {
   given+=(--data "$2=$room/$2")
 }
 
+# Writes the path of a policy into a file in the place of the name of its copy, which the program knows it by.
+restore_policy() {
+  local path
+  path=$(printf '%s' "$policy" | sed 's/[&|\\]/\\&/g')
+  sed -i "s|$policy_copy|$path|g" -- "$1"
+}
+
 # Runs a program by `rt try`, and exits. The arguments are its crate and its own arguments.
 try_unproved() {
   local name=$1 status=0 last
   shift
   (cd -- "$top/crates/$name" && exec rt try --seconds 1000000 "${given[@]}" -- "$@") </dev/null >"$room/output" 2>"$room/faults" || status=$?
+  if [ -n "${policy-}" ]; then restore_policy "$room/output" && restore_policy "$room/faults"; fi
   last=$(tail -n 1 -- "$room/faults")
   case $last in
     "run=ended status=$status "*) ;;
@@ -155,9 +163,44 @@ add_value() {
   fi
 }
 
-# Runs the program `feats`, some of whose options name files. The arguments are its own.
+# Appends to `words` the name of a copy of a document, or its own name if it can't be read.
+add_document() {
+  local copy=input${#words[@]}
+  if give "$1" "$copy"; then
+    words+=("$copy")
+  else
+    words+=("$1")
+  fi
+}
+
+# Appends to `words` a word that is no option. The arguments are the command and the word. Those of `diff` and `check` name files.
+add_word() {
+  case $1 in
+    diff) add_document "$2" ;;
+    check)
+      # Answers and faults name the policy, so its copy has a name that is in no other text.
+      if [ "$2" != - ] && give "$2" "$policy_copy"; then
+        policy=$2
+        words+=("$policy_copy")
+      else
+        words+=("$2")
+      fi
+      ;;
+    *) words+=("$2") ;;
+  esac
+}
+
+# Returns whether an option of `feats` that names no file has the next word as its value.
+takes_value() {
+  case $1 in
+    --resolver | --package | --features | --format | --invert | --depth | --edges | -p | -F | -i | -e) return 0 ;;
+    *) return 1 ;;
+  esac
+}
+
+# Runs the program `feats`. Some of its options and words name files. The arguments are its own.
 launch_feats() {
-  local words=()
+  local words=() command=${1-} policy= policy_copy=policy.$$.$RANDOM.$RANDOM
   # A pipe that is closed at its other end is no fault: then the status of cat is that of SIGPIPE, or cat says so where the signal is
   # ignored. There is an answer, perhaps a negative one.
   unwritten() {
@@ -171,6 +214,10 @@ launch_feats() {
     exit 2
   fi
   begin_try feats
+  if [ $# -gt 0 ]; then
+    words=("$command")
+    shift
+  fi
   while [ $# -gt 0 ]; do
     case $1 in
       --metadata | --manifest | --host | --target)
@@ -181,7 +228,14 @@ launch_feats() {
         fi
         ;;
       --metadata=* | --manifest=* | --host=* | --target=*) add_value "${1%%=*}" "${1%%=*}=" "${1#*=}" ;;
-      *) words+=("$1") ;;
+      -?*)
+        words+=("$1")
+        if takes_value "$1" && [ $# -gt 1 ]; then
+          words+=("$2")
+          shift
+        fi
+        ;;
+      *) add_word "$command" "$1" ;;
     esac
     shift
   done
