@@ -1,12 +1,15 @@
 #!/usr/bin/env python3
 """A reference model of what `feats duplicates` prints, in text and JSON. It is written to be read.
 
-    duplicates_model.py --metadata FILE|- --host TRIPLE=CFG-FILE [--target TRIPLE=CFG-FILE]... [--format json] SELECTION...
+    duplicates_model.py [--alone] --metadata FILE|- --host TRIPLE=CFG-FILE [--target TRIPLE=CFG-FILE]... [--format json] SELECTION...
 
 A line is about one package:
 
 versions    several packages of this one's name are built; by names, and then by ids.
 places      the package is built with different features in different places; one line for each place.
+
+With --alone there are more lines:
+
 alone       each selected member is planned alone, with the same words and with the member as the only `-p`. In these plans the package is
             built with different features for one place; one line for each member that builds it there.
 join        the features of such a package in all these plans together, and the line of a manifest that asks for them. Only packages of
@@ -98,8 +101,8 @@ def plans_alone(plan):
     return plans, refused
 
 
-def lines_of(plan):
-    plans, refused = plans_alone(plan)
+def lines_of(plan, is_alone=False):
+    plans, refused = plans_alone(plan) if is_alone else ({}, [])
     return [*version_lines(plan), *place_lines(plan), *alone_lines(plan.document, plans, places_of(plan.selection)),
             *(('refused', member, {'message': '...'}) for member in refused)]
 
@@ -130,7 +133,8 @@ def objects_text_of(plan, lines):
 
 
 def main():
-    argv = sys.argv[1:]
+    is_alone = sys.argv[1:2] == ['--alone']
+    argv = sys.argv[2:] if is_alone else sys.argv[1:]
     is_json = argv[-2:] == ['--format', 'json']
     words = plan_model.words_of(argv[:-2] if is_json else argv)
     with open(0 if words.metadata == '-' else words.metadata, encoding='utf-8') as it:
@@ -139,7 +143,7 @@ def main():
         plan = Plan(document, plan_model.selection_of(words))
     except Refused as refused:
         sys.exit(str(refused))
-    sys.stdout.write((objects_text_of if is_json else text_of)(plan, lines_of(plan)))
+    sys.stdout.write((objects_text_of if is_json else text_of)(plan, lines_of(plan, is_alone)))
     return 0
 
 

@@ -44,10 +44,19 @@ def platform_word(triple):
     return f'{triple}={TARGETS / triple}.cfg'
 
 
+def basis_of(case):
+    """The words of `feats` that name the platform of the host and the resolver."""
+    return ['--host', platform_word(HOST), '--resolver', case.resolver]
+
+
+def selection_of(case):
+    """The words of `feats` that name target platforms and select packages and features."""
+    return [platform_word(it) if before == '--target' else it for before, it in zip([None, *case.words], case.words)]
+
+
 def command_of(case):
     """The words of `feats` for a case whose document is on standard input."""
-    words = [platform_word(it) if before == '--target' else it for before, it in zip([None, *case.words], case.words)]
-    return ['plan', '--metadata', '-', '--host', platform_word(HOST), '--resolver', case.resolver, *words]
+    return ['plan', '--metadata', '-', *basis_of(case), *selection_of(case)]
 
 
 def cases_of(path):
