@@ -77,11 +77,12 @@ fn question_of<'q, 'n, 's>(
     requires { texts targets.now ≡ spec.target_triples (asked_text asked).arguments.host.triple (asked_text asked).targets }
     ensures { question_text result ≡ spec.policy_question (asked_text asked.entry) file.now (option_map (λ held. holds_on held.now) every.entry) }
 {
+    let arguments = asked.arguments;
     PolicyQuestion {
-        format: asked.arguments.format,
+        format: arguments.format,
         file,
         rules: asked.rules,
-        host: asked.arguments.host.triple,
+        host: arguments.host.triple,
         targets,
         every,
     }
@@ -107,13 +108,13 @@ fn answer_to_question<'w, 'n, 's>(
 }
 
 /// Returns the answer about the policy in `file`. For every choice, each platform spec holds on the platform `every`.
-fn answer_by<'w, 'n, 's>(
+fn answer_by<'q, 'w, 's>(
     alloc: Global,
-    asked: Asked<'_, '_, '_, '_>,
-    file: &str,
-    every: Option<&'n HeldSpecs<'s>>,
+    asked: Asked<'q, 'q, 'q, 'q>,
+    file: &'q str,
+    every: Option<&'q HeldSpecs<'s>>,
     workspace: &'w Workspace<'_>,
-    words: &PlanWords<'w, 'n, HeldSpecs<'s>>,
+    words: &PlanWords<'w, 'q, HeldSpecs<'s>>,
     plan: &Plan<'w>,
 ) -> Result<Answer, Fault>
     requires { IsPlanOf (workspace_text workspace.now) (words_text holds_on words.now) (plan_text plan.now) }
@@ -122,7 +123,8 @@ fn answer_by<'w, 'n, 's>(
     ensures fault { IfErr result (λ fault. Says fault (IsPolicyRefusal (workspace_text workspace.now) (words_text holds_on words.now) (plan_text plan.now)
         (spec.policy_question (asked_text asked.entry) file.now (option_map (λ held. holds_on held.now) every.entry)))) }
 {
-    let targets = target_triples(alloc, asked.arguments.host.triple, asked.targets)?;
+    let arguments = asked.arguments;
+    let targets = target_triples(alloc, arguments.host.triple, asked.targets)?;
     let question = question_of(asked, file, &targets, every);
     answer_to_question(alloc, question, workspace, words, plan)
 }
