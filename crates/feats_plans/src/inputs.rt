@@ -2,7 +2,7 @@
 ghost use Rattle.std.specs.Prelude.{◌≡◌, ℕ, List, true, false, IfOk, OnOk, IfErr, OnErr, IfSome};
 ghost use Rattle.std.specs.Io.KnownBytes.{Consumes, IsAtEnd};
 ghost use Rattle.feats_files.specs.Messages.{IsRefused, Says};
-ghost use Rattle.feats_tool.specs.Run.{unread_message};
+ghost use Rattle.feats_plans.specs.Inputs.{unread_message};
 
 use byte_devices::ByteInput;
 use feats_files::{Fault, PlatformFile, bytes_of};
@@ -17,6 +17,8 @@ pub struct PlanFiles<'f> {
     pub host: PlatformFile<'f>,
     /// The target platforms, in the order of the arguments.
     pub targets: Vec<PlatformFile<'f>>,
+    /// The policy; empty if no policy is named.
+    pub policy: Vec<u8>,
 }
 
 /// Returns the platform of `word`, with all bytes that are left of its file.

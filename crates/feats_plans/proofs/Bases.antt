@@ -4,8 +4,8 @@ use Rattle.cargo_workspaces.specs.Workspaces.{Text}
 use Rattle.platform_specs.specs.Expressions.{Target}
 use Rattle.manifest_resolvers.specs.declared.resolver.Resolver.{Resolver}
 use Rattle.feats_files.specs.Files.{FileText, IsCfgRefusal, IsFirstCfgRefusal, IsTargetOf, IsVersion, target_files}
-use Rattle.feats_tool.specs.Bases.{IsBasisRefusal, of_host, of_targets}
-use Rattle.feats_tool.specs.Inputs.{InputsText}
+use Rattle.feats_plans.specs.Bases.{IsBasisRefusal, of_host, of_targets}
+use Rattle.feats_plans.specs.Inputs.{InputsText}
 
 -- with the version and the bytes of the host's file, under other names
 module _ (inputs : InputsText) (version : Resolver) (manifest : Text) (are : manifest ≡ inputs.manifest) (chosen : IsVersion inputs.arguments.resolver manifest version) (bytes : Text) (same : bytes ≡ inputs.host.content) where

@@ -2,11 +2,11 @@ use Rattle.std.proofs.Common.{ap, map}
 use Rattle.std.proofs.lemmas.Result.{err_from_is_err_and}
 use Rattle.feats_files.specs.Files.{IsCfgRefusal, IsFirstCfgRefusal, target_files}
 use Rattle.feats_files.specs.FileViews.{file_text}
-use Rattle.feats_tool.specs.Bases.{IsBasisRefusal}
-use Rattle.feats_tool.specs.Inputs.{inputs_text}
-use Rattle.feats_tool.proofs.Bases.{host_refused, targets_refused}
-use Rattle.feats_tool.proofs.Says.{says_more}
-use Rattle.feats_tool.proofs.basis.basis_of.Goals as goal
+use Rattle.feats_plans.specs.Bases.{IsBasisRefusal}
+use Rattle.feats_plans.specs.Inputs.{inputs_text}
+use Rattle.feats_plans.proofs.Bases.{host_refused, targets_refused}
+use Rattle.feats_plans.proofs.Says.{says_more}
+use Rattle.feats_plans.proofs.basis.basis_of.Goals as goal
 
 pub returns-in_err-host-clause-fault : goal.returns-in_err-host-clause-fault
 returns-in_err-host-clause-fault c =

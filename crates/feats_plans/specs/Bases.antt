@@ -4,7 +4,7 @@ use Rattle.cargo_workspaces.specs.Workspaces.{Text}
 use Rattle.platform_specs.specs.Expressions.{Target}
 use Rattle.manifest_resolvers.specs.declared.resolver.Resolver.{Resolver}
 use Rattle.feats_files.specs.Files.{AreTargetsOf, IsCfgRefusal, IsFirstCfgRefusal, IsTargetOf, IsVersion, IsVersionRefusal, target_files}
-use Rattle.feats_tool.specs.Inputs.{InputsText}
+use Rattle.feats_plans.specs.Inputs.{InputsText}
 
 pub record BasisText : Type 0 where
   pub version : Resolver

@@ -1,9 +1,9 @@
 //! The version of the resolver and the platforms of a plan.
 ghost use Rattle.std.specs.Prelude.{IfOk, IfErr};
 ghost use Rattle.feats_files.specs.Messages.{Says};
-ghost use Rattle.feats_tool.specs.Bases.{IsBasis, IsBasisRefusal};
-ghost use Rattle.feats_tool.specs.BasisView.{basis_text};
-ghost use Rattle.feats_tool.specs.Inputs.{inputs_text};
+ghost use Rattle.feats_plans.specs.Bases.{IsBasis, IsBasisRefusal};
+ghost use Rattle.feats_plans.specs.BasisView.{basis_text};
+ghost use Rattle.feats_plans.specs.Inputs.{inputs_text};
 
 use crate::inputs::PlanFiles;
 use feats_files::{Fault, resolver, target, target_platforms};

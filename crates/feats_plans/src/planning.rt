@@ -1,4 +1,4 @@
-//! The answer about the plan of a workspace.
+//! The plan of a workspace, which is passed to a visitor.
 ghost use Rattle.std.specs.Prelude.{◌≡◌, IfOk, IfErr, map};
 ghost use Rattle.cargo_workspaces.specs.WorkspaceView.{workspace_text};
 ghost use Rattle.plan_platforms.specs.DeclaredSpecs.{declared_specs};
@@ -8,17 +8,16 @@ ghost use Rattle.plan_words.specs.Selections.{choice_text, selection_text};
 ghost use Rattle.cargo_plans.specs.WordsView.{words_text};
 ghost use Rattle.feats_words.specs.Views.{arguments_text};
 ghost use Rattle.feats_files.specs.Messages.{Says};
-ghost use Rattle.feats_answers.specs.AnswerViews.{answer_text};
-ghost use Rattle.feats_tool.specs.Answers.{IsPlannedAnswer, IsPlannedRefusal, IsWorkspaceAnswer, IsWorkspaceRefusal};
-ghost use Rattle.feats_tool.specs.BasisView.{basis_text};
-ghost use Rattle.feats_tool.specs.Inputs.{inputs_text};
-ghost use Rattle.feats_tool.specs.Selections as spec;
+ghost use Rattle.feats_plans.specs.BasisView.{basis_text};
+ghost use Rattle.feats_plans.specs.Inputs.{inputs_text};
+ghost use Rattle.feats_plans.specs.Planning.{AfterPlan, AfterPlatforms, IsPlanRefusal, IsPlatformRefusal};
+ghost use Rattle.feats_plans.specs.Selections as spec;
 
 use crate::basis::Basis;
 use crate::inputs::PlanFiles;
+use crate::planned::{PlanVisitor, Planned};
 use cargo_plans::{PackageChoice, PlanFault, PlanWords, Selection, plan};
 use cargo_workspaces::Workspace;
-use feats_answers::{Answer, answer_to};
 use feats_files::{Fault, held_on, held_on_each};
 use feats_words::CommandArguments;
 use manifest_resolvers::Resolver;
@@ -69,48 +68,52 @@ fn words_by<'s, 'n, 'h>(
     }
 }
 
-/// Returns the answer about the plan for `words`. `specs` are the platform specs of the workspace.
-fn planned_answer<'w, 'n, 's>(
+/// Returns the output of `visitor` for the plan of `words`. `specs` are the platform specs of the workspace.
+fn planned_output<'w, 'n, 's, V: PlanVisitor>(
     alloc: Global,
     arguments: &CommandArguments<'w>,
     files: &PlanFiles<'n>,
     workspace: &'w Workspace<'_>,
     specs: &[DeclaredSpec<'s>],
     words: &PlanWords<'w, 'n, HeldSpecs<'s>>,
-) -> Result<Answer, Fault>
+    visitor: &V,
+) -> Result<V::Output, Fault>
     requires { map declared_text specs.now ≡ declared_specs (workspace_text workspace.now).packages }
-    ensures answer { IfOk result (λ answer. IsPlannedAnswer (inputs_text arguments.now files.now) (workspace_text workspace.now) (words_text holds_on words.now) (answer_text answer)) }
-    ensures fault { IfErr result (λ fault. Says fault (IsPlannedRefusal (inputs_text arguments.now files.now) (workspace_text workspace.now) (words_text holds_on words.now))) }
+    ensures output { IfOk result (λ output. AfterPlan (inputs_text arguments.now files.now) (workspace_text workspace.now) (words_text holds_on words.now) (λ p. V.gives visitor.now p output)) }
+    ensures fault { IfErr result (λ fault. Says fault (IsPlanRefusal (inputs_text arguments.now files.now) (workspace_text workspace.now) (words_text holds_on words.now) (V.refuses visitor.now))) }
 {
     match plan(alloc, workspace, words) {
-        Ok(plan) => answer_to(
-            alloc,
-            arguments,
-            &files.targets,
-            workspace,
-            specs,
-            words,
-            &plan,
-        ),
+        Ok(plan) => {
+            let planned = Planned {
+                arguments,
+                files,
+                workspace,
+                specs,
+                words,
+                plan: &plan,
+            };
+            visitor.visit(alloc, &planned)
+        }
         Err(PlanFault::Memory) => Err(Fault::Memory),
         Err(fault) => Err(plan_refused(alloc, workspace, fault)),
     }
 }
 
-/// Returns the answer about `workspace`.
-pub(crate) fn workspace_answer<'w>(
+/// Returns the output of `visitor` for the plan of `workspace`.
+pub(crate) fn workspace_output<'w, V: PlanVisitor>(
     alloc: Global,
     arguments: &'w CommandArguments<'_>,
     files: &PlanFiles<'_>,
     basis: &Basis,
     workspace: &'w Workspace<'_>,
-) -> Result<Answer, Fault>
-    ensures answer { IfOk result (λ answer. IsWorkspaceAnswer (inputs_text arguments.now files.now) (basis_text basis.now) (workspace_text workspace.now) (answer_text answer)) }
-    ensures fault { IfErr result (λ fault. Says fault (IsWorkspaceRefusal (inputs_text arguments.now files.now) (basis_text basis.now) (workspace_text workspace.now))) }
+    visitor: &V,
+) -> Result<V::Output, Fault>
+    ensures output { IfOk result (λ output. AfterPlatforms (inputs_text arguments.now files.now) (basis_text basis.now) (workspace_text workspace.now) (λ p. V.gives visitor.now p output)) }
+    ensures fault { IfErr result (λ fault. Says fault (IsPlatformRefusal (inputs_text arguments.now files.now) (basis_text basis.now) (workspace_text workspace.now) (V.refuses visitor.now))) }
 {
     let specs = declared_specs(alloc, workspace)?;
     let host = held_on(alloc, workspace, &specs, &basis.host)?;
     let targets = held_on_each(alloc, workspace, &specs, &basis.targets)?;
     let words = words_by(arguments, basis.version, &host, &targets);
-    planned_answer(alloc, arguments, files, workspace, &specs, &words)
+    planned_output(alloc, arguments, files, workspace, &specs, &words, visitor)
 }

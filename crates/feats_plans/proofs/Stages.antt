@@ -1,4 +1,4 @@
--- What is answered about a plan as an answer about its workspace.
+-- What is known of a plan as what is known of its workspace.
 use Rattle.std.proofs.Common.{◌≡◌, List, Bool, subst, sym}
 use Rattle.cargo_workspaces.specs.Workspaces.{Text, WorkspaceText}
 use Rattle.cargo_plans.specs.Plans.{WordsText}
@@ -6,11 +6,11 @@ use Rattle.platform_specs.specs.Expressions.{Target}
 use Rattle.plan_platforms.specs.DeclaredSpecs.{DeclaredText, declared_specs}
 use Rattle.plan_platforms.specs.HeldSpecs.{AreHeld}
 use Rattle.feats_files.specs.Platforms.{AreHeldOnEach}
-use Rattle.feats_answers.specs.AnswerTexts.{AnswerText}
-use Rattle.feats_tool.specs.Answers.{AreHolding, IsPlannedAnswer, IsPlannedRefusal, IsWorkspaceAnswer, IsWorkspaceRefusal, of_plan}
-use Rattle.feats_tool.specs.Bases.{BasisText}
-use Rattle.feats_tool.specs.Inputs.{InputsText}
-use Rattle.feats_tool.specs.Selections.{words_of}
+use Rattle.feats_plans.specs.Bases.{BasisText}
+use Rattle.feats_plans.specs.Inputs.{InputsText}
+use Rattle.feats_plans.specs.Planned.{PlannedText}
+use Rattle.feats_plans.specs.Planning.{AfterPlan, AfterPlatforms, AreHolding, IsPlanRefusal, IsPlatformRefusal, of_words}
+use Rattle.feats_plans.specs.Selections.{words_of}
 
 -- the specs and the targets are known under other names
 module _ (inputs : InputsText) (basis : BasisText) (w : WorkspaceText) (host : Text → Bool) (targets : List (Text → Bool)) where
@@ -26,13 +26,17 @@ module _ (inputs : InputsText) (basis : BasisText) (w : WorkspaceText) (host : T
         on_targets = subst (λ ts. AreHeldOnEach basis.targets (declared_specs w.packages) ts) (sym named) by_specs;
       }
 
-  pub held_refused : (words : WordsText) → words ≡ words_of inputs.arguments basis.version host targets → AreHolding w basis host targets → (m : Text) → IsPlannedRefusal inputs w words m → IsWorkspaceRefusal inputs basis w m
-  held_refused words by holding m h = of_plan host targets holding (subst (λ (s : WordsText). IsPlannedRefusal inputs w s m) by h)
+  pub held_refused :
+      (R : PlannedText → Text → Type 0) (words : WordsText) → words ≡ words_of inputs.arguments basis.version host targets → AreHolding w basis host targets
+      → (m : Text) → IsPlanRefusal inputs w words R m → IsPlatformRefusal inputs basis w R m
+  held_refused R words by holding m h = of_words host targets holding (subst (λ (s : WordsText). IsPlanRefusal inputs w s R m) by h)
 
-  pub held_answered : (words : WordsText) → words ≡ words_of inputs.arguments basis.version host targets → AreHolding w basis host targets → (a : AnswerText) → IsPlannedAnswer inputs w words a → IsWorkspaceAnswer inputs basis w a
-  held_answered words by holding a h = record {
+  pub held_planned :
+      (Q : PlannedText → Type 0) (words : WordsText) → words ≡ words_of inputs.arguments basis.version host targets → AreHolding w basis host targets
+      → AfterPlan inputs w words Q → AfterPlatforms inputs basis w Q
+  held_planned Q words by holding h = record {
     host = host;
     targets = targets;
     are_holding = holding;
-    is_answer = subst (λ (s : WordsText). IsPlannedAnswer inputs w s a) by h;
+    holds = subst (λ (s : WordsText). AfterPlan inputs w s Q) by h;
   }
