@@ -15,6 +15,7 @@ use feats_plans::{PlanVisitor, Planned, visit_plan};
 use std::alloc::Global;
 
 /// The visitor of the new plan: it compares the build of `old` with the new one.
+#[derive(Clone, Copy)]
 struct NewVisitor<'o, 'p, 'n, 's, 'v, 'w> {
     old: &'o Planned<'p, 'n, 's, 'v, 'w>,
 }
@@ -36,6 +37,7 @@ impl PlanVisitor for NewVisitor<'_, '_, '_, '_, '_, '_> {
 }
 
 /// The visitor of the old plan: it makes the plan of `new`, and compares the builds.
+#[derive(Clone, Copy)]
 pub(crate) struct OldVisitor<'s, 'a, 'f> {
     pub(crate) new: Side<'s, 'a, 'f>,
 }

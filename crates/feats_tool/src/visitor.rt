@@ -42,6 +42,7 @@ fn planned_answer(
 }
 
 /// The visitor that answers the question of the arguments about a plan.
+#[derive(Clone, Copy)]
 pub(crate) struct AskedVisitor<'r, 'p> {
     /// The rules of the policy.
     pub(crate) rules: &'r [Rule<'p>],
