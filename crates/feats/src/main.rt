@@ -1,6 +1,6 @@
 //! The program `feats COMMAND`.
 //!
-//! Each command answers a question about one build: `plan`, `why`, `why-not`, `specs` and `list`. The answer, and the text of `--help`,
+//! Each command answers a question about one build, as `plan` and `why` do; `diff` compares two. The answer, and the text of `--help`,
 //! go to standard output; the exit status of a negative answer is 1. A fault is one line on standard error, or `clap`'s text about the
 //! words; the exit status is then 2. A pipe that is closed at its other end is no fault.
 #![tactic(auto)]
@@ -11,9 +11,12 @@ ghost use Rattle.byte_devices.specs.StdDevices.{read_failed};
 use byte_devices::{ByteInput, Failed, FromReader, write_all};
 use clap::Error;
 use clap::error::ErrorKind as MistakeKind;
+use feats_comparisons::{Side, compare};
 use feats_files::{Fault, PlatformFile, ToPipe, bytes_of, no_command, not_text, unopened};
 use feats_tool::{PlanFiles, command_arguments, platform_file, run};
-use feats_words::{CommandArguments, PlatformWord, Request, ResolverSource, parse};
+use feats_words::{
+    CommandArguments, PlatformWord, Question, Request, ResolverSource, compared_words, parse,
+};
 use std::alloc::{AllocError, Global};
 use std::fs::File;
 use std::io::ErrorKind;
@@ -30,14 +33,34 @@ fn opened(rt: &HostRuntime, path: &str) -> Result<FromReader<File>, Fault>
     }
 }
 
-/// Returns the bytes of the manifest from which the version of the resolver is read, if there is one.
+/// Returns the bytes of the file at `path`.
+fn file_bytes(rt: &HostRuntime, path: &str) -> Result<Vec<u8>, Fault> {
+    let mut reader = opened(rt, path)?;
+    bytes_of(rt.alloc(), &mut reader, path)
+}
+
+/// Returns the bytes of the document at `path`: those of standard input, if `path` is `-`.
+fn document_bytes(rt: &HostRuntime, path: &str) -> Result<Vec<u8>, Fault> {
+    if path == "-" {
+        let mut reader = FromReader::new(rt.stdin());
+        return bytes_of(rt.alloc(), &mut reader, path);
+    }
+    file_bytes(rt, path)
+}
+
+/// Returns the bytes of the manifest from which the version of the resolver is read; none, if there is no manifest.
 fn manifest(rt: &HostRuntime, source: ResolverSource<'_>) -> Result<Vec<u8>, Fault> {
     match source {
         ResolverSource::Version(_) => Ok(Vec::new(rt.alloc())),
-        ResolverSource::Manifest(path) => {
-            let mut reader = opened(rt, path)?;
-            bytes_of(rt.alloc(), &mut reader, path)
-        }
+        ResolverSource::Manifest(path) => file_bytes(rt, path),
+    }
+}
+
+/// Returns the bytes of the policy that `question` names; none, if it names no policy.
+fn policy(rt: &HostRuntime, question: Question<'_>) -> Result<Vec<u8>, Fault> {
+    match question {
+        Question::Check { policy, .. } => file_bytes(rt, policy),
+        _ => Ok(Vec::new(rt.alloc())),
     }
 }
 
@@ -67,10 +90,12 @@ fn plan_files<'f>(
     let manifest = manifest(rt, arguments.resolver)?;
     let host = platform(rt, arguments.host)?;
     let targets = platforms(rt, &arguments.targets)?;
+    let policy = policy(rt, arguments.question)?;
     Ok(PlanFiles {
         manifest,
         host,
         targets,
+        policy,
     })
 }
 
@@ -105,25 +130,120 @@ fn answer(
     write_answer(rt, arguments, files, &mut reader)
 }
 
-/// Answers a request. Returns whether the answer is negative.
-fn answer_request(rt: &HostRuntime, request: Request<'_>) -> Result<bool, Fault> {
-    let arguments = command_arguments(rt.alloc(), request)?;
-    let files = plan_files(rt, &arguments)?;
-    answer(rt, &arguments, &files)
-}
-
-/// Writes `text` to standard output.
-fn write_text(rt: &HostRuntime, text: &str) -> Result<(), Fault> {
+/// Writes `bytes` to standard output. Returns false if the pipe is closed at its other end, and else `outcome`.
+fn write_bytes(rt: &HostRuntime, bytes: &[u8], outcome: bool) -> Result<bool, Fault> {
     let mut writer = ToPipe::new(io::writer(rt));
-    match write_all(&mut writer, text.as_bytes()) {
-        Ok(()) => Ok(()),
+    match write_all(&mut writer, bytes) {
+        Ok(()) => Ok(outcome),
         Err(Failed) => {
             if writer.is_closed() {
-                Ok(())
+                Ok(false)
             } else {
                 Err(Fault::CannotWrite)
             }
         }
+    }
+}
+
+/// Writes what differs between the builds of two sides. Returns whether anything does.
+fn write_difference(
+    rt: &HostRuntime,
+    old: Side<'_, '_, '_>,
+    new: Side<'_, '_, '_>,
+) -> Result<bool, Fault> {
+    let answer = compare(rt.alloc(), old, new)?;
+    write_bytes(rt, &answer.text, answer.is_negative)
+}
+
+/// Compares `old` with the side of `arguments` and `files`, whose document is at `path`. Returns whether the builds differ.
+fn compare_with(
+    rt: &HostRuntime,
+    old: Side<'_, '_, '_>,
+    arguments: &CommandArguments<'_>,
+    files: &PlanFiles<'_>,
+    path: &str,
+) -> Result<bool, Fault> {
+    // Standard input can be read only once.
+    if path == old.arguments.metadata {
+        let document = old.document;
+        let new = Side {
+            arguments,
+            files,
+            document,
+        };
+        return write_difference(rt, old, new);
+    }
+    let document = document_bytes(rt, path)?;
+    let new = Side {
+        arguments,
+        files,
+        document: &document,
+    };
+    write_difference(rt, old, new)
+}
+
+/// Compares the builds of `arguments` by two documents: their own, and the one at `new`. Returns whether they differ.
+fn compare_documents(
+    rt: &HostRuntime,
+    arguments: &CommandArguments<'_>,
+    files: &PlanFiles<'_>,
+    new: &str,
+) -> Result<bool, Fault> {
+    let document = document_bytes(rt, arguments.metadata)?;
+    let old = Side {
+        arguments,
+        files,
+        document: &document,
+    };
+    compare_with(rt, old, arguments, files, new)
+}
+
+/// Compares the builds of `old` and `new`, with these files. Returns whether they differ.
+fn compare_sides(
+    rt: &HostRuntime,
+    old: &CommandArguments<'_>,
+    old_files: &PlanFiles<'_>,
+    new: &CommandArguments<'_>,
+    new_files: &PlanFiles<'_>,
+) -> Result<bool, Fault> {
+    let document = document_bytes(rt, old.metadata)?;
+    let side = Side {
+        arguments: old,
+        files: old_files,
+        document: &document,
+    };
+    compare_with(rt, side, new, new_files, new.metadata)
+}
+
+/// Compares the builds of `old` and `new`. Returns whether they differ.
+fn compare_arguments(
+    rt: &HostRuntime,
+    old: &CommandArguments<'_>,
+    new: &CommandArguments<'_>,
+) -> Result<bool, Fault> {
+    let old_files = plan_files(rt, old)?;
+    let new_files = plan_files(rt, new)?;
+    compare_sides(rt, old, &old_files, new, &new_files)
+}
+
+/// Compares the builds of two requests. Returns whether they differ.
+fn compare_requests(
+    rt: &HostRuntime,
+    old: Request<'_>,
+    new: Request<'_>,
+) -> Result<bool, Fault> {
+    let old = command_arguments(rt.alloc(), old)?;
+    let new = command_arguments(rt.alloc(), new)?;
+    compare_arguments(rt, &old, &new)
+}
+
+/// Answers a request. Returns whether the answer is negative.
+fn answer_request(rt: &HostRuntime, request: Request<'_>) -> Result<bool, Fault> {
+    let arguments = command_arguments(rt.alloc(), request)?;
+    let files = plan_files(rt, &arguments)?;
+    match arguments.new {
+        Some(new) => compare_documents(rt, &arguments, &files, new),
+        None => answer(rt, &arguments, &files),
     }
 }
 
@@ -135,8 +255,7 @@ fn text_of(alloc: Global, error: &Error) -> Result<String, AllocError> {
 /// Writes the text of `--help` to standard output. Returns false: no answer is negative.
 fn help(rt: &HostRuntime, error: &Error) -> Result<bool, Fault> {
     let text = text_of(rt.alloc(), error)?;
-    write_text(rt, text.as_str())?;
-    Ok(false)
+    write_bytes(rt, text.as_bytes(), false)
 }
 
 /// Returns the exit status of a run that ended so, where an answer may be negative, and says the fault.
@@ -164,12 +283,45 @@ fn unparsed(rt: &HostRuntime, error: &Error) -> ExitCode {
     ExitCode::from(2)
 }
 
+/// Returns what `words` ask for, the first of which is the program's name. If they are mistaken, says so, and returns the exit status.
+fn request_of<'a>(rt: &HostRuntime, words: &'a [&str]) -> Result<Request<'a>, ExitCode> {
+    match parse(rt.alloc(), words) {
+        Ok(Some(request)) => Ok(request),
+        Ok(None) => Err(ended(rt, Err(no_command(rt.alloc())))),
+        Err(error) => Err(unparsed(rt, &error)),
+    }
+}
+
+/// Answers a command line, and returns the exit status.
+fn answer_line(rt: &HostRuntime, words: &[&str]) -> ExitCode {
+    match request_of(rt, words) {
+        Ok(request) => ended(rt, answer_request(rt, request)),
+        Err(status) => status,
+    }
+}
+
+/// Compares the build of `old` with that of a command line, and returns the exit status.
+fn compare_line(rt: &HostRuntime, old: Request<'_>, words: &[&str]) -> ExitCode {
+    match request_of(rt, words) {
+        Ok(new) => ended(rt, compare_requests(rt, old, new)),
+        Err(status) => status,
+    }
+}
+
+/// Compares the builds of two command lines, and returns the exit status.
+fn compare_lines(rt: &HostRuntime, before: &[&str], after: &[&str]) -> ExitCode {
+    match request_of(rt, before) {
+        Ok(old) => compare_line(rt, old, after),
+        Err(status) => status,
+    }
+}
+
 /// Answers `words`, the first of which is the program's name, and returns the exit status.
 fn answer_words(rt: &HostRuntime, words: &[&str]) -> ExitCode {
-    match parse(rt.alloc(), words) {
-        Ok(Some(request)) => ended(rt, answer_request(rt, request)),
-        Ok(None) => ended(rt, Err(no_command(rt.alloc()))),
-        Err(error) => unparsed(rt, &error),
+    match compared_words(rt.alloc(), words) {
+        Ok(Some(lines)) => compare_lines(rt, &lines.before, &lines.after),
+        Ok(None) => answer_line(rt, words),
+        Err(_) => ended(rt, Err(Fault::Memory)),
     }
 }
 

@@ -1,4 +1,1 @@
-pub mod Bases
-pub mod Says
-pub mod Stages
 pub mod Writing

@@ -4,7 +4,7 @@ use Rattle.std.specs.Prelude.{IfSome}
 use Rattle.cargo_workspaces.specs.Workspaces.{Text}
 use Rattle.feats_answers.specs.AnswerTexts.{AnswerText}
 use Rattle.feats_tool.specs.Answers.{IsAnswer}
-use Rattle.feats_tool.specs.Inputs.{InputsText}
+use Rattle.feats_plans.specs.Inputs.{InputsText}
 
 abbrev pub begun : AnswerText → Text → AnswerText
 begun answer text = record { content = text; is_negative = answer.is_negative }

@@ -1,7 +1,4 @@
 pub mod Answers
-pub mod Bases
-pub mod BasisView
-pub mod Inputs
+pub mod Rules
 pub mod Run
-pub mod Selections
 pub mod WordFaults

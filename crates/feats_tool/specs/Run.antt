@@ -1,16 +1,11 @@
 -- How a run ends, and what it has written.
-use Rattle.std.specs.Prelude.{◌≡◌, ◌++◌, [], ◌∷◌, Option, Bool, true, false, IfSome, codes, string_bytes}
+use Rattle.std.specs.Prelude.{◌≡◌, ◌++◌, Option, Bool, true, false, IfSome, string_bytes}
 use Rattle.std.specs.Io.KnownBytes.{Keeps, Appends}
 use Rattle.cargo_workspaces.specs.Workspaces.{Text}
-use Rattle.feats_files.specs.Messages.{joined}
 use Rattle.feats_files.specs.declared.fault.Fault.{Fault}
 use Rattle.feats_files.specs.declared.fault.Fault.TheVariants as fault
 use Rattle.feats_tool.specs.Answers.{IsAnswer, IsNoAnswer}
-use Rattle.feats_tool.specs.Inputs.{InputsText}
-
--- The message if the document at a path can't be read.
-abbrev pub unread_message : Text → Text
-unread_message path = joined (codes "cannot read `" ∷ path ∷ codes "`" ∷ [])
+use Rattle.feats_plans.specs.Inputs.{InputsText, unread_message}
 
 -- A run over the bytes `left` wrote a beginning of the answer.
 pub record WritesBeginning (inputs : InputsText) (left old new : Option Text) : Type 0 where

@@ -3,13 +3,13 @@ ghost use Rattle.std.specs.Prelude.{◌≡◌, ℕ, List, true, false, IfOk, OnO
 ghost use Rattle.std.specs.Io.KnownBytes.{Appends, IsAtEnd};
 ghost use Rattle.feats_answers.specs.AnswerTexts.{AnswerText};
 ghost use Rattle.feats_tool.specs.Answers.{IsAnswer};
-ghost use Rattle.feats_tool.specs.Inputs.{inputs_text};
+ghost use Rattle.feats_plans.specs.Inputs.{inputs_text};
 ghost use Rattle.feats_tool.specs.Run.{Ends};
 
 use crate::answers::answer;
-use crate::inputs::PlanFiles;
 use byte_devices::{ByteInput, ByteOutput, Failed, write_all};
 use feats_files::{Fault, bytes_of};
+use feats_plans::PlanFiles;
 use feats_words::CommandArguments;
 use std::alloc::Global;
 

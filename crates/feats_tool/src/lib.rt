@@ -2,14 +2,12 @@
 #![tactic(auto)]
 
 mod answers;
-mod basis;
-mod documents;
 mod engine;
-mod inputs;
-mod planning;
+mod rules;
+mod visitor;
 mod word_faults;
 
 pub use answers::answer;
 pub use engine::run;
-pub use inputs::{PlanFiles, platform_file};
+pub use feats_plans::{PlanFiles, platform_file};
 pub use word_faults::command_arguments;

@@ -1,5 +1,5 @@
 use Rattle.feats_answers.specs.AnswerViews.{answer_text}
-use Rattle.feats_tool.specs.Inputs.{inputs_text}
+use Rattle.feats_plans.specs.Inputs.{inputs_text}
 use Rattle.feats_tool.proofs.Writing.{begins}
 use Rattle.feats_tool.proofs.engine.run.Goals as goal
 

@@ -1,0 +1,24 @@
+-- The answer to `diff` about two sides, or the message why there is none.
+use Rattle.cargo_workspaces.specs.Workspaces.{Text}
+use Rattle.feats_answers.specs.AnswerTexts.{AnswerText}
+use Rattle.feats_comparisons.specs.Builds.{build_of}
+use Rattle.feats_comparisons.specs.Sides.{SideText}
+use Rattle.feats_differences.specs.Answers.{IsDiffAnswer}
+use Rattle.feats_plans.specs.Planned.{PlannedText}
+use Rattle.feats_plans.specs.Planning.{AfterPlanning, IsPlanningRefusal}
+
+-- The answer about the build of the old plan and that of the new side, in the format of the old side.
+abbrev pub IsAnswerFor : PlannedText → SideText → AnswerText → Type 0
+IsAnswerFor old new answer = AfterPlanning new.inputs new.document (λ p. IsDiffAnswer old.inputs.arguments.format (build_of old) (build_of p) answer)
+
+-- The message why the new side has no plan.
+abbrev pub IsNewRefusal : SideText → Text → Type 0
+IsNewRefusal new message = IsPlanningRefusal new.inputs new.document (λ _ _. ⊥) message
+
+-- THE ANSWER about two sides: each has a plan, and the answer is that about their builds.
+abbrev pub IsComparison : SideText → SideText → AnswerText → Type 0
+IsComparison old new answer = AfterPlanning old.inputs old.document (λ p. IsAnswerFor p new answer)
+
+-- The message why there is none: the fault of the old side, and else that of the new one.
+abbrev pub IsNoComparison : SideText → SideText → Text → Type 0
+IsNoComparison old new message = IsPlanningRefusal old.inputs old.document (λ _. IsNewRefusal new) message

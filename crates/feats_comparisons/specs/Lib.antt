@@ -1,0 +1,4 @@
+pub mod Builds
+pub mod Comparisons
+pub mod Sides
+pub mod SideView

@@ -1,0 +1,7 @@
+-- The value that a side contains.
+use Rattle.feats_comparisons.specs.Sides.{SideText}
+use Rattle.feats_comparisons.specs.declared.sides.Side.{Side}
+use Rattle.feats_plans.specs.Inputs.{inputs_text}
+
+abbrev pub side_text : Side → SideText
+side_text s = record { inputs = inputs_text s.arguments.now s.files.now; document = s.document.now }

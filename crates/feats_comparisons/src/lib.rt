@@ -1,0 +1,11 @@
+//! From the files of two command lines to the answer to `diff`: what differs between their builds.
+#![tactic(auto)]
+
+mod builds;
+mod comparing;
+mod sides;
+mod visitors;
+
+pub use comparing::compare;
+pub use feats_differences::Answer;
+pub use sides::Side;

@@ -1,0 +1,35 @@
+use Rattle.std.proofs.lemmas.Result.{IfOk-weaker}
+use Rattle.cargo_plans.specs.WordsView.{words_text}
+use Rattle.cargo_workspaces.specs.WorkspaceView.{workspace_text}
+use Rattle.plan_messages.specs.Messages.{plan_message}
+use Rattle.plan_platforms.specs.HeldSpecs.{holds_on}
+use Rattle.plan_steps.specs.PlanViews.{plan_text}
+use Rattle.feats_plans.specs.Inputs.{inputs_text}
+use Rattle.feats_plans.specs.Planning.{IsPlanRefusal, no_plan, of_plan, planned}
+use Rattle.feats_plans.proofs.Says.{if_err_more, says_more}
+use Rattle.feats_plans.proofs.planning.planned_output.Goals as goal
+
+pub returns-in-Ok-clause-output : goal.returns-in-Ok-clause-output
+returns-in-Ok-clause-output g c =
+    IfOk-weaker c.visit.result _ _ (λ output h. record { plan = plan_text c.in-Ok.plan; is_plan = c.in-Ok.ensures.plan; holds = h; }) c.visit.ensures.output
+
+pub returns-in-Ok-clause-fault : goal.returns-in-Ok-clause-fault
+returns-in-Ok-clause-fault g c =
+    let inputs = inputs_text c.args.arguments.now c.args.files.now in
+    let w = workspace_text c.args.workspace.now in
+    let words = words_text holds_on c.args.words.now in
+    let plan = plan_text c.in-Ok.plan in
+    let R = g.V.PlanVisitor.refuses c.args.visitor.now in
+    if_err_more c.visit.result (R (planned inputs w words plan)) (IsPlanRefusal inputs w words R) (λ m h. of_plan plan c.in-Ok.ensures.plan h) c.visit.ensures.fault
+
+pub returns-in-Err : goal.returns-in-Err
+returns-in-Err g c =
+    let inputs = inputs_text c.args.arguments.now c.args.files.now in
+    let w = workspace_text c.args.workspace.now in
+    let words = words_text holds_on c.args.words.now in
+    let R = g.V.PlanVisitor.refuses c.args.visitor.now in
+    record {
+      output = tt;
+      fault = says_more c.plan_refused.result (λ m. m ≡ plan_message w.packages c.in-Err.fault) (IsPlanRefusal inputs w words R)
+          (λ m h. no_plan c.in-Err.fault c.in-Err.ensures.fault h) c.plan_refused.ensures;
+    }

@@ -1,0 +1,7 @@
+pub mod Bases
+pub mod BasisView
+pub mod Inputs
+pub mod Planned
+pub mod PlannedView
+pub mod Planning
+pub mod Selections

@@ -1,0 +1,11 @@
+-- A plan, and what it is made from.
+use Rattle.cargo_workspaces.specs.Workspaces.{WorkspaceText}
+use Rattle.cargo_plans.specs.Plans.{WordsText}
+use Rattle.plan_steps.specs.Plans.{PlanText}
+use Rattle.feats_plans.specs.Inputs.{InputsText}
+
+pub record PlannedText : Type 0 where
+  pub inputs : InputsText
+  pub workspace : WorkspaceText
+  pub words : WordsText
+  pub plan : PlanText

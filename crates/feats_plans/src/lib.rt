@@ -1,0 +1,13 @@
+//! The plan that a command line asks for: made from the bytes of its files and of a document, and passed to a visitor.
+#![tactic(auto)]
+
+mod basis;
+mod documents;
+mod inputs;
+mod planned;
+mod planning;
+mod visits;
+
+pub use inputs::{PlanFiles, platform_file};
+pub use planned::{PlanVisitor, Planned};
+pub use visits::visit_plan;

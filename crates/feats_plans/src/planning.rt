@@ -1,0 +1,119 @@
+//! The plan of a workspace, which is passed to a visitor.
+ghost use Rattle.std.specs.Prelude.{◌≡◌, IfOk, IfErr, map};
+ghost use Rattle.cargo_workspaces.specs.WorkspaceView.{workspace_text};
+ghost use Rattle.plan_platforms.specs.DeclaredSpecs.{declared_specs};
+ghost use Rattle.plan_platforms.specs.HeldSpecs.{holds_on};
+ghost use Rattle.plan_platforms.specs.Views.{declared_text};
+ghost use Rattle.plan_words.specs.Selections.{choice_text, selection_text};
+ghost use Rattle.cargo_plans.specs.WordsView.{words_text};
+ghost use Rattle.feats_words.specs.Views.{arguments_text};
+ghost use Rattle.feats_files.specs.Messages.{Says};
+ghost use Rattle.feats_plans.specs.BasisView.{basis_text};
+ghost use Rattle.feats_plans.specs.Inputs.{inputs_text};
+ghost use Rattle.feats_plans.specs.Planning.{AfterPlan, AfterPlatforms, IsPlanRefusal, IsPlatformRefusal};
+ghost use Rattle.feats_plans.specs.Selections as spec;
+
+use crate::basis::Basis;
+use crate::inputs::PlanFiles;
+use crate::planned::{PlanVisitor, Planned};
+use cargo_plans::{PackageChoice, PlanFault, PlanWords, Selection, plan};
+use cargo_workspaces::Workspace;
+use feats_files::{Fault, held_on, held_on_each};
+use feats_words::CommandArguments;
+use manifest_resolvers::Resolver;
+use plan_messages::plan_refused;
+use plan_platforms::{DeclaredSpec, HeldSpecs, declared_specs};
+use std::alloc::Global;
+
+/// Returns the packages that `arguments` select.
+fn choice<'s>(arguments: &'s CommandArguments<'_>) -> PackageChoice<'s>
+    ensures { choice_text result ≡ spec.choice (arguments_text arguments.now) }
+{
+    if arguments.workspace {
+        return PackageChoice::Workspace;
+    }
+    match arguments.packages.as_slice() {
+        [] => PackageChoice::Default,
+        words => PackageChoice::Named(words),
+    }
+}
+
+/// Returns the packages and features that `arguments` ask for, by this version of the resolver.
+fn selection<'s>(arguments: &'s CommandArguments<'_>, version: Resolver) -> Selection<'s>
+    ensures { selection_text result ≡ spec.selection (arguments_text arguments.now) version }
+{
+    Selection {
+        packages: choice(arguments),
+        features: &arguments.features,
+        all_features: arguments.all_features,
+        no_default_features: arguments.no_default_features,
+        split: version.is_split(),
+    }
+}
+
+/// Returns what `arguments` say about a plan, where `host` and `targets` are the specs that hold.
+fn words_by<'s, 'n, 'h>(
+    arguments: &'s CommandArguments<'_>,
+    version: Resolver,
+    host: &'n HeldSpecs<'h>,
+    targets: &'n [HeldSpecs<'h>],
+) -> PlanWords<'s, 'n, HeldSpecs<'h>>
+    ensures { words_text holds_on result ≡ spec.words_of (arguments_text arguments.now) version (holds_on host.now) (map holds_on targets.now) }
+{
+    PlanWords {
+        selection: selection(arguments, version),
+        test: arguments.tests,
+        host,
+        targets,
+    }
+}
+
+/// Returns the output of `visitor` for the plan of `words`. `specs` are the platform specs of the workspace.
+fn planned_output<'w, 'n, 's, V: PlanVisitor>(
+    alloc: Global,
+    arguments: &CommandArguments<'w>,
+    files: &PlanFiles<'n>,
+    workspace: &'w Workspace<'_>,
+    specs: &[DeclaredSpec<'s>],
+    words: &PlanWords<'w, 'n, HeldSpecs<'s>>,
+    visitor: &V,
+) -> Result<V::Output, Fault>
+    requires { map declared_text specs.now ≡ declared_specs (workspace_text workspace.now).packages }
+    ensures output { IfOk result (λ output. AfterPlan (inputs_text arguments.now files.now) (workspace_text workspace.now) (words_text holds_on words.now) (λ p. V.gives visitor.now p output)) }
+    ensures fault { IfErr result (λ fault. Says fault (IsPlanRefusal (inputs_text arguments.now files.now) (workspace_text workspace.now) (words_text holds_on words.now) (V.refuses visitor.now))) }
+{
+    match plan(alloc, workspace, words) {
+        Ok(plan) => {
+            let planned = Planned {
+                arguments,
+                files,
+                workspace,
+                specs,
+                words,
+                plan: &plan,
+            };
+            visitor.visit(alloc, &planned)
+        }
+        Err(PlanFault::Memory) => Err(Fault::Memory),
+        Err(fault) => Err(plan_refused(alloc, workspace, fault)),
+    }
+}
+
+/// Returns the output of `visitor` for the plan of `workspace`.
+pub(crate) fn workspace_output<'w, V: PlanVisitor>(
+    alloc: Global,
+    arguments: &'w CommandArguments<'_>,
+    files: &PlanFiles<'_>,
+    basis: &Basis,
+    workspace: &'w Workspace<'_>,
+    visitor: &V,
+) -> Result<V::Output, Fault>
+    ensures output { IfOk result (λ output. AfterPlatforms (inputs_text arguments.now files.now) (basis_text basis.now) (workspace_text workspace.now) (λ p. V.gives visitor.now p output)) }
+    ensures fault { IfErr result (λ fault. Says fault (IsPlatformRefusal (inputs_text arguments.now files.now) (basis_text basis.now) (workspace_text workspace.now) (V.refuses visitor.now))) }
+{
+    let specs = declared_specs(alloc, workspace)?;
+    let host = held_on(alloc, workspace, &specs, &basis.host)?;
+    let targets = held_on_each(alloc, workspace, &specs, &basis.targets)?;
+    let words = words_by(arguments, basis.version, &host, &targets);
+    planned_output(alloc, arguments, files, workspace, &specs, &words, visitor)
+}

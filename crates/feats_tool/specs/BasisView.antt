@@ -1,6 +1,0 @@
--- The value that a basis contains.
-use Rattle.feats_tool.specs.Bases.{BasisText}
-use Rattle.feats_tool.specs.declared.basis.Basis.{Basis}
-
-abbrev pub basis_text : Basis → BasisText
-basis_text b = record { version = b.version; host = b.host; targets = b.targets.items }
