@@ -2,3 +2,4 @@ pub mod Decimals
 pub mod Each
 pub mod Yields
 pub mod Building
+pub mod Marks

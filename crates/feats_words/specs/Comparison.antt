@@ -1,0 +1,32 @@
+-- The command lines that `diff` compares: `feats diff COMMON -- WORDS -- WORDS`.
+use Rattle.std.specs.Prelude.{List, [], ◌∷◌, ◌++◌, Bool, Option, None, Some, codes, if◌then◌else◌}
+use Rattle.std.specs.List.{slice_split}
+use Rattle.std.specs.Str.{bytes_eq}
+use Rattle.clap.specs.Words.{Text}
+use Rattle.feats_words.specs.Requests.{texts}
+use Rattle.feats_words.specs.declared.comparison.ComparedWords.{ComparedWords}
+
+-- The words of two command lines.
+pub record ComparedText : Type 0 where
+  pub before : List Text
+  pub after : List Text
+
+abbrev pub compared_text : ComparedWords → ComparedText
+compared_text c = record { before = texts c.before.items; after = texts c.after.items }
+
+abbrev pub is_mark : Text → Bool
+is_mark word = bytes_eq word (codes "--")
+
+-- A command line of `plan`: the program's name, the command, the common words, and those of one build.
+abbrev pub plan_line : Text → List Text → List Text → List Text
+plan_line name common own = name ∷ codes "plan" ∷ (common ++ own)
+
+-- The command lines by the three parts of the words after `diff`.
+abbrev pub lines_of : Text → List (List Text) → Option ComparedText
+lines_of name (common ∷ before ∷ after ∷ []) = Some (record { before = plan_line name common before; after = plan_line name common after })
+lines_of name _ = None
+
+-- The command lines that are compared, if the second word is `diff`, and exactly two of the words after it are `--`.
+abbrev pub compared : List Text → Option ComparedText
+compared (name ∷ command ∷ words) = if bytes_eq command (codes "diff") then lines_of name (slice_split is_mark words) else None
+compared _ = None

@@ -1,0 +1,73 @@
+//! The command lines that `diff` compares.
+ghost use Rattle.std.specs.Prelude.{◌≡◌, IfOk, map, option_map};
+ghost use Rattle.std.specs.List.{slice_split};
+ghost use Rattle.feats_words.specs.Comparison as spec;
+ghost use Rattle.feats_words.specs.Comparison.{compared_text};
+ghost use Rattle.feats_words.specs.Requests.{texts};
+
+use std::alloc::{AllocError, Global};
+
+/// The words of two command lines of `plan`. The first word of each is the program's name.
+#[derive(Drop)]
+pub struct ComparedWords<'a> {
+    pub before: Vec<&'a str>,
+    pub after: Vec<&'a str>,
+}
+
+/// Returns the parts of `words` before, between and after the words `--`.
+fn parts_of<'s, 'a>(alloc: Global, words: &'s [&'a str]) -> Result<Vec<&'s [&'a str]>, AllocError>
+    ensures { IfOk result (λ parts. map (λ p. texts p.now) parts.items ≡ slice_split spec.is_mark (texts words.now)) }
+{
+    words.split(|word| *word == "--").collect(alloc)
+}
+
+/// Returns the command line of `plan` with the words `common` and `own`.
+fn plan_line<'a>(
+    alloc: Global,
+    name: &'a str,
+    common: &[&'a str],
+    own: &[&'a str],
+) -> Result<Vec<&'a str>, AllocError>
+    ensures { IfOk result (λ line. texts line.items ≡ spec.plan_line name.entry.now (texts common.now) (texts own.now)) }
+{
+    let mut line = Vec::new(alloc);
+    line.push(name)?;
+    line.push("plan")?;
+    line.extend_from_slice(common)?;
+    line.extend_from_slice(own)?;
+    Ok(line)
+}
+
+/// Returns the command lines by `parts`, those of the words after `diff`. None unless there are three.
+fn lines_of<'a>(
+    alloc: Global,
+    name: &'a str,
+    parts: &[&[&'a str]],
+) -> Result<Option<ComparedWords<'a>>, AllocError>
+    ensures { IfOk result (λ lines. option_map compared_text lines ≡ spec.lines_of name.entry.now (map (λ p. texts p.now) parts.now)) }
+{
+    match parts {
+        [common, before, after] => Ok(Some(ComparedWords {
+            before: plan_line(alloc, name, common, before)?,
+            after: plan_line(alloc, name, common, after)?,
+        })),
+        _ => Ok(None),
+    }
+}
+
+/// Returns the command lines of `feats diff COMMON -- WORDS -- WORDS`: those of `plan` with the words before the first `--`, and with
+/// those after the first or the second. None if the second of `words` isn't `diff`, or if there aren't two `--` after it.
+pub fn compared_words<'a>(
+    alloc: Global,
+    words: &[&'a str],
+) -> Result<Option<ComparedWords<'a>>, AllocError>
+    ensures { IfOk result (λ lines. option_map compared_text lines ≡ spec.compared (texts words.now)) }
+{
+    match words {
+        [name, command, rest @ ..] if *command == "diff" => {
+            let parts = parts_of(alloc, rest)?;
+            lines_of(alloc, name, &parts)
+        }
+        _ => Ok(None),
+    }
+}
