@@ -11,12 +11,10 @@ ghost use Rattle.byte_devices.specs.StdDevices.{read_failed};
 use byte_devices::{ByteInput, Failed, FromReader, write_all};
 use clap::Error;
 use clap::error::ErrorKind as MistakeKind;
-use feats_comparisons::{Side, compare};
+use feats_comparisons::{Side, compare, compared_words};
 use feats_files::{Fault, PlatformFile, ToPipe, bytes_of, no_command, not_text, unopened};
 use feats_tool::{PlanFiles, command_arguments, platform_file, run};
-use feats_words::{
-    CommandArguments, PlatformWord, Question, Request, ResolverSource, compared_words, parse,
-};
+use feats_words::{CommandArguments, PlatformWord, Question, Request, ResolverSource, parse};
 use std::alloc::{AllocError, Global};
 use std::fs::File;
 use std::io::ErrorKind;
@@ -227,11 +225,7 @@ fn compare_arguments(
 }
 
 /// Compares the builds of two requests. Returns whether they differ.
-fn compare_requests(
-    rt: &HostRuntime,
-    old: Request<'_>,
-    new: Request<'_>,
-) -> Result<bool, Fault> {
+fn compare_requests(rt: &HostRuntime, old: Request<'_>, new: Request<'_>) -> Result<bool, Fault> {
     let old = command_arguments(rt.alloc(), old)?;
     let new = command_arguments(rt.alloc(), new)?;
     compare_arguments(rt, &old, &new)

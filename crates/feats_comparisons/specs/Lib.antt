@@ -1,4 +1,5 @@
 pub mod Builds
+pub mod CommandLines
 pub mod Comparisons
 pub mod Sides
 pub mod SideView

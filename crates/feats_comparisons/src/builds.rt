@@ -27,10 +27,7 @@ fn triples_of<'f>(alloc: Global, files: &[PlatformFile<'f>]) -> Result<Vec<&'f s
 }
 
 /// Returns the names of the target platforms of `files`: a single one is `target`, and several have their triples.
-fn target_names<'f>(
-    alloc: Global,
-    files: &[PlatformFile<'f>],
-) -> Result<Vec<&'f str>, AllocError>
+fn target_names<'f>(alloc: Global, files: &[PlatformFile<'f>]) -> Result<Vec<&'f str>, AllocError>
     ensures { IfOk result (λ names. texts names.items ≡ places.target_names (map file_text files.now)) }
 {
     match files {

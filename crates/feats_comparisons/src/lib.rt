@@ -2,10 +2,12 @@
 #![tactic(auto)]
 
 mod builds;
+mod command_lines;
 mod comparing;
 mod sides;
 mod visitors;
 
+pub use command_lines::{ComparedWords, compared_words};
 pub use comparing::compare;
 pub use feats_differences::Answer;
 pub use sides::Side;

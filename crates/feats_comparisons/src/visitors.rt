@@ -27,11 +27,7 @@ impl PlanVisitor for NewVisitor<'_, '_, '_, '_, '_, '_> {
 
     ghost refuses = { λ _ _ _. ⊥ };
 
-    fn visit(
-        &self,
-        alloc: Global,
-        planned: &Planned<'_, '_, '_, '_, '_>,
-    ) -> Result<Answer, Fault> {
+    fn visit(&self, alloc: Global, planned: &Planned<'_, '_, '_, '_, '_>) -> Result<Answer, Fault> {
         Ok(difference(alloc, self.old, planned)?)
     }
 }
@@ -49,11 +45,7 @@ impl PlanVisitor for OldVisitor<'_, '_, '_> {
 
     ghost refuses = { λ v old message. IsNewRefusal (side_text v.new) message };
 
-    fn visit(
-        &self,
-        alloc: Global,
-        planned: &Planned<'_, '_, '_, '_, '_>,
-    ) -> Result<Answer, Fault> {
+    fn visit(&self, alloc: Global, planned: &Planned<'_, '_, '_, '_, '_>) -> Result<Answer, Fault> {
         let visitor = NewVisitor { old: planned };
         visit_plan(
             alloc,

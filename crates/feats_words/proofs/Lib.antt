@@ -2,4 +2,3 @@ pub mod Decimals
 pub mod Each
 pub mod Yields
 pub mod Building
-pub mod Marks

@@ -3,7 +3,6 @@ pub mod Depths
 pub mod Edges
 pub mod Refusals
 pub mod Commands
-pub mod Comparison
 pub mod Requests
 pub mod Views
 pub mod FeatureWords

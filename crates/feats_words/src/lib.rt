@@ -3,7 +3,6 @@
 
 mod command;
 mod command_arguments;
-mod comparison;
 mod depths;
 mod edges;
 mod examples;
@@ -13,7 +12,6 @@ mod request;
 mod splitting;
 
 pub use command_arguments::{CommandArguments, Format, ResolverSource, arguments};
-pub use comparison::{ComparedWords, compared_words};
 pub use edges::Edges;
 pub use fault::WordsFault;
 pub use platform_words::{PlatformWord, platform_word};

@@ -2,7 +2,7 @@
 use Rattle.std.proofs.Common.{◌≡◌, ◌∙◌, refl, ap, List, [], ◌∷◌, true, false, cond, map, Bor}
 use Rattle.std.specs.List.{slice_split, onto_first}
 use Rattle.clap.specs.Words.{Text}
-use Rattle.feats_words.specs.Comparison.{is_mark}
+use Rattle.feats_comparisons.specs.CommandLines.{is_mark}
 use Rattle.feats_words.specs.Requests.{texts}
 
 texts_onto : (w : Bor Text) (parts : List (List (Bor Text))) → map texts (onto_first w parts) ≡ onto_first w.now (map texts parts)

@@ -1,8 +1,8 @@
 //! The command lines that `diff` compares.
 ghost use Rattle.std.specs.Prelude.{◌≡◌, IfOk, map, option_map};
 ghost use Rattle.std.specs.List.{slice_split};
-ghost use Rattle.feats_words.specs.Comparison as spec;
-ghost use Rattle.feats_words.specs.Comparison.{compared_text};
+ghost use Rattle.feats_comparisons.specs.CommandLines as spec;
+ghost use Rattle.feats_comparisons.specs.CommandLines.{compared_text};
 ghost use Rattle.feats_words.specs.Requests.{texts};
 
 use std::alloc::{AllocError, Global};

@@ -3,9 +3,9 @@ use Rattle.std.proofs.lemmas.Iterator.Consumers.{map_from_collect}
 use Rattle.std.proofs.lemmas.Iterator.Splits.{YieldsList-from_slice_split}
 use Rattle.std.proofs.lemmas.Result.{IfOk-weaker}
 use Rattle.std.specs.List.{slice_split}
-use Rattle.feats_words.specs.Comparison.{is_mark}
-use Rattle.feats_words.proofs.Marks.{borrowed}
-use Rattle.feats_words.proofs.comparison.parts_of.Goals as goal
+use Rattle.feats_comparisons.specs.CommandLines.{is_mark}
+use Rattle.feats_comparisons.proofs.Marks.{borrowed}
+use Rattle.feats_comparisons.proofs.command_lines.parts_of.Goals as goal
 
 pub returns : goal.returns
 returns c =

@@ -4,7 +4,7 @@ use Rattle.std.specs.List.{slice_split}
 use Rattle.std.specs.Str.{bytes_eq}
 use Rattle.clap.specs.Words.{Text}
 use Rattle.feats_words.specs.Requests.{texts}
-use Rattle.feats_words.specs.declared.comparison.ComparedWords.{ComparedWords}
+use Rattle.feats_comparisons.specs.declared.command_lines.ComparedWords.{ComparedWords}
 
 -- The words of two command lines.
 pub record ComparedText : Type 0 where
