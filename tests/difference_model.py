@@ -62,7 +62,8 @@ def part_key(part):
 def paired(old, new, key):
     """Of parts with one key, the k-th old one with the k-th new one; and those without a partner."""
     def kth(parts):
-        return [(key(part), sum(key(other) == key(part) for other in parts[:at])) for at, part in enumerate(parts)]
+        keys = [key(part) for part in parts]
+        return [(it, keys[:at].count(it)) for at, it in enumerate(keys)]
 
     olds, news = kth(old), kth(new)
     pairs = [(old[at], new[news.index(which)]) for at, which in enumerate(olds) if which in news]
