@@ -1,6 +1,6 @@
 -- Faults with messages.
-use Rattle.std.proofs.Common.{◌≡◌, Result, Err}
-use Rattle.std.specs.Prelude.{List, string_bytes}
+use Rattle.std.proofs.Common.{◌≡◌, Result, Ok, Err}
+use Rattle.std.specs.Prelude.{IfErr, List, string_bytes}
 use Rattle.cargo_workspaces.specs.Workspaces.{Text, PackageText}
 use Rattle.plan_names.specs.Faults.{NameRefusal, IfNotMemory, unknown, several, out_of_memory}
 use Rattle.feats_files.specs.Messages.{Says}
@@ -18,3 +18,8 @@ pub says_name : {X : Type 0} (packages : List PackageText) (given : Result X Nam
 says_name packages given f (unknown word) is h = says_more f (IsNameMessage packages (unknown word)) (IsNameRefusal packages given) (λ m says. (unknown word, is, says)) h
 says_name packages given f (several word candidates) is h = says_more f (IsNameMessage packages (several word candidates)) (IsNameRefusal packages given) (λ m says. (several word candidates, is, says)) h
 says_name packages given f out_of_memory is h = says_more f (IsNameMessage packages out_of_memory) (IsNameRefusal packages given) (λ m says. absurd says) h
+
+-- what follows from an error
+pub err_more : {V : Type 0} (r : Result V Fault) (P Q : Text → Type 0) → ((m : Text) → P m → Q m) → IfErr r (λ f. Says f P) → IfErr r (λ f. Says f Q)
+err_more (Ok v) P Q more h = tt
+err_more (Err f) P Q more h = says_more f P Q more h

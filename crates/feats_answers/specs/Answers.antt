@@ -1,44 +1,53 @@
 -- The answers to questions about a build.
-use Rattle.std.specs.Prelude.{◌≡◌, ℕ, List, Option}
+use Rattle.std.specs.Prelude.{◌≡◌}
 use Rattle.cargo_workspaces.specs.Workspaces.{Text, WorkspaceText}
 use Rattle.cargo_plans.specs.Plans.{WordsText}
 use Rattle.plan_names.specs.Faults.{package_named}
 use Rattle.plan_platforms.specs.DeclaredSpecs.{declared_specs}
 use Rattle.plan_steps.specs.Plans.{PlanText}
-use Rattle.plan_trees.specs.Dots.{IsPackageDot}
-use Rattle.feats_files.specs.Files.{FileText}
-use Rattle.feats_words.specs.Requests.{QuestionText, plan, why, why_not, specs, list, duplicates, tree, dot}
-use Rattle.feats_words.specs.declared.command_arguments.Format.{Format}
+use Rattle.feats_words.specs.Requests.{QuestionText, check, dot, duplicates, list, plan, specs, tree, why, why_not}
 use Rattle.feats_answers.specs.AnswerTexts.{AnswerText}
 pub use Rattle.feats_answers.specs.AnswerTexts.{IsPositive}
+use Rattle.feats_answers.specs.Asked.{AskedText}
 use Rattle.feats_answers.specs.DuplicateTexts.{IsDuplicatesText}
+use Rattle.feats_answers.specs.EdgeTexts.{IsDotBy, IsNoTreeBy, IsTreeBy}
 use Rattle.feats_answers.specs.ListTexts.{IsListText}
 use Rattle.feats_answers.specs.NameMessages.{IsNameRefusal}
 use Rattle.feats_answers.specs.Parts.{IsPartRefusal}
-use Rattle.feats_answers.specs.PlanTexts.{target_names, text_of_units}
+use Rattle.feats_answers.specs.PlanTexts.{text_of_units}
+use Rattle.feats_answers.specs.PolicyTexts.{IsCheckAnswer, IsCheckRefusal}
 use Rattle.feats_answers.specs.SpecTexts.{IsSpecText, places}
-use Rattle.feats_answers.specs.TreeTexts.{IsTreeAnswer, IsTreeRefusal}
 use Rattle.feats_answers.specs.WhyNotTexts.{IsWhyNotAnswer}
 use Rattle.feats_answers.specs.WhyTexts.{IsWhyAnswer}
 
--- THE ANSWER to a question about the build of these words, for the target platforms of these files. A tree isn't deeper than `depth`.
-abbrev pub IsAnswerTo : QuestionText → Format → Option ℕ → List FileText → WorkspaceText → WordsText → PlanText → AnswerText → Type 0
-IsAnswerTo plan form depth files w words build = IsPositive (λ text. text ≡ text_of_units form files w.packages build.units)
-IsAnswerTo (why word all) form depth files w words build = IsWhyAnswer form all w words build word
-IsAnswerTo (why_not word) form depth files w words build = IsWhyNotAnswer form w (declared_specs w.packages) words build word
-IsAnswerTo specs form depth files w words build = IsPositive (IsSpecText form (declared_specs w.packages) (places files words.host words.targets))
-IsAnswerTo (list word) form depth files w words build = IsPositive (IsListText form w build word)
-IsAnswerTo duplicates form depth files w words build = IsPositive (IsDuplicatesText form files w words build)
-IsAnswerTo (tree invert) form depth files w words build = IsTreeAnswer form files w build invert depth
-IsAnswerTo dot form depth files w words build = IsPositive (IsPackageDot (target_names files) w.packages build)
+-- The answer to one of the questions.
+abbrev pub Answers : QuestionText → AskedText → WorkspaceText → WordsText → PlanText → AnswerText → Type 0
+Answers plan a w words build = IsPositive (λ text. text ≡ text_of_units a.arguments.format a.targets w.packages build.units)
+Answers (why word all) a w words build = IsWhyAnswer a.arguments.format all w words build word
+Answers (why_not word) a w words build = IsWhyNotAnswer a.arguments.format w (declared_specs w.packages) words build word
+Answers specs a w words build = IsPositive (IsSpecText a.arguments.format (declared_specs w.packages) (places a.targets words.host words.targets))
+Answers (list word) a w words build = IsPositive (IsListText a.arguments.format w build word)
+Answers (duplicates alone) a w words build = IsPositive (IsDuplicatesText a.arguments.format alone a.targets w words build)
+Answers (tree invert) a w words build = IsTreeBy a.arguments.edges a w words build invert
+Answers dot a w words build = IsDotBy a.arguments.edges a.targets w words build
+Answers (check file every_choice) a w words build = IsCheckAnswer a w (declared_specs w.packages) words build file every_choice
 
--- The message that refuses a question: its word names nothing, or several things.
-abbrev pub IsNoAnswerTo : QuestionText → WorkspaceText → WordsText → Text → Type 0
-IsNoAnswerTo plan w words = λ _. ⊥
-IsNoAnswerTo (why word all) w words = IsPartRefusal w words word
-IsNoAnswerTo (why_not word) w words = IsPartRefusal w words word
-IsNoAnswerTo specs w words = λ _. ⊥
-IsNoAnswerTo (list word) w words = IsNameRefusal w.packages (package_named w.packages word)
-IsNoAnswerTo duplicates w words = λ _. ⊥
-IsNoAnswerTo (tree invert) w words = IsTreeRefusal w.packages invert
-IsNoAnswerTo dot w words = λ _. ⊥
+-- THE ANSWER to the question of the arguments about the build of these words.
+abbrev pub IsAnswerTo : AskedText → WorkspaceText → WordsText → PlanText → AnswerText → Type 0
+IsAnswerTo asked w words build = Answers asked.arguments.question asked w words build
+
+-- The message that refuses one of the questions.
+abbrev pub Refuses : QuestionText → AskedText → WorkspaceText → WordsText → PlanText → Text → Type 0
+Refuses plan a w words build = λ _. ⊥
+Refuses (why word all) a w words build = IsPartRefusal w words word
+Refuses (why_not word) a w words build = IsPartRefusal w words word
+Refuses specs a w words build = λ _. ⊥
+Refuses (list word) a w words build = IsNameRefusal w.packages (package_named w.packages word)
+Refuses (duplicates alone) a w words build = λ _. ⊥
+Refuses (tree invert) a w words build = IsNoTreeBy a.arguments.edges w words invert
+Refuses dot a w words build = λ _. ⊥
+Refuses (check file every_choice) a w words build = IsCheckRefusal a w (declared_specs w.packages) words build file every_choice
+
+-- THE MESSAGE that refuses the question: its word names nothing or several things, or a policy can't be checked.
+abbrev pub IsNoAnswerTo : AskedText → WorkspaceText → WordsText → PlanText → Text → Type 0
+IsNoAnswerTo asked w words build = Refuses asked.arguments.question asked w words build

@@ -1,5 +1,5 @@
 -- The text about what is built several times.
-use Rattle.std.specs.Prelude.{◌≡◌, List}
+use Rattle.std.specs.Prelude.{◌≡◌, List, [], Bool, true, false}
 use Rattle.cargo_workspaces.specs.Workspaces.{Text, PackageText, WorkspaceText}
 use Rattle.cargo_plans.specs.Plans.{WordsText}
 use Rattle.duplicate_lines.specs.Lines.{duplicate_lines}
@@ -24,8 +24,13 @@ pub record IsTextOfUnits (form : Format) (names : List Text) (packages : List Pa
   pub are_found : AreDuplicates packages names units plans found
   pub is_text : text ≡ duplicates_text form packages (all_shown names packages found plans)
 
--- The text about the duplicates of a plan, and about the plans of the selected members alone.
-pub record IsDuplicatesText (form : Format) (files : List FileText) (w : WorkspaceText) (words : WordsText) (plan : PlanText) (text : Text) : Type 0 where
+-- With `alone` the selected members are planned alone too, and otherwise no plans are beside that of the words.
+abbrev pub ArePlansBeside : Bool → WorkspaceText → WordsText → List MemberPlanText → Type 0
+ArePlansBeside true w words plans = ArePlansAlone w words plans
+ArePlansBeside false w words plans = plans ≡ []
+
+-- The text about the duplicates of a plan. With `alone` it is also about the plans of the selected members alone.
+pub record IsDuplicatesText (form : Format) (alone : Bool) (files : List FileText) (w : WorkspaceText) (words : WordsText) (plan : PlanText) (text : Text) : Type 0 where
   pub plans : List MemberPlanText
-  pub are_plans : ArePlansAlone w words plans
+  pub are_plans : ArePlansBeside alone w words plans
   pub is_text : IsTextOfUnits form (target_names files) w.packages plan.units plans text

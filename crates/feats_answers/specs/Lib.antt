@@ -1,13 +1,17 @@
 pub mod AnswerTexts
 pub mod AnswerViews
 pub mod Answers
+pub mod Asked
 pub mod DuplicateTexts
+pub mod EdgeTexts
+pub mod FeatureTexts
 pub mod Gathered
 pub mod LabelsOn
 pub mod ListTexts
 pub mod NameMessages
 pub mod Parts
 pub mod PlanTexts
+pub mod PolicyTexts
 pub mod SpecTexts
 pub mod TreeTexts
 pub mod WhyNotTexts

@@ -10,9 +10,9 @@ ghost use Rattle.plan_platforms.specs.Views.{declared_text};
 ghost use Rattle.plan_steps.specs.PlanViews.{plan_text};
 ghost use Rattle.feats_files.specs.FileViews.{file_text};
 ghost use Rattle.feats_files.specs.Messages.{Says};
-ghost use Rattle.feats_words.specs.Views.{question_text};
 ghost use Rattle.feats_answers.specs.AnswerViews.{answer_text};
 ghost use Rattle.feats_answers.specs.Answers.{IsAnswerTo, IsNoAnswerTo, IsPositive};
+ghost use Rattle.feats_answers.specs.Asked.{asked_text};
 ghost use Rattle.feats_answers.specs.DuplicateTexts.{IsDuplicatesText};
 ghost use Rattle.feats_answers.specs.ListTexts.{IsListText};
 ghost use Rattle.feats_answers.specs.NameMessages.{IsNameRefusal};
@@ -23,19 +23,21 @@ ghost use Rattle.feats_answers.specs.WhyNotTexts.{IsWhyNotAnswer};
 ghost use Rattle.feats_answers.specs.WhyTexts.{IsWhyAnswer};
 
 use crate::answer::{Answer, positive};
+use crate::asked::Asked;
 use crate::duplicate_texts::duplicates_text;
+use crate::edge_texts::{answer_to_edge_dot, answer_to_edge_tree};
 use crate::gathered::gathered;
 use crate::list_texts::list_text;
 use crate::off_parts::off_parts;
 use crate::parts::parts_of;
 use crate::plan_texts::text_of_units;
+use crate::policy_texts::{PolicyWord, check_answer};
 use crate::spec_texts::spec_text;
-use crate::tree_texts::{answer_to_tree, dot_answer};
 use crate::why_texts::why_texts;
 use cargo_plans::{Plan, PlanWords};
 use cargo_workspaces::Workspace;
 use feats_files::{Fault, PlatformFile};
-use feats_words::{CommandArguments, Format, Question};
+use feats_words::{Format, Question};
 use plan_platforms::{DeclaredSpec, HeldSpecs, every_spec};
 use std::alloc::{AllocError, Global};
 use why_nots::why_not_texts;
@@ -85,18 +87,19 @@ fn list_answer(
     }
 }
 
-/// Returns the answer to `duplicates`.
+/// Returns the answer to `duplicates`. With `alone` it is also about the plans of the selected members alone.
 fn duplicates_answer<'w>(
     alloc: Global,
     format: Format,
+    alone: bool,
     files: &[PlatformFile<'_>],
     workspace: &'w Workspace<'_>,
     words: &PlanWords<'w, '_, HeldSpecs<'_>>,
     plan: &Plan<'_>,
 ) -> Result<Answer, AllocError>
-    ensures { IfOk result (λ answer. IsPositive (IsDuplicatesText format (map file_text files.now) (workspace_text workspace.now) (words_text holds_on words.now) (plan_text plan.now)) (answer_text answer)) }
+    ensures { IfOk result (λ answer. IsPositive (IsDuplicatesText format alone (map file_text files.now) (workspace_text workspace.now) (words_text holds_on words.now) (plan_text plan.now)) (answer_text answer)) }
 {
-    let text = duplicates_text(alloc, format, files, workspace, words, plan)?;
+    let text = duplicates_text(alloc, format, alone, files, workspace, words, plan)?;
     Ok(positive(text))
 }
 
@@ -141,25 +144,25 @@ fn why_not_answer<'w, 's>(
     Ok(gathered(alloc, format, workspace, word, &named, end, &texts)?)
 }
 
-/// Returns the answer to the question of `arguments` about `plan`, which is that of `words`; `specs` are the platform specs of the
-/// workspace, and `files` are those of the target platforms. Returns `Refused` if the word of the question names nothing or several
-/// things, and `Memory` if an allocation fails.
+/// Returns the answer to the question of `asked` about `plan`, which is that of `words`; `specs` are the platform specs of the workspace.
+/// Returns `Refused` if the word of the question names nothing or several things, or if a policy can't be checked, and `Memory` if an
+/// allocation fails.
 pub fn answer_to<'w, 'n, 's>(
     alloc: Global,
-    arguments: &CommandArguments<'w>,
-    files: &[PlatformFile<'n>],
+    asked: Asked<'_, 'w, '_, 'n>,
     workspace: &'w Workspace<'_>,
     specs: &[DeclaredSpec<'s>],
     words: &PlanWords<'w, 'n, HeldSpecs<'s>>,
-    plan: &Plan<'_>,
+    plan: &Plan<'w>,
 ) -> Result<Answer, Fault>
     requires specs { map declared_text specs.now ≡ declared_specs (workspace_text workspace.now).packages }
     requires plan { IsPlanOf (workspace_text workspace.now) (words_text holds_on words.now) (plan_text plan.now) }
-    ensures answer { IfOk result (λ answer. IsAnswerTo (question_text arguments.now.question) arguments.now.format arguments.now.depth (map file_text files.now) (workspace_text workspace.now) (words_text holds_on words.now) (plan_text plan.now) (answer_text answer)) }
-    ensures fault { IfErr result (λ fault. Says fault (IsNoAnswerTo (question_text arguments.now.question) (workspace_text workspace.now) (words_text holds_on words.now))) }
+    ensures answer { IfOk result (λ answer. IsAnswerTo (asked_text asked.entry) (workspace_text workspace.now) (words_text holds_on words.now) (plan_text plan.now) (answer_text answer)) }
+    ensures fault { IfErr result (λ fault. Says fault (IsNoAnswerTo (asked_text asked.entry) (workspace_text workspace.now) (words_text holds_on words.now) (plan_text plan.now))) }
 {
-    let format = arguments.format;
-    match arguments.question {
+    let format = asked.arguments.format;
+    let files = asked.targets;
+    match asked.arguments.question {
         Question::Plan => Ok(plan_answer(alloc, format, files, workspace, plan)?),
         Question::Why { feature, all } => {
             why_answer(alloc, format, all, workspace, words, plan, feature)
@@ -169,13 +172,19 @@ pub fn answer_to<'w, 'n, 's>(
         }
         Question::Specs => Ok(specs_answer(alloc, format, files, specs, words)?),
         Question::List(word) => list_answer(alloc, format, workspace, plan, word),
-        Question::Duplicates => {
-            Ok(duplicates_answer(alloc, format, files, workspace, words, plan)?)
-        }
+        Question::Duplicates { alone } => Ok(duplicates_answer(
+            alloc, format, alone, files, workspace, words, plan,
+        )?),
         Question::Tree { invert } => {
-            let depth = arguments.depth;
-            answer_to_tree(alloc, format, files, workspace, plan, invert, depth)
+            answer_to_edge_tree(alloc, asked, workspace, words, plan, invert)
         }
-        Question::Dot => Ok(dot_answer(alloc, files, workspace, plan)?),
+        Question::Dot => Ok(answer_to_edge_dot(alloc, asked, workspace, words, plan)?),
+        Question::Check {
+            policy: file,
+            every_choice,
+        } => {
+            let policy = PolicyWord { file, every_choice };
+            check_answer(alloc, asked, policy, workspace, specs, words, plan)
+        }
     }
 }

@@ -87,20 +87,37 @@ fn plans_of<'w>(
     }
 }
 
-/// Returns the text about what `plan` builds several times, which is the plan of `words`, and about the features that differ if each
-/// selected member is selected alone.
+/// Returns the plans of the selected members alone, if `alone` is true.
+fn plans_beside<'w>(
+    alloc: Global,
+    alone: bool,
+    workspace: &'w Workspace<'_>,
+    words: &PlanWords<'w, '_, HeldSpecs<'_>>,
+) -> Result<Vec<MemberPlan<'w>>, AllocError>
+    ensures { IfOk result (λ plans. spec.ArePlansBeside alone (workspace_text workspace.now) (words_text holds_on words.now) (map member_plan_text plans.items)) }
+{
+    if alone {
+        plans_of(alloc, workspace, words)
+    } else {
+        Ok(Vec::new(alloc))
+    }
+}
+
+/// Returns the text about what `plan` builds several times, which is the plan of `words`. With `alone` it is also about the features that
+/// differ if each selected member is selected alone.
 pub(crate) fn duplicates_text<'w>(
     alloc: Global,
     format: Format,
+    alone: bool,
     files: &[PlatformFile<'_>],
     workspace: &'w Workspace<'_>,
     words: &PlanWords<'w, '_, HeldSpecs<'_>>,
     plan: &Plan<'_>,
 ) -> Result<Vec<u8>, AllocError>
-    ensures { IfOk result (λ text. spec.IsDuplicatesText format (map file_text files.now) (workspace_text workspace.now) (words_text holds_on words.now) (plan_text plan.now) text.items) }
+    ensures { IfOk result (λ text. spec.IsDuplicatesText format alone (map file_text files.now) (workspace_text workspace.now) (words_text holds_on words.now) (plan_text plan.now) text.items) }
 {
     let names = target_names(alloc, files)?;
-    let plans = plans_of(alloc, workspace, words)?;
+    let plans = plans_beside(alloc, alone, workspace, words)?;
     let packages = workspace.packages();
     text_of_units(alloc, format, &names, packages, plan.units(), &plans)
 }

@@ -3,7 +3,10 @@
 
 mod answer;
 mod answers;
+mod asked;
 mod duplicate_texts;
+mod edge_texts;
+mod feature_texts;
 mod gathered;
 mod labels_on;
 mod list_texts;
@@ -12,9 +15,11 @@ mod off_parts;
 mod parts;
 mod places;
 mod plan_texts;
+mod policy_texts;
 mod spec_texts;
 mod tree_texts;
 mod why_texts;
 
 pub use answer::Answer;
 pub use answers::answer_to;
+pub use asked::Asked;

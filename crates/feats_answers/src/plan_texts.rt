@@ -15,7 +15,10 @@ use plan_lines::{Shown, lines_of, objects_of};
 use std::alloc::{AllocError, Global};
 
 /// Returns the triples of `files`.
-fn triples_of<'f>(alloc: Global, files: &[PlatformFile<'f>]) -> Result<Vec<&'f str>, AllocError>
+pub(crate) fn triples_of<'f>(
+    alloc: Global,
+    files: &[PlatformFile<'f>],
+) -> Result<Vec<&'f str>, AllocError>
     ensures { IfOk result (λ names. texts names.items ≡ map (λ f. f.triple) (map file_text files.now)) }
 {
     let mut names = Vec::with_capacity(alloc, files.len())?;

@@ -144,7 +144,7 @@ fn founds_shown(
 }
 
 /// Returns the spots of `named`: each on the target side, and then on the host side.
-fn spots_of<'w>(alloc: Global, named: &[Named<'w>]) -> Result<Vec<Spot<'w>>, AllocError>
+pub(crate) fn spots_of<'w>(alloc: Global, named: &[Named<'w>]) -> Result<Vec<Spot<'w>>, AllocError>
     ensures { IfOk result (λ spots. map spot_text spots.items ≡ flat_map spec.spots_of_part (map named_text named.now)) }
 {
     let mut spots = Vec::new(alloc);

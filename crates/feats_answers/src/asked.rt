@@ -1,0 +1,15 @@
+//! What is asked about a build.
+
+use feats_files::PlatformFile;
+use feats_words::CommandArguments;
+use policies::Rule;
+
+/// What is asked about a build.
+#[derive(Clone, Copy)]
+pub struct Asked<'a, 'w, 'p, 'n> {
+    pub arguments: &'a CommandArguments<'w>,
+    /// The rules of the policy of `check`. Empty without a policy.
+    pub rules: &'a [Rule<'p>],
+    /// The files of the target platforms. Empty if the arguments name none.
+    pub targets: &'a [PlatformFile<'n>],
+}
