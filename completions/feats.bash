@@ -3,15 +3,22 @@
 # Prints the words of a list. The arguments are the program, feats or cargo, and the name of a command or `commands`.
 _feats_list() {
   case "$1 $2" in
-    'feats commands') echo 'plan why why-not specs list duplicates tree dot help' ;;
-    'feats plan' | 'feats why-not' | 'feats specs' | 'feats list' | 'feats duplicates' | 'feats dot') echo '--metadata --host --target --resolver --manifest -p --package --workspace -F --features --all-features --no-default-features --tests --format -h --help' ;;
+    'feats commands') echo 'plan why why-not specs list duplicates tree dot check diff help' ;;
+    'feats plan' | 'feats why-not' | 'feats specs' | 'feats list') echo '--metadata --host --target --resolver --manifest -p --package --workspace -F --features --all-features --no-default-features --tests --format -h --help' ;;
     'feats why') echo '--all --metadata --host --target --resolver --manifest -p --package --workspace -F --features --all-features --no-default-features --tests --format -h --help' ;;
-    'feats tree') echo '-i --invert --depth --metadata --host --target --resolver --manifest -p --package --workspace -F --features --all-features --no-default-features --tests --format -h --help' ;;
+    'feats duplicates') echo '--alone --metadata --host --target --resolver --manifest -p --package --workspace -F --features --all-features --no-default-features --tests --format -h --help' ;;
+    'feats tree') echo '-i --invert --depth -e --edges --metadata --host --target --resolver --manifest -p --package --workspace -F --features --all-features --no-default-features --tests --format -h --help' ;;
+    'feats dot') echo '-e --edges --metadata --host --target --resolver --manifest -p --package --workspace -F --features --all-features --no-default-features --tests --format -h --help' ;;
+    'feats check') echo '--every-choice --metadata --host --target --resolver --manifest -p --package --workspace -F --features --all-features --no-default-features --tests --format -h --help' ;;
+    'feats diff') echo '--host --target --resolver --manifest -p --package --workspace -F --features --all-features --no-default-features --tests --format -h --help' ;;
     'feats help') echo '' ;;
-    'cargo commands') echo 'plan why why-not specs list duplicates tree dot' ;;
-    'cargo plan' | 'cargo why-not' | 'cargo specs' | 'cargo list' | 'cargo duplicates' | 'cargo dot') echo '--target --resolver --manifest -p --package --workspace -F --features --all-features --no-default-features --tests --format -h --help --manifest-path --locked --offline --frozen' ;;
+    'cargo commands') echo 'plan why why-not specs list duplicates tree dot check diff' ;;
+    'cargo plan' | 'cargo why-not' | 'cargo specs' | 'cargo list' | 'cargo diff') echo '--target --resolver --manifest -p --package --workspace -F --features --all-features --no-default-features --tests --format -h --help --manifest-path --locked --offline --frozen' ;;
     'cargo why') echo '--all --target --resolver --manifest -p --package --workspace -F --features --all-features --no-default-features --tests --format -h --help --manifest-path --locked --offline --frozen' ;;
-    'cargo tree') echo '-i --invert --depth --target --resolver --manifest -p --package --workspace -F --features --all-features --no-default-features --tests --format -h --help --manifest-path --locked --offline --frozen' ;;
+    'cargo duplicates') echo '--alone --target --resolver --manifest -p --package --workspace -F --features --all-features --no-default-features --tests --format -h --help --manifest-path --locked --offline --frozen' ;;
+    'cargo tree') echo '-i --invert --depth -e --edges --target --resolver --manifest -p --package --workspace -F --features --all-features --no-default-features --tests --format -h --help --manifest-path --locked --offline --frozen' ;;
+    'cargo dot') echo '-e --edges --target --resolver --manifest -p --package --workspace -F --features --all-features --no-default-features --tests --format -h --help --manifest-path --locked --offline --frozen' ;;
+    'cargo check') echo '--every-choice --target --resolver --manifest -p --package --workspace -F --features --all-features --no-default-features --tests --format -h --help --manifest-path --locked --offline --frozen' ;;
   esac
 }
 
@@ -22,7 +29,7 @@ _feats_value() {
     'feats --host' | 'feats --target') echo platforms ;;
     'feats --resolver' | 'cargo --resolver') echo 'words 1 2 3' ;;
     'feats -p' | 'feats --package' | 'feats -i' | 'feats --invert' | 'cargo -p' | 'cargo --package' | 'cargo -i' | 'cargo --invert') echo packages ;;
-    'feats -F' | 'feats --features' | 'feats --depth' | 'cargo -F' | 'cargo --features' | 'cargo --depth') echo none ;;
+    'feats -F' | 'feats --features' | 'feats --depth' | 'feats -e' | 'feats --edges' | 'cargo -F' | 'cargo --features' | 'cargo --depth' | 'cargo -e' | 'cargo --edges') echo none ;;
     'feats --format' | 'cargo --format') echo 'words text json' ;;
     'cargo --target') echo triples ;;
   esac
@@ -32,7 +39,8 @@ _feats_value() {
 _feats_word() {
   case "$1 $2" in
     'why 0' | 'why-not 0' | 'list 0') echo packages ;;
-    'help 0') echo 'words plan why why-not specs list duplicates tree dot' ;;
+    'check 0' | 'diff 0' | 'diff 1') echo files ;;
+    'help 0') echo 'words plan why why-not specs list duplicates tree dot check diff' ;;
   esac
 }
 
