@@ -1,12 +1,12 @@
 //! What a plan builds, by package.
-ghost use Rattle.std.specs.Prelude.{◌≡◌, ◌++◌, List, IfOk, map};
+ghost use Rattle.std.specs.Prelude.{◌≡◌, ◌++◌, ◌∷◌, [], ℕ, List, IfOk, OnOk, if◌then◌else◌, map, nat_eq};
 ghost use Rattle.std.specs.List.{list_any};
 ghost use Rattle.std.specs.Str.{bytes_eq};
 ghost use Rattle.cargo_workspaces.specs.Views.{texts};
 ghost use Rattle.plan_units.specs.Units.{UnitText};
 ghost use Rattle.plan_units.specs.UnitViews.{unit_text};
 ghost use Rattle.plan_losses.specs.Losses as spec;
-ghost use Rattle.plan_losses.specs.inner.Groups.{HasPlaces, lists_text};
+ghost use Rattle.plan_losses.specs.inner.Groups.{HasPlaces, group_at, lists_text};
 
 use crate::groups::{add, group_of};
 use plan_units::Unit;
@@ -15,6 +15,13 @@ use std::collections::BTreeMap;
 
 /// The lists of features of each package in the places where a plan builds it.
 pub(crate) type Places<'u, 'w> = BTreeMap<usize, Vec<&'u [&'w str]>>;
+
+/// Adds the place of `unit` to those of its package.
+fn push_place<'u, 'w>(groups: &mut Places<'u, 'w>, unit: &'u Unit<'w>) -> Result<(), AllocError>
+    ensures { OnOk result ((q : ℕ) → lists_text (group_at groups.new q) ≡ lists_text (group_at groups.old q) ++ (if nat_eq q (unit_text unit.now).number then (unit_text unit.now).features ∷ [] else [])) }
+{
+    add(groups, unit.package, unit.features.as_slice())
+}
 
 /// Returns the places of each package that `units` build: the features there.
 pub(crate) fn places_by_package<'u, 'w>(
@@ -25,7 +32,7 @@ pub(crate) fn places_by_package<'u, 'w>(
 {
     let mut groups = BTreeMap::new(alloc);
     for unit in units {
-        add(&mut groups, unit.package, unit.features.as_slice())?;
+        push_place(&mut groups, unit)?;
     }
     Ok(groups)
 }
