@@ -1,0 +1,50 @@
+-- Steps of loops over lists.
+use Rattle.std.proofs.Common.{◌≡◌, ℕ, suc, ◌+◌, ◌<◌, List, [], ◌∷◌, ◌++◌, Bool, true, false, cond, length, map, filter, drop, get_or, refl, ap, sym, ◌∙◌, add-one, drop-cons, append_assoc, arith}
+use Rattle.std.proofs.lemmas.List.{map-append}
+use Rattle.plan_starts.specs.Lists.{joined_from}
+
+-- the rest of a list from an item on
+cut_at : {X : Type 0} (xs : List X) (i : ℕ) (x : X) → i < length xs → x ≡ get_or xs i x → drop i xs ≡ x ∷ drop (i + 1) xs
+cut_at xs i x within is = rw (add-one) (drop-cons xs i x within ∙ ap (λ y. y ∷ drop (suc i) xs) (sym is))
+
+-- one more item, and what is joined for it
+pub joined_more : {X Y Z : Type 0} (g : X → Y) (f : ℕ → Y → List Z) (xs : List X) (i : ℕ) (x : X) (all so_far new : List Z) → i < length xs → x ≡ get_or xs i x
+    → all ≡ so_far ++ joined_from f i (map g (drop i xs)) → new ≡ so_far ++ f i (g x) → all ≡ new ++ joined_from f (i + 1) (map g (drop (i + 1) xs))
+joined_more g f xs i x all so_far new within is so grown =
+    let rest = joined_from f (i + 1) (map g (drop (i + 1) xs)) in
+    so ∙ ap (λ ys. so_far ++ joined_from f i (map g ys)) (cut_at xs i x within is)
+    ∙ sym (append_assoc so_far (f i (g x)) rest)
+    ∙ ap (λ z. z ++ rest) (sym grown)
+
+-- the rest of a list from a place on
+rest_at : {X : Type 0} (xs : List X) (i : ℕ) → i < length xs → (x : X) × (drop i xs ≡ x ∷ drop (i + 1) xs)
+rest_at [] i within = absurd (omega arith)
+rest_at (y ∷ ys) i within = (get_or (y ∷ ys) i y, rw (add-one) (drop-cons (y ∷ ys) i y within))
+
+-- one more place, and what is joined for its number
+pub numbered_more : {X Y Z : Type 0} (g : X → Y) (f : ℕ → List Z) (xs : List X) (i : ℕ) (all so_far new : List Z) → i < length xs
+    → all ≡ so_far ++ joined_from (λ k y. f k) i (map g (drop i xs)) → new ≡ so_far ++ f i → all ≡ new ++ joined_from (λ k y. f k) (i + 1) (map g (drop (i + 1) xs))
+numbered_more g f xs i all so_far new within so grown =
+    let rest = joined_from (λ k y. f k) (i + 1) (map g (drop (i + 1) xs)) in
+    so ∙ ap (λ ys. so_far ++ joined_from (λ k y. f k) i (map g ys)) (rest_at xs i within).1
+    ∙ sym (append_assoc so_far (f i) rest)
+    ∙ ap (λ z. z ++ rest) (sym grown)
+
+seen_or_not : {Y Z : Type 0} (h : Y → Z) (b : Bool) (y : Y) (rest : List Y) → map h (cond b (y ∷ rest) rest) ≡ cond b (h y ∷ []) [] ++ map h rest
+seen_or_not h true y rest = refl
+seen_or_not h false y rest = refl
+
+-- one more item, and what is seen of it if it passes the test
+pub mapped_more : {X Y Z : Type 0} (g : X → Y) (test : Y → Bool) (h : Y → Z) (xs : List X) (i : ℕ) (x : X) (all so_far new : List Z) → i < length xs → x ≡ get_or xs i x
+    → all ≡ so_far ++ map h (filter test (map g (drop i xs))) → new ≡ so_far ++ cond (test (g x)) (h (g x) ∷ []) [] → all ≡ new ++ map h (filter test (map g (drop (i + 1) xs)))
+mapped_more g test h xs i x all so_far new within is so grown =
+    let rest = filter test (map g (drop (i + 1) xs)) in
+    so ∙ ap (λ ys. so_far ++ map h (filter test (map g ys))) (cut_at xs i x within is)
+    ∙ ap (λ z. so_far ++ z) (seen_or_not h (test (g x)) (g x) rest)
+    ∙ sym (append_assoc so_far (cond (test (g x)) (h (g x) ∷ []) []) (map h rest))
+    ∙ ap (λ z. z ++ map h rest) (sym grown)
+
+-- what is seen of a list to which an item may be added
+pub added : {A B : Type 0} (f : A → B) (xs new : List A) (b : Bool) (x : A) → new ≡ xs ++ cond b (x ∷ []) [] → map f new ≡ map f xs ++ cond b (f x ∷ []) []
+added f xs new true x is = ap (map f) is ∙ map-append f xs (x ∷ [])
+added f xs new false x is = ap (map f) is ∙ map-append f xs []

@@ -1,0 +1,3 @@
+pub mod LossViews
+pub mod Losses
+pub mod inner

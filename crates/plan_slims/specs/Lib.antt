@@ -1,0 +1,3 @@
+pub mod Orders
+pub mod SlimViews
+pub mod Slims

@@ -1,0 +1,13 @@
+//! What falls away by an edit.
+
+use workspace_edits::Edit;
+
+/// An edit, and how much of a build falls away by it.
+#[derive(Clone, Copy)]
+pub struct Slim<'v> {
+    pub edit: Edit<'v>,
+    /// The number of packages that are built nowhere any more.
+    pub packages: usize,
+    /// The number of features that are on nowhere any more.
+    pub features: usize,
+}

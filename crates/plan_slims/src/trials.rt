@@ -1,0 +1,134 @@
+//! Edits that are tried: the plan of the edited workspace.
+ghost use Rattle.std.specs.Prelude.{◌≡◌, IfOk, map};
+ghost use Rattle.cargo_workspaces.specs.Views.{package_text};
+ghost use Rattle.cargo_workspaces.specs.WorkspaceView.{workspace_text};
+ghost use Rattle.cargo_plans.specs.WordsView.{words_text};
+ghost use Rattle.plan_losses.specs.Losses.{losses_of as losses_by};
+ghost use Rattle.plan_steps.specs.PlanViews.{plan_text};
+ghost use Rattle.plan_units.specs.UnitViews.{unit_text};
+ghost use Rattle.workspace_edits.specs.EditViews.{edit_text};
+ghost use Rattle.plan_slims.specs.Slims.{AreTried, HasNumbersOf, IsTried, IsTriedIn, nothing};
+ghost use Rattle.plan_slims.specs.SlimViews.{slim_text};
+
+use crate::lost::Slim;
+use cargo_plans::{Plan, PlanFault, PlanWords, Unit, plan};
+use cargo_workspaces::{Package, Workspace};
+use plan_losses::losses_of;
+use plan_rows::Platform;
+use std::alloc::{AllocError, Global};
+use workspace_edits::{Edit, edited};
+
+/// Returns how much falls away by `edit`, if the units of the plan are `before`, and `after` in the edited workspace.
+fn counted<'v>(
+    alloc: Global,
+    packages: &[Package<'_>],
+    before: &[Unit<'_>],
+    edit: &Edit<'v>,
+    after: &[Unit<'_>],
+) -> Result<Slim<'v>, AllocError>
+    ensures edit { IfOk result (λ slim. (slim_text slim).edit ≡ edit_text edit.now) }
+    ensures numbers { IfOk result (λ slim. HasNumbersOf (losses_by (map package_text packages.now) (map unit_text before.now) (map unit_text after.now)) (slim_text slim)) }
+{
+    let losses = losses_of(alloc, packages, before, after)?;
+    Ok(Slim {
+        edit: *edit,
+        packages: losses.packages.len(),
+        features: losses.features.len(),
+    })
+}
+
+/// Returns how much falls away by `edit`, after which the plan is `after`. That is dropped, because it also has the visits of the steps.
+fn counted_by<'v>(
+    alloc: Global,
+    packages: &[Package<'_>],
+    before: &[Unit<'_>],
+    edit: &Edit<'v>,
+    after: Plan<'_>,
+) -> Result<Slim<'v>, AllocError>
+    ensures edit { IfOk result (λ slim. (slim_text slim).edit ≡ edit_text edit.now) }
+    ensures numbers { IfOk result (λ slim. HasNumbersOf (losses_by (map package_text packages.now) (map unit_text before.now) (plan_text after.entry).units) (slim_text slim)) }
+{
+    let slim = counted(alloc, packages, before, edit, after.units());
+    drop(after);
+    slim
+}
+
+/// Returns `edit`, by which nothing falls away.
+fn without_loss<'v>(edit: &Edit<'v>) -> Slim<'v>
+    ensures edit { (slim_text result).edit ≡ edit_text edit.now }
+    ensures numbers { HasNumbersOf nothing (slim_text result) }
+{
+    Slim {
+        edit: *edit,
+        packages: 0,
+        features: 0,
+    }
+}
+
+/// Returns how much falls away by `edit`, which makes the workspace `edited`.
+fn tried_in<'w, 'v, P: Platform>(
+    alloc: Global,
+    packages: &[Package<'_>],
+    edited: &'w Workspace<'_>,
+    words: &PlanWords<'w, '_, P>,
+    before: &[Unit<'_>],
+    edit: &Edit<'v>,
+) -> Result<Slim<'v>, AllocError>
+    ensures edit { IfOk result (λ slim. (slim_text slim).edit ≡ edit_text edit.now) }
+    ensures tried { IfOk result (λ slim. IsTriedIn (map package_text packages.now) (workspace_text edited.now) (words_text P.holds words.now) (map unit_text before.now) (slim_text slim)) }
+{
+    match plan(alloc, edited, words) {
+        Ok(after) => counted_by(alloc, packages, before, edit, after),
+        Err(PlanFault::Memory) => Err(AllocError),
+        Err(_) => Ok(without_loss(edit)),
+    }
+}
+
+/// Returns `words` for the workspace `edited`.
+fn words_in<'s, 'w: 's, 'n, P: Platform>(
+    edited: &'s Workspace<'_>,
+    words: &PlanWords<'w, 'n, P>,
+) -> PlanWords<'s, 'n, P>
+    ensures { words_text P.holds result ≡ words_text P.holds words.now }
+{
+    let _ = edited;
+    PlanWords {
+        selection: words.selection,
+        test: words.test,
+        host: words.host,
+        targets: words.targets,
+    }
+}
+
+/// Returns how much falls away by `edit` of `workspace`, if `before` are the units of its plan.
+fn tried<'w, 'v, P: Platform>(
+    alloc: Global,
+    workspace: &Workspace<'v>,
+    words: &PlanWords<'w, '_, P>,
+    before: &[Unit<'_>],
+    edit: &Edit<'v>,
+) -> Result<Slim<'v>, AllocError>
+    ensures edit { IfOk result (λ slim. (slim_text slim).edit ≡ edit_text edit.now) }
+    ensures tried { IfOk result (λ slim. IsTried (workspace_text workspace.now) (words_text P.holds words.now) (map unit_text before.now) (slim_text slim)) }
+{
+    let edited = edited(alloc, workspace, edit)?;
+    let here = words_in(&edited, words);
+    tried_in(alloc, workspace.packages(), &edited, &here, before, edit)
+}
+
+/// Returns how much falls away by each of `edits`, in their order.
+pub(crate) fn all_tried<'w, 'v, P: Platform>(
+    alloc: Global,
+    workspace: &Workspace<'v>,
+    words: &PlanWords<'w, '_, P>,
+    before: &[Unit<'_>],
+    edits: &[Edit<'v>],
+) -> Result<Vec<Slim<'v>>, AllocError>
+    ensures { IfOk result (λ tried. AreTried (workspace_text workspace.now) (words_text P.holds words.now) (map unit_text before.now) (map edit_text edits.now) (map slim_text tried.items)) }
+{
+    let mut all = Vec::with_capacity(alloc, edits.len())?;
+    for edit in edits {
+        all.push(tried(alloc, workspace, words, before, edit)?)?;
+    }
+    Ok(all)
+}

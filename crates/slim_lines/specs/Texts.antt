@@ -1,0 +1,21 @@
+-- The text about the edits by which a build is smaller.
+use Rattle.std.specs.Prelude.{◌≡◌, List}
+use Rattle.cargo_workspaces.specs.Workspaces.{Text, PackageText, WorkspaceText}
+use Rattle.cargo_plans.specs.Plans.{WordsText}
+use Rattle.feats_words.specs.declared.command_arguments.Format.{Format}
+use Rattle.feats_words.specs.declared.command_arguments.Format.TheVariants as format
+use Rattle.plan_slims.specs.Orders.{SlimText}
+use Rattle.plan_slims.specs.Slims.{AreSlimsOf}
+use Rattle.plan_units.specs.Units.{UnitText}
+use Rattle.slim_lines.specs.Lines.{slim_lines}
+use Rattle.slim_lines.specs.Objects.{slim_objects}
+
+abbrev pub text_by : Format → List PackageText → List SlimText → Text
+text_by format.Text packages slims = slim_lines packages slims
+text_by format.Json packages slims = slim_objects packages slims
+
+-- The text about the edits of the selected members' declarations by which less is built than these units.
+pub record IsSlimText (form : Format) (w : WorkspaceText) (words : WordsText) (units : List UnitText) (text : Text) : Type 0 where
+  pub slims : List SlimText
+  pub are_slims : AreSlimsOf w words units slims
+  pub is_text : text ≡ text_by form w.packages slims
