@@ -1,0 +1,2 @@
+pub mod EditViews
+pub mod Edits

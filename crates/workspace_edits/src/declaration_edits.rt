@@ -1,0 +1,166 @@
+//! The edits of declarations.
+ghost use Rattle.std.specs.Prelude.{◌≡◌, ◌++◌, ◌∷◌, [], IfOk, OnOk, if◌then◌else◌, map, option_map, slice_get};
+ghost use Rattle.std.specs.List.{list_any};
+ghost use Rattle.std.specs.Str.{bytes_eq};
+ghost use Rattle.cargo_workspaces.specs.Views.{declaration_text, package_text, texts};
+ghost use Rattle.cargo_workspaces.specs.WorkspaceView.{workspace_text};
+ghost use Rattle.workspace_edits.specs.EditViews.{edit_text, without_text};
+ghost use Rattle.workspace_edits.specs.Edits as spec;
+
+use crate::edits::{Edit, Without};
+use cargo_workspaces::{Declaration, Package, Workspace};
+use std::alloc::{AllocError, Global};
+
+/// Returns whether `text` is one of `listed`.
+fn is_listed(listed: &[&str], text: &str) -> bool
+    ensures { result ≡ list_any (bytes_eq text.now) (texts listed.now) }
+{
+    for one in listed {
+        if text == *one {
+            return true;
+        }
+    }
+    false
+}
+
+/// Appends `text`, unless `listed` has it.
+fn push_once<'v>(listed: &mut Vec<&'v str>, text: &'v str) -> Result<(), AllocError>
+    ensures { OnOk result (texts listed.new.items ≡ spec.with_text (texts listed.old.items) text.now) }
+{
+    if !is_listed(listed, text) {
+        listed.push(text)?;
+    }
+    Ok(())
+}
+
+/// Returns `features`, each once.
+fn once<'v>(alloc: Global, features: &[&'v str]) -> Result<Vec<&'v str>, AllocError>
+    ensures { IfOk result (λ listed. texts listed.items ≡ spec.once (texts features.now)) }
+{
+    let mut listed = Vec::new(alloc);
+    for feature in features {
+        push_once(&mut listed, feature)?;
+    }
+    Ok(listed)
+}
+
+/// Appends the default features, if `flag`.
+fn push_defaults(parts: &mut Vec<Without<'_>>, flag: bool) -> Result<(), AllocError>
+    ensures { OnOk result (map without_text parts.new.items ≡ map without_text parts.old.items ++ (if flag then spec.defaults ∷ [] else [])) }
+{
+    if flag {
+        parts.push(Without::Defaults)?;
+    }
+    Ok(())
+}
+
+/// Appends each of `features`.
+fn push_features<'v>(parts: &mut Vec<Without<'v>>, features: &[&'v str]) -> Result<(), AllocError>
+    ensures { OnOk result (map without_text parts.new.items ≡ map without_text parts.old.items ++ map spec.feature (texts features.now)) }
+{
+    for feature in features {
+        parts.push(Without::Feature(*feature))?;
+    }
+    Ok(())
+}
+
+/// Returns what edits take out of `declaration`: its default features, if it uses them, and then each feature that it lists.
+fn parts_of<'v>(
+    alloc: Global,
+    declaration: &Declaration<'v>,
+) -> Result<Vec<Without<'v>>, AllocError>
+    ensures { IfOk result (λ parts. map without_text parts.items ≡ spec.parts_of (declaration_text declaration.now)) }
+{
+    let features = once(alloc, &declaration.features)?;
+    let mut parts = Vec::new(alloc);
+    push_defaults(&mut parts, declaration.default_features)?;
+    push_features(&mut parts, &features)?;
+    Ok(parts)
+}
+
+/// Appends the edits of declaration `number` of package `package`, which take out `parts`.
+fn push_parts<'v>(
+    edits: &mut Vec<Edit<'v>>,
+    package: usize,
+    number: usize,
+    parts: &[Without<'v>],
+) -> Result<(), AllocError>
+    ensures { OnOk result (map edit_text edits.new.items ≡ map edit_text edits.old.items ++ map (spec.edit_by «package» number) (map without_text parts.now)) }
+{
+    for part in parts {
+        edits.push(Edit {
+            package,
+            declaration: number,
+            without: *part,
+        })?;
+    }
+    Ok(())
+}
+
+/// Appends the edits of `declaration`, which has number `number` in package `package`.
+fn push_declaration<'v>(
+    alloc: Global,
+    edits: &mut Vec<Edit<'v>>,
+    package: usize,
+    number: usize,
+    declaration: &Declaration<'v>,
+) -> Result<(), AllocError>
+    ensures { OnOk result (map edit_text edits.new.items ≡ map edit_text edits.old.items ++ map (spec.edit_by «package» number) (spec.parts_of (declaration_text declaration.now))) }
+{
+    let parts = parts_of(alloc, declaration)?;
+    push_parts(edits, package, number, &parts)
+}
+
+/// Appends the edits of `declarations`, which are those of package `package`.
+fn push_declarations<'v>(
+    alloc: Global,
+    edits: &mut Vec<Edit<'v>>,
+    package: usize,
+    declarations: &[Declaration<'v>],
+) -> Result<(), AllocError>
+    ensures { OnOk result (map edit_text edits.new.items ≡ map edit_text edits.old.items ++ spec.edits_from «package» 0 (map declaration_text declarations.now)) }
+{
+    for (number, declaration) in declarations.iter().enumerate() {
+        push_declaration(alloc, edits, package, number, declaration)?;
+    }
+    Ok(())
+}
+
+/// Returns package `package` of `packages`, if there is one.
+fn package_at<'u, 'v>(packages: &'u [Package<'v>], package: usize) -> Option<&'u Package<'v>>
+    ensures { option_map (λ p. package_text p.now) result ≡ slice_get (map package_text packages.now) «package» }
+{
+    packages.get(package)
+}
+
+/// Appends the edits of package `package` of `packages`, if there is one.
+fn push_package<'v>(
+    alloc: Global,
+    edits: &mut Vec<Edit<'v>>,
+    packages: &[Package<'v>],
+    package: usize,
+) -> Result<(), AllocError>
+    ensures { OnOk result (map edit_text edits.new.items ≡ map edit_text edits.old.items ++ spec.edits_at (map package_text packages.now) «package») }
+{
+    match package_at(packages, package) {
+        Some(described) => push_declarations(alloc, edits, package, &described.declarations),
+        None => Ok(()),
+    }
+}
+
+/// Returns the edits of the declarations of the packages with the numbers `packages`, package by package. For each declaration these are
+/// the edit without default features, if it uses them, and one without each feature that it lists. An allocation's failure is the
+/// only error.
+pub fn edits_of<'v>(
+    alloc: Global,
+    workspace: &Workspace<'v>,
+    packages: &[usize],
+) -> Result<Vec<Edit<'v>>, AllocError>
+    ensures { IfOk result (λ edits. map edit_text edits.items ≡ spec.edits_of (workspace_text workspace.now) packages.now) }
+{
+    let mut edits = Vec::new(alloc);
+    for package in packages {
+        push_package(alloc, &mut edits, workspace.packages(), *package)?;
+    }
+    Ok(edits)
+}
