@@ -1,5 +1,5 @@
 -- The packages that members build differently although they have got lines for them.
-use Rattle.std.specs.Prelude.{◌≡◌, ℕ, List, Bool, true, false, ◌&&◌, map, nat_eq, not}
+use Rattle.std.specs.Prelude.{◌≡◌, ℕ, List, [], ◌∷◌, Bool, true, false, ◌&&◌, map, nat_eq, not}
 use Rattle.std.specs.List.{filter, list_all, list_any}
 use Rattle.cargo_workspaces.specs.Workspaces.{Text, PackageText, WorkspaceText}
 use Rattle.cargo_plans.specs.Plans.{WordsText}
@@ -45,6 +45,14 @@ pub record AreDisagreementsIn (w : WorkspaceText) (words : WordsText) (names : L
   pub are_plans : ArePlansAlone w words plans
   pub are_listed : list ≡ disagreements w.packages names plans alone
 
--- THE DISAGREEMENTS: those in the joined workspace.
+-- THE DISAGREEMENTS: those in the joined workspace. Without packages to agree on there are none.
 abbrev pub AreDisagreements : WorkspaceText → WordsText → List Text → List AloneText → List DisagreementText → Type 0
-AreDisagreements w words names alone list = AreDisagreementsIn (joined_workspace w alone) words names alone list
+AreDisagreements w words names [] list = list ≡ []
+AreDisagreements w words names (a ∷ more) list = AreDisagreementsIn (joined_workspace w (a ∷ more)) words names (a ∷ more) list
+
+abbrev pub is_of : AloneText → DisagreementText → Bool
+is_of a d = nat_eq a.number d.number && same_place a.place d.place
+
+-- Whether none of the disagreements is of the package and the place of `a`.
+abbrev pub is_agreed : List DisagreementText → AloneText → Bool
+is_agreed disagreements a = not (list_any (is_of a) disagreements)

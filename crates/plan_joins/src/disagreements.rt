@@ -9,6 +9,7 @@ ghost use Rattle.plan_duplicates.specs.MemberPlans.{ArePlansAlone};
 ghost use Rattle.plan_duplicates.specs.Views.{alone_text, member_plan_text, member_unit_text, outcome_text};
 ghost use Rattle.plan_joins.specs.Disagreements as spec;
 ghost use Rattle.plan_joins.specs.Disagreements.{AreDisagreements, AreDisagreementsIn};
+ghost use Rattle.plan_joins.specs.Joined.{joined_workspace as joined_of};
 ghost use Rattle.plan_joins.specs.Views.{disagreement_text};
 
 use crate::joined::joined_workspace;
@@ -45,7 +46,7 @@ fn is_plan_of(plan: &MemberPlan<'_>, member: usize) -> bool
 
 /// Returns whether the member of `row` has a plan among `plans`.
 fn has_plan(plans: &[MemberPlan<'_>], row: MemberUnit<'_, '_>) -> bool
-    ensures { result ≡ spec.has_plan (map member_plan_text plans.now) (member_unit_text row) }
+    ensures { result ≡ spec.has_plan (map member_plan_text plans.now) (member_unit_text row.entry) }
 {
     for plan in plans {
         if is_plan_of(plan, row.member) {
@@ -183,6 +184,23 @@ fn disagreements_with<P: Platform>(
     disagreements_in(alloc, workspace.packages(), names, &plans, list)
 }
 
+/// Returns those of `list` on which the members that `words` select don't agree if each is planned alone in the joined workspace.
+fn disagreements_joined<P: Platform>(
+    alloc: Global,
+    workspace: &Workspace<'_>,
+    words: &PlanWords<'_, '_, P>,
+    names: &[&str],
+    list: &[Alone<'_, '_>],
+) -> Result<Vec<Disagreement>, AllocError>
+    ensures { IfOk result (λ found. AreDisagreementsIn (joined_of (workspace_text workspace.now) (map alone_text list.now))
+        (words_text P.holds words.now) (texts names.now) (map alone_text list.now) (map disagreement_text found.items)) }
+{
+    let joined = joined_workspace(alloc, workspace, list)?;
+    let found = disagreements_with(alloc, &joined, words, names, list);
+    drop(joined);
+    found
+}
+
 /// Returns those of `list` on which the members still don't agree after each has got a line for them. These are the packages and places
 /// that get different features if each member that `words` select is planned alone in the joined workspace, and those that a
 /// member builds which has no plan there. The target platforms have the names `names`. An allocation's failure is the only error.
@@ -195,8 +213,27 @@ pub fn disagreements_of<P: Platform>(
 ) -> Result<Vec<Disagreement>, AllocError>
     ensures { IfOk result (λ found. AreDisagreements (workspace_text workspace.now) (words_text P.holds words.now) (texts names.now) (map alone_text list.now) (map disagreement_text found.items)) }
 {
-    let joined = joined_workspace(alloc, workspace, list)?;
-    let found = disagreements_with(alloc, &joined, words, names, list);
-    drop(joined);
-    found
+    match list {
+        [] => Ok(Vec::new(alloc)),
+        [_, ..] => disagreements_joined(alloc, workspace, words, names, list),
+    }
+}
+
+/// Returns whether `disagreement` is of the package and the place of `alone`.
+fn is_of(alone: &Alone<'_, '_>, disagreement: &Disagreement) -> bool
+    ensures { result ≡ spec.is_of (alone_text alone.now) (disagreement_text disagreement.now) }
+{
+    alone.package == disagreement.package && same_place(alone.place, disagreement.place)
+}
+
+/// Returns whether none of `disagreements` is of the package and the place of `alone`.
+pub fn is_agreed(disagreements: &[Disagreement], alone: &Alone<'_, '_>) -> bool
+    ensures { result ≡ spec.is_agreed (map disagreement_text disagreements.now) (alone_text alone.now) }
+{
+    for disagreement in disagreements {
+        if is_of(alone, disagreement) {
+            return false;
+        }
+    }
+    true
 }

@@ -8,6 +8,6 @@ mod features;
 mod joined;
 mod joins;
 
-pub use disagreements::{Disagreement, disagreements_of};
+pub use disagreements::{Disagreement, disagreements_of, is_agreed};
 pub use features::{is_from_default_registry, joined_features};
 pub use joined::joined_workspace;
