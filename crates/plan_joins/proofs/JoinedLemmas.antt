@@ -1,5 +1,5 @@
 -- A joined workspace satisfies the rules of workspaces.
-use Rattle.std.proofs.Common.{◌≡◌, ◌∙◌, refl, ap, sym, subst, ℕ, suc, ◌+◌, List, [], ◌∷◌, ◌++◌, Bool, true, false, ◌&&◌, ◌||◌, cond, map, flat_map, filter, length, nat_eq, nat_lt, not, Option}
+use Rattle.std.proofs.Common.{◌≡◌, ◌∙◌, refl, ap, sym, subst, ℕ, suc, ◌+◌, List, [], ◌∷◌, ◌++◌, Bool, true, false, ◌&&◌, ◌||◌, cond, map, filter, length, nat_eq, nat_lt, not, Option}
 use Rattle.std.specs.Prelude.{IsTrue, Some, None, slice_get}
 use Rattle.std.specs.List.{AllByRecursion, list_all, list_any}
 use Rattle.std.specs.List.Sorted.{IsStrictlySortedBy}
@@ -13,7 +13,7 @@ use Rattle.std.proofs.lemmas.Slice.Eq.{bytes_eq-Decides}
 use Rattle.cargo_workspaces.specs.Workspaces.{DeclarationText, IsPackage, IsWorkspace, PackageText, Text, WorkspaceText, both_lead_to, is_other_name, is_within, text_cmp}
 use Rattle.plan_duplicates.specs.Alone.{AloneText}
 use Rattle.plan_joins.specs.Features.{is_from_default_registry}
-use Rattle.plan_joins.specs.Joined.{JoinText, declaration_of, is_for, join_if, join_of, joined_declarations, joined_from, joined_package, joined_packages, joined_workspace, joins_at, joins_of, name_among}
+use Rattle.plan_joins.specs.Joined.{JoinText, declaration_of, is_for, join_if, join_of, joined_from, joined_package, joined_packages, joined_workspace, joins_at, joins_of, name_among}
 
 all_append : {X : Type 0} (P : X → Type 0) (xs ys : List X) → AllByRecursion P xs → AllByRecursion P ys → AllByRecursion P (xs ++ ys)
 all_append P [] ys all more = more
@@ -93,9 +93,10 @@ module _ (ds : List DeclarationText) (other : ℕ → Text) where
       → AllByRecursion (Named names) xs
   named_by [] within all = tt
   named_by (d ∷ xs) within all =
-      let parts = and_parts (not (list_any (is_other_name d) ds)) (list_all (λ e. not (list_any (is_other_name e) ds)) xs) all in
-      ((λ p is. name_kept d p (other p) is ds (none (list_any (is_other_name d) ds) parts.0) (within p (ap (λ t. t || list_any (leads p) xs) (leads_itself d p is)))),
-       named_by xs (λ p h. within p (or_right (leads p d) (list_any (leads p) xs) h)) parts.1)
+      let parts = and_parts (not (list_any (is_other_name d) ds)) (list_all (λ e. not (list_any (is_other_name e) ds)) xs) all in (
+        (λ p is. name_kept d p (other p) is ds (none (list_any (is_other_name d) ds) parts.0) (within p (ap (λ t. t || list_any (leads p) xs) (leads_itself d p is)))),
+        named_by xs (λ p h. within p (or_right (leads p d) (list_any (leads p) xs) h)) parts.1,
+      )
     where
       none : (b : Bool) → not b ≡ true → b ≡ false
       none true h = sym h

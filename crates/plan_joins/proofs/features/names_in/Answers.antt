@@ -1,8 +1,8 @@
-use Rattle.std.proofs.Common.{◌∙◌, ◌++◌, ◌∷◌, [], List, ap, cond}
+use Rattle.std.proofs.Common.{◌∙◌, ◌++◌, ◌∷◌, [], ap, cond}
 use Rattle.std.specs.List.{list_any}
 use Rattle.std.specs.Str.{bytes_eq}
 use Rattle.cargo_workspaces.specs.Views.{feature_text, texts}
-use Rattle.cargo_workspaces.specs.Workspaces.{FeatureText, Text}
+use Rattle.cargo_workspaces.specs.Workspaces.{FeatureText}
 use Rattle.plan_duplicates.proofs.Lists.{mapped_more}
 use Rattle.plan_joins.proofs.features.names_in.Goals as goal
 
