@@ -21,7 +21,7 @@ returns-in-Some c =
     let rows = map member_unit_text c.args.alone.now.units.items in
     let agreed = is_agreed (map disagreement_text c.args.disagreements.now) (alone_text c.args.alone.now) in
     on_ok c.push_group.result c.push_group.ensures (λ grown. grown
-    ∙ ap (λ (b : Bool). old ++ alone_lines packages c.place_name-place.result.now (map member_unit_text c.deref.result.now) b x) c.is_agreed.ensures
+    ∙ ap (λ (b : Bool). old ++ alone_lines packages c.place_name-place.result.now (map member_unit_text c.deref.result.now) b x) c.is_agreed-agrees.ensures
     ∙ ap (λ (p : Text). old ++ alone_lines packages p (map member_unit_text c.deref.result.now) agreed x) c.place_name-place.ensures
     ∙ ap (λ (units : List MemberUnit). old ++ alone_lines packages place (map member_unit_text units) agreed x) c.deref.ensures.value
     ∙ ap (λ (o : Option PackageText). old ++ option_map_or (alone_lines packages place rows agreed) o []) c.in-Some.ensures)
