@@ -88,8 +88,8 @@ pub(crate) fn copy_of_declaration<'v>(
     Ok(declaration_with(declaration, declaration.default_features, features))
 }
 
-/// Returns copies of `declarations`.
-pub(crate) fn copies_of_declarations<'v>(
+/// Returns copies of `declarations`. An allocation's failure is the only error.
+pub fn copies_of_declarations<'v>(
     alloc: Global,
     declarations: &[Declaration<'v>],
 ) -> Result<Vec<Declaration<'v>>, AllocError>
@@ -102,8 +102,8 @@ pub(crate) fn copies_of_declarations<'v>(
     Ok(copies)
 }
 
-/// Returns a copy of `package` with `declarations` in place of its own.
-pub(crate) fn package_with<'v>(
+/// Returns a copy of `package` with `declarations` in place of its own. An allocation's failure is the only error.
+pub fn package_with<'v>(
     alloc: Global,
     package: &Package<'v>,
     declarations: Vec<Declaration<'v>>,

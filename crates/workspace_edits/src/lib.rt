@@ -6,6 +6,7 @@ mod declaration_edits;
 mod edited_workspace;
 mod edits;
 
+pub use copies::{copies_of_declarations, package_with};
 pub use declaration_edits::edits_of;
 pub use edited_workspace::edited;
 pub use edits::{Edit, Without};
