@@ -1,5 +1,5 @@
 //! The trees and the graph of the features that are on.
-ghost use Rattle.std.specs.Prelude.{◌≡◌, IfOk, IfErr, flat_map, map, option_map};
+ghost use Rattle.std.specs.Prelude.{◌≡◌, [], IfOk, IfErr, flat_map, map, option_map};
 ghost use Rattle.cargo_plans.specs.WordsView.{words_text};
 ghost use Rattle.cargo_workspaces.specs.WorkspaceView.{workspace_text};
 ghost use Rattle.feats_files.specs.Messages.{Says};

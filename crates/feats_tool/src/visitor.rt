@@ -55,11 +55,7 @@ impl PlanVisitor for AskedVisitor<'_, '_> {
 
     ghost refuses = { λ v p message. IsPlanRefusal (map rule_text v.rules.now) p message };
 
-    fn visit(
-        &self,
-        alloc: Global,
-        planned: &Planned<'_, '_, '_, '_, '_>,
-    ) -> Result<Answer, Fault> {
+    fn visit(&self, alloc: Global, planned: &Planned<'_, '_, '_, '_, '_>) -> Result<Answer, Fault> {
         planned_answer(alloc, self.rules, planned)
     }
 }

@@ -1,3 +1,4 @@
+use Rattle.std.proofs.Common.{◌≡◌}
 use Rattle.std.proofs.lemmas.Result.{IfOk-weaker}
 use Rattle.cargo_plans.specs.WordsView.{words_text}
 use Rattle.cargo_workspaces.specs.WorkspaceView.{workspace_text}
@@ -11,7 +12,7 @@ use Rattle.feats_plans.proofs.planning.planned_output.Goals as goal
 
 pub returns-in-Ok-clause-output : goal.returns-in-Ok-clause-output
 returns-in-Ok-clause-output g c =
-    IfOk-weaker c.visit.result _ _ (λ output h. record { plan = plan_text c.in-Ok.plan; is_plan = c.in-Ok.ensures.plan; holds = h; }) c.visit.ensures.output
+    IfOk-weaker c.visit.result _ _ (λ output h. record { plan = plan_text c.in-Ok.plan; is_plan = c.in-Ok.ensures.plan; holds = h }) c.visit.ensures.output
 
 pub returns-in-Ok-clause-fault : goal.returns-in-Ok-clause-fault
 returns-in-Ok-clause-fault g c =
