@@ -1,6 +1,6 @@
 -- Sets of packages, and their members in the order of packages.
 use Rattle.std.specs.Prelude.{◌≡◌, ℕ, List, Bool, map}
-use Rattle.digraph_orders.specs.Orders.{IsOrder}
+use Rattle.order_views.specs.digraph_orders.Orders.{IsOrder}
 use Rattle.order_views.specs.Views.{in_order}
 use Rattle.order_views.specs.declared.reading.Reading.{Reading}
 use Rattle.order_views.specs.declared.reading.Reading.TheVariants as reading

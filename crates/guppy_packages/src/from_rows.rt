@@ -2,7 +2,7 @@
 ghost use Rattle.std.specs.Prelude.{◌≡◌, ℕ, ◌+◌, ◌-◌, ◌<◌, ◌≤◌, ◌^◌, ◌∷◌, ◌++◌, [], Ok, IfOk, IfErr, OnOk, Some, false, length, map, slice_get, slice_set};
 ghost use Rattle.std.specs.Option.{option_map, option_map_or};
 ghost use Rattle.std.specs.String.{string_bytes};
-ghost use Rattle.digraph_orders.specs.Sequences.{IsOrderOf};
+ghost use Rattle.order_views.specs.digraph_orders.Sequences.{IsOrderOf};
 ghost use Rattle.guppy_packages.specs.Graph.{NamesRow, Reads, first_or, faults_by, row_fault, link_fault, packages_of, links_of, dependencies_of, tables_of};
 ghost use Rattle.guppy_packages.specs.NamedFeature.{feature_table};
 ghost use Rattle.guppy_packages.specs.PackageOrder.{digraph_of_packages};
@@ -30,8 +30,8 @@ use crate::row::{DependencyKind, Row};
 use crate::row_error::{RowError, RowFault};
 use crate::row_source::{RowSlice, RowSource};
 use crate::text_map::TextMap;
-use digraph_orders::Order;
 use indexmap::IndexMap;
+use order_views::Order;
 use smallvec::SmallVec;
 use std::alloc::{AllocError, Global};
 use std::hash::BuildHasherDefault;
