@@ -13,7 +13,8 @@ With --alone there are more lines:
 alone       each selected member is planned alone, with the same words and with the member as the only `-p`. In these plans the package is
             built with different features for one place; one line for each member that builds it there.
 join        the features of such a package in all these plans together, and the line of a manifest that asks for them. Only packages of
-            crates.io have it.
+            crates.io have it. After each member has got the line of each package that its plan builds, each is planned alone once more,
+            and the line says whether the members agree: all of them have a plan, and the same features of the package for the place.
 refused     the selected member has no plan alone. The message why is `...` here, for the texts of messages aren't modelled.
 
 Packages are in the order of the bytes of their ids, and places in the order of the command line, after the host.
@@ -25,7 +26,7 @@ sys.dont_write_bytecode = True
 
 import plan_model
 from answer_model import objects_of, table_of
-from plan_model import HOST, Plan, Refused
+from plan_model import HOST, Declaration, Plan, Refused
 
 CRATES_IO = 'registry+https://github.com/rust-lang/crates.io-index'
 
@@ -72,38 +73,65 @@ def manifest_line(package, features):
     return f'{package.name} = {{ version = "={package.version}", default-features = false, features = [{quoted}] }}'
 
 
-def join_lines(package, place, lists):
+def features_of(built):
+    return by_bytes({it for features in built.values() for it in features})
+
+
+def different(plans, places):
+    """Each package and place with different features in these plans, with its features in the plan of each member that builds it there."""
+    ids = {id for plan in plans.values() for _, id in plan.built}
+    for id in by_bytes(ids):
+        for place, _ in places:
+            built = {member: features_at(plan, place, id) for member, plan in plans.items() if (place, id) in plan.built}
+            if differ(list(built.values())):
+                yield id, place, built
+
+
+def joined_document(document, found):
+    """The document in which each member has the line of each package in `found` that it builds."""
+    packages = dict(document.packages)
+    for id, place, built in found:
+        to = packages[id]
+        for member in built if to.source == CRATES_IO else []:
+            own = packages[member].declarations
+            name = next((it.name for it in own if it.to == id), to.name)
+            line = Declaration(name, 'build' if place == HOST else 'normal', False, None, False, features_of(built), id)
+            packages[member] = packages[member]._replace(declarations=[*own, line])
+    return document._replace(packages=packages)
+
+
+def join_lines(package, place, features, agrees):
     if package.source == CRATES_IO:
-        features = by_bytes({it for features in lists for it in features})
-        yield 'join', package.id, {'place': place, 'features': features, 'line': manifest_line(package, features)}
+        yield 'join', package.id, {'place': place, 'features': features, 'line': manifest_line(package, features), 'agrees': agrees}
 
 
-def alone_lines(document, plans, places):
+def alone_lines(plan, plans, places):
     """Lines about the plans of single members: `plans` has them by the members' ids."""
-    for id in by_bytes(document.packages):
-        for place, name in places:
-            built = [(member, features_at(plan, place, id)) for member, plan in plans.items() if (place, id) in plan.built]
-            lists = [features for _, features in built]
-            if differ(lists):
-                yield from (('alone', id, {'member': member, 'place': name, 'features': features}) for member, features in built)
-                yield from join_lines(document.packages[id], name, lists)
+    found = list(different(plans, places))
+    after = plans_alone(plan, joined_document(plan.document, found))[0] if found else {}
+    still = [(id, place) for id, place, _ in different(after, places)]
+    for id, place, built in found:
+        name = dict(places)[place]
+        agrees = all(member in after for member in built) and (id, place) not in still
+        yield from (('alone', id, {'member': member, 'place': name, 'features': features}) for member, features in built.items())
+        yield from join_lines(plan.document.packages[id], name, features_of(built), agrees)
 
 
-def plans_alone(plan):
-    """The plan of each selected member alone, by its id, in the order of the document; and the members without one."""
+def plans_alone(plan, document):
+    """The plan of each selected member alone in `document`, by its id, in the order of the document; and the members without one."""
     plans, refused = {}, []
-    for member in plan.document.members:
+    for member in document.members:
         if member in plan.selected:
             try:
-                plans[member] = Plan(plan.document, plan.selection._replace(words=[member], is_workspace=False))
+                plans[member] = Plan(document, plan.selection._replace(words=[member], is_workspace=False))
             except Refused:
                 refused.append(member)
     return plans, refused
 
 
 def lines_of(plan, is_alone=False):
-    plans, refused = plans_alone(plan) if is_alone else ({}, [])
-    return [*version_lines(plan), *place_lines(plan), *alone_lines(plan.document, plans, places_of(plan.selection)),
+    plans, refused = plans_alone(plan, plan.document) if is_alone else ({}, [])
+    return [*version_lines(plan), *place_lines(plan), *alone_lines(plan, plans, places_of(plan.selection)),
             *(('refused', member, {'message': '...'}) for member in refused)]
 
 
@@ -118,7 +146,9 @@ def detail_of(plan, kind, said):
         return with_features(said['place'], said['features'])
     if kind == 'alone':
         return with_features(f'{said["place"]} with {plan.label(plan.packages[said["member"]])} alone', said['features'])
-    return said.get('line') or said.get('message') or ''
+    if kind == 'join':
+        return f'{said["line"]} # {"agree" if said["agrees"] else "still differ"}'
+    return said.get('message') or ''
 
 
 def text_of(plan, lines):

@@ -2,4 +2,3 @@ pub mod Lines
 pub mod Objects
 pub mod Shown
 pub mod Views
-pub mod inner

@@ -1,5 +1,5 @@
 -- The lines in columns.
-use Rattle.std.specs.Prelude.{List, [], ◌∷◌, ◌++◌, map, flat_map, codes}
+use Rattle.std.specs.Prelude.{Bool, true, false, List, [], ◌∷◌, ◌++◌, map, flat_map, codes}
 use Rattle.cargo_workspaces.specs.Workspaces.{Text, PackageText}
 use Rattle.line_parts.specs.Tables.{RowText, table_of}
 use Rattle.plan_lines.specs.Lines.{label_of, name_of}
@@ -21,6 +21,14 @@ abbrev pub manifest_line : PackageText → List Text → Text
 manifest_line p features =
     p.name ++ (codes " = { version = \"=" ++ (p.version ++ (codes "\", default-features = false, features = [" ++ (quoted_list features ++ codes "] }"))))
 
+-- A comment for a manifest: whether members agree with the line.
+abbrev pub agreement : Bool → Text
+agreement true = codes " # agree"
+agreement false = codes " # still differ"
+
+abbrev pub joined_detail : PackageText → List Text → Bool → Text
+joined_detail p features agrees = manifest_line p features ++ agreement agrees
+
 abbrev pub spaced : Text → Text
 spaced text = 32 ∷ text
 
@@ -40,7 +48,7 @@ abbrev pub detail_of : List Text → ShownText → Text
 detail_of names (version p) = []
 detail_of names (in_place p place features) = place_detail place features
 detail_of names (alone p place member features) = member_detail place (label_of names member) features
-detail_of names (joined p place features) = manifest_line p features
+detail_of names (joined p place features agrees) = joined_detail p features agrees
 detail_of names (refused p message) = message
 
 abbrev pub row_of : List Text → ShownText → RowText

@@ -1,8 +1,8 @@
 -- The lines as JSON objects.
-use Rattle.std.specs.Prelude.{List, [], ◌∷◌, ◌++◌, flat_map, codes}
+use Rattle.std.specs.Prelude.{Bool, List, [], ◌∷◌, ◌++◌, flat_map, codes}
 use Rattle.json.specs.Token.{Token, begin_object}
 use Rattle.cargo_workspaces.specs.Workspaces.{Text, PackageText}
-use Rattle.line_parts.specs.Members.{object_line, text_member, texts_member}
+use Rattle.line_parts.specs.Members.{flag_member, object_line, text_member, texts_member}
 use Rattle.duplicate_lines.specs.Lines.{manifest_line}
 use Rattle.duplicate_lines.specs.Shown.{ShownText, version, in_place, alone, joined, refused, kind_of, package_of}
 
@@ -15,15 +15,15 @@ place_members place features = text_member (codes "place") place ++ texts_member
 abbrev pub alone_members : PackageText → Text → List Text → List Token
 alone_members member place features = text_member (codes "member") member.id ++ place_members place features
 
-abbrev pub joined_members : PackageText → Text → List Text → List Token
-joined_members p place features = place_members place features ++ text_member (codes "line") (manifest_line p features)
+abbrev pub joined_members : PackageText → Text → List Text → Bool → List Token
+joined_members p place features agrees = place_members place features ++ (text_member (codes "line") (manifest_line p features) ++ flag_member (codes "agrees") agrees)
 
 -- What a line says of its package.
 abbrev pub detail : ShownText → List Token
 detail (version p) = []
 detail (in_place p place features) = place_members place features
 detail (alone p place member features) = alone_members member place features
-detail (joined p place features) = joined_members p place features
+detail (joined p place features agrees) = joined_members p place features agrees
 detail (refused p message) = text_member (codes "message") message
 
 abbrev pub members : ShownText → List Token

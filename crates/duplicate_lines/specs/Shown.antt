@@ -1,8 +1,6 @@
 -- The duplicates of a plan, as they are shown: a line for each package.
-use Rattle.std.specs.Prelude.{ℕ, List, [], ◌∷◌, ◌++◌, Bool, Option, false, map, flat_map, slice_get, unwrap_or, codes, if◌then◌else◌}
-use Rattle.std.specs.List.{filter, list_any}
+use Rattle.std.specs.Prelude.{ℕ, List, [], ◌∷◌, ◌++◌, Bool, map, flat_map, slice_get, unwrap_or, codes, if◌then◌else◌}
 use Rattle.std.specs.Option.{option_map_or}
-use Rattle.std.specs.Str.{bytes_eq}
 use Rattle.cargo_workspaces.specs.Workspaces.{Text, PackageText}
 use Rattle.plan_units.specs.declared.unit.Place.{Place}
 use Rattle.plan_units.specs.declared.unit.Place.TheVariants as place
@@ -12,28 +10,31 @@ use Rattle.plan_duplicates.specs.Duplicates.{DuplicatesText}
 use Rattle.plan_duplicates.specs.MemberPlans.{MemberPlanText, OutcomeText, built, not_planned}
 use Rattle.plan_duplicates.specs.Places.{PlacesText}
 use Rattle.plan_duplicates.specs.Versions.{VersionsText}
+use Rattle.plan_joins.specs.Disagreements.{DisagreementText, is_agreed}
+use Rattle.plan_joins.specs.Features.{is_from_default_registry, joined_features}
 
 -- A line: one of several versions of a package; a package in one of several places, with its features there; a package for a place in
--- the plan of a member alone, with its features; its features in all these plans together; a member without a plan, and why.
+-- the plan of a member alone, with its features; its features in all these plans together, and whether the members agree once they have
+-- got a line with these; a member without a plan, and why.
 pub data ShownText : Type 0 where
   version : PackageText → ShownText
   in_place : PackageText → Text → List Text → ShownText
   alone : PackageText → Text → PackageText → List Text → ShownText
-  joined : PackageText → Text → List Text → ShownText
+  joined : PackageText → Text → List Text → Bool → ShownText
   refused : PackageText → Text → ShownText
 
 abbrev pub kind_of : ShownText → Text
 kind_of (version p) = codes "versions"
 kind_of (in_place p place features) = codes "places"
 kind_of (alone p place member features) = codes "alone"
-kind_of (joined p place features) = codes "join"
+kind_of (joined p place features agrees) = codes "join"
 kind_of (refused p message) = codes "refused"
 
 abbrev pub package_of : ShownText → PackageText
 package_of (version p) = p
 package_of (in_place p place features) = p
 package_of (alone p place member features) = p
-package_of (joined p place features) = p
+package_of (joined p place features agrees) = p
 package_of (refused p message) = p
 
 -- The name of a place: those of the target platforms are given.
@@ -64,29 +65,15 @@ places_of names packages p = places_at names packages p.number p.places
 abbrev pub row_at : List PackageText → Text → PackageText → MemberUnitText → List ShownText
 row_at packages place x r = about packages (λ m. alone x place m r.unit.features ∷ []) r.member
 
-abbrev pub is_default_registry : Text → Bool
-is_default_registry source = bytes_eq source (codes "registry+https://github.com/rust-lang/crates.io-index")
-
-abbrev pub is_from_default_registry : PackageText → Bool
-is_from_default_registry x = option_map_or is_default_registry x.source false
-
--- The names of the package's features that are among these.
-abbrev pub names_among : PackageText → List Text → List Text
-names_among x some = map (λ f. f.name) (filter (λ f. list_any (bytes_eq f.name) some) x.features)
-
--- The features of package `x` in all these plans together.
-abbrev pub joined_features : PackageText → List MemberUnitText → List Text
-joined_features x rows = names_among x (flat_map (λ r. r.unit.features) rows)
-
 -- Only a package of the registry that manifests name by default has a line.
-abbrev pub joined_at : Text → PackageText → List MemberUnitText → List ShownText
-joined_at place x rows = if is_from_default_registry x then joined x place (joined_features x rows) ∷ [] else []
+abbrev pub joined_at : Text → PackageText → List MemberUnitText → Bool → List ShownText
+joined_at place x rows agrees = if is_from_default_registry x then joined x place (joined_features x rows) agrees ∷ [] else []
 
-abbrev pub alone_lines : List PackageText → Text → List MemberUnitText → PackageText → List ShownText
-alone_lines packages place rows x = flat_map (row_at packages place x) rows ++ joined_at place x rows
+abbrev pub alone_lines : List PackageText → Text → List MemberUnitText → Bool → PackageText → List ShownText
+alone_lines packages place rows agrees x = flat_map (row_at packages place x) rows ++ joined_at place x rows agrees
 
-abbrev pub alone_of : List Text → List PackageText → AloneText → List ShownText
-alone_of names packages a = about packages (alone_lines packages (place_name names a.place) a.units) a.number
+abbrev pub alone_of : List Text → List PackageText → List DisagreementText → AloneText → List ShownText
+alone_of names packages disagreements a = about packages (alone_lines packages (place_name names a.place) a.units (is_agreed disagreements a)) a.number
 
 abbrev pub refused_at : List PackageText → ℕ → Text → List ShownText
 refused_at packages m message = about packages (λ x. refused x message ∷ []) m
@@ -98,10 +85,11 @@ refusal_at packages m (not_planned message) = refused_at packages m message
 abbrev pub refusal_of : List PackageText → MemberPlanText → List ShownText
 refusal_of packages p = refusal_at packages p.member p.outcome
 
--- ALL LINES: versions, places, what single members get, and members without a plan.
-abbrev pub all_shown : List Text → List PackageText → DuplicatesText → List MemberPlanText → List ShownText
-all_shown names packages found plans =
+-- ALL LINES: versions, places, what single members get, and members without a plan. The members disagree about these packages even
+-- after they have got lines for them.
+abbrev pub all_shown : List Text → List PackageText → DuplicatesText → List DisagreementText → List MemberPlanText → List ShownText
+all_shown names packages found disagreements plans =
     flat_map (versions_of packages) found.versions
     ++ (flat_map (places_of names packages) found.places
-    ++ (flat_map (alone_of names packages) found.alone
+    ++ (flat_map (alone_of names packages disagreements) found.alone
     ++ flat_map (refusal_of packages) plans))

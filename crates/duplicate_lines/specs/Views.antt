@@ -8,5 +8,5 @@ abbrev pub shown_text : Shown → ShownText
 shown_text (shown.Version p) = version (package_text p.now)
 shown_text (shown.InPlace p place features) = in_place (package_text p.now) place.now (texts features.now)
 shown_text (shown.Alone p place member features) = alone (package_text p.now) place.now (package_text member.now) (texts features.now)
-shown_text (shown.Joined p place features) = joined (package_text p.now) place.now (texts features.items)
+shown_text (shown.Joined p place features agrees) = joined (package_text p.now) place.now (texts features.items) agrees
 shown_text (shown.NotPlanned member message) = refused (package_text member.now) message.now

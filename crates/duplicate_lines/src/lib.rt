@@ -3,7 +3,6 @@
 
 mod alone;
 mod gathered;
-mod joined;
 mod listed;
 mod manifest_lines;
 mod objects;

@@ -56,6 +56,31 @@ pub(crate) fn manifest_line(
     Ok(text)
 }
 
+/// Returns the comment that says whether members agree.
+fn agreement(agrees: bool) -> &'static str
+    ensures { result.now ≡ spec.agreement agrees }
+{
+    if agrees {
+        " # agree"
+    } else {
+        " # still differ"
+    }
+}
+
+/// Returns the line of a manifest for `package`, with the comment whether members agree with it.
+pub(crate) fn joined_detail(
+    alloc: Global,
+    package: &Package<'_>,
+    features: &[&str],
+    agrees: bool,
+) -> Result<String, AllocError>
+    ensures { IfOk result (λ text. string_bytes text ≡ spec.joined_detail (package_text «package».now) (texts features.now) agrees) }
+{
+    let mut text = manifest_line(alloc, package, features)?;
+    text.push_str(agreement(agrees))?;
+    Ok(text)
+}
+
 /// Appends a space and the text for each of `features`.
 fn push_spaced(text: &mut String, features: &[&str]) -> Result<(), AllocError>
     ensures { OnOk result (string_bytes text.new ≡ string_bytes text.old ++ flat_map spec.spaced (texts features.now)) }

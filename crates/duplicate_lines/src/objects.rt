@@ -10,7 +10,7 @@ use crate::rows::{kind_of, package_of};
 use crate::shown::Shown;
 use cargo_workspaces::Package;
 use json::Writer;
-use line_parts::{begin_line, end_line, write_member, write_texts};
+use line_parts::{begin_line, end_line, write_flag, write_member, write_texts};
 use std::alloc::{AllocError, Global};
 
 /// Writes the kind of a line, and the id, the name and the version of its package.
@@ -44,19 +44,21 @@ fn write_alone(
     write_place(writer, place, features)
 }
 
-/// Writes the place, the features and the line of a manifest.
+/// Writes the place, the features and the line of a manifest, and whether members agree with it.
 fn write_joined(
     alloc: Global,
     writer: &mut Writer,
     package: &Package<'_>,
     place: &str,
     features: &[&str],
+    agrees: bool,
 ) -> Result<(), AllocError>
-    ensures { OnOk result (Appends writer.old writer.new (spec.joined_members (package_text «package».now) place.now (texts features.now))) }
+    ensures { OnOk result (Appends writer.old writer.new (spec.joined_members (package_text «package».now) place.now (texts features.now) agrees)) }
 {
     let line = manifest_line(alloc, package, features)?;
     write_place(writer, place, features)?;
-    write_member(writer, "line", line.as_str())
+    write_member(writer, "line", line.as_str())?;
+    write_flag(writer, "agrees", agrees)
 }
 
 /// Writes what `shown` says of its package.
@@ -84,7 +86,8 @@ fn write_detail(
             package,
             place,
             features,
-        } => write_joined(alloc, writer, package, place, features),
+            agrees,
+        } => write_joined(alloc, writer, package, place, features, *agrees),
         Shown::NotPlanned { message, .. } => write_member(writer, "message", message),
     }
 }

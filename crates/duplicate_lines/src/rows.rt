@@ -9,7 +9,7 @@ ghost use Rattle.duplicate_lines.specs.Lines as spec;
 ghost use Rattle.duplicate_lines.specs.Shown as shown_spec;
 ghost use Rattle.duplicate_lines.specs.Views.{shown_text};
 
-use crate::manifest_lines::{manifest_line, push_features};
+use crate::manifest_lines::{joined_detail, push_features};
 use crate::shown::Shown;
 use cargo_workspaces::Package;
 use line_parts::Row;
@@ -93,8 +93,9 @@ fn detail_of(
         Shown::Joined {
             package,
             features,
+            agrees,
             ..
-        } => manifest_line(alloc, package, features),
+        } => joined_detail(alloc, package, features, *agrees),
         Shown::NotPlanned { message, .. } => String::from_str(alloc, message),
     }
 }

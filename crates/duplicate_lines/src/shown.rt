@@ -26,11 +26,12 @@ pub enum Shown<'u, 'v, 'w> {
         member: &'u Package<'v>,
         features: &'u [&'w str],
     },
-    /// The features of such a package in all these plans together.
+    /// The features of such a package in all these plans together, and whether the members agree once they have got a line with these.
     Joined {
         package: &'u Package<'v>,
         place: &'u str,
         features: Vec<&'u str>,
+        agrees: bool,
     },
     /// A member that has no plan alone, with the message why.
     NotPlanned {

@@ -5,7 +5,8 @@ use Rattle.cargo_plans.specs.Plans.{WordsText}
 use Rattle.plan_names.specs.Faults.{package_named}
 use Rattle.plan_platforms.specs.DeclaredSpecs.{declared_specs}
 use Rattle.plan_steps.specs.Plans.{PlanText}
-use Rattle.feats_words.specs.Requests.{QuestionText, check, dot, duplicates, list, plan, specs, tree, why, why_not}
+use Rattle.feats_words.specs.Requests.{QuestionText, check, dot, duplicates, list, plan, slim, specs, tree, why, why_not}
+use Rattle.slim_lines.specs.Texts.{IsSlimText}
 use Rattle.feats_answers.specs.AnswerTexts.{AnswerText}
 pub use Rattle.feats_answers.specs.AnswerTexts.{IsPositive}
 use Rattle.feats_answers.specs.Asked.{AskedText}
@@ -31,6 +32,7 @@ Answers (duplicates alone) a w words build = IsPositive (IsDuplicatesText a.argu
 Answers (tree invert) a w words build = IsTreeBy a.arguments.edges a w words build invert
 Answers dot a w words build = IsDotBy a.arguments.edges a.targets w words build
 Answers (check file every_choice) a w words build = IsCheckAnswer a w (declared_specs w.packages) words build file every_choice
+Answers slim a w words build = IsPositive (IsSlimText a.arguments.format w words build.units)
 
 -- THE ANSWER to the question of the arguments about the build of these words.
 abbrev pub IsAnswerTo : AskedText → WorkspaceText → WordsText → PlanText → AnswerText → Type 0
@@ -47,6 +49,7 @@ Refuses (duplicates alone) a w words build = λ _. ⊥
 Refuses (tree invert) a w words build = IsNoTreeBy a.arguments.edges w words invert
 Refuses dot a w words build = λ _. ⊥
 Refuses (check file every_choice) a w words build = IsCheckRefusal a w (declared_specs w.packages) words build file every_choice
+Refuses slim a w words build = λ _. ⊥
 
 -- THE MESSAGE that refuses the question: its word names nothing or several things, or a policy can't be checked.
 abbrev pub IsNoAnswerTo : AskedText → WorkspaceText → WordsText → PlanText → Text → Type 0

@@ -10,6 +10,7 @@ use Rattle.feats_words.specs.declared.command_arguments.Format.{Format}
 use Rattle.feats_words.specs.declared.command_arguments.Format.TheVariants as format
 use Rattle.plan_duplicates.specs.Duplicates.{AreDuplicates, DuplicatesText}
 use Rattle.plan_duplicates.specs.MemberPlans.{ArePlansAlone, MemberPlanText}
+use Rattle.plan_joins.specs.Disagreements.{AreDisagreements, DisagreementText}
 use Rattle.plan_steps.specs.Plans.{PlanText}
 use Rattle.plan_units.specs.Units.{UnitText}
 use Rattle.feats_answers.specs.PlanTexts.{target_names}
@@ -18,11 +19,17 @@ abbrev pub duplicates_text : Format → List PackageText → List ShownText → 
 duplicates_text format.Text packages shown = duplicate_lines packages shown
 duplicates_text format.Json packages shown = duplicate_objects shown
 
+-- The text about these duplicates, with what the members disagree on after they have got lines for it.
+pub record IsTextOfFound (form : Format) (names : List Text) (w : WorkspaceText) (words : WordsText) (found : DuplicatesText) (plans : List MemberPlanText) (text : Text) : Type 0 where
+  pub disagreements : List DisagreementText
+  pub are_disagreements : AreDisagreements w words names found.alone disagreements
+  pub is_text : text ≡ duplicates_text form w.packages (all_shown names w.packages found disagreements plans)
+
 -- The text about the duplicates among the units of a plan, beside the plans of members alone.
-pub record IsTextOfUnits (form : Format) (names : List Text) (packages : List PackageText) (units : List UnitText) (plans : List MemberPlanText) (text : Text) : Type 0 where
+pub record IsTextOfUnits (form : Format) (names : List Text) (w : WorkspaceText) (words : WordsText) (units : List UnitText) (plans : List MemberPlanText) (text : Text) : Type 0 where
   pub found : DuplicatesText
-  pub are_found : AreDuplicates packages names units plans found
-  pub is_text : text ≡ duplicates_text form packages (all_shown names packages found plans)
+  pub are_found : AreDuplicates w.packages names units plans found
+  pub is_text : IsTextOfFound form names w words found plans text
 
 -- With `alone` the selected members are planned alone too, and otherwise no plans are beside that of the words.
 abbrev pub ArePlansBeside : Bool → WorkspaceText → WordsText → List MemberPlanText → Type 0
@@ -33,4 +40,4 @@ ArePlansBeside false w words plans = plans ≡ []
 pub record IsDuplicatesText (form : Format) (alone : Bool) (files : List FileText) (w : WorkspaceText) (words : WordsText) (plan : PlanText) (text : Text) : Type 0 where
   pub plans : List MemberPlanText
   pub are_plans : ArePlansBeside alone w words plans
-  pub is_text : IsTextOfUnits form (target_names files) w.packages plan.units plans text
+  pub is_text : IsTextOfUnits form (target_names files) w words plan.units plans text

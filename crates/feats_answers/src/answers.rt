@@ -8,6 +8,7 @@ ghost use Rattle.plan_platforms.specs.DeclaredSpecs.{declared_specs};
 ghost use Rattle.plan_platforms.specs.HeldSpecs.{holds_on};
 ghost use Rattle.plan_platforms.specs.Views.{declared_text};
 ghost use Rattle.plan_steps.specs.PlanViews.{plan_text};
+ghost use Rattle.slim_lines.specs.Texts.{IsSlimText};
 ghost use Rattle.feats_files.specs.FileViews.{file_text};
 ghost use Rattle.feats_files.specs.Messages.{Says};
 ghost use Rattle.feats_answers.specs.AnswerViews.{answer_text};
@@ -39,6 +40,7 @@ use cargo_workspaces::Workspace;
 use feats_files::{Fault, PlatformFile};
 use feats_words::{Format, Question};
 use plan_platforms::{DeclaredSpec, HeldSpecs, every_spec};
+use slim_lines::slim_text;
 use std::alloc::{AllocError, Global};
 use why_nots::why_not_texts;
 
@@ -144,6 +146,23 @@ fn why_not_answer<'w, 's>(
     Ok(gathered(alloc, format, workspace, word, &named, end, &texts)?)
 }
 
+/// Returns the answer to `slim`.
+fn slim_answer<'w>(
+    alloc: Global,
+    format: Format,
+    workspace: &'w Workspace<'_>,
+    words: &PlanWords<'w, '_, HeldSpecs<'_>>,
+    plan: &Plan<'_>,
+) -> Result<Answer, AllocError>
+    ensures { IfOk result (λ answer. IsPositive (IsSlimText format (workspace_text workspace.now) (words_text holds_on words.now) (plan_text plan.now).units) (answer_text answer)) }
+{
+    match slim_text(alloc, format, workspace, words, plan) {
+        Ok(text) => Ok(positive(text)),
+        // The words have a plan, so they aren't refused.
+        Err(_) => Err(AllocError),
+    }
+}
+
 /// Returns the answer to the question of `asked` about `plan`, which is that of `words`; `specs` are the platform specs of the workspace.
 /// Returns `Refused` if the word of the question names nothing or several things, or if a policy can't be checked, and `Memory` if an
 /// allocation fails.
@@ -186,5 +205,6 @@ pub fn answer_to<'w, 'n, 's>(
             let policy = PolicyWord { file, every_choice };
             check_answer(alloc, asked, policy, workspace, specs, words, plan)
         }
+        Question::Slim => Ok(slim_answer(alloc, format, workspace, words, plan)?),
     }
 }

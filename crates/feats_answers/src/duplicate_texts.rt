@@ -9,6 +9,7 @@ ghost use Rattle.feats_files.specs.FileViews.{file_text};
 ghost use Rattle.plan_duplicates.specs.DuplicatesView.{duplicates_text as found_text};
 ghost use Rattle.plan_duplicates.specs.MemberPlans.{ArePlansAlone};
 ghost use Rattle.plan_duplicates.specs.Views.{member_plan_text};
+ghost use Rattle.plan_joins.specs.Views.{disagreement_text};
 ghost use Rattle.plan_platforms.specs.HeldSpecs.{holds_on};
 ghost use Rattle.plan_steps.specs.PlanViews.{plan_text};
 ghost use Rattle.plan_units.specs.UnitViews.{unit_text};
@@ -22,6 +23,7 @@ use duplicate_lines::{Shown, all_shown, duplicate_lines, duplicate_objects};
 use feats_files::PlatformFile;
 use feats_words::Format;
 use plan_duplicates::{Duplicates, MemberPlan, duplicates_of, plans_alone};
+use plan_joins::{Disagreement, disagreements_of};
 use plan_platforms::HeldSpecs;
 use std::alloc::{AllocError, Global};
 
@@ -40,20 +42,39 @@ fn text_of(
     }
 }
 
-/// Returns the text about `found`, which are duplicates beside `plans`. `names` are those of the target platforms.
+/// Returns the text about `found`, which are duplicates beside `plans`. `names` are those of the target platforms, and `disagreements`
+/// the packages on which members disagree after they have got lines for them.
 fn text_of_found(
     alloc: Global,
     format: Format,
     names: &[&str],
     packages: &[Package<'_>],
     found: &Duplicates<'_, '_>,
+    disagreements: &[Disagreement],
     plans: &[MemberPlan<'_>],
 ) -> Result<Vec<u8>, AllocError>
     ensures { IfOk result (λ text. text.items ≡ spec.duplicates_text format (map package_text packages.now)
-        (all_of (map (λ t. t.now) names.now) (map package_text packages.now) (found_text found.now) (map member_plan_text plans.now))) }
+        (all_of (map (λ t. t.now) names.now) (map package_text packages.now) (found_text found.now) (map disagreement_text disagreements.now) (map member_plan_text plans.now))) }
 {
-    let shown = all_shown(alloc, names, packages, found, plans)?;
+    let shown = all_shown(alloc, names, packages, found, disagreements, plans)?;
     text_of(alloc, format, packages, &shown)
+}
+
+/// Returns the text about `found`, which are duplicates beside `plans`, with what members disagree on after they have got lines.
+fn text_of_joined(
+    alloc: Global,
+    format: Format,
+    names: &[&str],
+    workspace: &Workspace<'_>,
+    words: &PlanWords<'_, '_, HeldSpecs<'_>>,
+    found: &Duplicates<'_, '_>,
+    plans: &[MemberPlan<'_>],
+) -> Result<Vec<u8>, AllocError>
+    ensures { IfOk result (λ text. spec.IsTextOfFound format (map (λ t. t.now) names.now) (workspace_text workspace.now) (words_text holds_on words.now) (found_text found.now) (map member_plan_text plans.now) text.items) }
+{
+    let disagreements = disagreements_of(alloc, workspace, words, names, &found.alone)?;
+    let packages = workspace.packages();
+    text_of_found(alloc, format, names, packages, found, &disagreements, plans)
 }
 
 /// Returns the text about the duplicates among `units`, beside `plans`.
@@ -61,14 +82,15 @@ fn text_of_units(
     alloc: Global,
     format: Format,
     names: &[&str],
-    packages: &[Package<'_>],
+    workspace: &Workspace<'_>,
+    words: &PlanWords<'_, '_, HeldSpecs<'_>>,
     units: &[Unit<'_>],
     plans: &[MemberPlan<'_>],
 ) -> Result<Vec<u8>, AllocError>
-    ensures { IfOk result (λ text. spec.IsTextOfUnits format (map (λ t. t.now) names.now) (map package_text packages.now) (map unit_text units.now) (map member_plan_text plans.now) text.items) }
+    ensures { IfOk result (λ text. spec.IsTextOfUnits format (map (λ t. t.now) names.now) (workspace_text workspace.now) (words_text holds_on words.now) (map unit_text units.now) (map member_plan_text plans.now) text.items) }
 {
-    let found = duplicates_of(alloc, packages, names, units, plans)?;
-    let text = text_of_found(alloc, format, names, packages, &found, plans);
+    let found = duplicates_of(alloc, workspace.packages(), names, units, plans)?;
+    let text = text_of_joined(alloc, format, names, workspace, words, &found, plans);
     drop(found);
     text
 }
@@ -118,6 +140,13 @@ pub(crate) fn duplicates_text<'w>(
 {
     let names = target_names(alloc, files)?;
     let plans = plans_beside(alloc, alone, workspace, words)?;
-    let packages = workspace.packages();
-    text_of_units(alloc, format, &names, packages, plan.units(), &plans)
+    text_of_units(
+        alloc,
+        format,
+        &names,
+        workspace,
+        words,
+        plan.units(),
+        &plans,
+    )
 }

@@ -84,6 +84,9 @@ check_shape = command_shape (codes "check") (word_rule (codes "policy") ∷ flag
 abbrev pub diff_shape : Shape
 diff_shape = record (new_shape (codes "diff")) { rules = (word_rule (codes "old") ∷ word_rule (codes "new") ∷ []) ++ (platform_rules ++ selection_rules) }
 
+abbrev pub slim_shape : Shape
+slim_shape = command_shape (codes "slim") []
+
 -- The program without its commands, of which one must be given.
 abbrev pub bare_app : App
 bare_app = record (new_app (codes "feats")) { top = record (new_shape (codes "feats")) { subcommand_required = true } }
@@ -95,4 +98,4 @@ with_all app (shape ∷ shapes) = with_all (with_subcommand app shape) shapes
 abbrev pub feats_app : App
 feats_app =
     with_all bare_app
-    (plan_shape ∷ why_shape ∷ why_not_shape ∷ specs_shape ∷ list_shape ∷ duplicates_shape ∷ tree_shape ∷ dot_shape ∷ check_shape ∷ diff_shape ∷ [])
+    (plan_shape ∷ why_shape ∷ why_not_shape ∷ specs_shape ∷ list_shape ∷ duplicates_shape ∷ tree_shape ∷ dot_shape ∷ check_shape ∷ diff_shape ∷ slim_shape ∷ [])

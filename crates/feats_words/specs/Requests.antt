@@ -21,6 +21,7 @@ pub data QuestionText : Type 0 where
   tree : Option Text → QuestionText
   dot : QuestionText
   check : Text → Bool → QuestionText
+  slim : QuestionText
 
 -- What a command line asks for.
 pub record RequestText : Type 0 where
@@ -72,7 +73,8 @@ question_of name rows =
     else (if bytes_eq name (codes "dot") then Some dot
     else (if bytes_eq name (codes "check") then Some (check (required_value (codes "policy") rows) (is_given (codes "every-choice") rows))
     else (if bytes_eq name (codes "diff") then Some plan
-    else None)))))))))
+    else (if bytes_eq name (codes "slim") then Some slim
+    else None))))))))))
 
 abbrev pub asked : QuestionText → List Row → RequestText
 asked question rows = record {

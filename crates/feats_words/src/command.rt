@@ -7,7 +7,7 @@ ghost use Rattle.feats_words.specs.inner.Building.{AddsRules, IsSubcommand};
 
 use crate::examples::{
     CHECK_EXAMPLE, DIFF_EXAMPLE, DOT_EXAMPLE, DUPLICATES_EXAMPLE, FEATURE_HELP, LIST_EXAMPLE,
-    PLAN_EXAMPLE, SPECS_EXAMPLE, TREE_EXAMPLE, WHY_EXAMPLE, WHY_NOT_EXAMPLE,
+    PLAN_EXAMPLE, SLIM_EXAMPLE, SPECS_EXAMPLE, TREE_EXAMPLE, WHY_EXAMPLE, WHY_NOT_EXAMPLE,
 };
 use clap::{Arg, ArgAction, Command};
 use std::alloc::{AllocError, Global};
@@ -379,6 +379,18 @@ fn diff_command<'a>(alloc: Global) -> Result<Command<'a>, AllocError>
     with_common(alloc, command)
 }
 
+/// Returns the command `slim`.
+fn slim_command<'a>(alloc: Global) -> Result<Command<'a>, AllocError>
+    ensures { IfOk result (λ r. IsSubcommand r spec.slim_shape) }
+{
+    wordless(
+        alloc,
+        "slim",
+        "Prints which single edits of the members' dependencies make the build smaller, and by how much",
+        SLIM_EXAMPLE,
+    )
+}
+
 /// Returns the program without its commands.
 fn bare_command<'a>(alloc: Global) -> Command<'a>
     ensures { app_of result ≡ spec.bare_app }
@@ -402,5 +414,6 @@ pub(crate) fn feats_command<'a>(alloc: Global) -> Result<Command<'a>, AllocError
         .subcommand(tree_command(alloc)?)?
         .subcommand(dot_command(alloc)?)?
         .subcommand(check_command(alloc)?)?
-        .subcommand(diff_command(alloc)?)
+        .subcommand(diff_command(alloc)?)?
+        .subcommand(slim_command(alloc)?)
 }

@@ -54,6 +54,11 @@ Examples, with the files of `feats plan --help`; the second asks whether any cho
   feats check --every-choice --metadata metadata.json --host x86_64-unknown-linux-gnu=host.cfg -p server policy.txt
 ";
 
+pub(crate) const SLIM_EXAMPLE: &str = "\
+Example, with the files of `feats plan --help`. Whether the code compiles after an edit isn't checked:
+  feats slim --metadata metadata.json --host x86_64-unknown-linux-gnu=host.cfg -p server
+";
+
 pub(crate) const DIFF_EXAMPLE: &str = "\
 Example, with the files of `feats plan --help`, and two outputs of `cargo metadata`:
   feats diff old.json new.json --host x86_64-unknown-linux-gnu=host.cfg -p server

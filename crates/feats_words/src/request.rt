@@ -31,6 +31,8 @@ pub enum Question<'a> {
     Dot,
     /// Which rules of the policy in this file are broken? With `every_choice`, which `deny` does some choice break?
     Check { policy: &'a str, every_choice: bool },
+    /// Which edit of a declaration makes the build smaller?
+    Slim,
 }
 
 /// What a command line asks for.
@@ -148,6 +150,7 @@ fn question_of<'a>(name: &str, matches: &ArgMatches<'a>) -> Option<Question<'a>>
             every_choice: is_given(matches, "every-choice"),
         }),
         "diff" => Some(Question::Plan),
+        "slim" => Some(Question::Slim),
         _ => None,
     }
 }

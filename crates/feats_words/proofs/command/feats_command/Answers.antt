@@ -1,5 +1,5 @@
 use Rattle.std.proofs.lemmas.Result.{IfOk-weaker}
-use Rattle.feats_words.specs.Commands.{bare_app, check_shape, diff_shape, dot_shape, duplicates_shape, list_shape, plan_shape, specs_shape, tree_shape, why_not_shape, why_shape}
+use Rattle.feats_words.specs.Commands.{bare_app, check_shape, diff_shape, dot_shape, duplicates_shape, list_shape, plan_shape, slim_shape, specs_shape, tree_shape, why_not_shape, why_shape}
 use Rattle.feats_words.proofs.Building.{with_one}
 use Rattle.feats_words.proofs.command.feats_command.Goals as goal
 
@@ -14,4 +14,5 @@ returns c =
     let tree = with_one _ _ _ _ tree_shape duplicates c.in_ok-tree_command.ensures c.in_ok-subcommand-7.ensures in
     let dot = with_one _ _ _ _ dot_shape tree c.in_ok-dot_command.ensures c.in_ok-subcommand-8.ensures in
     let check = with_one _ _ _ _ check_shape dot c.in_ok-check_command.ensures c.in_ok-subcommand-9.ensures in
-    IfOk-weaker c.subcommand-10.result _ _ (λ r h. with_one _ _ r _ diff_shape check c.in_ok-diff_command.ensures h) c.subcommand-10.ensures
+    let diff = with_one _ _ _ _ diff_shape check c.in_ok-diff_command.ensures c.in_ok-subcommand-10.ensures in
+    IfOk-weaker c.subcommand-11.result _ _ (λ r h. with_one _ _ r _ slim_shape diff c.in_ok-slim_command.ensures h) c.subcommand-11.ensures

@@ -1,2 +1,0 @@
--- Definitions that only contracts of private functions use.
-pub mod Sets

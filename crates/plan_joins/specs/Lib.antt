@@ -1,0 +1,5 @@
+pub mod Disagreements
+pub mod Features
+pub mod Joined
+pub mod Views
+pub mod inner
