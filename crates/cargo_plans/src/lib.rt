@@ -6,9 +6,7 @@ mod planning;
 mod words;
 
 pub use fault::PlanFault;
-pub use plan_rows::{Platform, Side};
-pub use plan_steps::Plan;
-pub use plan_units::{Place, Unit};
+pub use plan_steps::{PackageVisit, Place, Plan, Platform, Settings, Side, Unit, on_places};
 pub use plan_words::{PackageChoice, Selection, WordFault};
 pub use planning::plan;
 pub use words::PlanWords;

@@ -11,8 +11,7 @@ ghost use Rattle.cargo_plans.specs.WordsView.{words_text};
 use crate::fault::{PlanFault, of_steps, of_words};
 use crate::words::PlanWords;
 use cargo_workspaces::Workspace;
-use plan_rows::{Platform, Settings};
-use plan_steps::{Plan, StepFault, plan_of};
+use plan_steps::{Plan, Platform, Settings, StepFault, plan_of};
 use plan_words::{Chosen, choose};
 use std::alloc::Global;
 

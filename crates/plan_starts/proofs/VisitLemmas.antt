@@ -2,7 +2,7 @@
 use Rattle.std.proofs.Common.{◌≡◌, ◌∙◌, ℕ, ◌+◌, ◌<◌, Bool, true, ◌&&◌, ap, sym}
 use Rattle.std.specs.Prelude.{nat_lt}
 use Rattle.std.proofs.lemmas.Bool.{lt-ltb}
-use Rattle.feature_labels.specs.Names.{LabelName}
+use Rattle.step_visits.specs.feature_labels.Names.{LabelName}
 use Rattle.step_visits.specs.Visits.{reaches}
 use Rattle.plan_starts.specs.PackageVisits.{PairVisit, first_entry, reaches_at}
 

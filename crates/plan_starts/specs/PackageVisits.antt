@@ -1,7 +1,7 @@
 -- Visits of a step in which each package has two entries.
 use Rattle.std.specs.Prelude.{ℕ, ◌+◌, Bool, true, false, nat_lt, ◌&&◌, ◌||◌, if◌then◌else◌}
-use Rattle.feature_labels.specs.Names.{LabelName}
-use Rattle.feature_labels.specs.Names.LabelName.{optional}
+use Rattle.step_visits.specs.feature_labels.Names.{LabelName}
+use Rattle.step_visits.specs.feature_labels.Names.LabelName.{optional}
 use Rattle.cargo_workspaces.specs.Workspaces.{Text}
 use Rattle.plan_rows.specs.Steps.{is_host}
 use Rattle.plan_rows.specs.declared.side.Side.{Side}

@@ -3,8 +3,8 @@ use Rattle.std.specs.Prelude.{ℕ, List, Bool, true, false, not, ◌&&◌, ◌||
 use Rattle.std.specs.List.{list_all, list_any}
 use Rattle.std.specs.Option.{is_some, option_map_or}
 use Rattle.std.specs.Str.{bytes_eq}
-use Rattle.guppy_packages.specs.Items.{slash_item, item_of}
-use Rattle.feature_labels.specs.Names.LabelName.{named}
+use Rattle.step_visits.specs.guppy_packages.Items.{slash_item, item_of}
+use Rattle.step_visits.specs.feature_labels.Names.LabelName.{named}
 use Rattle.cargo_workspaces.specs.Workspaces.{Text, DeclarationText, TargetText, PackageText, has_kind, is_library, is_proc_macro}
 use Rattle.plan_rows.specs.Commands.{is_started}
 use Rattle.plan_rows.specs.Steps.{SettingsText, admits, is_development, lands}

@@ -10,6 +10,8 @@ mod tests_of;
 
 pub use flags::{dev_flags, start_places};
 pub use package_visit::PackageVisit;
+pub use plan_rows::Side;
 pub use starts::{Starts, first_missing, starts_of};
+pub use step_visits::{FeatureLabel, NamedFeatureDep, PackageGraph, Visited, visit};
 pub use targets::{TargetRules, is_macro_at};
 pub use tests_of::first_without_tests;

@@ -1,15 +1,14 @@
 //! Visits of a step in which each package has two entries.
 ghost use Rattle.std.specs.Prelude.{◌≡◌, ◌+◌, ◌<◌, ◌≤◌, ◌^◌};
-ghost use Rattle.feature_labels.specs.Names.{label_of};
-ghost use Rattle.feature_labels.specs.Names.LabelName.{base, named, optional};
+ghost use Rattle.step_visits.specs.feature_labels.Names.{label_of};
+ghost use Rattle.step_visits.specs.feature_labels.Names.LabelName.{base, named, optional};
 ghost use Rattle.plan_rows.specs.Steps.{is_host};
 ghost use Rattle.plan_starts.specs.PackageVisits as spec;
 ghost use Rattle.plan_starts.specs.PackageVisits.{is_kept, is_on, reaches_at};
 
-use feature_labels::FeatureLabel;
 use plan_rows::{Kept, Side, TurnedOn};
 use std::marker::Model;
-use step_visits::Visited;
+use step_visits::{FeatureLabel, Visited};
 
 /// A visit of a step in which each package has two entries: step `resolved`, where a package is a dependency of others and a started
 /// one, or step `on`, where it is on the target side and on the host side.

@@ -12,8 +12,8 @@ ghost use Rattle.plan_starts.specs.TargetViews.{rules_text};
 
 use crate::package_visit::PackageVisit;
 use cargo_workspaces::{Declaration, Kind, Package, Target};
-use guppy_packages::NamedFeatureDep;
 use plan_rows::{Kept, Platform, Settings, Side};
+use step_visits::NamedFeatureDep;
 
 /// By what targets are chosen.
 #[derive(Drop)]

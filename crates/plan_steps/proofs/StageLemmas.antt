@@ -4,10 +4,10 @@ use Rattle.std.specs.Prelude.{IfOk}
 use Rattle.std.proofs.lemmas.Result.{IfOk-weaker}
 use Rattle.cargo_workspaces.specs.Workspaces.{PackageText, WorkspaceText}
 use Rattle.plan_rows.specs.Steps.{SettingsText}
-use Rattle.plan_starts.specs.PackageVisits.{PairVisit}
-use Rattle.plan_starts.specs.Starts.{starts_of}
-use Rattle.plan_starts.specs.StartViews.{starts_text}
-use Rattle.plan_starts.specs.declared.starts.Starts.{Starts as Found}
+use Rattle.plan_units.specs.plan_starts.PackageVisits.{PairVisit}
+use Rattle.plan_units.specs.plan_starts.Starts.{starts_of}
+use Rattle.plan_units.specs.plan_starts.StartViews.{starts_text}
+use Rattle.plan_units.specs.plan_starts.declared.starts.Starts.{Starts as Found}
 use Rattle.plan_steps.specs.Plans.{IsOn, IsPlan, IsResolved, PlanText, starts_by, without_tests}
 use Rattle.plan_steps.specs.PlanViews.{IsRefused, Plans}
 use Rattle.plan_steps.specs.declared.fault.StepFault.{StepFault}

@@ -3,17 +3,17 @@ use Rattle.std.proofs.Common.{◌≡◌, ℕ, Bool, List, Result, Ok, length, ma
 use Rattle.std.specs.Prelude.{IfOk}
 use Rattle.std.proofs.lemmas.Result.{IfOk-weaker}
 use Rattle.cargo_workspaces.specs.Workspaces.{WorkspaceText}
-use Rattle.feature_labels.specs.Names.{LabelName}
-use Rattle.feature_labels.specs.declared.feature_label.FeatureLabel.{FeatureLabel}
-use Rattle.guppy_packages.specs.Graph.{tables_of}
-use Rattle.guppy_packages.specs.Rows.{RowText}
-use Rattle.guppy_packages.specs.Tables.{Tables}
+use Rattle.plan_units.specs.feature_labels.Names.{LabelName}
+use Rattle.plan_units.specs.feature_labels.declared.feature_label.FeatureLabel.{FeatureLabel}
+use Rattle.plan_units.specs.guppy_packages.Graph.{tables_of}
+use Rattle.plan_units.specs.guppy_packages.Rows.{RowText}
+use Rattle.plan_units.specs.guppy_packages.Tables.{Tables}
 use Rattle.plan_rows.specs.Steps.{SettingsText, resolved_entries, on_entries, built_entries}
 use Rattle.plan_rows.specs.Tables.{flag_at, rows_of}
-use Rattle.plan_starts.specs.PackageVisits.{PairVisit, is_kept}
-use Rattle.plan_starts.specs.Starts.{Starts, dev_flags, start_places}
+use Rattle.plan_units.specs.plan_starts.PackageVisits.{PairVisit, is_kept}
+use Rattle.plan_units.specs.plan_starts.Starts.{Starts, dev_flags, start_places}
 use Rattle.plan_units.specs.Commands.{resolved_starts, on_starts}
-use Rattle.step_visits.specs.Visits.{IsVisit, IsVisitOf, Visit, start_of}
+use Rattle.plan_units.specs.step_visits.Visits.{IsVisit, IsVisitOf, Visit, start_of}
 use Rattle.plan_steps.specs.Plans.{IsResolved, IsOn, IsBuiltFrom, turned_on}
 use Rattle.plan_steps.specs.inner.StepTables.{AreResolvedTables, AreOnTables, AreBuiltTables}
 

@@ -3,7 +3,7 @@ use Rattle.std.specs.Prelude.{ℕ, List, map, Result, Ok, Err, ⊤}
 use Rattle.cargo_workspaces.specs.Workspaces.{WorkspaceText}
 use Rattle.plan_rows.specs.Steps.{SettingsText}
 use Rattle.plan_units.specs.UnitViews.{unit_text}
-use Rattle.step_visits.specs.Visits.{start_of}
+use Rattle.plan_units.specs.step_visits.Visits.{start_of}
 use Rattle.plan_steps.specs.Plans.{PlanText, IsPlan, HasNoTests, IsNotOn, IsLacking}
 use Rattle.plan_steps.specs.declared.fault.StepFault.{StepFault}
 use Rattle.plan_steps.specs.declared.fault.StepFault.TheVariants as fault

@@ -1,15 +1,15 @@
 -- Plans: what the visits of the three steps show.
 use Rattle.std.specs.Prelude.{◌≡◌, ℕ, List, Bool, Option, Some, None, length, if◌then◌else◌}
-use Rattle.feature_labels.specs.Names.{LabelName}
-use Rattle.feature_labels.specs.Names.LabelName.{optional}
+use Rattle.plan_units.specs.feature_labels.Names.{LabelName}
+use Rattle.plan_units.specs.feature_labels.Names.LabelName.{optional}
 use Rattle.cargo_workspaces.specs.Workspaces.{Text, WorkspaceText}
 use Rattle.plan_rows.specs.Steps.{SettingsText, resolved_entries, on_entries, built_entries}
 use Rattle.plan_rows.specs.Tables.{flag_at, rows_of}
 use Rattle.plan_rows.specs.declared.side.Side.{Side}
-use Rattle.step_visits.specs.Visits.{Visit, IsVisitOf}
-use Rattle.plan_starts.specs.PackageVisits.{PairVisit, is_kept, is_on}
-use Rattle.plan_starts.specs.Starts as starts
-use Rattle.plan_starts.specs.Starts.{Starts, dev_flags, start_places, first_missing, first_without_tests}
+use Rattle.plan_units.specs.step_visits.Visits.{Visit, IsVisitOf}
+use Rattle.plan_units.specs.plan_starts.PackageVisits.{PairVisit, is_kept, is_on}
+use Rattle.plan_units.specs.plan_starts.Starts as starts
+use Rattle.plan_units.specs.plan_starts.Starts.{Starts, dev_flags, start_places, first_missing, first_without_tests}
 use Rattle.plan_units.specs.Commands.{resolved_starts, on_starts}
 use Rattle.plan_units.specs.Lacking as lacking
 use Rattle.plan_units.specs.Units.{UnitText, units_of}

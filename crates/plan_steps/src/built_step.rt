@@ -2,20 +2,17 @@
 ghost use Rattle.std.specs.Prelude.{◌≡◌, ◌+◌, ◌*◌, ◌≤◌, IfOk, length, map};
 ghost use Rattle.cargo_workspaces.specs.WorkspaceView.{workspace_text};
 ghost use Rattle.plan_rows.specs.SettingsView.{settings_text};
-ghost use Rattle.plan_starts.specs.Starts as spec;
-ghost use Rattle.plan_starts.specs.StartViews.{starts_text};
-ghost use Rattle.step_visits.specs.Visits.{start_of};
+ghost use Rattle.plan_units.specs.plan_starts.Starts as spec;
+ghost use Rattle.plan_units.specs.plan_starts.StartViews.{starts_text};
+ghost use Rattle.plan_units.specs.step_visits.Visits.{start_of};
 ghost use Rattle.plan_steps.specs.Plans.{IsBuiltFrom};
 ghost use Rattle.plan_steps.specs.inner.StepTables.{AreBuiltTables};
 
 use crate::entries::target_count;
 use cargo_workspaces::Workspace;
-use feature_labels::FeatureLabel;
-use guppy_packages::PackageGraph;
 use plan_rows::{Ids, Platform, Settings, rows_built};
-use plan_starts::{PackageVisit, Starts, dev_flags};
+use plan_units::{FeatureLabel, PackageGraph, PackageVisit, Starts, Visited, dev_flags, visit};
 use std::alloc::{AllocError, Global};
-use step_visits::{Visited, visit};
 
 /// Returns the tables of the step: `with_dev` is, by the number of an entry, whether it starts with its dependencies for
 /// development.

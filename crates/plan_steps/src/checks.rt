@@ -3,15 +3,14 @@ ghost use Rattle.std.specs.Prelude.{◌≡◌, IfOk, IsTrue, length, nat_lt, opt
 ghost use Rattle.std.specs.List.{list_all};
 ghost use Rattle.cargo_workspaces.specs.WorkspaceView.{workspace_text};
 ghost use Rattle.plan_rows.specs.SettingsView.{settings_text};
-ghost use Rattle.plan_starts.specs.StartViews.{starts_text};
+ghost use Rattle.plan_units.specs.plan_starts.StartViews.{starts_text};
 ghost use Rattle.plan_steps.specs.Plans as spec;
 ghost use Rattle.plan_steps.specs.inner.Stages.{Checks};
 
 use crate::fault::StepFault;
 use cargo_workspaces::Workspace;
 use plan_rows::{Platform, Settings, Side};
-use plan_starts::{PackageVisit, Starts, first_missing, first_without_tests};
-use plan_units::first_lacking;
+use plan_units::{PackageVisit, Starts, first_lacking, first_missing, first_without_tests};
 use std::alloc::{AllocError, Global};
 
 /// Returns the first of `selected` whose tests can't be built, if there are tests. An allocation's failure is the only error.

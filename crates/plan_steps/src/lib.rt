@@ -17,4 +17,6 @@ mod stages;
 pub use fault::StepFault;
 pub use on_step::on_places;
 pub use plan::Plan;
+pub use plan_rows::{Platform, Settings, Side};
+pub use plan_units::{PackageVisit, Place, Unit};
 pub use plans::plan_of;

@@ -3,20 +3,16 @@ ghost use Rattle.std.specs.Prelude.{◌≡◌, ◌+◌, ◌*◌, ◌<◌, ◌≤
 ghost use Rattle.cargo_workspaces.specs.WorkspaceView.{workspace_text};
 ghost use Rattle.plan_rows.specs.Commands.{are_commands, command_texts};
 ghost use Rattle.plan_rows.specs.SettingsView.{settings_text};
-ghost use Rattle.plan_starts.specs.Targets.{is_macro};
+ghost use Rattle.plan_units.specs.plan_starts.Targets.{is_macro};
 ghost use Rattle.plan_units.specs.Commands.{command_places, on_starts};
-ghost use Rattle.step_visits.specs.Visits.{start_of};
+ghost use Rattle.plan_units.specs.step_visits.Visits.{start_of};
 ghost use Rattle.plan_steps.specs.Plans.{IsOn};
 ghost use Rattle.plan_steps.specs.inner.StepTables.{AreOnTables};
 
 use cargo_workspaces::Workspace;
-use feature_labels::FeatureLabel;
-use guppy_packages::PackageGraph;
 use plan_rows::{Ids, Platform, Settings, rows_on};
-use plan_starts::PackageVisit;
-use plan_units::push_commands;
+use plan_units::{FeatureLabel, PackageGraph, PackageVisit, Visited, push_commands, visit};
 use std::alloc::{AllocError, Global};
-use step_visits::{Visited, visit};
 
 /// Returns the tables of the step: `kept` is the visit of step `resolved`.
 fn tables<P: Platform>(

@@ -1,15 +1,12 @@
 //! A plan.
 ghost use Rattle.std.specs.Prelude.{◌≡◌, map};
-ghost use Rattle.feature_labels.specs.Names.LabelName.{named};
-ghost use Rattle.plan_starts.specs.PackageVisits.{is_on};
+ghost use Rattle.plan_units.specs.feature_labels.Names.LabelName.{named};
+ghost use Rattle.plan_units.specs.plan_starts.PackageVisits.{is_on};
 ghost use Rattle.plan_units.specs.UnitViews.{unit_text};
-ghost use Rattle.step_visits.specs.Visits.{start_of};
+ghost use Rattle.plan_units.specs.step_visits.Visits.{start_of};
 
-use feature_labels::FeatureLabel;
 use plan_rows::Side;
-use plan_starts::PackageVisit;
-use plan_units::Unit;
-use step_visits::Visited;
+use plan_units::{FeatureLabel, PackageVisit, Unit, Visited};
 
 /// The packages that are built, with their features, and which features are on.
 #[derive(Drop)]

@@ -17,7 +17,7 @@ use crate::resolved_step::resolved_step;
 use crate::stages::{Built, build_of};
 use cargo_workspaces::Workspace;
 use plan_rows::{Ids, Platform, Settings};
-use plan_starts::PackageVisit;
+use plan_units::PackageVisit;
 use std::alloc::Global;
 
 /// Returns the plan of what is built, or the fault. `on` is the visit of step `on`.

@@ -5,18 +5,14 @@ ghost use Rattle.plan_rows.specs.Commands.{are_commands, command_texts};
 ghost use Rattle.plan_rows.specs.Gates.{AreGated, AreGates};
 ghost use Rattle.plan_rows.specs.SettingsView.{settings_text};
 ghost use Rattle.plan_units.specs.Commands.{resolved_starts};
-ghost use Rattle.step_visits.specs.Visits.{start_of};
+ghost use Rattle.plan_units.specs.step_visits.Visits.{start_of};
 ghost use Rattle.plan_steps.specs.Plans.{IsResolved};
 ghost use Rattle.plan_steps.specs.inner.StepTables.{AreResolvedTables};
 
 use cargo_workspaces::Workspace;
-use feature_labels::FeatureLabel;
-use guppy_packages::PackageGraph;
 use plan_rows::{GatedFeatures, Gates, Ids, Platform, Settings, rows_resolved};
-use plan_starts::PackageVisit;
-use plan_units::push_commands;
+use plan_units::{FeatureLabel, PackageGraph, PackageVisit, Visited, push_commands, visit};
 use std::alloc::{AllocError, Global};
-use step_visits::{Visited, visit};
 
 /// Returns the tables of the step, whose features are `gated`.
 fn tables_of_gated<P: Platform>(

@@ -3,9 +3,9 @@ ghost use Rattle.std.specs.Prelude.{◌≡◌, ◌+◌, ◌*◌, ◌≤◌, IfOk
 ghost use Rattle.std.specs.List.{list_all};
 ghost use Rattle.cargo_workspaces.specs.WorkspaceView.{workspace_text};
 ghost use Rattle.plan_rows.specs.SettingsView.{settings_text};
-ghost use Rattle.plan_starts.specs.StartViews.{starts_text};
-ghost use Rattle.plan_starts.specs.Starts as spec;
-ghost use Rattle.step_visits.specs.Visits.{start_of};
+ghost use Rattle.plan_units.specs.plan_starts.StartViews.{starts_text};
+ghost use Rattle.plan_units.specs.plan_starts.Starts as spec;
+ghost use Rattle.plan_units.specs.step_visits.Visits.{start_of};
 ghost use Rattle.plan_steps.specs.Plans.{AreBuilt, starts_by};
 ghost use Rattle.plan_steps.specs.inner.Stages.{Builds, plan_with};
 
@@ -14,12 +14,12 @@ use crate::checks::check;
 use crate::entries::target_count;
 use crate::fault::StepFault;
 use cargo_workspaces::Workspace;
-use feature_labels::FeatureLabel;
 use plan_rows::{Ids, Platform, Settings};
-use plan_starts::{PackageVisit, Starts, TargetRules, start_places, starts_of};
-use plan_units::{Unit, units_of};
+use plan_units::{
+    FeatureLabel, PackageVisit, Starts, TargetRules, Unit, Visited, start_places, starts_of,
+    units_of,
+};
 use std::alloc::{AllocError, Global};
-use step_visits::Visited;
 
 /// What is built.
 #[derive(Drop)]

@@ -2,9 +2,9 @@
 use Rattle.std.proofs.Common.{◌≡◌, ℕ, suc, ◌+◌, ◌-◌, ◌*◌, ◌<◌, List, ◌++◌, length, ap, sym, ◌∙◌, subst, arith, append_assoc}
 use Rattle.std.proofs.Math.Nat.{suc-mul}
 use Rattle.cargo_workspaces.specs.Workspaces.{PackageText}
-use Rattle.plan_rows.specs.declared.side.Side.TheVariants as side
+use Rattle.plan_starts.specs.plan_rows.declared.side.Side.TheVariants as side
 use Rattle.plan_starts.specs.PackageVisits.{PairVisit}
-use Rattle.step_visits.specs.Visits.{Visit}
+use Rattle.plan_starts.specs.step_visits.Visits.{Visit}
 use Rattle.plan_units.specs.Units.{UnitText, target_units, units_at}
 use Rattle.plan_units.specs.declared.unit.Place.TheVariants.{Target}
 

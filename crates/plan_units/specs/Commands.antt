@@ -1,9 +1,9 @@
 -- The places at which steps `resolved` and `on` start: the command features.
 use Rattle.std.specs.Prelude.{ℕ, ◌+◌, List, [], ◌∷◌, ◌++◌, Bool, true, if◌then◌else◌, ◌&&◌, Option, is_some, codes, length}
-use Rattle.feature_labels.specs.Names.{LabelName}
-use Rattle.feature_labels.specs.Names.LabelName.{named}
+use Rattle.plan_starts.specs.feature_labels.Names.{LabelName}
+use Rattle.plan_starts.specs.feature_labels.Names.LabelName.{named}
 use Rattle.cargo_workspaces.specs.Workspaces.{FeatureText, WorkspaceText}
-use Rattle.plan_rows.specs.Steps.{SettingsText}
+use Rattle.plan_starts.specs.plan_rows.Steps.{SettingsText}
 use Rattle.plan_starts.specs.Lists.{joined_from}
 use Rattle.plan_starts.specs.Targets.{is_macro}
 

@@ -3,11 +3,11 @@ use Rattle.std.specs.Prelude.{ℕ, List, Bool, true, false, not, ◌&&◌, ◌||
 use Rattle.std.specs.List.{list_any}
 use Rattle.std.specs.Option.{is_some, option_or}
 use Rattle.std.specs.Str.{bytes_eq}
-use Rattle.guppy_packages.specs.Items.{Item, feature_item, optional_item, slash_item, item_of}
-use Rattle.feature_labels.specs.Names.LabelName.{named}
+use Rattle.plan_starts.specs.guppy_packages.Items.{Item, feature_item, optional_item, slash_item, item_of}
+use Rattle.plan_starts.specs.feature_labels.Names.LabelName.{named}
 use Rattle.cargo_workspaces.specs.Workspaces.{Text, DeclarationText, FeatureText, PackageText}
-use Rattle.plan_rows.specs.Commands.{command_of}
-use Rattle.plan_rows.specs.declared.side.Side.TheVariants.{Target, Host}
+use Rattle.plan_starts.specs.plan_rows.Commands.{command_of}
+use Rattle.plan_starts.specs.plan_rows.declared.side.Side.TheVariants.{Target, Host}
 use Rattle.plan_starts.specs.Lists.{first_from, first_some}
 use Rattle.plan_starts.specs.PackageVisits.{PairVisit, is_on}
 

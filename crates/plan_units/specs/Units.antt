@@ -1,13 +1,13 @@
 -- The packages that are built, with their features.
 use Rattle.std.specs.Prelude.{ℕ, ◌+◌, zero, suc, List, [], ◌∷◌, ◌++◌, map, Bool, true, filter, if◌then◌else◌, length}
-use Rattle.feature_labels.specs.Names.LabelName.{base, named}
+use Rattle.plan_starts.specs.feature_labels.Names.LabelName.{base, named}
 use Rattle.cargo_workspaces.specs.Workspaces.{Text, PackageText}
-use Rattle.plan_rows.specs.Steps.{side_of}
-use Rattle.plan_rows.specs.declared.side.Side.{Side}
-use Rattle.plan_rows.specs.declared.side.Side.TheVariants as side
+use Rattle.plan_starts.specs.plan_rows.Steps.{side_of}
+use Rattle.plan_starts.specs.plan_rows.declared.side.Side.{Side}
+use Rattle.plan_starts.specs.plan_rows.declared.side.Side.TheVariants as side
 use Rattle.plan_starts.specs.Lists.{joined_from}
 use Rattle.plan_starts.specs.PackageVisits.{PairVisit, is_on}
-use Rattle.step_visits.specs.Visits.{Visit, reaches}
+use Rattle.plan_starts.specs.step_visits.Visits.{Visit, reaches}
 use Rattle.plan_units.specs.declared.unit.Place.{Place}
 use Rattle.plan_units.specs.declared.unit.Place.TheVariants.{Host, Target}
 

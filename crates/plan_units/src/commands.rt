@@ -1,15 +1,14 @@
 //! The places at which steps `resolved` and `on` start.
 ghost use Rattle.std.specs.Prelude.{◌≡◌, ◌+◌, ◌<◌, ◌^◌, ◌++◌, ◌∷◌, ◌||◌, [], OnOk, if◌then◌else◌, length, map};
 ghost use Rattle.cargo_workspaces.specs.Views.{package_text};
-ghost use Rattle.plan_rows.specs.Commands.{command_texts};
+ghost use Rattle.plan_starts.specs.plan_rows.Commands.{command_texts};
 ghost use Rattle.plan_starts.specs.Targets.{is_macro};
-ghost use Rattle.step_visits.specs.Visits.{start_of};
+ghost use Rattle.plan_starts.specs.step_visits.Visits.{start_of};
 ghost use Rattle.plan_units.specs.Commands as spec;
 ghost use Rattle.plan_units.specs.Commands.{command_label};
 
 use cargo_workspaces::{Feature, Package};
-use feature_labels::FeatureLabel;
-use plan_starts::is_macro_at;
+use plan_starts::{FeatureLabel, is_macro_at};
 use std::alloc::AllocError;
 
 /// Appends the command feature of entry `ix`, if `flag`.

@@ -2,16 +2,14 @@
 ghost use Rattle.std.specs.Prelude.{◌≡◌, ◌&&◌, map, option_and_then, option_map};
 ghost use Rattle.std.specs.List.{list_any};
 ghost use Rattle.std.specs.Str.{bytes_eq};
-ghost use Rattle.guppy_packages.specs.Items.{item_of};
+ghost use Rattle.plan_starts.specs.guppy_packages.Items.{item_of};
 ghost use Rattle.cargo_workspaces.specs.Views.{declaration_text, feature_text, package_text, texts};
-ghost use Rattle.plan_rows.specs.Commands.{command_of, command_texts};
+ghost use Rattle.plan_starts.specs.plan_rows.Commands.{command_of, command_texts};
 ghost use Rattle.plan_starts.specs.Lists.{first_some};
 ghost use Rattle.plan_units.specs.Lacking as spec;
 
 use cargo_workspaces::{Declaration, Feature, Package};
-use guppy_packages::NamedFeatureDep;
-use plan_rows::Side;
-use plan_starts::PackageVisit;
+use plan_starts::{NamedFeatureDep, PackageVisit, Side};
 
 /// Returns the optional dependency that `item` asks for, if it asks for one.
 fn asked(item: &str) -> Option<&str>

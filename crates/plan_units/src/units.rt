@@ -1,20 +1,17 @@
 //! The packages that are built.
 ghost use Rattle.std.specs.Prelude.{◌≡◌, ◌+◌, ◌*◌, ◌<◌, ◌^◌, ◌++◌, ◌∷◌, [], IfOk, OnOk, if◌then◌else◌, length, map, true};
-ghost use Rattle.feature_labels.specs.Names.LabelName.{base};
+ghost use Rattle.plan_starts.specs.feature_labels.Names.LabelName.{base};
 ghost use Rattle.cargo_workspaces.specs.Views.{package_text, texts};
-ghost use Rattle.plan_rows.specs.Steps as steps;
-ghost use Rattle.step_visits.specs.Visits.{reaches};
+ghost use Rattle.plan_starts.specs.plan_rows.Steps as steps;
+ghost use Rattle.plan_starts.specs.step_visits.Visits.{reaches};
 ghost use Rattle.plan_units.specs.Units as spec;
 ghost use Rattle.plan_units.specs.Units.{features_on, target_units, units_at};
 ghost use Rattle.plan_units.specs.UnitViews.{unit_text};
 
 use crate::unit::{Place, Unit};
 use cargo_workspaces::Package;
-use feature_labels::FeatureLabel;
-use plan_rows::Side;
-use plan_starts::PackageVisit;
+use plan_starts::{FeatureLabel, PackageVisit, Side, Visited};
 use std::alloc::{AllocError, Global};
-use step_visits::Visited;
 
 /// The visits of steps `on` and `built`.
 #[derive(Clone, Copy)]

@@ -9,8 +9,8 @@ use Rattle.feature_core.specs.Built.{Built, IsBuilt}
 use Rattle.feature_core.specs.Nodes.{node_packages}
 use Rattle.feature_core.specs.Offers.{content_of}
 use Rattle.feature_core.specs.Ways.{Reading}
-use Rattle.plan_starts.specs.Lists.{joined_from}
-use Rattle.plan_starts.specs.PackageVisits.{PairVisit}
+use Rattle.cargo_plans.specs.plan_starts.Lists.{joined_from}
+use Rattle.cargo_plans.specs.plan_starts.PackageVisits.{PairVisit}
 use Rattle.step_visits.specs.Visits.{Visit}
 use Rattle.walk_checks.specs.Tables.{IsEdge}
 use Rattle.walk_checks.specs.declared.table.TableEdge.{TableEdge}

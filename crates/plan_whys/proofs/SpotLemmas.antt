@@ -4,8 +4,8 @@ use Rattle.std.specs.Prelude.{nat_lt, if◌then◌else◌}
 use Rattle.std.proofs.lemmas.Bool.{le-ltb, lt-ltb}
 use Rattle.feature_core.specs.Nodes.{NodeAt}
 use Rattle.feature_labels.specs.Names.{LabelName}
-use Rattle.plan_rows.specs.declared.side.Side.TheVariants.{Target, Host}
-use Rattle.plan_starts.specs.PackageVisits.{PairVisit}
+use Rattle.cargo_plans.specs.plan_rows.declared.side.Side.TheVariants.{Target, Host}
+use Rattle.cargo_plans.specs.plan_starts.PackageVisits.{PairVisit}
 use Rattle.step_visits.specs.Visits.{Visit}
 use Rattle.plan_whys.specs.Steps.{IsAt, SpotText, spot_at}
 

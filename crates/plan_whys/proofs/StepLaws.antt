@@ -8,10 +8,10 @@ use Rattle.guppy_packages.specs.declared.direction.DependencyDirection.TheVarian
 use Rattle.feature_core.specs.Nodes.{node_places}
 use Rattle.feature_core.specs.Offers.{content_of}
 use Rattle.feature_labels.specs.Names.{LabelName}
-use Rattle.plan_rows.specs.Steps.{SettingsText, side_base}
-use Rattle.plan_rows.specs.declared.side.Side.{Side}
-use Rattle.plan_rows.specs.declared.side.Side.TheVariants.{Target, Host}
-use Rattle.plan_starts.specs.PackageVisits.{PairVisit}
+use Rattle.cargo_plans.specs.plan_rows.Steps.{SettingsText, side_base}
+use Rattle.cargo_plans.specs.plan_rows.declared.side.Side.{Side}
+use Rattle.cargo_plans.specs.plan_rows.declared.side.Side.TheVariants.{Target, Host}
+use Rattle.cargo_plans.specs.plan_starts.PackageVisits.{PairVisit}
 use Rattle.step_visits.specs.Visits.{is_start, node_at}
 use Rattle.step_visits.proofs.Places.{node_back_at}
 use Rattle.walk_engine.specs.Explanations.{IsReason, nodes_of}

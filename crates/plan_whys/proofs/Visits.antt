@@ -13,12 +13,12 @@ use Rattle.feature_core.specs.Offers.{content_of}
 use Rattle.feature_labels.specs.Names.{LabelName}
 use Rattle.feature_labels.specs.declared.feature_label.FeatureLabel.{FeatureLabel}
 use Rattle.guppy_packages.specs.Tables.{Tables}
-use Rattle.plan_rows.specs.Steps.{SettingsText, is_host, side_base}
-use Rattle.plan_rows.specs.declared.side.Side.{Side}
-use Rattle.plan_rows.specs.declared.side.Side.TheVariants.{Target, Host}
-use Rattle.plan_starts.specs.PackageVisits.{PairVisit, first_entry, is_on}
-use Rattle.plan_steps.specs.Plans.{IsOn}
-use Rattle.plan_units.specs.Commands.{on_starts}
+use Rattle.cargo_plans.specs.plan_rows.Steps.{SettingsText, is_host, side_base}
+use Rattle.cargo_plans.specs.plan_rows.declared.side.Side.{Side}
+use Rattle.cargo_plans.specs.plan_rows.declared.side.Side.TheVariants.{Target, Host}
+use Rattle.cargo_plans.specs.plan_starts.PackageVisits.{PairVisit, first_entry, is_on}
+use Rattle.cargo_plans.specs.plan_steps.Plans.{IsOn}
+use Rattle.cargo_plans.specs.plan_units.Commands.{on_starts}
 use Rattle.step_visits.specs.Visits.{IsVisit, Visit, is_start, node_at, reaches, start_of}
 use Rattle.walk_engine.specs.Laws.{every}
 use Rattle.walk_engine.specs.Walks.{Content, Least}

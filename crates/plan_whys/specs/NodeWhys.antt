@@ -3,8 +3,8 @@ use Rattle.std.specs.Prelude.{ℕ, ◌+◌, nat_lt, if◌then◌else◌, Bool, L
 use Rattle.feature_core.specs.Built.{Built, IsBuilt}
 use Rattle.feature_core.specs.Offers.{content_of}
 use Rattle.guppy_packages.specs.declared.direction.DependencyDirection.TheVariants.{Forward}
-use Rattle.plan_rows.specs.Steps.{side_base}
-use Rattle.plan_starts.specs.PackageVisits.{PairVisit}
+use Rattle.cargo_plans.specs.plan_rows.Steps.{side_base}
+use Rattle.cargo_plans.specs.plan_starts.PackageVisits.{PairVisit}
 use Rattle.step_visits.specs.Visits.{node_at}
 use Rattle.walk_checks.specs.Whys.{IsWhy}
 use Rattle.walk_engine.specs.Explanations.{IsExplanation}

@@ -5,8 +5,8 @@ use Rattle.guppy_packages.specs.declared.direction.DependencyDirection.TheVarian
 use Rattle.guppy_support.specs.Bits.{has}
 use Rattle.feature_core.specs.Built.{Built, IsBuilt}
 use Rattle.feature_core.specs.Offers.{content_of}
-use Rattle.plan_starts.specs.Lists.{joined_from}
-use Rattle.plan_starts.specs.PackageVisits.{PairVisit}
+use Rattle.cargo_plans.specs.plan_starts.Lists.{joined_from}
+use Rattle.cargo_plans.specs.plan_starts.PackageVisits.{PairVisit}
 use Rattle.walk_engine.specs.Walks.{Content, Way}
 use Rattle.walk_engine.specs.declared.walks.Ask.{Ask}
 use Rattle.walk_engine.specs.declared.walks.Ask.TheVariants as asks

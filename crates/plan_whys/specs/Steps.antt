@@ -3,9 +3,9 @@ use Rattle.std.specs.Prelude.{◌≡◌, ℕ, ◌-◌, nat_lt, if◌then◌else�
 use Rattle.std.specs.List.{AllZip}
 use Rattle.feature_labels.specs.Names.{LabelName}
 use Rattle.feature_core.specs.Nodes.{NodeAt}
-use Rattle.plan_rows.specs.declared.side.Side.{Side}
-use Rattle.plan_rows.specs.declared.side.Side.TheVariants.{Target, Host}
-use Rattle.plan_starts.specs.PackageVisits.{PairVisit}
+use Rattle.cargo_plans.specs.plan_rows.declared.side.Side.{Side}
+use Rattle.cargo_plans.specs.plan_rows.declared.side.Side.TheVariants.{Target, Host}
+use Rattle.cargo_plans.specs.plan_starts.PackageVisits.{PairVisit}
 use Rattle.walk_engine.specs.Walks.{Content, Way, IsWay, has_gate}
 use Rattle.walk_engine.specs.declared.walks.Half.{Half}
 use Rattle.walk_engine.specs.declared.walks.Step.{Step}

@@ -4,10 +4,10 @@ use Rattle.std.specs.Global.{Vec}
 use Rattle.std.specs.List.{AllZip}
 use Rattle.cargo_plans.specs.Plans.{WordsText, AfterWords, settings_by}
 use Rattle.cargo_workspaces.specs.Workspaces.{WorkspaceText}
-use Rattle.plan_rows.specs.Steps.{SettingsText}
-use Rattle.plan_starts.specs.PackageVisits.{PairVisit, is_on}
-use Rattle.plan_steps.specs.Plans.{IsOn}
-use Rattle.plan_units.specs.Commands.{on_starts}
+use Rattle.cargo_plans.specs.plan_rows.Steps.{SettingsText}
+use Rattle.cargo_plans.specs.plan_starts.PackageVisits.{PairVisit, is_on}
+use Rattle.cargo_plans.specs.plan_steps.Plans.{IsOn}
+use Rattle.cargo_plans.specs.plan_units.Commands.{on_starts}
 use Rattle.step_visits.specs.Visits.{is_start}
 use Rattle.plan_whys.specs.StepViews.{found_text, spot_text}
 use Rattle.plan_whys.specs.Steps.{SpotText, WhyText}

@@ -1,7 +1,7 @@
 //! Laws of whys: a contract is the law, and the body is empty.
 ghost use Rattle.cargo_workspaces.specs.Workspaces.{WorkspaceText};
-ghost use Rattle.plan_rows.specs.Steps.{SettingsText};
-ghost use Rattle.plan_starts.specs.PackageVisits.{PairVisit};
+ghost use Rattle.cargo_plans.specs.plan_rows.Steps.{SettingsText};
+ghost use Rattle.cargo_plans.specs.plan_starts.PackageVisits.{PairVisit};
 ghost use Rattle.plan_whys.specs.Steps.{AreBacked, EndsAt, SpotText, WhyText};
 ghost use Rattle.plan_whys.specs.Whys.{Explains};
 ghost use Rattle.std.specs.Prelude.{List};

@@ -10,9 +10,9 @@ mod step_reasons;
 mod steps;
 mod whys;
 
+pub use cargo_plans::Side;
 pub use direct_reasons::reasons;
 pub use laws::whys_lead_to_spots;
-pub use plan_rows::Side;
 pub use step_reasons::reasoned_steps;
 pub use steps::{ReasonedStep, Spot, WhyReason, WhyStep};
 pub use whys::{why, why_by_settings, why_each, why_each_by_settings};

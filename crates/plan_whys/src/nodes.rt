@@ -16,10 +16,10 @@ ghost use Rattle.plan_whys.specs.inner.Nodes.{IsLeast, NodeAnswers, SpotAnswers}
 use crate::explanations::{explanation_from, kept_steps};
 use crate::spots::steps_of;
 use crate::steps::{Spot, WhyStep};
+use cargo_plans::PackageVisit;
 use feature_core::FeatureGraphData;
 use feature_core::graph_laws::content_of_graph;
 use guppy_support::IxBitSet;
-use plan_starts::PackageVisit;
 use std::alloc::{AllocError, Global};
 use walk_engine::Step;
 

@@ -11,10 +11,9 @@ ghost use Rattle.plan_whys.specs.StepViews.{reason_text, spot_text, why_text};
 ghost use Rattle.plan_whys.specs.inner.Nodes.{AreInside, IsInside, IsReasonInside};
 
 use crate::steps::{Spot, WhyReason, WhyStep};
+use cargo_plans::{PackageVisit, Side};
 use feature_core::{FeatureGraphData, Packed};
 use guppy_packages::DependencyDirection;
-use plan_rows::Side;
-use plan_starts::PackageVisit;
 use std::alloc::{AllocError, Global};
 use walk_checks::{EdgeTable, TableEdge};
 use walk_engine::{Ask, Half, Step, StepReason};

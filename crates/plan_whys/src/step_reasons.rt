@@ -1,12 +1,12 @@
 //! Steps with all reasons of their spots.
 ghost use Rattle.std.specs.Prelude.{IfOk, map};
-ghost use Rattle.plan_steps.specs.PlanViews.{plan_text};
+ghost use Rattle.cargo_plans.specs.plan_steps.PlanViews.{plan_text};
 ghost use Rattle.plan_whys.specs.Reasons.{AreReasoned, IsReasoned};
 ghost use Rattle.plan_whys.specs.StepViews.{reasoned_text, why_text};
 
 use crate::direct_reasons::reasons;
 use crate::steps::{ReasonedStep, WhyStep};
-use plan_steps::Plan;
+use cargo_plans::Plan;
 use std::alloc::{AllocError, Global};
 
 /// Returns `step`, with each reason why its spot is on in `plan`.

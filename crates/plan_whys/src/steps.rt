@@ -1,7 +1,7 @@
 //! The steps that explain why a label is on.
 
+use cargo_plans::Side;
 use feature_labels::FeatureLabel;
-use plan_rows::Side;
 
 /// A label of a package, on a side.
 #[derive(Clone, Copy)]

@@ -5,9 +5,9 @@ ghost use Rattle.cargo_plans.specs.Plans.{IsPlanOf};
 ghost use Rattle.cargo_plans.specs.WordsView.{words_text};
 ghost use Rattle.cargo_workspaces.specs.WorkspaceView.{workspace_text};
 ghost use Rattle.feature_core.specs.Nodes.{node_packages};
-ghost use Rattle.plan_rows.specs.SettingsView.{settings_text};
-ghost use Rattle.plan_steps.specs.PlanViews.{plan_text};
-ghost use Rattle.plan_units.specs.Commands.{on_starts};
+ghost use Rattle.cargo_plans.specs.plan_rows.SettingsView.{settings_text};
+ghost use Rattle.cargo_plans.specs.plan_steps.PlanViews.{plan_text};
+ghost use Rattle.cargo_plans.specs.plan_units.Commands.{on_starts};
 ghost use Rattle.step_visits.specs.Visits.{is_start};
 ghost use Rattle.plan_whys.specs.StepViews.{spot_text, why_text};
 ghost use Rattle.plan_whys.specs.Whys.{Answers, AnswersBy, AnswersEach, AnswersEachBy, IsOnBy};
@@ -15,13 +15,10 @@ ghost use Rattle.plan_whys.specs.inner.Nodes.{IsLeast};
 
 use crate::nodes::{each_from, node_of, why_from};
 use crate::steps::{Spot, WhyStep};
-use cargo_plans::PlanWords;
+use cargo_plans::{PackageVisit, Plan, PlanWords, Platform, Settings, on_places};
 use cargo_workspaces::Workspace;
 use feature_core::graph_laws::one_content;
 use guppy_support::IxBitSet;
-use plan_rows::{Platform, Settings};
-use plan_starts::PackageVisit;
-use plan_steps::{Plan, on_places};
 use plan_words::choose;
 use std::alloc::{AllocError, Global};
 

@@ -1,14 +1,13 @@
 //! The sides on which a feature is on.
 ghost use Rattle.std.specs.Prelude.{◌≡◌};
 ghost use Rattle.feature_labels.specs.Names.{label_of};
-ghost use Rattle.plan_starts.specs.PackageVisits.{is_on};
-ghost use Rattle.plan_steps.specs.PlanViews.{plan_text};
+ghost use Rattle.cargo_plans.specs.plan_starts.PackageVisits.{is_on};
+ghost use Rattle.cargo_plans.specs.plan_steps.PlanViews.{plan_text};
 ghost use Rattle.plan_widenings.specs.Findings as spec;
 
+use cargo_plans::{PackageVisit, Plan};
 use feature_labels::FeatureLabel;
 use plan_rows::{Side, TurnedOn};
-use plan_starts::PackageVisit;
-use plan_steps::Plan;
 
 /// The sides on which a feature is on.
 #[derive(Clone, Copy)]

@@ -2,10 +2,10 @@
 use Rattle.std.specs.Prelude.{◌≡◌, map, Option, Some, None, Result, Ok, Err, ⊤}
 use Rattle.cargo_workspaces.specs.Workspaces.{WorkspaceText}
 use Rattle.plan_rows.specs.Steps.{SettingsText}
-use Rattle.plan_starts.specs.PackageVisits.{PairVisit}
-use Rattle.plan_starts.specs.Starts.{Starts}
+use Rattle.plan_units.specs.plan_starts.PackageVisits.{PairVisit}
+use Rattle.plan_units.specs.plan_starts.Starts.{Starts}
 use Rattle.plan_units.specs.UnitViews.{unit_text}
-use Rattle.step_visits.specs.Visits.{start_of}
+use Rattle.plan_units.specs.step_visits.Visits.{start_of}
 use Rattle.plan_steps.specs.Plans.{AreBuilt, IsComplete, PlanText, lacks, not_on}
 use Rattle.plan_steps.specs.PlanViews.{plan_text}
 use Rattle.plan_steps.specs.declared.fault.StepFault.{StepFault}

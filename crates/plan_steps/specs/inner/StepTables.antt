@@ -1,12 +1,12 @@
 -- The tables of the steps.
 use Rattle.std.specs.Prelude.{◌≡◌, Ok, length}
 use Rattle.cargo_workspaces.specs.Workspaces.{WorkspaceText}
-use Rattle.guppy_packages.specs.Graph.{tables_of}
-use Rattle.guppy_packages.specs.Tables.{Tables}
+use Rattle.plan_units.specs.guppy_packages.Graph.{tables_of}
+use Rattle.plan_units.specs.guppy_packages.Tables.{Tables}
 use Rattle.plan_rows.specs.Steps.{SettingsText, resolved_entries, on_entries, built_entries}
 use Rattle.plan_rows.specs.Tables.{flag_at, rows_of}
-use Rattle.plan_starts.specs.PackageVisits.{PairVisit, is_kept}
-use Rattle.plan_starts.specs.Starts.{Starts, dev_flags}
+use Rattle.plan_units.specs.plan_starts.PackageVisits.{PairVisit, is_kept}
+use Rattle.plan_units.specs.plan_starts.Starts.{Starts, dev_flags}
 use Rattle.plan_steps.specs.Plans.{turned_on}
 
 -- The tables of step `resolved`.

@@ -10,7 +10,7 @@ use Rattle.walk_engine.specs.Walks.{Content, Least, Way, IsWay, has_gate}
 use Rattle.walk_engine.specs.declared.walks.Step.{Step}
 use Rattle.walk_engine.specs.declared.walks.StepReason.{StepReason}
 use Rattle.walk_engine.specs.declared.walks.StepReason.TheVariants.{Initial, Edge, Offer}
-use Rattle.plan_starts.specs.PackageVisits.{PairVisit}
+use Rattle.cargo_plans.specs.plan_starts.PackageVisits.{PairVisit}
 use Rattle.plan_whys.specs.Steps.{WhyText}
 use Rattle.plan_whys.specs.NodeWhys.{IsWhyOf, node_of}
 use Rattle.plan_whys.specs.StepViews.{found_text, spot_text}

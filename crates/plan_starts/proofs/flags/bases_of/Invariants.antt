@@ -1,6 +1,6 @@
 use Rattle.std.proofs.Common.{◌≡◌, ℕ, Bool, ◌++◌, ◌∷◌, [], if◌then◌else◌, drop, map}
-use Rattle.feature_labels.specs.Names.{LabelName}
-use Rattle.feature_labels.specs.Names.LabelName.{base}
+use Rattle.step_visits.specs.feature_labels.Names.{LabelName}
+use Rattle.step_visits.specs.feature_labels.Names.LabelName.{base}
 use Rattle.step_visits.specs.Visits.{start_of}
 use Rattle.plan_starts.specs.Lists.{joined_from}
 use Rattle.plan_starts.specs.Starts as spec

@@ -1,7 +1,7 @@
 use Rattle.cargo_workspaces.specs.WorkspaceView.{workspace_text}
 use Rattle.plan_rows.specs.SettingsView.{settings_text}
 use Rattle.plan_rows.specs.StepRowsView.{row_texts}
-use Rattle.plan_starts.specs.StartViews.{starts_text}
+use Rattle.plan_units.specs.plan_starts.StartViews.{starts_text}
 use Rattle.plan_steps.proofs.StepVisits.{built_tables}
 use Rattle.plan_steps.proofs.built_step.tables_of_flags.Goals as goal
 

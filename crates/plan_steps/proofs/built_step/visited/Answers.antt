@@ -1,6 +1,6 @@
 use Rattle.cargo_workspaces.specs.WorkspaceView.{workspace_text}
 use Rattle.plan_rows.specs.SettingsView.{settings_text}
-use Rattle.plan_starts.specs.StartViews.{starts_text}
+use Rattle.plan_units.specs.plan_starts.StartViews.{starts_text}
 use Rattle.plan_steps.proofs.StepVisits.{built_visit}
 use Rattle.plan_steps.proofs.built_step.visited.Goals as goal
 

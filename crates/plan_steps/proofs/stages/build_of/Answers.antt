@@ -1,7 +1,7 @@
 use Rattle.std.proofs.Common.{subst}
 use Rattle.cargo_workspaces.specs.WorkspaceView.{workspace_text}
 use Rattle.plan_rows.specs.SettingsView.{settings_text}
-use Rattle.plan_starts.specs.Starts.{Starts}
+use Rattle.plan_units.specs.plan_starts.Starts.{Starts}
 use Rattle.plan_steps.specs.inner.Stages.{Builds}
 use Rattle.plan_steps.proofs.stages.build_of.Goals as goal
 

@@ -2,10 +2,10 @@ use Rattle.std.proofs.Common.{◌≡◌, ◌+◌, ◌&&◌, ◌||◌, ◌++◌, 
 use Rattle.std.specs.Option.{is_some}
 use Rattle.cargo_workspaces.specs.Views.{package_text}
 use Rattle.cargo_workspaces.specs.Workspaces.{FeatureText}
-use Rattle.plan_rows.specs.Commands.{command_texts}
+use Rattle.plan_starts.specs.plan_rows.Commands.{command_texts}
 use Rattle.plan_starts.specs.Lists.{joined_from}
 use Rattle.plan_starts.specs.Targets.{is_macro}
-use Rattle.step_visits.specs.Visits.{start_of}
+use Rattle.plan_starts.specs.step_visits.Visits.{start_of}
 use Rattle.plan_units.specs.Commands.{commands_from}
 use Rattle.plan_units.proofs.commands.push_commands.Given as goal
 

@@ -1,6 +1,6 @@
 use Rattle.std.proofs.Common.{◌≡◌, map, drop}
 use Rattle.cargo_workspaces.specs.Views.{package_text}
-use Rattle.plan_rows.specs.Commands.{command_texts}
+use Rattle.plan_starts.specs.plan_rows.Commands.{command_texts}
 use Rattle.plan_starts.specs.Lists.{first_from}
 use Rattle.plan_units.specs.Lacking.{first_lacking, lacking_at}
 use Rattle.plan_units.proofs.lacking.first_lacking.Given as goal

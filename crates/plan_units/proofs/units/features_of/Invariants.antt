@@ -1,6 +1,6 @@
 use Rattle.std.proofs.Common.{◌≡◌, ◌++◌, map, drop}
 use Rattle.std.specs.Prelude.{filter}
-use Rattle.feature_labels.specs.Names.LabelName.{named}
+use Rattle.plan_starts.specs.feature_labels.Names.LabelName.{named}
 use Rattle.cargo_workspaces.specs.Views.{feature_text, package_text, texts}
 use Rattle.cargo_workspaces.specs.Workspaces.{FeatureText}
 use Rattle.plan_starts.specs.PackageVisits.{is_on}

@@ -1,5 +1,5 @@
 use Rattle.std.proofs.Common.{arith, map}
-use Rattle.plan_steps.specs.PlanViews.{plan_text}
+use Rattle.cargo_plans.specs.plan_steps.PlanViews.{plan_text}
 use Rattle.plan_whys.specs.Reasons.{IsReasoned}
 use Rattle.plan_whys.specs.StepViews.{reasoned_text, why_text}
 use Rattle.plan_whys.proofs.StepLists.{map_pushed, zip_viewed}

@@ -1,5 +1,5 @@
 use Rattle.std.proofs.Common.{map, take}
-use Rattle.plan_steps.specs.PlanViews.{plan_text}
+use Rattle.cargo_plans.specs.plan_steps.PlanViews.{plan_text}
 use Rattle.plan_whys.specs.Reasons.{AreReasoned}
 use Rattle.plan_whys.specs.StepViews.{reasoned_text, why_text}
 use Rattle.plan_whys.proofs.step_reasons.reasoned_steps.Given as goal

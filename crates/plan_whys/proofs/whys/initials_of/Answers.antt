@@ -1,7 +1,7 @@
 use Rattle.std.proofs.Common.{subst}
 use Rattle.guppy_support.specs.Bits.{has}
 use Rattle.cargo_workspaces.specs.WorkspaceView.{workspace_text}
-use Rattle.plan_rows.specs.SettingsView.{settings_text}
+use Rattle.cargo_plans.specs.plan_rows.SettingsView.{settings_text}
 use Rattle.plan_whys.proofs.Listed.{tables_here}
 use Rattle.plan_whys.proofs.Visits.{OneContent, on_least, starts_are}
 use Rattle.plan_whys.proofs.whys.initials_of.Goals as goal

@@ -2,8 +2,8 @@ use Rattle.std.proofs.Common.{◌∙◌, None, map, subst, sym}
 use Rattle.std.specs.Prelude.{option_map}
 use Rattle.guppy_support.specs.Bits.{has}
 use Rattle.cargo_workspaces.specs.WorkspaceView.{workspace_text}
-use Rattle.plan_rows.specs.SettingsView.{settings_text}
-use Rattle.plan_starts.specs.PackageVisits.{PairVisit}
+use Rattle.cargo_plans.specs.plan_rows.SettingsView.{settings_text}
+use Rattle.cargo_plans.specs.plan_starts.PackageVisits.{PairVisit}
 use Rattle.plan_whys.specs.StepViews.{spot_text, why_text}
 use Rattle.plan_whys.specs.Whys.{Answers}
 use Rattle.plan_whys.proofs.Visits.{answers_by_node, off_without_node}

@@ -1,8 +1,8 @@
 use Rattle.std.proofs.Common.{subst}
 use Rattle.guppy_support.specs.Bits.{has}
 use Rattle.cargo_workspaces.specs.WorkspaceView.{workspace_text}
-use Rattle.plan_rows.specs.SettingsView.{settings_text}
-use Rattle.plan_starts.specs.PackageVisits.{PairVisit}
+use Rattle.cargo_plans.specs.plan_rows.SettingsView.{settings_text}
+use Rattle.cargo_plans.specs.plan_starts.PackageVisits.{PairVisit}
 use Rattle.plan_whys.specs.Whys.{AnswersEach}
 use Rattle.plan_whys.proofs.Visits.{each_answered}
 use Rattle.plan_whys.proofs.whys.why_each_by_settings.Goals as goal
