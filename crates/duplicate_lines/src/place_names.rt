@@ -3,7 +3,7 @@ ghost use Rattle.std.specs.Prelude.{◌≡◌};
 ghost use Rattle.cargo_workspaces.specs.Views.{texts};
 ghost use Rattle.duplicate_lines.specs.Shown as spec;
 
-use cargo_plans::Place;
+use plan_duplicates::Place;
 
 /// Returns the name of `place`: `host`, or the name of the target platform.
 pub(crate) fn place_name<'n>(names: &[&'n str], place: Place) -> &'n str

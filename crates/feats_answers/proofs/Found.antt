@@ -6,7 +6,7 @@ use Rattle.std.specs.List.{AllZip}
 use Rattle.cargo_plans.specs.Plans.{WordsText, settings_by}
 use Rattle.cargo_workspaces.specs.Workspaces.{Text, WorkspaceText}
 use Rattle.feats_words.specs.declared.command_arguments.Format.{Format}
-use Rattle.plan_steps.specs.Plans.{PlanText}
+use Rattle.cargo_plans.specs.plan_steps.Plans.{PlanText}
 use Rattle.plan_whys.specs.StepViews.{found_text, spot_text}
 use Rattle.plan_whys.specs.Steps.{SpotText}
 use Rattle.plan_whys.specs.Whys.{Answers, AnswersEachBy}

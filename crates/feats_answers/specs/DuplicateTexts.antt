@@ -8,11 +8,11 @@ use Rattle.duplicate_lines.specs.Shown.{ShownText, all_shown}
 use Rattle.feats_files.specs.Files.{FileText}
 use Rattle.feats_words.specs.declared.command_arguments.Format.{Format}
 use Rattle.feats_words.specs.declared.command_arguments.Format.TheVariants as format
-use Rattle.plan_duplicates.specs.Duplicates.{AreDuplicates, DuplicatesText}
-use Rattle.plan_duplicates.specs.MemberPlans.{ArePlansAlone, MemberPlanText}
-use Rattle.plan_joins.specs.Disagreements.{AreDisagreements, DisagreementText}
-use Rattle.plan_steps.specs.Plans.{PlanText}
-use Rattle.plan_units.specs.Units.{UnitText}
+use Rattle.duplicate_lines.specs.plan_duplicates.Duplicates.{AreDuplicates, DuplicatesText}
+use Rattle.duplicate_lines.specs.plan_duplicates.MemberPlans.{ArePlansAlone, MemberPlanText}
+use Rattle.duplicate_lines.specs.plan_joins.Disagreements.{AreDisagreements, DisagreementText}
+use Rattle.cargo_plans.specs.plan_steps.Plans.{PlanText}
+use Rattle.cargo_plans.specs.plan_units.Units.{UnitText}
 use Rattle.feats_answers.specs.PlanTexts.{target_names}
 
 abbrev pub duplicates_text : Format → List PackageText → List ShownText → Text

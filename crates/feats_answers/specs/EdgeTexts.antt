@@ -5,8 +5,8 @@ use Rattle.cargo_plans.specs.Plans.{WordsText}
 use Rattle.feats_files.specs.Files.{FileText}
 use Rattle.feats_words.specs.declared.edges.Edges.{Edges}
 use Rattle.feats_words.specs.declared.edges.Edges.TheVariants as edges
-use Rattle.plan_steps.specs.Plans.{PlanText}
-use Rattle.plan_trees.specs.Dots.{IsPackageDot}
+use Rattle.cargo_plans.specs.plan_steps.Plans.{PlanText}
+use Rattle.feature_trees.specs.plan_trees.Dots.{IsPackageDot}
 use Rattle.feats_answers.specs.AnswerTexts.{AnswerText, IsPositive}
 use Rattle.feats_answers.specs.Asked.{AskedText}
 use Rattle.feats_answers.specs.FeatureTexts.{IsFeatureDotAnswer, IsFeatureTreeAnswer, IsFeatureTreeRefusal}

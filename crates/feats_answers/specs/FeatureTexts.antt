@@ -6,7 +6,7 @@ use Rattle.feats_words.specs.declared.command_arguments.Format.{Format}
 use Rattle.feature_trees.specs.Dots.{IsFeatureDot}
 use Rattle.feature_trees.specs.Trees.{IsFeatureTree, IsInvertedFeatureTree}
 use Rattle.plan_names.specs.Names.{NamedText}
-use Rattle.plan_steps.specs.Plans.{PlanText}
+use Rattle.cargo_plans.specs.plan_steps.Plans.{PlanText}
 use Rattle.feats_answers.specs.AnswerTexts.{AnswerText, IsPositive, negative, positive}
 use Rattle.feats_answers.specs.Gathered.{no_line}
 use Rattle.feats_answers.specs.Parts.{ArePartsOf, IsPartRefusal, title_of}

@@ -1,5 +1,5 @@
 -- The visit by which labels are on.
-use Rattle.plan_starts.specs.PackageVisits.{PairVisit}
+use Rattle.cargo_plans.specs.plan_starts.PackageVisits.{PairVisit}
 use Rattle.feats_answers.specs.declared.labels_on.PlanLabels.{PlanLabels}
 
 abbrev pub labels_on : PlanLabels → PairVisit

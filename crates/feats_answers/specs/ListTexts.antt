@@ -6,8 +6,8 @@ use Rattle.feature_lists.specs.Lines.{feature_lines}
 use Rattle.feature_lists.specs.Objects.{feature_objects}
 use Rattle.plan_names.specs.Faults.{package_named}
 use Rattle.plan_rows.specs.declared.side.Side.{Side}
-use Rattle.plan_starts.specs.PackageVisits.{is_on}
-use Rattle.plan_steps.specs.Plans.{PlanText}
+use Rattle.cargo_plans.specs.plan_starts.PackageVisits.{is_on}
+use Rattle.cargo_plans.specs.plan_steps.Plans.{PlanText}
 use Rattle.feats_words.specs.declared.command_arguments.Format.{Format}
 use Rattle.feats_words.specs.declared.command_arguments.Format.TheVariants as format
 

@@ -5,7 +5,7 @@ use Rattle.cargo_plans.specs.Plans.{WordsText}
 use Rattle.feats_files.specs.Files.{FileText}
 use Rattle.plan_platforms.specs.DeclaredSpecs.{DeclaredText}
 use Rattle.plan_platforms.specs.HeldSpecs.{is_declared}
-use Rattle.plan_steps.specs.Plans.{PlanText}
+use Rattle.cargo_plans.specs.plan_steps.Plans.{PlanText}
 use Rattle.policy_answers.specs.Answers.{IsPolicyAnswer, IsPolicyRefusal}
 use Rattle.policy_answers.specs.Questions.{PrintedText, QuestionText}
 use Rattle.feats_answers.specs.AnswerTexts.{AnswerText}

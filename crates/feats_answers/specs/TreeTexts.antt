@@ -4,8 +4,8 @@ use Rattle.cargo_workspaces.specs.Workspaces.{Text, PackageText, WorkspaceText}
 use Rattle.feats_files.specs.Files.{FileText}
 use Rattle.feats_words.specs.declared.command_arguments.Format.{Format}
 use Rattle.plan_names.specs.Faults.{package_named}
-use Rattle.plan_steps.specs.Plans.{PlanText}
-use Rattle.plan_trees.specs.Trees.{IsInvertedTree, IsPackageTree}
+use Rattle.cargo_plans.specs.plan_steps.Plans.{PlanText}
+use Rattle.feature_trees.specs.plan_trees.Trees.{IsInvertedTree, IsPackageTree}
 use Rattle.feats_answers.specs.AnswerTexts.{AnswerText, IsPositive, negative, positive}
 use Rattle.feats_answers.specs.Gathered.{no_line}
 use Rattle.feats_answers.specs.NameMessages.{IsNameRefusal}

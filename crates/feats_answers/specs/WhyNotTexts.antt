@@ -8,8 +8,8 @@ use Rattle.plan_platforms.specs.DeclaredSpecs.{DeclaredText}
 use Rattle.plan_platforms.specs.HeldSpecs.{is_declared}
 use Rattle.plan_rows.specs.declared.side.Side.{Side}
 use Rattle.plan_rows.specs.declared.side.Side.TheVariants.{Target, Host}
-use Rattle.plan_starts.specs.PackageVisits.{is_on}
-use Rattle.plan_steps.specs.Plans.{PlanText}
+use Rattle.cargo_plans.specs.plan_starts.PackageVisits.{is_on}
+use Rattle.cargo_plans.specs.plan_steps.Plans.{PlanText}
 use Rattle.why_nots.specs.Parts.{PartText}
 use Rattle.why_nots.specs.Texts.{IsWhyNotText}
 use Rattle.feats_words.specs.declared.command_arguments.Format.{Format}

@@ -4,7 +4,7 @@ use Rattle.cargo_workspaces.specs.Workspaces.{Text, PackageText, WorkspaceText}
 use Rattle.cargo_plans.specs.Plans.{WordsText}
 use Rattle.plan_names.specs.Names.{NamedText}
 use Rattle.plan_rows.specs.declared.side.Side.TheVariants.{Target, Host}
-use Rattle.plan_steps.specs.Plans.{PlanText}
+use Rattle.cargo_plans.specs.plan_steps.Plans.{PlanText}
 use Rattle.plan_whys.specs.Reasons.{AreReasoned}
 use Rattle.plan_whys.specs.Steps.{ReasonedText, SpotText, WhyText}
 use Rattle.plan_whys.specs.Whys.{AnswersBy}

@@ -7,7 +7,7 @@ ghost use Rattle.plan_names.specs.Faults.{package_named};
 ghost use Rattle.plan_platforms.specs.DeclaredSpecs.{declared_specs};
 ghost use Rattle.plan_platforms.specs.HeldSpecs.{holds_on};
 ghost use Rattle.plan_platforms.specs.Views.{declared_text};
-ghost use Rattle.plan_steps.specs.PlanViews.{plan_text};
+ghost use Rattle.cargo_plans.specs.plan_steps.PlanViews.{plan_text};
 ghost use Rattle.slim_lines.specs.Texts.{IsSlimText};
 ghost use Rattle.feats_files.specs.FileViews.{file_text};
 ghost use Rattle.feats_files.specs.Messages.{Says};

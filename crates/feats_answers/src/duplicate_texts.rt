@@ -6,24 +6,25 @@ ghost use Rattle.cargo_plans.specs.WordsView.{words_text};
 ghost use Rattle.duplicate_lines.specs.Shown.{all_shown as all_of};
 ghost use Rattle.duplicate_lines.specs.Views.{shown_text};
 ghost use Rattle.feats_files.specs.FileViews.{file_text};
-ghost use Rattle.plan_duplicates.specs.DuplicatesView.{duplicates_text as found_text};
-ghost use Rattle.plan_duplicates.specs.MemberPlans.{ArePlansAlone};
-ghost use Rattle.plan_duplicates.specs.Views.{member_plan_text};
-ghost use Rattle.plan_joins.specs.Views.{disagreement_text};
+ghost use Rattle.duplicate_lines.specs.plan_duplicates.DuplicatesView.{duplicates_text as found_text};
+ghost use Rattle.duplicate_lines.specs.plan_duplicates.MemberPlans.{ArePlansAlone};
+ghost use Rattle.duplicate_lines.specs.plan_duplicates.Views.{member_plan_text};
+ghost use Rattle.duplicate_lines.specs.plan_joins.Views.{disagreement_text};
 ghost use Rattle.plan_platforms.specs.HeldSpecs.{holds_on};
-ghost use Rattle.plan_steps.specs.PlanViews.{plan_text};
-ghost use Rattle.plan_units.specs.UnitViews.{unit_text};
+ghost use Rattle.cargo_plans.specs.plan_steps.PlanViews.{plan_text};
+ghost use Rattle.cargo_plans.specs.plan_units.UnitViews.{unit_text};
 ghost use Rattle.feats_answers.specs.DuplicateTexts as spec;
 ghost use Rattle.feats_answers.specs.PlanTexts as names;
 
 use crate::plan_texts::target_names;
 use cargo_plans::{Plan, PlanWords, Unit};
 use cargo_workspaces::{Package, Workspace};
-use duplicate_lines::{Shown, all_shown, duplicate_lines, duplicate_objects};
+use duplicate_lines::{
+    Disagreement, Duplicates, MemberPlan, Shown, all_shown, disagreements_of, duplicate_lines,
+    duplicate_objects, duplicates_of, plans_alone,
+};
 use feats_files::PlatformFile;
 use feats_words::Format;
-use plan_duplicates::{Duplicates, MemberPlan, duplicates_of, plans_alone};
-use plan_joins::{Disagreement, disagreements_of};
 use plan_platforms::HeldSpecs;
 use std::alloc::{AllocError, Global};
 

@@ -6,7 +6,7 @@ ghost use Rattle.feats_files.specs.Messages.{Says};
 ghost use Rattle.feature_trees.specs.Trees.{IsFeatureTree, IsInvertedFeatureTree};
 ghost use Rattle.plan_names.specs.Views.{named_text};
 ghost use Rattle.plan_platforms.specs.HeldSpecs.{holds_on};
-ghost use Rattle.plan_steps.specs.PlanViews.{plan_text};
+ghost use Rattle.cargo_plans.specs.plan_steps.PlanViews.{plan_text};
 ghost use Rattle.feats_answers.specs.AnswerTexts.{IsPositive};
 ghost use Rattle.feats_answers.specs.AnswerViews.{answer_text};
 ghost use Rattle.feats_answers.specs.FeatureTexts as spec;

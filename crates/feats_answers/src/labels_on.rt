@@ -1,14 +1,13 @@
 //! The labels that are on in a plan.
 ghost use Rattle.std.specs.Prelude.{◌≡◌};
-ghost use Rattle.plan_starts.specs.PackageVisits.{is_on};
-ghost use Rattle.plan_steps.specs.PlanViews.{plan_text};
+ghost use Rattle.cargo_plans.specs.plan_starts.PackageVisits.{is_on};
+ghost use Rattle.cargo_plans.specs.plan_steps.PlanViews.{plan_text};
 ghost use Rattle.feats_answers.specs.LabelsOn.{labels_on};
 
-use cargo_plans::{Plan, Side};
+use cargo_plans::{PackageVisit, Plan, Side};
 use feature_labels::FeatureLabel;
 use feature_lists::LabelsOn;
 use plan_rows::TurnedOn;
-use plan_starts::PackageVisit;
 
 /// The labels that are on in a plan.
 #[derive(Clone, Copy)]

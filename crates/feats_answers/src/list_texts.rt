@@ -3,8 +3,8 @@ ghost use Rattle.std.specs.Prelude.{◌≡◌, ◌<◌, Ok, IfOk, IfErr, length,
 ghost use Rattle.cargo_workspaces.specs.Views.{package_text};
 ghost use Rattle.cargo_workspaces.specs.WorkspaceView.{workspace_text};
 ghost use Rattle.plan_names.specs.Faults.{package_named};
-ghost use Rattle.plan_starts.specs.PackageVisits.{is_on};
-ghost use Rattle.plan_steps.specs.PlanViews.{plan_text};
+ghost use Rattle.cargo_plans.specs.plan_starts.PackageVisits.{is_on};
+ghost use Rattle.cargo_plans.specs.plan_steps.PlanViews.{plan_text};
 ghost use Rattle.feats_files.specs.Messages.{Says};
 ghost use Rattle.feats_answers.specs.ListTexts as spec;
 ghost use Rattle.feats_answers.specs.NameMessages.{IsNameRefusal};

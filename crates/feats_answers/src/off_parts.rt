@@ -1,7 +1,7 @@
 //! The parts that are off in a plan.
 ghost use Rattle.std.specs.Prelude.{◌≡◌, IfOk, map};
 ghost use Rattle.plan_names.specs.Views.{named_text};
-ghost use Rattle.plan_steps.specs.PlanViews.{plan_text};
+ghost use Rattle.cargo_plans.specs.plan_steps.PlanViews.{plan_text};
 ghost use Rattle.why_nots.specs.PartView.{part_text};
 ghost use Rattle.feats_answers.specs.WhyNotTexts as spec;
 

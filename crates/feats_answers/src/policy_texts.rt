@@ -8,7 +8,7 @@ ghost use Rattle.feats_files.specs.FileViews.{file_text};
 ghost use Rattle.feats_files.specs.Messages.{Says};
 ghost use Rattle.plan_platforms.specs.HeldSpecs.{holds_on};
 ghost use Rattle.plan_platforms.specs.Views.{declared_text};
-ghost use Rattle.plan_steps.specs.PlanViews.{plan_text};
+ghost use Rattle.cargo_plans.specs.plan_steps.PlanViews.{plan_text};
 ghost use Rattle.policy_answers.specs.Answers.{IsPolicyAnswer, IsPolicyRefusal};
 ghost use Rattle.policy_answers.specs.QuestionViews.{question_text};
 ghost use Rattle.feats_answers.specs.AnswerViews.{answer_text};

@@ -6,7 +6,7 @@ ghost use Rattle.cargo_plans.specs.Plans.{IsPlanOf};
 ghost use Rattle.cargo_plans.specs.WordsView.{words_text};
 ghost use Rattle.plan_names.specs.Views.{named_text};
 ghost use Rattle.plan_platforms.specs.HeldSpecs.{holds_on};
-ghost use Rattle.plan_steps.specs.PlanViews.{plan_text};
+ghost use Rattle.cargo_plans.specs.plan_steps.PlanViews.{plan_text};
 ghost use Rattle.plan_whys.specs.StepViews.{found_text, reasoned_text as reasoned_view, spot_text, why_text};
 ghost use Rattle.why_lines.specs.Settings.{settings_text};
 ghost use Rattle.feats_answers.specs.AnswerViews.{texts_of};

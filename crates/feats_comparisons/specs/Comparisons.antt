@@ -1,6 +1,6 @@
 -- The answer to `diff` about two sides, or the message why there is none.
 use Rattle.cargo_workspaces.specs.Workspaces.{Text}
-use Rattle.feats_answers.specs.AnswerTexts.{AnswerText}
+use Rattle.feats_differences.specs.feats_answers.AnswerTexts.{AnswerText}
 use Rattle.feats_comparisons.specs.Builds.{build_of}
 use Rattle.feats_comparisons.specs.Sides.{SideText}
 use Rattle.feats_differences.specs.Answers.{IsDiffAnswer}

@@ -2,8 +2,8 @@
 ghost use Rattle.std.specs.Prelude.{◌≡◌, IfOk, map};
 ghost use Rattle.cargo_workspaces.specs.Views.{texts};
 ghost use Rattle.cargo_plans.specs.Plans.{IsPlanOf};
-ghost use Rattle.feats_answers.specs.AnswerViews.{answer_text};
-ghost use Rattle.feats_answers.specs.PlanTexts as places;
+ghost use Rattle.feats_differences.specs.feats_answers.AnswerViews.{answer_text};
+ghost use Rattle.feats_differences.specs.feats_answers.PlanTexts as places;
 ghost use Rattle.feats_comparisons.specs.Builds as spec;
 ghost use Rattle.feats_differences.specs.Answers.{IsDiffAnswer};
 ghost use Rattle.feats_differences.specs.Views.{build_text};

@@ -1,6 +1,6 @@
 //! The comparison of two builds.
 ghost use Rattle.std.specs.Prelude.{IfOk, IfErr};
-ghost use Rattle.feats_answers.specs.AnswerViews.{answer_text};
+ghost use Rattle.feats_differences.specs.feats_answers.AnswerViews.{answer_text};
 ghost use Rattle.feats_comparisons.specs.Comparisons.{IsComparison, IsNoComparison};
 ghost use Rattle.feats_comparisons.specs.SideView.{side_text};
 ghost use Rattle.feats_files.specs.Messages.{Says};

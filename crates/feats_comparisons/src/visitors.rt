@@ -1,6 +1,6 @@
 //! The visitors of the two plans.
 ghost use Rattle.std.specs.Prelude.{◌≡◌};
-ghost use Rattle.feats_answers.specs.AnswerViews.{answer_text};
+ghost use Rattle.feats_differences.specs.feats_answers.AnswerViews.{answer_text};
 ghost use Rattle.feats_comparisons.specs.Builds.{build_of};
 ghost use Rattle.feats_comparisons.specs.Comparisons.{IsAnswerFor, IsNewRefusal};
 ghost use Rattle.feats_comparisons.specs.SideView.{side_text};

@@ -9,7 +9,7 @@ use Rattle.cargo_workspaces.specs.declared.package.Package.{Package}
 use Rattle.feats_differences.specs.Builds.{part_at, part_of}
 use Rattle.plan_differences.specs.Views.{part_text}
 use Rattle.plan_differences.specs.declared.parts.Part.{Part}
-use Rattle.plan_units.specs.Units.{UnitText}
+use Rattle.cargo_plans.specs.plan_units.Units.{UnitText}
 
 module _ (targets : List Text) (packages : List PackageText) (k : ℕ) (u : UnitText) (found : Option (Bor Package)) (is_found : option_map (λ p. package_text p.now) found ≡ slice_get packages u.number) where
   by_found : (o : Option (Bor Package)) → found ≡ o → part_of targets packages k u ≡ option_map_or (λ p. part_at targets k u p ∷ []) (option_map (λ p. package_text p.now) o) []

@@ -6,9 +6,9 @@ use Rattle.cargo_workspaces.specs.Workspaces.{Text, PackageText, WorkspaceText}
 use Rattle.feats_answers.specs.PlanTexts.{place_name}
 use Rattle.plan_differences.specs.Parts.{PartText}
 use Rattle.plan_differences.specs.Ranks.{rank_of}
-use Rattle.plan_starts.specs.Lists.{joined_from}
-use Rattle.plan_steps.specs.Plans.{PlanText}
-use Rattle.plan_units.specs.Units.{UnitText}
+use Rattle.cargo_plans.specs.plan_starts.Lists.{joined_from}
+use Rattle.cargo_plans.specs.plan_steps.Plans.{PlanText}
+use Rattle.cargo_plans.specs.plan_units.Units.{UnitText}
 
 -- A build of a workspace: the names of the places of its target platforms, what the command line says, and the plan for it.
 pub record BuildText : Type 0 where

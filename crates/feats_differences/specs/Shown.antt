@@ -6,7 +6,7 @@ use Rattle.plan_differences.specs.Changes.{ChangeText, keeps_features}
 use Rattle.plan_differences.specs.Differences.{DifferencesText}
 use Rattle.plan_differences.specs.Parts.{PartText}
 use Rattle.plan_lines.specs.Lines.{ShownText}
-use Rattle.plan_starts.specs.Lists.{joined_from}
+use Rattle.cargo_plans.specs.plan_starts.Lists.{joined_from}
 use Rattle.feats_differences.specs.Whys.{WhysText}
 
 abbrev pub shown_of : PartText → ShownText

@@ -4,7 +4,7 @@ use Rattle.cargo_plans.specs.WordsView.{words_text}
 use Rattle.cargo_workspaces.specs.Views.{texts}
 use Rattle.cargo_workspaces.specs.WorkspaceView.{workspace_text}
 use Rattle.plan_platforms.specs.HeldSpecs.{holds_on}
-use Rattle.plan_steps.specs.PlanViews.{plan_text}
+use Rattle.cargo_plans.specs.plan_steps.PlanViews.{plan_text}
 use Rattle.feats_differences.specs.Builds.{BuildText}
 use Rattle.feats_differences.specs.Whys.{WhysText}
 use Rattle.feats_differences.specs.declared.builds.Build.{Build}

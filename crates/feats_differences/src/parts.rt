@@ -6,7 +6,7 @@ ghost use Rattle.feats_differences.specs.Builds as spec;
 ghost use Rattle.feats_differences.specs.Views.{build_text};
 ghost use Rattle.plan_differences.specs.Ranks.{rank_of};
 ghost use Rattle.plan_differences.specs.Views.{part_text};
-ghost use Rattle.plan_units.specs.UnitViews.{unit_text};
+ghost use Rattle.cargo_plans.specs.plan_units.UnitViews.{unit_text};
 
 use crate::builds::Build;
 use cargo_plans::{Place, Unit};

@@ -1,7 +1,7 @@
 -- A plan, and what it is made from.
 use Rattle.cargo_workspaces.specs.Workspaces.{WorkspaceText}
 use Rattle.cargo_plans.specs.Plans.{WordsText}
-use Rattle.plan_steps.specs.Plans.{PlanText}
+use Rattle.cargo_plans.specs.plan_steps.Plans.{PlanText}
 use Rattle.feats_plans.specs.Inputs.{InputsText}
 
 pub record PlannedText : Type 0 where

@@ -2,7 +2,7 @@
 use Rattle.cargo_workspaces.specs.WorkspaceView.{workspace_text}
 use Rattle.cargo_plans.specs.WordsView.{words_text}
 use Rattle.plan_platforms.specs.HeldSpecs.{holds_on}
-use Rattle.plan_steps.specs.PlanViews.{plan_text}
+use Rattle.cargo_plans.specs.plan_steps.PlanViews.{plan_text}
 use Rattle.feats_plans.specs.Inputs.{inputs_text}
 use Rattle.feats_plans.specs.Planned.{PlannedText}
 use Rattle.feats_plans.specs.declared.planned.Planned.{Planned}

@@ -6,7 +6,7 @@ use Rattle.numbered_workspaces.specs.Faults.{workspace_in}
 use Rattle.plan_platforms.specs.DeclaredSpecs.{declared_specs}
 use Rattle.plan_platforms.specs.HeldSpecs.{AreHeld}
 use Rattle.plan_messages.specs.Messages.{plan_message}
-use Rattle.plan_steps.specs.Plans.{PlanText}
+use Rattle.cargo_plans.specs.plan_steps.Plans.{PlanText}
 use Rattle.cargo_plans.specs.Plans.{WordsText, IsPlanOf}
 use Rattle.cargo_plans.specs.Refusals.{IsRefusal}
 use Rattle.cargo_plans.specs.declared.fault.PlanFault.{PlanFault}

@@ -2,7 +2,7 @@
 use Rattle.std.proofs.Common.{◌≡◌, ℕ, ◌+◌, ◌<◌, List, [], ◌∷◌, ◌++◌, Bool, ap, ap₂, arith, if◌then◌else◌, length, refl}
 use Rattle.std.specs.Prelude.{not, ◌&&◌}
 use Rattle.plan_links.specs.SpotLinks.{is_command}
-use Rattle.plan_starts.specs.Lists.{joined_from}
+use Rattle.plan_steps.specs.plan_starts.Lists.{joined_from}
 use Rattle.plan_whys.specs.Steps.{SpotText}
 use Rattle.feature_trees.specs.Roots.{numbers_in}
 

@@ -3,3 +3,4 @@ pub mod Links
 pub mod Roots
 pub mod Titles
 pub mod Trees
+pub use Rattle.plan_trees.specs as plan_trees

@@ -6,7 +6,7 @@ use Rattle.feature_labels.specs.Orders.{label_eq}
 use Rattle.plan_links.specs.Links.{indexes_of}
 use Rattle.plan_links.specs.SpotLinks.{is_command}
 use Rattle.plan_rows.specs.Steps.{is_host}
-use Rattle.plan_starts.specs.Lists.{joined_from}
+use Rattle.plan_steps.specs.plan_starts.Lists.{joined_from}
 use Rattle.plan_whys.specs.Steps.{SpotText}
 use Rattle.feature_trees.specs.Links.{is_command_at}
 

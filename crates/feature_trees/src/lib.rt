@@ -9,4 +9,5 @@ mod titles;
 mod trees;
 
 pub use dots::feature_dot;
+pub use plan_trees::{inverted_package_tree, package_dot, package_tree};
 pub use trees::{feature_tree, inverted_feature_tree};

@@ -15,7 +15,7 @@ use Rattle.std.proofs.lemmas.Cmp.{nat_list_cmp_total, tied_itself}
 use Rattle.std.proofs.lemmas.Map.Text.{is_eq-slice_cmp}
 use Rattle.std.proofs.lemmas.Slice.Eq.{bytes_eq-Decides}
 use Rattle.cargo_workspaces.specs.Workspaces.{Text, PackageText, text_cmp}
-use Rattle.plan_units.specs.Units.{UnitText}
+use Rattle.cargo_plans.specs.plan_units.Units.{UnitText}
 use Rattle.plan_duplicates.specs.Versions.{AreVersions, VersionsText, versions_with}
 use Rattle.plan_duplicates.specs.inner.Groups.{HasNames, entry_text, has_more, key_cmp}
 

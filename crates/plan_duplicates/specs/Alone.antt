@@ -2,10 +2,10 @@
 use Rattle.std.specs.Prelude.{ℕ, List, [], ◌∷◌, Bool, true, false, map, flat_map, nat_eq, if◌then◌else◌}
 use Rattle.std.specs.List.{filter}
 use Rattle.cargo_workspaces.specs.Workspaces.{Text, PackageText}
-use Rattle.plan_starts.specs.Lists.{joined_from}
-use Rattle.plan_units.specs.Units.{UnitText}
-use Rattle.plan_units.specs.declared.unit.Place.{Place}
-use Rattle.plan_units.specs.declared.unit.Place.TheVariants as place
+use Rattle.cargo_plans.specs.plan_starts.Lists.{joined_from}
+use Rattle.cargo_plans.specs.plan_units.Units.{UnitText}
+use Rattle.cargo_plans.specs.plan_units.declared.unit.Place.{Place}
+use Rattle.cargo_plans.specs.plan_units.declared.unit.Place.TheVariants as place
 use Rattle.plan_duplicates.specs.Built.{differ}
 use Rattle.plan_duplicates.specs.MemberPlans.{MemberPlanText, OutcomeText, built, not_planned}
 

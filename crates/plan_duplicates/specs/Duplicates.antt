@@ -1,7 +1,7 @@
 -- What is built several times.
 use Rattle.std.specs.Prelude.{◌≡◌, List}
 use Rattle.cargo_workspaces.specs.Workspaces.{Text, PackageText}
-use Rattle.plan_units.specs.Units.{UnitText}
+use Rattle.cargo_plans.specs.plan_units.Units.{UnitText}
 use Rattle.plan_duplicates.specs.Alone.{AloneText, alone_of}
 use Rattle.plan_duplicates.specs.MemberPlans.{MemberPlanText}
 use Rattle.plan_duplicates.specs.Places.{PlacesText, places_of}

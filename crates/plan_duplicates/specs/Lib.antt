@@ -7,3 +7,4 @@ pub mod Places
 pub mod Versions
 pub mod Views
 pub mod inner
+pub use Rattle.cargo_plans.specs as cargo_plans

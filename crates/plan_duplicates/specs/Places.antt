@@ -1,8 +1,8 @@
 -- Packages that are built with different features in different places.
 use Rattle.std.specs.Prelude.{ℕ, List, [], ◌∷◌, map, if◌then◌else◌}
 use Rattle.cargo_workspaces.specs.Workspaces.{PackageText}
-use Rattle.plan_starts.specs.Lists.{joined_from}
-use Rattle.plan_units.specs.Units.{UnitText}
+use Rattle.cargo_plans.specs.plan_starts.Lists.{joined_from}
+use Rattle.cargo_plans.specs.plan_units.Units.{UnitText}
 use Rattle.plan_duplicates.specs.Built as built
 use Rattle.plan_duplicates.specs.Built.{PlacedText, differ}
 

@@ -4,8 +4,8 @@ use Rattle.std.specs.List.{list_any}
 use Rattle.std.specs.List.Sorted.{IsStrictlySortedBy}
 use Rattle.std.specs.Str.{bytes_eq}
 use Rattle.cargo_workspaces.specs.Workspaces.{Text, PackageText, text_cmp}
-use Rattle.plan_starts.specs.Lists.{joined_from}
-use Rattle.plan_units.specs.Units.{UnitText}
+use Rattle.cargo_plans.specs.plan_starts.Lists.{joined_from}
+use Rattle.cargo_plans.specs.plan_units.Units.{UnitText}
 use Rattle.plan_duplicates.specs.Built.{is_built}
 
 -- A name, and the numbers of the packages with this name that are built.

@@ -1,7 +1,7 @@
 -- The values that Rust's types contain.
 use Rattle.std.specs.Prelude.{List, map, string_bytes}
 use Rattle.cargo_workspaces.specs.Views.{texts}
-use Rattle.plan_units.specs.UnitViews.{unit_text}
+use Rattle.cargo_plans.specs.plan_units.UnitViews.{unit_text}
 use Rattle.plan_duplicates.specs.Alone.{AloneText, MemberUnitText}
 use Rattle.plan_duplicates.specs.Built.{PlacedText}
 use Rattle.plan_duplicates.specs.MemberPlans.{MemberPlanText, OutcomeText, built, not_planned}

@@ -1,7 +1,7 @@
 //! What is built several times.
 ghost use Rattle.std.specs.Prelude.{IfOk, map};
 ghost use Rattle.cargo_workspaces.specs.Views.{package_text, texts};
-ghost use Rattle.plan_units.specs.UnitViews.{unit_text};
+ghost use Rattle.cargo_plans.specs.plan_units.UnitViews.{unit_text};
 ghost use Rattle.plan_duplicates.specs.Duplicates.{AreDuplicates};
 ghost use Rattle.plan_duplicates.specs.DuplicatesView.{duplicates_text};
 ghost use Rattle.plan_duplicates.specs.Views.{member_plan_text};

@@ -15,6 +15,7 @@ mod places;
 mod versions;
 
 pub use alone::Alone;
+pub use cargo_plans::Place;
 pub use duplicates::{Duplicates, duplicates_of};
 pub use member_plans::{MemberPlan, plans_alone};
 pub use member_units::MemberUnit;

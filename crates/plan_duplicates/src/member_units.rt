@@ -1,6 +1,6 @@
 //! What the plans of single members build.
 ghost use Rattle.std.specs.Prelude.{◌≡◌, ◌++◌, IfOk, OnOk, map, flat_map};
-ghost use Rattle.plan_units.specs.UnitViews.{unit_text};
+ghost use Rattle.cargo_plans.specs.plan_units.UnitViews.{unit_text};
 ghost use Rattle.plan_duplicates.specs.Alone as spec;
 ghost use Rattle.plan_duplicates.specs.Views.{member_plan_text, member_unit_text};
 

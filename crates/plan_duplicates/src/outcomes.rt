@@ -3,8 +3,8 @@ ghost use Rattle.std.specs.Prelude.{◌≡◌, ◌++◌, IfOk, map, string_bytes
 ghost use Rattle.cargo_workspaces.specs.WorkspaceView.{workspace_text};
 ghost use Rattle.cargo_plans.specs.WordsView.{words_text};
 ghost use Rattle.plan_messages.specs.Messages.{plan_message};
-ghost use Rattle.plan_steps.specs.PlanViews.{plan_text};
-ghost use Rattle.plan_units.specs.UnitViews.{unit_text};
+ghost use Rattle.cargo_plans.specs.plan_steps.PlanViews.{plan_text};
+ghost use Rattle.cargo_plans.specs.plan_units.UnitViews.{unit_text};
 ghost use Rattle.plan_duplicates.specs.MemberPlans.{IsOutcome, built};
 ghost use Rattle.plan_duplicates.specs.Views.{outcome_text};
 

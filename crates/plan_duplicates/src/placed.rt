@@ -1,7 +1,7 @@
 //! The places of packages, by their numbers.
 ghost use Rattle.std.specs.Prelude.{◌≡◌, ◌++◌, List, IfOk, map};
-ghost use Rattle.plan_units.specs.Units.{UnitText};
-ghost use Rattle.plan_units.specs.UnitViews.{unit_text};
+ghost use Rattle.cargo_plans.specs.plan_units.Units.{UnitText};
+ghost use Rattle.cargo_plans.specs.plan_units.UnitViews.{unit_text};
 ghost use Rattle.plan_duplicates.specs.Built as spec;
 ghost use Rattle.plan_duplicates.specs.Views.{placed_text};
 ghost use Rattle.plan_duplicates.specs.inner.Rows.{HasPlaces};

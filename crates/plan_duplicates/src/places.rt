@@ -1,8 +1,8 @@
 //! Packages that are built with different features in different places.
 ghost use Rattle.std.specs.Prelude.{◌≡◌, ◌++◌, List, IfOk, OnOk, map};
 ghost use Rattle.cargo_workspaces.specs.Views.{package_text};
-ghost use Rattle.plan_units.specs.Units.{UnitText};
-ghost use Rattle.plan_units.specs.UnitViews.{unit_text};
+ghost use Rattle.cargo_plans.specs.plan_units.Units.{UnitText};
+ghost use Rattle.cargo_plans.specs.plan_units.UnitViews.{unit_text};
 ghost use Rattle.plan_duplicates.specs.Places as spec;
 ghost use Rattle.plan_duplicates.specs.Views.{placed_text, places_text};
 ghost use Rattle.plan_duplicates.specs.inner.Rows.{HasPlaces};

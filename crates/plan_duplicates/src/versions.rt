@@ -2,8 +2,8 @@
 ghost use Rattle.std.specs.Prelude.{◌≡◌, List, IfOk, map, filter};
 ghost use Rattle.std.specs.BTreeMap.{IsOrdered};
 ghost use Rattle.cargo_workspaces.specs.Views.{package_text};
-ghost use Rattle.plan_units.specs.Units.{UnitText};
-ghost use Rattle.plan_units.specs.UnitViews.{unit_text};
+ghost use Rattle.cargo_plans.specs.plan_units.Units.{UnitText};
+ghost use Rattle.cargo_plans.specs.plan_units.UnitViews.{unit_text};
 ghost use Rattle.plan_duplicates.specs.Built as built;
 ghost use Rattle.plan_duplicates.specs.Versions.{AreVersions};
 ghost use Rattle.plan_duplicates.specs.Views.{versions_text};

@@ -6,8 +6,8 @@ use Rattle.cargo_workspaces.specs.Workspaces.{Text, DeclarationText, PackageText
 use Rattle.cargo_workspaces.specs.declared.package.Kind.{Kind}
 use Rattle.cargo_workspaces.specs.declared.package.Kind.TheVariants as kind
 use Rattle.plan_duplicates.specs.Alone.{AloneText}
-use Rattle.plan_units.specs.declared.unit.Place.{Place}
-use Rattle.plan_units.specs.declared.unit.Place.TheVariants as place
+use Rattle.cargo_plans.specs.plan_units.declared.unit.Place.{Place}
+use Rattle.cargo_plans.specs.plan_units.declared.unit.Place.TheVariants as place
 use Rattle.workspace_edits.specs.Edits.{with_declarations}
 use Rattle.plan_joins.specs.Features.{is_from_default_registry, joined_features}
 

@@ -19,12 +19,12 @@ use Rattle.plan_rows.specs.declared.side.Side.{Side}
 use Rattle.plan_rows.specs.declared.side.Side.TheVariants.{Target}
 use Rattle.plan_rows.proofs.EntryLemmas.{length-each_from}
 use Rattle.plan_rows.proofs.EntryRules.{number_is}
-use Rattle.plan_starts.specs.PackageVisits.{PairVisit}
-use Rattle.plan_starts.specs.Starts.{is_among, start_flags, start_places, starts_of, started, starts_on_host, times}
-use Rattle.plan_starts.specs.Targets.{TargetRules, builds}
-use Rattle.plan_units.specs.Units.{UnitText, features_on, target_units, units_at, units_of}
-use Rattle.plan_units.specs.declared.unit.Place.{Place}
-use Rattle.plan_units.specs.declared.unit.Place.TheVariants as spot
+use Rattle.cargo_plans.specs.plan_starts.PackageVisits.{PairVisit}
+use Rattle.cargo_plans.specs.plan_starts.Starts.{is_among, start_flags, start_places, starts_of, started, starts_on_host, times}
+use Rattle.cargo_plans.specs.plan_starts.Targets.{TargetRules, builds}
+use Rattle.cargo_plans.specs.plan_units.Units.{UnitText, features_on, target_units, units_at, units_of}
+use Rattle.cargo_plans.specs.plan_units.declared.unit.Place.{Place}
+use Rattle.cargo_plans.specs.plan_units.declared.unit.Place.TheVariants as spot
 use Rattle.step_visits.specs.Visits.{Visit, reaches}
 use Rattle.plan_laws.specs.Laws.{FollowsDeclarations}
 use Rattle.plan_laws.proofs.EntryLinks.{AreWithin}

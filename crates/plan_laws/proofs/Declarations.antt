@@ -7,11 +7,11 @@ use Rattle.feature_labels.specs.Names.LabelName.{base}
 use Rattle.cargo_workspaces.specs.Workspaces.{IsWorkspace, WorkspaceText}
 use Rattle.plan_rows.specs.Steps.{SettingsText, built_entries}
 use Rattle.plan_rows.specs.Tables.{flag_at, rows_of}
-use Rattle.plan_starts.specs.PackageVisits.{PairVisit}
-use Rattle.plan_starts.specs.Starts.{Starts, dev_flags, start_places, starts_of}
-use Rattle.plan_starts.specs.Targets.{TargetRules}
+use Rattle.cargo_plans.specs.plan_starts.PackageVisits.{PairVisit}
+use Rattle.cargo_plans.specs.plan_starts.Starts.{Starts, dev_flags, start_places, starts_of}
+use Rattle.cargo_plans.specs.plan_starts.Targets.{TargetRules}
 use Rattle.step_visits.specs.Visits.{IsVisitOf, Visit, reaches}
-use Rattle.plan_steps.specs.Plans.{IsBuiltFrom, starts_by, turned_on}
+use Rattle.cargo_plans.specs.plan_steps.Plans.{IsBuiltFrom, starts_by, turned_on}
 use Rattle.plan_laws.specs.Laws.{FollowsDeclarations, PlansFollowDeclarations}
 use Rattle.plan_laws.proofs.Closed.{visit_in}
 use Rattle.plan_laws.proofs.EntryLinks.{link_back, rows_sound}

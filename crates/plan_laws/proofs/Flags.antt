@@ -6,7 +6,7 @@ use Rattle.feature_labels.specs.Names.{LabelName}
 use Rattle.feature_labels.specs.Names.LabelName.{base}
 use Rattle.feature_core.proofs.AddsLemmas.{Contains-first, Contains-none}
 use Rattle.plan_rows.specs.Tables.{each_from, flag_at}
-use Rattle.plan_starts.specs.Starts.{bases_from, times}
+use Rattle.cargo_plans.specs.plan_starts.Starts.{bases_from, times}
 use Rattle.plan_laws.specs.Laws.{AreAmong}
 use Rattle.plan_laws.proofs.Members.{both_true, either_true, one_if}
 

@@ -20,9 +20,9 @@ use Rattle.plan_rows.specs.declared.side.Side.{Side}
 use Rattle.plan_rows.specs.declared.side.Side.TheVariants.{Target}
 use Rattle.plan_rows.proofs.EntryLemmas.{length-each_from}
 use Rattle.plan_rows.proofs.EntryRules.{number_is}
-use Rattle.plan_starts.specs.PackageVisits.{PairVisit, is_kept, is_on}
-use Rattle.plan_starts.specs.Starts.{dev_flags, is_among, start_flags, start_places, started, starts_of, starts_on_host, times}
-use Rattle.plan_starts.specs.Targets.{TargetRules, builds, counts, is_built, is_chosen, is_followed, is_macro, is_of, leads_on}
+use Rattle.cargo_plans.specs.plan_starts.PackageVisits.{PairVisit, is_kept, is_on}
+use Rattle.cargo_plans.specs.plan_starts.Starts.{dev_flags, is_among, start_flags, start_places, started, starts_of, starts_on_host, times}
+use Rattle.cargo_plans.specs.plan_starts.Targets.{TargetRules, builds, counts, is_built, is_chosen, is_followed, is_macro, is_of, leads_on}
 use Rattle.plan_laws.specs.Growth.{CommandsGrow, with_commands}
 use Rattle.plan_laws.specs.Laws.{AreAmong}
 use Rattle.plan_laws.proofs.BuiltStep.{all_place, entries_within}

@@ -11,14 +11,14 @@ use Rattle.plan_rows.specs.Steps.{SettingsText, built_entries, side_of}
 use Rattle.plan_rows.specs.Tables.{flag_at, rows_of}
 use Rattle.plan_rows.specs.declared.side.Side.{Side}
 use Rattle.plan_rows.specs.declared.side.Side.TheVariants.{Target}
-use Rattle.plan_starts.specs.PackageVisits.{PairVisit, is_on}
-use Rattle.plan_starts.specs.Starts.{Starts, dev_flags, start_places, starts_of}
-use Rattle.plan_starts.specs.Targets.{TargetRules}
-use Rattle.plan_units.specs.Units.{UnitText, features_on, target_units, units_at, units_of}
-use Rattle.plan_units.specs.declared.unit.Place.{Place}
-use Rattle.plan_units.specs.declared.unit.Place.TheVariants as spot
+use Rattle.cargo_plans.specs.plan_starts.PackageVisits.{PairVisit, is_on}
+use Rattle.cargo_plans.specs.plan_starts.Starts.{Starts, dev_flags, start_places, starts_of}
+use Rattle.cargo_plans.specs.plan_starts.Targets.{TargetRules}
+use Rattle.cargo_plans.specs.plan_units.Units.{UnitText, features_on, target_units, units_at, units_of}
+use Rattle.cargo_plans.specs.plan_units.declared.unit.Place.{Place}
+use Rattle.cargo_plans.specs.plan_units.declared.unit.Place.TheVariants as spot
 use Rattle.step_visits.specs.Visits.{IsVisitOf, Visit, reaches}
-use Rattle.plan_steps.specs.Plans.{starts_by, turned_on}
+use Rattle.cargo_plans.specs.plan_steps.Plans.{starts_by, turned_on}
 use Rattle.plan_laws.specs.Growth.{CommandsGrow, MoreTurnsNothingOff, with_commands}
 use Rattle.plan_laws.specs.Laws.{AreAmong}
 use Rattle.plan_laws.specs.Widening.{SettingsGrow}

@@ -10,12 +10,12 @@ use Rattle.plan_rows.specs.Commands.{command_of}
 use Rattle.plan_rows.specs.Steps.{SettingsText, is_host, on_entries, resolved_entries}
 use Rattle.plan_rows.specs.Tables.{Entry, rows_of}
 use Rattle.plan_rows.specs.declared.side.Side.{Side}
-use Rattle.plan_starts.specs.Lists.{joined_from}
-use Rattle.plan_starts.specs.PackageVisits.{PairVisit, first_entry, is_kept, is_on, reaches_at}
-use Rattle.plan_starts.specs.Targets.{is_macro}
-use Rattle.plan_units.specs.Commands.{command_label, command_places, on_starts, resolved_starts}
+use Rattle.cargo_plans.specs.plan_starts.Lists.{joined_from}
+use Rattle.cargo_plans.specs.plan_starts.PackageVisits.{PairVisit, first_entry, is_kept, is_on, reaches_at}
+use Rattle.cargo_plans.specs.plan_starts.Targets.{is_macro}
+use Rattle.cargo_plans.specs.plan_units.Commands.{command_label, command_places, on_starts, resolved_starts}
 use Rattle.step_visits.specs.Visits.{IsVisitOf, Visit, reaches}
-use Rattle.plan_steps.specs.Plans.{IsOn, IsResolved}
+use Rattle.cargo_plans.specs.plan_steps.Plans.{IsOn, IsResolved}
 use Rattle.plan_laws.specs.Growth.{CommandsGrow}
 use Rattle.plan_laws.specs.Laws.{AreAmong}
 use Rattle.plan_laws.specs.Widening.{SettingsGrow}

@@ -12,7 +12,7 @@ use Rattle.plan_words.specs.ItemChecks.{member_refusal, word_refusal}
 use Rattle.plan_words.specs.PackageWords.{selected}
 use Rattle.plan_words.specs.Refusals.{Refusal, unless, ◌>>=◌}
 use Rattle.plan_words.specs.Selections.{SelectionText}
-use Rattle.plan_steps.specs.Plans.{IsPlan}
+use Rattle.cargo_plans.specs.plan_steps.Plans.{IsPlan}
 use Rattle.cargo_plans.specs.Plans.{settings_by}
 use Rattle.plan_laws.specs.Growth.{CommandsGrow, MoreWordsTurnNothingOff, select_features, with_features}
 use Rattle.plan_laws.proofs.Members.{from_filter_map, same_some}

@@ -5,7 +5,7 @@ use Rattle.std.specs.Option.{unwrap_or}
 use Rattle.std.proofs.lemmas.List.Elements.{Contains-append_cases}
 use Rattle.feature_core.proofs.AddsLemmas.{Contains-none}
 use Rattle.plan_rows.specs.Tables.{each_from, flag_at}
-use Rattle.plan_starts.specs.Lists.{joined_from}
+use Rattle.cargo_plans.specs.plan_starts.Lists.{joined_from}
 use Rattle.plan_laws.proofs.Members.{number_first, number_on, same_some}
 
 -- the item with its number, of which a value is

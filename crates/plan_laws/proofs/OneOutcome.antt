@@ -10,16 +10,16 @@ use Rattle.plan_rows.specs.Steps.{SettingsText, side_of}
 use Rattle.plan_rows.specs.Tables.{flag_at}
 use Rattle.plan_rows.specs.declared.side.Side.{Side}
 use Rattle.plan_rows.specs.declared.side.Side.TheVariants.{Target, Host}
-use Rattle.plan_starts.specs.Lists.{first_from, first_some}
-use Rattle.plan_starts.specs.PackageVisits.{PairVisit, reaches_at}
-use Rattle.plan_starts.specs.Starts.{Starts}
-use Rattle.plan_units.specs.Lacking.{absent_of, is_absent}
+use Rattle.cargo_plans.specs.plan_starts.Lists.{first_from, first_some}
+use Rattle.cargo_plans.specs.plan_starts.PackageVisits.{PairVisit, reaches_at}
+use Rattle.cargo_plans.specs.plan_starts.Starts.{Starts}
+use Rattle.cargo_plans.specs.plan_units.Lacking.{absent_of, is_absent}
 use Rattle.plan_words.specs.Choices.{ChosenText}
 use Rattle.plan_words.specs.Refusals.{Refusal, refusal_of}
-use Rattle.plan_steps.specs.PlanViews.{IsRefused}
-use Rattle.plan_steps.specs.Plans.{IsPlan, PlanText, lacks, not_on, starts_by, without_tests}
-use Rattle.plan_steps.specs.declared.fault.StepFault.{StepFault}
-use Rattle.plan_steps.specs.declared.fault.StepFault.TheVariants as step
+use Rattle.cargo_plans.specs.plan_steps.PlanViews.{IsRefused}
+use Rattle.cargo_plans.specs.plan_steps.Plans.{IsPlan, PlanText, lacks, not_on, starts_by, without_tests}
+use Rattle.cargo_plans.specs.plan_steps.declared.fault.StepFault.{StepFault}
+use Rattle.cargo_plans.specs.plan_steps.declared.fault.StepFault.TheVariants as step
 use Rattle.cargo_plans.specs.Plans.{AfterWords, IsPlanOf, WordsText, settings_by}
 use Rattle.cargo_plans.specs.Refusals.{IsRefusal}
 use Rattle.cargo_plans.specs.declared.fault.PlanFault.{PlanFault}

@@ -10,9 +10,9 @@ use Rattle.plan_rows.specs.Steps.{SettingsText, admits, admitted, command_list, 
 use Rattle.plan_rows.specs.Tables.{Dependency, Entry, each_from, flag_at}
 use Rattle.plan_rows.specs.declared.side.Side.{Side}
 use Rattle.plan_rows.specs.declared.side.Side.TheVariants.{Target, Host}
-use Rattle.plan_starts.specs.Lists.{joined_from}
-use Rattle.plan_starts.specs.Targets.{is_macro}
-use Rattle.plan_units.specs.Commands.{command_label, command_places, on_starts}
+use Rattle.cargo_plans.specs.plan_starts.Lists.{joined_from}
+use Rattle.cargo_plans.specs.plan_starts.Targets.{is_macro}
+use Rattle.cargo_plans.specs.plan_units.Commands.{command_label, command_places, on_starts}
 use Rattle.plan_laws.specs.Laws.{AreAlike, IsDeclaredAlike, ResolversAgree, with_split}
 
 -- equal values of equal lists

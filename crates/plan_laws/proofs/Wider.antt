@@ -1,6 +1,6 @@
 -- Larger settings turn nothing off.
 use Rattle.std.proofs.Common.{◌≡◌, true, sym, subst}
-use Rattle.plan_starts.specs.PackageVisits.{PairVisit, is_on}
+use Rattle.cargo_plans.specs.plan_starts.PackageVisits.{PairVisit, is_on}
 use Rattle.plan_laws.specs.Widening.{LargerTurnsNothingOff}
 use Rattle.plan_laws.proofs.MoreSteps.{on_grows}
 

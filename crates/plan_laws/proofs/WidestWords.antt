@@ -10,7 +10,7 @@ use Rattle.std.proofs.lemmas.List.Elements.{Contains-append_cases, Contains-appe
 use Rattle.feature_core.proofs.AddsLemmas.{Contains-cases, Contains-none, element_at_place}
 use Rattle.feature_core.proofs.PushLemmas.{from_filter, from_map, into_filter, into_map}
 use Rattle.cargo_workspaces.specs.Workspaces.{FeatureText, PackageText, Text, WorkspaceText}
-use Rattle.plan_starts.specs.PackageVisits.{is_on}
+use Rattle.cargo_plans.specs.plan_starts.PackageVisits.{is_on}
 use Rattle.plan_words.specs.Choices.{ChosenText, StartedText, choose, command, commands_from, commands_of, members_among, root_of, started}
 use Rattle.plan_words.specs.FeatureWords.{Addressed, PartsText, addressed, addressed_by, addressed_to, first_of, has_feature, is_slash, items_of_words, may_ask, member_called, own_item, own_item_by, parts_of, takes_defaults, usual_items, value_if, without_mark}
 use Rattle.plan_words.specs.ItemChecks.{dependency_refusal, item_refusal, item_refusal_by, lead_refusal, member_refusal}

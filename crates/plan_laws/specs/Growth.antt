@@ -8,8 +8,8 @@ use Rattle.cargo_workspaces.specs.Workspaces.{FeatureText, IsWorkspace, Workspac
 use Rattle.plan_words.specs.Selections.{SelectionText}
 use Rattle.plan_rows.specs.Commands.{command_of}
 use Rattle.plan_rows.specs.Steps.{SettingsText}
-use Rattle.plan_units.specs.Units.{UnitText}
-use Rattle.plan_steps.specs.Plans.{IsPlan, PlanText}
+use Rattle.cargo_plans.specs.plan_units.Units.{UnitText}
+use Rattle.cargo_plans.specs.plan_steps.Plans.{IsPlan, PlanText}
 use Rattle.cargo_plans.specs.Plans.{IsPlanOf, WordsText}
 use Rattle.plan_laws.specs.Laws.{AreAmong}
 

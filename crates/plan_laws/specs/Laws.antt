@@ -8,12 +8,12 @@ use Rattle.step_visits.specs.Visits.{IsReached, IsVisitOf, Visit, reaches}
 use Rattle.cargo_workspaces.specs.Workspaces.{DeclarationText, IsWorkspace, PackageText, Text, WorkspaceText, is_proc_macro}
 use Rattle.plan_rows.specs.Steps.{SettingsText, admits, is_build, is_development, on_side, resolved_entries}
 use Rattle.plan_rows.specs.declared.side.Side.TheVariants.{Target}
-use Rattle.plan_units.specs.Commands.{on_starts}
-use Rattle.plan_units.specs.Units.{UnitText}
-use Rattle.plan_steps.specs.PlanViews.{IsRefused}
-use Rattle.plan_steps.specs.Plans.{IsPlan, PlanText}
-use Rattle.plan_steps.specs.declared.fault.StepFault.{StepFault}
-use Rattle.plan_steps.specs.declared.fault.StepFault.TheVariants as step
+use Rattle.cargo_plans.specs.plan_units.Commands.{on_starts}
+use Rattle.cargo_plans.specs.plan_units.Units.{UnitText}
+use Rattle.cargo_plans.specs.plan_steps.PlanViews.{IsRefused}
+use Rattle.cargo_plans.specs.plan_steps.Plans.{IsPlan, PlanText}
+use Rattle.cargo_plans.specs.plan_steps.declared.fault.StepFault.{StepFault}
+use Rattle.cargo_plans.specs.plan_steps.declared.fault.StepFault.TheVariants as step
 use Rattle.cargo_plans.specs.Plans.{IsPlanOf, WordsText}
 use Rattle.cargo_plans.specs.Refusals.{IsRefusal}
 use Rattle.cargo_plans.specs.declared.fault.PlanFault.{PlanFault}

@@ -8,8 +8,8 @@ use Rattle.plan_words.specs.FeatureWords.{PartsText, declares, is_slash, parts_o
 use Rattle.plan_words.specs.Selections.{SelectionText, all_members}
 use Rattle.plan_rows.specs.Steps.{SettingsText, admits}
 use Rattle.plan_rows.specs.declared.side.Side.{Side}
-use Rattle.plan_starts.specs.PackageVisits.{is_on}
-use Rattle.plan_steps.specs.Plans.{IsPlan, PlanText}
+use Rattle.cargo_plans.specs.plan_starts.PackageVisits.{is_on}
+use Rattle.cargo_plans.specs.plan_steps.Plans.{IsPlan, PlanText}
 use Rattle.cargo_plans.specs.Plans.{IsPlanOf, WordsText}
 use Rattle.plan_laws.specs.Growth.{CommandsGrow}
 

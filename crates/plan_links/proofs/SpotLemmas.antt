@@ -13,7 +13,7 @@ use Rattle.feature_core.specs.Built.{Built, IsBuilt, ends_of}
 use Rattle.feature_core.specs.Nodes.{node_packages}
 use Rattle.feature_core.specs.Offers.{content_of}
 use Rattle.feature_core.specs.Ways.{Reading}
-use Rattle.plan_starts.specs.PackageVisits.{PairVisit}
+use Rattle.plan_steps.specs.plan_starts.PackageVisits.{PairVisit}
 use Rattle.plan_whys.specs.Steps.{IsAt, SpotText}
 use Rattle.step_visits.specs.Visits.{Visit}
 use Rattle.walk_engine.specs.Walks.{Content, EndsAreNodes, Way}

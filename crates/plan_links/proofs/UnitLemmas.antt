@@ -10,7 +10,7 @@ use Rattle.guppy_packages.proofs.Ascending.{from_map, into_map}
 use Rattle.guppy_packages.proofs.Lists.{position-map, slice_get-map}
 use Rattle.guppy_packages.specs.Tables.{AreTables, HasNoRepeats, LinkTable, Tables, pair_of}
 use Rattle.plan_steps.specs.Plans.{PlanText}
-use Rattle.plan_units.specs.Units.{UnitText}
+use Rattle.plan_steps.specs.plan_units.Units.{UnitText}
 use Rattle.step_visits.specs.Visits.{Visit, is_start, node_at}
 use Rattle.step_visits.proofs.Places.{none_past}
 use Rattle.plan_links.specs.Links.{ArePairsOf, index_of}

@@ -1,7 +1,7 @@
 -- Links as pairs of numbers.
 use Rattle.std.specs.Prelude.{◌↔◌, ◌==◌, ℕ, List, [], ◌∷◌, Bool, Option, AllPairs, Contains, if◌then◌else◌, position}
 use Rattle.feature_core.specs.Pairs.{IsBefore}
-use Rattle.plan_starts.specs.Lists.{joined_from}
+use Rattle.plan_steps.specs.plan_starts.Lists.{joined_from}
 
 -- The index of number `k` in a list; the first, if it is there several times.
 abbrev pub index_of : List ℕ → ℕ → Option ℕ

@@ -8,7 +8,7 @@ use Rattle.feature_core.specs.Built.{Built, IsBuilt}
 use Rattle.feature_core.specs.Offers.{content_of}
 use Rattle.feature_labels.specs.Names.{LabelName}
 use Rattle.feature_labels.specs.Names.LabelName.{base, named, optional}
-use Rattle.plan_starts.specs.PackageVisits.{PairVisit}
+use Rattle.plan_steps.specs.plan_starts.PackageVisits.{PairVisit}
 use Rattle.plan_whys.specs.Steps.{IsAt, SpotText}
 use Rattle.walk_engine.specs.Walks.{Content, IsWay, Way}
 use Rattle.walk_engine.specs.declared.walks.Ask.{Ask}

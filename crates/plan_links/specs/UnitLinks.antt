@@ -4,9 +4,9 @@ use Rattle.std.specs.Option.{option_map_or}
 use Rattle.feature_labels.specs.Names.LabelName.{base}
 use Rattle.guppy_packages.specs.Tables.{LinkTable}
 use Rattle.plan_steps.specs.Plans.{PlanText}
-use Rattle.plan_units.specs.Units.{UnitText}
-use Rattle.plan_units.specs.declared.unit.Place.{Place}
-use Rattle.plan_units.specs.declared.unit.Place.TheVariants.{Host, Target}
+use Rattle.plan_steps.specs.plan_units.Units.{UnitText}
+use Rattle.plan_steps.specs.plan_units.declared.unit.Place.{Place}
+use Rattle.plan_steps.specs.plan_units.declared.unit.Place.TheVariants.{Host, Target}
 use Rattle.step_visits.specs.Visits.{is_start, node_at}
 use Rattle.plan_links.specs.Links.{ArePairsOf, index_of, indexes_of}
 

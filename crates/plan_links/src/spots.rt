@@ -12,8 +12,7 @@ ghost use Rattle.plan_links.specs.SpotLinks.{AreSpotsOn};
 use crate::numbers::{members_of, push_if};
 use feature_labels::FeatureLabel;
 use plan_rows::Side;
-use plan_starts::PackageVisit;
-use plan_steps::Plan;
+use plan_steps::{PackageVisit, Plan};
 use plan_whys::Spot;
 use std::alloc::{AllocError, Global};
 

@@ -5,7 +5,7 @@ ghost use Rattle.guppy_support.specs.Bits.{has};
 ghost use Rattle.feature_labels.specs.Names.LabelName.{base};
 ghost use Rattle.guppy_packages.specs.Tables.{pair_of};
 ghost use Rattle.plan_steps.specs.PlanViews.{plan_text};
-ghost use Rattle.plan_units.specs.UnitViews.{unit_text};
+ghost use Rattle.plan_steps.specs.plan_units.UnitViews.{unit_text};
 ghost use Rattle.step_visits.specs.Visits.{node_at};
 ghost use Rattle.plan_links.specs.UnitLinks as spec;
 ghost use Rattle.plan_links.specs.UnitLinks.{AreUnitLinks};
@@ -17,8 +17,7 @@ use crate::places::links_between;
 use feature_labels::FeatureLabel;
 use guppy_packages::PackageGraph;
 use guppy_support::IxBitSet;
-use plan_steps::Plan;
-use plan_units::{Place, Unit};
+use plan_steps::{Place, Plan, Unit};
 use std::alloc::{AllocError, Global};
 use step_visits::Visited;
 

@@ -7,8 +7,8 @@ use Rattle.cargo_plans.specs.Refusals.{IsRefusal}
 use Rattle.cargo_plans.specs.declared.fault.PlanFault.{PlanFault}
 use Rattle.cargo_plans.specs.declared.fault.PlanFault.TheVariants as fault
 use Rattle.plan_losses.specs.Losses.{LossesText, losses_of}
-use Rattle.plan_steps.specs.Plans.{PlanText}
-use Rattle.plan_units.specs.Units.{UnitText}
+use Rattle.cargo_plans.specs.plan_steps.Plans.{PlanText}
+use Rattle.cargo_plans.specs.plan_units.Units.{UnitText}
 use Rattle.workspace_edits.specs.Edits.{EditText, edited_text, edits_of}
 use Rattle.plan_slims.specs.Orders as orders
 use Rattle.plan_slims.specs.Orders.{SlimText}

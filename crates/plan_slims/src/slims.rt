@@ -3,8 +3,8 @@ ghost use Rattle.std.specs.Prelude.{◌≡◌, ◌++◌, ◌∷◌, [], Err, IfE
 ghost use Rattle.std.specs.List.{filter, list_any};
 ghost use Rattle.cargo_workspaces.specs.WorkspaceView.{workspace_text};
 ghost use Rattle.cargo_plans.specs.WordsView.{words_text};
-ghost use Rattle.plan_steps.specs.PlanViews.{plan_text};
-ghost use Rattle.plan_units.specs.UnitViews.{unit_text};
+ghost use Rattle.cargo_plans.specs.plan_steps.PlanViews.{plan_text};
+ghost use Rattle.cargo_plans.specs.plan_units.UnitViews.{unit_text};
 ghost use Rattle.plan_words.specs.Choices.{choose as chosen_by};
 ghost use Rattle.plan_words.specs.Refusals.{IfNotMemory, refusal_of};
 ghost use Rattle.plan_words.specs.Selections.{selection_text};

@@ -11,7 +11,7 @@ use Rattle.link_trees.specs.declared.trees.Branch.{Branch}
 use Rattle.plan_dots.specs.Dots.{NodeText, dot_text}
 use Rattle.plan_links.specs.UnitLinks.{AreUnitLinks, root_units}
 use Rattle.plan_steps.specs.Plans.{PlanText}
-use Rattle.plan_units.specs.Units.{UnitText}
+use Rattle.plan_steps.specs.plan_units.Units.{UnitText}
 use Rattle.plan_trees.specs.Dots.{IsPackageDot, clusters, dot_of, nodes_with}
 use Rattle.plan_trees.specs.Titles.{unit_title, unit_titles}
 use Rattle.plan_trees.specs.Trees.{AreTurned, IsInvertedTree, IsPackageTree, IsTreeText, branches_text, units_of}

@@ -5,9 +5,9 @@ use Rattle.cargo_workspaces.specs.Workspaces.{Text, PackageText}
 use Rattle.plan_dots.specs.Dots.{NodeText, dot_text}
 use Rattle.plan_links.specs.UnitLinks.{AreUnitLinks}
 use Rattle.plan_steps.specs.Plans.{PlanText}
-use Rattle.plan_units.specs.Units.{UnitText}
-use Rattle.plan_units.specs.declared.unit.Place.{Place}
-use Rattle.plan_units.specs.declared.unit.Place.TheVariants as place
+use Rattle.plan_steps.specs.plan_units.Units.{UnitText}
+use Rattle.plan_steps.specs.plan_units.declared.unit.Place.{Place}
+use Rattle.plan_steps.specs.plan_units.declared.unit.Place.TheVariants as place
 use Rattle.plan_trees.specs.Titles.{unit_title}
 
 -- The cluster of a place: the target platforms, of which there are `count`, are followed by the host.

@@ -5,9 +5,9 @@ use Rattle.std.specs.Option.{option_map_or}
 use Rattle.cargo_workspaces.specs.Workspaces.{Text, PackageText}
 use Rattle.link_trees.specs.Titles.{TitleText}
 use Rattle.plan_lines.specs.Lines.{label_of, name_of}
-use Rattle.plan_units.specs.Units.{UnitText}
-use Rattle.plan_units.specs.declared.unit.Place.{Place}
-use Rattle.plan_units.specs.declared.unit.Place.TheVariants as place
+use Rattle.plan_steps.specs.plan_units.Units.{UnitText}
+use Rattle.plan_steps.specs.plan_units.declared.unit.Place.{Place}
+use Rattle.plan_steps.specs.plan_units.declared.unit.Place.TheVariants as place
 
 -- A text in parentheses, after a space.
 abbrev pub in_parentheses : Text → Text

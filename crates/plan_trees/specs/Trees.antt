@@ -12,7 +12,7 @@ use Rattle.link_trees.specs.declared.trees.Branch.{Branch}
 use Rattle.plan_links.specs.Links.{indexes_of}
 use Rattle.plan_links.specs.UnitLinks.{AreUnitLinks, root_units}
 use Rattle.plan_steps.specs.Plans.{PlanText}
-use Rattle.plan_units.specs.Units.{UnitText}
+use Rattle.plan_steps.specs.plan_units.Units.{UnitText}
 use Rattle.plan_trees.specs.Titles.{unit_titles}
 
 abbrev pub branches_text : Format → List TitleText → List Branch → Text

@@ -4,15 +4,14 @@ ghost use Rattle.cargo_workspaces.specs.Views.{texts};
 ghost use Rattle.cargo_workspaces.specs.WorkspaceView.{workspace_text};
 ghost use Rattle.plan_dots.specs.Views.{node_text};
 ghost use Rattle.plan_steps.specs.PlanViews.{plan_text};
-ghost use Rattle.plan_units.specs.UnitViews.{unit_text};
+ghost use Rattle.plan_steps.specs.plan_units.UnitViews.{unit_text};
 ghost use Rattle.plan_trees.specs.Dots as spec;
 
 use crate::titles::titles_of;
 use cargo_workspaces::Workspace;
 use plan_dots::{DotNode, dot_text};
 use plan_links::unit_links;
-use plan_steps::Plan;
-use plan_units::{Place, Unit};
+use plan_steps::{Place, Plan, Unit};
 use std::alloc::{AllocError, Global};
 
 /// Returns the number of the cluster of `place`, where there are `count` target platforms.

@@ -2,12 +2,12 @@
 ghost use Rattle.std.specs.Prelude.{◌≡◌, IfOk, map, string_bytes};
 ghost use Rattle.cargo_workspaces.specs.Views.{package_text, texts};
 ghost use Rattle.link_trees.specs.Titles.{title_text};
-ghost use Rattle.plan_units.specs.UnitViews.{unit_text};
+ghost use Rattle.plan_steps.specs.plan_units.UnitViews.{unit_text};
 ghost use Rattle.plan_trees.specs.Titles as spec;
 
 use cargo_workspaces::Package;
 use link_trees::Title;
-use plan_units::Unit;
+use plan_steps::Unit;
 use std::alloc::{AllocError, Global};
 
 /// Returns the id of package `ix`; nothing, if there is no such package.

@@ -3,7 +3,7 @@ ghost use Rattle.std.specs.Prelude.{◌≡◌, IfOk, map, string_bytes};
 ghost use Rattle.cargo_workspaces.specs.Views.{package_text, texts};
 ghost use Rattle.link_trees.specs.Branches.{AreTrees};
 ghost use Rattle.link_trees.specs.Titles.{title_text};
-ghost use Rattle.plan_units.specs.UnitViews.{unit_text};
+ghost use Rattle.plan_steps.specs.plan_units.UnitViews.{unit_text};
 ghost use Rattle.plan_trees.specs.Titles.{titles_with as titles_by, unit_titles};
 ghost use Rattle.plan_trees.specs.Trees as spec;
 
@@ -12,7 +12,7 @@ use crate::titles::titles_of;
 use cargo_workspaces::Package;
 use feats_words::Format;
 use link_trees::{Branch, Title, branch_lines, branch_objects, branches};
-use plan_units::Unit;
+use plan_steps::Unit;
 use std::alloc::{AllocError, Global};
 
 /// Returns the text of `branches`.

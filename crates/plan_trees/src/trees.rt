@@ -3,7 +3,7 @@ ghost use Rattle.std.specs.Prelude.{◌≡◌, ◌++◌, ◌∷◌, [], ◌==◌
 ghost use Rattle.cargo_workspaces.specs.Views.{package_text, texts};
 ghost use Rattle.cargo_workspaces.specs.WorkspaceView.{workspace_text};
 ghost use Rattle.plan_steps.specs.PlanViews.{plan_text};
-ghost use Rattle.plan_units.specs.UnitViews.{unit_text};
+ghost use Rattle.plan_steps.specs.plan_units.UnitViews.{unit_text};
 ghost use Rattle.plan_trees.specs.Trees as spec;
 
 use crate::tree_texts::{UnitTitles, unit_tree};
@@ -11,8 +11,7 @@ use cargo_workspaces::Workspace;
 use feats_words::Format;
 use link_trees::reversed;
 use plan_links::{root_units, unit_links};
-use plan_steps::Plan;
-use plan_units::Unit;
+use plan_steps::{Plan, Unit};
 use std::alloc::{AllocError, Global};
 
 /// Returns what is shown of the units of `plan`.

@@ -9,7 +9,7 @@ use Rattle.cargo_workspaces.specs.Workspaces.{Text, WorkspaceText}
 use Rattle.feats_files.specs.Messages.{Says}
 use Rattle.feats_files.specs.declared.fault.Fault.{Fault}
 use Rattle.plan_messages.specs.Messages.{plan_message}
-use Rattle.plan_steps.specs.Plans.{PlanText}
+use Rattle.cargo_plans.specs.plan_steps.Plans.{PlanText}
 use Rattle.policy_answers.specs.Answers.{AreScenesOf, IsAnswerWith, IsRefusalWith, no_check, no_plan}
 use Rattle.policy_answers.specs.Broken.{IsPolicyText, IsRulesRefusal}
 use Rattle.policy_answers.specs.QuestionViews.{printed_text}

@@ -5,7 +5,7 @@ use Rattle.cargo_plans.specs.Refusals.{IsRefusal}
 use Rattle.cargo_plans.specs.declared.fault.PlanFault.{PlanFault}
 use Rattle.cargo_workspaces.specs.Workspaces.{Text, WorkspaceText}
 use Rattle.plan_messages.specs.Messages.{plan_message}
-use Rattle.plan_steps.specs.Plans.{PlanText}
+use Rattle.cargo_plans.specs.plan_steps.Plans.{PlanText}
 use Rattle.policy_answers.specs.Broken.{IsPolicyText, IsRulesRefusal}
 use Rattle.policy_answers.specs.Questions.{PrintedText, QuestionText}
 use Rattle.policy_answers.specs.Scenes.{IsWidestScene, SceneText, ScenesText, scene_of, widest_words}

@@ -2,7 +2,7 @@
 use Rattle.std.specs.Prelude.{◌≡◌, ℕ, List, Bool, Option, Some, None, ⊤}
 use Rattle.cargo_plans.specs.Plans.{IsPlanOf, WordsText}
 use Rattle.cargo_workspaces.specs.Workspaces.{Text, WorkspaceText}
-use Rattle.plan_steps.specs.Plans.{PlanText}
+use Rattle.cargo_plans.specs.plan_steps.Plans.{PlanText}
 use Rattle.plan_widenings.specs.Widenings.{widened}
 use Rattle.plan_widenings.specs.declared.widening.Widening.TheVariants as widening
 use Rattle.policies.specs.Rules.{KindText, RuleText, deny, deny_duplicates, require}

@@ -5,7 +5,7 @@ ghost use Rattle.cargo_plans.specs.WordsView.{words_text};
 ghost use Rattle.cargo_workspaces.specs.WorkspaceView.{workspace_text};
 ghost use Rattle.feats_files.specs.Messages.{Says};
 ghost use Rattle.plan_platforms.specs.HeldSpecs.{holds_on};
-ghost use Rattle.plan_steps.specs.PlanViews.{plan_text};
+ghost use Rattle.cargo_plans.specs.plan_steps.PlanViews.{plan_text};
 ghost use Rattle.policy_answers.specs.Answers as spec;
 ghost use Rattle.policy_answers.specs.Broken.{IsPolicyText, IsRulesRefusal};
 ghost use Rattle.policy_answers.specs.QuestionViews.{printed_text, question_text};

@@ -7,7 +7,7 @@ use Rattle.std.proofs.lemmas.Bool.{ltb-true}
 use Rattle.feature_labels.specs.Names.{LabelName}
 use Rattle.plan_rows.specs.declared.side.Side.{Side}
 use Rattle.plan_rows.specs.declared.side.Side.TheVariants.{Host, Target}
-use Rattle.plan_starts.specs.PackageVisits.{PairVisit, is_on}
+use Rattle.cargo_plans.specs.plan_starts.PackageVisits.{PairVisit, is_on}
 use Rattle.plan_whys.specs.Steps.{SpotText}
 use Rattle.policy_checks.specs.Builds.{BuildText, built_for}
 use Rattle.policy_checks.specs.Spots.{is_spot_on, is_spot_on_for}

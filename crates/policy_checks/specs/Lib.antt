@@ -5,3 +5,4 @@ pub mod Meanings
 pub mod Spots
 pub mod Views
 pub mod inner
+pub use Rattle.plan_whys.specs as plan_whys

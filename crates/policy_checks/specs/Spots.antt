@@ -7,7 +7,7 @@ use Rattle.feature_labels.specs.Names.LabelName.{base, named, optional}
 use Rattle.plan_names.specs.Names.{NamedText, PartText, dependency, feature, whole}
 use Rattle.plan_rows.specs.declared.side.Side.{Side}
 use Rattle.plan_rows.specs.declared.side.Side.TheVariants.{Host, Target}
-use Rattle.plan_starts.specs.PackageVisits.{is_on}
+use Rattle.cargo_plans.specs.plan_starts.PackageVisits.{is_on}
 use Rattle.plan_whys.specs.Steps.{SpotText}
 use Rattle.policy_checks.specs.Builds.{BuildText, built_for}
 

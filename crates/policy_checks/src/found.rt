@@ -3,7 +3,7 @@ ghost use Rattle.std.specs.Prelude.{◌≡◌, IfOk, map, nat_eq, option_map};
 ghost use Rattle.std.specs.List.{list_any};
 ghost use Rattle.plan_names.specs.Names.{of_package, whole};
 ghost use Rattle.plan_names.specs.Views.{named_text};
-ghost use Rattle.plan_units.specs.UnitViews.{unit_text};
+ghost use Rattle.cargo_plans.specs.plan_units.UnitViews.{unit_text};
 ghost use Rattle.plan_whys.specs.StepViews.{spot_text};
 ghost use Rattle.policies.specs.Views.{kind_text};
 ghost use Rattle.policy_checks.specs.Builds.{built};

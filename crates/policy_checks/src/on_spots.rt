@@ -2,7 +2,7 @@
 ghost use Rattle.std.specs.Prelude.{◌≡◌, ◌++◌, ◌∷◌, [], IfOk, OnOk, filter, flat_map, map, slice_index_or, false};
 ghost use Rattle.feature_labels.specs.Names as labels;
 ghost use Rattle.plan_names.specs.Views.{named_text, part_text};
-ghost use Rattle.plan_starts.specs.PackageVisits.{is_on};
+ghost use Rattle.cargo_plans.specs.plan_starts.PackageVisits.{is_on};
 ghost use Rattle.plan_whys.specs.StepViews.{spot_text};
 ghost use Rattle.policy_checks.specs.Spots as spec;
 ghost use Rattle.policy_checks.specs.Views.{build_text};
@@ -10,11 +10,10 @@ ghost use Rattle.policy_checks.specs.inner.Scopes.{is_marked, passes};
 
 use crate::build::Build;
 use crate::platforms::built_for;
-use cargo_plans::Side;
+use cargo_plans::{PackageVisit, Side};
 use feature_labels::FeatureLabel;
 use plan_names::{Named, Part};
 use plan_rows::TurnedOn;
-use plan_starts::PackageVisit;
 use plan_whys::Spot;
 use std::alloc::{AllocError, Global};
 

@@ -4,7 +4,7 @@ ghost use Rattle.std.specs.List.{list_any};
 ghost use Rattle.std.specs.Str.{bytes_eq};
 ghost use Rattle.cargo_workspaces.specs.Views.{texts};
 ghost use Rattle.plan_rows.specs.Steps.{is_host};
-ghost use Rattle.plan_units.specs.UnitViews.{unit_text};
+ghost use Rattle.cargo_plans.specs.plan_units.UnitViews.{unit_text};
 ghost use Rattle.policy_checks.specs.Builds as spec;
 ghost use Rattle.policy_checks.specs.Views.{build_text};
 ghost use Rattle.policy_checks.specs.inner.Marks.{Marks};

@@ -8,13 +8,13 @@ use Rattle.cargo_workspaces.specs.Workspaces.{IsWorkspace, PackageText, Text, Wo
 use Rattle.plan_names.specs.Faults.{parts_named}
 use Rattle.plan_names.specs.Names.{NamedText}
 use Rattle.plan_rows.specs.declared.side.Side.{Side}
-use Rattle.plan_units.specs.Units.{UnitText}
-use Rattle.plan_units.specs.declared.unit.Place.{Place}
-use Rattle.plan_units.specs.declared.unit.Place.TheVariants.{Host, Target}
-use Rattle.plan_steps.specs.Plans.{PlanText}
+use Rattle.cargo_plans.specs.plan_units.Units.{UnitText}
+use Rattle.cargo_plans.specs.plan_units.declared.unit.Place.{Place}
+use Rattle.cargo_plans.specs.plan_units.declared.unit.Place.TheVariants.{Host, Target}
+use Rattle.cargo_plans.specs.plan_steps.Plans.{PlanText}
 use Rattle.cargo_plans.specs.Plans.{IsPlanOf, WordsText}
 use Rattle.plan_laws.specs.Widening.{IsCovered, IsOnIn, IsWidest, WidestTurnsAllOn}
-use Rattle.plan_whys.specs.Steps.{SpotText}
+use Rattle.policy_checks.specs.plan_whys.Steps.{SpotText}
 use Rattle.policy_checks.specs.Builds.{BuildText, built_for, has_side, is_built_for, is_platform, triple_of}
 use Rattle.policy_checks.specs.Found.{FoundText, denied, denied_at, denied_for, denied_on, kept, no_platform, of_meaning}
 use Rattle.policy_checks.specs.Meanings.{MeaningText, meaning_in, meaning_of, one_of, these}

@@ -1,8 +1,8 @@
 -- Denies that no choice breaks.
 use Rattle.std.specs.Prelude.{◌≡◌, Contains, IsTrue}
 use Rattle.cargo_workspaces.specs.Workspaces.{IsWorkspace, Text, WorkspaceText}
-use Rattle.plan_units.specs.Units.{UnitText}
-use Rattle.plan_steps.specs.Plans.{PlanText}
+use Rattle.cargo_plans.specs.plan_units.Units.{UnitText}
+use Rattle.cargo_plans.specs.plan_steps.Plans.{PlanText}
 use Rattle.cargo_plans.specs.Plans.{IsPlanOf, WordsText}
 use Rattle.plan_laws.specs.Widening.{IsCovered, IsOnIn, IsWidest}
 use Rattle.policy_checks.specs.Builds.{BuildText, is_platform}

@@ -1,12 +1,12 @@
 -- The text about the edits by which a build is smaller.
 use Rattle.std.specs.Prelude.{◌≡◌, List}
 use Rattle.cargo_workspaces.specs.Workspaces.{Text, PackageText, WorkspaceText}
-use Rattle.cargo_plans.specs.Plans.{WordsText}
+use Rattle.plan_slims.specs.cargo_plans.Plans.{WordsText}
 use Rattle.feats_words.specs.declared.command_arguments.Format.{Format}
 use Rattle.feats_words.specs.declared.command_arguments.Format.TheVariants as format
 use Rattle.plan_slims.specs.Orders.{SlimText}
 use Rattle.plan_slims.specs.Slims.{AreSlimsOf}
-use Rattle.plan_units.specs.Units.{UnitText}
+use Rattle.plan_slims.specs.cargo_plans.plan_units.Units.{UnitText}
 use Rattle.slim_lines.specs.Lines.{slim_lines}
 use Rattle.slim_lines.specs.Objects.{slim_objects}
 

@@ -2,9 +2,9 @@
 ghost use Rattle.std.specs.Prelude.{◌≡◌, Err, IfErr, IfOk, map, string_bytes};
 ghost use Rattle.cargo_workspaces.specs.Views.{package_text};
 ghost use Rattle.cargo_workspaces.specs.WorkspaceView.{workspace_text};
-ghost use Rattle.cargo_plans.specs.WordsView.{words_text};
+ghost use Rattle.plan_slims.specs.cargo_plans.WordsView.{words_text};
 ghost use Rattle.plan_slims.specs.SlimViews.{slim_text as text_of_slim};
-ghost use Rattle.plan_steps.specs.PlanViews.{plan_text};
+ghost use Rattle.plan_slims.specs.cargo_plans.plan_steps.PlanViews.{plan_text};
 ghost use Rattle.plan_words.specs.Choices.{choose as chosen_by};
 ghost use Rattle.plan_words.specs.Refusals.{IfNotMemory, refusal_of};
 ghost use Rattle.plan_words.specs.Selections.{selection_text};
@@ -13,11 +13,10 @@ ghost use Rattle.slim_lines.specs.Texts.{IsSlimText};
 
 use crate::objects::slim_objects;
 use crate::table::slim_lines;
-use cargo_plans::{Plan, PlanWords, WordFault};
 use cargo_workspaces::{Package, Workspace};
 use feats_words::Format;
 use plan_rows::Platform;
-use plan_slims::{Slim, slims_of};
+use plan_slims::{Plan, PlanWords, Slim, WordFault, slims_of};
 use std::alloc::{AllocError, Global};
 
 /// Returns the text of `slims`.

@@ -12,8 +12,8 @@ use Rattle.feats_words.specs.declared.command_arguments.Format.{Format}
 use Rattle.plan_messages.specs.Messages.{plan_message}
 use Rattle.plan_rows.specs.declared.side.Side.{Side}
 use Rattle.plan_rows.specs.declared.side.Side.TheVariants.{Host, Target}
-use Rattle.plan_starts.specs.PackageVisits.{is_on}
-use Rattle.plan_steps.specs.Plans.{PlanText}
+use Rattle.cargo_plans.specs.plan_starts.PackageVisits.{is_on}
+use Rattle.cargo_plans.specs.plan_steps.Plans.{PlanText}
 use Rattle.plan_whys.specs.StepViews.{found_text, spot_text}
 use Rattle.plan_whys.specs.Steps.{SpotText, WhyText}
 use Rattle.plan_whys.specs.Whys.{Answers, AnswersBy, AnswersEachBy}

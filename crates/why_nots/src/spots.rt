@@ -1,7 +1,7 @@
 //! The spots at which parts are looked for.
 ghost use Rattle.std.specs.Prelude.{◌≡◌, IfOk, map};
 ghost use Rattle.std.specs.List.{list_any};
-ghost use Rattle.plan_steps.specs.PlanViews.{plan_text};
+ghost use Rattle.cargo_plans.specs.plan_steps.PlanViews.{plan_text};
 ghost use Rattle.plan_whys.specs.StepViews.{spot_text};
 ghost use Rattle.why_nots.specs.PartView.{part_text};
 ghost use Rattle.why_nots.specs.inner.Lists as spec;

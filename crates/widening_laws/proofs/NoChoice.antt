@@ -5,8 +5,8 @@ use Rattle.feature_labels.specs.Names.{LabelName}
 use Rattle.cargo_workspaces.specs.Workspaces.{DeclarationText, PackageText, Text, WorkspaceText}
 use Rattle.plan_rows.specs.Steps.{admits}
 use Rattle.plan_rows.specs.declared.side.Side.TheVariants.{Host, Target}
-use Rattle.plan_starts.specs.PackageVisits.{is_on}
-use Rattle.plan_steps.specs.Plans.{PlanText}
+use Rattle.cargo_plans.specs.plan_starts.PackageVisits.{is_on}
+use Rattle.cargo_plans.specs.plan_steps.Plans.{PlanText}
 use Rattle.cargo_plans.specs.Plans.{WordsText}
 use Rattle.plan_laws.specs.Widening.{IsOff, IsWidest, NoSelectionTurnsOn}
 use Rattle.plan_widenings.specs.Findings.{are_some, sides_of}

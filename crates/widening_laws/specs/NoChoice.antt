@@ -4,7 +4,7 @@ use Rattle.feature_labels.specs.Names.{LabelName}
 use Rattle.cargo_workspaces.specs.Workspaces.{IsWorkspace, Text, WorkspaceText}
 use Rattle.plan_platforms.specs.DeclaredSpecs.{declared_specs}
 use Rattle.plan_platforms.specs.HeldSpecs.{is_declared}
-use Rattle.plan_steps.specs.Plans.{PlanText}
+use Rattle.cargo_plans.specs.plan_steps.Plans.{PlanText}
 use Rattle.cargo_plans.specs.Plans.{IsPlanOf, WordsText}
 use Rattle.plan_laws.specs.Widening.{IsCovered, IsOff}
 use Rattle.plan_widenings.specs.Findings.{IsOffEverywhere}

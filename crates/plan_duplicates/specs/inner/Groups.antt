@@ -8,7 +8,7 @@ use Rattle.std.specs.Option.{option_map_or}
 use Rattle.std.specs.Ordering.{nat_cmp}
 use Rattle.std.specs.declared.cmp.Ordering.{Ordering}
 use Rattle.cargo_workspaces.specs.Workspaces.{Text, PackageText, text_cmp}
-use Rattle.plan_units.specs.Units.{UnitText}
+use Rattle.cargo_plans.specs.plan_units.Units.{UnitText}
 use Rattle.plan_duplicates.specs.Versions.{VersionsText, built_with_name}
 
 -- The group of a number; empty if there is none.

@@ -2,7 +2,7 @@
 use Rattle.std.specs.Prelude.{◌≡◌, ℕ, List, map}
 use Rattle.std.specs.BTreeMap.{BTreeMap}
 use Rattle.std.specs.Global.{Vec}
-use Rattle.plan_units.specs.Units.{UnitText}
+use Rattle.cargo_plans.specs.plan_units.Units.{UnitText}
 use Rattle.plan_duplicates.specs.Alone.{MemberUnitText, rows_of}
 use Rattle.plan_duplicates.specs.Built.{places_of}
 use Rattle.plan_duplicates.specs.Views.{member_unit_text, placed_text}

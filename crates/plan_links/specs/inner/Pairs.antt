@@ -1,6 +1,6 @@
 -- The pairs of numbers that become links.
 use Rattle.std.specs.Prelude.{◌≡◌, ◌⊎◌, ℕ, ◌<◌, ◌≤◌, ◌^◌, ◌-◌, List, [], ◌∷◌, Bool, Some, All, Contains, flat_map, if◌then◌else◌, nat_lt}
-use Rattle.plan_units.specs.Units.{UnitText}
+use Rattle.plan_steps.specs.plan_units.Units.{UnitText}
 use Rattle.walk_engine.specs.Walks.{Way}
 use Rattle.plan_links.specs.Links.{index_of}
 use Rattle.plan_links.specs.SpotLinks.{counts}

@@ -2,7 +2,7 @@
 use Rattle.std.specs.Prelude.{ℕ, List, Bool, false}
 use Rattle.std.specs.Option.{option_map_or}
 use Rattle.feature_labels.specs.Names.LabelName.{base}
-use Rattle.plan_units.specs.Units.{UnitText}
+use Rattle.plan_steps.specs.plan_units.Units.{UnitText}
 use Rattle.step_visits.specs.Visits.{Visit, node_at}
 use Rattle.plan_links.specs.Links.{indexes_of}
 use Rattle.plan_links.specs.UnitLinks.{entry_of}

@@ -3,7 +3,7 @@ use Rattle.std.specs.Prelude.{ℕ, List, Option, option_map}
 use Rattle.cargo_plans.specs.WordsView.{words_text}
 use Rattle.cargo_workspaces.specs.Workspaces.{WorkspaceText}
 use Rattle.plan_platforms.specs.HeldSpecs.{holds_on}
-use Rattle.plan_steps.specs.PlanViews.{plan_text}
+use Rattle.cargo_plans.specs.plan_steps.PlanViews.{plan_text}
 use Rattle.policy_answers.specs.Questions.{QuestionText}
 use Rattle.policy_answers.specs.Scenes.{SceneText, ScenesText, scene_of}
 use Rattle.policy_answers.specs.declared.planned.Planned.{Planned}

@@ -1,7 +1,7 @@
 -- Which spots count.
 use Rattle.std.specs.Prelude.{List, Bool, false, ◌&&◌, slice_index_or, if◌then◌else◌}
 use Rattle.plan_rows.specs.Steps.{is_host}
-use Rattle.plan_starts.specs.PackageVisits.{PairVisit, is_on}
+use Rattle.cargo_plans.specs.plan_starts.PackageVisits.{PairVisit, is_on}
 use Rattle.plan_whys.specs.Steps.{SpotText}
 use Rattle.policy_checks.specs.declared.on_spots.Scope.{Scope}
 use Rattle.policy_checks.specs.declared.on_spots.Scope.TheVariants as scope

@@ -5,7 +5,7 @@ use Rattle.std.specs.Global.{Vec}
 use Rattle.cargo_workspaces.specs.Workspaces.{Text, PackageText}
 use Rattle.cargo_plans.specs.Plans.{WordsText}
 use Rattle.feats_words.specs.declared.command_arguments.Format.{Format}
-use Rattle.plan_starts.specs.PackageVisits.{PairVisit}
+use Rattle.cargo_plans.specs.plan_starts.PackageVisits.{PairVisit}
 use Rattle.plan_whys.specs.StepViews.{why_text}
 use Rattle.plan_whys.specs.Steps.{SpotText, WhyText}
 use Rattle.plan_widenings.specs.Findings.{are_some, first_side, sides_of}

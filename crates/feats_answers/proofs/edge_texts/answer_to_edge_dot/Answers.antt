@@ -4,7 +4,7 @@ use Rattle.cargo_workspaces.specs.WorkspaceView.{workspace_text}
 use Rattle.feats_files.specs.FileViews.{file_text}
 use Rattle.feats_words.specs.declared.edges.Edges.{Edges}
 use Rattle.plan_platforms.specs.HeldSpecs.{holds_on}
-use Rattle.plan_steps.specs.PlanViews.{plan_text}
+use Rattle.cargo_plans.specs.plan_steps.PlanViews.{plan_text}
 use Rattle.feats_answers.specs.AnswerViews.{answer_text}
 use Rattle.feats_answers.specs.EdgeTexts.{IsDotBy}
 use Rattle.feats_answers.proofs.edge_texts.answer_to_edge_dot.Goals as goal

@@ -3,7 +3,7 @@ use Rattle.cargo_plans.specs.WordsView.{words_text}
 use Rattle.cargo_workspaces.specs.WorkspaceView.{workspace_text}
 use Rattle.feats_words.specs.declared.edges.Edges.{Edges}
 use Rattle.plan_platforms.specs.HeldSpecs.{holds_on}
-use Rattle.plan_steps.specs.PlanViews.{plan_text}
+use Rattle.cargo_plans.specs.plan_steps.PlanViews.{plan_text}
 use Rattle.feats_answers.specs.AnswerViews.{answer_text}
 use Rattle.feats_answers.specs.Asked.{asked_text}
 use Rattle.feats_answers.specs.EdgeTexts.{IsTreeBy}

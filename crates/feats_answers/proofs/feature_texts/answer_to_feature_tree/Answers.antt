@@ -2,7 +2,7 @@ use Rattle.std.proofs.Common.{ℕ, Bor, IfOk, List, Option, option_map, subst, s
 use Rattle.cargo_plans.specs.WordsView.{words_text}
 use Rattle.cargo_workspaces.specs.WorkspaceView.{workspace_text}
 use Rattle.plan_platforms.specs.HeldSpecs.{holds_on}
-use Rattle.plan_steps.specs.PlanViews.{plan_text}
+use Rattle.cargo_plans.specs.plan_steps.PlanViews.{plan_text}
 use Rattle.feats_answers.specs.AnswerViews.{answer_text}
 use Rattle.feats_answers.specs.FeatureTexts.{IsFeatureTreeAnswer}
 use Rattle.feats_answers.proofs.feature_texts.answer_to_feature_tree.Goals as goal

@@ -2,8 +2,8 @@ use Rattle.std.proofs.Common.{ℕ, ◌∙◌, ap, sym}
 use Rattle.std.specs.Global.{Vec}
 use Rattle.cargo_workspaces.specs.Views.{package_text}
 use Rattle.feature_lists.specs.Lines.{feature_lines}
-use Rattle.plan_starts.specs.PackageVisits.{is_on}
-use Rattle.plan_steps.specs.PlanViews.{plan_text}
+use Rattle.cargo_plans.specs.plan_starts.PackageVisits.{is_on}
+use Rattle.cargo_plans.specs.plan_steps.PlanViews.{plan_text}
 use Rattle.feats_answers.specs.ListTexts.{feature_text}
 use Rattle.feats_answers.proofs.list_texts.package_features.Goals as goal
 

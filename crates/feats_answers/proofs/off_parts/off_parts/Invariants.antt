@@ -1,6 +1,6 @@
 use Rattle.std.proofs.Common.{◌≡◌, ◌++◌, drop, map}
 use Rattle.plan_names.specs.Views.{named_text}
-use Rattle.plan_steps.specs.PlanViews.{plan_text}
+use Rattle.cargo_plans.specs.plan_steps.PlanViews.{plan_text}
 use Rattle.why_nots.specs.PartView.{part_text}
 use Rattle.feats_answers.specs.WhyNotTexts as spec
 use Rattle.feats_answers.proofs.off_parts.off_parts.Given as goal

@@ -3,7 +3,7 @@ use Rattle.std.proofs.lemmas.Result.{IfOk-weaker}
 use Rattle.std.specs.Prelude.{option_map}
 use Rattle.cargo_workspaces.specs.WorkspaceView.{workspace_text}
 use Rattle.feats_files.specs.FileViews.{file_text}
-use Rattle.plan_steps.specs.PlanViews.{plan_text}
+use Rattle.cargo_plans.specs.plan_steps.PlanViews.{plan_text}
 use Rattle.feats_answers.specs.AnswerViews.{answer_text}
 use Rattle.feats_answers.specs.TreeTexts.{IsTreeAnswer}
 use Rattle.feats_answers.proofs.tree_texts.answer_to_tree.Goals as goal

@@ -1,5 +1,5 @@
 use Rattle.feats_differences.specs.Views.{build_text}
-use Rattle.plan_units.specs.UnitViews.{unit_text}
+use Rattle.cargo_plans.specs.plan_units.UnitViews.{unit_text}
 use Rattle.feats_differences.proofs.PartLists.{no_part, one_part}
 use Rattle.feats_differences.proofs.parts.push_part.Goals as goal
 

@@ -2,7 +2,7 @@ use Rattle.std.proofs.Common.{◌≡◌, ◌++◌, ◌∷◌, [], ℕ, drop, if�
 use Rattle.std.specs.List.{list_any}
 use Rattle.std.specs.Prelude.{not, ◌&&◌}
 use Rattle.plan_links.specs.SpotLinks.{is_command}
-use Rattle.plan_starts.specs.Lists.{joined_from}
+use Rattle.plan_steps.specs.plan_starts.Lists.{joined_from}
 use Rattle.plan_whys.specs.Steps.{SpotText}
 use Rattle.plan_whys.specs.StepViews.{spot_text}
 use Rattle.feature_trees.specs.Roots.{is_same, wanted_spots}

@@ -1,8 +1,8 @@
 use Rattle.std.proofs.Common.{◌≡◌, ◌++◌, ◌∷◌, [], ℕ, drop}
 use Rattle.cargo_workspaces.specs.Views.{texts}
 use Rattle.cargo_workspaces.specs.Workspaces.{Text}
-use Rattle.plan_starts.specs.Lists.{joined_from}
-use Rattle.plan_units.specs.declared.unit.Place.TheVariants.{Target}
+use Rattle.cargo_plans.specs.plan_starts.Lists.{joined_from}
+use Rattle.cargo_plans.specs.plan_units.declared.unit.Place.TheVariants.{Target}
 use Rattle.plan_duplicates.specs.Alone.{all_places}
 use Rattle.plan_duplicates.proofs.alone.all_places.Given as goal
 

@@ -1,7 +1,7 @@
 use Rattle.std.proofs.Common.{◌≡◌, ◌++◌, ℕ, map, drop}
 use Rattle.cargo_workspaces.specs.Views.{package_text, texts}
 use Rattle.cargo_workspaces.specs.Workspaces.{PackageText}
-use Rattle.plan_starts.specs.Lists.{joined_from}
+use Rattle.cargo_plans.specs.plan_starts.Lists.{joined_from}
 use Rattle.plan_duplicates.specs.Alone.{all_places, alone_among, alone_in}
 use Rattle.plan_duplicates.specs.Views.{alone_text, member_unit_text}
 use Rattle.plan_duplicates.proofs.alone.alone_among.Given as goal

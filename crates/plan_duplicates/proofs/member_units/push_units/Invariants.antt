@@ -1,5 +1,5 @@
 use Rattle.std.proofs.Common.{◌≡◌, ◌++◌, map, drop}
-use Rattle.plan_units.specs.UnitViews.{unit_text}
+use Rattle.cargo_plans.specs.plan_units.UnitViews.{unit_text}
 use Rattle.plan_duplicates.specs.Alone.{built_by}
 use Rattle.plan_duplicates.specs.Views.{member_unit_text}
 use Rattle.plan_duplicates.proofs.member_units.push_units.Given as goal

@@ -1,5 +1,5 @@
 use Rattle.std.proofs.Common.{◌≡◌, ◌++◌, map, drop}
-use Rattle.plan_units.specs.UnitViews.{unit_text}
+use Rattle.cargo_plans.specs.plan_units.UnitViews.{unit_text}
 use Rattle.plan_duplicates.proofs.outcomes.copies_of.Given as goal
 
 abbrev pub invariant-loop-unit : goal.invariant-loop-unit

@@ -1,6 +1,6 @@
 use Rattle.std.proofs.Common.{◌∙◌, ◌++◌, ◌∷◌, [], ap, cond, map, nat_eq}
-use Rattle.plan_units.specs.UnitViews.{unit_text}
-use Rattle.plan_units.specs.Units.{UnitText}
+use Rattle.cargo_plans.specs.plan_units.UnitViews.{unit_text}
+use Rattle.cargo_plans.specs.plan_units.Units.{UnitText}
 use Rattle.plan_duplicates.specs.Built.{placed}
 use Rattle.plan_duplicates.specs.Views.{placed_text}
 use Rattle.plan_duplicates.specs.inner.Groups.{group_at}

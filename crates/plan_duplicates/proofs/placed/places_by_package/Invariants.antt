@@ -1,5 +1,5 @@
 use Rattle.std.proofs.Common.{◌≡◌, ◌++◌, ℕ, map, drop}
-use Rattle.plan_units.specs.UnitViews.{unit_text}
+use Rattle.cargo_plans.specs.plan_units.UnitViews.{unit_text}
 use Rattle.plan_duplicates.specs.Built.{places_of}
 use Rattle.plan_duplicates.specs.Views.{placed_text}
 use Rattle.plan_duplicates.specs.inner.Groups.{group_at}

@@ -1,7 +1,7 @@
 use Rattle.std.proofs.Common.{ℕ, map}
 use Rattle.cargo_workspaces.specs.Views.{package_text}
 use Rattle.cargo_workspaces.specs.Workspaces.{PackageText}
-use Rattle.plan_units.specs.UnitViews.{unit_text}
+use Rattle.cargo_plans.specs.plan_units.UnitViews.{unit_text}
 use Rattle.plan_duplicates.specs.Places.{places_at}
 use Rattle.plan_duplicates.proofs.Lists.{joined_more}
 use Rattle.plan_duplicates.proofs.places.places_of.Goals as goal

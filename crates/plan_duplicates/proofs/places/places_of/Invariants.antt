@@ -1,8 +1,8 @@
 use Rattle.std.proofs.Common.{◌≡◌, ◌++◌, ℕ, map, drop}
 use Rattle.cargo_workspaces.specs.Views.{package_text}
 use Rattle.cargo_workspaces.specs.Workspaces.{PackageText}
-use Rattle.plan_starts.specs.Lists.{joined_from}
-use Rattle.plan_units.specs.UnitViews.{unit_text}
+use Rattle.cargo_plans.specs.plan_starts.Lists.{joined_from}
+use Rattle.cargo_plans.specs.plan_units.UnitViews.{unit_text}
 use Rattle.plan_duplicates.specs.Places.{places_at, places_of}
 use Rattle.plan_duplicates.specs.Views.{places_text}
 use Rattle.plan_duplicates.proofs.places.places_of.Given as goal

@@ -1,5 +1,5 @@
 use Rattle.std.proofs.Common.{map, subst}
-use Rattle.plan_starts.specs.PackageVisits.{PairVisit}
+use Rattle.plan_steps.specs.plan_starts.PackageVisits.{PairVisit}
 use Rattle.plan_whys.specs.StepViews.{spot_text}
 use Rattle.plan_links.specs.SpotLinks.{AreSpotsOn}
 use Rattle.plan_links.proofs.SpotLemmas.{members_within, spots_are}

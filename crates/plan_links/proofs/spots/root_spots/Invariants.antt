@@ -1,5 +1,5 @@
 use Rattle.std.proofs.Common.{◌≡◌, ◌++◌, ◌∷◌, [], ℕ, drop, if◌then◌else◌, map}
-use Rattle.plan_starts.specs.Lists.{joined_from}
+use Rattle.plan_steps.specs.plan_starts.Lists.{joined_from}
 use Rattle.plan_whys.specs.Steps.{SpotText}
 use Rattle.plan_whys.specs.StepViews.{spot_text}
 use Rattle.plan_links.specs.SpotLinks.{is_command, root_spots}

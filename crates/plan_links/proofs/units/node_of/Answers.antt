@@ -1,5 +1,5 @@
 use Rattle.std.proofs.Common.{arith}
-use Rattle.plan_units.specs.UnitViews.{unit_text}
+use Rattle.plan_steps.specs.plan_units.UnitViews.{unit_text}
 use Rattle.plan_links.specs.UnitLinks as spec
 use Rattle.plan_links.proofs.UnitLemmas.{no_node}
 use Rattle.plan_links.proofs.units.node_of.Goals as goal

@@ -1,9 +1,9 @@
 use Rattle.std.proofs.Common.{◌∙◌, ℕ, List, ap, map}
 use Rattle.guppy_support.specs.Bits.{has}
 use Rattle.feature_labels.specs.Names.{LabelName}
-use Rattle.plan_starts.specs.PackageVisits.{PairVisit}
+use Rattle.plan_steps.specs.plan_starts.PackageVisits.{PairVisit}
 use Rattle.plan_steps.specs.PlanViews.{plan_text}
-use Rattle.plan_units.specs.UnitViews.{unit_text}
+use Rattle.plan_steps.specs.plan_units.UnitViews.{unit_text}
 use Rattle.step_visits.specs.Visits.{is_start}
 use Rattle.plan_links.proofs.UnitLemmas.{roots_are}
 use Rattle.plan_links.proofs.units.root_units.Goals as goal

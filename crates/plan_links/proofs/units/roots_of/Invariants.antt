@@ -1,8 +1,8 @@
 use Rattle.std.proofs.Common.{◌≡◌, ◌++◌, ◌∷◌, [], ℕ, drop, if◌then◌else◌, map}
 use Rattle.guppy_support.specs.Bits.{has}
-use Rattle.plan_starts.specs.Lists.{joined_from}
-use Rattle.plan_units.specs.Units.{UnitText}
-use Rattle.plan_units.specs.UnitViews.{unit_text}
+use Rattle.plan_steps.specs.plan_starts.Lists.{joined_from}
+use Rattle.plan_steps.specs.plan_units.Units.{UnitText}
+use Rattle.plan_steps.specs.plan_units.UnitViews.{unit_text}
 use Rattle.plan_links.specs.inner.Starting.{starting, starts_at}
 use Rattle.plan_links.proofs.units.roots_of.Given as goal
 

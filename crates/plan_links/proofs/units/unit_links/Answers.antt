@@ -1,7 +1,7 @@
 use Rattle.std.proofs.Common.{◌∙◌, ap, arith, map}
-use Rattle.plan_starts.specs.PackageVisits.{PairVisit}
+use Rattle.plan_steps.specs.plan_starts.PackageVisits.{PairVisit}
 use Rattle.plan_steps.specs.PlanViews.{plan_text}
-use Rattle.plan_units.specs.UnitViews.{unit_text}
+use Rattle.plan_steps.specs.plan_units.UnitViews.{unit_text}
 use Rattle.plan_links.proofs.UnitLemmas.{pairs_below, pairs_once, units_linked}
 use Rattle.plan_links.proofs.units.unit_links.Goals as goal
 

@@ -1,7 +1,7 @@
 use Rattle.std.proofs.Common.{ap, inl, inr, map}
 use Rattle.std.proofs.lemmas.List.{nil_from_length}
 use Rattle.std.specs.String.{string_bytes}
-use Rattle.plan_units.specs.UnitViews.{unit_text}
+use Rattle.plan_steps.specs.plan_units.UnitViews.{unit_text}
 use Rattle.plan_trees.specs.Dots.{node_of}
 use Rattle.plan_trees.proofs.Zips.{first_ended, second_ended}
 use Rattle.plan_trees.proofs.dots.nodes_of.Goals as goal

@@ -4,7 +4,7 @@ use Rattle.cargo_workspaces.specs.Views.{texts}
 use Rattle.cargo_workspaces.specs.WorkspaceView.{workspace_text}
 use Rattle.plan_links.specs.UnitLinks.{AreUnitLinks}
 use Rattle.plan_steps.specs.PlanViews.{plan_text}
-use Rattle.plan_units.specs.UnitViews.{unit_text}
+use Rattle.plan_steps.specs.plan_units.UnitViews.{unit_text}
 use Rattle.plan_trees.specs.Titles.{unit_title}
 use Rattle.plan_trees.proofs.Shown.{package_graph}
 use Rattle.plan_trees.proofs.dots.package_dot.Goals as goal

@@ -3,7 +3,7 @@ use Rattle.std.proofs.lemmas.List.{length-map}
 use Rattle.std.specs.String.{string_bytes}
 use Rattle.cargo_workspaces.specs.Views.{texts}
 use Rattle.plan_dots.specs.Views.{node_text}
-use Rattle.plan_units.specs.UnitViews.{unit_text}
+use Rattle.plan_steps.specs.plan_units.UnitViews.{unit_text}
 use Rattle.plan_trees.proofs.Shown.{graph_of}
 use Rattle.plan_trees.proofs.dots.titled_dot.Goals as goal
 

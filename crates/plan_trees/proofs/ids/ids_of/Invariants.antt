@@ -1,7 +1,7 @@
 use Rattle.std.proofs.Common.{◌≡◌, ◌++◌, drop, map}
 use Rattle.cargo_workspaces.specs.Views.{package_text, texts}
-use Rattle.plan_units.specs.Units.{UnitText}
-use Rattle.plan_units.specs.UnitViews.{unit_text}
+use Rattle.plan_steps.specs.plan_units.Units.{UnitText}
+use Rattle.plan_steps.specs.plan_units.UnitViews.{unit_text}
 use Rattle.plan_trees.specs.Titles.{id_at}
 use Rattle.plan_trees.proofs.ids.ids_of.Given as goal
 

@@ -1,7 +1,7 @@
 use Rattle.std.proofs.Common.{◌≡◌, ◌++◌, drop, map}
 use Rattle.std.specs.String.{string_bytes}
 use Rattle.cargo_workspaces.specs.Views.{package_text, texts}
-use Rattle.plan_units.specs.UnitViews.{unit_text}
+use Rattle.plan_steps.specs.plan_units.UnitViews.{unit_text}
 use Rattle.plan_trees.specs.Titles.{unit_title}
 use Rattle.plan_trees.proofs.titles.titles_by.Given as goal
 

@@ -3,7 +3,7 @@ use Rattle.cargo_workspaces.specs.Views.{package_text, texts}
 use Rattle.cargo_workspaces.specs.WorkspaceView.{workspace_text}
 use Rattle.plan_links.specs.UnitLinks.{AreUnitLinks}
 use Rattle.plan_steps.specs.PlanViews.{plan_text}
-use Rattle.plan_units.specs.UnitViews.{unit_text}
+use Rattle.plan_steps.specs.plan_units.UnitViews.{unit_text}
 use Rattle.plan_trees.proofs.Shown.{package_trees}
 use Rattle.plan_trees.proofs.trees.package_tree.Goals as goal
 

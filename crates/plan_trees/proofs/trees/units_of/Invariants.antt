@@ -1,8 +1,8 @@
 use Rattle.std.proofs.Common.{◌≡◌, ◌++◌, ◌∷◌, [], ℕ, drop, map}
 use Rattle.std.specs.Prelude.{◌==◌, if◌then◌else◌}
-use Rattle.plan_starts.specs.Lists.{joined_from}
-use Rattle.plan_units.specs.Units.{UnitText}
-use Rattle.plan_units.specs.UnitViews.{unit_text}
+use Rattle.plan_steps.specs.plan_starts.Lists.{joined_from}
+use Rattle.plan_steps.specs.plan_units.Units.{UnitText}
+use Rattle.plan_steps.specs.plan_units.UnitViews.{unit_text}
 use Rattle.plan_trees.specs.Trees.{units_of}
 use Rattle.plan_trees.proofs.trees.units_of.Given as goal
 

@@ -6,7 +6,7 @@ use Rattle.cargo_workspaces.specs.WorkspaceView.{workspace_text}
 use Rattle.feats_files.specs.Messages.{Says}
 use Rattle.plan_platforms.specs.HeldSpecs.{holds_on}
 use Rattle.plan_platforms.specs.declared.holding.HeldSpecs.{HeldSpecs}
-use Rattle.plan_steps.specs.PlanViews.{plan_text}
+use Rattle.cargo_plans.specs.plan_steps.PlanViews.{plan_text}
 use Rattle.policy_answers.specs.Answers.{IsRefusalWith}
 use Rattle.policy_answers.specs.QuestionViews.{question_text}
 use Rattle.policy_answers.specs.Scenes.{scene_of}

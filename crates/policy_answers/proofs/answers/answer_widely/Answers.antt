@@ -1,7 +1,7 @@
 use Rattle.cargo_plans.specs.WordsView.{words_text}
 use Rattle.cargo_workspaces.specs.WorkspaceView.{workspace_text}
 use Rattle.plan_platforms.specs.HeldSpecs.{holds_on}
-use Rattle.plan_steps.specs.PlanViews.{plan_text}
+use Rattle.cargo_plans.specs.plan_steps.PlanViews.{plan_text}
 use Rattle.std.specs.Prelude.{Some}
 use Rattle.policy_answers.specs.QuestionViews.{question_text}
 use Rattle.policy_answers.specs.Scenes.{scene_of, widely}

@@ -3,7 +3,7 @@ use Rattle.std.proofs.lemmas.Result.{IfOk-weaker}
 use Rattle.cargo_plans.specs.WordsView.{words_text}
 use Rattle.cargo_workspaces.specs.WorkspaceView.{workspace_text}
 use Rattle.plan_platforms.specs.HeldSpecs.{holds_on}
-use Rattle.plan_steps.specs.PlanViews.{plan_text}
+use Rattle.cargo_plans.specs.plan_steps.PlanViews.{plan_text}
 use Rattle.plan_words.specs.Choices.{chosen_text}
 use Rattle.policy_answers.specs.Answers.{IsAnswerWith, IsPolicyRefusal, IsRefusalWith}
 use Rattle.policy_answers.specs.QuestionViews.{printed_text, question_text}

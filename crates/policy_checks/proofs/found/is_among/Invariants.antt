@@ -1,8 +1,8 @@
 use Rattle.std.proofs.Common.{◌≡◌, List, map, drop}
 use Rattle.std.specs.Prelude.{nat_eq}
 use Rattle.std.specs.List.{list_any}
-use Rattle.plan_units.specs.Units.{UnitText}
-use Rattle.plan_units.specs.UnitViews.{unit_text}
+use Rattle.cargo_plans.specs.plan_units.Units.{UnitText}
+use Rattle.cargo_plans.specs.plan_units.UnitViews.{unit_text}
 use Rattle.policy_checks.proofs.found.is_among.Given as goal
 
 abbrev pub invariant-loop-unit : goal.invariant-loop-unit

@@ -1,6 +1,6 @@
 use Rattle.std.proofs.Common.{◌≡◌, ◌++◌, List, filter, map, drop}
-use Rattle.plan_units.specs.Units.{UnitText}
-use Rattle.plan_units.specs.UnitViews.{unit_text}
+use Rattle.cargo_plans.specs.plan_units.Units.{UnitText}
+use Rattle.cargo_plans.specs.plan_units.UnitViews.{unit_text}
 use Rattle.policy_checks.specs.Builds.{is_built_for}
 use Rattle.policy_checks.specs.Views.{build_text}
 use Rattle.policy_checks.proofs.platforms.numbers_for.Given as goal
