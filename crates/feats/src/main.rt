@@ -277,7 +277,8 @@ fn unparsed(rt: &HostRuntime, error: &Error) -> ExitCode {
     ExitCode::from(2)
 }
 
-/// Returns what `words` ask for, the first of which is the program's name. If they are mistaken, says so, and returns the exit status.
+/// Returns the request of `words`; the first word is the program's name. If `words` can't be parsed, prints the mistake and returns the
+/// exit status.
 fn request_of<'a>(rt: &HostRuntime, words: &'a [&str]) -> Result<Request<'a>, ExitCode> {
     match parse(rt.alloc(), words) {
         Ok(Some(request)) => Ok(request),

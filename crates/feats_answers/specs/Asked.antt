@@ -1,4 +1,4 @@
--- What is asked about a build.
+-- Questions about a build.
 use Rattle.std.specs.Prelude.{List, map}
 use Rattle.feats_files.specs.Files.{FileText}
 use Rattle.feats_files.specs.FileViews.{file_text}

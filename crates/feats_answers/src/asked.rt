@@ -1,10 +1,10 @@
-//! What is asked about a build.
+//! Questions about a build.
 
 use feats_files::PlatformFile;
 use feats_words::CommandArguments;
 use policies::Rule;
 
-/// What is asked about a build.
+/// A question about a build: the arguments, the rules of a policy and the files of platforms.
 #[derive(Clone, Copy)]
 pub struct Asked<'a, 'w, 'p, 'n> {
     pub arguments: &'a CommandArguments<'w>,

@@ -44,14 +44,14 @@ feature_spots b c = map (λ name. spot_of b c.new (named name)) c.comes
 abbrev pub without_feed : Text → Text
 without_feed line = if ends_with nat_eq line (10 ∷ []) then take (length line - 1) line else line
 
--- The line of the last step, as `why` shows it.
-abbrev pub last_step : BuildText → List WhyText → Text
-last_step b steps = without_feed (why_lines b.workspace.packages (why_settings b.words) (drop (length steps - 1) steps))
+-- The last of the steps that were found, as a list; an empty one for what is off.
+abbrev pub last_of : Option (List WhyText) → List WhyText
+last_of None = []
+last_of (Some steps) = drop (length steps - 1) steps
 
--- The last step of an answer of `why`; nothing for what is off.
+-- The line of the last step of an answer of `why`, as `why` shows it; nothing for what is off.
 abbrev pub last_found : BuildText → Option (List WhyText) → Text
-last_found b None = []
-last_found b (Some steps) = last_step b steps
+last_found b found = without_feed (why_lines b.workspace.packages (why_settings b.words) (last_of found))
 
 -- For each of the spots, the last step of why it is on.
 pub record AreWhys (b : BuildText) (spots : List SpotText) (whys : List Text) : Type 0 where

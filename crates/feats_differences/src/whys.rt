@@ -9,6 +9,7 @@ ghost use Rattle.plan_differences.specs.Views.{change_text, differences_text, pa
 ghost use Rattle.plan_platforms.specs.HeldSpecs.{holds_on};
 ghost use Rattle.plan_whys.specs.StepViews.{found_text, spot_text, why_text};
 ghost use Rattle.why_lines.specs.Settings.{settings_text};
+ghost use Rattle.why_lines.specs.Views.{steps_text};
 
 use crate::builds::Build;
 use cargo_plans::{Place, Side};
@@ -17,7 +18,7 @@ use plan_differences::{Change, Differences, Part};
 use plan_platforms::HeldSpecs;
 use plan_whys::{Spot, WhyStep, why_each};
 use std::alloc::{AllocError, Global};
-use why_lines::{WhySettings, why_lines};
+use why_lines::{WhySettings, each_why_lines};
 
 /// The last steps of each `why`.
 #[derive(Drop)]
@@ -129,7 +130,18 @@ fn without_feed(line: &str) -> &str
     }
 }
 
-/// Returns the last of `steps`.
+/// Returns copies of `lines` without the line feeds at their ends.
+fn without_feeds(alloc: Global, lines: &[String]) -> Result<Vec<String>, AllocError>
+    ensures { IfOk result (λ whys. map string_bytes whys.items ≡ map spec.without_feed (map string_bytes lines.now)) }
+{
+    let mut whys = Vec::with_capacity(alloc, lines.len())?;
+    for line in lines {
+        whys.push(String::from_str(alloc, without_feed(line.as_str()))?)?;
+    }
+    Ok(whys)
+}
+
+/// Returns the last of `steps`, as a list.
 fn last_of<'t, 'p>(steps: &'t [WhyStep<'p>]) -> &'t [WhyStep<'p>]
     ensures { result.now ≡ drop (length steps.now - 1) steps.now }
 {
@@ -137,34 +149,31 @@ fn last_of<'t, 'p>(steps: &'t [WhyStep<'p>]) -> &'t [WhyStep<'p>]
     &steps[from..]
 }
 
-/// Returns the line of the last of `steps`, without its end.
-fn last_step(
-    alloc: Global,
-    build: &Build<'_, '_, '_, '_, '_>,
-    steps: &[WhyStep<'_>],
-) -> Result<String, AllocError>
-    ensures { IfOk result (λ text. string_bytes text ≡ spec.last_step (build_text build.now) (map why_text steps.now)) }
-{
-    let settings = why_settings(build);
-    let line = why_lines(alloc, build.workspace, &settings, last_of(steps))?;
-    String::from_str(alloc, without_feed(line.as_str()))
-}
-
-/// Returns the line of the last step of `found`, without its end; nothing if there are no steps.
-fn last_found(
-    alloc: Global,
-    build: &Build<'_, '_, '_, '_, '_>,
-    found: &Option<Vec<WhyStep<'_>>>,
-) -> Result<String, AllocError>
-    ensures { IfOk result (λ text. string_bytes text ≡ spec.last_found (build_text build.now) (found_text found.now)) }
+/// Returns the last step of `found`, as a list; an empty one if there are no steps.
+fn last_found<'t, 'p>(found: &'t Option<Vec<WhyStep<'p>>>) -> &'t [WhyStep<'p>]
+    ensures { map why_text result.now ≡ spec.last_of (found_text found.now) }
 {
     match found {
-        Some(steps) => last_step(alloc, build, steps.as_slice()),
-        None => Ok(String::new(alloc)),
+        Some(steps) => last_of(steps.as_slice()),
+        None => &[],
     }
 }
 
-/// Returns the last step of each of `founds`.
+/// Returns the last step of each of `founds`, as lists.
+fn lasts_found<'t, 'p>(
+    alloc: Global,
+    founds: &'t [Option<Vec<WhyStep<'p>>>],
+) -> Result<Vec<&'t [WhyStep<'p>]>, AllocError>
+    ensures { IfOk result (λ lasts. map steps_text lasts.items ≡ map spec.last_of (map found_text founds.now)) }
+{
+    let mut lasts = Vec::with_capacity(alloc, founds.len())?;
+    for found in founds {
+        lasts.push(last_found(found))?;
+    }
+    Ok(lasts)
+}
+
+/// Returns the line of the last step of each of `founds`, without its end.
 fn last_steps(
     alloc: Global,
     build: &Build<'_, '_, '_, '_, '_>,
@@ -172,11 +181,10 @@ fn last_steps(
 ) -> Result<Vec<String>, AllocError>
     ensures { IfOk result (λ whys. map string_bytes whys.items ≡ map (spec.last_found (build_text build.now)) (map found_text founds.now)) }
 {
-    let mut whys = Vec::with_capacity(alloc, founds.len())?;
-    for found in founds {
-        whys.push(last_found(alloc, build, found)?)?;
-    }
-    Ok(whys)
+    let settings = why_settings(build);
+    let lasts = lasts_found(alloc, founds)?;
+    let lines = each_why_lines(alloc, build.workspace, &settings, &lasts)?;
+    without_feeds(alloc, &lines)
 }
 
 /// Returns the last step of why each of `spots` is on, by one walk.

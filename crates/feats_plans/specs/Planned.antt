@@ -1,4 +1,4 @@
--- A plan, and what it is made from.
+-- A plan, with the inputs, the workspace and the words that it is made from.
 use Rattle.cargo_workspaces.specs.Workspaces.{WorkspaceText}
 use Rattle.cargo_plans.specs.Plans.{WordsText}
 use Rattle.cargo_plans.specs.plan_steps.Plans.{PlanText}

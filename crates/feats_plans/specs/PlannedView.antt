@@ -1,4 +1,4 @@
--- The value that a plan with what it is made from contains.
+-- A `Planned` as a `PlannedText`.
 use Rattle.cargo_workspaces.specs.WorkspaceView.{workspace_text}
 use Rattle.cargo_plans.specs.WordsView.{words_text}
 use Rattle.plan_platforms.specs.HeldSpecs.{holds_on}

@@ -16,7 +16,7 @@ use feats_words::CommandArguments;
 use plan_platforms::{DeclaredSpec, HeldSpecs};
 use std::alloc::Global;
 
-/// A plan, and what it is made from.
+/// A plan, with the arguments, the files and the workspace that it is made from.
 #[derive(Clone, Copy)]
 pub struct Planned<'p, 'n, 's, 'v, 'w> {
     pub arguments: &'p CommandArguments<'w>,

@@ -7,4 +7,5 @@ pub mod ReasonedLines
 pub mod ReasonedObjects
 pub mod Relations
 pub mod Settings
+pub mod Views
 pub mod inner

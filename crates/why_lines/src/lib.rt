@@ -18,4 +18,4 @@ pub use plan_whys::{ReasonedStep, Spot, WhyReason, WhyStep};
 pub use reason_objects::reasoned_objects;
 pub use reason_rows::reasoned_lines;
 pub use settings::WhySettings;
-pub use table::why_lines;
+pub use table::{each_why_lines, why_lines};

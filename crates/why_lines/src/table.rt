@@ -5,9 +5,11 @@ ghost use Rattle.plan_lines.specs.Lines as plan;
 ghost use Rattle.why_lines.specs.Lines as spec;
 ghost use Rattle.why_lines.specs.Settings.{settings_text};
 ghost use Rattle.plan_whys.specs.StepViews.{why_text};
+ghost use Rattle.why_lines.specs.Views.{steps_text};
+ghost use Rattle.why_lines.specs.inner.Labelled.{AreLabels, packages_of};
 ghost use Rattle.why_lines.specs.inner.Rows.{row_text};
 
-use crate::labels::labels_of;
+use crate::labels::{Labels, labels_of};
 use crate::rows::{Row, rows_of};
 use crate::settings::WhySettings;
 use cargo_workspaces::Workspace;
@@ -67,6 +69,39 @@ pub(crate) fn table_of(alloc: Global, rows: &[Row]) -> Result<String, AllocError
     Ok(text)
 }
 
+/// Returns the lines of `steps`.
+fn lines_by<P: Platform>(
+    alloc: Global,
+    labels: &Labels<'_, '_>,
+    settings: &WhySettings<'_, P>,
+    steps: &[WhyStep<'_>],
+) -> Result<String, AllocError>
+    requires labels { AreLabels labels.now }
+    requires sides { labels.now.sides ≡ settings.now.sides }
+    ensures { IfOk result (λ text. string_bytes text ≡ spec.why_lines (packages_of labels.now) (settings_text P.holds settings.now) (map why_text steps.now)) }
+{
+    let rows = rows_of(alloc, labels, settings, steps)?;
+    table_of(alloc, &rows)
+}
+
+/// Returns the lines of each of `lists`.
+fn each_by<P: Platform>(
+    alloc: Global,
+    labels: &Labels<'_, '_>,
+    settings: &WhySettings<'_, P>,
+    lists: &[&[WhyStep<'_>]],
+) -> Result<Vec<String>, AllocError>
+    requires labels { AreLabels labels.now }
+    requires sides { labels.now.sides ≡ settings.now.sides }
+    ensures { IfOk result (λ texts. map string_bytes texts.items ≡ map (spec.why_lines (packages_of labels.now) (settings_text P.holds settings.now)) (map steps_text lists.now)) }
+{
+    let mut texts = Vec::with_capacity(alloc, lists.len())?;
+    for steps in lists {
+        texts.push(lines_by(alloc, labels, settings, *steps)?)?;
+    }
+    Ok(texts)
+}
+
 /// Returns a line for each of `steps`, which are those of an explanation in `workspace`: the label of its spot, and the reason why it
 /// is on, in words. Steps at command features aren't shown. The labels are a column as wide as the widest.
 pub fn why_lines<P: Platform>(
@@ -79,6 +114,19 @@ pub fn why_lines<P: Platform>(
 {
     let versions = names_of(alloc, workspace.packages())?;
     let labels = labels_of(alloc, workspace.packages(), &versions, settings.sides)?;
-    let rows = rows_of(alloc, &labels, settings, steps)?;
-    table_of(alloc, &rows)
+    lines_by(alloc, &labels, settings, steps)
+}
+
+/// Returns the lines of each of `lists`, as `why_lines` does.
+pub fn each_why_lines<P: Platform>(
+    alloc: Global,
+    workspace: &Workspace<'_>,
+    settings: &WhySettings<'_, P>,
+    lists: &[&[WhyStep<'_>]],
+) -> Result<Vec<String>, AllocError>
+    ensures { IfOk result (λ texts. map string_bytes texts.items ≡ map (spec.why_lines (workspace_text workspace.now).packages (settings_text P.holds settings.now)) (map steps_text lists.now)) }
+{
+    let versions = names_of(alloc, workspace.packages())?;
+    let labels = labels_of(alloc, workspace.packages(), &versions, settings.sides)?;
+    each_by(alloc, &labels, settings, lists)
 }
