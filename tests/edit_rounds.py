@@ -8,8 +8,8 @@ import re
 import subprocess
 
 FUNCTION = re.compile(r'^( *)(?:pub(?:\([^)]*\))? )?(?:const |unsafe )*fn (\w+)')
-# A verdict on a function. One that only rests on a callee's verdict says nothing of the function.
-REFUSED = re.compile(r'^fn (\S+): (?:not proved|no proof)(?!.*(?:it calls|it passes|a call of|rests on))', re.M)
+# A verdict on a function. One whose first reason is a callee's verdict says nothing of the function.
+REFUSED = re.compile(r'^fn (\S+): (?:not proved|no proof)(?!: (?:it calls|it passes|a call of|its contract rests on))', re.M)
 ERROR = re.compile(r'^(?:\./)?((?:src|specs)/\S+?):\d+:\d+: error: (`[^`]*`: )?(.*)', re.M)
 UNREAD = re.compile(r'is not in scope|has no field|is no name|operand is missing|expected the end|cannot continue')
 NOTE = re.compile(r'^(?:note: )?(src/\S+?):(\d+):\d+:.*', re.M)
