@@ -8,12 +8,17 @@ use Rattle.std.specs.Prelude.{IfOk, nat_eq}
 use Rattle.cargo_plans.specs.Plans.{settings_by}
 use Rattle.cargo_workspaces.specs.Workspaces.{Text}
 use Rattle.feats_differences.specs.Builds.{BuildText}
-use Rattle.feats_differences.specs.Whys.{AreWhys, last_found, without_feed}
+use Rattle.feats_differences.specs.Whys.{AreWhys, last_found, last_of, without_feed}
 use Rattle.feats_differences.proofs.Zips.{zip_views}
 use Rattle.plan_whys.specs.StepViews.{found_text, spot_text, why_text}
+use Rattle.plan_whys.specs.Steps.{WhyText}
 use Rattle.plan_whys.specs.Whys.{Answers, AnswersEachBy}
 use Rattle.plan_whys.specs.declared.steps.Spot.{Spot}
 use Rattle.plan_whys.specs.declared.steps.WhyStep.{WhyStep}
+use Rattle.why_lines.specs.Lines.{why_lines}
+use Rattle.why_lines.specs.Settings.{SettingsText}
+use Rattle.feats_answers.specs.WhyTexts.{why_settings}
+use mathlib.Core.List.{map-map}
 
 pub whys_from : (b : BuildText) (spots : List Spot) (founds read : List (Option (Vec WhyStep))) (whys : List Text) → read ≡ founds → AnswersEachBy b.workspace b.words b.plan.on spots founds
     → whys ≡ map (last_found b) (map found_text read) → AreWhys b (map spot_text spots) whys
@@ -46,3 +51,13 @@ unfed line h = rw (plain) refl
 -- the texts of the last step
 pub last_texts : (steps : List WhyStep) → map why_text (drop (length steps - 1) steps) ≡ drop (length (map why_text steps) - 1) (map why_text steps)
 last_texts steps = sym (ap (λ n. drop (n - 1) (map why_text steps)) (length-map steps why_text) ∙ drop-map why_text (length steps - 1) steps)
+
+-- the lines of the last steps, from those of lists of one step
+pub last_lines : (b : BuildText) (s : SettingsText) (founds : List (Option (List WhyText))) (lasts : List (List WhyText)) (lines whys : List Text)
+    → s ≡ why_settings b.words → lasts ≡ map last_of founds → lines ≡ map (why_lines b.workspace.packages s) lasts → whys ≡ map without_feed lines
+    → whys ≡ map (last_found b) founds
+last_lines b s founds lasts lines whys same are lined shown =
+    let line : List WhyText → Text = why_lines b.workspace.packages (why_settings b.words) in
+    shown
+    ∙ ap (map without_feed) (lined ∙ ap (λ z. map (why_lines b.workspace.packages z) lasts) same ∙ ap (map line) are ∙ map-map line last_of founds)
+    ∙ map-map without_feed (λ f. line (last_of f)) founds
