@@ -135,13 +135,14 @@ fn why_not_answer<'w, 's>(
     plan: &Plan<'_>,
     word: &'w str,
 ) -> Result<Answer, Fault>
+    requires plan { IsPlanOf (workspace_text workspace.now) (words_text holds_on words.now) (plan_text plan.now) }
     ensures answer { IfOk result (λ answer. IsWhyNotAnswer format (workspace_text workspace.now) (map declared_text specs.now) (words_text holds_on words.now) (plan_text plan.now) word.now (answer_text answer)) }
     ensures fault { IfErr result (λ fault. Says fault (IsPartRefusal (workspace_text workspace.now) (words_text holds_on words.now) word.now)) }
 {
     let named = parts_of(alloc, workspace, words, word)?;
     let every = every_spec(alloc, specs)?;
     let off = off_parts(alloc, plan, &named)?;
-    let texts = why_not_texts(alloc, format, workspace, words, &every, &off)?;
+    let texts = why_not_texts(alloc, format, workspace, words, plan, &every, &off)?;
     let end = " is on in this build: ask why\n";
     Ok(gathered(alloc, format, workspace, word, &named, end, &texts)?)
 }

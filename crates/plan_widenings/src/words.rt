@@ -1,5 +1,6 @@
 //! The words of widened selections.
-ghost use Rattle.std.specs.Prelude.{◌≡◌};
+ghost use Rattle.std.specs.Prelude.{◌≡◌, Bool, IsFalse};
+ghost use Rattle.cargo_workspaces.specs.Workspaces.{Text};
 ghost use Rattle.plan_platforms.specs.HeldSpecs.{holds_on};
 ghost use Rattle.plan_words.specs.Selections.{selection_text};
 ghost use Rattle.cargo_plans.specs.WordsView.{words_text};
@@ -98,5 +99,18 @@ pub fn widened<'w, 'n, 's>(
             let wide = select(words, with_all_members(with_all_features(selection)));
             on_platform(&with_tests(&wide), every)
         }
+    }
+}
+
+/// Returns whether `widening` changes `words`: false if they select all that it adds.
+pub fn changes(words: &PlanWords<'_, '_, HeldSpecs<'_>>, widening: Widening) -> bool
+    ensures { IsFalse result → (every : Text → Bool) → spec.widened every widening (words_text holds_on words.now) ≡ words_text holds_on words.now }
+{
+    let selection = words.selection;
+    match widening {
+        Widening::AllFeatures => !selection.all_features || selection.no_default_features,
+        Widening::AllMembers => !matches!(selection.packages, PackageChoice::Workspace),
+        Widening::Tests => !words.test,
+        Widening::EveryPlatform | Widening::Together => true,
     }
 }

@@ -2,6 +2,7 @@
 #![tactic(auto)]
 
 mod answer;
+mod base;
 mod joined;
 mod labels;
 mod messages;

@@ -1,23 +1,26 @@
 //! The texts about parts that are off.
 ghost use Rattle.std.specs.Prelude.{◌≡◌, List, IfOk, map};
 ghost use Rattle.std.specs.List.{AllZip};
+ghost use Rattle.cargo_plans.specs.Plans.{IsPlanOf};
 ghost use Rattle.cargo_plans.specs.WordsView.{words_text};
+ghost use Rattle.cargo_plans.specs.plan_steps.PlanViews.{plan_text};
 ghost use Rattle.cargo_workspaces.specs.Workspaces.{Text};
 ghost use Rattle.cargo_workspaces.specs.WorkspaceView.{workspace_text};
 ghost use Rattle.plan_platforms.specs.HeldSpecs.{holds_on};
+ghost use Rattle.plan_widenings.specs.Widenings.{widened};
 ghost use Rattle.widening_lines.specs.Lines.{off_line};
 ghost use Rattle.why_nots.specs.PartView.{part_text};
 ghost use Rattle.why_nots.specs.Texts as spec;
 ghost use Rattle.why_nots.specs.inner.Lists.{joined as joined_texts, texts_of};
 
+use crate::base::{Base, sections_by};
 use crate::joined::joined;
 use crate::parts::{OffPart, title_of};
-use crate::widened_sections::widened_sections;
-use cargo_plans::PlanWords;
+use cargo_plans::{Plan, PlanWords};
 use cargo_workspaces::Workspace;
 use feats_words::Format;
 use plan_platforms::HeldSpecs;
-use plan_widenings::{Widening, widened};
+use plan_widenings::Widening;
 use std::alloc::{AllocError, Global};
 use widening_lines::push_off;
 
@@ -64,42 +67,50 @@ fn heads_of(
     Ok(heads)
 }
 
-/// Returns `texts`, each with what is said of `widening`, whose words are `words`, about the part of `parts` in its place.
+/// Returns `texts`, each with what is said of `widening` of the build `base` about the part of `parts` in its place.
 fn with_sections(
     alloc: Global,
     form: Format,
-    workspace: &Workspace<'_>,
-    words: &PlanWords<'_, '_, HeldSpecs<'_>>,
+    base: Base<'_, '_, '_, '_, '_, '_>,
     widening: Widening,
     parts: &[OffPart<'_>],
     texts: &[Vec<u8>],
 ) -> Result<Vec<Vec<u8>>, AllocError>
-    ensures { IfOk result (λ longer. (sections : List Text) × AllZip (spec.IsSection form (workspace_text workspace.now) (words_text holds_on words.now) widening) (map part_text parts.now) sections
+    requires { IsPlanOf (workspace_text base.entry.workspace.now) (words_text holds_on base.entry.words.now) (plan_text base.entry.plan.now) }
+    ensures { IfOk result (λ longer. (sections : List Text)
+        × AllZip (spec.IsSection form (workspace_text base.entry.workspace.now) (widened (holds_on base.entry.every.now) widening (words_text holds_on base.entry.words.now)) widening) (map part_text parts.now) sections
         × (texts_of longer.items ≡ joined_texts (texts_of texts.now) sections)) }
 {
-    let sections = widened_sections(alloc, form, workspace, words, widening, parts)?;
+    let sections = sections_by(alloc, form, base, widening, parts)?;
     joined(alloc, texts, &sections)
 }
 
-/// Returns the texts about `parts`, which are off by `words`: for each widening of the selection, whether the part is on there, and why; or
-/// why there is no plan. If a part is off with all of them together, the last line of its text says that no choice of members, features,
-/// tests and platforms turns it on. `every` is the platform on which each platform spec of `workspace` holds. The plan of a widening is made
-/// once.
+/// Returns the texts about `parts`, which are off by `words`, whose plan is `plan`: for each widening of the selection, whether the part is
+/// on there, and why; or why there is no plan. If a part is off with all of them together, the last line of its text says that no choice of
+/// members, features, tests and platforms turns it on. `every` is the platform on which each platform spec of `workspace` holds. A widening
+/// that changes the words needs one plan.
 pub fn why_not_texts<'n, 's>(
     alloc: Global,
     form: Format,
     workspace: &Workspace<'_>,
     words: &PlanWords<'_, 'n, HeldSpecs<'s>>,
+    plan: &Plan<'_>,
     every: &'n HeldSpecs<'s>,
     parts: &[OffPart<'_>],
 ) -> Result<Vec<Vec<u8>>, AllocError>
+    requires { IsPlanOf (workspace_text workspace.now) (words_text holds_on words.now) (plan_text plan.now) }
     ensures { IfOk result (λ texts. AllZip (spec.IsWhyNotText form (workspace_text workspace.now) (words_text holds_on words.now) (holds_on every.now)) (map part_text parts.now) (texts_of texts.items)) }
 {
+    let base = Base {
+        workspace,
+        words,
+        plan,
+        every,
+    };
     let mut texts = heads_of(alloc, form, workspace, parts)?;
     let all = Widening::all();
     for widening in &all {
-        let wider = widened(words, *widening, every);
-        texts = with_sections(alloc, form, workspace, &wider, *widening, parts, &texts)?;
+        texts = with_sections(alloc, form, base, *widening, parts, &texts)?;
     }
     Ok(texts)
 }

@@ -87,7 +87,7 @@ fn explained_sections(
 
 /// Returns what is said of `widening` about each of `parts`, where `plan` is the plan of its words `words`. The plan is walked only if one
 /// of the parts is on.
-fn planned_sections(
+pub(crate) fn planned_sections(
     alloc: Global,
     form: Format,
     workspace: &Workspace<'_>,

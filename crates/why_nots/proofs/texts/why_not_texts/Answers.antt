@@ -26,10 +26,6 @@ text_done form w words every [] (t ∷ ts) so = absurd so
 text_done form w words every (p ∷ ps) [] so = absurd so
 text_done form w words every (p ∷ ps) (t ∷ ts) so = (record { section = so.0.value; are_sections = so.0.have; is_text = so.0.is_all }, text_done form w words every ps ts so.1)
 
-sections_as : (form : Format) (w : WorkspaceText) (words wider : WordsText) (v : Widening) (parts : List PartText) (sections : List Text) → words ≡ wider → AllZip (IsSection form w words v) parts sections
-    → AllZip (IsSection form w wider v) parts sections
-sections_as form w words wider v parts sections e h = subst (λ z. AllZip (IsSection form w z v) parts sections) e h
-
 pub loop-widening-init : goal.loop-widening-init
 loop-widening-init c =
     let w = workspace_text c.args.workspace.now in
@@ -48,7 +44,7 @@ loop-widening-preserved c =
     let within : i < length vs = subst (λ z. i < length z) (sym c.all-all.ensures) c.loop-widening-test.true in
     let given = c.in_ok-texts-2.ensures in
     each_step (λ part v text. IsSection c.args.form w (widened every v words) v part text) (head_text c.args.form w.packages) vs i _ parts (texts_of c.loop-widening.texts.items) given.0 (texts_of c.in_ok-texts-2.texts.items) within c.loop-widening.invariant
-    (sections_as c.args.form w _ _ _ parts given.0 c.widened-wider.ensures given.1)
+    given.1
     (given.2 ∙ ap (λ ts. joined (texts_of ts) given.0) c.deref.ensures.value)
 
 pub returns : goal.returns
