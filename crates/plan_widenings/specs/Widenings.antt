@@ -1,7 +1,7 @@
 -- The widened selections of a command line.
-use Rattle.std.specs.Prelude.{List, [], ◌∷◌, Bool, true, false}
+use Rattle.std.specs.Prelude.{List, [], ◌∷◌, ◌||◌, Bool, true, false, not}
 use Rattle.cargo_workspaces.specs.Workspaces.{Text}
-use Rattle.plan_words.specs.Selections.{SelectionText, all_members}
+use Rattle.plan_words.specs.Selections.{ChoiceText, SelectionText, all_members, default_members, named}
 use Rattle.cargo_plans.specs.Plans.{WordsText}
 use Rattle.plan_widenings.specs.declared.widening.Widening.{Widening}
 use Rattle.plan_widenings.specs.declared.widening.Widening.TheVariants as widening
@@ -35,3 +35,17 @@ widened every widening.AllMembers words = select (with_all_members words.selecti
 widened every widening.Tests words = with_tests words
 widened every widening.EveryPlatform words = on_platform every words
 widened every widening.Together words = on_platform every (with_tests (select (with_all_members (with_all_features words.selection)) words))
+
+-- Whether it is the choice of all members.
+abbrev pub is_all : ChoiceText → Bool
+is_all default_members = false
+is_all all_members = true
+is_all (named words) = false
+
+-- Whether a widening adds to the words. The platform is always an addition.
+abbrev pub adds : Widening → WordsText → Bool
+adds widening.AllFeatures words = not words.selection.all_features || words.selection.no_default_features
+adds widening.AllMembers words = not (is_all words.selection.packages)
+adds widening.Tests words = not words.test
+adds widening.EveryPlatform words = true
+adds widening.Together words = true

@@ -7,4 +7,4 @@ mod words;
 
 pub use sides::{Sides, sides_of};
 pub use widening::Widening;
-pub use words::{changes, widened};
+pub use words::{adds, widened};

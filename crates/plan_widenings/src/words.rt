@@ -102,14 +102,25 @@ pub fn widened<'w, 'n, 's>(
     }
 }
 
-/// Returns whether `widening` changes `words`: false if they select all that it adds.
-pub fn changes(words: &PlanWords<'_, '_, HeldSpecs<'_>>, widening: Widening) -> bool
-    ensures { IsFalse result → (every : Text → Bool) → spec.widened every widening (words_text holds_on words.now) ≡ words_text holds_on words.now }
+/// Returns whether `selection` is of all members of the workspace.
+fn has_all_members(selection: Selection<'_>) -> bool
+    ensures { result ≡ spec.is_all (selection_text selection.entry).packages }
+{
+    match selection.packages {
+        PackageChoice::Default | PackageChoice::Named(_) => false,
+        PackageChoice::Workspace => true,
+    }
+}
+
+/// Returns whether `widening` adds to `words`: false if they select all that it selects. The platform is always an addition.
+pub fn adds(words: &PlanWords<'_, '_, HeldSpecs<'_>>, widening: Widening) -> bool
+    ensures adds { result ≡ spec.adds widening (words_text holds_on words.now) }
+    ensures same { IsFalse result → (every : Text → Bool) → spec.widened every widening (words_text holds_on words.now) ≡ words_text holds_on words.now }
 {
     let selection = words.selection;
     match widening {
         Widening::AllFeatures => !selection.all_features || selection.no_default_features,
-        Widening::AllMembers => !matches!(selection.packages, PackageChoice::Workspace),
+        Widening::AllMembers => !has_all_members(selection),
         Widening::Tests => !words.test,
         Widening::EveryPlatform | Widening::Together => true,
     }

@@ -17,7 +17,7 @@ use cargo_plans::{Plan, PlanWords};
 use cargo_workspaces::Workspace;
 use feats_words::Format;
 use plan_platforms::HeldSpecs;
-use plan_widenings::{Widening, changes, widened};
+use plan_widenings::{Widening, adds, widened};
 use std::alloc::{AllocError, Global};
 
 /// The build in which parts are off.
@@ -31,7 +31,7 @@ pub(crate) struct Base<'b, 'v, 'w, 'n, 's, 'p> {
     pub(crate) every: &'n HeldSpecs<'s>,
 }
 
-/// Returns what is said of `widening` of the build `base` about each of `parts`. A widening that changes nothing has the plan of the build.
+/// Returns what is said of `widening` of the build `base` about each of `parts`. A widening that adds nothing has the plan of the build.
 pub(crate) fn sections_by(
     alloc: Global,
     form: Format,
@@ -43,7 +43,7 @@ pub(crate) fn sections_by(
     ensures { IfOk result (λ sections. AllZip (IsSection form (workspace_text base.entry.workspace.now) (spec.widened (holds_on base.entry.every.now) widening (words_text holds_on base.entry.words.now)) widening) (map part_text parts.now) (texts_of sections.items)) }
 {
     let workspace = base.workspace;
-    if changes(base.words, widening) {
+    if adds(base.words, widening) {
         let wider = widened(base.words, widening, base.every);
         widened_sections(alloc, form, workspace, &wider, widening, parts)
     } else {

@@ -88,7 +88,7 @@ fn with_sections(
 /// Returns the texts about `parts`, which are off by `words`, whose plan is `plan`: for each widening of the selection, whether the part is
 /// on there, and why; or why there is no plan. If a part is off with all of them together, the last line of its text says that no choice of
 /// members, features, tests and platforms turns it on. `every` is the platform on which each platform spec of `workspace` holds. A widening
-/// that changes the words needs one plan.
+/// that adds to the words needs one plan.
 pub fn why_not_texts<'n, 's>(
     alloc: Global,
     form: Format,
