@@ -39,7 +39,7 @@ pub(crate) fn sections_by(
     widening: Widening,
     parts: &[OffPart<'_>],
 ) -> Result<Vec<Vec<u8>>, AllocError>
-    requires { IsPlanOf (workspace_text base.entry.workspace.now) (words_text holds_on base.entry.words.now) (plan_text base.entry.plan.now) }
+    requires { IsPlanOf (workspace_text base.workspace.now) (words_text holds_on base.words.now) (plan_text base.plan.now) }
     ensures { IfOk result (λ sections. AllZip (IsSection form (workspace_text base.entry.workspace.now) (spec.widened (holds_on base.entry.every.now) widening (words_text holds_on base.entry.words.now)) widening) (map part_text parts.now) (texts_of sections.items)) }
 {
     let workspace = base.workspace;
