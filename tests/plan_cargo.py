@@ -56,13 +56,17 @@ class Cargo:
             self.own.home = tempfile.mkdtemp(prefix='home-', dir=self.room)
         return {'CARGO_HOME': self.own.home, 'CARGO_TARGET_DIR': f'{self.own.home}/target'}
 
-    def run(self, folder, words):
-        """Returns the JSON that cargo prints, run in `folder`."""
+    def text(self, folder, words):
+        """Returns what cargo prints, run in `folder`."""
         env = {**os.environ, **self.homes(), 'RUSTC_BOOTSTRAP': '1', 'CARGO_TERM_COLOR': 'never', 'RUST_BACKTRACE': '0'}
         ran = subprocess.run(['cargo', *words, '--offline'], cwd=folder, env=env, stdin=subprocess.DEVNULL, capture_output=True, text=True)
         if ran.returncode:
             raise Refused(reason_of(ran.stderr))
-        return json.loads(ran.stdout)
+        return ran.stdout
+
+    def run(self, folder, words):
+        """Returns the JSON that cargo prints, run in `folder`."""
+        return json.loads(self.text(folder, words))
 
     def document(self, folder, words=()):
         """Returns the document, with `words` after those of DOCUMENT."""
@@ -77,11 +81,15 @@ class Cargo:
         except Refused:
             return read_fields(self.run(folder, [*DOCUMENT[:-1], '--features', ','.join(features), *own]))
 
-    def built(self, folder, words):
-        """Returns what is built for a selection, given as words of `feats plan`: the set of (place, id, features)."""
+    def unit_graph(self, folder, words):
+        """Returns the units of a build and the numbers of its roots, for a selection, given as words of `feats plan`."""
         command = ['test', '--no-run'] if '--tests' in words else ['build']
         graph = self.run(folder, [*command, *(it for it in words if it != '--tests'), *UNIT_GRAPH])
-        return places_of(graph['units'], graph['roots'], values_of(words, '--target'))
+        return graph['units'], graph['roots']
+
+    def built(self, folder, words):
+        """Returns what is built for a selection, given as words of `feats plan`: the set of (place, id, features)."""
+        return places_of(*self.unit_graph(folder, words), values_of(words, '--target'))
 
     def plan(self, folder, document, words):
         """Returns the lines of the plan for a selection."""
@@ -115,9 +123,13 @@ def place_of_need(unit, place, needed):
     return 'host' if is_script(unit) or 'proc-macro' in needed['target']['kind'] else place
 
 
+def place_of_root(unit):
+    return 'host' if 'proc-macro' in unit['target']['kind'] else unit['platform'] or 'target'
+
+
 def places_of(units, roots, targets):
     """Returns the set of (place, id, features) of a unit graph. A place is `host`, a triple, or `target` without `--target`."""
-    left = [('host' if 'proc-macro' in units[it]['target']['kind'] else units[it]['platform'] or 'target', it) for it in roots]
+    left = [(place_of_root(units[it]), it) for it in roots]
     seen = set(left)
     while left:
         place, number = left.pop()
