@@ -3,8 +3,8 @@
 # Prints the words of a list. The arguments are the program, feats or cargo, and the name of a command or `commands`.
 _feats_list() {
   case "$1 $2" in
-    'feats commands') echo 'plan why why-not specs list duplicates tree dot check diff help' ;;
-    'feats plan' | 'feats why-not' | 'feats specs' | 'feats list') echo '--metadata --host --target --resolver --manifest -p --package --workspace -F --features --all-features --no-default-features --tests --format -h --help' ;;
+    'feats commands') echo 'plan why why-not specs list duplicates tree dot check diff slim help' ;;
+    'feats plan' | 'feats why-not' | 'feats specs' | 'feats list' | 'feats slim') echo '--metadata --host --target --resolver --manifest -p --package --workspace -F --features --all-features --no-default-features --tests --format -h --help' ;;
     'feats why') echo '--all --metadata --host --target --resolver --manifest -p --package --workspace -F --features --all-features --no-default-features --tests --format -h --help' ;;
     'feats duplicates') echo '--alone --metadata --host --target --resolver --manifest -p --package --workspace -F --features --all-features --no-default-features --tests --format -h --help' ;;
     'feats tree') echo '-i --invert --depth -e --edges --metadata --host --target --resolver --manifest -p --package --workspace -F --features --all-features --no-default-features --tests --format -h --help' ;;
@@ -12,8 +12,8 @@ _feats_list() {
     'feats check') echo '--every-choice --metadata --host --target --resolver --manifest -p --package --workspace -F --features --all-features --no-default-features --tests --format -h --help' ;;
     'feats diff') echo '--host --target --resolver --manifest -p --package --workspace -F --features --all-features --no-default-features --tests --format -h --help' ;;
     'feats help') echo '' ;;
-    'cargo commands') echo 'plan why why-not specs list duplicates tree dot check diff' ;;
-    'cargo plan' | 'cargo why-not' | 'cargo specs' | 'cargo list' | 'cargo diff') echo '--target --resolver --manifest -p --package --workspace -F --features --all-features --no-default-features --tests --format -h --help --manifest-path --locked --offline --frozen' ;;
+    'cargo commands') echo 'plan why why-not specs list duplicates tree dot check diff slim' ;;
+    'cargo plan' | 'cargo why-not' | 'cargo specs' | 'cargo list' | 'cargo diff' | 'cargo slim') echo '--target --resolver --manifest -p --package --workspace -F --features --all-features --no-default-features --tests --format -h --help --manifest-path --locked --offline --frozen' ;;
     'cargo why') echo '--all --target --resolver --manifest -p --package --workspace -F --features --all-features --no-default-features --tests --format -h --help --manifest-path --locked --offline --frozen' ;;
     'cargo duplicates') echo '--alone --target --resolver --manifest -p --package --workspace -F --features --all-features --no-default-features --tests --format -h --help --manifest-path --locked --offline --frozen' ;;
     'cargo tree') echo '-i --invert --depth -e --edges --target --resolver --manifest -p --package --workspace -F --features --all-features --no-default-features --tests --format -h --help --manifest-path --locked --offline --frozen' ;;
@@ -40,7 +40,7 @@ _feats_word() {
   case "$1 $2" in
     'why 0' | 'why-not 0' | 'list 0') echo packages ;;
     'check 0' | 'diff 0' | 'diff 1') echo files ;;
-    'help 0') echo 'words plan why why-not specs list duplicates tree dot check diff' ;;
+    'help 0') echo 'words plan why why-not specs list duplicates tree dot check diff slim' ;;
   esac
 }
 
