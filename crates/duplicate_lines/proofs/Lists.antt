@@ -6,7 +6,7 @@ use Rattle.std.proofs.lemmas.List.{append-nil}
 cut_at : {X : Type 0} (xs : List X) (i : ℕ) (x : X) → i < length xs → x ≡ get_or xs i x → drop i xs ≡ x ∷ drop (i + 1) xs
 cut_at xs i x within is = rw (add-one) (drop-cons xs i x within ∙ ap (λ y. y ∷ drop (suc i) xs) (sym is))
 
--- one more item, and what is appended for it
+-- one more item, and the items appended for it
 pub flat_more : {X Y Z : Type 0} (g : X → Y) (f : Y → List Z) (xs : List X) (i : ℕ) (x : X) (all so_far new : List Z) → i < length xs → x ≡ get_or xs i x
     → all ≡ so_far ++ flat_map f (map g (drop i xs)) → new ≡ so_far ++ f (g x) → all ≡ new ++ flat_map f (map g (drop (i + 1) xs))
 flat_more g f xs i x all so_far new within is so grown =

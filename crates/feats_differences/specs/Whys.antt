@@ -44,12 +44,12 @@ feature_spots b c = map (λ name. spot_of b c.new (named name)) c.comes
 abbrev pub without_feed : Text → Text
 without_feed line = if ends_with nat_eq line (10 ∷ []) then take (length line - 1) line else line
 
--- The last of the steps that were found, as a list; an empty one for what is off.
+-- The last of the steps that were found, as a list; an empty list if the part is off.
 abbrev pub last_of : Option (List WhyText) → List WhyText
 last_of None = []
 last_of (Some steps) = drop (length steps - 1) steps
 
--- The line of the last step of an answer of `why`, as `why` shows it; nothing for what is off.
+-- The line of the last step of an answer of `why`, as `why` shows it; the empty text if the part is off.
 abbrev pub last_found : BuildText → Option (List WhyText) → Text
 last_found b found = without_feed (why_lines b.workspace.packages (why_settings b.words) (last_of found))
 

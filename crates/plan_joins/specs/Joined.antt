@@ -67,7 +67,7 @@ joined_declarations joins m ds = ds ++ map (declaration_of ds) (filter (is_for m
 abbrev pub joined_package : List JoinText → ℕ → PackageText → PackageText
 joined_package joins m x = with_declarations (joined_declarations joins m x.declarations) x
 
--- The packages, of which the first has number `m`, with their lines.
+-- The packages from number `m` on, with their lines.
 abbrev pub joined_from : List JoinText → ℕ → List PackageText → List PackageText
 joined_from joins m [] = []
 joined_from joins m (x ∷ xs) = joined_package joins m x ∷ joined_from joins (m + 1) xs

@@ -98,7 +98,7 @@ fn still_differs(after: &[Alone<'_, '_>], alone: &Alone<'_, '_>) -> bool
     false
 }
 
-/// Returns whether the members of `alone` agree in `plans`, of which `after` are the packages with different features.
+/// Returns whether the members of `alone` agree in `plans`. `after` has the packages that `plans` build with different features.
 fn agrees(after: &[Alone<'_, '_>], plans: &[MemberPlan<'_>], alone: &Alone<'_, '_>) -> bool
     ensures { result ≡ spec.agrees (map alone_text after.now) (map member_plan_text plans.now) (alone_text alone.now) }
 {
@@ -122,7 +122,8 @@ fn push_if(
     Ok(())
 }
 
-/// Returns those of `list` on which the members don't agree in `plans`, of which `after` are the packages with different features.
+/// Returns the items of `list` on which the members don't agree in `plans`. `after` has the packages that `plans` build with different
+/// features.
 fn disagreements_among(
     alloc: Global,
     after: &[Alone<'_, '_>],
