@@ -1,18 +1,21 @@
 """Tries the must-fail edits of a crate, several in one check.
 
 A proof of a function uses only the contracts of the functions that it calls, so edits of different functions can be judged by one
-check: an edit is refused if the function that it changes isn't proved. A round takes at most one edit of a function. An edit outside a
-function, or one that a round didn't refuse, is checked alone.
+check of these functions: an edit is refused if the function that it changes isn't proved. A round takes at most one edit of a function.
+Each function must be proved without an edit first. An edit outside a function, or one that a round didn't refuse, is checked alone, with
+the whole crate.
 """
 import re
 import subprocess
 
 FUNCTION = re.compile(r'^( *)(?:pub(?:\([^)]*\))? )?(?:const |unsafe )*fn (\w+)')
 # A verdict on a function. One whose first reason is a callee's verdict says nothing of the function.
-REFUSED = re.compile(r'^fn (\S+): (?:not proved|no proof)(?!: (?:it calls|it passes|a call of|its contract rests on))', re.M)
+VERDICT = re.compile(r'^fn (\S+): (proved|not proved|no proof)(?!: (?:it calls|it passes|a call of|its contract rests on))', re.M)
 ERROR = re.compile(r'^(?:\./)?((?:src|specs)/\S+?):\d+:\d+: error: (`[^`]*`: )?(.*)', re.M)
 UNREAD = re.compile(r'is not in scope|has no field|is no name|operand is missing|expected the end|cannot continue')
-NOTE = re.compile(r'^(?:note: )?(src/\S+?):(\d+):\d+:.*', re.M)
+# A goal that isn't proved: one that an answer of a proof file fails, or one that has no proof.
+ANSWER = re.compile(r'^(?:\./)?proofs/(\S+)/(\w+)\.antt:\d+:\d+: error: (?:`([\w+-]+)`)?', re.M)
+GOAL = re.compile(r'^note: (src/\S+?):(\d+):\d+: .*\(`([\w+-]+)`\)', re.M)
 
 
 class Edit:
@@ -40,12 +43,13 @@ class Edit:
 
     def functions(self, folder):
         """Returns the functions that the edit changes, each as its file and its name, or None if it changes something else."""
-        found = set()
-        for path, old, _ in self.pairs:
-            text = (folder / path).read_text()
+        found, texts = set(), {}
+        for path, old, new in self.pairs:
+            text = texts.get(path) or (folder / path).read_text()
             name = function_at(text.split('\n'), text[:text.find(old)].count('\n')) if path.startswith('src/') else None
             if name is None:
                 return None
+            texts[path] = text.replace(old, new)
             found.add((path, name))
         return found
 
@@ -61,24 +65,63 @@ def function_at(lines, number):
 
 
 def module_of(path):
-    """Returns the module that the file `path` contains, as a check prints it."""
+    """Returns the words of the module that the file `path` contains, as a check prints them."""
     words = path[len('src/'):-len('.rt')].split('/')
-    return '::'.join(word for word in words if word not in ('lib', 'main', 'mod'))
-
-
-def are_refused(functions, crate, said):
-    """Returns whether each of `functions` is refused in a check's output `said`."""
-    refused = [path.split('::') for path in REFUSED.findall(said)]
-    for path, name in functions:
-        module = [crate, *filter(None, module_of(path).split('::'))]
-        if not any(words[-1] == name and words[:len(module)] == module for words in refused):
-            return False
-    return True
+    return [word for word in words if word not in ('lib', 'main', 'mod')]
 
 
 def is_unread(said):
     """Returns whether the prover could not read a text of src/ or specs/, so that no contract was tried."""
     return any(not found[2] or UNREAD.search(re.sub('`[^`]*`', '', found[3])) for found in ERROR.finditer(said))
+
+
+def title_of(goal):
+    """Returns which condition the goal named `goal` is a part of, with its place among the kinds of conditions: a clause of the function's
+    contract, a loop's invariant, a condition of a call, or another one."""
+    clause = re.search(r'-clause-(\w+)', goal)
+    if goal.startswith('returns'):
+        return 0, f'`{clause[1]}`' if clause else 'the contract'
+    loop = re.match(r'(?:loop-)?(\w+)-(?:init|preserved)', goal)
+    if loop:
+        return 1, f'invariant `{loop[1]}` of a loop'
+    call = re.match(r'(\w+)-(?:\w+-)?requires', goal)
+    return (2, f'a condition of `{call[1]}`') if call else (3, f'the goal `{goal}`')
+
+
+class Verdicts:
+    """What a check's output `said` about the crate with the files `texts` in place of its own says of functions."""
+
+    def __init__(self, crate, folder, said, texts):
+        self.crate, self.folder, self.said, self.texts = crate, folder, said, texts
+
+    def is_of(self, words, function):
+        """Returns whether `words`, a function's path, names `function`, a file and a name."""
+        module = module_of(function[0])
+        return words[-1] == function[1] and words[:len(module)] == module
+
+    def are(self, functions, verdicts):
+        """Returns whether the check has one of `verdicts` on each of `functions`."""
+        found = [path.split('::')[1:] for path, verdict in VERDICT.findall(self.said) if verdict in verdicts]
+        return all(any(self.is_of(words, function) for words in found) for function in functions)
+
+    def goals(self, function):
+        """Returns the conditions of `function` that are not proved: the clauses of its contract if there are any, else the invariants of
+        loops, the conditions of calls, or the other goals."""
+        goals = []
+        for place, kind, goal in ANSWER.findall(self.said):
+            if self.is_of(place.split('/'), function):
+                goals += [goal] if goal else ['returns'] if kind == 'Proof' else []
+        for path, line, goal in GOAL.findall(self.said):
+            text = self.texts.get(path) or (self.folder / path).read_text()
+            if (path, function_at(text.split('\n'), int(line) - 1)) == function:
+                goals.append(goal)
+        titles = sorted({title_of(goal) for goal in goals})
+        return [title for kind, title in titles if kind == titles[0][0]]
+
+    def reason(self, functions):
+        """Returns the functions that the check refuses, with the conditions that are not proved."""
+        refused = [function for function in sorted(functions) if self.are([function], ('not proved', 'no proof'))]
+        return '; '.join(f'{"::".join([*module_of(path), name])}: {", ".join(self.goals((path, name))) or "no goal is named"}' for path, name in refused)
 
 
 class Rounds:
@@ -87,17 +130,25 @@ class Rounds:
     def __init__(self, crate, folder, check):
         self.crate, self.folder, self.check = crate, folder, check
 
-    def said_of(self, texts):
-        """Returns a check's output and its exit status with `texts` in place of the crate's, and puts the crate's back."""
+    def said_of(self, texts, functions=()):
+        """Returns what a check says with `texts` in place of the crate's, and its exit status, and puts the crate's back. The check is
+        that of `functions`, or of the whole crate."""
         before = {path: (self.folder / path).read_text() for path in texts}
+        only = [word for name in sorted({name for _, name in functions}) for word in ('--only', name)]
         try:
             for path, text in texts.items():
                 (self.folder / path).write_text(text)
-            ran = subprocess.run(self.check, cwd=self.folder, stdin=subprocess.DEVNULL, stdout=subprocess.PIPE, stderr=subprocess.STDOUT, text=True, errors='replace')
-            return ran.stdout, ran.returncode
+            ran = subprocess.run([*self.check, *only], cwd=self.folder, stdin=subprocess.DEVNULL, stdout=subprocess.PIPE, stderr=subprocess.STDOUT, text=True, errors='replace')
+            return Verdicts(self.crate, self.folder, ran.stdout, texts), ran.returncode
         finally:
             for path, text in before.items():
                 (self.folder / path).write_text(text)
+
+    def fault_without(self, edits):
+        """Returns what a check of the functions of `edits` says without an edit, or None if they are proved."""
+        functions = set().union(*(edit.functions(self.folder) or set() for edit in edits))
+        found, status = self.said_of({}, functions)
+        return None if status == 0 and found.are(functions, ('proved',)) else found.said
 
     def round_of(self, edits):
         """Returns the edits of the next round, and its texts: those of different functions that can be applied together."""
@@ -110,27 +161,31 @@ class Rounds:
         return taken, texts
 
     def refused_together(self, edits):
-        """Returns the edits of `edits` that one check refuses, each by its own function."""
-        texts = {}
+        """Returns the edits of `edits` that one check refuses, each by its own functions, with the reasons."""
+        texts, functions = {}, set()
         for edit in edits:
-            texts = edit.applied(texts, self.folder)
-        said, _ = self.said_of(texts)
-        if is_unread(said) and len(edits) > 1:
+            texts, functions = edit.applied(texts, self.folder), functions | edit.functions(self.folder)
+        found, _ = self.said_of(texts, functions)
+        if is_unread(found.said):
             half = len(edits) // 2
-            return self.refused_together(edits[:half]) + self.refused_together(edits[half:])
-        return [] if is_unread(said) else [edit for edit in edits if are_refused(edit.functions(self.folder), self.crate, said)]
+            return {**self.refused_together(edits[:half]), **self.refused_together(edits[half:])} if half else {}
+        refused = [edit for edit in edits if found.are(edit.functions(self.folder), ('not proved', 'no proof'))]
+        return {edit: found.reason(edit.functions(self.folder)) for edit in refused}
 
-    def fault_alone(self, edit):
-        """Returns why the edit isn't refused by a check of its own, or None."""
+    def alone(self, edit):
+        """Returns whether a check of the whole crate with the edit refuses it, and why or why not."""
         texts = edit.applied({}, self.folder)
         if texts is None:
-            return 'an old text is not there exactly once'
-        said, status = self.said_of(texts)
-        if is_unread(said):
-            return f'the edited text can\'t be read: {ERROR.search(said)[0][:200]}'
+            return False, 'an old text is not there exactly once'
+        found, status = self.said_of(texts)
+        if is_unread(found.said):
+            return False, f'the edited text can\'t be read: {ERROR.search(found.said)[0][:200]}'
         if status == 0:
-            return 'the crate is still proved'
-        return None if REFUSED.search(said) or NOTE.search(said) else said[-400:]
+            return False, 'the crate is still proved'
+        refused = [path.split('::')[1:] for path, verdict in VERDICT.findall(found.said) if verdict != 'proved']
+        if not refused:
+            return False, found.said[-400:]
+        return True, found.reason(edit.functions(self.folder) or set()) or ', '.join('::'.join(words) for words in refused)
 
     def try_all(self, edits):
         """Tries `edits`, prints a line for each, and returns how many were refused and how many were not."""
@@ -141,14 +196,14 @@ class Rounds:
                 alone, left = alone + left, []
                 break
             well = self.refused_together(taken)
-            for edit in well:
-                print(f'{self.crate}/{edit.name}: refused', flush=True)
+            for edit, reason in well.items():
+                print(f'{self.crate}/{edit.name}: refused by {reason}', flush=True)
             refused += len(well)
             alone += [edit for edit in taken if edit not in well]
             left = [edit for edit in left if edit not in taken]
         failed = 0
         for edit in alone:
-            fault = self.fault_alone(edit)
-            failed, refused = failed + bool(fault), refused + (not fault)
-            print(f'{self.crate}/{edit.name}: {"FAILED: " + fault if fault else "refused, in a check of its own"}', flush=True)
+            is_refused, reason = self.alone(edit)
+            failed, refused = failed + (not is_refused), refused + is_refused
+            print(f'{self.crate}/{edit.name}: {"refused by" if is_refused else "FAILED:"} {reason}', flush=True)
         return refused, failed

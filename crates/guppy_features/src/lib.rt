@@ -1,5 +1,6 @@
 //! The feature graph: queries over it and sets of its features, filters with a list of names or ids, and a
-//! visitor for a platform. The crate re-exports every type in its API, and `specs` every definition in its contracts.
+//! visitor for a platform. The crate re-exports every type of this repository in its API, and `specs` every definition in its
+//! contracts.
 #![tactic(auto)]
 
 mod listed_filters;
@@ -20,9 +21,10 @@ pub use feature_sets::{
     StandardFeatures, UnknownPackageId, WeakIndex, WeakSlashImpl, feature_list, laws,
 };
 pub use guppy_packages::{Packages, RowSource};
-pub use guppy_support::{Digraph, IxBitSet};
+pub use guppy_support::{Digraph, DigraphError, Edge, EdgeColumns, IxBitSet, Ones};
 pub use listed_filters::{
     FeatureIdFilter, NamedFeatureFilter, feature_id_filter, named_feature_filter,
 };
+pub use order_views::Reading;
 pub use platform_visitor::PlatformVisitor;
-pub use walk_engine::Half;
+pub use walk_engine::{Half, Offerer};
