@@ -9,9 +9,9 @@ use Rattle.cargo_documents.specs.Faults.{Text, refusal_of}
 use Rattle.cargo_rows.specs.Rows.{rows_of}
 use Rattle.cargo_rows.specs.Warnings.{WarningText, warnings_of}
 
--- the bytes are a document, and the text is its rows
+-- the bytes are a document, and the text is its rows; both are UTF-8
 abbrev pub AreRows : Text → Text → Type 0
-AreRows bytes text = IsUtf8 bytes × IsSomeAnd (document bytes) (λ d. rows_of d ≡ Ok text)
+AreRows bytes text = IsUtf8 bytes × IsUtf8 text × IsSomeAnd (document bytes) (λ d. rows_of d ≡ Ok text)
 
 -- the bytes are a document, and these are its warnings
 abbrev pub AreWarnings : Text → List WarningText → Type 0

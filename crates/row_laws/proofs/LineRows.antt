@@ -1,12 +1,13 @@
 -- Texts whose lines are read as rows.
 use Rattle.std.proofs.Common.{◌≡◌, ℕ, ◌+◌, Bool, true, false, ◌||◌, List, [], ◌∷◌, ◌++◌, Some, Ok, Err, refl, ap, sym, ◌∙◌, subst, cond, append_assoc, append-nil}
-use Rattle.std.specs.Prelude.{All, IsTrue, ◌==◌, filter, map, not}
+use Rattle.std.specs.Prelude.{All, ◌==◌, filter, map, not}
 use Rattle.std.specs.Char.{is_ascii_control}
 use Rattle.std.specs.List.{AllByRecursion, enumerate_from}
-use Rattle.std.specs.Str.{is_utf8}
+use Rattle.std.specs.Str.{IsUtf8}
 use Rattle.std.proofs.lemmas.Bool.{eqb-true}
 use Rattle.std.proofs.lemmas.List.Elements.{All-append, All-cons, All-nil}
 use Rattle.std.proofs.lemmas.List.Splits.{slice_split_at, slice_split_none}
+use Rattle.std.proofs.lemmas.Str.{is_utf8-from_IsUtf8}
 use Rattle.cargo_documents.specs.Faults.{control}
 use Rattle.workspace_documents.proofs.Sorted.{both_ok, ok_same}
 use Rattle.cargo_rows.specs.Rows.{allowed, fields_text, has_control, row, row_text}
@@ -144,7 +145,7 @@ read_all text rows r =
     ∙ read_lines 1 r.lines rows r.are
 
 -- the tables of a text in UTF-8 are those of the rows that its lines are read as
-pub tables_read : (text : Text) (rows : List RowText) → rows_of (kept_lines 1 (lines_in text)) ≡ Ok rows → IsTrue (is_utf8 text) → tables_in text ≡ by_line (kept_lines 1 (lines_in text)) (tables_of rows)
+pub tables_read : (text : Text) (rows : List RowText) → rows_of (kept_lines 1 (lines_in text)) ≡ Ok rows → IsUtf8 text → tables_in text ≡ by_line (kept_lines 1 (lines_in text)) (tables_of rows)
 tables_read text rows is utf8 =
-    ap (λ b. cond b (tables_of_lines (kept_lines 1 (lines_in text))) (Err error.NotText)) utf8
+    ap (λ b. cond b (tables_of_lines (kept_lines 1 (lines_in text))) (Err error.NotText)) (is_utf8-from_IsUtf8 text utf8)
     ∙ ap (λ r. r >>= λ rows. by_line (kept_lines 1 (lines_in text)) (tables_of rows)) is

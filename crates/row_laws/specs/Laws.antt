@@ -1,6 +1,6 @@
 -- The law of written rows.
-use Rattle.std.specs.Prelude.{◌≡◌, List, Ok, IsTrue}
-use Rattle.std.specs.Str.{is_utf8}
+use Rattle.std.specs.Prelude.{◌≡◌, List, Ok}
+use Rattle.std.specs.Str.{IsUtf8}
 use Rattle.json.specs.Json.{Json}
 use Rattle.cargo_documents.specs.Faults.{Text}
 use Rattle.cargo_rows.specs.Rows.{rows_of as written}
@@ -18,7 +18,7 @@ pub record IsReadAs (d : Json) (text : Text) (rows : List RowText) : Type 0 wher
   pub lines : read (kept_lines 1 (lines_in text)) ≡ Ok rows
   pub tables : Tables
   pub sound : tables_of rows ≡ Ok tables
-  pub read_tables : IsTrue (is_utf8 text) → tables_in text ≡ Ok tables
+  pub read_tables : IsUtf8 text → tables_in text ≡ Ok tables
 
 abbrev pub WrittenRowsAreRead : Type 0
 WrittenRowsAreRead = (d : Json) (text : Text) → written d ≡ Ok text → (rows : List RowText) × IsReadAs d text rows
