@@ -316,7 +316,7 @@ fn answer_words(rt: &HostRuntime, words: &[&str]) -> ExitCode {
     match compared_words(rt.alloc(), words) {
         Ok(Some(lines)) => compare_lines(rt, &lines.before, &lines.after),
         Ok(None) => answer_line(rt, words),
-        Err(_) => ended(rt, Err(Fault::Memory)),
+        Err(fault) => ended(rt, Err(fault)),
     }
 }
 

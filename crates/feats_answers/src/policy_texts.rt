@@ -30,11 +30,11 @@ use std::alloc::{AllocError, Global};
 pub(crate) struct PolicyWord<'a> {
     /// The path of its file.
     pub(crate) file: &'a str,
-    /// True if every choice is asked about.
+    /// True if the question is about every choice.
     pub(crate) every_choice: bool,
 }
 
-/// Returns the triples of the target platforms: that of the host alone, if there are no `files`.
+/// Returns the triples of `files`, or `host` alone if there are none.
 fn target_triples<'t>(
     alloc: Global,
     host: &'t str,
@@ -52,7 +52,7 @@ fn target_triples<'t>(
     }
 }
 
-/// Returns a platform on which exactly `specs` hold, if every choice is asked about.
+/// Returns a platform on which exactly `specs` hold, or `None` if `every_choice` is false.
 fn every_if<'s>(
     alloc: Global,
     specs: &[DeclaredSpec<'s>],
@@ -67,7 +67,7 @@ fn every_if<'s>(
     }
 }
 
-/// Returns the question about the policy in `file`, where `targets` are the triples of the target platforms.
+/// Returns the question about the policy in `file`. `targets` are the triples of the target platforms.
 fn question_of<'q, 'n, 's>(
     asked: Asked<'q, 'q, 'q, 'q>,
     file: &'q str,
@@ -88,7 +88,7 @@ fn question_of<'q, 'n, 's>(
     }
 }
 
-/// Returns the answer to `question` about `plan`, which is that of `words`.
+/// Returns the answer to `question` about `plan`, which is the plan of `words`.
 fn answer_to_question<'w, 'n, 's>(
     alloc: Global,
     question: PolicyQuestion<'_, '_, 'n, 's>,
@@ -107,7 +107,7 @@ fn answer_to_question<'w, 'n, 's>(
     })
 }
 
-/// Returns the answer about the policy in `file`. For every choice, each platform spec holds on the platform `every`.
+/// Returns the answer about the policy in `file`. If `every` is given, it is for every choice, and each platform spec holds on `every`.
 fn answer_by<'q, 'w, 's>(
     alloc: Global,
     asked: Asked<'q, 'q, 'q, 'q>,
@@ -129,7 +129,7 @@ fn answer_by<'q, 'w, 's>(
     answer_to_question(alloc, question, workspace, words, plan)
 }
 
-/// Returns the answer to `check` with this policy. `specs` are the platform specs of the workspace.
+/// Returns the answer to `check` with `policy`. `specs` are the platform specs of `workspace`, and `plan` is the plan of `words`.
 pub(crate) fn check_answer<'w, 's>(
     alloc: Global,
     asked: Asked<'_, '_, '_, '_>,

@@ -1,5 +1,5 @@
 -- The command lines that `diff` compares: `feats diff COMMON -- WORDS -- WORDS`.
-use Rattle.std.specs.Prelude.{List, [], ◌∷◌, ◌++◌, Bool, Option, None, Some, codes, if◌then◌else◌}
+use Rattle.std.specs.Prelude.{◌≡◌, List, [], ◌∷◌, ◌++◌, Bool, true, false, ◌&&◌, Option, None, Some, codes, if◌then◌else◌}
 use Rattle.std.specs.List.{slice_split}
 use Rattle.std.specs.Str.{bytes_eq}
 use Rattle.clap.specs.Words.{Text}
@@ -30,3 +30,19 @@ lines_of name _ = None
 abbrev pub compared : List Text → Option ComparedText
 compared (name ∷ command ∷ words) = if bytes_eq command (codes "diff") then lines_of name (slice_split is_mark words) else None
 compared _ = None
+
+abbrev pub has_extra : List (List Text) → Bool
+has_extra (common ∷ before ∷ after ∷ extra ∷ more) = true
+has_extra _ = false
+
+-- Whether the second word is `diff`, and more than two of the words after it are `--`.
+abbrev pub has_extra_mark : List Text → Bool
+has_extra_mark (name ∷ command ∷ words) = bytes_eq command (codes "diff") && has_extra (slice_split is_mark words)
+has_extra_mark _ = false
+
+abbrev pub mark_message : Text
+mark_message = codes "`diff` has a third `--`: leave it out, as in `diff -- WORDS -- WORDS`"
+
+-- The message that there is a third `--`.
+abbrev pub IsMarkRefusal : List Text → Text → Type 0
+IsMarkRefusal words message = (has_extra_mark words ≡ true) × (message ≡ mark_message)

@@ -1,10 +1,12 @@
 //! The command lines that `diff` compares.
-ghost use Rattle.std.specs.Prelude.{◌≡◌, IfOk, map, option_map};
+ghost use Rattle.std.specs.Prelude.{◌≡◌, true, false, IfOk, IfErr, OnOk, map, option_map};
 ghost use Rattle.std.specs.List.{slice_split};
 ghost use Rattle.feats_comparisons.specs.CommandLines as spec;
 ghost use Rattle.feats_comparisons.specs.CommandLines.{compared_text};
+ghost use Rattle.feats_files.specs.Messages.{IsRefused, Says};
 ghost use Rattle.feats_words.specs.Requests.{texts};
 
+use feats_files::{Fault, refused};
 use std::alloc::{AllocError, Global};
 
 /// The words of two command lines of `plan`. The first word of each is the program's name.
@@ -38,15 +40,29 @@ fn plan_line<'a>(
     Ok(line)
 }
 
-/// Returns the command lines by `parts`, those of the words after `diff`. None unless there are three.
+/// Returns the refusal of a third `--`.
+fn third_mark(alloc: Global) -> Fault
+    ensures { IsRefused spec.mark_message result }
+{
+    refused(
+        alloc,
+        &["`diff` has a third `--`: leave it out, as in `diff -- WORDS -- WORDS`"],
+    )
+}
+
+/// Returns the command lines by `parts`, those of the words after `diff`, or `None` if there are less than three parts. The refusal of a
+/// fourth part and `Memory` are the only errors.
 fn lines_of<'a>(
     alloc: Global,
     name: &'a str,
     parts: &[&[&'a str]],
-) -> Result<Option<ComparedWords<'a>>, AllocError>
-    ensures { IfOk result (λ lines. option_map compared_text lines ≡ spec.lines_of name.entry.now (map (λ p. texts p.now) parts.now)) }
+) -> Result<Option<ComparedWords<'a>>, Fault>
+    ensures lines { IfOk result (λ lines. option_map compared_text lines ≡ spec.lines_of name.entry.now (map (λ p. texts p.now) parts.now)) }
+    ensures few { OnOk result (spec.has_extra (map (λ p. texts p.now) parts.now) ≡ false) }
+    ensures fault { IfErr result (λ fault. Says fault (λ message. (spec.has_extra (map (λ p. texts p.now) parts.now) ≡ true) × (message ≡ spec.mark_message))) }
 {
     match parts {
+        [_, _, _, _, ..] => Err(third_mark(alloc)),
         [common, before, after] => Ok(Some(ComparedWords {
             before: plan_line(alloc, name, common, before)?,
             after: plan_line(alloc, name, common, after)?,
@@ -56,12 +72,15 @@ fn lines_of<'a>(
 }
 
 /// Returns the command lines of `feats diff COMMON -- WORDS -- WORDS`: those of `plan` with the words before the first `--`, and with
-/// those after the first or the second. None if the second of `words` isn't `diff`, or if there aren't two `--` after it.
+/// those after the first or the second. Returns `None` if the second of `words` isn't `diff`, or if there is at most one `--` after it. The
+/// refusal of a third `--` and `Memory` are the only errors.
 pub fn compared_words<'a>(
     alloc: Global,
     words: &[&'a str],
-) -> Result<Option<ComparedWords<'a>>, AllocError>
-    ensures { IfOk result (λ lines. option_map compared_text lines ≡ spec.compared (texts words.now)) }
+) -> Result<Option<ComparedWords<'a>>, Fault>
+    ensures lines { IfOk result (λ lines. option_map compared_text lines ≡ spec.compared (texts words.now)) }
+    ensures few { OnOk result (spec.has_extra_mark (texts words.now) ≡ false) }
+    ensures fault { IfErr result (λ fault. Says fault (spec.IsMarkRefusal (texts words.now))) }
 {
     match words {
         [name, command, rest @ ..] if *command == "diff" => {

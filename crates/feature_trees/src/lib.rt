@@ -3,6 +3,7 @@
 
 mod commands;
 mod dots;
+mod keys;
 mod links;
 mod roots;
 mod titles;

@@ -1,22 +1,19 @@
 //! The roots of trees.
 ghost use Rattle.std.specs.Prelude.{◌≡◌, ◌++◌, ◌∷◌, ◌||◌, ◌&&◌, ◌<◌, [], ℕ, IfOk, OnOk, if◌then◌else◌, length, map, not};
-ghost use Rattle.std.specs.Bool.{beq};
-ghost use Rattle.std.specs.List.{list_any};
-ghost use Rattle.feature_labels.specs.Names.{label_of};
-ghost use Rattle.feature_labels.specs.Orders.{label_eq};
 ghost use Rattle.guppy_support.specs.Bits.{has};
+ghost use Rattle.plan_links.specs.Links.{indexes_of};
 ghost use Rattle.plan_links.specs.SpotLinks as links;
-ghost use Rattle.plan_rows.specs.Steps.{is_host};
 ghost use Rattle.plan_whys.specs.StepViews.{spot_text};
 ghost use Rattle.feature_trees.specs.Roots as spec;
 ghost use Rattle.feature_trees.specs.Roots.{numbers_in};
+ghost use Rattle.feature_trees.specs.inner.Keys.{has_key};
 
 use crate::commands::{is_command, is_command_at};
-use feature_labels::FeatureLabel;
+use crate::keys::{SpotKey, has_spot, keys_of};
 use guppy_support::IxBitSet;
-use plan_links::{Side, Spot};
+use plan_links::Spot;
 use std::alloc::{AllocError, Global};
-use std::cmp::Ordering;
+use std::collections::BTreeSet;
 
 /// Inserts the end of `link` into `asked`, if the link starts at a command feature.
 fn note(asked: &mut IxBitSet, spots: &[Spot<'_>], link: (usize, usize))
@@ -87,63 +84,37 @@ pub(crate) fn asked_spots(
     Ok(roots)
 }
 
-/// Returns whether `a` and `b` are the same side.
-fn is_same_side(a: Side, b: Side) -> bool
-    ensures { result ≡ beq (is_host a) (is_host b) }
+/// Returns whether `keys` has the key of `spot`, and `spot` isn't a command feature.
+fn is_wanted<'w>(keys: &BTreeSet<SpotKey<'w>>, spot: Spot<'w>) -> bool
+    ensures { result ≡ (has_key keys.now spot.entry && not (links.is_command (spot_text spot.entry).label)) }
 {
-    matches!(
-        (a, b),
-        (Side::Target, Side::Target) | (Side::Host, Side::Host)
-    )
+    has_spot(keys, spot) && !is_command(spot.label)
 }
 
-/// Returns whether `a` and `b` are the same label.
-fn is_same_label(a: FeatureLabel<'_>, b: FeatureLabel<'_>) -> bool
-    ensures { result ≡ label_eq (label_of a.entry) (label_of b.entry) }
-{
-    match a.cmp(&b) {
-        Ordering::Equal => true,
-        Ordering::Less | Ordering::Greater => false,
-    }
-}
-
-/// Returns whether `a` and `b` are the same spot.
-fn is_same(a: Spot<'_>, b: Spot<'_>) -> bool
-    ensures { result ≡ spec.is_same (spot_text a.entry) (spot_text b.entry) }
-{
-    a.package == b.package && is_same_side(a.side, b.side) && is_same_label(a.label, b.label)
-}
-
-/// Returns whether `spot` is one of `wanted`.
-fn is_among(spot: Spot<'_>, wanted: &[Spot<'_>]) -> bool
-    ensures { result ≡ list_any (spec.is_same (spot_text spot.entry)) (map spot_text wanted.now) }
-{
-    for one in wanted {
-        if is_same(spot, *one) {
-            return true;
-        }
-    }
-    false
-}
-
-/// Returns whether `spot` is one of `wanted`, and isn't a command feature.
-fn is_wanted(spot: Spot<'_>, wanted: &[Spot<'_>]) -> bool
-    ensures { result ≡ (list_any (spec.is_same (spot_text spot.entry)) (map spot_text wanted.now) && not (links.is_command (spot_text spot.entry).label)) }
-{
-    is_among(spot, wanted) && !is_command(spot.label)
-}
-
-/// Returns the numbers of those of `spots` that are `wanted`, and aren't command features.
-pub(crate) fn wanted_spots(
+/// Returns the numbers of those of `spots` whose keys are in `keys`, and that aren't command features.
+fn found_in<'w>(
     alloc: Global,
-    wanted: &[Spot<'_>],
-    spots: &[Spot<'_>],
+    keys: &BTreeSet<SpotKey<'w>>,
+    spots: &[Spot<'w>],
 ) -> Result<Vec<usize>, AllocError>
-    ensures { IfOk result (λ roots. roots.items ≡ spec.wanted_spots (map spot_text wanted.now) (map spot_text spots.now)) }
+    ensures { IfOk result (λ roots. roots.items ≡ indexes_of (λ s. has_key keys.now s && not (links.is_command (spot_text s).label)) spots.now) }
 {
     let mut roots = Vec::new(alloc);
     for (number, spot) in spots.iter().enumerate() {
-        push_if(&mut roots, number, is_wanted(*spot, wanted))?;
+        push_if(&mut roots, number, is_wanted(keys, *spot))?;
     }
+    Ok(roots)
+}
+
+/// Returns the numbers of those of `spots` that are `wanted`, and aren't command features.
+pub(crate) fn wanted_spots<'w>(
+    alloc: Global,
+    wanted: &[Spot<'w>],
+    spots: &[Spot<'w>],
+) -> Result<Vec<usize>, AllocError>
+    ensures { IfOk result (λ roots. roots.items ≡ spec.wanted_spots (map spot_text wanted.now) (map spot_text spots.now)) }
+{
+    let keys = keys_of(alloc, wanted)?;
+    let roots = found_in(alloc, &keys, spots)?;
     Ok(roots)
 }

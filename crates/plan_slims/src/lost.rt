@@ -1,8 +1,8 @@
-//! What falls away by an edit.
+//! Edits with the numbers of packages and features that fall away by them.
 
 use workspace_edits::Edit;
 
-/// An edit, and how much of a build falls away by it.
+/// An edit, and the numbers of packages and features that fall away by it.
 #[derive(Clone, Copy)]
 pub struct Slim<'v> {
     pub edit: Edit<'v>,

@@ -1,4 +1,4 @@
-//! The order of edits: by what falls away.
+//! The order of edits, by the numbers of packages and features that fall away.
 ghost use Rattle.std.specs.Prelude.{◌≡◌, OnOk, map};
 ghost use Rattle.plan_slims.specs.Orders as spec;
 ghost use Rattle.plan_slims.specs.Orders.{IsInOrder};
@@ -8,7 +8,7 @@ use crate::lost::Slim;
 use std::alloc::AllocError;
 use std::cmp::Ordering;
 
-/// Compares by what falls away: `Less` if more packages fall away by `x`, or as many packages and more features.
+/// Compares `x` and `y`: `Less` if more packages fall away by `x`, or as many packages and more features.
 fn compare(x: &Slim<'_>, y: &Slim<'_>) -> Ordering
     ensures { result ≡ spec.slim_cmp (slim_text x.now) (slim_text y.now) }
 {
@@ -16,7 +16,7 @@ fn compare(x: &Slim<'_>, y: &Slim<'_>) -> Ordering
     y.packages.cmp(&x.packages).then(features)
 }
 
-/// Sorts `slims` by what falls away, most first; those by which as much falls away keep their order.
+/// Sorts `slims`: most packages first, then most features. Those with equal numbers keep their order.
 pub(crate) fn sort_slims(slims: &mut Vec<Slim<'_>>) -> Result<(), AllocError>
     ensures { OnOk result (IsInOrder (map slim_text slims.old.items) (map slim_text slims.new.items)) }
 {

@@ -75,7 +75,7 @@ fn in_order<'v>(alloc: Global, tried: &[Slim<'v>]) -> Result<Vec<Slim<'v>>, Allo
     Ok(slims)
 }
 
-/// Returns the edits of the packages `members` by which less is built than `before`, most first.
+/// Returns the edits of the packages `members` by which packages or features fall away from the units `before`, most first.
 fn slims_by<'w, 'v, P: Platform>(
     alloc: Global,
     workspace: &Workspace<'v>,
@@ -90,7 +90,7 @@ fn slims_by<'w, 'v, P: Platform>(
     in_order(alloc, &tried)
 }
 
-/// Returns the edits of the declarations of the members among the packages `selected`, by which less is built than `before`.
+/// Returns the edits of the members among the packages `selected` by which packages or features fall away from the units `before`, most first.
 fn slims_of_selected<'w, 'v, P: Platform>(
     alloc: Global,
     workspace: &Workspace<'v>,

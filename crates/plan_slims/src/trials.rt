@@ -18,7 +18,7 @@ use plan_rows::Platform;
 use std::alloc::{AllocError, Global};
 use workspace_edits::{Edit, edited};
 
-/// Returns how much falls away by `edit`, if the units of the plan are `before`, and `after` in the edited workspace.
+/// Returns `edit` with the numbers of what falls away from the units `before` to the units `after`.
 fn counted<'v>(
     alloc: Global,
     packages: &[Package<'_>],
@@ -37,7 +37,8 @@ fn counted<'v>(
     })
 }
 
-/// Returns how much falls away by `edit`, after which the plan is `after`. That is dropped, because it also has the visits of the steps.
+/// Returns `edit` with the numbers of what falls away from the units `before` to the plan `after`. `after` is dropped, because it also has the
+/// visits of the steps.
 fn counted_by<'v>(
     alloc: Global,
     packages: &[Package<'_>],
@@ -53,7 +54,7 @@ fn counted_by<'v>(
     slim
 }
 
-/// Returns `edit`, by which nothing falls away.
+/// Returns `edit` with the numbers 0.
 fn without_loss<'v>(edit: &Edit<'v>) -> Slim<'v>
     ensures edit { (slim_text result).edit ≡ edit_text edit.now }
     ensures numbers { HasNumbersOf nothing (slim_text result) }
@@ -65,7 +66,8 @@ fn without_loss<'v>(edit: &Edit<'v>) -> Slim<'v>
     }
 }
 
-/// Returns how much falls away by `edit`, which makes the workspace `edited`.
+/// Returns `edit` with the numbers of what falls away from the units `before` to the plan of `words` in `edited`. If `words` have no plan
+/// there, the numbers are 0.
 fn tried_in<'w, 'v, P: Platform>(
     alloc: Global,
     packages: &[Package<'_>],
@@ -84,7 +86,7 @@ fn tried_in<'w, 'v, P: Platform>(
     }
 }
 
-/// Returns `words` for the workspace `edited`.
+/// Returns a copy of `words` that lives as long as the borrow `edited`.
 fn words_in<'s, 'w: 's, 'n, P: Platform>(
     edited: &'s Workspace<'_>,
     words: &PlanWords<'w, 'n, P>,
@@ -100,7 +102,7 @@ fn words_in<'s, 'w: 's, 'n, P: Platform>(
     }
 }
 
-/// Returns how much falls away by `edit` of `workspace`, if `before` are the units of its plan.
+/// Returns `edit` with the numbers of what falls away from the units `before` to the plan of `words` after `edit` of `workspace`.
 fn tried<'w, 'v, P: Platform>(
     alloc: Global,
     workspace: &Workspace<'v>,
@@ -116,7 +118,7 @@ fn tried<'w, 'v, P: Platform>(
     tried_in(alloc, workspace.packages(), &edited, &here, before, edit)
 }
 
-/// Returns how much falls away by each of `edits`, in their order.
+/// Returns `edits`, each with the numbers of what falls away from the units `before` to the plan of `words` after it.
 pub(crate) fn all_tried<'w, 'v, P: Platform>(
     alloc: Global,
     workspace: &Workspace<'v>,

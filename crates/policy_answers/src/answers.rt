@@ -24,7 +24,7 @@ use plan_widenings::{Widening, widened};
 use plan_words::choose;
 use std::alloc::Global;
 
-/// Returns what is printed for every choice, where `widest` is the plan of the widest words `wide`.
+/// Returns the answer for every choice. `widest` is the plan of `wide`, the widest words.
 fn printed_with(
     alloc: Global,
     asked: PolicyQuestion<'_, '_, '_, '_>,
@@ -48,7 +48,7 @@ fn printed_with(
     printed_rules(alloc, asked, workspace, selected, here, Some(planned))
 }
 
-/// Returns the answer for every choice, where `every` is a platform on which each platform spec holds. It makes the plan of the widest words.
+/// Returns the answer for every choice. Each platform spec holds on the platform `every`. The function makes the plan of the widest words.
 fn answer_widely<'w, 'n, 's>(
     alloc: Global,
     asked: PolicyQuestion<'_, '_, '_, '_>,

@@ -43,7 +43,7 @@ fn text_of_rule(
     }
 }
 
-/// Returns the text of `verdict`, which is one about `planned`.
+/// Returns the text of `verdict`, which is about the plan of `planned`.
 fn text_of_verdict(
     alloc: Global,
     asked: PolicyQuestion<'_, '_, '_, '_>,
@@ -72,7 +72,7 @@ fn text_of_verdict(
     )
 }
 
-/// Appends the text of `verdict`, which is one about `planned`.
+/// Appends the text of `verdict`, which is about the plan of `planned`.
 fn push_verdict(
     alloc: Global,
     asked: PolicyQuestion<'_, '_, '_, '_>,
@@ -89,7 +89,7 @@ fn push_verdict(
     text.extend_from_slice(&one)
 }
 
-/// Returns the texts of `verdicts`, which are those about `planned`, one after the other. The build selects the packages `selected`.
+/// Returns the joined texts of `verdicts`, which are about the plan of `planned`. The build selects the packages `selected`.
 pub(crate) fn text_of_verdicts(
     alloc: Global,
     asked: PolicyQuestion<'_, '_, '_, '_>,

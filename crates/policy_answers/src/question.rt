@@ -4,7 +4,7 @@ use feats_words::Format;
 use plan_platforms::HeldSpecs;
 use policies::Rule;
 
-/// What is asked about a policy, and in which form it is answered.
+/// A question about a policy, and the format of its answer.
 #[derive(Clone, Copy)]
 pub struct PolicyQuestion<'q, 'p, 'n, 's> {
     pub format: Format,
@@ -13,9 +13,9 @@ pub struct PolicyQuestion<'q, 'p, 'n, 's> {
     pub rules: &'q [Rule<'p>],
     /// The triple of the host.
     pub host: &'p str,
-    /// The triples of the target platforms. If the words name none, that of the host alone.
+    /// The triples of the target platforms. If the words name none, it is the triple of the host.
     pub targets: &'p [&'n str],
-    /// For `--every-choice`: a platform on which each platform spec of the workspace holds.
+    /// A platform on which each platform spec of the workspace holds, if the question is about every choice.
     pub every: Option<&'n HeldSpecs<'s>>,
 }
 

@@ -20,7 +20,7 @@ use policy_lines::check_refused;
 use std::alloc::{AllocError, Global};
 use std::slice;
 
-/// Returns what is printed of `rule`, which is judged in `planned`.
+/// Returns the text about `rule`, and whether the plan of `planned` breaks it.
 fn printed_in(
     alloc: Global,
     asked: PolicyQuestion<'_, '_, '_, '_>,
@@ -51,7 +51,8 @@ fn printed_in(
     }
 }
 
-/// Returns what is printed of `rule` for every choice: a `deny` is judged in `widest` and for all platforms, another rule in `here`.
+/// Returns the text about `rule` for every choice, and whether it is broken: a `deny` is judged in `widest` and for all platforms, another
+/// rule in `here`.
 fn printed_widely(
     alloc: Global,
     asked: PolicyQuestion<'_, '_, '_, '_>,
@@ -77,7 +78,7 @@ fn printed_widely(
     }
 }
 
-/// Returns what is printed of `rule`. If `widest` is given, it is judged for every choice.
+/// Returns the text about `rule`, and whether it is broken. If `widest` is given, `rule` is judged for every choice.
 fn printed_of(
     alloc: Global,
     asked: PolicyQuestion<'_, '_, '_, '_>,
@@ -107,8 +108,8 @@ fn append(printed: &mut PolicyText, one: &PolicyText) -> Result<(), AllocError>
     Ok(())
 }
 
-/// Returns what is printed of the rules of the policy. The build selects the packages `selected`, and `here` is its plan. If `widest` is
-/// given, the rules are judged for every choice.
+/// Returns the joined texts about the rules of the policy, and whether one is broken. The build selects the packages `selected`, and `here` is
+/// its plan. If `widest` is given, the rules are judged for every choice.
 pub(crate) fn printed_rules(
     alloc: Global,
     asked: PolicyQuestion<'_, '_, '_, '_>,

@@ -25,7 +25,7 @@ fn kind_word(kind: Kind) -> &'static str
     }
 }
 
-/// Writes the kind of a declaration.
+/// Writes `kind`, the kind of a declaration.
 fn write_kind(writer: &mut Writer, kind: Kind) -> Result<(), AllocError>
     ensures { OnOk result (Appends writer.old writer.new (text_member (codes "kind") (spec.kind_word kind))) }
 {
@@ -42,7 +42,7 @@ fn write_declared(writer: &mut Writer, shown: &Shown<'_, '_>) -> Result<(), Allo
     write_optional(writer, "platform", shown.declaration.platform)
 }
 
-/// Writes the word for what is taken out of a declaration, and the feature, if it is one.
+/// Writes `word`, which says what an edit takes out, and `feature`, if there is one.
 fn write_out(writer: &mut Writer, word: &str, feature: Option<&str>) -> Result<(), AllocError>
     ensures { OnOk result (Appends writer.old writer.new (spec.out_members word.now (option_map (λ t. t.now) feature.entry))) }
 {
@@ -50,7 +50,7 @@ fn write_out(writer: &mut Writer, word: &str, feature: Option<&str>) -> Result<(
     write_optional(writer, "feature", feature)
 }
 
-/// Writes what is taken out of a declaration.
+/// Writes `without`.
 fn write_without(writer: &mut Writer, without: Without<'_>) -> Result<(), AllocError>
     ensures { OnOk result (Appends writer.old writer.new (spec.without_members (without_text without.entry))) }
 {
@@ -60,7 +60,7 @@ fn write_without(writer: &mut Writer, without: Without<'_>) -> Result<(), AllocE
     }
 }
 
-/// Writes the numbers of packages and features.
+/// Writes the numbers `packages` and `features`.
 fn write_numbers(writer: &mut Writer, packages: usize, features: usize) -> Result<(), AllocError>
     ensures { OnOk result (Appends writer.old writer.new (spec.number_members packages features)) }
 {
@@ -97,8 +97,9 @@ fn objects_of(alloc: Global, shown: &[Shown<'_, '_>]) -> Result<Vec<u8>, AllocEr
     Ok(text)
 }
 
-/// Returns a line for each of `slims`: a JSON object with the package, the declaration, what is taken out of it, and the numbers of packages
-/// and features that fall away. `packages` are those of the workspace; edits of declarations that they don't have are left out.
+/// Returns a line for each of `slims`: a JSON object with the package, the declaration, the default features or the feature that the edit
+/// takes out, and the numbers of packages and features that fall away. `packages` are those of the workspace; edits of declarations that they
+/// don't have are left out.
 pub fn slim_objects<'u>(
     alloc: Global,
     packages: &'u [Package<'_>],

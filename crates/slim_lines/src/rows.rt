@@ -58,7 +58,7 @@ fn kind_words(kind: Kind) -> &'static str
     }
 }
 
-/// Appends the words for the platform spec of a declaration, if it has one.
+/// Appends the words for `platform`, the platform spec of a declaration, if it has one.
 fn push_platform(text: &mut String, platform: Option<&str>) -> Result<(), AllocError>
     ensures { OnOk result (string_bytes text.new ≡ string_bytes text.old ++ spec.platform_words (option_map (λ t. t.now) platform.entry)) }
 {
@@ -88,7 +88,7 @@ fn push_feature(text: &mut String, name: &str) -> Result<(), AllocError>
     push_quoted(text, name)
 }
 
-/// Appends what is taken out of a declaration.
+/// Appends the words for `without`.
 fn push_without(text: &mut String, without: Without<'_>) -> Result<(), AllocError>
     ensures { OnOk result (string_bytes text.new ≡ string_bytes text.old ++ spec.without_words (without_text without.entry)) }
 {

@@ -1,4 +1,4 @@
-//! What a line shows.
+//! Edits with the package and the declaration that a line shows.
 ghost use Rattle.std.specs.Prelude.{◌≡◌, ◌++◌, ◌∷◌, [], IfOk, OnOk, map, flat_map, option_map, slice_get};
 ghost use Rattle.cargo_workspaces.specs.Views.{declaration_text, package_text};
 ghost use Rattle.plan_slims.specs.SlimViews.{slim_text};
@@ -9,7 +9,7 @@ use cargo_workspaces::{Declaration, Package};
 use plan_slims::{Slim, Without};
 use std::alloc::{AllocError, Global};
 
-/// A line about an edit.
+/// An edit with the package and the declaration that its line shows.
 #[derive(Clone, Copy)]
 pub(crate) struct Shown<'u, 'v> {
     /// The package whose declaration is edited.
@@ -36,7 +36,7 @@ fn declaration_at<'u, 'v>(package: &'u Package<'v>, number: usize) -> Option<&'u
     package.declarations.get(number)
 }
 
-/// Appends what is shown of `slim`, which edits a declaration of `package`.
+/// Appends `slim` with its declaration, which is one of `package`. Appends nothing if `package` has no such declaration.
 fn push_declared<'u, 'v>(
     shown: &mut Vec<Shown<'u, 'v>>,
     package: &'u Package<'v>,
@@ -56,7 +56,7 @@ fn push_declared<'u, 'v>(
     Ok(())
 }
 
-/// Appends what is shown of `slim`.
+/// Appends `slim` with its package and its declaration. Appends nothing if `packages` have no such declaration.
 fn push_shown<'u, 'v>(
     shown: &mut Vec<Shown<'u, 'v>>,
     packages: &'u [Package<'v>],
@@ -70,7 +70,7 @@ fn push_shown<'u, 'v>(
     }
 }
 
-/// Returns what is shown of each of `slims`.
+/// Returns `slims` with their packages and declarations, without those whose declaration `packages` don't have.
 pub(crate) fn all_shown<'u, 'v>(
     alloc: Global,
     packages: &'u [Package<'v>],

@@ -31,7 +31,7 @@ pub(crate) struct Base<'b, 'v, 'w, 'n, 's, 'p> {
     pub(crate) every: &'n HeldSpecs<'s>,
 }
 
-/// Returns what is said of `widening` of the build `base` about each of `parts`. A widening that adds nothing has the plan of the build.
+/// Returns the sections about `widening` of the build `base` and each of `parts`. A widening that adds nothing has the plan of the build.
 pub(crate) fn sections_by(
     alloc: Global,
     form: Format,

@@ -57,7 +57,7 @@ fn write_explained(
     writer.end_array()
 }
 
-/// Writes the answer that there is no plan, with the message why.
+/// Writes the answer that there is no plan; `message` says why.
 fn write_refused(writer: &mut Writer, message: &str) -> Result<(), AllocError>
     ensures { OnOk result (Appends writer.old writer.new (spec.refused_tokens message.now)) }
 {
@@ -66,7 +66,7 @@ fn write_refused(writer: &mut Writer, message: &str) -> Result<(), AllocError>
     write_member(writer, "message", message)
 }
 
-/// Writes `answer`, which is one by `words`.
+/// Writes `answer`, which is about the plan of `words`.
 fn write_answer(
     alloc: Global,
     writer: &mut Writer,
@@ -83,7 +83,7 @@ fn write_answer(
     }
 }
 
-/// Returns the line about `part` and `widening`, where its words `words` have this answer.
+/// Returns the line about `widening` and `part`, for which its words `words` have the answer `answer`.
 pub(crate) fn object_of(
     alloc: Global,
     workspace: &Workspace<'_>,

@@ -1,4 +1,4 @@
-//! What an answer is about.
+//! Parts that are off, and their titles.
 ghost use Rattle.std.specs.Prelude.{◌≡◌, IfOk, string_bytes};
 ghost use Rattle.cargo_workspaces.specs.WorkspaceView.{workspace_text};
 ghost use Rattle.plan_whys.specs.StepViews.{spot_text};
@@ -31,7 +31,7 @@ pub(crate) fn spot_on(side: Side, part: OffPart<'_>) -> Spot<'_>
     }
 }
 
-/// Returns how `part` is called.
+/// Returns the title of `part`.
 pub(crate) fn title_of(
     alloc: Global,
     workspace: &Workspace<'_>,

@@ -1,4 +1,4 @@
-//! What is said of a widening about one part.
+//! Sections: each is the text about one widening and one part.
 ghost use Rattle.std.specs.Prelude.{◌≡◌, IfOk, map};
 ghost use Rattle.cargo_plans.specs.WordsView.{words_text};
 ghost use Rattle.cargo_workspaces.specs.WorkspaceView.{workspace_text};
@@ -26,7 +26,7 @@ use std::alloc::{AllocError, Global};
 use why_lines::why_lines;
 use widening_lines::{Said, push_widening};
 
-/// Returns the lines about `widening`.
+/// Returns the lines about `widening`, which say `said`.
 fn lines_by(alloc: Global, widening: Widening, said: Said<'_>) -> Result<Vec<u8>, AllocError>
     ensures { IfOk result (λ text. text.items ≡ widening_lines widening (said_text said.entry)) }
 {
@@ -35,7 +35,7 @@ fn lines_by(alloc: Global, widening: Widening, said: Said<'_>) -> Result<Vec<u8>
     Ok(text)
 }
 
-/// Returns the lines about `widening`, where a part is on by `steps`.
+/// Returns the lines about `widening` and a part that is on by `steps`.
 fn explained_lines(
     alloc: Global,
     workspace: &Workspace<'_>,
@@ -49,7 +49,7 @@ fn explained_lines(
     lines_by(alloc, widening, Said::On(lines.as_str()))
 }
 
-/// Returns the lines about `widening`, where its words `words` have this answer.
+/// Returns the lines about `widening` and a part for which its words `words` have the answer `answer`.
 fn lines_of_answer(
     alloc: Global,
     workspace: &Workspace<'_>,
@@ -66,7 +66,7 @@ fn lines_of_answer(
     }
 }
 
-/// Returns what is said of `widening` about `part`, where its words `words` have this answer.
+/// Returns the section about `widening` and `part`, for which its words `words` have the answer `answer`.
 pub(crate) fn section_of(
     alloc: Global,
     form: Format,

@@ -67,7 +67,7 @@ fn heads_of(
     Ok(heads)
 }
 
-/// Returns `texts`, each with what is said of `widening` of the build `base` about the part of `parts` in its place.
+/// Returns `texts`, each followed by the section about `widening` of the build `base` and the part at the same place in `parts`.
 fn with_sections(
     alloc: Global,
     form: Format,

@@ -1,4 +1,4 @@
-//! What is said of one widening about several parts.
+//! The sections about one widening and several parts.
 ghost use Rattle.std.specs.Prelude.{◌≡◌, IfOk, map};
 ghost use Rattle.std.specs.List.{AllZip};
 ghost use Rattle.cargo_plans.specs.Plans.{IsPlanOf};
@@ -28,7 +28,7 @@ use plan_whys::{WhyStep, why_each};
 use plan_widenings::Widening;
 use std::alloc::{AllocError, Global};
 
-/// Returns what is said of `widening` about each of `parts`, by the steps `founds` that were found for it.
+/// Returns the sections about `widening` and each of `parts`. The steps that explain a part are at its place in `founds`.
 fn found_sections(
     alloc: Global,
     form: Format,
@@ -48,7 +48,7 @@ fn found_sections(
     Ok(sections)
 }
 
-/// Returns what is said of `widening` about each of `parts`, where the answer of its words `words` is the same about each.
+/// Returns the sections about `widening`, whose words are `words`, and each of `parts`. Each part has the answer `answer`.
 fn same_sections(
     alloc: Global,
     form: Format,
@@ -67,7 +67,7 @@ fn same_sections(
     Ok(sections)
 }
 
-/// Returns what is said of `widening` about each of `parts`, where `plan` is the plan of its words `words`, by a walk of the plan.
+/// Returns the sections about `widening` and each of `parts`, by a walk of `plan`, the plan of the words `words` of `widening`.
 fn explained_sections(
     alloc: Global,
     form: Format,
@@ -85,8 +85,8 @@ fn explained_sections(
     found_sections(alloc, form, workspace, words, widening, parts, &founds)
 }
 
-/// Returns what is said of `widening` about each of `parts`, where `plan` is the plan of its words `words`. The plan is walked only if one
-/// of the parts is on.
+/// Returns the sections about `widening` and each of `parts`, by `plan`, the plan of the words `words` of `widening`. The plan is walked only
+/// if one of the parts is on.
 pub(crate) fn planned_sections(
     alloc: Global,
     form: Format,
@@ -107,7 +107,7 @@ pub(crate) fn planned_sections(
     }
 }
 
-/// Returns what is said of `widening` about each of `parts`, where its words `words` have no plan, for the reason `fault`.
+/// Returns the sections about `widening`, whose words `words` have no plan, and each of `parts`. `fault` is the reason.
 fn unplanned_sections<'p>(
     alloc: Global,
     form: Format,
@@ -124,7 +124,7 @@ fn unplanned_sections<'p>(
     same_sections(alloc, form, workspace, words, widening, parts, answer)
 }
 
-/// Returns what is said of `widening`, whose words are `words`, about each of `parts`. It makes one plan.
+/// Returns the sections about `widening`, whose words are `words`, and each of `parts`. It makes one plan.
 pub(crate) fn widened_sections(
     alloc: Global,
     form: Format,

@@ -1,1 +1,2 @@
 pub mod EditLemmas
+pub mod Once

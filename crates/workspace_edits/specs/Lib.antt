@@ -1,2 +1,3 @@
 pub mod EditViews
 pub mod Edits
+pub mod inner

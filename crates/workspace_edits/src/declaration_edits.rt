@@ -1,33 +1,27 @@
 //! The edits of declarations.
 ghost use Rattle.std.specs.Prelude.{◌≡◌, ◌++◌, ◌∷◌, [], IfOk, OnOk, if◌then◌else◌, map, option_map, slice_get};
-ghost use Rattle.std.specs.List.{list_any};
-ghost use Rattle.std.specs.Str.{bytes_eq};
 ghost use Rattle.cargo_workspaces.specs.Views.{declaration_text, package_text, texts};
 ghost use Rattle.cargo_workspaces.specs.WorkspaceView.{workspace_text};
 ghost use Rattle.workspace_edits.specs.EditViews.{edit_text, without_text};
 ghost use Rattle.workspace_edits.specs.Edits as spec;
+ghost use Rattle.workspace_edits.specs.inner.Seen.{HasTexts};
 
 use crate::edits::{Edit, Without};
 use cargo_workspaces::{Declaration, Package, Workspace};
 use std::alloc::{AllocError, Global};
+use std::collections::BTreeSet;
 
-/// Returns whether `text` is one of `listed`.
-fn is_listed(listed: &[&str], text: &str) -> bool
-    ensures { result ≡ list_any (bytes_eq text.now) (texts listed.now) }
+/// Appends `text` to `listed`, unless `seen`, which has the texts of `listed`, has it.
+fn push_once<'v>(
+    seen: &mut BTreeSet<&'v str>,
+    listed: &mut Vec<&'v str>,
+    text: &'v str,
+) -> Result<(), AllocError>
+    requires { HasTexts seen.now (texts listed.now.items) }
+    ensures seen { OnOk result (HasTexts seen.new (texts listed.new.items)) }
+    ensures listed { OnOk result (texts listed.new.items ≡ spec.with_text (texts listed.old.items) text.now) }
 {
-    for one in listed {
-        if text == *one {
-            return true;
-        }
-    }
-    false
-}
-
-/// Appends `text`, unless `listed` has it.
-fn push_once<'v>(listed: &mut Vec<&'v str>, text: &'v str) -> Result<(), AllocError>
-    ensures { OnOk result (texts listed.new.items ≡ spec.with_text (texts listed.old.items) text.now) }
-{
-    if !is_listed(listed, text) {
+    if seen.insert(text)? {
         listed.push(text)?;
     }
     Ok(())
@@ -37,9 +31,10 @@ fn push_once<'v>(listed: &mut Vec<&'v str>, text: &'v str) -> Result<(), AllocEr
 fn once<'v>(alloc: Global, features: &[&'v str]) -> Result<Vec<&'v str>, AllocError>
     ensures { IfOk result (λ listed. texts listed.items ≡ spec.once (texts features.now)) }
 {
+    let mut seen = BTreeSet::new(alloc);
     let mut listed = Vec::new(alloc);
     for feature in features {
-        push_once(&mut listed, feature)?;
+        push_once(&mut seen, &mut listed, feature)?;
     }
     Ok(listed)
 }
