@@ -36,13 +36,13 @@ use Rattle.feature_core.proofs.OfferLemmas.{says, says_same, way_edge}
 use Rattle.feature_core.proofs.Reaches.{reach_in}
 use Rattle.feature_core.proofs.SoundEnds.{pairs_sound}
 use Rattle.walk_checks.proofs.Steps.{reason_node}
-use Rattle.feature_sets.specs.Explained.{AreTold}
-use Rattle.feature_sets.specs.LinkValues.{facts_of}
-use Rattle.feature_sets.specs.Names.{AreKnown, HasFeature, HasPackage, HoldsExactly, IsAmong, IsFirstUnknown, at_places, names_of_nodes}
-use Rattle.feature_sets.specs.Tied.{cycle_names}
-use Rattle.feature_sets.specs.Told.{ReasonName, edge, ends_told, initial, link, reason_told, step_told}
-use Rattle.feature_sets.specs.Values.{Graph}
-use Rattle.feature_sets.specs.Visits.{offered}
+use Rattle.feature_graph.specs.Explained.{AreTold}
+use Rattle.feature_graph.specs.LinkValues.{facts_of}
+use Rattle.feature_graph.specs.Names.{AreKnown, HasFeature, HasPackage, HoldsExactly, IsAmong, IsFirstUnknown, at_places, names_of_nodes}
+use Rattle.feature_graph.specs.Tied.{cycle_names}
+use Rattle.feature_graph.specs.Told.{ReasonName, edge, ends_told, initial, link, reason_told, step_told}
+use Rattle.feature_graph.specs.Values.{Graph}
+use Rattle.feature_graph.specs.Visits.{offered}
 use Rattle.guppy_features.specs.Platforms.{is_for_platform, platform_offers}
 use Rattle.guppy_tool.specs.Answers.{Builds, IsOutput, ListsFeatures, ListsInOrder, NamesUnknown, Resolves, Visits, groups, listing, read_by, step_lines, warning_lines}
 use Rattle.guppy_tool.specs.Faults.{Refusal, unknown_feature, unknown_package}

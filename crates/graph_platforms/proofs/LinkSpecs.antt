@@ -23,7 +23,7 @@ use Rattle.feature_core.specs.Candidates.{Edge, feature_to_base, named_feature, 
 use Rattle.feature_core.specs.Edges.{facts_of, weak_facts}
 use Rattle.feature_core.proofs.AddsLemmas.{Contains-first, Contains-later, Contains-cases, Contains-none, element_at_place}
 use Rattle.feature_core.proofs.PushLemmas.{from_filter, from_map}
-use Rattle.feature_sets.specs.LinkValues.{status_for}
+use Rattle.feature_graph.specs.LinkValues.{status_for}
 use Rattle.graph_platforms.specs.DeclaredSpecs.{link_specs, declared_specs}
 use Rattle.graph_platforms.proofs.Members.{text_any, from_firsts, from_some, from_flat_map, into_flat_map, into_filter_map}
 

@@ -13,10 +13,10 @@ use Rattle.walk_engine.specs.Walks.{Least}
 use Rattle.feature_links.specs.Facts.{EdgeFacts, link_at}
 use Rattle.feature_links.specs.Links.{LinkFacts}
 use Rattle.feature_core.specs.Built.{IsBuilt}
-use Rattle.feature_sets.specs.LinkValues.{Link, edge_of, facts_of, status_for}
-use Rattle.feature_sets.specs.Told.{Explanation}
-use Rattle.feature_sets.specs.Values.{Graph, Query}
-use Rattle.feature_sets.specs.Visits.{offered, query_content}
+use Rattle.feature_graph.specs.LinkValues.{Link, edge_of, facts_of, status_for}
+use Rattle.feature_graph.specs.Told.{Explanation}
+use Rattle.feature_graph.specs.Values.{Graph, Query}
+use Rattle.feature_graph.specs.Visits.{offered, query_content}
 use Rattle.guppy_features.specs.Platforms.{holds_where, is_for_platform, is_platform_link, platform_offers}
 use Rattle.platform_specs.specs.Expressions.{Target}
 use Rattle.graph_platforms.specs.DeclaredSpecs.{declared_specs, spec_texts}

@@ -8,10 +8,10 @@ use Rattle.walk_engine.specs.declared.walks.Half.{Half}
 use Rattle.walk_engine.specs.Explanations.{IsExplanation}
 use Rattle.walk_engine.specs.Walks.{Least}
 use Rattle.feature_links.specs.Links.{LinkFacts}
-use Rattle.feature_sets.specs.LinkValues.{Link, facts_of, status_for}
-use Rattle.feature_sets.specs.Told.{Explanation}
-use Rattle.feature_sets.specs.Values.{Graph, Query}
-use Rattle.feature_sets.specs.Visits.{offered, query_content}
+use Rattle.feature_graph.specs.LinkValues.{Link, facts_of, status_for}
+use Rattle.feature_graph.specs.Told.{Explanation}
+use Rattle.feature_graph.specs.Values.{Graph, Query}
+use Rattle.feature_graph.specs.Visits.{offered, query_content}
 use Rattle.platform_specs.specs.Expressions.{Target}
 use Rattle.graph_platforms.specs.HeldSpecs.{Holds}
 

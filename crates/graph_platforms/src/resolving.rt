@@ -4,7 +4,7 @@ ghost use Rattle.guppy_support.specs.Bits.{has};
 ghost use Rattle.walk_engine.specs.Explanations.{nodes_of};
 ghost use Rattle.walk_engine.specs.Walks.{is_in};
 ghost use Rattle.walk_checks.specs.Exact.{IsExact};
-ghost use Rattle.feature_sets.specs.Visits.{query_content};
+ghost use Rattle.feature_graph.specs.Visits.{query_content};
 ghost use Rattle.graph_platforms.specs.DeclaredSpecs.{spec_texts};
 ghost use Rattle.graph_platforms.specs.PlatformLinks.{IsOnFor};
 ghost use Rattle.graph_platforms.specs.SpecFaults.{IsFaultOf};

@@ -6,11 +6,11 @@ use Rattle.guppy_packages.specs.Platform.{Status}
 use Rattle.guppy_packages.specs.Rows.{Text}
 use Rattle.guppy_packages.specs.declared.row.DependencyKind.{DependencyKind}
 use Rattle.feature_links.specs.Links.{LinkFacts}
-use Rattle.feature_sets.specs.LinkValues.{Link, facts_of, status_for}
+use Rattle.feature_graph.specs.LinkValues.{Link, facts_of, status_for}
 use Rattle.walk_engine.specs.Laws.{AnswersBy}
 use Rattle.walk_engine.specs.Walks.{Call, GoesAlong}
-use Rattle.feature_sets.specs.Values.{Query}
-use Rattle.feature_sets.specs.Visits.{offered, shown}
+use Rattle.feature_graph.specs.Values.{Query}
+use Rattle.feature_graph.specs.Visits.{offered, shown}
 use Rattle.guppy_features.specs.Platforms.{holds_where, is_for_platform, is_platform_link}
 use Rattle.std.proofs.lemmas.Option.{none-some, same_Some}
 

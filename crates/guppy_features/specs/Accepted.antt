@@ -3,7 +3,7 @@ use Rattle.std.specs.Prelude.{◌↔◌, ◌⊎◌, Bool, List, IsTrue, Contains
 use Rattle.guppy_packages.specs.Rows.{Text}
 use Rattle.feature_labels.specs.Names.{LabelName}
 use Rattle.feature_labels.specs.Names.LabelName.{base, named, optional}
-use Rattle.feature_sets.specs.Values.{Graph}
+use Rattle.feature_graph.specs.Values.{Graph}
 
 -- the base was called once, and the result is true if the base returned true or the feature is listed
 abbrev pub AddsToBase : {S : Type 0} → (S → Graph → Text × LabelName → Bool → S → Type 0) → S → Graph → Text × LabelName → Bool → S → Type 0 → Type 0

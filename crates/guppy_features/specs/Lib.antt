@@ -12,4 +12,4 @@ pub use Rattle.guppy_packages.specs as guppy_packages
 pub use Rattle.feature_labels.specs as feature_labels
 pub use Rattle.feature_links.specs as feature_links
 pub use Rattle.feature_core.specs as feature_core
-pub use Rattle.feature_sets.specs as feature_sets
+pub use Rattle.feature_graph.specs as feature_graph

@@ -8,9 +8,9 @@ use Rattle.guppy_packages.specs.Rows.{Text}
 use Rattle.guppy_packages.specs.declared.row.DependencyKind.{DependencyKind}
 use Rattle.walk_engine.specs.declared.walks.Half.{Half}
 use Rattle.feature_links.specs.Links.{LinkFacts}
-use Rattle.feature_sets.specs.LinkValues.{Link, facts_of, status_for}
-use Rattle.feature_sets.specs.Values.{Graph}
-use Rattle.feature_sets.specs.Visits.{offered}
+use Rattle.feature_graph.specs.LinkValues.{Link, facts_of, status_for}
+use Rattle.feature_graph.specs.Values.{Graph}
+use Rattle.feature_graph.specs.Visits.{offered}
 
 -- whether a status is always, or contains one of the specs
 abbrev pub holds_where : List Text → Status → Bool

@@ -7,8 +7,7 @@ mod listed_filters;
 mod platform_visitor;
 
 pub use digraph_orders::Order;
-pub use feature_labels::feature_list::{IntoIter, Iter, NamedFeatures, OptionalDeps};
-pub use feature_sets::{
+pub use feature_graph::{
     AllCycles, ConditionalLink, ConditionalLinkImpl, ConditionalLinks, Cycles, Declaration,
     DependencyDirection, DependencyKind, DisplayFeatures, EdgeChoice, EnabledLink, Error,
     Explained, FeatureEdge, FeatureFilter, FeatureFilterFn, FeatureFilterObject, FeatureGraph,
@@ -20,6 +19,7 @@ pub use feature_sets::{
     PlatformStatusImpl, Reason, RootFeatures, RootIds, Row, RowError, RowFault, SlashForm, Spec,
     StandardFeatures, UnknownPackageId, WeakIndex, WeakSlashImpl, feature_list, laws,
 };
+pub use feature_labels::feature_list::{IntoIter, Iter, NamedFeatures, OptionalDeps};
 pub use guppy_packages::{Packages, RowSource};
 pub use guppy_support::{Digraph, DigraphError, Edge, EdgeColumns, IxBitSet, Ones};
 pub use listed_filters::{

@@ -6,8 +6,8 @@ ghost use Rattle.feature_labels.specs.Names.{id_of, label_of};
 ghost use Rattle.guppy_features.specs.Accepted.{AddsToBase, ListsLabel, SameElements};
 ghost use Rattle.guppy_features.specs.ListedFilters.{base_of_ids, base_of_names, listed_ids, listed_names};
 
+use feature_graph::{Error, FeatureFilter, FeatureGraph};
 use feature_labels::{FeatureId, FeatureLabel};
-use feature_sets::{Error, FeatureFilter, FeatureGraph};
 use std::alloc::{AllocError, Global};
 use std::collections::HashSet;
 use std::fmt;

@@ -7,14 +7,14 @@ ghost use Rattle.guppy_packages.specs.Platform.{spec_text, status_of};
 ghost use Rattle.walk_engine.specs.Explanations.{IsExplainedWalk, IsExplanation, nodes_of};
 ghost use Rattle.walk_engine.specs.Walks.{Least, is_in};
 ghost use Rattle.walk_checks.specs.Exact.{IsExact};
-ghost use Rattle.feature_sets.specs.Explained.{PassesChecks};
-ghost use Rattle.feature_sets.specs.LinkViews.{link_of};
+ghost use Rattle.feature_graph.specs.Explained.{PassesChecks};
+ghost use Rattle.feature_graph.specs.LinkViews.{link_of};
 ghost use Rattle.guppy_features.specs.Platforms.{holds_where, is_platform_link, platform_offers};
 ghost use Rattle.guppy_features.specs.PlatformViews.{kinds_of, specs_of};
-ghost use Rattle.feature_sets.specs.Visits.{answered, query_content};
+ghost use Rattle.feature_graph.specs.Visits.{answered, query_content};
 
-use feature_sets::laws::{resolved_is_exact, resolved_passes_checks, visitor_agrees_by_answer};
-use feature_sets::{
+use feature_graph::laws::{resolved_is_exact, resolved_passes_checks, visitor_agrees_by_answer};
+use feature_graph::{
     ConditionalLink, Error, Explained, FeatureLinkContext, FeatureLinkVisitor, FeatureQuery,
 };
 use guppy_packages::{DependencyKind, PlatformStatus, Spec};

@@ -10,7 +10,7 @@ use Rattle.feature_core.specs.Errors as graph
 use Rattle.std.specs.Prelude.{Contains, flat_map, slice_get}
 use Rattle.feature_labels.specs.Lists.{ListValue, SameLabels, joined}
 use Rattle.feature_core.specs.Nodes.{labels_of}
-use Rattle.feature_sets.specs.Names.{RefusesNames, RefusesPackage, ListsPackage}
+use Rattle.feature_graph.specs.Names.{RefusesNames, RefusesPackage, ListsPackage}
 use Rattle.guppy_tool.proofs.LabelLists.{place_of_element}
 use Rattle.guppy_tool.specs.Faults.{Refusal, IfNotMemory, unknown_feature, unknown_package, out_of_memory}
 use Rattle.guppy_tool.specs.Answers.{NamesUnknown, NamesNoPackage, ListsFeatures, IsToldAs, IsPackageToldAs, MayRefuseIds, MayRefusePackage}

@@ -18,8 +18,8 @@ use Rattle.feature_labels.specs.Lists.{joined}
 use Rattle.walk_engine.specs.declared.walks.Half.{Half}
 use Rattle.walk_engine.specs.Walks.{Content, Least}
 use Rattle.walk_engine.specs.Laws.{every}
-use Rattle.feature_sets.specs.Names.{AreKnown, IsFirstUnknown, HoldsExactly, at_places, names_of_nodes}
-use Rattle.feature_sets.specs.Tied.{cycle_names}
+use Rattle.feature_graph.specs.Names.{AreKnown, IsFirstUnknown, HoldsExactly, at_places, names_of_nodes}
+use Rattle.feature_graph.specs.Tied.{cycle_names}
 use Rattle.guppy_tool.specs.Faults.{Refusal, unknown_feature}
 use Rattle.guppy_tool.specs.RowFileRefusals.{tables_in}
 use Rattle.guppy_tool.specs.Words.{CommandText, resolve, visit, ordered, all_cycles, list_of, all_warnings, build}

@@ -28,12 +28,12 @@ use Rattle.feature_links.specs.Links.{LinkFacts}
 use Rattle.feature_core.specs.Nodes.{nodes}
 use Rattle.feature_core.specs.Offers.{content_of}
 use Rattle.feature_core.specs.Ways.{way}
-use Rattle.feature_sets.specs.Explained.{AreTold}
-use Rattle.feature_sets.specs.LinkValues as links
+use Rattle.feature_graph.specs.Explained.{AreTold}
+use Rattle.feature_graph.specs.LinkValues as links
 use Rattle.guppy_features.specs.Platforms.{platform_offers, is_for_platform}
-use Rattle.feature_sets.specs.Told.{ReasonName, edge, link, ends_told, offer_told, reason_told, step_told}
-use Rattle.feature_sets.specs.Values.{Graph, Query}
-use Rattle.feature_sets.specs.Visits.{offered, query_content}
+use Rattle.feature_graph.specs.Told.{ReasonName, edge, link, ends_told, offer_told, reason_told, step_told}
+use Rattle.feature_graph.specs.Values.{Graph, Query}
+use Rattle.feature_graph.specs.Visits.{offered, query_content}
 use Rattle.guppy_tool.specs.Answers.{TellsPlatform}
 use Rattle.guppy_tool.proofs.OneDigraph.{map_alike}
 

@@ -16,9 +16,9 @@ use Rattle.feature_core.specs.Nodes.{nodes}
 use Rattle.feature_core.specs.Offers.{content_of}
 use Rattle.feature_core.proofs.AddsLemmas.{Contains-first, Contains-later, Contains-cases, Contains-none}
 use Rattle.feature_core.proofs.Answered.{or_cases}
-use Rattle.feature_sets.specs.Explained.{AreTold}
-use Rattle.feature_sets.specs.Told.{ReasonName, reason_told, step_told}
-use Rattle.feature_sets.specs.Values.{Graph}
+use Rattle.feature_graph.specs.Explained.{AreTold}
+use Rattle.feature_graph.specs.Told.{ReasonName, reason_told, step_told}
+use Rattle.feature_graph.specs.Values.{Graph}
 use Rattle.guppy_features.specs.Platforms.{platform_offers}
 use Rattle.guppy_tool.specs.Answers.{Builds}
 use Rattle.guppy_tool.specs.Laws.{OneBuildSet, named_in}

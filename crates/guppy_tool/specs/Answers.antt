@@ -13,12 +13,12 @@ use Rattle.feature_core.specs.Nodes.{nodes, labels_of}
 use Rattle.feature_core.specs.Errors as graph
 use Rattle.guppy_support.specs.Bits.{has}
 use Rattle.digraph_orders.specs.Sequences.{Sequence, IsOrderOf}
-use Rattle.feature_sets.specs.Names.{AreKnown, HasPackage, IsFirstUnknown, HoldsExactly, at_places, names_of_nodes}
-use Rattle.feature_sets.specs.Explained.{AreTold}
+use Rattle.feature_graph.specs.Names.{AreKnown, HasPackage, IsFirstUnknown, HoldsExactly, at_places, names_of_nodes}
+use Rattle.feature_graph.specs.Explained.{AreTold}
 use Rattle.guppy_features.specs.Platforms.{platform_offers}
-use Rattle.feature_sets.specs.Tied.{cycle_names}
-use Rattle.feature_sets.specs.Told.{ReasonName, initial, edge, link}
-use Rattle.feature_sets.specs.Values.{Graph}
+use Rattle.feature_graph.specs.Tied.{cycle_names}
+use Rattle.feature_graph.specs.Told.{ReasonName, initial, edge, link}
+use Rattle.feature_graph.specs.Values.{Graph}
 use Rattle.feature_core.specs.Pairs.{Reach}
 use Rattle.feature_core.specs.Built.{Built, IsBuilt, digraph_of}
 use Rattle.feature_core.specs.Offers.{content_of}

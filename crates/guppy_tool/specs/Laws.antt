@@ -4,7 +4,7 @@ use Rattle.guppy_packages.specs.Rows.{Text}
 use Rattle.guppy_packages.specs.Tables.{Tables}
 use Rattle.guppy_packages.specs.declared.row.DependencyKind.{DependencyKind}
 use Rattle.feature_labels.specs.Names.{LabelName}
-use Rattle.feature_sets.specs.Told.{ReasonName}
+use Rattle.feature_graph.specs.Told.{ReasonName}
 use Rattle.guppy_tool.specs.Answers.{Builds}
 use Rattle.guppy_tool.specs.Faults.{Refusal}
 use Rattle.guppy_tool.specs.Words.{CommandText, build}

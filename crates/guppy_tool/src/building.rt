@@ -2,7 +2,7 @@
 ghost use Rattle.std.specs.Prelude.{◌≡◌, ◌++◌, IfOk, OnOk, map};
 ghost use Rattle.std.specs.String.{string_bytes};
 ghost use Rattle.guppy_packages.specs.Rows.{texts};
-ghost use Rattle.feature_sets.specs.Told.{step_name};
+ghost use Rattle.feature_graph.specs.Told.{step_name};
 ghost use Rattle.feature_core.specs.Built.{IsBuilt};
 ghost use Rattle.guppy_tool.specs.Words.{given_of};
 ghost use Rattle.guppy_tool.specs.Words.CommandText.{build};

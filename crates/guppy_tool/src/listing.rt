@@ -2,7 +2,7 @@
 ghost use Rattle.std.specs.Prelude.{◌≡◌, ◌++◌, ◌∷◌, [], IfOk, OnOk};
 ghost use Rattle.std.specs.String.{string_bytes};
 ghost use Rattle.feature_labels.specs.Names.{id_of, id_text};
-ghost use Rattle.feature_sets.specs.Names.{names_of_members};
+ghost use Rattle.feature_graph.specs.Names.{names_of_members};
 ghost use Rattle.guppy_tool.specs.Answers.{listing};
 
 use guppy_features::{FeatureId, FeatureSet};

@@ -3,9 +3,9 @@ ghost use Rattle.std.specs.Prelude.{◌≡◌, ◌++◌, IfOk, OnOk, map, replic
 ghost use Rattle.std.specs.String.{string_bytes};
 ghost use Rattle.feature_core.specs.Built.{Built, IsBuilt, digraph_of};
 ghost use Rattle.feature_labels.specs.Names.{id_of};
-ghost use Rattle.feature_sets.specs.Ordered.{AtOrder, ordered_names};
-ghost use Rattle.feature_sets.specs.Tied.{cycle_names};
-ghost use Rattle.feature_sets.specs.Views.{graph_of};
+ghost use Rattle.feature_graph.specs.Ordered.{AtOrder, ordered_names};
+ghost use Rattle.feature_graph.specs.Tied.{cycle_names};
+ghost use Rattle.feature_graph.specs.Views.{graph_of};
 ghost use Rattle.guppy_tool.specs.Answers.{IsOutput, before_group, groups, listing};
 ghost use Rattle.guppy_tool.specs.Run.{GivesAnswer};
 ghost use Rattle.guppy_tool.specs.Words.CommandText.{all_cycles, ordered as ordered_command};

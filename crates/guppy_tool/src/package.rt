@@ -4,7 +4,7 @@ ghost use Rattle.std.specs.String.{string_bytes};
 ghost use Rattle.feature_core.specs.Errors.{refusal_of as graph_refusal_of};
 ghost use Rattle.feature_core.specs.Warnings.{warning_of, warnings};
 ghost use Rattle.feature_labels.specs.Lists.{joined};
-ghost use Rattle.feature_sets.specs.Names.{ListsPackage, RefusesPackage};
+ghost use Rattle.feature_graph.specs.Names.{ListsPackage, RefusesPackage};
 ghost use Rattle.feature_core.specs.Built.{IsBuilt};
 ghost use Rattle.guppy_tool.specs.Answers.{IsOutput, IsPackageToldAs, warning_line, warning_lines, MayRefusePackage};
 ghost use Rattle.guppy_tool.specs.Faults.{refusal_of};

@@ -5,8 +5,8 @@ use Rattle.std.proofs.Math.Nat.{min-eq_left}
 use Rattle.std.proofs.lemmas.List.{length-map}
 use Rattle.guppy_features.specs.guppy_packages.Rows.{Text}
 use Rattle.guppy_features.specs.feature_labels.Names.{LabelName}
-use Rattle.guppy_features.specs.feature_sets.Filters.{Ran, Run, SelectsByFilter}
-use Rattle.guppy_features.specs.feature_sets.Values.{Graph}
+use Rattle.guppy_features.specs.feature_graph.Filters.{Ran, Run, SelectsByFilter}
+use Rattle.guppy_features.specs.feature_graph.Values.{Graph}
 use Rattle.uses.specs.Answers.{CountsOn, CountsWorkspace}
 
 -- one before the others

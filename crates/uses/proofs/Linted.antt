@@ -10,9 +10,9 @@ use Rattle.guppy_features.specs.feature_labels.Names.{LabelName, id_of}
 use Rattle.guppy_features.specs.feature_labels.declared.feature_id.FeatureId.{FeatureId}
 use Rattle.guppy_features.specs.walk_engine.declared.walks.Half.{Half}
 use Rattle.guppy_features.specs.walk_engine.Walks.{Least}
-use Rattle.guppy_features.specs.feature_sets.Told.{Explanation}
-use Rattle.guppy_features.specs.feature_sets.Values.{Query}
-use Rattle.guppy_features.specs.feature_sets.Visits.{query_content}
+use Rattle.guppy_features.specs.feature_graph.Told.{Explanation}
+use Rattle.guppy_features.specs.feature_graph.Values.{Query}
+use Rattle.guppy_features.specs.feature_graph.Visits.{query_content}
 use Rattle.uses.specs.Linted.{IsCleared, IsNamed}
 
 pub named_grows : (named : List (Text × LabelName)) (x name : Text × LabelName) → IsNamed named name → IsNamed (named ++ x ∷ []) name

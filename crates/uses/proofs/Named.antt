@@ -8,8 +8,8 @@ use Rattle.guppy_features.specs.guppy_packages.declared.direction.DependencyDire
 use Rattle.guppy_features.specs.feature_labels.Names.{LabelName}
 use Rattle.guppy_features.specs.feature_core.Built.{NodeNamed}
 use Rattle.guppy_features.specs.feature_core.Pairs.{Along, LeadsTo, Reach}
-use Rattle.guppy_features.specs.feature_sets.Names.{HoldsExactly}
-use Rattle.guppy_features.specs.feature_sets.Values.{Query}
+use Rattle.guppy_features.specs.feature_graph.Names.{HoldsExactly}
+use Rattle.guppy_features.specs.feature_graph.Values.{Query}
 
 -- The only name of a list of one.
 only : (name other : Text × LabelName) (k : ℕ) → slice_get (name ∷ []) k ≡ Some other → other ≡ name

@@ -9,12 +9,12 @@ use Rattle.guppy_features.specs.feature_labels.Names.{LabelName}
 use Rattle.guppy_features.specs.feature_labels.Names.LabelName.{base, named, optional}
 use Rattle.guppy_features.specs.ListedFilters.{base_of_names, listed_names}
 use Rattle.guppy_features.specs.declared.listed_filters.NamedFeatureFilter.{NamedFeatureFilter}
-use Rattle.guppy_features.specs.feature_sets.declared.standard_features.StandardFeatures.{StandardFeatures}
-use Rattle.guppy_features.specs.feature_sets.declared.standard_features.StandardFeatures.TheVariants.{Default}
-use Rattle.guppy_features.specs.feature_sets.Filters.{Run, Ran, SelectsByFilter, StandardAccepts, accepted, workspace_names}
+use Rattle.guppy_features.specs.feature_graph.declared.query.standard.StandardFeatures.{StandardFeatures}
+use Rattle.guppy_features.specs.feature_graph.declared.query.standard.StandardFeatures.TheVariants.{Default}
+use Rattle.guppy_features.specs.feature_graph.Filters.{Run, Ran, SelectsByFilter, StandardAccepts, accepted, workspace_names}
 use Rattle.guppy_features.specs.Accepted.{AddsToBase, ListsLabel, SameElements}
-use Rattle.guppy_features.specs.feature_sets.Names.{TellsDefault}
-use Rattle.guppy_features.specs.feature_sets.Values.{Graph}
+use Rattle.guppy_features.specs.feature_graph.Names.{TellsDefault}
+use Rattle.guppy_features.specs.feature_graph.Values.{Graph}
 use Rattle.uses.specs.Answers.{IsSelected}
 
 -- The name is accepted exactly if it is on by default or listed.

@@ -6,9 +6,9 @@ use Rattle.std.specs.List.{list_any}
 use Rattle.guppy_features.specs.guppy_support.Bits.{has}
 use Rattle.guppy_features.specs.walk_engine.Laws.{AnswersBy}
 use Rattle.guppy_features.specs.walk_engine.Walks.{Agrees, Call, GoesAlong, IsComplete, IsLegal}
-use Rattle.guppy_features.specs.feature_sets.LinkValues.{Link}
-use Rattle.guppy_features.specs.feature_sets.Values.{Query}
-use Rattle.guppy_features.specs.feature_sets.Visits.{offered, query_content, shown}
+use Rattle.guppy_features.specs.feature_graph.LinkValues.{Link}
+use Rattle.guppy_features.specs.feature_graph.Values.{Query}
+use Rattle.guppy_features.specs.feature_graph.Visits.{offered, query_content, shown}
 use Rattle.uses.specs.Answers.{CountsOn, CountsRun, by_links}
 
 -- while P holds, each step answers as the test of links does, and P goes on

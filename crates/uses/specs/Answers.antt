@@ -17,11 +17,11 @@ use Rattle.guppy_features.specs.feature_core.Built.{NodeNamed}
 use Rattle.guppy_features.specs.feature_core.Defaults.{IsDefault}
 use Rattle.guppy_features.specs.feature_links.Facts.{is_dev_link}
 use Rattle.guppy_features.specs.feature_core.Pairs.{Along, LeadsTo}
-use Rattle.guppy_features.specs.feature_sets.Filters.{workspace_names}
+use Rattle.guppy_features.specs.feature_graph.Filters.{workspace_names}
 use Rattle.guppy_features.specs.Accepted.{ListsLabel}
-use Rattle.guppy_features.specs.feature_sets.LinkValues.{Link, facts_of, status_for}
-use Rattle.guppy_features.specs.feature_sets.Values.{Graph, Query}
-use Rattle.guppy_features.specs.feature_sets.Visits.{offered, query_content}
+use Rattle.guppy_features.specs.feature_graph.LinkValues.{Link, facts_of, status_for}
+use Rattle.guppy_features.specs.feature_graph.Values.{Graph, Query}
+use Rattle.guppy_features.specs.feature_graph.Visits.{offered, query_content}
 
 -- A path of edges in this direction, possibly empty, leads from the feature of this name to the node.
 abbrev pub IsLedTo : Tables → DependencyDirection → Text × LabelName → ℕ → Type 0

@@ -6,8 +6,8 @@ use Rattle.guppy_features.specs.feature_labels.Names.{LabelName, id_of}
 use Rattle.guppy_features.specs.feature_core.Built.{NodeNamed}
 use Rattle.guppy_features.specs.walk_engine.declared.walks.Half.{Half}
 use Rattle.guppy_features.specs.walk_engine.Walks.{Least}
-use Rattle.guppy_features.specs.feature_sets.Values.{Query}
-use Rattle.guppy_features.specs.feature_sets.Visits.{query_content}
+use Rattle.guppy_features.specs.feature_graph.Values.{Query}
+use Rattle.guppy_features.specs.feature_graph.Visits.{query_content}
 use Rattle.uses.specs.declared.linter.Finding.{Finding}
 
 -- the feature that was found to be on

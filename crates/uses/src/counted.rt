@@ -1,7 +1,7 @@
 //! A filter that counts what it is asked, under the filters over lists.
 ghost use Rattle.std.specs.Prelude.{◌≡◌, ◌+◌, ◌-◌, ◌^◌, min, IfOk};
 ghost use Rattle.guppy_features.specs.ListedFilters.{base_of_ids, base_of_names};
-ghost use Rattle.guppy_features.specs.feature_sets.Views.{graph_of};
+ghost use Rattle.guppy_features.specs.feature_graph.Views.{graph_of};
 ghost use Rattle.uses.specs.Answers.{CountsWorkspace};
 
 use crate::failure::Failure;

@@ -2,7 +2,7 @@
 ghost use Rattle.std.specs.Prelude.{◌↔◌, ℕ, IsTrue, IfOk};
 ghost use Rattle.guppy_features.specs.guppy_support.Bits.{has};
 ghost use Rattle.guppy_features.specs.feature_labels.Names.{id_of};
-ghost use Rattle.guppy_features.specs.feature_sets.Views.{tables_of_graph};
+ghost use Rattle.guppy_features.specs.feature_graph.Views.{tables_of_graph};
 ghost use Rattle.uses.specs.Answers.{IsLedTo};
 
 use crate::brings_in::brings_in;

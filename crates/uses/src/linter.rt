@@ -5,7 +5,7 @@ ghost use Rattle.guppy_features.specs.feature_core.Built.{NodeNamed};
 ghost use Rattle.guppy_features.specs.feature_labels.Names.{id_of};
 ghost use Rattle.guppy_features.specs.Platforms.{platform_offers};
 ghost use Rattle.guppy_features.specs.PlatformViews.{kinds_of, specs_of};
-ghost use Rattle.guppy_features.specs.feature_sets.Views.{graph_of};
+ghost use Rattle.guppy_features.specs.feature_graph.Views.{graph_of};
 ghost use Rattle.uses.specs.Linted.{IsCleared, finding_name};
 
 use crate::failure::Failure;

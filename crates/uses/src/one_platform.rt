@@ -5,7 +5,7 @@ ghost use Rattle.std.specs.Str.{bytes_eq};
 ghost use Rattle.guppy_features.specs.guppy_support.Bits.{has};
 ghost use Rattle.guppy_features.specs.guppy_packages.Platform.{spec_text, status_of};
 ghost use Rattle.guppy_features.specs.walk_engine.Walks.{Least};
-ghost use Rattle.guppy_features.specs.feature_sets.Visits.{query_content};
+ghost use Rattle.guppy_features.specs.feature_graph.Visits.{query_content};
 ghost use Rattle.uses.specs.Answers.{holds_on, is_on_platform, by_links};
 
 use crate::failure::Failure;

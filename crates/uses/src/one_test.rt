@@ -2,8 +2,8 @@
 ghost use Rattle.std.specs.Prelude.{◌≡◌, ◌↔◌, ◌+◌, ◌-◌, ◌^◌, ℕ, min, IsTrue, IfOk};
 ghost use Rattle.guppy_features.specs.guppy_support.Bits.{has};
 ghost use Rattle.guppy_features.specs.walk_engine.Walks.{Least};
-ghost use Rattle.guppy_features.specs.feature_sets.LinkViews.{link_of};
-ghost use Rattle.guppy_features.specs.feature_sets.Visits.{query_content};
+ghost use Rattle.guppy_features.specs.feature_graph.LinkViews.{link_of};
+ghost use Rattle.guppy_features.specs.feature_graph.Visits.{query_content};
 ghost use Rattle.uses.specs.Answers.{CountsRun, is_shipped, by_links};
 
 use crate::failure::Failure;

@@ -1,5 +1,5 @@
 //! Calls that select features of the workspace by a filter in four forms, alone or joined with a list.
-ghost use Rattle.feature_sets.specs.Values.{Graph};
+ghost use Rattle.feature_graph.specs.Values.{Graph};
 ghost use Rattle.feature_labels.specs.Names.{LabelName};
 ghost use Rattle.guppy_packages.specs.Rows.{Text};
 

@@ -1,6 +1,6 @@
 //! Calls that resolve a query with a visitor in one of four forms, with or without an explanation.
-ghost use Rattle.feature_sets.specs.LinkValues.{Link};
-ghost use Rattle.feature_sets.specs.Values.{Query};
+ghost use Rattle.feature_graph.specs.LinkValues.{Link};
+ghost use Rattle.feature_graph.specs.Values.{Query};
 
 use crate::shared::{Out, Words, cut};
 use crate::surface::checks::Start;

@@ -2,7 +2,7 @@ use Rattle.std.proofs.Common.{◌∙◌, ℕ, List, map, ap, subst}
 use Rattle.std.specs.Borrow.{Bor}
 use Rattle.guppy_packages.specs.Rows.{Text}
 use Rattle.feature_core.specs.Built.{IsBuilt}
-use Rattle.feature_sets.specs.Values.{Graph}
+use Rattle.feature_graph.specs.Values.{Graph}
 use Rattle.guppy_features.specs.PlatformViews.{kinds_of, specs_of}
 use Rattle.graph_platforms.specs.DeclaredSpecs.{spec_texts}
 use Rattle.graph_platforms.specs.HeldSpecs.{AreHeld}

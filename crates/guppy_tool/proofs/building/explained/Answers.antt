@@ -4,10 +4,10 @@ use Rattle.guppy_packages.specs.Tables.{Tables}
 use Rattle.guppy_packages.specs.declared.direction.DependencyDirection.TheVariants.{Forward}
 use Rattle.feature_labels.specs.Names.{LabelName}
 use Rattle.feature_core.specs.Built.{Built}
-use Rattle.feature_sets.specs.Names.{AreKnown, HoldsExactly}
+use Rattle.feature_graph.specs.Names.{AreKnown, HoldsExactly}
 use Rattle.guppy_features.specs.PlatformViews.{kinds_of, specs_of}
-use Rattle.feature_sets.specs.Told.{step_name}
-use Rattle.feature_sets.specs.Views.{tables_of_graph}
+use Rattle.feature_graph.specs.Told.{step_name}
+use Rattle.feature_graph.specs.Views.{tables_of_graph}
 use Rattle.guppy_tool.specs.Words.{given_of}
 use Rattle.guppy_tool.proofs.OneBuild.{tells_query, tells_too}
 use Rattle.guppy_tool.proofs.building.explained.Goals as goal

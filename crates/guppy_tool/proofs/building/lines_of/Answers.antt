@@ -1,7 +1,7 @@
 use Rattle.std.proofs.Common.{◌∙◌, Some, sym, ap}
 use Rattle.std.proofs.lemmas.Option.{slice_get-get_or}
 use Rattle.std.specs.String.{string_bytes}
-use Rattle.feature_sets.specs.Told.{step_name}
+use Rattle.feature_graph.specs.Told.{step_name}
 use Rattle.guppy_tool.specs.Answers.{step_line}
 use Rattle.guppy_tool.proofs.AnswerLemmas.{texts_so_far, texts_done}
 use Rattle.guppy_tool.proofs.building.lines_of.Goals as goal

@@ -1,7 +1,7 @@
 use Rattle.std.proofs.Common.{◌≡◌, ◌++◌, drop}
 use Rattle.std.specs.Prelude.{flat_map}
 use Rattle.std.specs.String.{string_bytes}
-use Rattle.feature_sets.specs.Told.{step_name}
+use Rattle.feature_graph.specs.Told.{step_name}
 use Rattle.guppy_tool.specs.Answers.{step_line}
 use Rattle.guppy_tool.proofs.building.lines_of.Given as goal
 

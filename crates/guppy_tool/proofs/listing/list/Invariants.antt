@@ -1,6 +1,6 @@
 use Rattle.std.proofs.Common.{◌≡◌, ◌++◌}
 use Rattle.std.specs.String.{string_bytes}
-use Rattle.feature_sets.specs.Names.{names_of_members}
+use Rattle.feature_graph.specs.Names.{names_of_members}
 use Rattle.guppy_tool.specs.Answers.{listing}
 use Rattle.guppy_tool.proofs.listing.list.Given as goal
 

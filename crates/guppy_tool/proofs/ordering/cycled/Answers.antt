@@ -2,8 +2,8 @@ use Rattle.std.proofs.Common.{◌≡◌, subst}
 use Rattle.digraph_orders.specs.Sequences.{IsOrderOf}
 use Rattle.guppy_packages.specs.Tables.{Tables}
 use Rattle.feature_core.specs.Built.{Built, digraph_of}
-use Rattle.feature_sets.specs.Tied.{cycle_names}
-use Rattle.feature_sets.specs.Values.{Graph}
+use Rattle.feature_graph.specs.Tied.{cycle_names}
+use Rattle.feature_graph.specs.Values.{Graph}
 use Rattle.guppy_tool.specs.Answers.{groups}
 use Rattle.guppy_tool.proofs.OrderingLemmas.{lists_cycles}
 use Rattle.guppy_tool.proofs.ordering.cycled.Goals as goal

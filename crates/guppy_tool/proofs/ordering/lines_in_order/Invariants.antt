@@ -1,6 +1,6 @@
 use Rattle.std.proofs.Common.{◌≡◌, ◌++◌}
 use Rattle.std.specs.String.{string_bytes}
-use Rattle.feature_sets.specs.Ordered.{AtOrder, ordered_names}
+use Rattle.feature_graph.specs.Ordered.{AtOrder, ordered_names}
 use Rattle.guppy_tool.specs.Answers.{listing}
 use Rattle.guppy_tool.proofs.ordering.lines_in_order.Given as goal
 

@@ -2,10 +2,10 @@ use Rattle.std.proofs.Common.{◌≡◌, ◌++◌, ◌∙◌, [], Some, Vec, Glo
 use Rattle.std.specs.String.{string_bytes}
 use Rattle.feature_labels.specs.Names.{id_of}
 use Rattle.feature_labels.specs.declared.feature_id.FeatureId.{FeatureId}
-use Rattle.feature_sets.specs.Ordered.{AtOrder}
-use Rattle.feature_sets.specs.Results.{GivesOrEnds}
-use Rattle.feature_sets.specs.Tied.{cycle_names, cycles_of}
-use Rattle.feature_sets.specs.Values.{Graph}
+use Rattle.feature_graph.specs.Ordered.{AtOrder}
+use Rattle.feature_graph.specs.Results.{GivesOrEnds}
+use Rattle.feature_graph.specs.Tied.{cycle_names, cycles_of}
+use Rattle.feature_graph.specs.Values.{Graph}
 use Rattle.guppy_tool.specs.Answers.{before_group, groups, listing}
 use Rattle.guppy_tool.proofs.OrderingLemmas.{groups_after, groups_begin, groups_next, groups_end}
 use Rattle.guppy_tool.proofs.ordering.lines_of_cycles.Goals as goal

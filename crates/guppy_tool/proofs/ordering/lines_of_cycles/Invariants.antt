@@ -1,8 +1,8 @@
 use Rattle.std.proofs.Common.{◌≡◌, ◌++◌}
 use Rattle.std.specs.String.{string_bytes}
-use Rattle.feature_sets.specs.Ordered.{AtOrder}
-use Rattle.feature_sets.specs.Tied.{cycle_names}
-use Rattle.feature_sets.specs.Views.{graph_of}
+use Rattle.feature_graph.specs.Ordered.{AtOrder}
+use Rattle.feature_graph.specs.Tied.{cycle_names}
+use Rattle.feature_graph.specs.Views.{graph_of}
 use Rattle.guppy_tool.specs.Answers.{before_group, groups}
 use Rattle.guppy_tool.proofs.OrderingLemmas.{groups_after}
 use Rattle.guppy_tool.proofs.ordering.lines_of_cycles.Given as goal

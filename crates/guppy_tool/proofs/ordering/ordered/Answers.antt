@@ -3,7 +3,7 @@ use Rattle.digraph_orders.specs.Sequences.{IsOrderOf}
 use Rattle.guppy_packages.specs.Tables.{Tables}
 use Rattle.feature_core.specs.Built.{Built, digraph_of}
 use Rattle.feature_core.specs.Nodes.{nodes}
-use Rattle.feature_sets.specs.Values.{Graph}
+use Rattle.feature_graph.specs.Values.{Graph}
 use Rattle.guppy_tool.proofs.OrderingLemmas.{orders_nodes, lists_in_order}
 use Rattle.guppy_tool.proofs.ordering.ordered.Goals as goal
 

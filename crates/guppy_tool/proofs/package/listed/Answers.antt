@@ -1,5 +1,5 @@
 use Rattle.std.proofs.Common.{ap, subst}
-use Rattle.feature_sets.specs.Names.{ListsPackage, RefusesPackage}
+use Rattle.feature_graph.specs.Names.{ListsPackage, RefusesPackage}
 use Rattle.feature_core.specs.Errors.{refusal_of as graph_refusal_of}
 use Rattle.guppy_tool.specs.Faults.{refusal_of}
 use Rattle.guppy_tool.proofs.AnswerLemmas.{lists_features, names_no_package}

@@ -9,8 +9,8 @@ use Rattle.feature_labels.specs.Names.{LabelName}
 use Rattle.feature_core.specs.Built.{Built, IsBuilt}
 use Rattle.feature_core.specs.Nodes.{nodes}
 use Rattle.feature_core.specs.Offers.{content_of}
-use Rattle.feature_sets.specs.Names.{AreKnown, HoldsExactly, at_places}
-use Rattle.feature_sets.specs.Views.{tables_of_graph}
+use Rattle.feature_graph.specs.Names.{AreKnown, HoldsExactly, at_places}
+use Rattle.feature_graph.specs.Views.{tables_of_graph}
 use Rattle.guppy_tool.specs.Answers.{listing}
 use Rattle.guppy_tool.specs.Words.{given_of}
 use Rattle.guppy_tool.proofs.AnswerLemmas.{agrees_all}

@@ -3,7 +3,7 @@ use Rattle.std.proofs.lemmas.Result.{IfOk-weaker}
 use Rattle.guppy_features.specs.guppy_packages.declared.direction.DependencyDirection.TheVariants.{Reverse}
 use Rattle.guppy_features.specs.feature_core.Built.{NodeNamed}
 use Rattle.guppy_features.specs.feature_labels.Names.{id_of}
-use Rattle.guppy_features.specs.feature_sets.Views.{tables_of_graph}
+use Rattle.guppy_features.specs.feature_graph.Views.{tables_of_graph}
 use Rattle.uses.proofs.Named.{named_alone, reached_from}
 use Rattle.uses.proofs.brings_in.brought_in_by.Goals as goal
 

@@ -6,11 +6,11 @@ use Rattle.guppy_features.specs.Accepted.{AddsToBase, ListsLabel}
 use Rattle.guppy_features.specs.ListedFilters.{base_of_names, listed_names}
 use Rattle.guppy_features.specs.guppy_packages.Rows.{Text}
 use Rattle.guppy_features.specs.feature_labels.Names.{LabelName}
-use Rattle.guppy_features.specs.feature_sets.Filters.{StandardAccepts}
-use Rattle.guppy_features.specs.feature_sets.Lent.{lent_accept}
-use Rattle.guppy_features.specs.feature_sets.Values.{Graph}
-use Rattle.guppy_features.specs.feature_sets.Views.{graph_of}
-use Rattle.guppy_features.specs.feature_sets.declared.standard_features.StandardFeatures.{StandardFeatures}
+use Rattle.guppy_features.specs.feature_graph.Filters.{StandardAccepts}
+use Rattle.guppy_features.specs.feature_graph.Lent.{lent_accept}
+use Rattle.guppy_features.specs.feature_graph.Values.{Graph}
+use Rattle.guppy_features.specs.feature_graph.Views.{graph_of}
+use Rattle.guppy_features.specs.feature_graph.declared.query.standard.StandardFeatures.{StandardFeatures}
 use Rattle.guppy_features.specs.declared.listed_filters.NamedFeatureFilter.{NamedFeatureFilter}
 use Rattle.uses.specs.declared.counted.Counted.{Counted}
 use Rattle.uses.proofs.Counting.{counts_workspace, keeps_name}

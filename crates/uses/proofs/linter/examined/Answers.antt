@@ -1,8 +1,8 @@
 use Rattle.std.proofs.Common.{subst}
 use Rattle.std.specs.Prelude.{IsFalse, MatchOption, map}
 use Rattle.guppy_features.specs.guppy_support.Bits.{has}
-use Rattle.guppy_features.specs.feature_sets.Explained.{ExplainsMember}
-use Rattle.guppy_features.specs.feature_sets.Told.{step_name}
+use Rattle.guppy_features.specs.feature_graph.Explained.{ExplainsMember}
+use Rattle.guppy_features.specs.feature_graph.Told.{step_name}
 use Rattle.uses.proofs.linter.examined.Goals as goal
 
 pub returns-in-None : goal.returns-in-None

@@ -4,7 +4,7 @@ use Rattle.std.proofs.lemmas.Option.{MatchOption-at_none, MatchOption-at_some}
 use Rattle.guppy_features.specs.feature_labels.Names.{id_of}
 use Rattle.guppy_features.specs.Platforms.{platform_offers}
 use Rattle.guppy_features.specs.PlatformViews.{kinds_of, specs_of}
-use Rattle.guppy_features.specs.feature_sets.Values.{Set}
+use Rattle.guppy_features.specs.feature_graph.Values.{Set}
 use Rattle.uses.specs.Linted.{IsCleared, IsNamed, finding_name}
 use Rattle.uses.proofs.Linted.{AreCleared, cleared_more, named_grows, named_last, off}
 use Rattle.uses.proofs.linter.findings.Goals as goal

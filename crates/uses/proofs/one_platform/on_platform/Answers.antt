@@ -1,8 +1,8 @@
 use Rattle.std.proofs.Common.{◌≡◌, ◌∙◌, Bool, refl, ap}
 use Rattle.std.proofs.lemmas.Result.{IfOk-weaker}
 use Rattle.guppy_features.specs.guppy_support.Bits.{has}
-use Rattle.guppy_features.specs.feature_sets.LinkValues.{Link}
-use Rattle.guppy_features.specs.feature_sets.Values.{Query}
+use Rattle.guppy_features.specs.feature_graph.LinkValues.{Link}
+use Rattle.guppy_features.specs.feature_graph.Values.{Query}
 use Rattle.uses.specs.Answers.{by_links, is_on_platform}
 use Rattle.uses.specs.declared.one_platform.OnePlatform.{OnePlatform}
 use Rattle.uses.proofs.Tests.{answers_by}

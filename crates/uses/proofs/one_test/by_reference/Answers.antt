@@ -2,8 +2,8 @@ use Rattle.std.proofs.Common.{◌≡◌, ◌+◌, ◌-◌, ◌^◌, Bool}
 use Rattle.std.specs.Prelude.{min}
 use Rattle.std.proofs.lemmas.Result.{IfOk-weaker}
 use Rattle.guppy_features.specs.guppy_support.Bits.{has}
-use Rattle.guppy_features.specs.feature_sets.LinkValues.{Link}
-use Rattle.guppy_features.specs.feature_sets.Values.{Query}
+use Rattle.guppy_features.specs.feature_graph.LinkValues.{Link}
+use Rattle.guppy_features.specs.feature_graph.Values.{Query}
 use Rattle.uses.specs.Answers.{by_links, is_shipped}
 use Rattle.uses.specs.declared.one_test.Shipped.{Shipped}
 use Rattle.uses.proofs.Tests.{answers_by, counts_run}

@@ -1,5 +1,5 @@
 use Rattle.std.proofs.Common.{refl, inl, inr}
-use Rattle.guppy_features.specs.feature_sets.Visits.{offered}
+use Rattle.guppy_features.specs.feature_graph.Visits.{offered}
 use Rattle.uses.proofs.one_test.show_boxed.OwnLists.{own-1}
 use Rattle.uses.proofs.one_test.show_boxed.Goals as goal
 

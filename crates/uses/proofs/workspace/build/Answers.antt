@@ -1,7 +1,7 @@
 use Rattle.std.proofs.Common.{ap, map}
 use Rattle.std.proofs.lemmas.Result.{IfOk-weaker}
 use Rattle.guppy_features.specs.guppy_packages.declared.direction.DependencyDirection.TheVariants.{Forward}
-use Rattle.guppy_features.specs.feature_sets.Views.{tables_of_graph}
+use Rattle.guppy_features.specs.feature_graph.Views.{tables_of_graph}
 use Rattle.uses.specs.Answers.{IsSelected}
 use Rattle.uses.proofs.Named.{reached_from}
 use Rattle.uses.proofs.workspace.build.Goals as goal

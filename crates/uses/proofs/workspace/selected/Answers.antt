@@ -1,7 +1,7 @@
 use Rattle.std.proofs.Common.{refl, map}
 use Rattle.std.proofs.lemmas.Result.{IfOk-weaker}
 use Rattle.guppy_features.specs.ListedFilters.{listed_names}
-use Rattle.guppy_features.specs.feature_sets.Views.{graph_of}
+use Rattle.guppy_features.specs.feature_graph.Views.{graph_of}
 use Rattle.uses.proofs.Selected.{Gives, IsDefaultWith, answers_by_rule, selects}
 use Rattle.uses.proofs.workspace.selected.Goals as goal
 

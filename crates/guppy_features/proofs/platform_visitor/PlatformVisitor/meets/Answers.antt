@@ -1,6 +1,6 @@
 use Rattle.std.proofs.Common.{◌∙◌}
 use Rattle.guppy_packages.specs.Platform.{status_of}
-use Rattle.feature_sets.specs.LinkViews.{link_of}
+use Rattle.feature_graph.specs.LinkViews.{link_of}
 use Rattle.guppy_features.specs.PlatformViews.{specs_of}
 use Rattle.guppy_features.proofs.PlatformLemmas.{by_status}
 use Rattle.guppy_features.proofs.platform_visitor.PlatformVisitor.meets.Goals as goal

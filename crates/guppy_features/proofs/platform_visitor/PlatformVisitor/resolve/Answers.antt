@@ -1,12 +1,12 @@
 use Rattle.std.proofs.Common.{◌≡◌, ◌∙◌, Bool, ap, refl, sym}
 use Rattle.std.proofs.lemmas.Result.{IfOk-weaker}
 use Rattle.guppy_support.specs.Bits.{has}
-use Rattle.feature_sets.specs.LinkValues.{Link}
-use Rattle.feature_sets.specs.Visits.{answered, offered, query_content, shown}
-use Rattle.feature_sets.proofs.Visits.{is_explained_walk}
+use Rattle.feature_graph.specs.LinkValues.{Link}
+use Rattle.feature_graph.specs.Visits.{answered, offered, query_content, shown}
+use Rattle.feature_graph.proofs.Visits.{is_explained_walk}
 use Rattle.guppy_features.specs.Platforms.{is_platform_link, platform_offers}
 use Rattle.guppy_features.specs.PlatformViews.{kinds_of, specs_of}
-use Rattle.feature_sets.specs.Values.{Query}
+use Rattle.feature_graph.specs.Values.{Query}
 use Rattle.guppy_features.specs.declared.platform_visitor.PlatformVisitor.{PlatformVisitor}
 use Rattle.guppy_features.proofs.PlatformLemmas.{answers_by}
 use Rattle.guppy_features.proofs.platform_visitor.PlatformVisitor.resolve.Goals as goal

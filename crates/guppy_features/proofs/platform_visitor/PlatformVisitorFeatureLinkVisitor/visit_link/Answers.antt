@@ -1,5 +1,5 @@
 use Rattle.std.proofs.Common.{◌∙◌, refl}
-use Rattle.feature_sets.specs.LinkViews.{link_of}
+use Rattle.feature_graph.specs.LinkViews.{link_of}
 use Rattle.guppy_features.specs.PlatformViews.{kinds_of, specs_of}
 use Rattle.guppy_features.proofs.PlatformLemmas.{by_kinds}
 use Rattle.guppy_features.proofs.platform_visitor.PlatformVisitorFeatureLinkVisitor.visit_link.Goals as goal

@@ -1,6 +1,0 @@
-use Rattle.feature_sets.specs.Views.{feature_name_of, feature_tables_of}
-use Rattle.feature_sets.proofs.SameFeatures.{feature_is_there}
-use Rattle.feature_sets.proofs.metadata.FeatureMetadata.feature_id.Goals as goal
-
-pub returns-clause-known : goal.returns-clause-known
-returns-clause-known c = feature_is_there (feature_tables_of c.args.self.now) (feature_name_of c.args.self.now) c.args.self.now.stands

@@ -1,8 +1,0 @@
-use Rattle.std.proofs.Common.{◌∙◌, sym}
-use Rattle.feature_core.specs.Nodes.{nodes}
-use Rattle.feature_sets.specs.Views.{tables_of_graph}
-use Rattle.feature_sets.proofs.MemberNames.{as_many}
-use Rattle.feature_sets.proofs.set.IdsByNodeExactSizeIterator.len.Goals as goal
-
-pub returns-clause-value : goal.returns-clause-value
-returns-clause-value c = rw (← c.self.view_is) (c.len.ensures.value ∙ sym (as_many (nodes (tables_of_graph c.self.inside.graph)) c.self.inside.numbers c.self.invariant))
