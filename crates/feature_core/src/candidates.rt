@@ -10,10 +10,10 @@ ghost use Rattle.feature_core.specs.inner.Adds.{Adds, Below};
 ghost use Rattle.feature_core.specs.inner.Keys.{IsNoLater};
 ghost use Rattle.feature_links.specs.NamedLinks.{AreNamedLinks};
 ghost use Rattle.feature_core.specs.inner.Quiet.{lack_by, IsQuiet, IsQuietItem, IsQuietFeature, AreQuietFeatures, IsQuietPackage};
-ghost use Rattle.feature_core.specs.inner.Parts.{key, over_rank, IsToFirst, IsOverLink, IsBeside, IsOfItem, IsOfItemAt, IsOfFeatureAt, IsOfPackageAt, IsOfSource};
+ghost use Rattle.feature_core.specs.inner.Parts.{key, over_kind, IsToFirst, IsOverLink, IsBeside, IsOfItem, IsOfItemAt, IsOfFeatureAt, IsOfPackageAt, IsOfSource};
 
 use crate::declarations::push_links;
-use crate::key::{Key, sort_keys, sort_keys_from};
+use crate::key::{CandidateKind, Key, sort_keys, sort_keys_from};
 use crate::numbers::Numbers;
 use crate::quiet::{Quiet, note};
 use feature_labels::LinkDeclarations;
@@ -34,11 +34,11 @@ pub(crate) fn push_to(
     keys: &mut Vec<Key>,
     from: usize,
     to: Option<usize>,
-    rank: u8,
+    kind: CandidateKind,
     source: usize,
     place: usize,
 ) -> Result<(), AllocError>
-    ensures { OnOk result (Adds (λ x. (w : ℕ) × (to ≡ Some w) × (x ≡ key from w rank source place)) keys.old.items keys.new.items) }
+    ensures { OnOk result (Adds (λ x. (w : ℕ) × (to ≡ Some w) × (x ≡ key from w kind source place)) keys.old.items keys.new.items) }
 {
     let Some(to) = to else {
         return Ok(());
@@ -49,7 +49,7 @@ pub(crate) fn push_to(
     keys.push(Key {
         from: from as u32,
         to: to as u32,
-        rank,
+        kind,
         source: source as u32,
         place: place as u32,
     })?;
@@ -63,23 +63,28 @@ fn push_to_first(keys: &mut Vec<Key>, first: usize, count: usize) -> Result<(), 
     ensures { OnOk result (Adds (Below count (IsToFirst first)) keys.old.items keys.new.items) }
 {
     for place in 1..count {
-        push_to(keys, first + place, Some(first), 1, 0, 0)?;
+        let from = first + place;
+        push_to(keys, from, Some(first), CandidateKind::FeatureToBase, 0, 0)?;
     }
     Ok(())
 }
 
-/// Returns the rank of a slash edge, by whether its item is weak and its link has an optional declaration.
-fn slash_rank(weak: bool, optional: bool) -> u8
-    ensures { result ≡ (if weak && optional then 6 else 4) }
+/// Returns the kind of a slash edge, by whether its item is weak and its link has an optional declaration.
+fn slash_kind(weak: bool, optional: bool) -> CandidateKind
+    ensures { result ≡ (if weak && optional then CandidateKind.SlashWeak else CandidateKind.SlashFull) }
 {
-    if weak && optional { 6 } else { 4 }
+    if weak && optional {
+        CandidateKind::SlashWeak
+    } else {
+        CandidateKind::SlashFull
+    }
 }
 
-/// Returns the rank of a slash edge over `link`, by whether its item is weak.
-fn rank_over(link: PackageLink<'_>, weak: bool) -> u8
-    ensures { result ≡ over_rank weak (link_table_of link.entry) }
+/// Returns the kind of a slash edge over `link`, by whether its item is weak.
+fn kind_over(link: PackageLink<'_>, weak: bool) -> CandidateKind
+    ensures { result ≡ over_kind weak (link_table_of link.entry) }
 {
-    slash_rank(
+    slash_kind(
         weak,
         is_any_included(LinkDeclarations::Optional, link.declarations()),
     )
@@ -100,7 +105,7 @@ fn push_over_link(
 {
     let link = numbers.graph.link(ix);
     let to = numbers.named(link.to(), feature);
-    push_to(keys, from, to, rank_over(link, weak), ix, 0)?;
+    push_to(keys, from, to, kind_over(link, weak), ix, 0)?;
     Ok(to.is_some())
 }
 
@@ -141,9 +146,10 @@ fn push_beside(
     let Some(dependency) = numbers.optional(metadata, dep_name) else {
         return Ok(());
     };
-    push_to(keys, from, Some(dependency), 5, 0, 0)?;
+    let kind = CandidateKind::SlashOptional;
+    push_to(keys, from, Some(dependency), kind, 0, 0)?;
     if dep_name != feature_name {
-        push_to(keys, from, numbers.named(metadata, dep_name), 5, 0, 0)?;
+        push_to(keys, from, numbers.named(metadata, dep_name), kind, 0, 0)?;
     }
     Ok(())
 }
@@ -169,14 +175,14 @@ fn push_item(
         NamedFeatureDep::NamedFeature(feature) => {
             if feature != feature_name {
                 let to = numbers.named_beside(metadata, place, feature);
-                push_to(keys, from, to, 2, 0, 0)?;
+                push_to(keys, from, to, CandidateKind::NamedFeature, 0, 0)?;
                 return Ok(to.is_some());
             }
             Ok(false)
         }
         NamedFeatureDep::OptionalDependency(name) => {
             let to = numbers.optional(metadata, name);
-            push_to(keys, from, to, 3, 0, 0)?;
+            push_to(keys, from, to, CandidateKind::DepColon, 0, 0)?;
             Ok(to.is_some())
         }
         NamedFeatureDep::DependencyNamedFeature {

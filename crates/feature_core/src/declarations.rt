@@ -10,7 +10,7 @@ ghost use Rattle.feature_core.specs.inner.Quiet.{lack_in, AreQuietLinks, IsQuiet
 ghost use Rattle.feature_core.specs.inner.Parts.{start_of, IsRequest, IsOfDeclarationAt, IsOfLinkAt, IsLinkFrom};
 
 use crate::candidates::push_to;
-use crate::key::Key;
+use crate::key::{CandidateKind, Key};
 use crate::numbers::Numbers;
 use crate::quiet::note;
 use guppy_packages::{Declaration, PackageLink, PackageMetadata};
@@ -32,15 +32,16 @@ fn push_requests(
     ensures keys { OnOk result (Adds (IsRequest numbers.entry.graph.now from metadata.entry.package_ix link place (declared declaration.now)) keys.old.items keys.new.items) }
     ensures quiet { IfOk result (λ all. IsTrue all → flat_map (lack_in numbers.entry.graph.now metadata.entry.package_ix) (declared declaration.now).features ≡ []) }
 {
-    push_to(keys, from, Some(numbers.base(metadata)), 7, link, place)?;
+    let kind = CandidateKind::Section;
+    push_to(keys, from, Some(numbers.base(metadata)), kind, link, place)?;
     if declaration.default_features() {
-        push_to(keys, from, numbers.default_of(metadata), 7, link, place)?;
+        push_to(keys, from, numbers.default_of(metadata), kind, link, place)?;
     }
     let names = declaration.features();
     let mut all = true;
     for ix in 0..names.len() {
         let to = numbers.named(metadata, names[ix].as_str());
-        push_to(keys, from, to, 7, link, place)?;
+        push_to(keys, from, to, kind, link, place)?;
         all &= to.is_some();
     }
     Ok(all)

@@ -2,6 +2,7 @@ use Rattle.std.proofs.Common.{◌≡◌, ◌∙◌, sym, ap}
 use Rattle.guppy_packages.specs.Items.{feature_item, optional_item, slash_item, item_of}
 use Rattle.feature_labels.specs.Names.LabelName.{named, optional}
 use Rattle.feature_links.specs.NamedLinks.{link_numbers}
+use Rattle.feature_core.specs.declared.key.CandidateKind.TheVariants.{NamedFeature, DepColon}
 use Rattle.feature_core.proofs.PushLemmas.{pushed_to, over_named, under_within, texts_differ, other_feature, weak_item, strong_item, item_read}
 use Rattle.feature_core.proofs.QuietLemmas.{feature_found, dependency_found, slash_found, quiet_read}
 use Rattle.feature_core.proofs.candidates.push_item.Goals as goal
@@ -23,7 +24,7 @@ returns-then-ne-clause-keys c =
     let g = c.in-NamedFeature.feature.now in
     item_read t u p f (feature_item g) (item_of c.args.item.now) c.args.keys.now.items c.push_to.new.keys.items c.in-NamedFeature.ensures
     (other_feature t u p f g c.args.keys.now.items c.push_to.new.keys.items (texts_differ g f c.if-ne.ensures)
-    (pushed_to t u p 2 0 0 (named g) c.named_beside-to.result c.args.keys.now.items c.push_to.new.keys.items (λ n. c.named_beside-to.ensures n) c.in_ok-push_to-in-NamedFeature.ensures))
+    (pushed_to t u p NamedFeature 0 0 (named g) c.named_beside-to.result c.args.keys.now.items c.push_to.new.keys.items (λ n. c.named_beside-to.ensures n) c.in_ok-push_to-in-NamedFeature.ensures))
 
 pub returns-then-ne-clause-quiet : goal.returns-then-ne-clause-quiet
 returns-then-ne-clause-quiet c h =
@@ -41,7 +42,7 @@ returns-in_ok-push_to-in-OptionalDependency-clause-keys c =
     let p = c.args.metadata.package_ix in
     let d = c.in-OptionalDependency.name.now in
     item_read t u p c.args.feature_name.now (optional_item d) (item_of c.args.item.now) c.args.keys.now.items c.push_to-in-OptionalDependency.new.keys.items c.in-OptionalDependency.ensures
-    (pushed_to t u p 3 0 0 (optional d) c.optional-to.result c.args.keys.now.items c.push_to-in-OptionalDependency.new.keys.items (λ n. c.optional-to.ensures n) c.in_ok-push_to-in-OptionalDependency.ensures)
+    (pushed_to t u p DepColon 0 0 (optional d) c.optional-to.result c.args.keys.now.items c.push_to-in-OptionalDependency.new.keys.items (λ n. c.optional-to.ensures n) c.in_ok-push_to-in-OptionalDependency.ensures)
 
 pub returns-in_ok-push_to-in-OptionalDependency-clause-quiet : goal.returns-in_ok-push_to-in-OptionalDependency-clause-quiet
 returns-in_ok-push_to-in-OptionalDependency-clause-quiet c h =

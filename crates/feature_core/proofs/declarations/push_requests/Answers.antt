@@ -3,6 +3,7 @@ use Rattle.std.specs.String.{string_bytes}
 use Rattle.std.specs.Prelude.{slice_get, ◌&&◌}
 use Rattle.guppy_packages.specs.Stored.{declared}
 use Rattle.feature_labels.specs.Names.LabelName.{base}
+use Rattle.feature_core.specs.declared.key.CandidateKind.TheVariants.{Section}
 use Rattle.feature_core.specs.inner.Adds.{Adds}
 use Rattle.feature_core.specs.inner.Quiet.{lack_in}
 use Rattle.feature_core.proofs.AddsLemmas.{Adds-start}
@@ -44,7 +45,7 @@ returns-clause-keys c =
     ] in
     requested t c.args.from p c.args.link c.args.place d c.loop-ix.ix c.args.keys.now.items c.push_to.new.keys.items c.if-default_features.keys.items c.loop-ix.keys.items
     (omega (arith, long))
-    (found_adds t c.args.from p base 7 c.args.link c.args.place (Some c.base.result) c.args.keys.now.items c.push_to.new.keys.items (base_found t p c.base.result c.base.ensures.number c.base.ensures.node) c.in_ok-push_to.ensures)
+    (found_adds t c.args.from p base Section c.args.link c.args.place (Some c.base.result) c.args.keys.now.items c.push_to.new.keys.items (base_found t p c.base.result c.base.ensures.number c.base.ensures.node) c.in_ok-push_to.ensures)
     second c.loop-ix.invariant.0
 
 pub returns-clause-quiet : goal.returns-clause-quiet
