@@ -4,7 +4,7 @@ use Rattle.std.specs.Prelude.{Result, Ok, Err}
 use Rattle.std.specs.List.{list_any}
 use Rattle.std.specs.Str.{bytes_eq}
 use Rattle.workspace_documents.specs.declared.packages.Package.{Package}
-use Rattle.cargo_documents.specs.Faults.{Text, Refusal, IfNotMemory, ◌>>=◌}
+use Rattle.cargo_json.specs.Faults.{Text, Refusal, IfNotMemory, ◌>>=◌}
 use Rattle.workspace_documents.specs.Lists.{ById}
 use Rattle.workspace_documents.specs.Nodes.{DepText, NodeText}
 use Rattle.workspace_documents.specs.Nodes.{node_of}

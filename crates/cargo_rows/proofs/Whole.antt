@@ -2,15 +2,15 @@
 use Rattle.std.proofs.Common.{◌≡◌, ◌∙◌, sym, ap, refl, map}
 use Rattle.std.specs.Prelude.{Result, Ok, Err, IfOk, Option}
 use Rattle.json.specs.Json.{Json}
-use Rattle.cargo_documents.specs.Faults.{Refusal, IfNotMemory}
-use Rattle.cargo_documents.specs.declared.fault.DocumentFault.{DocumentFault}
+use Rattle.cargo_json.specs.Faults.{Refusal, IfNotMemory}
+use Rattle.cargo_json.specs.declared.fault.DocumentFault.{DocumentFault}
 use Rattle.cargo_rows.specs.declared.metadata.Rows.{Rows}
 use Rattle.workspace_documents.specs.Lists.{ById}
 use Rattle.workspace_documents.specs.Packages.{PackageText, packages_at, packages_in}
 use Rattle.workspace_documents.specs.Nodes.{ResolvedText, resolved_in}
 use Rattle.cargo_rows.specs.Rows.{all_rows, rows_of}
 use Rattle.cargo_rows.specs.Warnings.{libraries_of, all_warnings, warnings_of, warning_view}
-use Rattle.cargo_documents.specs.Parts.{Parts}
+use Rattle.cargo_json.specs.Parts.{Parts}
 use Rattle.workspace_documents.proofs.Lists.{if_not_memory}
 use Rattle.workspace_documents.proofs.Whole as whole
 

@@ -2,7 +2,7 @@
 use Rattle.std.specs.Prelude.{Option, option_and_then}
 use Rattle.json.specs.Json.{Json, value, if_last}
 use Rattle.json.specs.Lex.{tokens}
-use Rattle.cargo_documents.specs.Faults.{Text}
+use Rattle.cargo_json.specs.Faults.{Text}
 
 -- the document in a text, if it is one and its arrays and objects nest no deeper than 127
 abbrev pub document : Text → Option Json

@@ -6,7 +6,7 @@ use Rattle.std.specs.Char.{is_ascii_control}
 use Rattle.json.specs.Json.{Json}
 use Rattle.cargo_workspaces.specs.declared.package.Kind.{Kind}
 use Rattle.cargo_workspaces.specs.declared.package.Kind.TheVariants as kind
-use Rattle.cargo_documents.specs.Faults.{Text, Refusal, control, ◌>>=◌}
+use Rattle.cargo_json.specs.Faults.{Text, Refusal, control, ◌>>=◌}
 use Rattle.workspace_documents.specs.Lists.{joined, ById}
 use Rattle.cargo_workspaces.specs.Workspaces.{FeatureText}
 use Rattle.workspace_documents.specs.Packages.{PackageText, packages_in}

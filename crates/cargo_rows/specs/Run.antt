@@ -2,10 +2,10 @@
 use Rattle.std.specs.Prelude.{◌≡◌, ◌++◌, List, Bool, true, false, Option, None, Ok, Err, IfSome, IsSomeAnd}
 use Rattle.std.specs.Str.{IsUtf8}
 use Rattle.std.specs.Io.KnownBytes.{Keeps, Appends}
-use Rattle.cargo_documents.specs.declared.fault.Fault.{Fault}
-use Rattle.cargo_documents.specs.declared.fault.Fault.TheVariants as fault
+use Rattle.cargo_json.specs.declared.fault.Fault.{Fault}
+use Rattle.cargo_json.specs.declared.fault.Fault.TheVariants as fault
 use Rattle.cargo_rows.specs.Document.{document}
-use Rattle.cargo_documents.specs.Faults.{Text, refusal_of}
+use Rattle.cargo_json.specs.Faults.{Text, refusal_of}
 use Rattle.cargo_rows.specs.Rows.{rows_of}
 use Rattle.cargo_rows.specs.Warnings.{WarningText, warnings_of}
 

@@ -4,7 +4,7 @@ use Rattle.std.specs.List.{list_any}
 use Rattle.std.specs.Str.{bytes_eq}
 use Rattle.std.specs.String.{string_bytes}
 use Rattle.json.specs.Json.{Json}
-use Rattle.cargo_documents.specs.Faults.{Text, Refusal, ◌>>=◌}
+use Rattle.cargo_json.specs.Faults.{Text, Refusal, ◌>>=◌}
 use Rattle.cargo_rows.specs.declared.warnings.Warning.{Warning}
 use Rattle.workspace_documents.specs.Lists.{ById}
 use Rattle.cargo_workspaces.specs.Workspaces.{FeatureText}

@@ -7,7 +7,7 @@ ghost use Rattle.cargo_rows.specs.Warnings.{warning_view};
 use crate::metadata::{Rows, rows_of_bytes};
 use crate::warnings::Warning;
 use byte_devices::{ByteInput, ByteOutput, Failed, read_all, write_all};
-use cargo_documents::Fault;
+use cargo_json::Fault;
 use std::alloc::Global;
 
 /// Reads `reader` to its end and writes the rows of that document to `writer`. Returns a warning for each declaration of a

@@ -8,6 +8,6 @@ mod sets;
 mod warnings;
 
 pub use byte_devices::{ByteInput, ByteOutput, Failed, FromReader, ToWriter};
-pub use cargo_documents::{DocumentFault, Fault, Place};
+pub use cargo_json::{DocumentFault, Fault, Place};
 pub use engine::run;
 pub use warnings::Warning;

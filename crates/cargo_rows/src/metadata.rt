@@ -3,7 +3,7 @@ ghost use Rattle.std.specs.Prelude.{◌≡◌, ℕ, List, Some, None, Ok, IfOk, 
 ghost use Rattle.std.specs.Str.{IsUtf8};
 ghost use Rattle.json.specs.Value.{value_view};
 ghost use Rattle.cargo_rows.specs.Document.{document};
-ghost use Rattle.cargo_documents.specs.Faults.{Text, Gives};
+ghost use Rattle.cargo_json.specs.Faults.{Text, Gives};
 ghost use Rattle.workspace_documents.specs.Nodes.{no_node};
 ghost use Rattle.cargo_rows.specs.Rows.{led_rows, package_rows, all_rows, rows_of};
 ghost use Rattle.cargo_rows.specs.Run.{AreRows, AreWarnings, Refuses};
@@ -14,7 +14,7 @@ ghost use Rattle.cargo_rows.specs.inner.Views.{HasTexts, after};
 use crate::rows::{push_dependencies, push_features, push_package};
 use crate::sets::set_of;
 use crate::warnings::{Warning, warnings_of_packages};
-use cargo_documents::{DocumentFault, Fault, Unread, parts_of, read};
+use cargo_json::{DocumentFault, Fault, Unread, parts_of, read};
 use json::{Reader, Scratch, Value};
 use std::alloc::Global;
 use std::collections::BTreeSet;

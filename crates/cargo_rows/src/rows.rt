@@ -1,12 +1,12 @@
 //! Writes rows as text.
 ghost use Rattle.std.specs.Prelude.{◌≡◌, ◌++◌, [], ◌∷◌, codes, map, option_map, IfOk, OnOk, string_bytes};
-ghost use Rattle.cargo_documents.specs.Faults.{Gives};
+ghost use Rattle.cargo_json.specs.Faults.{Gives};
 ghost use Rattle.cargo_rows.specs.Rows as spec;
 ghost use Rattle.cargo_workspaces.specs.Views.{feature_text};
 ghost use Rattle.workspace_documents.specs.Views.{text_view, dependency_view};
 ghost use Rattle.cargo_rows.specs.inner.Views.{after};
 
-use cargo_documents::DocumentFault;
+use cargo_json::DocumentFault;
 use cargo_workspaces::{Feature, Kind};
 use std::alloc::{AllocError, Global};
 use workspace_documents::{Dependency, Package};

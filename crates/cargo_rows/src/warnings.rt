@@ -2,7 +2,7 @@
 ghost use Rattle.std.specs.Prelude.{◌≡◌, ◌++◌, List, IfOk, OnOk, map, option_map};
 ghost use Rattle.std.specs.List.{list_any};
 ghost use Rattle.std.specs.Str.{bytes_eq};
-ghost use Rattle.cargo_documents.specs.Faults.{Text};
+ghost use Rattle.cargo_json.specs.Faults.{Text};
 ghost use Rattle.workspace_documents.specs.Nodes.{no_node};
 ghost use Rattle.cargo_rows.specs.Warnings as spec;
 ghost use Rattle.cargo_workspaces.specs.Views.{feature_text};

@@ -6,7 +6,7 @@ ghost use Rattle.feats_files.specs.Messages.{IsRefused, Says, joined};
 
 use crate::fault::Fault;
 use crate::message::refused;
-use cargo_documents::{Unread, read};
+use cargo_json::{Unread, read};
 use json::{Reader, Scratch, Value};
 use std::alloc::Global;
 

@@ -3,7 +3,7 @@ use Rattle.std.specs.Prelude.{List, Option, Some, None, Result, Ok, Err, map, op
 use Rattle.std.specs.Option.{option_or}
 use Rattle.std.specs.Str.{bytes_eq}
 use Rattle.json.specs.Json.{Json}
-use Rattle.cargo_documents.specs.Faults.{Refusal}
+use Rattle.cargo_json.specs.Faults.{Refusal}
 use Rattle.cargo_workspaces.specs.Workspaces.{Text, FeatureText, DeclarationText, PackageText, WorkspaceText, may_name_feature, both_lead_to}
 use Rattle.workspace_documents.specs.Lists.{first_some}
 use Rattle.workspace_documents.specs.Leads.{DescribedText, described_in}

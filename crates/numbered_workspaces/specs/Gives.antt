@@ -1,6 +1,6 @@
 -- The result of a call beside the result that a definition gives.
 use Rattle.std.specs.Prelude.{◌≡◌, Result, Ok, Err, ⊤}
-use Rattle.cargo_documents.specs.Faults.{refusal_of}
+use Rattle.cargo_json.specs.Faults.{refusal_of}
 use Rattle.numbered_workspaces.specs.declared.fault.WorkspaceFault.{WorkspaceFault}
 use Rattle.numbered_workspaces.specs.declared.fault.WorkspaceFault.TheVariants as fault
 use Rattle.numbered_workspaces.specs.Faults.{NoWorkspace, unread, feature_name, two_names}

@@ -1,7 +1,7 @@
 //! The faults of a document that has no workspace.
 ghost use Rattle.std.specs.Prelude.{◌≡◌};
 
-use cargo_documents::DocumentFault;
+use cargo_json::DocumentFault;
 use std::alloc::{AllocError, AllocFailed};
 use thiserror::Error;
 

@@ -10,7 +10,7 @@ ghost use Rattle.numbered_workspaces.specs.Gives.{Gives};
 use crate::fault::WorkspaceFault;
 use crate::numbers::{ids_of, number_if_any, numbered_packages, numbers_of};
 use crate::rules::check_packages;
-use cargo_documents::DocumentFault;
+use cargo_json::DocumentFault;
 use cargo_workspaces::Workspace;
 use json::Value;
 use std::alloc::Global;

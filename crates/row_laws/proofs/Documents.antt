@@ -11,9 +11,9 @@ use Rattle.std.specs.Str.{bytes_eq}
 use Rattle.std.proofs.lemmas.Map.Keys.{sorted_head, sorted_tail}
 use Rattle.json.specs.Find.{as_array, get}
 use Rattle.json.specs.Json.{Json}
-use Rattle.cargo_documents.specs.declared.fault.Place.TheVariants as place
-use Rattle.cargo_documents.specs.Faults.{Text}
-use Rattle.cargo_documents.specs.Fields.{wanted}
+use Rattle.cargo_json.specs.declared.fault.Place.TheVariants as place
+use Rattle.cargo_json.specs.Faults.{Text}
+use Rattle.cargo_json.specs.Fields.{wanted}
 use Rattle.workspace_documents.specs.Dependencies.{DependencyText, FoundPackage, agree, agrees, choice, choice_of, dependencies_of, fits, found_of, is_other_name, led, led_to, name_of, nothing, one, pick, several, target_of, with_target}
 use Rattle.workspace_documents.specs.Lists.{ById, each_by_id, id_cmp}
 use Rattle.workspace_documents.specs.Nodes.{DepText, NodeText, no_node, node_of}

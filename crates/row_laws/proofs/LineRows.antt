@@ -8,7 +8,7 @@ use Rattle.std.proofs.lemmas.Bool.{eqb-true}
 use Rattle.std.proofs.lemmas.List.Elements.{All-append, All-cons, All-nil}
 use Rattle.std.proofs.lemmas.List.Splits.{slice_split_at, slice_split_none}
 use Rattle.std.proofs.lemmas.Str.{is_utf8-from_IsUtf8}
-use Rattle.cargo_documents.specs.Faults.{control}
+use Rattle.cargo_json.specs.Faults.{control}
 use Rattle.workspace_documents.proofs.Sorted.{both_ok, ok_same}
 use Rattle.cargo_rows.specs.Rows.{allowed, fields_text, has_control, row, row_text}
 use Rattle.guppy_packages.specs.Graph.{tables_of}

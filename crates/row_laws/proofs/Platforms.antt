@@ -5,10 +5,10 @@ use Rattle.std.specs.List.{AllByRecursion}
 use Rattle.std.specs.Str.{bytes_eq}
 use Rattle.json.specs.Find.{as_array, get}
 use Rattle.json.specs.Json.{Json, Items, no_items, item}
-use Rattle.cargo_documents.specs.declared.fault.Place.{Place}
-use Rattle.cargo_documents.specs.declared.fault.Place.TheVariants as place
-use Rattle.cargo_documents.specs.Faults.{Text, Refusal, every_platform}
-use Rattle.cargo_documents.specs.Fields.{optional_text_in, texts_in, wanted}
+use Rattle.cargo_json.specs.declared.fault.Place.{Place}
+use Rattle.cargo_json.specs.declared.fault.Place.TheVariants as place
+use Rattle.cargo_json.specs.Faults.{Text, Refusal, every_platform}
+use Rattle.cargo_json.specs.Fields.{optional_text_in, texts_in, wanted}
 use Rattle.workspace_documents.specs.Dependencies.{DependencyText, dependencies_of, led, target_of, with_target}
 use Rattle.workspace_documents.specs.Lists.{ById, each}
 use Rattle.workspace_documents.specs.Nodes.{DepText}

@@ -2,7 +2,7 @@
 use Rattle.std.specs.Prelude.{◌≡◌, List, Ok}
 use Rattle.std.specs.Str.{IsUtf8}
 use Rattle.json.specs.Json.{Json}
-use Rattle.cargo_documents.specs.Faults.{Text}
+use Rattle.cargo_json.specs.Faults.{Text}
 use Rattle.cargo_rows.specs.Rows.{rows_of as written}
 use Rattle.guppy_packages.specs.Graph.{tables_of}
 use Rattle.guppy_packages.specs.Rows.{RowText}

@@ -6,7 +6,7 @@ use Rattle.json.specs.Json.{Json}
 use Rattle.cargo_workspaces.specs.Workspaces.{FeatureText}
 use Rattle.cargo_workspaces.specs.declared.package.Kind.{Kind}
 use Rattle.cargo_workspaces.specs.declared.package.Kind.TheVariants as kind
-use Rattle.cargo_documents.specs.Faults.{Text, Refusal, ◌>>=◌}
+use Rattle.cargo_json.specs.Faults.{Text, Refusal, ◌>>=◌}
 use Rattle.workspace_documents.specs.Dependencies.{DependencyText, name_of, dependencies_of}
 use Rattle.workspace_documents.specs.Lists.{ById}
 use Rattle.workspace_documents.specs.Nodes.{NodeText, node_of, resolved_in}

@@ -14,9 +14,9 @@ use Rattle.std.specs.declared.alloc.Global.{Global}
 use Rattle.json.specs.Json.{Json, Items, item, member}
 use Rattle.json.specs.Value.{value_view, items_view, members_view}
 use Rattle.json.specs.declared.value.Value.{Value}
-use Rattle.cargo_documents.specs.declared.fault.Place.{Place}
-use Rattle.cargo_documents.specs.declared.fault.Place.TheVariants as place
-use Rattle.cargo_documents.specs.Faults.{Text, Refusal, repeated, IfNotMemory}
+use Rattle.cargo_json.specs.declared.fault.Place.{Place}
+use Rattle.cargo_json.specs.declared.fault.Place.TheVariants as place
+use Rattle.cargo_json.specs.Faults.{Text, Refusal, repeated, IfNotMemory}
 use Rattle.workspace_documents.specs.Lists.{ById, id_cmp, at_id, each_by_id}
 use Rattle.workspace_documents.specs.Packages.{PackageText, package_in, package_with_id, sorted}
 use Rattle.workspace_documents.specs.Views.{entries_view}

@@ -6,10 +6,10 @@ use Rattle.std.specs.Option.{unwrap_or}
 use Rattle.std.specs.Str.{bytes_eq}
 use Rattle.std.proofs.lemmas.Slice.Eq.{bytes_eq-Decides}
 use Rattle.json.specs.Json.{Json, Items, no_items, item}
-use Rattle.cargo_documents.specs.declared.fault.Place.{Place}
-use Rattle.cargo_documents.specs.declared.fault.Place.TheVariants as place
-use Rattle.cargo_documents.specs.Faults.{Text, Refusal, ◌>>=◌}
-use Rattle.cargo_documents.specs.Fields.{text_in, optional_text_in, list_in, texts_in}
+use Rattle.cargo_json.specs.declared.fault.Place.{Place}
+use Rattle.cargo_json.specs.declared.fault.Place.TheVariants as place
+use Rattle.cargo_json.specs.Faults.{Text, Refusal, ◌>>=◌}
+use Rattle.cargo_json.specs.Fields.{text_in, optional_text_in, list_in, texts_in}
 use Rattle.workspace_documents.specs.Lists.{ById, at_id, each}
 use Rattle.workspace_documents.specs.Packages.{DeclarationText, PackageText, use_in}
 use Rattle.workspace_documents.specs.Nodes.{DepText, NodeText, ResolvedText, found_or, package_at, dep_in, no_node, node_in, resolve_in, nodes_in, known, members_in, node_of, resolved_in}

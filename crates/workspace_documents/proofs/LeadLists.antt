@@ -1,7 +1,7 @@
 -- Where declarations lead, one after the other.
 use Rattle.std.proofs.Common.{◌≡◌, ◌∙◌, sym, ap, refl, ℕ, ◌+◌, ◌<◌, List, [], ◌∷◌, ◌++◌, map, length, drop, get_or, add-one, drop-cons, Bor}
 use Rattle.std.specs.Prelude.{Option, Result, Ok, Err}
-use Rattle.cargo_documents.specs.Faults.{Text, Refusal, IfNotMemory}
+use Rattle.cargo_json.specs.Faults.{Text, Refusal, IfNotMemory}
 use Rattle.workspace_documents.specs.declared.packages.Declaration.{Declaration}
 use Rattle.workspace_documents.specs.declared.packages.Package.{Package}
 use Rattle.workspace_documents.specs.Lists.{ById}

@@ -5,8 +5,8 @@ use Rattle.std.specs.declared.alloc.Global.{Global}
 use Rattle.json.specs.Json.{Json}
 use Rattle.json.specs.Value.{value_view, items_view}
 use Rattle.json.specs.declared.value.Value.{Value}
-use Rattle.cargo_documents.specs.declared.fault.Place.{Place}
-use Rattle.cargo_documents.specs.Faults.{Text, Refusal, bad_field, repeated, no_package, ambiguous, two_names, control, every_platform, no_deps, out_of_memory, IfNotMemory, ◌>>=◌}
+use Rattle.cargo_json.specs.declared.fault.Place.{Place}
+use Rattle.cargo_json.specs.Faults.{Text, Refusal, bad_field, repeated, no_package, ambiguous, two_names, control, every_platform, no_deps, out_of_memory, IfNotMemory, ◌>>=◌}
 use Rattle.workspace_documents.specs.Lists.{each}
 use Rattle.cargo_workspaces.specs.Workspaces.{FeatureText}
 use Rattle.workspace_documents.specs.Packages.{feature_in, features_of}

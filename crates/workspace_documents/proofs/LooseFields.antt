@@ -7,9 +7,9 @@ use Rattle.json.specs.Json.{Json}
 use Rattle.json.specs.Find.{get, as_array}
 use Rattle.json.specs.Value.{value_view, items_view}
 use Rattle.json.specs.declared.value.Value.{Value}
-use Rattle.cargo_documents.specs.declared.fault.Place.{Place}
-use Rattle.cargo_documents.specs.Faults.{Text, Refusal}
-use Rattle.cargo_documents.specs.Fields.{wanted, all_texts, texts_in}
+use Rattle.cargo_json.specs.declared.fault.Place.{Place}
+use Rattle.cargo_json.specs.Faults.{Text, Refusal}
+use Rattle.cargo_json.specs.Fields.{wanted, all_texts, texts_in}
 use Rattle.cargo_workspaces.specs.Workspaces.{TargetText}
 use Rattle.workspace_documents.specs.Targets.{texts_at, target_in, targets_in}
 use Rattle.workspace_documents.proofs.Entries.{item_at}

@@ -1,8 +1,8 @@
 -- The ids of members, one after the other.
 use Rattle.std.proofs.Common.{◌≡◌, ◌∙◌, refl, ℕ, ◌+◌, ◌<◌, List, ◌∷◌, map, length, drop, get_or, add-one, drop-cons, Bor}
 use Rattle.std.specs.Prelude.{Result, Ok, Err, ⊤}
-use Rattle.cargo_documents.specs.declared.fault.Place.TheVariants as place
-use Rattle.cargo_documents.specs.Faults.{Text, Refusal, IfNotMemory}
+use Rattle.cargo_json.specs.declared.fault.Place.TheVariants as place
+use Rattle.cargo_json.specs.Faults.{Text, Refusal, IfNotMemory}
 use Rattle.workspace_documents.specs.Lists.{ById}
 use Rattle.workspace_documents.specs.Packages.{PackageText}
 use Rattle.workspace_documents.specs.Nodes.{package_at, known}

@@ -8,7 +8,7 @@ use Rattle.workspace_documents.specs.declared.nodes.Dep.{Dep}
 use Rattle.workspace_documents.specs.declared.dependencies.Asked.{Asked}
 use Rattle.workspace_documents.specs.Packages.{DeclarationText, PackageText}
 use Rattle.workspace_documents.specs.Nodes.{DepText}
-use Rattle.cargo_documents.specs.Faults.{Text, Refusal, ◌>>=◌}
+use Rattle.cargo_json.specs.Faults.{Text, Refusal, ◌>>=◌}
 use Rattle.workspace_documents.specs.Dependencies.{nothing, found_of, pick, DependencyText, target_of, with_target, led}
 use Rattle.workspace_documents.specs.inner.Picks.{with_one, and_one, answers, meets}
 use Rattle.workspace_documents.specs.Views.{declaration_view, dep_view, package_view}

@@ -6,10 +6,10 @@ use Rattle.std.specs.List.Sorted.{IsStrictlySortedBy}
 use Rattle.std.specs.Map.{keys_of}
 use Rattle.json.specs.Json.{Json}
 use Rattle.json.specs.Find.{get, as_array}
-use Rattle.cargo_documents.specs.declared.fault.Place.TheVariants as place
-use Rattle.cargo_documents.specs.declared.fault.DocumentFault.{DocumentFault}
-use Rattle.cargo_documents.specs.Faults.{Gives}
-use Rattle.cargo_documents.specs.Fields.{wanted}
+use Rattle.cargo_json.specs.declared.fault.Place.TheVariants as place
+use Rattle.cargo_json.specs.declared.fault.DocumentFault.{DocumentFault}
+use Rattle.cargo_json.specs.Faults.{Gives}
+use Rattle.cargo_json.specs.Fields.{wanted}
 use Rattle.workspace_documents.specs.Lists.{ById, id_cmp, each_by_id}
 use Rattle.workspace_documents.specs.Packages.{PackageText, package_with_id, packages_at, packages_in}
 use Rattle.workspace_documents.specs.Nodes.{members_in, resolved_in}

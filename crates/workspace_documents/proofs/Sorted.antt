@@ -12,10 +12,10 @@ use Rattle.std.proofs.lemmas.Cmp.{nat_list_cmp_total}
 use Rattle.std.proofs.lemmas.Map.Lookups.{exact_bytes}
 use Rattle.json.specs.Json.{Json, Items, no_items, item, Members, no_members, member}
 use Rattle.json.specs.Find.{as_array}
-use Rattle.cargo_documents.specs.declared.fault.Place.{Place}
-use Rattle.cargo_documents.specs.declared.fault.Place.TheVariants as place
-use Rattle.cargo_documents.specs.Faults.{Text, Refusal, repeated, ◌>>=◌}
-use Rattle.cargo_documents.specs.Fields.{wanted, all_texts}
+use Rattle.cargo_json.specs.declared.fault.Place.{Place}
+use Rattle.cargo_json.specs.declared.fault.Place.TheVariants as place
+use Rattle.cargo_json.specs.Faults.{Text, Refusal, repeated, ◌>>=◌}
+use Rattle.cargo_json.specs.Fields.{wanted, all_texts}
 use Rattle.cargo_workspaces.specs.Workspaces.{FeatureText}
 use Rattle.workspace_documents.specs.Lists.{ById, id_cmp, at_id, each, each_by_id}
 use Rattle.workspace_documents.specs.Packages.{PackageText, sorted, feature_in, features_of, first_library, declaration_in, lists_in, names_in, package_in, package_with_id}

@@ -2,7 +2,7 @@
 use Rattle.std.proofs.Common.{◌≡◌, refl, List}
 use Rattle.std.specs.Prelude.{Option, Ok, Err, codes}
 use Rattle.json.specs.Json.{Json}
-use Rattle.cargo_documents.specs.Faults.{Text, Refusal, IfNotMemory}
+use Rattle.cargo_json.specs.Faults.{Text, Refusal, IfNotMemory}
 use Rattle.workspace_documents.specs.Lists.{ById}
 use Rattle.workspace_documents.specs.Packages.{PackageText}
 use Rattle.workspace_documents.specs.Nodes.{NodeText, ResolvedText, members_in, nodes_in, resolved_in}

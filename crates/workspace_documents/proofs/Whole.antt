@@ -3,8 +3,8 @@ use Rattle.std.proofs.Common.{◌≡◌, ◌∙◌, sym, ap, refl}
 use Rattle.std.specs.Prelude.{Ok, Option, codes}
 use Rattle.json.specs.Json.{Json}
 use Rattle.json.specs.Find.{get}
-use Rattle.cargo_documents.specs.Faults.{Text}
-use Rattle.cargo_documents.specs.Parts.{Parts}
+use Rattle.cargo_json.specs.Faults.{Text}
+use Rattle.cargo_json.specs.Parts.{Parts}
 use Rattle.workspace_documents.specs.Lists.{ById}
 use Rattle.workspace_documents.specs.Packages.{PackageText, packages_at, packages_in}
 use Rattle.workspace_documents.specs.Nodes.{resolve_in, members_in, nodes_in, resolved_in}

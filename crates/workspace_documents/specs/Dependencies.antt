@@ -5,7 +5,7 @@ use Rattle.std.specs.Str.{bytes_eq}
 use Rattle.std.specs.Cmp.Lexicographic.{pointwise}
 use Rattle.cargo_workspaces.specs.declared.package.Kind.{Kind}
 use Rattle.cargo_workspaces.specs.declared.package.Kind.TheVariants as kind
-use Rattle.cargo_documents.specs.Faults.{Text, Refusal, ambiguous, two_names, ◌>>=◌}
+use Rattle.cargo_json.specs.Faults.{Text, Refusal, ambiguous, two_names, ◌>>=◌}
 use Rattle.workspace_documents.specs.Packages.{DeclarationText, PackageText}
 use Rattle.workspace_documents.specs.Nodes.{DepText}
 use Rattle.workspace_documents.specs.Requirements.{admits}

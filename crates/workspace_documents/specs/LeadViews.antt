@@ -1,7 +1,7 @@
 -- The values that the types of described workspaces contain.
 use Rattle.std.specs.Prelude.{List, Option, map, option_map}
 use Rattle.std.specs.Borrow.{Bor}
-use Rattle.cargo_documents.specs.Faults.{Text}
+use Rattle.cargo_json.specs.Faults.{Text}
 use Rattle.workspace_documents.specs.Leads.{LinksText, DescribedText}
 use Rattle.workspace_documents.specs.Views.{text_view, package_view, entries_view}
 use Rattle.workspace_documents.specs.declared.leads.Leads.{Leads}

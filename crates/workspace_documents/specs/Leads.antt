@@ -1,9 +1,9 @@
 -- What a document says about a workspace, by the ids of packages.
 use Rattle.std.specs.Prelude.{List, [], ◌∷◌, codes, Option, Some, None, Result, Ok, option_map}
 use Rattle.json.specs.Json.{Json}
-use Rattle.cargo_documents.specs.declared.fault.Place.TheVariants as place
-use Rattle.cargo_documents.specs.Faults.{Text, Refusal, ◌>>=◌}
-use Rattle.cargo_documents.specs.Fields.{optional_text_in}
+use Rattle.cargo_json.specs.declared.fault.Place.TheVariants as place
+use Rattle.cargo_json.specs.Faults.{Text, Refusal, ◌>>=◌}
+use Rattle.cargo_json.specs.Fields.{optional_text_in}
 use Rattle.workspace_documents.specs.Lists.{ById}
 use Rattle.workspace_documents.specs.Packages.{DeclarationText, PackageText, packages_in}
 use Rattle.workspace_documents.specs.Nodes.{DepText, NodeText, package_at, resolve_in, members_in, node_of, resolved_in}

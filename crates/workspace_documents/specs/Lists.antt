@@ -7,8 +7,8 @@ use Rattle.std.specs.Map.{lookup}
 use Rattle.std.specs.BTreeMap.{insert_entry}
 use Rattle.std.specs.declared.cmp.Ordering.{Ordering}
 use Rattle.json.specs.Json.{Json, Items, no_items, item}
-use Rattle.cargo_documents.specs.declared.fault.Place.{Place}
-use Rattle.cargo_documents.specs.Faults.{Text, Refusal, repeated, ◌>>=◌}
+use Rattle.cargo_json.specs.declared.fault.Place.{Place}
+use Rattle.cargo_json.specs.Faults.{Text, Refusal, repeated, ◌>>=◌}
 
 -- each item as `read` reads it, with places from `n` on; or the first fault
 abbrev pub each : {X : Type 0} → (ℕ → Json → Result X Refusal) → ℕ → Items → Result (List X) Refusal

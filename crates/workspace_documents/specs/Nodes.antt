@@ -3,10 +3,10 @@ use Rattle.std.specs.Prelude.{ℕ, List, [], ◌∷◌, codes, Option, Some, Non
 use Rattle.std.specs.Option.{unwrap_or}
 use Rattle.json.specs.Json.{Json, null, boolean, number, string, array, object}
 use Rattle.json.specs.Find.{get}
-use Rattle.cargo_documents.specs.declared.fault.Place.{Place}
-use Rattle.cargo_documents.specs.declared.fault.Place.TheVariants as place
-use Rattle.cargo_documents.specs.Faults.{Text, Refusal, no_package, no_deps, ◌>>=◌}
-use Rattle.cargo_documents.specs.Fields.{wanted, text_in, list_in, texts_in}
+use Rattle.cargo_json.specs.declared.fault.Place.{Place}
+use Rattle.cargo_json.specs.declared.fault.Place.TheVariants as place
+use Rattle.cargo_json.specs.Faults.{Text, Refusal, no_package, no_deps, ◌>>=◌}
+use Rattle.cargo_json.specs.Fields.{wanted, text_in, list_in, texts_in}
 use Rattle.workspace_documents.specs.Lists.{each, ById, at_id, each_by_id}
 use Rattle.workspace_documents.specs.Packages.{UseText, use_in, PackageText}
 use Rattle.workspace_documents.specs.Targets.{texts_at}

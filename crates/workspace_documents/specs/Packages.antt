@@ -5,12 +5,12 @@ use Rattle.std.specs.Str.{bytes_eq}
 use Rattle.std.specs.BTreeMap.{insert_entry}
 use Rattle.json.specs.Json.{Json, Items, Members, no_members, member}
 use Rattle.json.specs.Find.{get, as_array}
-use Rattle.cargo_documents.specs.declared.fault.Place.{Place}
-use Rattle.cargo_documents.specs.declared.fault.Place.TheVariants as place
+use Rattle.cargo_json.specs.declared.fault.Place.{Place}
+use Rattle.cargo_json.specs.declared.fault.Place.TheVariants as place
 use Rattle.cargo_workspaces.specs.declared.package.Kind.{Kind}
 use Rattle.cargo_workspaces.specs.declared.package.Kind.TheVariants as kind
-use Rattle.cargo_documents.specs.Faults.{Text, Refusal, bad_field, every_platform, ◌>>=◌}
-use Rattle.cargo_documents.specs.Fields.{wanted, all_texts, text_in, optional_text_in, flag_in, list_in, object_in, texts_in}
+use Rattle.cargo_json.specs.Faults.{Text, Refusal, bad_field, every_platform, ◌>>=◌}
+use Rattle.cargo_json.specs.Fields.{wanted, all_texts, text_in, optional_text_in, flag_in, list_in, object_in, texts_in}
 use Rattle.cargo_workspaces.specs.Workspaces.{FeatureText, TargetText, is_library_kind}
 use Rattle.workspace_documents.specs.Targets.{text_at, targets_in}
 use Rattle.workspace_documents.specs.Lists.{each, first_some, ById, id_cmp, each_by_id}

@@ -4,7 +4,7 @@ use Rattle.std.specs.List.{list_all}
 use Rattle.semver.specs.Parse.{Held, Parts, req_of, version_parts}
 use Rattle.semver.specs.EvalViews.{matches_view}
 use Rattle.semver.specs.declared.error.Error.{Error}
-use Rattle.cargo_documents.specs.Faults.{Text}
+use Rattle.cargo_json.specs.Faults.{Text}
 
 -- the three numbers of a version
 abbrev pub plain_version : Parts → Parts

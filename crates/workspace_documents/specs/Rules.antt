@@ -5,7 +5,7 @@ use Rattle.std.specs.List.Sorted.{IsStrictlySortedBy}
 use Rattle.std.specs.Map.{keys_of}
 use Rattle.std.specs.Option.{option_map_or}
 use Rattle.std.specs.Str.{bytes_eq}
-use Rattle.cargo_documents.specs.Faults.{Text}
+use Rattle.cargo_json.specs.Faults.{Text}
 use Rattle.workspace_documents.specs.Lists.{ById, id_cmp}
 use Rattle.workspace_documents.specs.Packages.{PackageText}
 use Rattle.workspace_documents.specs.Leads.{DescribedText}

@@ -3,8 +3,8 @@ use Rattle.std.specs.Prelude.{List, [], ◌∷◌, codes, Bool, false, Option, o
 use Rattle.std.specs.Option.{unwrap_or}
 use Rattle.json.specs.Json.{Json, Items, no_items, item}
 use Rattle.json.specs.Find.{get, as_str, as_bool, as_array}
-use Rattle.cargo_documents.specs.Faults.{Text}
-use Rattle.cargo_documents.specs.Fields.{all_texts}
+use Rattle.cargo_json.specs.Faults.{Text}
+use Rattle.cargo_json.specs.Fields.{all_texts}
 use Rattle.cargo_workspaces.specs.Workspaces.{TargetText}
 
 -- The field of this name, if it is a text.

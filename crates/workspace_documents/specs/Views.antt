@@ -9,7 +9,7 @@ use Rattle.workspace_documents.specs.declared.nodes.Dep.{Dep}
 use Rattle.workspace_documents.specs.declared.nodes.Node.{Node}
 use Rattle.workspace_documents.specs.declared.nodes.Resolved.{Resolved}
 use Rattle.workspace_documents.specs.declared.dependencies.Dependency.{Dependency}
-use Rattle.cargo_documents.specs.Faults.{Text}
+use Rattle.cargo_json.specs.Faults.{Text}
 use Rattle.workspace_documents.specs.Lists.{ById}
 use Rattle.workspace_documents.specs.Packages.{UseText, DeclarationText, PackageText}
 use Rattle.workspace_documents.specs.Nodes.{DepText, NodeText, ResolvedText}

@@ -1,8 +1,8 @@
 //! Finds the package that each declaration leads to.
 ghost use Rattle.std.specs.Prelude.{◌≡◌, ◌++◌, [], IfOk, OnOk, map, option_map, string_bytes};
 ghost use Rattle.std.specs.List.{find};
-ghost use Rattle.cargo_documents.specs.Faults.{Gives, refusal_of};
-ghost use Rattle.cargo_documents.specs.Faults as fault;
+ghost use Rattle.cargo_json.specs.Faults.{Gives, refusal_of};
+ghost use Rattle.cargo_json.specs.Faults as fault;
 ghost use Rattle.workspace_documents.specs.Dependencies as spec;
 ghost use Rattle.workspace_documents.specs.declared.dependencies.Asked.TheVariants as asked;
 ghost use Rattle.workspace_documents.specs.inner.Picks as picks;
@@ -11,7 +11,7 @@ ghost use Rattle.workspace_documents.specs.Views.{text_view, declaration_view, d
 use crate::nodes::Dep;
 use crate::packages::{Declaration, Package};
 use crate::requirements::admits;
-use cargo_documents::DocumentFault;
+use cargo_json::DocumentFault;
 use cargo_workspaces::Kind;
 use std::alloc::{AllocError, Global};
 

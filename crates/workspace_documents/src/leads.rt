@@ -1,7 +1,7 @@
 //! The workspace that a document describes, by the ids of its packages.
 ghost use Rattle.std.specs.Prelude.{◌≡◌, Some, IfOk, map};
 ghost use Rattle.json.specs.Value.{value_view};
-ghost use Rattle.cargo_documents.specs.Faults.{Gives};
+ghost use Rattle.cargo_json.specs.Faults.{Gives};
 ghost use Rattle.workspace_documents.specs.Leads as spec;
 ghost use Rattle.workspace_documents.specs.Rules.{IsDescribed};
 ghost use Rattle.workspace_documents.specs.Views.{declaration_view, dep_view, node_view, package_view, entries_view};
@@ -11,7 +11,7 @@ ghost use Rattle.workspace_documents.specs.Nodes.{no_node};
 use crate::dependencies::target_of;
 use crate::nodes::{Dep, Node, Nodes, members_in, node_at, package_at, resolve_in, resolved_in};
 use crate::packages::{Declaration, Package, Packages, packages_of};
-use cargo_documents::{DocumentFault, Place, optional_text_in, parts_of};
+use cargo_json::{DocumentFault, Place, optional_text_in, parts_of};
 use json::Value;
 use std::alloc::Global;
 

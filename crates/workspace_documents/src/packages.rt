@@ -4,18 +4,18 @@ ghost use Rattle.std.specs.BTreeMap.{get, insert_entry};
 ghost use Rattle.std.specs.List.{list_any};
 ghost use Rattle.json.specs.Find.{as_array};
 ghost use Rattle.json.specs.Value.{value_view, items_view, members_view};
-ghost use Rattle.cargo_documents.specs.Faults.{Gives, IfNotMemory, refusal_of, repeated};
-ghost use Rattle.cargo_documents.specs.Fields.{wanted, all_texts};
+ghost use Rattle.cargo_json.specs.Faults.{Gives, IfNotMemory, refusal_of, repeated};
+ghost use Rattle.cargo_json.specs.Fields.{wanted, all_texts};
 ghost use Rattle.workspace_documents.specs.Lists.{each, each_by_id};
 ghost use Rattle.workspace_documents.specs.Packages as spec;
 ghost use Rattle.workspace_documents.specs.inner.Keys.{key_cmp};
 ghost use Rattle.cargo_workspaces.specs.Views.{feature_text};
 ghost use Rattle.cargo_workspaces.specs.Workspaces.{is_library_kind};
 ghost use Rattle.workspace_documents.specs.Views.{text_view, use_view, declaration_view, package_view, entries_view};
-ghost use Rattle.cargo_documents.specs.declared.fault.Place.TheVariants as at;
+ghost use Rattle.cargo_json.specs.declared.fault.Place.TheVariants as at;
 
 use crate::targets::{targets_of, text_at};
-use cargo_documents::{
+use cargo_json::{
     DocumentFault, Place, flag_in, list_in, object_in, optional_text_in, text_in, texts_in,
     texts_of,
 };

@@ -5,7 +5,7 @@ ghost use Rattle.cargo_workspaces.specs.Views.{target_text};
 ghost use Rattle.workspace_documents.specs.Targets as spec;
 ghost use Rattle.workspace_documents.specs.Views.{text_view};
 
-use cargo_documents::{DocumentFault, Place, texts_in};
+use cargo_json::{DocumentFault, Place, texts_in};
 use cargo_workspaces::Target;
 use json::Value;
 use std::alloc::{AllocError, Global};

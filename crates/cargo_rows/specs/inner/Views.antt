@@ -5,7 +5,7 @@ use Rattle.std.specs.List.{list_any}
 use Rattle.std.specs.Str.{bytes_eq}
 use Rattle.std.specs.Ordering.{is_eq}
 use Rattle.std.specs.BTreeSet.{BTreeSet}
-use Rattle.cargo_documents.specs.Faults.{Text, Refusal, ◌>>=◌}
+use Rattle.cargo_json.specs.Faults.{Text, Refusal, ◌>>=◌}
 use Rattle.workspace_documents.specs.Lists.{id_cmp}
 
 -- a set has these texts and no others

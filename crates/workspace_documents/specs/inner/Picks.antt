@@ -4,7 +4,7 @@ use Rattle.workspace_documents.specs.declared.dependencies.Found.{Found}
 use Rattle.workspace_documents.specs.declared.dependencies.Found.TheVariants as found
 use Rattle.workspace_documents.specs.declared.dependencies.Asked.{Asked}
 use Rattle.workspace_documents.specs.declared.dependencies.Asked.TheVariants as asked
-use Rattle.cargo_documents.specs.Faults.{Text}
+use Rattle.cargo_json.specs.Faults.{Text}
 use Rattle.workspace_documents.specs.Packages.{DeclarationText, PackageText}
 use Rattle.workspace_documents.specs.Nodes.{DepText}
 use Rattle.workspace_documents.specs.Dependencies.{FoundPackage, nothing, one, several, fits, is_used, is_admitted, is_as_named}

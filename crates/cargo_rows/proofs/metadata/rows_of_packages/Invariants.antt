@@ -1,6 +1,6 @@
 use Rattle.std.proofs.Common.{◌≡◌, List}
 use Rattle.std.specs.String.{string_bytes}
-use Rattle.cargo_documents.specs.Faults.{Text}
+use Rattle.cargo_json.specs.Faults.{Text}
 use Rattle.cargo_rows.specs.Rows.{all_rows}
 use Rattle.workspace_documents.specs.Views.{node_view, package_view, entries_view}
 use Rattle.cargo_rows.specs.inner.Views.{HasTexts, after}

@@ -1,5 +1,5 @@
 use Rattle.std.proofs.Common.{◌≡◌, ◌++◌, List, map, drop}
-use Rattle.cargo_documents.specs.Faults.{Text}
+use Rattle.cargo_json.specs.Faults.{Text}
 use Rattle.cargo_rows.specs.Warnings.{package_warnings, warning_view}
 use Rattle.workspace_documents.specs.Views.{declaration_view, node_view, package_view}
 use Rattle.cargo_rows.specs.inner.Views.{HasTexts}

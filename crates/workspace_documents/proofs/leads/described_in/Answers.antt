@@ -1,5 +1,5 @@
 use Rattle.std.proofs.Common.{sym, subst}
-use Rattle.cargo_documents.specs.Faults.{Gives}
+use Rattle.cargo_json.specs.Faults.{Gives}
 use Rattle.workspace_documents.specs.LeadViews.{described_view}
 use Rattle.workspace_documents.proofs.Whole.{described_by}
 use Rattle.workspace_documents.proofs.Rules.{sound_result}

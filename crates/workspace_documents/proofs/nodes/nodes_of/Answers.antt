@@ -1,5 +1,5 @@
 use Rattle.std.proofs.Common.{◌∙◌, sym, ap}
-use Rattle.cargo_documents.specs.declared.fault.Place.TheVariants as place
+use Rattle.cargo_json.specs.declared.fault.Place.TheVariants as place
 use Rattle.workspace_documents.specs.Lists.{each_by_id}
 use Rattle.workspace_documents.specs.Nodes.{node_in}
 use Rattle.workspace_documents.specs.Views.{node_view, package_view, entries_view}

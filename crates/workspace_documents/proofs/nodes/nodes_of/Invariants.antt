@@ -1,6 +1,6 @@
 use Rattle.std.proofs.Common.{◌≡◌, [], drop}
 use Rattle.json.specs.Value.{items_view}
-use Rattle.cargo_documents.specs.declared.fault.Place.TheVariants as place
+use Rattle.cargo_json.specs.declared.fault.Place.TheVariants as place
 use Rattle.workspace_documents.specs.Lists.{each_by_id}
 use Rattle.workspace_documents.specs.Nodes.{node_in}
 use Rattle.workspace_documents.specs.Views.{node_view, package_view, entries_view}

@@ -1,6 +1,6 @@
 use Rattle.std.proofs.Common.{◌∙◌, ℕ, ap, map}
 use Rattle.std.proofs.lemmas.List.{map-append}
-use Rattle.cargo_documents.specs.declared.fault.Place.TheVariants as place
+use Rattle.cargo_json.specs.declared.fault.Place.TheVariants as place
 use Rattle.workspace_documents.specs.Packages.{declaration_in}
 use Rattle.workspace_documents.specs.Views.{declaration_view}
 use Rattle.workspace_documents.proofs.Lists.{each_more}

@@ -1,6 +1,6 @@
 use Rattle.std.proofs.Common.{◌≡◌, ℕ, map, drop}
 use Rattle.json.specs.Value.{items_view}
-use Rattle.cargo_documents.specs.declared.fault.Place.TheVariants as place
+use Rattle.cargo_json.specs.declared.fault.Place.TheVariants as place
 use Rattle.workspace_documents.specs.Lists.{each}
 use Rattle.workspace_documents.specs.Packages.{declaration_in}
 use Rattle.workspace_documents.specs.Views.{declaration_view}

@@ -1,8 +1,8 @@
 use Rattle.std.proofs.Common.{◌≡◌, ℕ, ◌∷◌, drop, option_map}
 use Rattle.std.specs.Prelude.{Ok}
 use Rattle.json.specs.Value.{items_view}
-use Rattle.cargo_documents.specs.declared.fault.Place.TheVariants as place
-use Rattle.cargo_documents.specs.Faults.{◌>>=◌}
+use Rattle.cargo_json.specs.declared.fault.Place.TheVariants as place
+use Rattle.cargo_json.specs.Faults.{◌>>=◌}
 use Rattle.workspace_documents.specs.Lists.{each, first_some}
 use Rattle.workspace_documents.specs.Packages.{library_in, first_library}
 use Rattle.workspace_documents.specs.Views.{text_view}

@@ -2,7 +2,7 @@ use Rattle.std.proofs.Common.{◌≡◌, ◌-◌, length, arith, refl}
 use Rattle.std.specs.Prelude.{Ok}
 use Rattle.std.proofs.lemmas.Result.{err_from_is_err_and}
 use Rattle.json.specs.Value.{value_view}
-use Rattle.cargo_documents.specs.declared.fault.Place.TheVariants as place
+use Rattle.cargo_json.specs.declared.fault.Place.TheVariants as place
 use Rattle.workspace_documents.specs.Packages.{package_with_id}
 use Rattle.workspace_documents.specs.Views.{package_view}
 use Rattle.workspace_documents.proofs.Entries.{next_by_id, refused_by_id, last_by_id, others_by_id, fewer, package_refused}

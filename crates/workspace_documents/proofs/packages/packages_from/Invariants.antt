@@ -1,7 +1,7 @@
 use Rattle.std.proofs.Common.{◌≡◌, ◌-◌, ◌≤◌, [], length}
 use Rattle.std.specs.Prelude.{reverse, vec_len}
 use Rattle.json.specs.Value.{items_view}
-use Rattle.cargo_documents.specs.declared.fault.Place.TheVariants as place
+use Rattle.cargo_json.specs.declared.fault.Place.TheVariants as place
 use Rattle.workspace_documents.specs.Lists.{each_by_id}
 use Rattle.workspace_documents.specs.Packages.{package_with_id}
 use Rattle.workspace_documents.specs.Views.{package_view, entries_view}

@@ -1,10 +1,10 @@
 use Rattle.std.proofs.Common.{◌∙◌, ap, map, sym}
 use Rattle.std.specs.Borrow.{Bor}
 use Rattle.std.proofs.lemmas.List.{map-append}
-use Rattle.cargo_documents.specs.Faults.{Text}
-use Rattle.cargo_documents.specs.Fields.{wanted}
-use Rattle.cargo_documents.proofs.Texts.{texts_more, texts_refused}
-use Rattle.cargo_documents.proofs.fields.texts_of.Goals as goal
+use Rattle.cargo_json.specs.Faults.{Text}
+use Rattle.cargo_json.specs.Fields.{wanted}
+use Rattle.cargo_json.proofs.Texts.{texts_more, texts_refused}
+use Rattle.cargo_json.proofs.fields.texts_of.Goals as goal
 
 pub loop-item-preserved : goal.loop-item-preserved
 loop-item-preserved c =

@@ -4,8 +4,8 @@ ghost use Rattle.std.specs.Str.{bytes_eq};
 ghost use Rattle.json.specs.Find.{later_or};
 ghost use Rattle.json.specs.Json.{object};
 ghost use Rattle.json.specs.Value.{value_view, members_view};
-ghost use Rattle.cargo_documents.specs.Parts.{Parts};
-ghost use Rattle.cargo_documents.specs.inner.Members.{fields_of};
+ghost use Rattle.cargo_json.specs.Parts.{Parts};
+ghost use Rattle.cargo_json.specs.inner.Members.{fields_of};
 
 use json::Value;
 use std::alloc::{AllocFailed, Global};

@@ -3,8 +3,8 @@ use Rattle.std.specs.Prelude.{reverse, vec_len, codes}
 use Rattle.std.specs.Str.{bytes_eq}
 use Rattle.json.specs.Find.{later_or, get_member}
 use Rattle.json.specs.Value.{value_view, members_view}
-use Rattle.cargo_documents.specs.Faults.{Text}
-use Rattle.cargo_documents.proofs.parts.split.Given as goal
+use Rattle.cargo_json.specs.Faults.{Text}
+use Rattle.cargo_json.proofs.parts.split.Given as goal
 
 -- the packages found so far, or still to be found, and the other fields; those kept so far are in reverse
 abbrev pub invariant-fields : goal.invariant-fields

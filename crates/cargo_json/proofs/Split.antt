@@ -9,9 +9,9 @@ use Rattle.json.specs.Json.{Json, null, boolean, number, string, array, object}
 use Rattle.json.specs.Find.{later_or, get_member, get}
 use Rattle.json.specs.Value.{value_view, members_view}
 use Rattle.json.specs.declared.value.Value.{Value}
-use Rattle.cargo_documents.specs.Faults.{Text}
-use Rattle.cargo_documents.specs.Parts.{Parts}
-use Rattle.cargo_documents.specs.inner.Members.{fields_of}
+use Rattle.cargo_json.specs.Faults.{Text}
+use Rattle.cargo_json.specs.Parts.{Parts}
+use Rattle.cargo_json.specs.inner.Members.{fields_of}
 
 abbrev Field : Type 0
 Field = Bor Text × Value Global

@@ -1,7 +1,7 @@
 use Rattle.std.proofs.Common.{◌≡◌, ℕ, ◌+◌, ◌*◌, ◌≤◌, length}
 use Rattle.json.specs.Json.{items, members, value, parse_map}
 use Rattle.json.proofs.Trees.{items_before, members_before}
-use Rattle.cargo_documents.proofs.tree.+read.Given as goal
+use Rattle.cargo_json.proofs.tree.+read.Given as goal
 
 abbrev pub decreases-read : goal.decreases-read
 decreases-read l = 2 * l.depth

@@ -4,9 +4,9 @@ use Rattle.std.specs.Prelude.{codes}
 use Rattle.json.specs.Find.{later_or, get_member}
 use Rattle.json.specs.Value.{members_view}
 use Rattle.json.specs.declared.value.Value.{Value}
-use Rattle.cargo_documents.specs.Faults.{Text}
-use Rattle.cargo_documents.proofs.Split.{taken_here, taken_before, kept, left_out}
-use Rattle.cargo_documents.proofs.parts.split.Goals as goal
+use Rattle.cargo_json.specs.Faults.{Text}
+use Rattle.cargo_json.proofs.Split.{taken_here, taken_before, kept, left_out}
+use Rattle.cargo_json.proofs.parts.split.Goals as goal
 
 pub fields-preserved-then-lists_packages : goal.fields-preserved-then-lists_packages
 fields-preserved-then-lists_packages c =

@@ -2,8 +2,8 @@
 use Rattle.std.specs.Prelude.{List, [], ◌∷◌, Bool, Option, Some, None, Result, Ok, Err, option_map, option_and_then}
 use Rattle.json.specs.Json.{Json, null, boolean, number, string, array, object, Items, no_items, item, Members}
 use Rattle.json.specs.Find.{get, as_str, as_bool, as_array, as_object}
-use Rattle.cargo_documents.specs.declared.fault.Place.{Place}
-use Rattle.cargo_documents.specs.Faults.{Text, Refusal, bad_field}
+use Rattle.cargo_json.specs.declared.fault.Place.{Place}
+use Rattle.cargo_json.specs.Faults.{Text, Refusal, bad_field}
 
 -- the value found under a name in an object, or the refusal that it is missing or of another type
 abbrev pub wanted : {X : Type 0} → Place → Text → Option X → Result X Refusal

@@ -6,8 +6,8 @@ use Rattle.json.specs.Json.{item}
 use Rattle.json.specs.Find.{as_str}
 use Rattle.json.specs.Value.{value_view, items_view}
 use Rattle.json.specs.declared.value.Value.{Value}
-use Rattle.cargo_documents.specs.Faults.{Text}
-use Rattle.cargo_documents.specs.Fields.{all_texts}
+use Rattle.cargo_json.specs.Faults.{Text}
+use Rattle.cargo_json.specs.Fields.{all_texts}
 
 -- those so far, and then the others
 abbrev pub after : List Text → Option (List Text) → Option (List Text)

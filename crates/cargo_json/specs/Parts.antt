@@ -3,7 +3,7 @@ use Rattle.std.specs.Prelude.{◌≡◌, codes, Option, false}
 use Rattle.std.specs.Str.{bytes_eq}
 use Rattle.json.specs.Json.{Json}
 use Rattle.json.specs.Find.{get}
-use Rattle.cargo_documents.specs.Faults.{Text}
+use Rattle.cargo_json.specs.Faults.{Text}
 
 -- the packages of a document, and a value with its other fields
 pub record Parts (document : Json) (packages : Option Json) (rest : Json) : Type 0 where

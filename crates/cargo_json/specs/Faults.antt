@@ -4,12 +4,12 @@ use Rattle.std.specs.Fmt.{decimal}
 use Rattle.std.specs.String.{string_bytes}
 use Rattle.byte_devices.specs.declared.whole.ReadError.{ReadError}
 use Rattle.byte_devices.specs.declared.whole.ReadError.TheVariants as error
-use Rattle.cargo_documents.specs.declared.fault.Place.{Place}
-use Rattle.cargo_documents.specs.declared.fault.Place.TheVariants as at
-use Rattle.cargo_documents.specs.declared.fault.DocumentFault.{DocumentFault}
-use Rattle.cargo_documents.specs.declared.fault.DocumentFault.TheVariants as refused
-use Rattle.cargo_documents.specs.declared.fault.Fault.{Fault}
-use Rattle.cargo_documents.specs.declared.fault.Fault.TheVariants as fault
+use Rattle.cargo_json.specs.declared.fault.Place.{Place}
+use Rattle.cargo_json.specs.declared.fault.Place.TheVariants as at
+use Rattle.cargo_json.specs.declared.fault.DocumentFault.{DocumentFault}
+use Rattle.cargo_json.specs.declared.fault.DocumentFault.TheVariants as refused
+use Rattle.cargo_json.specs.declared.fault.Fault.{Fault}
+use Rattle.cargo_json.specs.declared.fault.Fault.TheVariants as fault
 
 -- a text, as its bytes
 abbrev pub Text : Type 0

@@ -2,7 +2,7 @@
 ghost use Rattle.std.specs.Prelude.{◌≡◌, ◌<◌, length, Some, None, Err, IfOk, OnOk};
 ghost use Rattle.json.specs.Json.{value, items, members};
 ghost use Rattle.json.specs.Value.{value_view, items_view, members_view};
-ghost use Rattle.cargo_documents.specs.declared.tree.Unread.TheVariants as unread;
+ghost use Rattle.cargo_json.specs.declared.tree.Unread.TheVariants as unread;
 
 use json::{Invalid, Reader, Token, Value};
 use std::alloc::{AllocError, AllocFailed, Global};
@@ -15,7 +15,7 @@ pub enum Unread {
 }
 
 impl From<Invalid> for Unread {
-    ghost use Rattle.cargo_documents.specs.declared.tree.Unread.TheVariants as unread;
+    ghost use Rattle.cargo_json.specs.declared.tree.Unread.TheVariants as unread;
 
     ghost from_gives = { λ _ it. it ≡ unread.Invalid };
 
@@ -25,7 +25,7 @@ impl From<Invalid> for Unread {
 }
 
 impl From<AllocError> for Unread {
-    ghost use Rattle.cargo_documents.specs.declared.tree.Unread.TheVariants as unread;
+    ghost use Rattle.cargo_json.specs.declared.tree.Unread.TheVariants as unread;
 
     ghost from_gives = { λ _ it. it ≡ unread.Memory };
 
@@ -35,7 +35,7 @@ impl From<AllocError> for Unread {
 }
 
 impl<T: Drop> From<AllocFailed<T>> for Unread {
-    ghost use Rattle.cargo_documents.specs.declared.tree.Unread.TheVariants as unread;
+    ghost use Rattle.cargo_json.specs.declared.tree.Unread.TheVariants as unread;
 
     ghost from_gives = { λ _ it. it ≡ unread.Memory };
 

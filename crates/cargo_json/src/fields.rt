@@ -1,8 +1,8 @@
 //! Fields of JSON objects, with their types checked.
 ghost use Rattle.std.specs.Prelude.{option_map, map};
 ghost use Rattle.json.specs.Value.{value_view, items_view, members_view};
-ghost use Rattle.cargo_documents.specs.Faults.{Gives};
-ghost use Rattle.cargo_documents.specs.Fields as spec;
+ghost use Rattle.cargo_json.specs.Faults.{Gives};
+ghost use Rattle.cargo_json.specs.Fields as spec;
 
 use crate::fault::{DocumentFault, Place};
 use json::Value;

@@ -6,7 +6,7 @@ use Rattle.json.specs.Value.{value_view, items_view, members_view}
 use Rattle.json.specs.declared.value.Value.{String, Number, Bool, Null, the_lemmas}
 use Rattle.json.proofs.Grammar.{value_is, value-begin_array, value-begin_object, read_key-shorter, items_end, items_fail, items_more, members_end, members_no_key, members_fail, members_more}
 use Rattle.json.proofs.Trees.{items_before, members_before, items_before-no_items, members_before-no_members, one_more_item, one_more_member, none_before, view-Array, view-Object}
-use Rattle.cargo_documents.proofs.tree.+read.Goals as goal
+use Rattle.cargo_json.proofs.tree.+read.Goals as goal
 
 pub read-returns-in_err-token-clause-invalid : goal.read-returns-in_err-token-clause-invalid
 read-returns-in_err-token-clause-invalid t c invalid =

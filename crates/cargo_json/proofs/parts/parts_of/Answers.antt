@@ -2,9 +2,9 @@ use Rattle.std.proofs.Common.{subst, option_map}
 use Rattle.std.proofs.lemmas.Result.{IfOk-weaker}
 use Rattle.json.specs.Json.{object}
 use Rattle.json.specs.Value.{value_view}
-use Rattle.cargo_documents.specs.Parts.{Parts}
-use Rattle.cargo_documents.proofs.Split.{of_fields}
-use Rattle.cargo_documents.proofs.parts.parts_of.Goals as goal
+use Rattle.cargo_json.specs.Parts.{Parts}
+use Rattle.cargo_json.proofs.Split.{of_fields}
+use Rattle.cargo_json.proofs.parts.parts_of.Goals as goal
 
 pub returns : goal.returns
 returns c =

@@ -1,6 +1,6 @@
 //! The faults of a document and of the program `rows`.
 ghost use Rattle.std.specs.Prelude.{◌≡◌, Some};
-ghost use Rattle.cargo_documents.specs.Faults.{place_text, read_fault, status_of};
+ghost use Rattle.cargo_json.specs.Faults.{place_text, read_fault, status_of};
 
 use byte_devices::ReadError;
 use std::alloc::{AllocError, AllocFailed};
@@ -123,7 +123,7 @@ pub enum DocumentFault {
 }
 
 impl From<AllocError> for DocumentFault {
-    ghost use Rattle.cargo_documents.specs.declared.fault.DocumentFault.TheVariants.{Memory};
+    ghost use Rattle.cargo_json.specs.declared.fault.DocumentFault.TheVariants.{Memory};
 
     ghost from_gives = { λ _ fault. fault ≡ Memory };
 
@@ -133,7 +133,7 @@ impl From<AllocError> for DocumentFault {
 }
 
 impl<T: Drop> From<AllocFailed<T>> for DocumentFault {
-    ghost use Rattle.cargo_documents.specs.declared.fault.DocumentFault.TheVariants.{Memory};
+    ghost use Rattle.cargo_json.specs.declared.fault.DocumentFault.TheVariants.{Memory};
 
     ghost from_gives = { λ _ fault. fault ≡ Memory };
 
