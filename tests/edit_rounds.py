@@ -12,6 +12,7 @@ FUNCTION = re.compile(r'^( *)(?:pub(?:\([^)]*\))? )?(?:const |unsafe )*fn (\w+)'
 # A verdict on a function. One whose first reason is a callee's verdict says nothing of the function.
 VERDICT = re.compile(r'^fn (\S+): (proved|not proved|no proof)(?!: (?:it calls|it passes|a call of|its contract rests on))', re.M)
 ERROR = re.compile(r'^(?:\./)?((?:src|specs)/\S+?):\d+:\d+: error: (`[^`]*`: )?(.*)', re.M)
+IMPLEMENTED = re.compile(r'^impl\b.*?(\w+)(?:<[^{]*)? \{$')
 UNREAD = re.compile(r'is not in scope|has no field|is no name|operand is missing|expected the end|cannot continue')
 # A goal that isn't proved: one that an answer of a proof file fails, or one that has no proof.
 ANSWER = re.compile(r'^(?:\./)?proofs/(\S+)/(\w+)\.antt:\d+:\d+: error: (?:`([\w+-]+)`)?', re.M)
@@ -42,26 +43,32 @@ class Edit:
         return texts
 
     def functions(self, folder):
-        """Returns the functions that the edit changes, each as its file and its name, or None if it changes something else."""
+        """Returns the functions that the edit changes, each as its file, its name and its type or '', or None if it changes something else."""
         found, texts = set(), {}
         for path, old, new in self.pairs:
             text = texts.get(path) or (folder / path).read_text()
-            name = function_at(text.split('\n'), text[:text.find(old)].count('\n')) if path.startswith('src/') else None
-            if name is None:
+            function = function_at(text.split('\n'), text[:text.find(old)].count('\n')) if path.startswith('src/') else None
+            if function is None:
                 return None
             texts[path] = text.replace(old, new)
-            found.add((path, name))
+            found.add((path, *function))
         return found
 
 
 def function_at(lines, number):
-    """Returns the name of the function that has the line `number`, or None."""
+    """Returns the name of the function that has the line `number`, with its type or '', or None."""
     for at in range(number, -1, -1):
         begun = FUNCTION.match(lines[at])
         if begun:
             end = begun[1] + '}'
-            return None if end in lines[at:number] else begun[2]
+            return None if end in lines[at:number] else (begun[2], type_at(lines, at) if begun[1] else '')
     return None
+
+
+def type_at(lines, number):
+    """Returns the name of the type whose `impl` has the line `number`, or ''."""
+    found = next((it for it in map(IMPLEMENTED.match, reversed(lines[:number])) if it), None)
+    return found[1] if found else ''
 
 
 def module_of(path):
@@ -95,9 +102,9 @@ class Verdicts:
         self.crate, self.folder, self.said, self.texts = crate, folder, said, texts
 
     def is_of(self, words, function):
-        """Returns whether `words`, a function's path, names `function`, a file and a name."""
+        """Returns whether `words`, a function's path, names `function`: by its module, or by its type, which may be of another module."""
         module = module_of(function[0])
-        return words[-1] == function[1] and words[:len(module)] == module
+        return words[-1] == function[1] and (words[:len(module)] == module or words[-2:-1] == [function[2]])
 
     def are(self, functions, verdicts):
         """Returns whether the check has one of `verdicts` on each of `functions`."""
@@ -113,7 +120,7 @@ class Verdicts:
                 goals += [goal] if goal else ['returns'] if kind == 'Proof' else []
         for path, line, goal in GOAL.findall(self.said):
             text = self.texts.get(path) or (self.folder / path).read_text()
-            if (path, function_at(text.split('\n'), int(line) - 1)) == function:
+            if (path, *(function_at(text.split('\n'), int(line) - 1) or ())) == function:
                 goals.append(goal)
         titles = sorted({title_of(goal) for goal in goals})
         return [title for kind, title in titles if kind == titles[0][0]]
@@ -121,7 +128,7 @@ class Verdicts:
     def reason(self, functions):
         """Returns the functions that the check refuses, with the conditions that are not proved."""
         refused = [function for function in sorted(functions) if self.are([function], ('not proved', 'no proof'))]
-        return '; '.join(f'{"::".join([*module_of(path), name])}: {", ".join(self.goals((path, name))) or "no goal is named"}' for path, name in refused)
+        return '; '.join(f'{"::".join([*module_of(it[0]), it[1]])}: {", ".join(self.goals(it)) or "no goal is named"}' for it in refused)
 
 
 class Rounds:
@@ -134,7 +141,7 @@ class Rounds:
         """Returns what a check says with `texts` in place of the crate's, and its exit status, and puts the crate's back. The check is
         that of `functions`, or of the whole crate."""
         before = {path: (self.folder / path).read_text() for path in texts}
-        only = [word for name in sorted({name for _, name in functions}) for word in ('--only', name)]
+        only = [word for name in sorted({name for _, name, _ in functions}) for word in ('--only', name)]
         try:
             for path, text in texts.items():
                 (self.folder / path).write_text(text)
