@@ -3,10 +3,10 @@ use Rattle.feature_core.specs.inner.Made.{AreMadeBelow}
 use Rattle.feature_core.proofs.edge_table.MadeEdges.add_packages.Goals as goal
 
 pub loop-ix-init : goal.loop-ix-init
-loop-ix-init c = (c.requires.made, c.requires.quiet)
+loop-ix-init c = (c.requires.made, c.requires.quiet, c.requires.near)
 
 pub loop-ix-preserved : goal.loop-ix-preserved
-loop-ix-preserved c = (c.in_ok-add_package.ensures.made, c.in_ok-add_package.ensures.quiet)
+loop-ix-preserved c = (c.in_ok-add_package.ensures.made, c.in_ok-add_package.ensures.quiet, c.in_ok-add_package.ensures.near)
 
 pub returns-clause-made : goal.returns-clause-made
 returns-clause-made c =
