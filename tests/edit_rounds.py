@@ -12,7 +12,9 @@ FUNCTION = re.compile(r'^( *)(?:pub(?:\([^)]*\))? )?(?:const |unsafe )*fn (\w+)'
 # A verdict on a function. One whose first reason is a callee's verdict says nothing of the function.
 VERDICT = re.compile(r'^fn (\S+): (proved|not proved|no proof)(?!: (?:it calls|it passes|a call of|its contract rests on))', re.M)
 ERROR = re.compile(r'^(?:\./)?((?:src|specs)/\S+?):\d+:\d+: error: (`[^`]*`: )?(.*)', re.M)
-IMPLEMENTED = re.compile(r'^impl\b.*?(\w+)(?:<[^{]*)? \{$')
+IMPLEMENTED = re.compile(r'^impl\b(?:<.*?>)? (?:.*?(\w+)(?:<.*?>)? for )?.*?(\w+)(?:<[^{]*)? \{$')
+SEVERAL = re.compile(r'error: several functions are named `(\S+)`: help: write one of (.*)')
+NO_FUNCTION = re.compile(r'error: `\w+` has no function `(\S+)`')
 UNREAD = re.compile(r'is not in scope|has no field|is no name|operand is missing|expected the end|cannot continue')
 # A goal that isn't proved: one that an answer of a proof file fails, or one that has no proof.
 ANSWER = re.compile(r'^(?:\./)?proofs/(\S+)/(\w+)\.antt:\d+:\d+: error: (?:`([\w+-]+)`)?', re.M)
@@ -66,9 +68,9 @@ def function_at(lines, number):
 
 
 def type_at(lines, number):
-    """Returns the name of the type whose `impl` has the line `number`, or ''."""
+    """Returns the name of the type whose `impl` has the line `number`, or ''. If it is of a trait, the trait's name follows, as in a check."""
     found = next((it for it in map(IMPLEMENTED.match, reversed(lines[:number])) if it), None)
-    return found[1] if found else ''
+    return found[2] + (found[1] or '') if found else ''
 
 
 def module_of(path):
@@ -136,12 +138,31 @@ class Rounds:
 
     def __init__(self, crate, folder, check):
         self.crate, self.folder, self.check = crate, folder, check
+        # The names of functions for a check, as far as they differ from those that spelled() makes.
+        self.names = {}
+
+    def spelled(self, function):
+        """Returns the end of a function's path that names it: with its type, or else with its module."""
+        path, name, owner = function
+        return self.names.get(function) or '::'.join([owner, name] if owner else [*module_of(path), name])
+
+    def respelled(self, functions, found):
+        """Spells the functions otherwise whose names a check doesn't know, or knows several times. Returns whether it did."""
+        several, missing = SEVERAL.search(found.said), NO_FUNCTION.search(found.said)
+        said = (several or missing or ['', ''])[1]
+        changed = False
+        for function in functions:
+            if self.spelled(function) == said:
+                fit = [it for it in re.findall(r'`([\w:+]+)`', several[2]) if found.is_of(it.split('::')[1:], function)] if several else [function[1]]
+                changed = changed or bool(fit) and fit[0] != said
+                self.names[function] = fit[0] if fit else said
+        return changed
 
     def said_of(self, texts, functions=()):
         """Returns what a check says with `texts` in place of the crate's, and its exit status, and puts the crate's back. The check is
         that of `functions`, or of the whole crate."""
         before = {path: (self.folder / path).read_text() for path in texts}
-        only = [word for name in sorted({name for _, name, _ in functions}) for word in ('--only', name)]
+        only = [word for name in sorted(map(self.spelled, functions)) for word in ('--only', name)]
         try:
             for path, text in texts.items():
                 (self.folder / path).write_text(text)
@@ -155,6 +176,8 @@ class Rounds:
         """Returns what a check of the functions of `edits` says without an edit, or None if they are proved."""
         functions = set().union(*(edit.functions(self.folder) or set() for edit in edits))
         found, status = self.said_of({}, functions)
+        while self.respelled(functions, found):
+            found, status = self.said_of({}, functions)
         return None if status == 0 and found.are(functions, ('proved',)) else found.said
 
     def round_of(self, edits):
