@@ -7,6 +7,7 @@ use Rattle.guppy_packages.specs.Tables.{LinkTable, Tables, AreTables}
 use Rattle.feature_labels.specs.Names.LabelName.{base, named, optional}
 use Rattle.feature_labels.specs.declared.link_declarations.LinkDeclarations.{LinkDeclarations}
 use Rattle.feature_labels.specs.declared.link_declarations.LinkDeclarations.TheVariants.{Unsplit, Required, Optional}
+use Rattle.feature_core.specs.declared.key.CandidateKind.TheVariants.{DepColon, SlashFull, SlashOptional, SlashWeak, Section}
 use Rattle.feature_core.specs.Nodes.{NodeAt}
 use Rattle.feature_links.specs.Links.{LinkFacts, IsLink, over, by_name}
 use Rattle.feature_core.specs.Candidates.{Edge, dep_colon, slash_full, slash_optional, slash_weak, section, requesting, unsplit_of}
@@ -24,6 +25,7 @@ use Rattle.feature_core.proofs.NodeLemmas.{take-next}
 use Rattle.feature_core.proofs.PairLemmas.{names_differ}
 use Rattle.feature_core.proofs.PartLemmas.{NamesDiffer}
 use Rattle.feature_core.proofs.Places.{get_right, got_same}
+use Rattle.feature_core.proofs.KindLemmas.{one_rank}
 use Rattle.feature_core.proofs.Ranks.{same_home, same_label, same_rank}
 use Rattle.feature_core.proofs.SectionPlaces.{of_link}
 use Rattle.feature_core.proofs.ValueLemmas.{made_next}
@@ -83,12 +85,12 @@ one_half t n a b v w (inr p) (inl q) = let no = same_label t n v.from w.from (op
 one_half t n a b v w (inr p) (inr q) = p.0 ∙ sym q.0
 
 -- a section over a link with one declaration covers all of its declarations
-section_whole : (t : Tables) → AreTables t → (x : Key) (l : LinkFacts) → IsOfTables t x → x.rank ≡ 7 → IsSingle t x.source → (s : SaysSection t x l) → l ≡ over s.which (λ d. true) ((x.source, s.link) ∷ [])
+section_whole : (t : Tables) → AreTables t → (x : Key) (l : LinkFacts) → IsOfTables t x → x.kind ≡ Section → IsSingle t x.source → (s : SaysSection t x l) → l ≡ over s.which (λ d. true) ((x.source, s.link) ∷ [])
 section_whole t tables x l h r single s =
     let o = of_link t tables x l s x h r refl refl in
     s.is ∙ over_only (requesting s.asked s.which) s.which x.source s.link x.place o.declared (single s.link s.is_link) o.at o.passes
 
-section_alike : (t : Tables) → AreTables t → (x y : Key) (l m : LinkFacts) → IsOfTables t x → IsOfTables t y → x.rank ≡ 7 → y.rank ≡ 7 → x.source ≡ y.source → x.from ≡ y.from → IsSingle t y.source → SaysSection t x l → SaysSection t y m → l ≡ m
+section_alike : (t : Tables) → AreTables t → (x y : Key) (l m : LinkFacts) → IsOfTables t x → IsOfTables t y → x.kind ≡ Section → y.kind ≡ Section → x.source ≡ y.source → x.from ≡ y.from → IsSingle t y.source → SaysSection t x l → SaysSection t y m → l ≡ m
 section_alike t tables x y l m hx hy rx ry source from single a b =
     let link : a.link ≡ b.link = same_got t.links y.source a.link b.link (subst (λ z. IsLink t z a.link) source a.is_link) b.is_link in
     let start = subst (λ z. ((a.which ≡ Required) × NodeAt t z a.link.from base) ⊎ ((a.which ≡ Optional) × NodeAt t z a.link.from (optional a.link.name))) from a.start in
@@ -103,52 +105,52 @@ module _ (t : Tables) (tables : AreTables t) (weak : List ℕ) (x y : Key) (hx :
   -- the value of one key is a value of another, if both determine the same edge
   by_told : (make other : LinkFacts → Edge) (A B : LinkFacts → Type 0) (o : IsTold t x make A) (p : IsTold t y other B) → make o.link ≡ other p.link → IsValueOf t weak y f
   by_told make other A B o p same =
-      let edge : v.edge ≡ make o.link = same_rank t tables x.from x.to v.edge (make o.link) v.candidate o.candidate (sym v.rank ∙ o.rank) in
-      record { edge = other p.link; candidate = p.candidate; rank = p.rank; is = v.is ∙ ap (facts_of t weak) (edge ∙ same) }
+      let edge : v.edge ≡ make o.link = same_rank t tables x.from x.to v.edge (make o.link) v.candidate o.candidate (one_rank v.edge (make o.link) (sym v.kind ∙ o.kind)) in
+      record { edge = other p.link; candidate = p.candidate; kind = p.kind; is = v.is ∙ ap (facts_of t weak) (edge ∙ same) }
 
   differ : NamesDiffer t
   differ = names_differ t tables
 
-  alike_colon : x.rank ≡ 3 → y.rank ≡ 3 → x.to ≡ y.to → IsValueOf t weak y f
+  alike_colon : x.kind ≡ DepColon → y.kind ≡ DepColon → x.to ≡ y.to → IsValueOf t weak y f
   alike_colon p q to =
       let a = told_colon t differ weak x hx p in
       let b = told_colon t differ weak y hy q in
       by_told dep_colon dep_colon (SaysColon t x) (SaysColon t y) a b (ap dep_colon (colon_alike t x y a.link b.link to a.tells b.tells))
 
-  alike_beside : x.rank ≡ 5 → y.rank ≡ 5 → x.to ≡ y.to → IsValueOf t weak y f
+  alike_beside : x.kind ≡ SlashOptional → y.kind ≡ SlashOptional → x.to ≡ y.to → IsValueOf t weak y f
   alike_beside p q to =
       let a = told_beside t differ weak x hx p in
       let b = told_beside t differ weak y hy q in
       by_told slash_optional slash_optional (SaysBeside t x) (SaysBeside t y) a b (ap slash_optional (beside_alike t x y a.link b.link to a.tells b.tells))
 
-  alike_full : x.rank ≡ 4 → y.rank ≡ 4 → x.source ≡ y.source → IsValueOf t weak y f
+  alike_full : x.kind ≡ SlashFull → y.kind ≡ SlashFull → x.source ≡ y.source → IsValueOf t weak y f
   alike_full p q source =
       let a = told_full t differ weak x hx p in
       let b = told_full t differ weak y hy q in
       by_told slash_full slash_full (SaysOver t x) (SaysOver t y) a b (ap slash_full (over_alike t x y a.link b.link source a.tells b.tells))
 
-  alike_weak : x.rank ≡ 6 → y.rank ≡ 6 → x.source ≡ y.source → IsValueOf t weak y f
+  alike_weak : x.kind ≡ SlashWeak → y.kind ≡ SlashWeak → x.source ≡ y.source → IsValueOf t weak y f
   alike_weak p q source =
       let a = told_weak t differ weak x hx p in
       let b = told_weak t differ weak y hy q in
       by_told (slash_weak x.source) (slash_weak y.source) (SaysOver t x) (SaysOver t y) a b
       (ap (λ z. slash_weak z a.link) source ∙ ap (slash_weak y.source) (over_alike t x y a.link b.link source a.tells b.tells))
 
-  alike_section : x.rank ≡ 7 → y.rank ≡ 7 → x.source ≡ y.source → x.from ≡ y.from → IsSingle t y.source → IsValueOf t weak y f
+  alike_section : x.kind ≡ Section → y.kind ≡ Section → x.source ≡ y.source → x.from ≡ y.from → IsSingle t y.source → IsValueOf t weak y f
   alike_section p q source from single =
       let a = told_section t differ weak x hx p in
       let b = told_section t differ weak y hy q in
       by_told section section (SaysSection t x) (SaysSection t y) a b
       (ap section (section_alike t tables x y a.link b.link hx hy p q source from single a.tells b.tells))
 
-  by_subject : x.rank ≡ y.rank → SharesSubject t x y → IsValueOf t weak y f
+  by_subject : x.kind ≡ y.kind → SharesSubject t x y → IsValueOf t weak y f
   by_subject r (one_end k to) = ⊎_elim (λ q. alike_colon (r ∙ q) q to) (λ q. alike_beside (r ∙ q) q to) k
   by_subject r (one_link k source) = ⊎_elim (λ q. alike_full (r ∙ q) q source) (λ q. alike_weak (r ∙ q) q source) k
   by_subject r (one_declaration q source from single) = alike_section (r ∙ q) q source from single
 
 -- a value of a key is a value of each alike key
 pub alike_value : (t : Tables) → AreTables t → (x y : Key) → IsOfTables t x → IsOfTables t y → AreAlike t x y → (weak : List ℕ) (f : EdgeFacts) → IsValueOf t weak x f → IsValueOf t weak y f
-alike_value t tables x y hx hy h weak f v = by_subject t tables weak x y hx hy f v h.rank h.subject
+alike_value t tables x y hx hy h weak f v = by_subject t tables weak x y hx hy f v h.kind h.subject
 
 get_taken : {X : Type 0} (i k : ℕ) (xs : List X) (x : X) → k < i → slice_get xs k ≡ Some x → slice_get (take i xs) k ≡ Some x
 get_taken zero k xs x l h = absurd (omega (arith, l))
@@ -199,5 +201,5 @@ pub next_there : (t : Tables) (kept : List Key) (ix : ℕ) (x y : Key) (old new 
 next_there t kept ix x y old new a b n = subst (λ z. IsNext t kept ix z old new) (same_got kept ix x y a b) n
 
 -- the note for a key at a place is that for any key there
-pub noted_there : (kept : List Key) (ix : ℕ) (x y : Key) (numbers : List ℕ) → slice_get kept ix ≡ Some x → slice_get kept ix ≡ Some y → (x.rank ≡ 6 → Contains numbers x.source) → y.rank ≡ 6 → Contains numbers y.source
-noted_there kept ix x y numbers a b = subst (λ z. z.rank ≡ 6 → Contains numbers z.source) (same_got kept ix x y a b)
+pub noted_there : (kept : List Key) (ix : ℕ) (x y : Key) (numbers : List ℕ) → slice_get kept ix ≡ Some x → slice_get kept ix ≡ Some y → (x.kind ≡ SlashWeak → Contains numbers x.source) → y.kind ≡ SlashWeak → Contains numbers y.source
+noted_there kept ix x y numbers a b = subst (λ z. z.kind ≡ SlashWeak → Contains numbers z.source) (same_got kept ix x y a b)

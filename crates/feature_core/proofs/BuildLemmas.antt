@@ -1,8 +1,7 @@
 -- The edges built from the least keys are those of the tables.
-use Rattle.std.proofs.Common.{◌≡◌, ℕ, zero, suc, ◌<◌, ⊎_elim, List, [], ◌∷◌, length, map, Bool, true, false, cond, Option, Some, None, refl, sym, ap, ◌∙◌, subst, arith}
-use Rattle.std.specs.Prelude.{◌↔◌, ◌==◌, Contains, All, AllPairs, slice_get, filter_map}
+use Rattle.std.proofs.Common.{◌≡◌, ℕ, zero, suc, ◌<◌, ⊎_elim, List, [], ◌∷◌, length, map, true, cond, Option, Some, refl, sym, ap, ◌∙◌, subst, arith}
+use Rattle.std.specs.Prelude.{◌↔◌, Contains, All, AllPairs, slice_get, filter_map}
 use Rattle.std.specs.List.{zip, cons_option, list_any}
-use Rattle.std.proofs.lemmas.Bool.Decides.{nat_tests}
 use Rattle.std.proofs.lemmas.List.Elements.{All-cons, All-head, All-tail}
 use Rattle.std.proofs.lemmas.List.Kept.{AllPairs-cons}
 use Rattle.guppy_support.specs.declared.digraph.Edge.{Edge as End}
@@ -11,18 +10,19 @@ use Rattle.guppy_packages.specs.Rows.{Declared}
 use Rattle.guppy_packages.specs.Tables.{LinkTable, Tables, AreTables}
 use Rattle.feature_links.specs.Links.{LinkFacts}
 use Rattle.feature_core.specs.Built.{pairs_of, ends_of, end_of, built_edges}
-use Rattle.feature_core.specs.inner.Keys.{edge_of as end_of_key, AreLeast, IsBefore}
-use Rattle.feature_core.specs.Candidates.{Edge, IsEdge, rank_of, feature_to_base, named_feature, dep_colon, slash_full, slash_optional, slash_weak, section, unsplit_of}
+use Rattle.feature_core.specs.inner.Keys.{edge_of as end_of_key, kind_of, AreLeast, IsBefore}
+use Rattle.feature_core.specs.Candidates.{Edge, IsEdge, feature_to_base, named_feature, dep_colon, slash_full, slash_optional, slash_weak, section, unsplit_of}
 use Rattle.feature_links.specs.Facts.{EdgeFacts}
 use Rattle.feature_core.specs.Edges.{EdgeBefore, AreBuilt, weak_link, first_ones, facts_of}
 use Rattle.feature_core.specs.inner.Made.{AreValues, IsValueOf, IsKept, AreMadeBelow, edge_end}
-use Rattle.feature_core.specs.inner.Weak.{weak_source, weak_sources, AreGates}
+use Rattle.feature_core.specs.inner.Weak.{weak_source, weak_source_of, weak_sources, AreGates}
 use Rattle.feature_core.specs.declared.key.Key.{Key}
 use Rattle.feature_core.specs.Pairs.{IsPairList}
 use Rattle.feature_core.specs.inner.Parts.{IsOfTables}
 use Rattle.feature_core.proofs.AddsLemmas.{Contains-first, Contains-later, Contains-cases, Contains-none}
 use Rattle.feature_core.proofs.EdgeLemmas.{least_is_edge}
 use Rattle.feature_core.proofs.KeySays.{Says}
+use Rattle.feature_core.proofs.KindLemmas.{one_rank}
 use Rattle.feature_core.specs.BuiltOnce.{edge_there-prop}
 use Rattle.feature_core.proofs.PartLemmas.{stands_for, contributed}
 use Rattle.feature_core.proofs.PairLemmas.{names_differ, pairs_kept}
@@ -31,19 +31,9 @@ use Rattle.feature_core.specs.declared.edge_table.MadeEdges.{MadeEdges}
 use Rattle.feature_core.proofs.SourceLemmas.{kept_all}
 use Rattle.feature_core.proofs.Ranks.{same_rank, one_edge}
 
-no_source : (x : Key) → (x.rank ≡ 6 → ⊥) → ◌≡◌ {A = Option ℕ} None (weak_source x)
-no_source x h = go (x.rank == 6) refl
-  where
-    go : (b : Bool) → (x.rank == 6) ≡ b → ◌≡◌ {A = Option ℕ} None (cond b (Some x.source) None)
-    go true e = absurd (h (grind (arith, nat_tests)))
-    go false e = refl
-
-its_source : (x : Key) → x.rank ≡ 6 → ◌≡◌ {A = Option ℕ} (Some x.source) (weak_source x)
-its_source x h = go (x.rank == 6) refl
-  where
-    go : (b : Bool) → (x.rank == 6) ≡ b → ◌≡◌ {A = Option ℕ} (Some x.source) (cond b (Some x.source) None)
-    go true e = refl
-    go false e = absurd (grind (arith, nat_tests))
+-- the weak link of an edge's key, by the edge's kind
+source_at : (x : Key) (e : Edge) → x.kind ≡ kind_of e → weak_source_of (kind_of e) x.source ≡ weak_source x
+source_at x e h = ap (λ k. weak_source_of k x.source) (sym h)
 
 -- the link of a weak edge is over its package link alone
 pub alone : (k : ℕ) (link : LinkTable) → 0 < length link.declarations → (unsplit_of k link).package_links ≡ k ∷ []
@@ -119,16 +109,16 @@ module _ (t : Tables) (tables : AreTables t) where
       (Contains-cases k kept y h)
 
   -- the weak links of the edges are those of the keys
-  named_by : (weak : List ℕ) (x : Key) (e : Edge) → x.rank ≡ rank_of e → Says t x e → weak_link (facts_of t weak e) ≡ weak_source x
-  named_by weak x feature_to_base r s = no_source x (λ h. omega (arith, r, h))
-  named_by weak x named_feature r s = no_source x (λ h. omega (arith, r, h))
-  named_by weak x (dep_colon l) r s = no_source x (λ h. omega (arith, r, h))
-  named_by weak x (slash_full l) r s = no_source x (λ h. omega (arith, r, h))
-  named_by weak x (slash_optional l) r s = no_source x (λ h. omega (arith, r, h))
+  named_by : (weak : List ℕ) (x : Key) (e : Edge) → x.kind ≡ kind_of e → Says t x e → weak_link (facts_of t weak e) ≡ weak_source x
+  named_by weak x feature_to_base r s = source_at x feature_to_base r
+  named_by weak x named_feature r s = source_at x named_feature r
+  named_by weak x (dep_colon l) r s = source_at x (dep_colon l) r
+  named_by weak x (slash_full l) r s = source_at x (slash_full l) r
+  named_by weak x (slash_optional l) r s = source_at x (slash_optional l) r
   named_by weak x (slash_weak k l) r s =
       let o = s.over in
-      ap (λ (z : LinkFacts). slice_get z.package_links 0) o.is ∙ ap (λ (z : List ℕ). slice_get z 0) (alone x.source o.link (tables.declarations x.source o.link o.is_link)) ∙ its_source x r
-  named_by weak x (section l) r s = no_source x (λ h. omega (arith, r, h))
+      ap (λ (z : LinkFacts). slice_get z.package_links 0) o.is ∙ ap (λ (z : List ℕ). slice_get z 0) (alone x.source o.link (tables.declarations x.source o.link o.is_link)) ∙ source_at x (slash_weak k l) r
+  named_by weak x (section l) r s = source_at x (section l) r
 
   sources : (weak : List ℕ) (kept : List Key) (facts : List EdgeFacts) → IsAll kept → AreValues t weak kept facts → filter_map (λ e. weak_link e.2) (told kept facts) ≡ weak_sources kept
   sources weak [] facts all v = refl
@@ -136,9 +126,9 @@ module _ (t : Tables) (tables : AreTables t) where
   sources weak (k ∷ kept) (f ∷ facts) all v =
       let s = stands_for t (names_differ t tables) k (all k (Contains-first k kept)) in
       let x = v.each 0 k f refl refl in
-      let same : x.edge ≡ s.edge = same_rank t tables k.from k.to x.edge s.edge x.candidate s.candidate (sym x.rank ∙ s.rank) in
+      let same : x.edge ≡ s.edge = same_rank t tables k.from k.to x.edge s.edge x.candidate s.candidate (one_rank x.edge s.edge (sym x.kind ∙ s.kind)) in
       let fact : f ≡ facts_of t weak s.edge = x.is ∙ ap (facts_of t weak) same in
-      ap (λ o. cons_option o (filter_map (λ e. weak_link e.2) (told kept facts))) (ap weak_link fact ∙ named_by weak k s.edge s.rank s.says)
+      ap (λ o. cons_option o (filter_map (λ e. weak_link e.2) (told kept facts))) (ap weak_link fact ∙ named_by weak k s.edge s.kind s.says)
       ∙ ap (λ z. cons_option (weak_source k) z) (sources weak kept facts (λ y c. all y (Contains-later k kept y c)) (tail_values weak k kept f facts v))
 
   moved : (a b c d : ℕ) (e : Edge) → a ≡ c → b ≡ d → IsEdge t a b e → IsEdge t c d e
@@ -157,7 +147,7 @@ module _ (t : Tables) (tables : AreTables t) where
           (λ h.
               let x = told_back numbers kept facts values (u, w, f) h in
               let v = x.value in
-              ∣ (v.edge, moved x.key.from x.key.to u w v.edge x.from x.to (least_is_edge t differ keys of kept least x.key x.is_key v.edge v.candidate v.rank), v.is) ∣₁),
+              ∣ (v.edge, moved x.key.from x.key.to u w v.edge x.from x.to (least_is_edge t differ keys of kept least x.key x.is_key v.edge v.candidate v.kind), v.is) ∣₁),
           (λ h. ∥∥₁_elim h (edge_there-prop (told kept facts) up u w f) (λ s.
               let k = contributed t differ u w s.0 s.1.candidate in
               let served = least.each k.0 ((of k.0).1 k.1) in
@@ -165,7 +155,7 @@ module _ (t : Tables) (tables : AreTables t) where
               let to : served.by.to ≡ w = served.pair.1 ∙ k.2.to in
               let i = told_into numbers kept facts values served.by served.kept_one in
               let v = i.value in
-              let one : IsEdge t served.by.from served.by.to v.edge = least_is_edge t differ keys of kept least served.by served.kept_one v.edge v.candidate v.rank in
+              let one : IsEdge t served.by.from served.by.to v.edge = least_is_edge t differ keys of kept least served.by served.kept_one v.edge v.candidate v.kind in
               let same : v.edge ≡ s.0 = one_edge t tables u w v.edge s.0 (moved served.by.from served.by.to u w v.edge from to one) s.1 in
               let fact : i.facts ≡ f = v.is ∙ ap (facts_of t numbers) same ∙ sym s.2 in
               let there : (served.by.from, served.by.to, i.facts) ≡ (u, w, f) = cc in

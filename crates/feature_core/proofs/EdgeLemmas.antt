@@ -1,13 +1,14 @@
 -- The least keys represent the edges, and all of them.
-use Rattle.std.proofs.Common.{◌≡◌, suc, ◌≤◌, ⊎_elim, List, [], ◌∷◌, sym, ◌∙◌, subst, arith}
+use Rattle.std.proofs.Common.{◌≡◌, suc, ◌≤◌, ⊎_elim, List, [], ◌∷◌, sym, ◌∙◌, ap, subst, arith}
 use Rattle.std.specs.Prelude.{◌↔◌, Contains, All, AllPairs}
 use Rattle.std.proofs.lemmas.List.Elements.{All-contains}
 use Rattle.guppy_packages.specs.Tables.{Tables}
-use Rattle.feature_core.specs.Candidates.{Edge, Candidate, IsEdge, rank_of}
+use Rattle.feature_core.specs.Candidates.{Edge, Candidate, IsEdge}
 use Rattle.feature_core.specs.declared.key.Key.{Key}
-use Rattle.feature_core.specs.inner.Keys.{AreLeast, IsBefore}
+use Rattle.feature_core.specs.inner.Keys.{rank, kind_of, AreLeast, IsBefore}
 use Rattle.feature_core.specs.inner.Parts.{IsOfTables}
 use Rattle.feature_core.proofs.AddsLemmas.{Contains-cases, Contains-none}
+use Rattle.feature_core.proofs.KindLemmas.{rank_kind}
 use Rattle.feature_core.proofs.PartLemmas.{NamesDiffer, contributed}
 
 first_before : (x : Key) (xs : List Key) → AllPairs IsBefore (x ∷ xs) → All (IsBefore x) xs
@@ -36,15 +37,15 @@ one_kept (k ∷ kept) h a b i j from to = ⊎_elim
     after : (x : Key) → Contains kept x → IsBefore k x
     after x c = All-contains (IsBefore k) kept x (first_before k kept h) c
 
--- a candidate of a kept key's rank is the edge of the key's pair
+-- a candidate of a kept key's kind is the edge of the key's pair
 pub least_is_edge : (t : Tables) (differ : NamesDiffer t) (keys : List Key) → ((x : Key) → Contains keys x ↔ IsOfTables t x) → (kept : List Key) → AreLeast keys kept
-    → (x : Key) → Contains kept x → (e : Edge) → Candidate t x.from x.to e → x.rank ≡ rank_of e → IsEdge t x.from x.to e
-least_is_edge t differ keys all kept least x c e candidate rank = record {
+    → (x : Key) → Contains kept x → (e : Edge) → Candidate t x.from x.to e → x.kind ≡ kind_of e → IsEdge t x.from x.to e
+least_is_edge t differ keys all kept least x c e candidate kind = record {
   candidate = candidate;
   least = λ other o.
       let k = contributed t differ x.from x.to other o in
       let served = least.each k.0 ((all k.0).1 k.1) in
       let same : served.by ≡ x = one_kept kept least.ascends served.by x served.kept_one c (served.pair.0 ∙ k.2.from) (served.pair.1 ∙ k.2.to) in
-      let below : x.rank ≤ k.0.rank = subst (λ z. z.rank ≤ k.0.rank) same served.rank in
-      omega (arith, below, rank, k.2.rank);
+      let below : rank x.kind ≤ rank k.0.kind = subst (λ z. rank z.kind ≤ rank k.0.kind) same served.least in
+      omega (arith, below, ap rank kind, rank_kind e, ap rank k.2.kind, rank_kind other);
 }

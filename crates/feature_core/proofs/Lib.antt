@@ -3,6 +3,7 @@ pub mod PathLemmas
 pub mod Present
 pub mod AddsLemmas
 pub mod KeySays
+pub mod KindLemmas
 pub mod KeyRuns
 pub mod PartLemmas
 pub mod LeastKeys

@@ -1,12 +1,12 @@
 -- The warnings of packages, one after another.
-use Rattle.std.proofs.Common.{◌≡◌, ℕ, ◌+◌, ◌<◌, [], ◌++◌, length, take, Some, ap, sym, ◌∙◌, subst}
+use Rattle.std.proofs.Common.{◌≡◌, ℕ, ◌+◌, ◌<◌, [], ◌++◌, length, Some, ap, sym, ◌∙◌, subst}
 use Rattle.std.specs.Prelude.{slice_get, flat_map}
 use Rattle.std.specs.List.{enumerate_from}
 use Rattle.std.proofs.lemmas.Grind.{flat_map-append}
 use Rattle.guppy_packages.specs.Tables.{PackageTable, Tables, AreTables}
 use Rattle.feature_core.specs.declared.collected.Collected.{Collected}
 use Rattle.feature_core.specs.declared.key.Key.{Key}
-use Rattle.feature_core.specs.Warnings.{Warning, of_link, of_package, warnings, warnings_in}
+use Rattle.feature_core.specs.Warnings.{of_link, of_package, warnings, warnings_in}
 use Rattle.feature_core.specs.inner.Collects.{Collects, AreWarningsBelow, links_from, links_below}
 use Rattle.feature_core.proofs.LeavingLinks.{below-next, below-none, below-all}
 use Rattle.feature_core.proofs.NodeLemmas.{append-none}

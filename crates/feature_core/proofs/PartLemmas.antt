@@ -11,11 +11,14 @@ use Rattle.feature_labels.specs.Names.{LabelName}
 use Rattle.feature_labels.specs.Names.LabelName.{base, named, optional}
 use Rattle.feature_labels.specs.declared.link_declarations.LinkDeclarations.{LinkDeclarations}
 use Rattle.feature_labels.specs.declared.link_declarations.LinkDeclarations.TheVariants.{Unsplit, Required, Optional}
+use Rattle.feature_core.specs.declared.key.CandidateKind.{CandidateKind}
+use Rattle.feature_core.specs.declared.key.CandidateKind.TheVariants.{FeatureToBase, NamedFeature, DepColon, SlashFull, SlashOptional, SlashWeak, Section}
 use Rattle.feature_core.specs.Nodes.{NodeAt, labels_of, first_node}
 use Rattle.feature_links.specs.Links.{IsPackage, IsLink, over, includes, has_declaration, by_name}
-use Rattle.feature_core.specs.Candidates.{Edge, rank_of, Candidate, HasItem, LeadsOver, IsSection, requests, requesting, unsplit_of, to_base, to_feature, to_dependency, over_strong, over_weak, with_dependency, with_feature, of_required, of_optional, feature_to_base, named_feature, dep_colon, slash_full, slash_optional, slash_weak, section}
+use Rattle.feature_core.specs.Candidates.{Edge, Candidate, HasItem, LeadsOver, IsSection, requests, requesting, unsplit_of, to_base, to_feature, to_dependency, over_strong, over_weak, with_dependency, with_feature, of_required, of_optional, feature_to_base, named_feature, dep_colon, slash_full, slash_optional, slash_weak, section}
 use Rattle.feature_core.specs.declared.key.Key.{Key}
-use Rattle.feature_core.specs.inner.Parts.{key, over_rank, IsToFirst, IsOfItem, IsOfPackageAt, start_of, IsOfLinkAt, IsOfTables}
+use Rattle.feature_core.specs.inner.Keys.{kind_of}
+use Rattle.feature_core.specs.inner.Parts.{key, over_kind, IsToFirst, IsOfItem, IsOfPackageAt, start_of, IsOfLinkAt, IsOfTables}
 use Rattle.feature_core.proofs.KeySays.{Says}
 use Rattle.feature_core.proofs.Places.{IsSpread, node_there, node_back, get_left, get_cases, got_map}
 use Rattle.feature_core.proofs.AddsLemmas.{place_of_element, element_at_place, place_below}
@@ -138,20 +141,20 @@ base_back t n p h = let s = node_back t n p base h in go s s.place s.is_place s.
 pub record IsKeyOf (u w : ℕ) (e : Edge) (x : Key) : Type 0 where
   pub from : x.from ≡ u
   pub to : x.to ≡ w
-  pub rank : x.rank ≡ rank_of e
+  pub kind : x.kind ≡ kind_of e
 
 -- the candidate that the key represents, and its link
 pub record StandsFor (t : Tables) (x : Key) : Type 0 where
   pub edge : Edge
   pub candidate : Candidate t x.from x.to edge
-  pub rank : x.rank ≡ rank_of edge
+  pub kind : x.kind ≡ kind_of edge
   pub says : Says t x edge
 
-is_key : (u w rank source place : ℕ) (e : Edge) → rank ≡ rank_of e → IsKeyOf u w e (key u w rank source place)
-is_key u w rank source place e h = record { from = refl; to = refl; rank = h }
+is_key : (u w : ℕ) (kind : CandidateKind) (source place : ℕ) (e : Edge) → kind ≡ kind_of e → IsKeyOf u w e (key u w kind source place)
+is_key u w kind source place e h = record { from = refl; to = refl; kind = h }
 
-stands : (t : Tables) (u w rank source place : ℕ) (e : Edge) (x : Key) → x ≡ key u w rank source place → Candidate t u w e → rank ≡ rank_of e → Says t (key u w rank source place) e → StandsFor t x
-stands t u w rank source place e x is c r says = subst (λ z. StandsFor t z) (sym is) (record { edge = e; candidate = c; rank = r; says = says })
+stands : (t : Tables) (u w : ℕ) (kind : CandidateKind) (source place : ℕ) (e : Edge) (x : Key) → x ≡ key u w kind source place → Candidate t u w e → kind ≡ kind_of e → Says t (key u w kind source place) e → StandsFor t x
+stands t u w kind source place e x is c r says = subst (λ z. StandsFor t z) (sym is) (record { edge = e; candidate = c; kind = r; says = says })
 
 module _ (t : Tables) (differ : NamesDiffer t) where
   -- a key that a package contributes
@@ -165,7 +168,7 @@ module _ (t : Tables) (differ : NamesDiffer t) where
       go : (s : IsSpread labels_of t.packages u p l) (k : ℕ) → slice_get (labels_of s.row) k ≡ Some l → u ≡ first_node t p + k → (x : Key) × IsOfPackageAt t p x × IsKeyOf u w feature_to_base x
       go s zero at is = let e : base ≡ l = same_some base l at in absurd (ne (sym e))
       go s (suc k) at is =
-          (key (first_node t p + suc k) (first_node t p) 1 0 0, (s.row, s.is_row, inl (suc k, place_below (labels_of s.row) (suc k) l at, (omega arith, refl))), record { from = sym is; to = sym (base_back t w p nw); rank = refl })
+          (key (first_node t p + suc k) (first_node t p) FeatureToBase 0 0, (s.row, s.is_row, inl (suc k, place_below (labels_of s.row) (suc k) l at, (omega arith, refl))), record { from = sym is; to = sym (base_back t w p nw); kind = refl })
 
   -- the keys of an item of a feature are keys of its package
   of_item : (u p : ℕ) (f : Text) (item : Item) (x : Key) → HasItem t p f item → NodeAt t u p (named f) → IsOfItem t u p f item x → IsOfPackageAt t p x
@@ -186,7 +189,7 @@ module _ (t : Tables) (differ : NamesDiffer t) where
   of_section u w which label e s starts =
       let d = list_any_back (requesting s.asked which) s.link.declarations s.is_requested in
       let counted = both (includes which d.element) (requests d.element s.asked) d.passes in
-      (key u w 7 s.k d.place, (s.link, s.is_link, (d.place, (d.element, d.there, (u, subst (λ z. NodeAt t u s.link.from z) (sym (starts d.element counted.0)) s.from_node, (s.asked, counted.1, (w, s.to_node, refl)))))), is_key u w 7 s.k d.place e (sym (ap rank_of s.is_edge)))
+      (key u w Section s.k d.place, (s.link, s.is_link, (d.place, (d.element, d.there, (u, subst (λ z. NodeAt t u s.link.from z) (sym (starts d.element counted.0)) s.from_node, (s.asked, counted.1, (w, s.to_node, refl)))))), is_key u w Section s.k d.place e (sym (ap kind_of s.is_edge)))
 
   required_start : (link : LinkTable) (d : Declared) → IsTrue (not d.optional) → start_of link d ≡ base
   required_start link d h = ap (λ b. cond b (optional link.name) base) (not_true d.optional h)
@@ -194,30 +197,30 @@ module _ (t : Tables) (differ : NamesDiffer t) where
   optional_start : (link : LinkTable) (d : Declared) → IsTrue d.optional → start_of link d ≡ optional link.name
   optional_start link d h = ap (λ b. cond b (optional link.name) base) h
 
-  over_strongly : (weak : Bool) (link : LinkTable) → IsFalse (weak && has_declaration Optional link) → over_rank weak link ≡ 4
-  over_strongly weak link h = ap (λ b. cond b 6 4) h
+  over_strongly : (weak : Bool) (link : LinkTable) → IsFalse (weak && has_declaration Optional link) → over_kind weak link ≡ SlashFull
+  over_strongly weak link h = ap (λ b. cond b SlashWeak SlashFull) h
 
-  over_weakly : (weak : Bool) (link : LinkTable) → IsTrue (weak && has_declaration Optional link) → over_rank weak link ≡ 6
-  over_weakly weak link h = ap (λ b. cond b 6 4) h
+  over_weakly : (weak : Bool) (link : LinkTable) → IsTrue (weak && has_declaration Optional link) → over_kind weak link ≡ SlashWeak
+  over_weakly weak link h = ap (λ b. cond b SlashWeak SlashFull) h
 
-  of_item_to : (u w p rank source : ℕ) (f : Text) (item : Item) (e : Edge) → HasItem t p f item → NodeAt t u p (named f) → e ≡ e → rank ≡ rank_of e → IsOfItem t u p f item (key u w rank source 0) → (x : Key) × IsOfTables t x × IsKeyOf u w e x
-  of_item_to u w p rank source f item e h nu same r of = (key u w rank source 0, inl (p, of_item u p f item (key u w rank source 0) h nu of), is_key u w rank source 0 e r)
+  of_item_to : (u w p : ℕ) (kind : CandidateKind) (source : ℕ) (f : Text) (item : Item) (e : Edge) → HasItem t p f item → NodeAt t u p (named f) → kind ≡ kind_of e → IsOfItem t u p f item (key u w kind source 0) → (x : Key) × IsOfTables t x × IsKeyOf u w e x
+  of_item_to u w p kind source f item e h nu r of = (key u w kind source 0, inl (p, of_item u p f item (key u w kind source 0) h nu of), is_key u w kind source 0 e r)
 
   -- each candidate has a key
   pub contributed : (u w : ℕ) (e : Edge) → Candidate t u w e → (x : Key) × IsOfTables t x × IsKeyOf u w e x
   contributed u w e (to_base p l nu ne nw is) = let b = of_base u w p l nu ne nw in (b.0, inl (p, b.1), subst (λ z. IsKeyOf u w z b.0) (sym is) b.2)
-  contributed u w e (to_feature p f g h ne nu nw is) = of_item_to u w p 2 0 f (feature_item g) e h nu refl (sym (ap rank_of is)) (ne, (w, nw, refl))
-  contributed u w e (to_dependency p f d h nu nw is) = of_item_to u w p 3 0 f (optional_item d) e h nu refl (sym (ap rank_of is)) (w, nw, refl)
+  contributed u w e (to_feature p f g h ne nu nw is) = of_item_to u w p NamedFeature 0 f (feature_item g) e h nu (sym (ap kind_of is)) (ne, (w, nw, refl))
+  contributed u w e (to_dependency p f d h nu nw is) = of_item_to u w p DepColon 0 f (optional_item d) e h nu (sym (ap kind_of is)) (w, nw, refl)
   contributed u w e (over_strong k link weak l strong is) =
-      of_item_to u w link.from 4 k l.f (slash_item link.name l.g weak) e l.has_item l.from_node refl (sym (ap rank_of is)) (inl (k, (link, l.is_link, refl, refl, (w, l.to_node, ap (λ z. key u w z k 0) (sym (over_strongly weak link strong))))))
+      of_item_to u w link.from SlashFull k l.f (slash_item link.name l.g weak) e l.has_item l.from_node (sym (ap kind_of is)) (inl (k, (link, l.is_link, refl, refl, (w, l.to_node, ap (λ z. key u w z k 0) (sym (over_strongly weak link strong))))))
   contributed u w e (over_weak k link l weak is) =
-      of_item_to u w link.from 6 k l.f (slash_item link.name l.g true) e l.has_item l.from_node refl (sym (ap rank_of is)) (inl (k, (link, l.is_link, refl, refl, (w, l.to_node, ap (λ z. key u w z k 0) (sym (over_weakly true link weak))))))
-  contributed u w e (with_dependency p f d g h nu nw is) = of_item_to u w p 5 0 f (slash_item d g false) e h nu refl (sym (ap rank_of is)) (inr (refl, inl (w, nw, refl)))
-  contributed u w e (with_feature p n f d g h nu nd ne nw is) = of_item_to u w p 5 0 f (slash_item d g false) e h nu refl (sym (ap rank_of is)) (inr (refl, inr (ne, (n, nd), (w, nw, refl))))
+      of_item_to u w link.from SlashWeak k l.f (slash_item link.name l.g true) e l.has_item l.from_node (sym (ap kind_of is)) (inl (k, (link, l.is_link, refl, refl, (w, l.to_node, ap (λ z. key u w z k 0) (sym (over_weakly true link weak))))))
+  contributed u w e (with_dependency p f d g h nu nw is) = of_item_to u w p SlashOptional 0 f (slash_item d g false) e h nu (sym (ap kind_of is)) (inr (refl, inl (w, nw, refl)))
+  contributed u w e (with_feature p n f d g h nu nd ne nw is) = of_item_to u w p SlashOptional 0 f (slash_item d g false) e h nu (sym (ap kind_of is)) (inr (refl, inr (ne, (n, nd), (w, nw, refl))))
   contributed u w e (of_required s) = let x = of_section u w Required (λ link. base) e s (λ d i. required_start s.link d i) in (x.0, inr (s.k, x.1), x.2)
   contributed u w e (of_optional s) = let x = of_section u w Optional (λ link. optional link.name) e s (λ d i. optional_start s.link d i) in (x.0, inr (s.k, x.1), x.2)
 
-  over_link : (u w p k : ℕ) (f d g : Text) (weak : Bool) (link : LinkTable) (x : Key) → HasItem t p f (slash_item d g weak) → NodeAt t u p (named f) → IsLink t k link → link.from ≡ p → link.name ≡ d → NodeAt t w link.to (named g) → x ≡ key u w (over_rank weak link) k 0 → StandsFor t x
+  over_link : (u w p k : ℕ) (f d g : Text) (weak : Bool) (link : LinkTable) (x : Key) → HasItem t p f (slash_item d g weak) → NodeAt t u p (named f) → IsLink t k link → link.from ≡ p → link.name ≡ d → NodeAt t w link.to (named g) → x ≡ key u w (over_kind weak link) k 0 → StandsFor t x
   over_link u w p k f d g weak link x h nu is from name nw eq = go (weak && has_declaration Optional link) refl
     where
       item : (weaker : Bool) → weak ≡ weaker → HasItem t link.from f (slash_item link.name g weaker)
@@ -229,21 +232,21 @@ module _ (t : Tables) (differ : NamesDiffer t) where
       go : (b : Bool) → weak && has_declaration Optional link ≡ b → StandsFor t x
       go true e =
           let both_true = both weak (has_declaration Optional link) e in
-          stands t u w (over_rank weak link) k 0 (slash_weak k (unsplit_of k link)) x eq (over_weak k link (leads true both_true.0) both_true.1 refl) (over_weakly weak link e)
+          stands t u w (over_kind weak link) k 0 (slash_weak k (unsplit_of k link)) x eq (over_weak k link (leads true both_true.0) both_true.1 refl) (over_weakly weak link e)
           (record { number = refl; over = record { link = link; is_link = is; is = refl }; optional = record { link = link; is_link = is; has = both_true.1 } })
-      go false e = stands t u w (over_rank weak link) k 0 (slash_full (unsplit_of k link)) x eq (over_strong k link weak (leads weak refl) e refl) (over_strongly weak link e) (record { link = link; is_link = is; is = refl })
+      go false e = stands t u w (over_kind weak link) k 0 (slash_full (unsplit_of k link)) x eq (over_strong k link weak (leads weak refl) e refl) (over_strongly weak link e) (record { link = link; is_link = is; is = refl })
 
   -- a key of an item represents a candidate
   by_item : (u p : ℕ) (f : Text) (item : Item) (x : Key) → HasItem t p f item → NodeAt t u p (named f) → IsOfItem t u p f item x → StandsFor t x
-  by_item u p f (feature_item g) x h nu of = stands t u of.1.0 2 0 0 named_feature x of.1.2 (to_feature p f g h of.0 nu of.1.1 refl) refl tt
-  by_item u p f (optional_item d) x h nu of = stands t u of.0 3 0 0 (dep_colon (by_name t p Unsplit d)) x of.2 (to_dependency p f d h nu of.1 refl) refl (record { p = p; d = d; to_node = of.1; is = refl })
+  by_item u p f (feature_item g) x h nu of = stands t u of.1.0 NamedFeature 0 0 named_feature x of.1.2 (to_feature p f g h of.0 nu of.1.1 refl) refl tt
+  by_item u p f (optional_item d) x h nu of = stands t u of.0 DepColon 0 0 (dep_colon (by_name t p Unsplit d)) x of.2 (to_dependency p f d h nu of.1 refl) refl (record { p = p; d = d; to_node = of.1; is = refl })
   by_item u p f (slash_item d g weak) x h nu of = ⊎_elim
       (λ o. over_link u o.1.4.0 p o.0 f d g weak o.1.0 x h nu o.1.1 o.1.2 o.1.3 o.1.4.1 o.1.4.2)
       (λ o.
       let strong : HasItem t p f (slash_item d g false) = subst (λ z. HasItem t p f (slash_item d g z)) o.0 h in
       ⊎_elim
-      (λ i. stands t u i.0 5 0 0 (slash_optional (by_name t p Optional d)) x i.2 (with_dependency p f d g strong nu i.1 refl) refl (record { p = p; d = d; to_node = inl i.1; is = refl }))
-      (λ i. stands t u i.2.0 5 0 0 (slash_optional (by_name t p Optional d)) x i.2.2 (with_feature p i.1.0 f d g strong nu i.1.1 i.0 i.2.1 refl) refl (record { p = p; d = d; to_node = inr i.2.1; is = refl }))
+      (λ i. stands t u i.0 SlashOptional 0 0 (slash_optional (by_name t p Optional d)) x i.2 (with_dependency p f d g strong nu i.1 refl) refl (record { p = p; d = d; to_node = inl i.1; is = refl }))
+      (λ i. stands t u i.2.0 SlashOptional 0 0 (slash_optional (by_name t p Optional d)) x i.2.2 (with_feature p i.1.0 f d g strong nu i.1.1 i.0 i.2.1 refl) refl (record { p = p; d = d; to_node = inr i.2.1; is = refl }))
       o.1)
       of
 
@@ -251,7 +254,7 @@ module _ (t : Tables) (differ : NamesDiffer t) where
   by_base p zero table x h l i = absurd (omega (arith, i.0))
   by_base p (suc k) table x h l i =
       let s = within (labels_of table) (suc k) l in
-      stands t (first_node t p + suc k) (first_node t p) 1 0 0 feature_to_base x i.1 (to_base p s.0 (node_there t p (suc k) table s.0 h s.1) (later_label table k s.0 s.1) (base_node t p table h) refl) refl tt
+      stands t (first_node t p + suc k) (first_node t p) FeatureToBase 0 0 feature_to_base x i.1 (to_base p s.0 (node_there t p (suc k) table s.0 h s.1) (later_label table k s.0 s.1) (base_node t p table h) refl) refl tt
     where
       within : {X : Type 0} (xs : List X) (k : ℕ) → k < length xs → (y : X) × (slice_get xs k ≡ Some y)
       within [] k l = absurd (omega (arith, l))
@@ -271,7 +274,7 @@ module _ (t : Tables) (differ : NamesDiffer t) where
       (feature_node t p b.0 h.0 feature h.1 at) i.1.2)
       h.2
 
-  by_declaration : (k j : ℕ) (link : LinkTable) (d : Declared) (x : Key) (u w : ℕ) (asked : LabelName) → IsLink t k link → slice_get link.declarations j ≡ Some d → NodeAt t u link.from (start_of link d) → IsTrue (requests d asked) → NodeAt t w link.to asked → x ≡ key u w 7 k j → StandsFor t x
+  by_declaration : (k j : ℕ) (link : LinkTable) (d : Declared) (x : Key) (u w : ℕ) (asked : LabelName) → IsLink t k link → slice_get link.declarations j ≡ Some d → NodeAt t u link.from (start_of link d) → IsTrue (requests d asked) → NodeAt t w link.to asked → x ≡ key u w Section k j → StandsFor t x
   by_declaration k j link d x u w asked is at nu req nw eq = go d.optional refl
     where
       section_of : (which : LinkDeclarations) (label : LinkTable → LabelName) → IsTrue (includes which d) → start_of link d ≡ label link → IsSection t u w which label (section (over which (requesting asked which) ((k, link) ∷ [])))
@@ -287,9 +290,9 @@ module _ (t : Tables) (differ : NamesDiffer t) where
       }
 
       go : (b : Bool) → d.optional ≡ b → StandsFor t x
-      go true e = stands t u w 7 k j (section (over Optional (requesting asked Optional) ((k, link) ∷ []))) x eq (of_optional (section_of Optional (λ l. optional l.name) e (optional_start link d e))) refl
+      go true e = stands t u w Section k j (section (over Optional (requesting asked Optional) ((k, link) ∷ []))) x eq (of_optional (section_of Optional (λ l. optional l.name) e (optional_start link d e))) refl
           (record { which = Optional; link = link; asked = asked; is_link = is; to_node = nw; start = inr (refl, subst (λ z. NodeAt t u link.from z) (optional_start link d e) nu); is = refl })
-      go false e = stands t u w 7 k j (section (over Required (requesting asked Required) ((k, link) ∷ []))) x eq (of_required (section_of Required (λ l. base) (not_false d.optional e) (required_start link d (not_false d.optional e)))) refl
+      go false e = stands t u w Section k j (section (over Required (requesting asked Required) ((k, link) ∷ []))) x eq (of_required (section_of Required (λ l. base) (not_false d.optional e) (required_start link d (not_false d.optional e)))) refl
           (record { which = Required; link = link; asked = asked; is_link = is; to_node = nw; start = inl (refl, subst (λ z. NodeAt t u link.from z) (required_start link d (not_false d.optional e)) nu); is = refl })
 
   by_link : (k : ℕ) (x : Key) → IsOfLinkAt t k x → StandsFor t x

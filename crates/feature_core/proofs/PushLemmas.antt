@@ -7,22 +7,24 @@ use Rattle.std.specs.Cmp.Lexicographic.{bytes_decides}
 use Rattle.std.proofs.lemmas.Bool.Decides.{nat_tests}
 use Rattle.guppy_packages.specs.Rows.{Text}
 use Rattle.guppy_packages.specs.Tables.{LinkTable, Tables, FeatureTable, PackageTable, AreLinksFrom}
-use Rattle.guppy_packages.specs.Items.{Item, feature_item, slash_item, item_of}
+use Rattle.guppy_packages.specs.Items.{feature_item, slash_item, item_of}
 use Rattle.feature_labels.specs.Names.{LabelName}
 use Rattle.feature_labels.specs.Names.LabelName.{named, optional}
+use Rattle.feature_core.specs.declared.key.CandidateKind.{CandidateKind}
+use Rattle.feature_core.specs.declared.key.CandidateKind.TheVariants.{FeatureToBase, NamedFeature, SlashOptional}
 use Rattle.feature_core.specs.inner.Adds.{Adds, Below}
 use Rattle.feature_links.specs.Links.{IsPackage, IsLink, numbered}
 use Rattle.feature_links.specs.NamedLinks.{link_numbers}
 use Rattle.feature_core.specs.Nodes.{NodeAt, first_node, labels_of}
 use Rattle.feature_core.specs.declared.key.Key.{Key}
-use Rattle.feature_core.specs.inner.Parts.{key, over_rank, IsToFirst, IsTo, IsOver, IsOverLink, IsBeside, IsOfItem, IsOfItemAt, IsOfFeatureAt, IsOfPackageAt, IsOfLinkAt, IsLinkFrom, IsOfSource}
+use Rattle.feature_core.specs.inner.Parts.{key, over_kind, IsToFirst, IsTo, IsOver, IsOverLink, IsBeside, IsOfItem, IsOfItemAt, IsOfFeatureAt, IsOfPackageAt, IsOfLinkAt, IsLinkFrom, IsOfSource}
 use Rattle.feature_core.proofs.NodeLabels.{element_within}
 use Rattle.feature_core.proofs.AddsLemmas.{Adds-nothing, Adds-then, Adds-as, place_of_element, element_at_place, place_below, Contains-first, Contains-later, Contains-cases, Contains-none}
 
 -- a key to the node of a label, whose number is known
-pub pushed_to : (t : Tables) (u p rank source place : ℕ) (label : LabelName) (to : Option ℕ) (a b : List Key) → ((n : ℕ) → (to ≡ Some n) ↔ NodeAt t n p label)
-    → Adds (λ x. (w : ℕ) × (to ≡ Some w) × (x ≡ key u w rank source place)) a b → Adds (IsTo t u p label rank source place) a b
-pushed_to t u p rank source place label to a b told h = Adds-as (λ x. (w : ℕ) × (to ≡ Some w) × (x ≡ key u w rank source place)) (IsTo t u p label rank source place) a b
+pub pushed_to : (t : Tables) (u p : ℕ) (kind : CandidateKind) (source place : ℕ) (label : LabelName) (to : Option ℕ) (a b : List Key) → ((n : ℕ) → (to ≡ Some n) ↔ NodeAt t n p label)
+    → Adds (λ x. (w : ℕ) × (to ≡ Some w) × (x ≡ key u w kind source place)) a b → Adds (IsTo t u p label kind source place) a b
+pushed_to t u p kind source place label to a b told h = Adds-as (λ x. (w : ℕ) × (to ≡ Some w) × (x ≡ key u w kind source place)) (IsTo t u p label kind source place) a b
     (λ x i. (i.0, (told i.0).0 i.1, i.2))
     (λ x i. (i.0, (told i.0).1 i.1, i.2))
     h
@@ -32,9 +34,9 @@ pub Adds-for : {X : Type 0} (P : ℕ → X → Type 0) (m n : ℕ) (a b : List X
 Adds-for P m n a b e h = subst (λ z. Adds (P z) a b) e h
 
 -- a key from node `k` to the first
-pub first_pushed : (first k : ℕ) (a b : List Key) → 0 < k → Adds (λ x. (w : ℕ) × (◌≡◌ {A = Option ℕ} (Some first) (Some w)) × (x ≡ key (first + k) w 1 0 0)) a b → Adds (IsToFirst first k) a b
-first_pushed first k a b l h = Adds-as (λ x. (w : ℕ) × (◌≡◌ {A = Option ℕ} (Some first) (Some w)) × (x ≡ key (first + k) w 1 0 0)) (IsToFirst first k) a b
-    (λ x i. let e : first ≡ i.0 = cc in (l, i.2 ∙ ap (λ z. key (first + k) z 1 0 0) (sym e)))
+pub first_pushed : (first k : ℕ) (a b : List Key) → 0 < k → Adds (λ x. (w : ℕ) × (◌≡◌ {A = Option ℕ} (Some first) (Some w)) × (x ≡ key (first + k) w FeatureToBase 0 0)) a b → Adds (IsToFirst first k) a b
+first_pushed first k a b l h = Adds-as (λ x. (w : ℕ) × (◌≡◌ {A = Option ℕ} (Some first) (Some w)) × (x ≡ key (first + k) w FeatureToBase 0 0)) (IsToFirst first k) a b
+    (λ x i. let e : first ≡ i.0 = cc in (l, i.2 ∙ ap (λ z. key (first + k) z FeatureToBase 0 0) (sym e)))
     (λ x i. (first, refl, i.1))
     h
 
@@ -48,14 +50,14 @@ first_end first n count a b l e h = Adds-as (Below n (IsToFirst first)) (Below c
     (λ x i. (i.0, omega (arith, i.1, l), i.2))
     h
 
--- a key over link `k`, whose declarations determine the rank
-pub link_pushed : (t : Tables) (u k rank : ℕ) (g : Text) (weak : Bool) (link : LinkTable) (a b : List Key) → IsLink t k link → rank ≡ over_rank weak link
-    → Adds (IsTo t u link.to (named g) rank k 0) a b → Adds (IsOverLink t u g weak k) a b
-link_pushed t u k rank g weak link a b is e h = Adds-as (IsTo t u link.to (named g) rank k 0) (IsOverLink t u g weak k) a b
+-- a key over link `k`, whose declarations determine the kind
+pub link_pushed : (t : Tables) (u k : ℕ) (kind : CandidateKind) (g : Text) (weak : Bool) (link : LinkTable) (a b : List Key) → IsLink t k link → kind ≡ over_kind weak link
+    → Adds (IsTo t u link.to (named g) kind k 0) a b → Adds (IsOverLink t u g weak k) a b
+link_pushed t u k kind g weak link a b is e h = Adds-as (IsTo t u link.to (named g) kind k 0) (IsOverLink t u g weak k) a b
     (λ x i. (link, is, subst (λ z. IsTo t u link.to (named g) z k 0 x) e i))
     (λ x i.
     let same : i.0 ≡ link = same_link i.0 (sym i.1 ∙ is) in
-    subst (λ z. IsTo t u link.to (named g) z k 0 x) (sym e) (subst (λ z. IsTo t u z.to (named g) (over_rank weak z) k 0 x) same i.2))
+    subst (λ z. IsTo t u link.to (named g) z k 0 x) (sym e) (subst (λ z. IsTo t u z.to (named g) (over_kind weak z) k 0 x) same i.2))
     h
   where
     same_link : (other : LinkTable) → ◌≡◌ {A = Option LinkTable} (Some other) (Some link) → other ≡ link
@@ -174,7 +176,7 @@ over_named t u p d g weak links a b e h = Adds-as (λ x. (i k : ℕ) × (slice_g
     (λ x j.
     let n = under_back t p d j.0 j.1 (subst (λ z. slice_get z j.0 ≡ Some j.1) e j.2) in
     let same : n.0 ≡ j.3.0 = same_link n.0 j.3.0 (sym n.1 ∙ j.3.1) in
-    (j.1, (n.0, n.1, n.2, n.3, subst (λ z. IsTo t u z.to (named g) (over_rank weak z) j.1 0 x) (sym same) j.3.2)))
+    (j.1, (n.0, n.1, n.2, n.3, subst (λ z. IsTo t u z.to (named g) (over_kind weak z) j.1 0 x) (sym same) j.3.2)))
     (λ x j.
     let o = j.1 in
     let i = under_there t p d j.0 o.0 o.1 o.2 o.3 in
@@ -200,18 +202,18 @@ none_beside t u p f d a told = Adds-nothing (IsBeside t u p f d) a (λ x h. ⊎_
     gone n e = cc
 
 -- the keys beside, if the name is the feature's
-pub one_beside : (t : Tables) (u p : ℕ) (f d : Text) (a b : List Key) → d ≡ f → Adds (IsTo t u p (optional d) 5 0 0) a b → Adds (IsBeside t u p f d) a b
-one_beside t u p f d a b same h = Adds-as (IsTo t u p (optional d) 5 0 0) (IsBeside t u p f d) a b
+pub one_beside : (t : Tables) (u p : ℕ) (f d : Text) (a b : List Key) → d ≡ f → Adds (IsTo t u p (optional d) SlashOptional 0 0) a b → Adds (IsBeside t u p f d) a b
+one_beside t u p f d a b same h = Adds-as (IsTo t u p (optional d) SlashOptional 0 0) (IsBeside t u p f d) a b
     (λ x i. inl i)
     (λ x i. ⊎_elim (λ j. j) (λ j. absurd (j.0 same)) i)
     h
 
 -- the keys beside, if the name is another one
-pub two_beside : (t : Tables) (u n p : ℕ) (f d : Text) (a b c : List Key) → d ≢ f → NodeAt t n p (optional d) → Adds (IsTo t u p (optional d) 5 0 0) a b → Adds (IsTo t u p (named d) 5 0 0) b c → Adds (IsBeside t u p f d) a c
-two_beside t u n p f d a b c differ at g h = Adds-as (λ x. IsTo t u p (optional d) 5 0 0 x ⊎ IsTo t u p (named d) 5 0 0 x) (IsBeside t u p f d) a c
+pub two_beside : (t : Tables) (u n p : ℕ) (f d : Text) (a b c : List Key) → d ≢ f → NodeAt t n p (optional d) → Adds (IsTo t u p (optional d) SlashOptional 0 0) a b → Adds (IsTo t u p (named d) SlashOptional 0 0) b c → Adds (IsBeside t u p f d) a c
+two_beside t u n p f d a b c differ at g h = Adds-as (λ x. IsTo t u p (optional d) SlashOptional 0 0 x ⊎ IsTo t u p (named d) SlashOptional 0 0 x) (IsBeside t u p f d) a c
     (λ x i. ⊎_elim (λ j. inl j) (λ j. inr (differ, (n, at), j)) i)
     (λ x i. ⊎_elim (λ j. inl j) (λ j. inr j.2) i)
-    (Adds-then (IsTo t u p (optional d) 5 0 0) (IsTo t u p (named d) 5 0 0) a b c g h)
+    (Adds-then (IsTo t u p (optional d) SlashOptional 0 0) (IsTo t u p (named d) SlashOptional 0 0) a b c g h)
 
 -- unequal texts, and equal ones
 pub texts_differ : (c d : Text) → true ≡ not (bytes_eq c d) → c ≢ d
@@ -239,8 +241,8 @@ texts_apart c d h e = true≢false (sym ((bytes_decides c d).1 e) ∙ sym h)
 pub same_feature : (t : Tables) (u p : ℕ) (f g : Text) (a : List Key) → g ≡ f → Adds (IsOfItem t u p f (feature_item g)) a a
 same_feature t u p f g a same = Adds-nothing (IsOfItem t u p f (feature_item g)) a (λ x h. h.0 same)
 
-pub other_feature : (t : Tables) (u p : ℕ) (f g : Text) (a b : List Key) → g ≢ f → Adds (IsTo t u p (named g) 2 0 0) a b → Adds (IsOfItem t u p f (feature_item g)) a b
-other_feature t u p f g a b differ h = Adds-as (IsTo t u p (named g) 2 0 0) (IsOfItem t u p f (feature_item g)) a b (λ x i. (differ, i)) (λ x i. i.1) h
+pub other_feature : (t : Tables) (u p : ℕ) (f g : Text) (a b : List Key) → g ≢ f → Adds (IsTo t u p (named g) NamedFeature 0 0) a b → Adds (IsOfItem t u p f (feature_item g)) a b
+other_feature t u p f g a b differ h = Adds-as (IsTo t u p (named g) NamedFeature 0 0) (IsOfItem t u p f (feature_item g)) a b (λ x i. (differ, i)) (λ x i. i.1) h
 
 -- an item with a slash, weak or strong
 pub weak_item : (t : Tables) (u p : ℕ) (f d g : Text) (weak : Bool) (a b : List Key) → weak ≡ true → Adds (λ x. (k : ℕ) × IsOver t u p d g weak k x) a b → Adds (IsOfItem t u p f (slash_item d g weak)) a b

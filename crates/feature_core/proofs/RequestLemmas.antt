@@ -1,5 +1,5 @@
 -- The keys that the declarations of a link add.
-use Rattle.std.proofs.Common.{◌≡◌, ℕ, ◌+◌, ◌<◌, ◌⊎◌, inl, inr, ⊎_elim, List, length, map, get_or, Bool, true, false, cond, refl, ap, sym, ◌∙◌, subst, Option, Some, None}
+use Rattle.std.proofs.Common.{◌≡◌, ℕ, ◌<◌, ◌⊎◌, inl, inr, ⊎_elim, List, length, map, get_or, Bool, true, false, cond, refl, ap, sym, ◌∙◌, subst, Option, Some}
 use Rattle.std.specs.Prelude.{slice_get, IsTrue, ◌||◌, ◌&&◌, ◌↔◌, codes}
 use Rattle.std.specs.Str.{bytes_eq}
 use Rattle.std.specs.List.{list_any}
@@ -11,6 +11,8 @@ use Rattle.guppy_packages.specs.Rows.{Text, Declared}
 use Rattle.guppy_packages.specs.Tables.{LinkTable, Tables}
 use Rattle.feature_labels.specs.Names.{LabelName}
 use Rattle.feature_labels.specs.Names.LabelName.{base, named, optional}
+use Rattle.feature_core.specs.declared.key.CandidateKind.{CandidateKind}
+use Rattle.feature_core.specs.declared.key.CandidateKind.TheVariants.{Section}
 use Rattle.feature_core.specs.inner.Adds.{Adds, Below}
 use Rattle.feature_core.specs.Nodes.{NodeAt, first_node}
 use Rattle.feature_links.specs.Links.{IsLink}
@@ -22,16 +24,16 @@ use Rattle.feature_core.proofs.PartLemmas.{base_back, list_any_there, list_any_b
 use Rattle.feature_core.proofs.AddsLemmas.{Adds-nothing, Adds-then, Adds-as}
 
 -- a key from `u` to a node that was looked up
-abbrev pub IsToFound : ℕ → Option ℕ → ℕ → ℕ → ℕ → Key → Type 0
-IsToFound u to rank source place x = (w : ℕ) × (to ≡ Some w) × (x ≡ key u w rank source place)
+abbrev pub IsToFound : ℕ → Option ℕ → CandidateKind → ℕ → ℕ → Key → Type 0
+IsToFound u to kind source place x = (w : ℕ) × (to ≡ Some w) × (x ≡ key u w kind source place)
 
 -- `to` is the node of this label of package `p`, if it is one
 abbrev pub IsFound : Tables → ℕ → LabelName → Option ℕ → Type 0
 IsFound t p label to = (n : ℕ) → (to ≡ Some n) ↔ NodeAt t n p label
 
-pub found_adds : (t : Tables) (u p : ℕ) (label : LabelName) (rank source place : ℕ) (to : Option ℕ) (a b : List Key) → IsFound t p label to → Adds (IsToFound u to rank source place) a b → Adds (IsTo t u p label rank source place) a b
-found_adds t u p label rank source place to a b found h =
-    Adds-as (IsToFound u to rank source place) (IsTo t u p label rank source place) a b (λ x i. (i.0, (found i.0).0 i.1, i.2)) (λ x i. (i.0, (found i.0).1 i.1, i.2)) h
+pub found_adds : (t : Tables) (u p : ℕ) (label : LabelName) (kind : CandidateKind) (source place : ℕ) (to : Option ℕ) (a b : List Key) → IsFound t p label to → Adds (IsToFound u to kind source place) a b → Adds (IsTo t u p label kind source place) a b
+found_adds t u p label kind source place to a b found h =
+    Adds-as (IsToFound u to kind source place) (IsTo t u p label kind source place) a b (λ x i. (i.0, (found i.0).0 i.1, i.2)) (λ x i. (i.0, (found i.0).1 i.1, i.2)) h
 
 pub base_found : (t : Tables) (p first : ℕ) → first ≡ first_node t p → NodeAt t first p base → IsFound t p base (Some first)
 base_found t p first is node n = (λ e. subst (λ z. NodeAt t z p base) (got_same first n e) node, λ h. ap Some (is ∙ sym (base_back t n p h)))
@@ -46,15 +48,15 @@ mapped_length f xs ys e = sym (length-map xs f) ∙ ap length e
 
 -- a key to the default feature, if `d` requests it
 abbrev pub IsByDefault : Tables → ℕ → ℕ → ℕ → ℕ → Declared → Key → Type 0
-IsByDefault t u p k j d x = IsTrue d.default_features × IsTo t u p (named (codes "default")) 7 k j x
+IsByDefault t u p k j d x = IsTrue d.default_features × IsTo t u p (named (codes "default")) Section k j x
 
 -- a key to feature `i` of those that `d` lists
 abbrev pub IsListed : Tables → ℕ → ℕ → ℕ → ℕ → Declared → ℕ → Key → Type 0
-IsListed t u p k j d i x = (g : Text) × (slice_get d.features i ≡ Some g) × IsTo t u p (named g) 7 k j x
+IsListed t u p k j d i x = (g : Text) × (slice_get d.features i ≡ Some g) × IsTo t u p (named g) Section k j x
 
-pub with_default : (t : Tables) (u p k j : ℕ) (d : Declared) (to : Option ℕ) (a b : List Key) → d.default_features ≡ true → IsFound t p (named (codes "default")) to → Adds (IsToFound u to 7 k j) a b → Adds (IsByDefault t u p k j d) a b
+pub with_default : (t : Tables) (u p k j : ℕ) (d : Declared) (to : Option ℕ) (a b : List Key) → d.default_features ≡ true → IsFound t p (named (codes "default")) to → Adds (IsToFound u to Section k j) a b → Adds (IsByDefault t u p k j d) a b
 with_default t u p k j d to a b asks found h =
-    Adds-as (IsTo t u p (named (codes "default")) 7 k j) (IsByDefault t u p k j d) a b (λ x i. (asks, i)) (λ x i. i.1) (found_adds t u p (named (codes "default")) 7 k j to a b found h)
+    Adds-as (IsTo t u p (named (codes "default")) Section k j) (IsByDefault t u p k j d) a b (λ x i. (asks, i)) (λ x i. i.1) (found_adds t u p (named (codes "default")) Section k j to a b found h)
 
 not_both : (b : Bool) → b ≡ true → b ≡ false → ⊥
 not_both true e f = cc
@@ -64,12 +66,12 @@ pub without_default : (t : Tables) (u p k j : ℕ) (d : Declared) (a : List Key)
 without_default t u p k j d a unasked = Adds-nothing (IsByDefault t u p k j d) a (λ x h. not_both d.default_features h.0 unasked)
 
 -- the key to a feature that d lists
-pub listed : (t : Tables) (u p k j : ℕ) (d : Declared) (i : ℕ) (g : Text) (to : Option ℕ) (a b : List Key) → slice_get d.features i ≡ Some g → IsFound t p (named g) to → Adds (IsToFound u to 7 k j) a b → Adds (IsListed t u p k j d i) a b
+pub listed : (t : Tables) (u p k j : ℕ) (d : Declared) (i : ℕ) (g : Text) (to : Option ℕ) (a b : List Key) → slice_get d.features i ≡ Some g → IsFound t p (named g) to → Adds (IsToFound u to Section k j) a b → Adds (IsListed t u p k j d i) a b
 listed t u p k j d i g to a b at found h =
-    Adds-as (IsTo t u p (named g) 7 k j) (IsListed t u p k j d i) a b
+    Adds-as (IsTo t u p (named g) Section k j) (IsListed t u p k j d i) a b
     (λ x h. (g, at, h))
-    (λ x h. subst (λ z. IsTo t u p (named z) 7 k j x) (got_same h.0 g (sym h.1 ∙ at)) h.2)
-    (found_adds t u p (named g) 7 k j to a b found h)
+    (λ x h. subst (λ z. IsTo t u p (named z) Section k j x) (got_same h.0 g (sym h.1 ∙ at)) h.2)
+    (found_adds t u p (named g) Section k j to a b found h)
 
 or_left : (a b : Bool) → a ≡ true → a || b ≡ true
 or_left true b h = refl
@@ -93,7 +95,7 @@ and_cases false b h = cc
 
 -- the keys to the base, to the default feature if `d` requests it, and to the features that `d` lists
 abbrev IsAsked : Tables → ℕ → ℕ → ℕ → ℕ → Declared → ℕ → Key → Type 0
-IsAsked t u p k j d i x = (IsTo t u p base 7 k j x ⊎ IsByDefault t u p k j d x) ⊎ Below i (IsListed t u p k j d) x
+IsAsked t u p k j d i x = (IsTo t u p base Section k j x ⊎ IsByDefault t u p k j d x) ⊎ Below i (IsListed t u p k j d) x
 
 module _ (t : Tables) (u p k j : ℕ) (d : Declared) where
   asked_there : (i : ℕ) (x : Key) → IsAsked t u p k j d i x → IsRequest t u p k j d x
@@ -109,26 +111,26 @@ module _ (t : Tables) (u p k j : ℕ) (d : Declared) where
   asked_back : (i : ℕ) (x : Key) → length d.features ≡ i → IsRequest t u p k j d x → IsAsked t u p k j d i x
   asked_back i x long h = go h.0 h.1 h.2
     where
-      go : (asked : LabelName) → IsTrue (requests d asked) → IsTo t u p asked 7 k j x → IsAsked t u p k j d i x
+      go : (asked : LabelName) → IsTrue (requests d asked) → IsTo t u p asked Section k j x → IsAsked t u p k j d i x
       go base r to = inl (inl to)
       go (optional n) r to = absurd (not_both false r refl)
       go (named g) r to = ⊎_elim
           (λ e.
           let f = list_any_back (λ z. bytes_eq g z) d.features e in
           let same : g ≡ f.element = (bytes_decides g f.element).0 f.passes in
-          inr (f.place, subst (λ n. f.place < n) long (slice_get_within d.features f.place f.element f.there), (f.element, f.there, subst (λ z. IsTo t u p (named z) 7 k j x) same to)))
+          inr (f.place, subst (λ n. f.place < n) long (slice_get_within d.features f.place f.element f.there), (f.element, f.there, subst (λ z. IsTo t u p (named z) Section k j x) same to)))
           (λ e.
           let f = and_cases d.default_features (bytes_eq g (codes "default")) e in
           let same : g ≡ codes "default" = (bytes_decides g (codes "default")).0 f.1 in
-          inl (inr (f.0, subst (λ z. IsTo t u p (named z) 7 k j x) same to)))
+          inl (inr (f.0, subst (λ z. IsTo t u p (named z) Section k j x) same to)))
           (or_cases (list_any (λ z. bytes_eq g z) d.features) (d.default_features && bytes_eq g (codes "default")) r)
 
   -- all keys that `d` requests
-  pub requested : (i : ℕ) (a b c e : List Key) → length d.features ≡ i → Adds (IsTo t u p base 7 k j) a b → Adds (IsByDefault t u p k j d) b c → Adds (Below i (IsListed t u p k j d)) c e → Adds (IsRequest t u p k j d) a e
+  pub requested : (i : ℕ) (a b c e : List Key) → length d.features ≡ i → Adds (IsTo t u p base Section k j) a b → Adds (IsByDefault t u p k j d) b c → Adds (Below i (IsListed t u p k j d)) c e → Adds (IsRequest t u p k j d) a e
   requested i a b c e long first second third =
       Adds-as (IsAsked t u p k j d i) (IsRequest t u p k j d) a e (asked_there i) (λ x h. asked_back i x long h)
-      (Adds-then (λ x. IsTo t u p base 7 k j x ⊎ IsByDefault t u p k j d x) (Below i (IsListed t u p k j d)) a c e
-      (Adds-then (IsTo t u p base 7 k j) (IsByDefault t u p k j d) a b c first second) third)
+      (Adds-then (λ x. IsTo t u p base Section k j x ⊎ IsByDefault t u p k j d x) (Below i (IsListed t u p k j d)) a c e
+      (Adds-then (IsTo t u p base Section k j) (IsByDefault t u p k j d) a b c first second) third)
 
 -- the node of a label, and no other
 pub only_node : (t : Tables) (p : ℕ) (label : LabelName) (node : ℕ) → IsFound t p label (Some node) → (n : ℕ) → (node ≡ n) ↔ NodeAt t n p label

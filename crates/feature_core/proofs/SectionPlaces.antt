@@ -14,18 +14,19 @@ use Rattle.feature_labels.specs.Names.{LabelName}
 use Rattle.feature_labels.specs.Names.LabelName.{base, optional}
 use Rattle.feature_labels.specs.declared.link_declarations.LinkDeclarations.{LinkDeclarations}
 use Rattle.feature_labels.specs.declared.link_declarations.LinkDeclarations.TheVariants.{Required, Optional}
+use Rattle.feature_core.specs.declared.key.CandidateKind.{CandidateKind}
+use Rattle.feature_core.specs.declared.key.CandidateKind.TheVariants.{SlashFull, SlashWeak, Section}
 use Rattle.feature_core.specs.Nodes.{NodeAt, node_packages}
 use Rattle.feature_core.proofs.LeastKeys.{AllPairs-first, AllPairs-later, cond_has}
 use Rattle.feature_core.proofs.MaterialLemmas.{node_within}
 use Rattle.feature_links.specs.Links.{LinkFacts, IsLink, includes, has_declaration, ArePassing}
 use Rattle.feature_core.specs.Candidates.{requests, requesting}
 use Rattle.feature_core.specs.declared.key.Key.{Key}
-use Rattle.feature_core.specs.inner.Keys.{IsLeast, IsNoLater, IsRun}
+use Rattle.feature_core.specs.inner.Keys.{rank, IsLeast, IsNoLater, IsRun}
 use Rattle.feature_core.specs.inner.Parts.{key, IsOfItem, IsOfPackageAt, IsOfTables, start_of}
 use Rattle.feature_core.proofs.PushLemmas.{from_map, into_map}
-use Rattle.feature_core.proofs.KeyEdges.{rank_at_most}
+use Rattle.feature_core.proofs.KindLemmas.{last_kind}
 use Rattle.feature_core.proofs.KeySays.{SaysSection}
-use Rattle.feature_core.proofs.PairLemmas.{names_differ}
 use Rattle.feature_core.proofs.Ranks.{same_home, same_label, same_link}
 
 -- a key of a declaration of a link
@@ -39,34 +40,34 @@ record IsSectionKey (t : Tables) (y : Key) : Type 0 where
   is_requested : IsTrue (requests declared asked)
   to_node : NodeAt t y.to link.to asked
 
-ranked : (y : Key) (u w rank source place : ℕ) → y ≡ key u w rank source place → y.rank ≡ 7 → rank ≡ 7
-ranked y u w rank source place is h = sym (ap (λ z. z.rank) is) ∙ h
+ranked : (y : Key) (u w : ℕ) (kind : CandidateKind) (source place : ℕ) → y ≡ key u w kind source place → y.kind ≡ Section → rank kind ≡ rank Section
+ranked y u w kind source place is h = ap rank (sym (ap (λ z. z.kind) is) ∙ h)
 
-over_rank_low : (b : Bool) → ◌≡◌ {A = ℕ} (cond b 6 4) 7 → ⊥
-over_rank_low true h = omega (arith, h)
-over_rank_low false h = omega (arith, h)
+over_kind_low : (b : Bool) → rank (cond b SlashWeak SlashFull) ≡ rank Section → ⊥
+over_kind_low true h = omega (arith, h)
+over_kind_low false h = omega (arith, h)
 
-item_rank : (t : Tables) (u p : ℕ) (f : Text) (item : Item) (y : Key) → IsOfItem t u p f item y → y.rank ≡ 7 → ⊥
-item_rank t u p f (feature_item g) y h r = omega (arith, ranked y _ _ _ _ _ h.1.2 r)
-item_rank t u p f (optional_item d) y h r = omega (arith, ranked y _ _ _ _ _ h.2 r)
-item_rank t u p f (slash_item d g weak) y h r = ⊎_elim
-    (λ o. over_rank_low (weak && has_declaration Optional o.1.0) (ranked y _ _ _ _ _ o.1.4.2 r))
+item_kind : (t : Tables) (u p : ℕ) (f : Text) (item : Item) (y : Key) → IsOfItem t u p f item y → y.kind ≡ Section → ⊥
+item_kind t u p f (feature_item g) y h r = omega (arith, ranked y _ _ _ _ _ h.1.2 r)
+item_kind t u p f (optional_item d) y h r = omega (arith, ranked y _ _ _ _ _ h.2 r)
+item_kind t u p f (slash_item d g weak) y h r = ⊎_elim
+    (λ o. over_kind_low (weak && has_declaration Optional o.1.0) (ranked y _ _ _ _ _ o.1.4.2 r))
     (λ o. ⊎_elim (λ i. omega (arith, ranked y _ _ _ _ _ i.2 r)) (λ i. omega (arith, ranked y _ _ _ _ _ i.2.2 r)) o.1)
     h
 
-package_rank : (t : Tables) (p : ℕ) (y : Key) → IsOfPackageAt t p y → y.rank ≡ 7 → ⊥
-package_rank t p y h r = ⊎_elim
+package_kind : (t : Tables) (p : ℕ) (y : Key) → IsOfPackageAt t p y → y.kind ≡ Section → ⊥
+package_kind t p y h r = ⊎_elim
     (λ b. omega (arith, ranked y _ _ _ _ _ b.2.1 r))
     (λ b.
     let feature : FeatureTable = b.1.0 in
     let i = b.1.2 in
     let text : Text = i.1.0 in
-    item_rank t _ p feature.name (item_of text) y i.1.2 r)
+    item_kind t _ p feature.name (item_of text) y i.1.2 r)
     h.2
 
-section_key : (t : Tables) (y : Key) → IsOfTables t y → y.rank ≡ 7 → IsSectionKey t y
+section_key : (t : Tables) (y : Key) → IsOfTables t y → y.kind ≡ Section → IsSectionKey t y
 section_key t y h r = ⊎_elim
-    (λ i. absurd (package_rank t i.0 y i.1 r))
+    (λ i. absurd (package_kind t i.0 y i.1 r))
     (λ i.
     let k : ℕ = i.0 in
     let link : LinkTable = i.1.0 in
@@ -80,7 +81,7 @@ section_key t y h r = ⊎_elim
     let req = i.1.2.1.2.2.1 in
     let w : ℕ = i.1.2.1.2.2.2.0 in
     let nw = i.1.2.1.2.2.2.1 in
-    let made : IsSectionKey t (key u w 7 k j) = record { link = link; is_link = is_link; declared = d; at = at; from_node = nu; asked = asked; is_requested = req; to_node = nw } in
+    let made : IsSectionKey t (key u w Section k j) = record { link = link; is_link = is_link; declared = d; at = at; from_node = nu; asked = asked; is_requested = req; to_node = nw } in
     subst (λ z. IsSectionKey t z) (sym i.1.2.1.2.2.2.2) made)
     h
 
@@ -116,33 +117,32 @@ joined_true : (a b : Bool) → a ≡ true → b ≡ true → a && b ≡ true
 joined_true true b h i = i
 joined_true false b h i = cc
 
--- a key with this pair, rank and source
+-- a key with this pair, kind and source
 abbrev IsOfPair : Key → Key → Type 0
-IsOfPair x y = (y.from ≡ x.from) × (y.to ≡ x.to) × (y.rank ≡ 7) × (y.source ≡ x.source)
+IsOfPair x y = (y.from ≡ x.from) × (y.to ≡ x.to) × (y.kind ≡ Section) × (y.source ≡ x.source)
 
 later_place : (x a b : Key) → IsOfPair x a → IsOfPair x b → IsNoLater a b → a.place ≤ b.place
 later_place x a b (f, g, h, i) (p, q, r, o) (inl (inl e)) = absurd (omega (arith, e, f, p))
 later_place x a b (f, g, h, i) (p, q, r, o) (inl (inr e)) = absurd (omega (arith, e.1, g, q))
-later_place x a b (f, g, h, i) (p, q, r, o) (inr (e, inl k)) = absurd (omega (arith, k, h, r))
+later_place x a b (f, g, h, i) (p, q, r, o) (inr (e, inl k)) = absurd (omega (arith, k, ap rank h, ap rank r))
 later_place x a b (f, g, h, i) (p, q, r, o) (inr (e, inr (k, inl n))) = absurd (omega (arith, n, i, o))
 later_place x a b (f, g, h, i) (p, q, r, o) (inr (e, inr (k, inr n))) = n.1
 
 -- `run` has exactly the keys of the tables for the pair of `x`, in order, and all are keys of declarations
 pub record AreRequests (t : Tables) (x : Key) (run : List Key) : Type 0 where
   pub ordered : AllPairs IsNoLater run
-  pub exact : (y : Key) → Contains run y ↔ (IsOfTables t y × (y.rank ≡ 7) × (y.from ≡ x.from) × (y.to ≡ x.to))
+  pub exact : (y : Key) → Contains run y ↔ (IsOfTables t y × (y.kind ≡ Section) × (y.from ≡ x.from) × (y.to ≡ x.to))
 
 -- if the least key of a pair is a declaration's, all keys of the pair are
 pub run_requests : (t : Tables) → AreTables t → (keys run : List Key) (x : Key) → ((y : Key) → Contains keys y → IsOfTables t y) → ((x y : Key) → Contains keys x → IsOfTables t y → y.from ≡ x.from → Contains keys y)
-    → IsLeast keys x → x.rank ≡ 7 → IsRun keys x.from x.to run → AreRequests t x run
+    → IsLeast keys x → x.kind ≡ Section → IsRun keys x.from x.to run → AreRequests t x run
 run_requests t tables keys run x of whole least last is = record {
   ordered = is.ordered;
   exact = λ y. (
     (λ h.
         let i = (is.exact y).0 h in
-        let high : y.rank ≤ 7 = rank_at_most t (names_differ t tables) [] y (of y i.0) in
-        let low : x.rank ≤ y.rank = least.least y i.0 (sym i.1, sym i.2) in
-        (of y i.0, omega (arith, high, low, last), i.1, i.2)),
+        let low : rank Section ≤ rank y.kind = subst (λ k. rank k ≤ rank y.kind) last (least.least y i.0 (sym i.1, sym i.2)) in
+        (of y i.0, last_kind y.kind low, i.1, i.2)),
     (λ h. (is.exact y).1 (whole x y least.is_key h.0 h.2, h.2, h.3)),
   );
 }
@@ -173,7 +173,7 @@ module _ (t : Tables) (tables : AreTables t) (x : Key) (l : LinkFacts) (s : Says
     pub at : slice_get s.link.declarations y.place ≡ Some declared
     pub passes : IsTrue (requesting s.asked s.which declared)
 
-  pub of_link : (y : Key) → IsOfTables t y → y.rank ≡ 7 → y.from ≡ x.from → y.to ≡ x.to → IsOfLink y
+  pub of_link : (y : Key) → IsOfTables t y → y.kind ≡ Section → y.from ≡ x.from → y.to ≡ x.to → IsOfLink y
   of_link y h r from to =
       let k = section_key t y h r in
       let start : NodeAt t x.from k.link.from (start_of k.link k.declared) = subst (λ z. NodeAt t z k.link.from (start_of k.link k.declared)) from k.from_node in
@@ -191,7 +191,7 @@ module _ (t : Tables) (tables : AreTables t) (x : Key) (l : LinkFacts) (s : Says
       }
 
   -- the key of a declaration that requests the label
-  by_declaration : (j : ℕ) (d : Declared) → slice_get s.link.declarations j ≡ Some d → IsTrue (requesting s.asked s.which d) → IsOfTables t (key x.from x.to 7 x.source j)
+  by_declaration : (j : ℕ) (d : Declared) → slice_get s.link.declarations j ≡ Some d → IsTrue (requesting s.asked s.which d) → IsOfTables t (key x.from x.to Section x.source j)
   by_declaration j d at passes =
       let p = both (includes s.which d) (requests d s.asked) passes in
       inr (x.source, (s.link, s.is_link, (j, (d, at, (x.from, starts d p.0, (s.asked, p.1, (x.to, s.to_node, refl)))))))
@@ -218,7 +218,7 @@ module _ (t : Tables) (tables : AreTables t) (x : Key) (l : LinkFacts) (s : Says
 
     pub place_back : (j : ℕ) → RequestsAt j → Contains places j
     place_back j h =
-        let y = key x.from x.to 7 x.source j in
+        let y = key x.from x.to Section x.source j in
         let at : Contains run y = (all.exact y).1 (by_declaration j h.0 h.1 h.2, refl, refl, refl) in
         into_map (λ y. y.place) run y at
 

@@ -8,9 +8,10 @@ use Rattle.guppy_packages.specs.Tables.{FeatureTable, Tables, AreTables}
 use Rattle.guppy_packages.specs.Items.{Item, feature_item, optional_item, slash_item, item_of}
 use Rattle.feature_labels.specs.Names.{LabelName}
 use Rattle.feature_labels.specs.Names.LabelName.{named}
+use Rattle.feature_core.specs.declared.key.CandidateKind.{CandidateKind}
 use Rattle.feature_core.specs.Nodes.{NodeAt, labels_of, first_node}
 use Rattle.feature_core.specs.declared.key.Key.{Key}
-use Rattle.feature_core.specs.inner.Keys.{IsBefore, IsLeast, AreLeast}
+use Rattle.feature_core.specs.inner.Keys.{rank, IsBefore, IsLeast, AreLeast}
 use Rattle.feature_core.specs.inner.Made.{IsKept, IsKeptBelow}
 use Rattle.feature_core.specs.inner.Parts.{key, start_of, IsOfItem, IsOfPackageAt, IsOfLinkAt, IsLinkFrom, IsOfSource, IsOfTables}
 use Rattle.feature_core.proofs.AddsLemmas.{Contains-first, Contains-later, Contains-none, place_below}
@@ -43,8 +44,8 @@ node_order t n m p q k l a b h =
     let before = spread_before labels_of p q x.place t.packages x.row x.is_row h within in
     omega (arith, before, x.is, y.is)
 
-from_is : (x : Key) (u w rank source place : ℕ) → x ≡ key u w rank source place → x.from ≡ u
-from_is x u w rank source place is = ap (λ z. z.from) is
+from_is : (x : Key) (u w : ℕ) (kind : CandidateKind) (source place : ℕ) → x ≡ key u w kind source place → x.from ≡ u
+from_is x u w kind source place is = ap (λ z. z.from) is
 
 item_from : (t : Tables) (u p : ℕ) (f : Text) (item : Item) (x : Key) → IsOfItem t u p f item x → x.from ≡ u
 item_from t u p f (feature_item g) x h = from_is x _ _ _ _ _ h.1.2
@@ -115,8 +116,8 @@ least_joined a b kept more h i apart = record {
   ascends = pairs_append IsBefore kept more h.ascends i.ascends (λ x y u v. inl (apart x y (h.from_keys x u) (i.from_keys y v)));
   from_keys = λ x c. ⊎_elim (λ u. Contains-append_left a b x (h.from_keys x u)) (λ u. Contains-append_right a b x (i.from_keys x u)) (Contains-append_cases kept more x c);
   each = λ x c. ⊎_elim
-      (λ u. let s = h.each x u in record { by = s.by; kept_one = Contains-append_left kept more s.by s.kept_one; pair = s.pair; rank = s.rank })
-      (λ u. let s = i.each x u in record { by = s.by; kept_one = Contains-append_right kept more s.by s.kept_one; pair = s.pair; rank = s.rank })
+      (λ u. let s = h.each x u in record { by = s.by; kept_one = Contains-append_left kept more s.by s.kept_one; pair = s.pair; least = s.least })
+      (λ u. let s = i.each x u in record { by = s.by; kept_one = Contains-append_right kept more s.by s.kept_one; pair = s.pair; least = s.least })
       (Contains-append_cases a b x c);
 }
 
@@ -126,7 +127,7 @@ is_least keys kept h x c = record {
   least = λ y i pair.
       let s = h.each y i in
       let same : s.by ≡ x = one_kept kept h.ascends s.by x s.kept_one c (s.pair.0 ∙ sym pair.0) (s.pair.1 ∙ sym pair.1) in
-      subst (λ z. z.rank ≤ y.rank) same s.rank;
+      subst (λ z. rank z.kind ≤ rank y.kind) same s.least;
 }
 
 pub kept_none : (t : Tables) → IsKeptBelow t 0 []

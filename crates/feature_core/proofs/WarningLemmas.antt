@@ -1,5 +1,5 @@
 -- Warnings, appended one after another.
-use Rattle.std.proofs.Common.{◌≡◌, ℕ, zero, suc, ◌+◌, ◌<◌, ◌≤◌, List, [], ◌∷◌, ◌++◌, Bool, true, false, cond, not, length, map, take, Option, Some, None, refl, ap, sym, ◌∙◌, arith, is_some, if◌then◌else◌}
+use Rattle.std.proofs.Common.{◌≡◌, ℕ, zero, suc, ◌+◌, ◌<◌, ◌≤◌, List, [], ◌∷◌, ◌++◌, Bool, true, false, cond, not, length, map, take, Some, None, refl, ap, sym, ◌∙◌, arith, is_some, if◌then◌else◌}
 use Rattle.std.specs.Prelude.{slice_get, position, nat_lt, flat_map, filter, ◌==◌, ◌&&◌}
 use Rattle.std.specs.List.{enumerate_from, list_any, position_or_len}
 use Rattle.std.specs.Option.{option_map_or}

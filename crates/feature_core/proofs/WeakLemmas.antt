@@ -1,7 +1,7 @@
 -- The weak links of keys, one key after the other.
 use Rattle.std.proofs.Common.{◌≡◌, ℕ, zero, suc, ◌+◌, ⊎_elim, List, [], ◌∷◌, ◌++◌, length, map, Bool, true, false, not, cond, Option, Some, None, refl, sym, ap, ◌∙◌, subst, arith}
-use Rattle.std.specs.Prelude.{slice_get, ◌==◌, ◌&&◌, IsTrue, Contains, filter, filter_map, position}
-use Rattle.std.specs.List.{list_any, position_from}
+use Rattle.std.specs.Prelude.{slice_get, ◌==◌, ◌&&◌, IsTrue, Contains, filter, position}
+use Rattle.std.specs.List.{cons_option, list_any, position_from}
 use Rattle.std.specs.Str.{bytes_eq}
 use Rattle.std.specs.Cmp.Lexicographic.{bytes_decides}
 use Rattle.std.proofs.lemmas.Bool.Decides.{nat_tests}
@@ -14,11 +14,14 @@ use Rattle.guppy_packages.specs.Tables.{LinkTable, Tables, AreTables, has_name}
 use Rattle.guppy_packages.specs.Items.{Item, feature_item, optional_item, slash_item, item_of}
 use Rattle.feature_labels.specs.Names.LabelName.{optional}
 use Rattle.feature_labels.specs.declared.link_declarations.LinkDeclarations.TheVariants.{Optional}
+use Rattle.feature_core.specs.declared.key.CandidateKind.{CandidateKind}
+use Rattle.feature_core.specs.declared.key.CandidateKind.TheVariants.{FeatureToBase, NamedFeature, DepColon, SlashFull, SlashOptional, SlashWeak, Section}
 use Rattle.feature_core.specs.Nodes.{NodeAt, first_node}
 use Rattle.feature_links.specs.Links.{IsLink, has_declaration}
 use Rattle.feature_core.specs.Edges.{IsGate, first_ones}
-use Rattle.feature_core.specs.inner.Parts.{key, over_rank, IsOfItem, IsOfPackageAt, IsOfLinkAt, IsOfTables}
-use Rattle.feature_core.specs.inner.Weak.{IsOptionalLink, AreGates, weak_source, weak_sources}
+use Rattle.feature_core.specs.inner.Keys.{rank}
+use Rattle.feature_core.specs.inner.Parts.{key, over_kind, IsOfItem, IsOfPackageAt, IsOfLinkAt, IsOfTables}
+use Rattle.feature_core.specs.inner.Weak.{weak_source_of, IsOptionalLink, AreGates, weak_source, weak_sources}
 use Rattle.feature_core.specs.declared.key.Key.{Key}
 use Rattle.feature_core.proofs.AddsLemmas.{place_of_element, Contains-first, Contains-later, Contains-cases, Contains-none}
 use Rattle.feature_core.proofs.LabelLemmas.{optional_label}
@@ -144,25 +147,30 @@ gates_inserted t k v (e ∷ es) old new i j w h = go (k == e.0) refl (λ i h. ga
 pub not_none : (o : Option ℕ) (n : ℕ) → o ≡ None → o ≡ Some n → ⊥
 not_none o n h i = cc
 
--- the key of a weak edge adds its source, and no other key adds anything
-weak_next : (x : Key) → x.rank ≡ 6 → weak_sources (x ∷ []) ≡ x.source ∷ []
-weak_next x h = ap (λ n. filter_map (λ y. cond (n == 6) (Some y.source) None) (x ∷ [])) h
-
-strong_next : (x : Key) → (x.rank ≡ 6 → ⊥) → weak_sources (x ∷ []) ≡ []
-strong_next x h = ap (λ b. filter_map (λ y. cond b (Some y.source) None) (x ∷ [])) (no_test x.rank h)
+-- the key of an edge that isn't weak has no weak link
+pub strong_source : (x : Key) → (x.kind ≡ SlashWeak → ⊥) → weak_source x ≡ None
+strong_source x h = go x.kind h
   where
-    no_test : (n : ℕ) → (n ≡ 6 → ⊥) → n == 6 ≡ false
-    no_test n h = grind (arith, nat_tests)
+    go : (k : CandidateKind) → (k ≡ SlashWeak → ⊥) → weak_source_of k x.source ≡ None
+    go SlashWeak h = absurd (h refl)
+    go _ h = refl
+
+-- the key of a weak edge adds its source, and no other key adds anything
+weak_next : (x : Key) → x.kind ≡ SlashWeak → weak_sources (x ∷ []) ≡ x.source ∷ []
+weak_next x h = ap (λ k. cons_option (weak_source_of k x.source) []) h
+
+strong_next : (x : Key) → (x.kind ≡ SlashWeak → ⊥) → weak_sources (x ∷ []) ≡ []
+strong_next x h = ap (λ o. cons_option o []) (strong_source x h)
 
 -- the links after a key of a weak edge
-pub links_next : (done : List Key) (v : ℕ) (x : Key) (entries : List (ℕ × ℕ)) → x.rank ≡ 6 → map (λ e. e.0) entries ≡ first_ones (weak_sources done)
+pub links_next : (done : List Key) (v : ℕ) (x : Key) (entries : List (ℕ × ℕ)) → x.kind ≡ SlashWeak → map (λ e. e.0) entries ≡ first_ones (weak_sources done)
     → map (λ e. e.0) (insert_entry (λ a b. a == b) entries x.source v) ≡ first_ones (weak_sources (done ++ x ∷ []))
 links_next done v x entries weak h =
     keys_inserted x.source v entries ∙ ap (with_one x.source) h ∙ sym (first_ones-more x.source (weak_sources done))
     ∙ ap (λ z. first_ones (weak_sources done ++ z)) (sym (weak_next x weak)) ∙ ap first_ones (sym (filter_map-append weak_source done (x ∷ [])))
 
 -- the links after another key
-pub links_same : (done : List Key) (x : Key) (links : List ℕ) → (x.rank ≡ 6 → ⊥) → links ≡ first_ones (weak_sources done) → links ≡ first_ones (weak_sources (done ++ x ∷ []))
+pub links_same : (done : List Key) (x : Key) (links : List ℕ) → (x.kind ≡ SlashWeak → ⊥) → links ≡ first_ones (weak_sources done) → links ≡ first_ones (weak_sources (done ++ x ∷ []))
 links_same done x links strong h =
     h ∙ ap first_ones (sym (append-nil (weak_sources done)) ∙ ap (λ z. weak_sources done ++ z) (sym (strong_next x strong)) ∙ sym (filter_map-append weak_source done (x ∷ [])))
 
@@ -191,37 +199,37 @@ declared_node t tables k link d is there o =
     let at = place_of_element link.declarations d there in
     optional_node t tables k link is (list_any_there (λ d. d.optional) link.declarations at.0 d at.1 o)
 
-six_over : (b : Bool) → ◌≡◌ {A = ℕ} (cond b 6 4) 6 → b ≡ true
-six_over true h = refl
-six_over false h = absurd (omega arith)
+weak_over : (b : Bool) → cond b SlashWeak SlashFull ≡ SlashWeak → b ≡ true
+weak_over true h = refl
+weak_over false h = absurd (omega (arith, ap rank h))
 
 second_true : (a b : Bool) → a && b ≡ true → b ≡ true
 second_true true b h = h
 second_true false b h = cc
 
-module _ (t : Tables) (x : Key) (six : x.rank ≡ 6) where
-  other_rank : (u w rank source place : ℕ) → x ≡ key u w rank source place → (rank ≡ 6 → ⊥) → IsOptionalLink t x.source
-  other_rank u w rank source place e not_six = absurd (not_six (sym (ap (λ z. z.rank) e) ∙ six))
+module _ (t : Tables) (x : Key) (is_weak : x.kind ≡ SlashWeak) where
+  other_kind : (u w : ℕ) (kind : CandidateKind) (source place : ℕ) → x ≡ key u w kind source place → (rank kind ≡ rank SlashWeak → ⊥) → IsOptionalLink t x.source
+  other_kind u w kind source place e other = absurd (other (ap rank (sym (ap (λ z. z.kind) e) ∙ is_weak)))
 
-  of_over : (u w k : ℕ) (weak : Bool) (link : LinkTable) → IsLink t k link → x ≡ key u w (over_rank weak link) k 0 → IsOptionalLink t x.source
+  of_over : (u w k : ℕ) (weak : Bool) (link : LinkTable) → IsLink t k link → x ≡ key u w (over_kind weak link) k 0 → IsOptionalLink t x.source
   of_over u w k weak link is e =
-      let both : weak && has_declaration Optional link ≡ true = six_over (weak && has_declaration Optional link) (sym (ap (λ z. z.rank) e) ∙ six) in
+      let both : weak && has_declaration Optional link ≡ true = weak_over (weak && has_declaration Optional link) (sym (ap (λ z. z.kind) e) ∙ is_weak) in
       subst (λ z. IsOptionalLink t z) (sym (ap (λ z. z.source) e)) (record { link = link; is_link = is; is_optional = second_true weak (has_declaration Optional link) both })
 
   of_item : (u p : ℕ) (f : Text) (item : Item) → IsOfItem t u p f item x → IsOptionalLink t x.source
-  of_item u p f (feature_item g) h = other_rank u h.1.0 2 0 0 h.1.2 (λ i. omega arith)
-  of_item u p f (optional_item d) h = other_rank u h.0 3 0 0 h.2 (λ i. omega arith)
+  of_item u p f (feature_item g) h = other_kind u h.1.0 NamedFeature 0 0 h.1.2 (λ i. omega arith)
+  of_item u p f (optional_item d) h = other_kind u h.0 DepColon 0 0 h.2 (λ i. omega arith)
   of_item u p f (slash_item d g weak) h = ⊎_elim
       (λ o. of_over u o.1.4.0 o.0 weak o.1.0 o.1.1 o.1.4.2)
       (λ o. ⊎_elim
-      (λ i. other_rank u i.0 5 0 0 i.2 (λ j. omega arith))
-      (λ i. other_rank u i.2.0 5 0 0 i.2.2 (λ j. omega arith))
+      (λ i. other_kind u i.0 SlashOptional 0 0 i.2 (λ j. omega arith))
+      (λ i. other_kind u i.2.0 SlashOptional 0 0 i.2.2 (λ j. omega arith))
       o.1)
       h
 
   of_package : (p : ℕ) → IsOfPackageAt t p x → IsOptionalLink t x.source
   of_package p h = ⊎_elim
-      (λ b. other_rank (first_node t p + b.0) (first_node t p) 1 0 0 b.2.1 (λ i. omega arith))
+      (λ b. other_kind (first_node t p + b.0) (first_node t p) FeatureToBase 0 0 b.2.1 (λ i. omega arith))
       (λ b. of_item (first_node t p + 1 + b.0) p b.1.0.name (item_of b.1.2.1.0) b.1.2.1.2)
       h.2
 
@@ -229,7 +237,7 @@ module _ (t : Tables) (x : Key) (six : x.rank ≡ 6) where
   of_link k h =
       let d = h.2.1 in
       let to = d.2.2.2 in
-      other_rank d.2.0 to.0 7 k h.2.0 to.2 (λ i. omega arith)
+      other_kind d.2.0 to.0 Section k h.2.0 to.2 (λ i. omega arith)
 
   -- the key of a weak edge names an optional link
   pub weak_is_optional : IsOfTables t x → IsOptionalLink t x.source

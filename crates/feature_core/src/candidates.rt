@@ -1,23 +1,23 @@
 //! The candidates for the edges of a package's nodes, as keys, and the warnings of items, one part of the tables at a time.
-ghost use Rattle.std.specs.Prelude.{◌≡◌, ◌+◌, ◌<◌, ◌^◌, ◌↔◌, ◌&&◌, ◌++◌, ◌∷◌, codes, if◌then◌else◌, ℕ, AllPairs, Contains, OnOk, IsFalse, Some, [], flat_map, length};
+ghost use Rattle.std.specs.Prelude.{◌≡◌, ◌+◌, ◌<◌, ◌^◌, ◌↔◌, ◌&&◌, if◌then◌else◌, ℕ, AllPairs, Contains, OnOk, IsFalse, Some, [], flat_map, length};
 ghost use Rattle.feature_labels.specs.declared.link_declarations.LinkDeclarations.TheVariants.{Optional};
-ghost use Rattle.guppy_packages.specs.Items.{feature_item, item_of};
-ghost use Rattle.guppy_packages.specs.Metadata.{package_graph_of, package_id_of, package_table_of, link_table_of};
+ghost use Rattle.guppy_packages.specs.Items.{feature_item, optional_item, item_of};
+ghost use Rattle.guppy_packages.specs.Metadata.{package_graph_of, package_table_of, link_table_of};
 ghost use Rattle.guppy_packages.specs.NamedFeature.{feature_table};
 ghost use Rattle.feature_labels.specs.Names.LabelName.{base, named, optional};
-ghost use Rattle.guppy_packages.specs.Tables.{has_name};
+ghost use Rattle.guppy_packages.specs.Rows.{Text};
 ghost use Rattle.feature_core.specs.declared.key.Key.{Key as KeyValue};
 ghost use Rattle.feature_core.specs.inner.Adds.{Adds, Below};
 ghost use Rattle.feature_core.specs.inner.Collects.{Collects, AreWarningsBelow, lack_by};
 ghost use Rattle.feature_core.specs.inner.Keys.{IsNoLater};
 ghost use Rattle.feature_links.specs.Links.{links_named};
 ghost use Rattle.feature_links.specs.NamedLinks.{AreNamedLinks};
-ghost use Rattle.feature_core.specs.inner.Parts.{key, over_rank, IsToFirst, IsOver, IsOverLink, IsBeside, IsTo, IsOfItem, IsOfItemAt, IsOfFeatureAt, IsOfPackageAt, IsOfSource};
-ghost use Rattle.feature_core.specs.Warnings.{lacks_over, missing_feature, of_item, of_package};
+ghost use Rattle.feature_core.specs.inner.Parts.{key, over_kind, IsToFirst, IsOver, IsOverLink, IsBeside, IsOfItem, IsOfItemAt, IsOfFeatureAt, IsOfPackageAt, IsOfSource};
+ghost use Rattle.feature_core.specs.Warnings.{lacks_over, of_item, of_package};
 
 use crate::collected::Collected;
 use crate::declarations::push_links;
-use crate::key::{Key, sort_keys, sort_keys_from};
+use crate::key::{CandidateKind, Key, sort_keys, sort_keys_from};
 use crate::numbers::Numbers;
 use crate::package_input::PackageInput;
 use crate::warning::{push_lack, push_lack_of_dependency, push_missing, push_self_loop};
@@ -39,11 +39,11 @@ pub(crate) fn push_to(
     keys: &mut Vec<Key>,
     from: usize,
     to: Option<usize>,
-    rank: u8,
+    kind: CandidateKind,
     source: usize,
     place: usize,
 ) -> Result<(), AllocError>
-    ensures { OnOk result (Adds (λ x. (w : ℕ) × (to ≡ Some w) × (x ≡ key from w rank source place)) keys.old.items keys.new.items) }
+    ensures { OnOk result (Adds (λ x. (w : ℕ) × (to ≡ Some w) × (x ≡ key from w kind source place)) keys.old.items keys.new.items) }
 {
     let Some(to) = to else {
         return Ok(());
@@ -54,7 +54,7 @@ pub(crate) fn push_to(
     keys.push(Key {
         from: from as u32,
         to: to as u32,
-        rank,
+        kind,
         source: source as u32,
         place: place as u32,
     })?;
@@ -68,23 +68,28 @@ fn push_to_first(keys: &mut Vec<Key>, first: usize, count: usize) -> Result<(), 
     ensures { OnOk result (Adds (Below count (IsToFirst first)) keys.old.items keys.new.items) }
 {
     for place in 1..count {
-        push_to(keys, first + place, Some(first), 1, 0, 0)?;
+        let from = first + place;
+        push_to(keys, from, Some(first), CandidateKind::FeatureToBase, 0, 0)?;
     }
     Ok(())
 }
 
-/// Returns the rank of a slash edge, by whether its item is weak and its link has an optional declaration.
-fn slash_rank(weak: bool, optional: bool) -> u8
-    ensures { result ≡ (if weak && optional then 6 else 4) }
+/// Returns the kind of a slash edge, by whether its item is weak and its link has an optional declaration.
+fn slash_kind(weak: bool, optional: bool) -> CandidateKind
+    ensures { result ≡ (if weak && optional then CandidateKind.SlashWeak else CandidateKind.SlashFull) }
 {
-    if weak && optional { 6 } else { 4 }
+    if weak && optional {
+        CandidateKind::SlashWeak
+    } else {
+        CandidateKind::SlashFull
+    }
 }
 
-/// Returns the rank of a slash edge over `link`, by whether its item is weak.
-fn rank_over(link: PackageLink<'_>, weak: bool) -> u8
-    ensures { result ≡ over_rank weak (link_table_of link.entry) }
+/// Returns the kind of a slash edge over `link`, by whether its item is weak.
+fn kind_over(link: PackageLink<'_>, weak: bool) -> CandidateKind
+    ensures { result ≡ over_kind weak (link_table_of link.entry) }
 {
-    slash_rank(
+    slash_kind(
         weak,
         is_any_included(LinkDeclarations::Optional, link.declarations()),
     )
@@ -105,7 +110,7 @@ fn push_over_link(
     let link = input.numbers.graph.link(ix);
     let target = link.to();
     let to = input.numbers.named(target, feature);
-    push_to(&mut collected.keys, from, to, rank_over(link, weak), ix, 0)?;
+    push_to(&mut collected.keys, from, to, kind_over(link, weak), ix, 0)?;
     let warnings = &mut collected.item_warnings;
     push_lack(input.alloc, warnings, target, feature, to.is_some())
 }
@@ -150,9 +155,10 @@ fn push_beside(
     let Some(dependency) = numbers.optional(metadata, dep_name) else {
         return Ok(());
     };
-    push_to(keys, from, Some(dependency), 5, 0, 0)?;
+    let kind = CandidateKind::SlashOptional;
+    push_to(keys, from, Some(dependency), kind, 0, 0)?;
     if dep_name != feature_name {
-        push_to(keys, from, numbers.named(metadata, dep_name), 5, 0, 0)?;
+        push_to(keys, from, numbers.named(metadata, dep_name), kind, 0, 0)?;
     }
     Ok(())
 }
@@ -172,21 +178,28 @@ fn push_feature_item(
         return push_self_loop(input.alloc, warnings, input.metadata, feature_name);
     }
     let to = input.numbers.named(input.metadata, feature);
-    push_to(&mut collected.keys, from, to, 2, 0, 0)?;
+    push_to(
+        &mut collected.keys,
+        from,
+        to,
+        CandidateKind::NamedFeature,
+        0,
+        0,
+    )?;
     push_lack(input.alloc, warnings, input.metadata, feature, to.is_some())
 }
 
-/// Appends the key of an item that names the optional dependency `name`, or its warning.
+/// Appends the key of an item, of any feature, that names the optional dependency `name`, or its warning.
 fn push_optional_item(
     collected: &mut Collected,
     input: PackageInput<'_, '_>,
     from: usize,
     name: &str,
 ) -> Result<(), AllocError>
-    ensures { OnOk result (Collects (IsTo input.entry.numbers.graph.now from input.entry.metadata.package_ix (optional name.now) 3 0 0) (if has_name name.now (package_table_of input.entry.metadata).optional_names then [] else missing_feature (package_id_of input.entry.metadata) (codes "dep:" ++ name.now) ∷ []) [] collected.old collected.new) }
+    ensures { (f : Text) → OnOk result (Collects (IsOfItem input.entry.numbers.graph.now from input.entry.metadata.package_ix f (optional_item name.now)) (of_item input.entry.numbers.graph.now input.entry.metadata.package_ix (package_table_of input.entry.metadata) f (optional_item name.now)) [] collected.old collected.new) }
 {
     let to = input.numbers.optional(input.metadata, name);
-    push_to(&mut collected.keys, from, to, 3, 0, 0)?;
+    push_to(&mut collected.keys, from, to, CandidateKind::DepColon, 0, 0)?;
     let warnings = &mut collected.item_warnings;
     push_lack_of_dependency(input.alloc, warnings, input.metadata, name, to.is_some())
 }

@@ -11,6 +11,7 @@ ghost use Rattle.feature_core.specs.inner.Parts.{start_of, IsRequest, IsOfDeclar
 
 use crate::candidates::push_to;
 use crate::collected::Collected;
+use crate::key::CandidateKind;
 use crate::numbers::Numbers;
 use crate::package_input::PackageInput;
 use crate::warning::push_lack;
@@ -33,16 +34,17 @@ fn push_requests(
     let numbers = input.numbers;
     let link_ix = link.link_ix();
     let target = link.to();
+    let kind = CandidateKind::Section;
     let keys = &mut collected.keys;
-    push_to(keys, from, Some(numbers.base(target)), 7, link_ix, place)?;
+    push_to(keys, from, Some(numbers.base(target)), kind, link_ix, place)?;
     if declaration.default_features() {
-        push_to(keys, from, numbers.default_of(target), 7, link_ix, place)?;
+        push_to(keys, from, numbers.default_of(target), kind, link_ix, place)?;
     }
     let names = declaration.features();
     for ix in 0..names.len() {
         let name = names[ix].as_str();
         let to = numbers.named(target, name);
-        push_to(&mut collected.keys, from, to, 7, link_ix, place)?;
+        push_to(&mut collected.keys, from, to, kind, link_ix, place)?;
         let warnings = &mut collected.name_warnings;
         push_lack(input.alloc, warnings, target, name, to.is_some())?;
     }

@@ -21,7 +21,7 @@ use crate::candidates::collect_package;
 use crate::collected::Collected;
 use crate::edge_list::EdgeList;
 use crate::edges::{Material, edge_of};
-use crate::key::{Key, keep_least_of};
+use crate::key::{CandidateKind, Key, keep_least_of};
 use crate::near_keys::NearKeys;
 use crate::nodes::NodeTable;
 use crate::numbers::Numbers;
@@ -92,7 +92,7 @@ impl MadeEdges {
         requires material { IsMaterial material }
         requires of_tables { IsOfTables material.numbers.graph.now key }
         requires least { IsLeast material.keys.now key }
-        requires noted { key.rank ≡ 6 → Contains (keys self.now.weak) key.source }
+        requires noted { key.kind ≡ CandidateKind.SlashWeak → Contains (keys self.now.weak) key.source }
         ensures { OnOk result ((f : EdgeFacts) × IsAppended key f self.old self.new × ((rest : List ℕ) → IsValueOf material.entry.numbers.graph.now (keys self.old.weak ++ rest) key f)) }
     {
         let edge = edge_of(alloc, material, &self.weak, key)?;
@@ -127,7 +127,7 @@ impl MadeEdges {
         requires kept { AreLeast material.keys.now kept.now }
         requires within { ix < length kept.now }
         requires long { ix ≤ length self.now.edges }
-        requires noted { (x : KeyValue) → slice_get kept.now ix ≡ Some x → x.rank ≡ 6 → Contains (keys self.now.weak) x.source }
+        requires noted { (x : KeyValue) → slice_get kept.now ix ≡ Some x → x.kind ≡ CandidateKind.SlashWeak → Contains (keys self.now.weak) x.source }
         ensures { OnOk result ((x : KeyValue) → slice_get kept.now ix ≡ Some x → IsNext material.entry.numbers.graph.now kept.now ix x self.old self.new) }
     {
         material.numbers.graph.facts();

@@ -15,7 +15,7 @@ ghost use Rattle.feature_core.specs.inner.Parts.{IsOfTables};
 ghost use Rattle.feature_links.specs.Values.{link_facts, edge_facts, weak_number};
 
 use crate::edge_list::EdgeList;
-use crate::key::{Key, run_of};
+use crate::key::{CandidateKind, Key, run_of};
 use crate::numbers::{Numbers, label_at};
 use feature_labels::{FeatureLabel, LinkDeclarations};
 use feature_links::{
@@ -139,7 +139,7 @@ fn colon_edge(
 ) -> Result<FeatureEdge, AllocError>
     requires material { IsMaterial material }
     requires of_tables { IsOfTables material.numbers.graph.now key }
-    requires rank { key.rank ≡ 3 }
+    requires kind { key.kind ≡ CandidateKind.DepColon }
     ensures { IfOk result (λ edge. (weak : List ℕ) → IsValueOf material.entry.numbers.graph.now weak key (edge_facts edge)) }
 {
     material.numbers.graph.facts();
@@ -155,7 +155,7 @@ fn beside_edge(
 ) -> Result<FeatureEdge, AllocError>
     requires material { IsMaterial material }
     requires of_tables { IsOfTables material.numbers.graph.now key }
-    requires rank { key.rank ≡ 5 }
+    requires kind { key.kind ≡ CandidateKind.SlashOptional }
     ensures { IfOk result (λ edge. (weak : List ℕ) → IsValueOf material.entry.numbers.graph.now weak key (edge_facts edge)) }
 {
     material.numbers.graph.facts();
@@ -170,7 +170,7 @@ fn beside_edge(
 fn full_edge(alloc: Global, material: Material<'_, '_>, key: Key) -> Result<FeatureEdge, AllocError>
     requires material { IsMaterial material }
     requires of_tables { IsOfTables material.numbers.graph.now key }
-    requires rank { key.rank ≡ 4 }
+    requires kind { key.kind ≡ CandidateKind.SlashFull }
     ensures { IfOk result (λ edge. (weak : List ℕ) → IsValueOf material.entry.numbers.graph.now weak key (edge_facts edge)) }
 {
     material.numbers.graph.facts();
@@ -196,7 +196,7 @@ fn weak_edge(
     requires noted { Contains (keys table.now) key.source }
     requires material { IsMaterial material }
     requires of_tables { IsOfTables material.numbers.graph.now key }
-    requires rank { key.rank ≡ 6 }
+    requires kind { key.kind ≡ CandidateKind.SlashWeak }
     ensures { IfOk result (λ edge. (rest : List ℕ) → IsValueOf material.entry.numbers.graph.now (keys table.now ++ rest) key (edge_facts edge)) }
 {
     material.numbers.graph.facts();
@@ -234,7 +234,7 @@ fn section_edge(
 ) -> Result<FeatureEdge, AllocError>
     requires material { IsMaterial material }
     requires of_tables { IsOfTables material.numbers.graph.now key }
-    requires rank { key.rank ≡ 7 }
+    requires kind { key.kind ≡ CandidateKind.Section }
     requires least { IsLeast material.keys.now key }
     ensures { IfOk result (λ edge. (weak : List ℕ) → IsValueOf material.entry.numbers.graph.now weak key (edge_facts edge)) }
 {
@@ -258,26 +258,20 @@ pub(crate) fn edge_of(
     table: &IndexMap<usize, usize>,
     key: Key,
 ) -> Result<FeatureEdge, AllocError>
-    requires noted { key.rank ≡ 6 → Contains (keys table.now) key.source }
+    requires noted { key.kind ≡ CandidateKind.SlashWeak → Contains (keys table.now) key.source }
     requires least { IsLeast material.keys.now key }
     requires material { IsMaterial material }
     requires of_tables { IsOfTables material.numbers.graph.now key }
     ensures { IfOk result (λ edge. (rest : List ℕ) → IsValueOf material.entry.numbers.graph.now (keys table.now ++ rest) key (edge_facts edge)) }
 {
     material.numbers.graph.facts();
-    if key.rank == 1 {
-        Ok(FeatureEdge::FeatureToBase)
-    } else if key.rank == 2 {
-        Ok(FeatureEdge::NamedFeature)
-    } else if key.rank == 3 {
-        colon_edge(alloc, material, key)
-    } else if key.rank == 4 {
-        full_edge(alloc, material, key)
-    } else if key.rank == 5 {
-        beside_edge(alloc, material, key)
-    } else if key.rank == 6 {
-        weak_edge(alloc, material, table, key)
-    } else {
-        section_edge(alloc, material, key)
+    match key.kind {
+        CandidateKind::FeatureToBase => Ok(FeatureEdge::FeatureToBase),
+        CandidateKind::NamedFeature => Ok(FeatureEdge::NamedFeature),
+        CandidateKind::DepColon => colon_edge(alloc, material, key),
+        CandidateKind::SlashFull => full_edge(alloc, material, key),
+        CandidateKind::SlashOptional => beside_edge(alloc, material, key),
+        CandidateKind::SlashWeak => weak_edge(alloc, material, table, key),
+        CandidateKind::Section => section_edge(alloc, material, key),
     }
 }

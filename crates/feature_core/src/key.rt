@@ -1,24 +1,58 @@
 //! Candidates for edges as small keys, and the least key of each pair of nodes.
-ghost use Rattle.std.specs.Prelude.{◌≡◌, ◌≤◌, IsPermutation, AllPairs, OnOk, length};
+ghost use Rattle.std.specs.Prelude.{◌≡◌, ◌≤◌, ◌↔◌, IsTrue, IsPermutation, AllPairs, OnOk, length};
 ghost use Rattle.feature_core.specs.inner.Keys.{IsNoLater, AreLeast, IsRun, is_pair_below, is_pair_up_to};
 
 use std::alloc::{AllocError, Global};
 
+/// The kinds of candidates, by rank: of the candidates of a pair of nodes, the one of the first kind is the edge.
+#[derive(Clone, Copy, PartialEq, Eq, PartialOrd, Ord)]
+pub(crate) enum CandidateKind {
+    /// From another node of a package to its base.
+    FeatureToBase,
+
+    /// For an item that names a feature of the same package.
+    NamedFeature,
+
+    /// For an item `dep:d`.
+    DepColon,
+
+    /// For an item `d/g`, or `d?/g`, to the feature `g` of a link's target. Its edge covers all declarations of the link.
+    SlashFull,
+
+    /// For an item `d/g`, to the optional dependency `d`, or to the feature `d` of the same package.
+    SlashOptional,
+
+    /// For an item `d?/g`, to the feature `g` of the target of a link with an optional declaration.
+    SlashWeak,
+
+    /// For a declaration, to a feature of the link's target that it requests.
+    Section,
+}
+
+impl CandidateKind {
+    /// Returns whether the edge of a candidate of this kind is weak.
+    pub(crate) fn is_weak(self) -> bool
+        ensures { IsTrue result ↔ (self ≡ CandidateKind.SlashWeak) }
+    {
+        matches!(self, CandidateKind::SlashWeak)
+    }
+}
+
 /// A candidate for the edge of a pair of nodes.
 ///
-/// Keys are ordered by the pair, then by `rank`. `source` is the number of the candidate's package link, and `place` the index of
+/// Keys are ordered by the pair, then by `kind`. `source` is the number of the candidate's package link, and `place` the index of
 /// its declaration there; both are 0 if the pair determines the candidate. The fields have 32 bits each or fewer, because a
 /// package with 100,000 features has hundreds of thousands of keys.
 #[derive(Clone, Copy, PartialEq, Eq, PartialOrd, Ord)]
 pub(crate) struct Key {
     pub(crate) from: u32,
     pub(crate) to: u32,
-    pub(crate) rank: u8,
+    pub(crate) kind: CandidateKind,
     pub(crate) source: u32,
     pub(crate) place: u32,
 }
 
-/// Sorts `keys` by pair, rank, source and place. They contain long sorted runs, which a merge sort uses.
+/// Sorts `keys` by pair, kind, source and place. They contain long sorted runs, which a merge sort uses.
 pub(crate) fn sort_keys(keys: &mut Vec<Key>) -> Result<(), AllocError>
     ensures permutation { IsPermutation keys.old.items keys.new.items }
     ensures sorted { OnOk result (AllPairs IsNoLater keys.new.items) }

@@ -4,7 +4,7 @@ ghost use Rattle.feature_core.specs.declared.key.Key.{Key as KeyValue};
 ghost use Rattle.feature_core.specs.inner.Alike.{AreAlike, IsAlikeBefore, IsSingle, SharesSubject};
 ghost use Rattle.feature_core.specs.inner.Parts.{IsOfTables};
 
-use crate::key::Key;
+use crate::key::{CandidateKind, Key};
 use crate::numbers::Numbers;
 use std::alloc::{AllocError, Global};
 use std::marker::Model;
@@ -25,16 +25,15 @@ impl Model for NearKeys {
     ghost invariant = { λ n. length n.slots.items ≡ 4096 };
 }
 
-/// Returns the slot of `key`, by its rank and its subject: the node or the package link that determines its edge.
+/// Returns the slot of `key`, by its kind and its subject: the node or the package link that determines its edge.
 fn key_slot(key: Key) -> usize
     ensures { result < 4096 }
 {
-    let subject = if key.rank == 3 || key.rank == 5 {
-        key.to
-    } else {
-        key.source
+    let subject = match key.kind {
+        CandidateKind::DepColon | CandidateKind::SlashOptional => key.to,
+        _ => key.source,
     };
-    (subject as usize % 512) * 8 + usize::from(key.rank % 8)
+    (subject as usize % 512) * 8 + key.kind as usize % 8
 }
 
 /// Returns whether package link `link_ix` has exactly one declaration.
@@ -48,7 +47,7 @@ fn is_single(numbers: Numbers<'_>, link_ix: usize) -> bool
 /// Returns whether two section keys have one source node and one package link with a single declaration.
 fn shares_declaration(numbers: Numbers<'_>, earlier: Key, key: Key) -> bool
     requires of_tables { IsOfTables numbers.graph.now key }
-    requires rank { key.rank ≡ 7 }
+    requires kind { key.kind ≡ CandidateKind.Section }
     ensures { IsTrue result → SharesSubject numbers.entry.graph.now earlier key }
 {
     numbers.graph.facts();
@@ -58,19 +57,20 @@ fn shares_declaration(numbers: Numbers<'_>, earlier: Key, key: Key) -> bool
     false
 }
 
-/// Returns whether two keys of one rank have the same subject.
-fn shares_subject(numbers: Numbers<'_>, earlier: Key, key: Key) -> bool
+/// Returns whether two keys of one kind have the same subject, so that their edges are equal.
+fn are_alike(numbers: Numbers<'_>, earlier: Key, key: Key) -> bool
     requires { IsOfTables numbers.graph.now key }
-    ensures { IsTrue result → SharesSubject numbers.entry.graph.now earlier key }
+    ensures { IsTrue result → AreAlike numbers.entry.graph.now earlier key }
 {
-    if key.rank == 3 || key.rank == 5 {
-        earlier.to == key.to
-    } else if key.rank == 4 || key.rank == 6 {
-        earlier.source == key.source
-    } else if key.rank == 7 {
-        shares_declaration(numbers, earlier, key)
-    } else {
-        false
+    match (earlier.kind, key.kind) {
+        (CandidateKind::DepColon, CandidateKind::DepColon)
+        | (CandidateKind::SlashOptional, CandidateKind::SlashOptional) => earlier.to == key.to,
+        (CandidateKind::SlashFull, CandidateKind::SlashFull)
+        | (CandidateKind::SlashWeak, CandidateKind::SlashWeak) => earlier.source == key.source,
+        (CandidateKind::Section, CandidateKind::Section) => {
+            shares_declaration(numbers, earlier, key)
+        }
+        _ => false,
     }
 }
 
@@ -79,8 +79,8 @@ fn is_alike_at(numbers: Numbers<'_>, kept: &[Key], near: usize, key: Key) -> boo
     requires { IsOfTables numbers.graph.now key }
     ensures { IsTrue result → ((x : KeyValue) × (slice_get kept.now near ≡ Some x) × AreAlike numbers.entry.graph.now x key) }
 {
-    if near < kept.len() && kept[near].rank == key.rank {
-        return shares_subject(numbers, kept[near], key);
+    if near < kept.len() {
+        return are_alike(numbers, kept[near], key);
     }
     false
 }

@@ -5,7 +5,7 @@ ghost use Rattle.feature_core.specs.Edges.{IsGate, first_ones};
 ghost use Rattle.feature_core.specs.inner.Parts.{IsOfTables};
 ghost use Rattle.feature_core.specs.inner.Weak.{IsOptionalLink, AreGates, weak_sources};
 
-use crate::key::Key;
+use crate::key::{CandidateKind, Key};
 use crate::numbers::Numbers;
 use indexmap::IndexMap;
 use std::alloc::AllocError;
@@ -32,10 +32,10 @@ pub(crate) fn note_gate(
     requires { IsOfTables numbers.graph.now key }
     ensures links { OnOk result ((done : List KeyValue) → map (λ e. e.0) table.old.entries ≡ first_ones (weak_sources done) → map (λ e. e.0) table.new.entries ≡ first_ones (weak_sources (done ++ key ∷ []))) }
     ensures grown { OnOk result ((more : List ℕ) × (map (λ e. e.0) table.new.entries ≡ map (λ e. e.0) table.old.entries ++ more)) }
-    ensures noted { OnOk result (key.rank ≡ 6 → Contains (map (λ e. e.0) table.new.entries) key.source) }
+    ensures noted { OnOk result (key.kind ≡ CandidateKind.SlashWeak → Contains (map (λ e. e.0) table.new.entries) key.source) }
     ensures gates { OnOk result (AreGates numbers.entry.graph.now table.old.entries → AreGates numbers.entry.graph.now table.new.entries) }
 {
-    if key.rank != 6 {
+    if !key.kind.is_weak() {
         return Ok(());
     }
     let gate = gate_of(numbers, key.source as usize);

@@ -3,6 +3,7 @@ use Rattle.std.specs.Prelude.{◌≡◌, ℕ, ◌<◌, ◌⊎◌, List, [], ◌�
 use Rattle.guppy_packages.specs.Tables.{LinkTable, Tables}
 use Rattle.feature_links.specs.Links.{IsLink}
 use Rattle.feature_links.specs.Facts.{EdgeFacts}
+use Rattle.feature_core.specs.declared.key.CandidateKind.TheVariants.{DepColon, SlashFull, SlashOptional, SlashWeak, Section}
 use Rattle.feature_core.specs.declared.key.Key.{Key}
 use Rattle.feature_core.specs.declared.edge_table.MadeEdges.{MadeEdges}
 use Rattle.feature_core.specs.inner.Made.{AreValues, IsValueOf, edge_end}
@@ -11,14 +12,14 @@ use Rattle.feature_core.specs.inner.Made.{AreValues, IsValueOf, edge_end}
 abbrev pub IsSingle : Tables → ℕ → Type 0
 IsSingle t k = (link : LinkTable) → IsLink t k link → length link.declarations ≡ 1
 
--- Two keys of one rank have the same subject: the node, package link or declaration that determines their edges.
+-- Two keys of one kind have the same subject: the node, package link or declaration that determines their edges.
 pub data SharesSubject (t : Tables) (x y : Key) : Type 0 where
-  one_end : (y.rank ≡ 3) ⊎ (y.rank ≡ 5) → x.to ≡ y.to → SharesSubject t x y
-  one_link : (y.rank ≡ 4) ⊎ (y.rank ≡ 6) → x.source ≡ y.source → SharesSubject t x y
-  one_declaration : y.rank ≡ 7 → x.source ≡ y.source → x.from ≡ y.from → IsSingle t y.source → SharesSubject t x y
+  one_end : (y.kind ≡ DepColon) ⊎ (y.kind ≡ SlashOptional) → x.to ≡ y.to → SharesSubject t x y
+  one_link : (y.kind ≡ SlashFull) ⊎ (y.kind ≡ SlashWeak) → x.source ≡ y.source → SharesSubject t x y
+  one_declaration : y.kind ≡ Section → x.source ≡ y.source → x.from ≡ y.from → IsSingle t y.source → SharesSubject t x y
 
 pub record AreAlike (t : Tables) (x y : Key) : Type 0 where
-  pub rank : x.rank ≡ y.rank
+  pub kind : x.kind ≡ y.kind
   pub subject : SharesSubject t x y
 
 -- Key `near` of `kept` is earlier than `ix` and alike to `y`.

@@ -4,10 +4,10 @@ use Rattle.std.specs.List.{zip}
 use Rattle.guppy_support.specs.declared.digraph.Edge.{Edge as End}
 use Rattle.guppy_packages.specs.Tables.{Tables}
 use Rattle.feature_core.specs.Nodes.{node_packages}
-use Rattle.feature_core.specs.Candidates.{Edge, Candidate, rank_of}
+use Rattle.feature_core.specs.Candidates.{Edge, Candidate}
 use Rattle.feature_links.specs.Facts.{EdgeFacts, is_dev_only}
 use Rattle.feature_core.specs.Edges.{facts_of, first_ones}
-use Rattle.feature_core.specs.inner.Keys.{IsNoLater, AreLeast}
+use Rattle.feature_core.specs.inner.Keys.{kind_of, IsNoLater, AreLeast}
 use Rattle.feature_links.specs.NamedLinks.{AreNamedLinks}
 use Rattle.feature_core.specs.inner.Parts.{IsOfSource, IsOfTables}
 use Rattle.feature_core.specs.declared.key.Key.{Key}
@@ -28,7 +28,7 @@ pub record IsMaterial (m : Material) : Type 0 where
 pub record IsValueOf (t : Tables) (weak : List ℕ) (x : Key) (f : EdgeFacts) : Type 0 where
   pub edge : Edge
   pub candidate : Candidate t x.from x.to edge
-  pub rank : x.rank ≡ rank_of edge
+  pub kind : x.kind ≡ kind_of edge
   pub is : f ≡ facts_of t weak edge
 
 -- `facts` has the built edge of each key.

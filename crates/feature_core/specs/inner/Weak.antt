@@ -1,14 +1,26 @@
 -- The weak links of keys, and their gates.
-use Rattle.std.specs.Prelude.{◌≡◌, ℕ, List, ◌==◌, IsTrue, Option, None, Some, filter_map, slice_get, if◌then◌else◌}
+use Rattle.std.specs.Prelude.{◌≡◌, ℕ, List, IsTrue, Option, None, Some, filter_map, slice_get}
 use Rattle.guppy_packages.specs.Tables.{LinkTable, Tables}
 use Rattle.feature_labels.specs.declared.link_declarations.LinkDeclarations.TheVariants.{Optional}
 use Rattle.feature_links.specs.Links.{IsLink, has_declaration}
+use Rattle.feature_core.specs.declared.key.CandidateKind.{CandidateKind}
+use Rattle.feature_core.specs.declared.key.CandidateKind.TheVariants.{FeatureToBase, NamedFeature, DepColon, SlashFull, SlashOptional, SlashWeak, Section}
 use Rattle.feature_core.specs.Edges.{IsGate}
 use Rattle.feature_core.specs.declared.key.Key.{Key}
 
+-- The package link of a candidate of this kind from package link `k`, if its edge is weak.
+abbrev pub weak_source_of : CandidateKind → ℕ → Option ℕ
+weak_source_of FeatureToBase k = None
+weak_source_of NamedFeature k = None
+weak_source_of DepColon k = None
+weak_source_of SlashFull k = None
+weak_source_of SlashOptional k = None
+weak_source_of SlashWeak k = Some k
+weak_source_of Section k = None
+
 -- The package link of a weak edge's key.
 abbrev pub weak_source : Key → Option ℕ
-weak_source x = if x.rank == 6 then Some x.source else None
+weak_source x = weak_source_of x.kind x.source
 
 -- The package links of the keys of weak edges, in order.
 abbrev pub weak_sources : List Key → List ℕ

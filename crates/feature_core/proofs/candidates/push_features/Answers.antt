@@ -1,4 +1,4 @@
-use Rattle.std.proofs.Common.{◌≡◌, length, arith, Some}
+use Rattle.std.proofs.Common.{◌≡◌, arith, Some}
 use Rattle.std.specs.Prelude.{slice_get, flat_map}
 use Rattle.guppy_packages.specs.Items.{item_of}
 use Rattle.guppy_packages.specs.Metadata.{package_table_of}

@@ -14,9 +14,8 @@ returns-in-NamedFeature c =
 pub returns-in-OptionalDependency : goal.returns-in-OptionalDependency
 returns-in-OptionalDependency c =
     on_ok_weaker c.push_optional_item.result
-    (λ h. item-read c.args.input.numbers.graph.now c.args.from c.args.input.metadata.package_ix (package_table_of c.args.input.metadata) c.args.feature_name.now (optional_item c.in-OptionalDependency.name.now) (item_of c.args.item.now) c.args.collected.now c.push_optional_item.new.collected c.in-OptionalDependency.ensures
-    (record { keys = h.keys; of_items = h.of_items; of_names = h.of_names }))
-    c.push_optional_item.ensures
+    (λ h. item-read c.args.input.numbers.graph.now c.args.from c.args.input.metadata.package_ix (package_table_of c.args.input.metadata) c.args.feature_name.now (optional_item c.in-OptionalDependency.name.now) (item_of c.args.item.now) c.args.collected.now c.push_optional_item.new.collected c.in-OptionalDependency.ensures h)
+    (c.push_optional_item.ensures c.args.feature_name.now)
 
 pub returns-in_ok-push_beside-in-DependencyNamedFeature : goal.returns-in_ok-push_beside-in-DependencyNamedFeature
 returns-in_ok-push_beside-in-DependencyNamedFeature c =

@@ -22,8 +22,8 @@ returns c =
     let at : slice_get t.packages link.to ≡ Some table = subst (λ z. slice_get z.packages link.to ≡ Some table) c.link-link.ensures.graph c.to-target.ensures.package in
     on_ok_weaker c.push_lack.result
     (λ lacks. record {
-      keys = link_pushed t c.args.from k c.rank_over.result g c.args.weak link before.keys.items c.push_to.new.keys.items c.link-link.ensures.link c.rank_over.ensures
-          (pushed_to t c.args.from link.to c.rank_over.result k 0 (named g) c.named-to.result before.keys.items c.push_to.new.keys.items told c.in_ok-push_to.ensures);
+      keys = link_pushed t c.args.from k c.kind_over.result g c.args.weak link before.keys.items c.push_to.new.keys.items c.link-link.ensures.link c.kind_over.ensures
+          (pushed_to t c.args.from link.to c.kind_over.result k 0 (named g) c.named-to.result before.keys.items c.push_to.new.keys.items told c.in_ok-push_to.ensures);
       of_items = lacks ∙ ap (λ z. warnings_in before.item_warnings ++ z) (lack_of_target t g link table at ∙ lack_at t g k link c.link-link.ensures.link);
       of_names = nothing (warnings_in before.name_warnings);
     })

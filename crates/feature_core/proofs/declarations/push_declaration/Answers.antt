@@ -1,5 +1,3 @@
-use Rattle.std.proofs.Common.{◌≡◌, ◌++◌, sym, subst}
-use Rattle.std.specs.Prelude.{Contains}
 use Rattle.std.proofs.lemmas.Result.{on_ok_weaker}
 use Rattle.guppy_packages.specs.Metadata.{link_number_of, link_table_of}
 use Rattle.guppy_packages.specs.Stored.{declared}

@@ -1,5 +1,5 @@
-use Rattle.std.proofs.Common.{◌≡◌, ◌∙◌, [], sym, subst, arith, length, Some}
-use Rattle.std.specs.Prelude.{slice_get, flat_map}
+use Rattle.std.proofs.Common.{◌≡◌, ◌∙◌, [], sym, subst, arith, length}
+use Rattle.std.specs.Prelude.{flat_map}
 use Rattle.guppy_packages.specs.Metadata.{link_number_of, link_table_of}
 use Rattle.guppy_packages.specs.Stored.{declared}
 use Rattle.feature_core.specs.Warnings.{lack_over, of_link, warnings_in}

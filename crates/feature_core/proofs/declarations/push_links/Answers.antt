@@ -1,4 +1,4 @@
-use Rattle.std.proofs.Common.{◌≡◌, ◌∙◌, ◌++◌, ap, sym, subst, arith, take}
+use Rattle.std.proofs.Common.{◌∙◌, ◌++◌, ap, sym, subst, arith, take}
 use Rattle.std.specs.Prelude.{filter, flat_map, ◌==◌}
 use Rattle.guppy_packages.specs.Tables.{AreLinksFrom}
 use Rattle.feature_core.specs.Warnings.{of_link, warnings_in}

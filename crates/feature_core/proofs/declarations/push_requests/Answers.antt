@@ -6,6 +6,7 @@ use Rattle.guppy_packages.specs.Stored.{declared}
 use Rattle.feature_labels.specs.Names.LabelName.{base, named}
 use Rattle.feature_core.specs.Warnings.{lack_over, warnings_in}
 use Rattle.feature_core.specs.declared.collected.Collected.{Collected}
+use Rattle.feature_core.specs.declared.key.CandidateKind.TheVariants.{Section}
 use Rattle.feature_core.specs.inner.Adds.{Adds}
 use Rattle.feature_core.specs.inner.Collects.{Collects}
 use Rattle.feature_core.proofs.CollectLemmas.{nothing, collects-start, names-turn}
@@ -35,7 +36,7 @@ loop-ix-preserved c =
     let found : IsFound t link.to (named g) c.named-to.result = subst (λ z. IsFound t z (named g) c.named-to.result) c.to-target.ensures.number c.named-to.ensures.node in
     names-turn (IsListed t u link.to k j d) (lack_over t link) d.features ix g c.if-default_features.collected before _ at c.loop-ix.invariant
     (record {
-      keys = listed t u link.to k j d ix g c.named-to.result before.keys.items c.push_to-in-loop-ix.new.keys.items at found (subst (λ z. Adds (IsToFound u c.named-to.result 7 z j) before.keys.items c.push_to-in-loop-ix.new.keys.items) c.link_ix-link_ix.ensures.number c.in_ok-push_to-3.ensures);
+      keys = listed t u link.to k j d ix g c.named-to.result before.keys.items c.push_to-in-loop-ix.new.keys.items at found (subst (λ z. Adds (IsToFound u c.named-to.result Section z j) before.keys.items c.push_to-in-loop-ix.new.keys.items) c.link_ix-link_ix.ensures.number c.in_ok-push_to-3.ensures);
       of_items = nothing (warnings_in before.item_warnings);
       of_names = c.in_ok-push_lack.ensures ∙ ap (λ z. warnings_in before.name_warnings ++ z) (lack_of_target t g link table target);
     })
@@ -61,7 +62,7 @@ returns c =
       | then-default_features+in_ok-push_to-2 w ↦ subst (λ z. Collects (IsByDefault t u link.to k j d) [] [] first z) (sym w.collected-is) (record {
         keys = with_default t u link.to k j d w.default_of.result first.keys.items w.push_to-then-default_features.new.keys.items (sym w.if-default_features.ensures)
             (subst (λ z. IsFound t z (named (codes "default")) w.default_of.result) to w.default_of.ensures)
-            (subst (λ z. Adds (IsToFound u w.default_of.result 7 z j) first.keys.items w.push_to-then-default_features.new.keys.items) number w.in_ok-push_to-2.ensures);
+            (subst (λ z. Adds (IsToFound u w.default_of.result Section z j) first.keys.items w.push_to-then-default_features.new.keys.items) number w.in_ok-push_to-2.ensures);
         of_items = nothing (warnings_in start.item_warnings);
         of_names = nothing (warnings_in start.name_warnings);
       })
@@ -73,7 +74,7 @@ returns c =
     ] in
     record {
       keys = requested t u link.to k j d c.loop-ix.ix start.keys.items first.keys.items second.keys.items after.keys.items (omega (arith, long))
-          (found_adds t u link.to base 7 k j (Some c.base.result) start.keys.items first.keys.items to_base (subst (λ z. Adds (IsToFound u (Some c.base.result) 7 z j) start.keys.items first.keys.items) number c.in_ok-push_to.ensures))
+          (found_adds t u link.to base Section k j (Some c.base.result) start.keys.items first.keys.items to_base (subst (λ z. Adds (IsToFound u (Some c.base.result) Section z j) start.keys.items first.keys.items) number c.in_ok-push_to.ensures))
           by_default.keys all.keys;
       of_items = all.of_items ∙ append-none (warnings_in second.item_warnings) ∙ by_default.of_items;
       of_names = added-all (lack_over t link) d.features c.loop-ix.ix (warnings_in start.name_warnings) (warnings_in after.name_warnings) (omega (arith, long))

@@ -1,4 +1,4 @@
-use Rattle.std.proofs.Common.{◌≡◌, ◌∙◌, sym, subst, Some}
+use Rattle.std.proofs.Common.{◌∙◌, sym, subst}
 use Rattle.guppy_packages.specs.Metadata.{link_table_of}
 use Rattle.guppy_packages.specs.Stored.{declared}
 use Rattle.feature_labels.specs.Names.LabelName.{optional}

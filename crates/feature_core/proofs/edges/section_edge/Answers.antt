@@ -14,23 +14,23 @@ use Rattle.feature_core.proofs.edges.section_edge.Goals as goal
 pub half_from-which-requires-clause-node : goal.half_from-which-requires-clause-node
 half_from-which-requires-clause-node c =
     let t = c.args.material.numbers.graph.now in
-    let o = told_section t (names_differ t c.facts.ensures) [] c.args.key c.requires.of_tables c.requires.rank in
+    let o = told_section t (names_differ t c.facts.ensures) [] c.args.key c.requires.of_tables c.requires.kind in
     start_within t c.args.material.packages.now c.args.key o.link o.tells c.requires.material.packages
 
 pub section_link-requires : goal.section_link-requires
 section_link-requires c =
     let t = c.args.material.numbers.graph.now in
-    let s = (told_section t (names_differ t c.facts.ensures) [] c.args.key c.requires.of_tables c.requires.rank).tells in
+    let s = (told_section t (names_differ t c.facts.ensures) [] c.args.key c.requires.of_tables c.requires.kind).tells in
     link_within t c.args.key.source s.link s.is_link
 
 pub returns : goal.returns
 returns c weak =
     let t = c.args.material.numbers.graph.now in
     let x = c.args.key in
-    let o = told_section t (names_differ t c.facts.ensures) weak x c.requires.of_tables c.requires.rank in
+    let o = told_section t (names_differ t c.facts.ensures) weak x c.requires.of_tables c.requires.kind in
     let s = o.tells in
     let p = c.in_ok-places.ensures in
-    let passing = places_passing t c.facts.ensures x o.link s p.0 (run_requests t c.facts.ensures c.args.material.keys.now p.0 x c.requires.material.of_tables c.requires.material.whole c.requires.least c.requires.rank p.1) in
+    let passing = places_passing t c.facts.ensures x o.link s p.0 (run_requests t c.facts.ensures c.args.material.keys.now p.0 x c.requires.material.of_tables c.requires.material.whole c.requires.least c.requires.kind p.1) in
     let places : c.as_slice.result.now ≡ c.in_ok-places.places.items = c.as_slice.ensures in
     let which = half_is t x o.link s c.half_from-which.result c.half_from-which.ensures.required c.half_from-which.ensures.optional in
     let there : ArePassing (requesting s.asked s.which) s.link.declarations c.as_slice.result.now = subst (ArePassing (requesting s.asked s.which) s.link.declarations) (sym (places ∙ p.2)) passing in

@@ -15,19 +15,19 @@ use Rattle.feature_core.proofs.edges.weak_edge.Goals as goal
 pub link_of-requires : goal.link_of-requires
 link_of-requires c =
     let t = c.args.material.numbers.graph.now in
-    let s = (told_weak t (names_differ t c.facts.ensures) [] c.args.key c.requires.of_tables c.requires.rank).tells in
+    let s = (told_weak t (names_differ t c.facts.ensures) [] c.args.key c.requires.of_tables c.requires.kind).tells in
     link_within t c.args.key.source s.link s.is_link
 
 pub half_of-requires : goal.half_of-requires
 half_of-requires c =
     let t = c.args.material.numbers.graph.now in
-    let s = (told_weak t (names_differ t c.facts.ensures) [] c.args.key c.requires.of_tables c.requires.rank).tells in
+    let s = (told_weak t (names_differ t c.facts.ensures) [] c.args.key c.requires.of_tables c.requires.kind).tells in
     link_within t c.args.key.source s.link s.is_link
 
 pub half_of-requires-2 : goal.half_of-requires-2
 half_of-requires-2 c =
     let t = c.args.material.numbers.graph.now in
-    let s = (told_weak t (names_differ t c.facts.ensures) [] c.args.key c.requires.of_tables c.requires.rank).tells in
+    let s = (told_weak t (names_differ t c.facts.ensures) [] c.args.key c.requires.of_tables c.requires.kind).tells in
     link_within t c.args.key.source s.link s.is_link
 
 pub returns : goal.returns
@@ -36,7 +36,7 @@ returns c rest =
     let numbers = keys c.args.table.now in
     let weak = numbers ++ rest in
     let x = c.args.key in
-    let o = told_weak t (names_differ t c.facts.ensures) weak x c.requires.of_tables c.requires.rank in
+    let o = told_weak t (names_differ t c.facts.ensures) weak x c.requires.of_tables c.requires.kind in
     let s = o.tells in
     let made = weak_facts_of c.in_ok-weak.weak.value in
     let value : c.in_ok-weak.weak.value ≡ c.new.result = c.in_ok-weak.ensures.ok in
@@ -45,4 +45,4 @@ returns c rest =
     (c.new.ensures.required ∙ c.in_ok-required.ensures)
     (c.new.ensures.optional ∙ c.in_ok-optional.ensures) in
     let link : link_facts c.in_ok-link.link ≡ o.link = c.in_ok-link.ensures s.link s.is_link ∙ sym s.is in
-    record { edge = slash_weak x.source o.link; candidate = o.candidate; rank = o.rank; is = ap (λ z. edges.weak_edge z made) link ∙ ap (λ z. edges.weak_edge o.link z) facts }
+    record { edge = slash_weak x.source o.link; candidate = o.candidate; kind = o.kind; is = ap (λ z. edges.weak_edge z made) link ∙ ap (λ z. edges.weak_edge o.link z) facts }

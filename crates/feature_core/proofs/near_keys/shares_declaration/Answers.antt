@@ -7,5 +7,5 @@ use Rattle.feature_core.proofs.near_keys.shares_declaration.Goals as goal
 pub is_single-requires : goal.is_single-requires
 is_single-requires c =
     let t = c.args.numbers.graph.now in
-    let s = (told_section t (names_differ t c.facts.ensures) [] c.args.key c.requires.of_tables c.requires.rank).tells in
+    let s = (told_section t (names_differ t c.facts.ensures) [] c.args.key c.requires.of_tables c.requires.kind).tells in
     link_within t c.args.key.source s.link s.is_link

@@ -5,6 +5,9 @@ use Rattle.feature_core.specs.inner.Made.{AreMade}
 use Rattle.feature_core.proofs.SourceLemmas.{source_of_tables, same_source, kept_next}
 use Rattle.feature_core.proofs.edge_table.MadeEdges.add_package.Goals as goal
 
+pub keep_least_of-requires : goal.keep_least_of-requires
+keep_least_of-requires c = subst (AllPairs IsNoLater) (sym c.deref.ensures.value) c.in_ok-collect_package.ensures.ordered
+
 pub add_all-requires-clause-material : goal.add_all-requires-clause-material
 add_all-requires-clause-material c =
     let t = c.args.numbers.graph.now in
