@@ -13,7 +13,6 @@ use Rattle.feature_links.specs.Facts.{EdgeFacts, base_edge, feature_edge, colon_
 use Rattle.feature_core.specs.inner.Pools.{AreWithin, IsParted, Keeps, facts_at, fixed_place}
 use Rattle.feature_links.specs.Values.{edge_facts}
 use Rattle.feature_core.proofs.Places.{get_left, get_right, get_cases, got_same}
-use Rattle.feature_core.proofs.SameLists.{no}
 
 -- the value at a place of a pool
 said_at : (pool : List FeatureEdge) (p : ℕ) → p < length pool → slice_get (map edge_facts pool) p ≡ Some (get_or (map edge_facts pool) p base_edge)
@@ -36,18 +35,6 @@ none_within pool places h = subst (AreWithin pool) (sym h) (All-nil (λ p. p < l
 
 pub none_there : (pool : List FeatureEdge) (places : List ℕ) → places ≡ [] → facts_at pool places ≡ []
 none_there pool places h = ap (facts_at pool) h
-
--- a comparison with the edge at a place
-pub at_place : (pool : List FeatureEdge) (p : ℕ) (e : FeatureEdge) (f : EdgeFacts) (b : Bool) → slice_get pool p ≡ Some e → IsTrue b ↔ (edge_facts e ≡ f) → IsTrue b ↔ (slice_get (map edge_facts pool) p ≡ Some f)
-at_place pool p e f b h i =
-    let here = said_here pool p e h in
-    ((λ t. here ∙ ap Some (i.0 t)), (λ s. i.1 (got_same (edge_facts e) f (sym here ∙ s))))
-
-pub no_place : (pool : List FeatureEdge) (p : ℕ) (f : EdgeFacts) → slice_get pool p ≡ None → IsTrue false ↔ (slice_get (map edge_facts pool) p ≡ Some f)
-no_place pool p f h = no (slice_get (map edge_facts pool) p ≡ Some f) (λ s. missing (sym (slice_get-map edge_facts pool p ∙ ap (option_map edge_facts) h) ∙ s))
-  where
-    missing : ◌≡◌ {A = Option EdgeFacts} None (Some f) → ⊥
-    missing e = cc
 
 -- a pool with one more edge
 pub keeps_more : (old : List FeatureEdge) (e : FeatureEdge) → Keeps old (old ++ e ∷ [])

@@ -1,5 +1,5 @@
 //! Edges by number. Equal edges may share storage.
-ghost use Rattle.std.specs.Prelude.{◌≡◌, ◌++◌, ◌∷◌, ◌<◌, ◌↔◌, [], None, Some, IfOk, OnOk, IsTrue, length, map, not, position, slice_get};
+ghost use Rattle.std.specs.Prelude.{◌≡◌, ◌++◌, ◌∷◌, ◌<◌, [], None, Some, IfOk, OnOk, length, map, not, position, slice_get};
 ghost use Rattle.std.specs.Option.{option_map};
 ghost use Rattle.feature_links.specs.declared.edge.EdgeChoice.TheVariants.{FeatureToBaseAndNamed};
 ghost use Rattle.feature_core.specs.Choices.{is_chosen};
@@ -7,20 +7,16 @@ ghost use Rattle.feature_core.specs.inner.Pools.{fixed_place, IsParted, Keeps};
 ghost use Rattle.feature_links.specs.Facts.{EdgeFacts, has_present_link};
 ghost use Rattle.feature_links.specs.Values.{edge_facts};
 
-use crate::equality::same_edge;
-use feature_labels::LinkDeclarations;
-use feature_links::{ConditionalLinkImpl, FeatureEdge, SlashForm};
+use feature_links::FeatureEdge;
 use std::alloc::{AllocError, Global};
 use std::marker::Model;
 
-/// Edges by number, each with an index into a pool. Indices 0 and 1 are the unconditional edges; a conditional edge shares the
-/// index of an equal recent one. A contract sees the list of edges as plain values.
+/// Edges by number, each with an index into a pool. Indices 0 and 1 are the unconditional edges; a repeated edge shares the index
+/// of the one that it repeats. A contract sees the list of edges as plain values.
 #[derive(Drop)]
 pub(crate) struct EdgeList {
     pool: Vec<FeatureEdge>,
     places: Vec<u32>,
-    // the index and the mark of a recent edge, for each slot
-    recent: Vec<(u32, u32)>,
 }
 
 impl Model for EdgeList {
@@ -32,7 +28,7 @@ impl Model for EdgeList {
 
     ghost view = { λ l. facts_at l.pool.items l.places.items };
 
-    ghost invariant = { λ l. AreWithin l.pool.items l.places.items × (length l.recent.items ≡ 4096) × IsParted l.pool.items };
+    ghost invariant = { λ l. AreWithin l.pool.items l.places.items × IsParted l.pool.items };
 }
 
 /// Returns a pool with the unconditional edges and capacity for `room` edges.
@@ -58,63 +54,6 @@ fn fixed_place(edge: &FeatureEdge) -> Option<u32>
     }
 }
 
-/// Returns the first package link of `link`, or 0.
-fn first_link(link: &ConditionalLinkImpl) -> usize {
-    match link.package_link_ixs().first() {
-        Some(link_ix) => *link_ix,
-        None => 0,
-    }
-}
-
-/// Returns the slot of an edge of `kind` over `link`. It depends on the first package link, and on whether the link covers
-/// optional declarations only.
-fn link_slot(link: &ConditionalLinkImpl, kind: usize) -> usize
-    requires { kind < 8 }
-    ensures { result < 4096 }
-{
-    let half = match link.declarations() {
-        LinkDeclarations::Unsplit | LinkDeclarations::Required => 0,
-        LinkDeclarations::Optional => 1,
-    };
-    (first_link(link) % 256) * 16 + kind * 2 + half
-}
-
-/// Returns the slot of `edge` in the table of recent edges.
-fn edge_slot(edge: &FeatureEdge) -> usize
-    ensures { result < 4096 }
-{
-    match edge {
-        FeatureEdge::FeatureToBase => 0,
-        FeatureEdge::NamedFeature => 1,
-        FeatureEdge::DependenciesSection(link) => link_slot(link, 1),
-        FeatureEdge::NamedFeatureDepColon(link) => link_slot(link, 2),
-        FeatureEdge::NamedFeatureWithSlash { link, slash } => match slash {
-            SlashForm::Strong => link_slot(link, 3),
-            SlashForm::Weak(_) => link_slot(link, 4),
-        },
-    }
-}
-
-/// Returns the mark of `edge`: the low bits of its first package link. Different edges mostly have different marks.
-fn edge_mark(edge: &FeatureEdge) -> u32 {
-    match edge {
-        FeatureEdge::FeatureToBase | FeatureEdge::NamedFeature => 0,
-        FeatureEdge::DependenciesSection(link)
-        | FeatureEdge::NamedFeatureDepColon(link)
-        | FeatureEdge::NamedFeatureWithSlash { link, .. } => (first_link(link) % 4294967296) as u32,
-    }
-}
-
-/// Returns whether the edge at index `place` equals `edge`.
-fn is_at(pool: &[FeatureEdge], place: usize, edge: &FeatureEdge) -> bool
-    ensures { IsTrue result ↔ (slice_get (map edge_facts pool.now) place ≡ Some (edge_facts edge.now)) }
-{
-    if place < pool.len() {
-        return same_edge(&pool[place], edge);
-    }
-    false
-}
-
 /// Appends a conditional edge and returns its index. Returns `AllocError` if an allocation fails or the index doesn't fit in 32
 /// bits.
 fn place_after(pool: &mut Vec<FeatureEdge>, edge: FeatureEdge) -> Result<u32, AllocError>
@@ -132,47 +71,16 @@ fn place_after(pool: &mut Vec<FeatureEdge>, edge: FeatureEdge) -> Result<u32, Al
     Ok(place as u32)
 }
 
-/// Returns the index of a conditional edge: that of the edge in its slot if they are equal; otherwise `edge` is appended.
-fn place_near(
-    pool: &mut Vec<FeatureEdge>,
-    recent: &mut Vec<(u32, u32)>,
-    edge: FeatureEdge,
-) -> Result<u32, AllocError>
-    requires conditional { fixed_place (edge_facts edge) ≡ None }
-    requires parted { IsParted pool.old.items }
-    requires long { length recent.old.items ≡ 4096 }
+/// Returns the index of `edge`, which is appended if it is conditional.
+fn place_of(pool: &mut Vec<FeatureEdge>, edge: FeatureEdge) -> Result<u32, AllocError>
+    requires { IsParted pool.old.items }
     ensures parted { IsParted pool.new.items }
     ensures kept { Keeps pool.old.items pool.new.items }
     ensures place { IfOk result (λ place. slice_get (map edge_facts pool.new.items) place ≡ Some (edge_facts edge)) }
-    ensures long { length recent.new.items ≡ 4096 }
-{
-    let slot = edge_slot(&edge);
-    let mark = edge_mark(&edge);
-    let (near, near_mark) = recent[slot];
-    if near_mark == mark && is_at(pool.as_slice(), near as usize, &edge) {
-        return Ok(near);
-    }
-    let place = place_after(pool, edge)?;
-    recent[slot] = (place, mark);
-    Ok(place)
-}
-
-/// Returns the index of `edge`, which is appended if it is conditional and differs from the edge in its slot.
-fn place_of(
-    pool: &mut Vec<FeatureEdge>,
-    recent: &mut Vec<(u32, u32)>,
-    edge: FeatureEdge,
-) -> Result<u32, AllocError>
-    requires parted { IsParted pool.old.items }
-    requires long { length recent.old.items ≡ 4096 }
-    ensures parted { IsParted pool.new.items }
-    ensures kept { Keeps pool.old.items pool.new.items }
-    ensures place { IfOk result (λ place. slice_get (map edge_facts pool.new.items) place ≡ Some (edge_facts edge)) }
-    ensures long { length recent.new.items ≡ 4096 }
 {
     match fixed_place(&edge) {
         Some(place) => Ok(place),
-        None => place_near(pool, recent, edge),
+        None => place_after(pool, edge),
     }
 }
 
@@ -185,26 +93,21 @@ impl EdgeList {
     ) -> Result<EdgeList, AllocError>
         ensures { IfOk result (λ edges. edges ≡ []) }
     {
-        let recent = vec![in alloc; (0u32, 0u32); 4_096]?;
         let pool = fixed_edges(alloc, own.saturating_add(2))?;
         let places = Vec::with_capacity(alloc, room)?;
-        Ok(EdgeList {
-            pool,
-            places,
-            recent,
-        })
+        Ok(EdgeList { pool, places })
     }
 
     /// Appends `edge`.
     pub(crate) fn push(&mut self, edge: FeatureEdge) -> Result<(), AllocError>
         ensures { OnOk result (self.new ≡ self.old ++ edge_facts edge ∷ []) }
     {
-        let place = place_of(&mut self.pool, &mut self.recent, edge)?;
+        let place = place_of(&mut self.pool, edge)?;
         self.places.push(place)?;
         Ok(())
     }
 
-    /// Appends a copy of edge `number`.
+    /// Appends edge `number` again, which shares its index.
     pub(crate) fn repeat(&mut self, number: usize) -> Result<(), AllocError>
         requires { number < length self.now }
         ensures { OnOk result ((f : EdgeFacts) → slice_get self.old number ≡ Some f → self.new ≡ self.old ++ f ∷ []) }

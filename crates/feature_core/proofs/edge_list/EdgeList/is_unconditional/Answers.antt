@@ -20,5 +20,5 @@ returns c =
     let place = c.index.result.now in
     let within = number_within l.pool.items l.places.items c.args.self.now c.args.number c.self.view_is c.requires in
     let there = read l.places.items c.args.number place within c.index.ensures in
-    chosen_there l.pool.items l.places.items c.args.number place there c.self.invariant.0 c.self.invariant.2
+    chosen_there l.pool.items l.places.items c.args.number place there c.self.invariant.0 c.self.invariant.1
     ∙ ap (λ z. option_map (is_chosen FeatureToBaseAndNamed) (slice_get z c.args.number)) c.self.view_is
