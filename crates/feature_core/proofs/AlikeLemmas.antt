@@ -1,30 +1,30 @@
 -- The edges of alike keys are equal.
-use Rattle.std.proofs.Common.{◌≡◌, ℕ, zero, suc, ◌⊎◌, inl, inr, ⊎_elim, List, [], ◌∷◌, ◌++◌, ◌+◌, ◌<◌, length, map, take, Bool, true, Some, refl, ap, sym, ◌∙◌, subst, arith, length-append}
-use Rattle.std.specs.Prelude.{slice_get, IsTrue, Contains}
-use Rattle.std.proofs.lemmas.List.{append_assoc, length-take-le}
+use Rattle.feature_core.specs.inner.Keys.{rank}
+use Rattle.std.proofs.Common.{◌≡◌, ℕ, zero, suc, ◌⊎◌, inl, inr, ⊎_elim, List, [], ◌∷◌, ◌++◌, length, map, Bool, true, Some, refl, ap, sym, ◌∙◌, subst, arith}
+use Rattle.std.specs.Prelude.{slice_get, IsTrue}
+use Rattle.std.proofs.lemmas.List.{append_assoc, append-nil}
 use Rattle.guppy_packages.specs.Rows.{Text, Declared}
 use Rattle.guppy_packages.specs.Tables.{LinkTable, Tables, AreTables}
 use Rattle.feature_labels.specs.Names.LabelName.{base, named, optional}
 use Rattle.feature_labels.specs.declared.link_declarations.LinkDeclarations.{LinkDeclarations}
 use Rattle.feature_labels.specs.declared.link_declarations.LinkDeclarations.TheVariants.{Unsplit, Required, Optional}
-use Rattle.feature_core.specs.declared.key.CandidateKind.TheVariants.{DepColon, SlashFull, SlashOptional, SlashWeak, Section}
+use Rattle.feature_core.specs.declared.key.CandidateKind.TheVariants.{FeatureToBase, DepColon, SlashFull, SlashOptional, SlashWeak, Section}
 use Rattle.feature_core.specs.Nodes.{NodeAt}
 use Rattle.feature_links.specs.Links.{LinkFacts, IsLink, over, by_name}
 use Rattle.feature_core.specs.Candidates.{Edge, dep_colon, slash_full, slash_optional, slash_weak, section, requesting, unsplit_of}
 use Rattle.feature_links.specs.Facts.{EdgeFacts}
 use Rattle.feature_core.specs.Edges.{facts_of, first_ones}
-use Rattle.feature_core.specs.inner.Alike.{IsSingle, SharesSubject, one_end, one_link, one_declaration, AreAlike, IsAppended, IsNext}
-use Rattle.feature_core.specs.inner.Made.{IsValueOf, AreValues, AreMade, edge_end}
+use Rattle.feature_core.specs.inner.Alike.{IsSingle, SharesSubject, one_end, one_link, one_declaration, AreAlike, HasEdge, AreNear, IsAlikeAt, IsAdded, IsAppended}
+use Rattle.feature_core.specs.inner.Made.{IsValueOf, AreMade, edge_end}
 use Rattle.feature_core.specs.inner.Parts.{IsOfTables}
 use Rattle.feature_core.specs.inner.Weak.{AreGates, weak_sources}
 use Rattle.feature_core.specs.declared.edge_table.MadeEdges.{MadeEdges}
 use Rattle.feature_core.specs.declared.key.Key.{Key}
 use Rattle.feature_core.proofs.KeyEdges.{IsTold, told_colon, told_full, told_beside, told_weak, told_section}
 use Rattle.feature_core.proofs.KeySays.{SaysColon, SaysOver, SaysBeside, SaysSection}
-use Rattle.feature_core.proofs.NodeLemmas.{take-next}
 use Rattle.feature_core.proofs.PairLemmas.{names_differ}
 use Rattle.feature_core.proofs.PartLemmas.{NamesDiffer}
-use Rattle.feature_core.proofs.Places.{get_right, got_same}
+use Rattle.feature_core.proofs.Places.{get_left, get_right, got_same}
 use Rattle.feature_core.proofs.KindLemmas.{one_rank}
 use Rattle.feature_core.proofs.Ranks.{same_home, same_label, same_rank}
 use Rattle.feature_core.proofs.SectionPlaces.{of_link}
@@ -152,54 +152,80 @@ module _ (t : Tables) (tables : AreTables t) (weak : List ℕ) (x y : Key) (hx :
 pub alike_value : (t : Tables) → AreTables t → (x y : Key) → IsOfTables t x → IsOfTables t y → AreAlike t x y → (weak : List ℕ) (f : EdgeFacts) → IsValueOf t weak x f → IsValueOf t weak y f
 alike_value t tables x y hx hy h weak f v = by_subject t tables weak x y hx hy f v h.kind h.subject
 
-get_taken : {X : Type 0} (i k : ℕ) (xs : List X) (x : X) → k < i → slice_get xs k ≡ Some x → slice_get (take i xs) k ≡ Some x
-get_taken zero k xs x l h = absurd (omega (arith, l))
-get_taken (suc i) k [] x l h = cc
-get_taken (suc i) zero (y ∷ xs) x l h = h
-get_taken (suc i) (suc k) (y ∷ xs) x l h = get_taken i k xs x (omega (arith, l)) h
+-- an empty slot has no alike key
+not_empty : (t : Tables) (x y : Key) → AreAlike t x y → x.kind ≡ FeatureToBase → ⊥
+not_empty t x y h e = no_subject h.subject
+  where
+    same : rank y.kind ≡ 1
+    same = ap rank (sym h.kind ∙ e)
 
--- the edge of an alike key is the next edge
-pub next_repeated : (t : Tables) → AreTables t → (kept : List Key) (ix near number : ℕ) (x y : Key) (old new : MadeEdges) (f : EdgeFacts) → IsOfTables t x → IsOfTables t y
-    → near < ix → ix < length kept → slice_get kept near ≡ Some x → AreAlike t x y → number + ix ≡ length old.edges + near → slice_get old.edges number ≡ Some f → IsAppended y f old new → IsNext t kept ix y old new
-next_repeated t tables kept ix near number x y old new f hx hy before within at alike count says appended = record {
-  says = f;
-  appended = appended;
-  value = λ done weak h.
-      let long : length (take ix kept) ≡ ix = length-take-le ix kept (omega (arith, within)) in
-      let place : number ≡ length done + near = omega (arith, count, h.long, length-append done (take ix kept), long) in
-      let there : slice_get (done ++ take ix kept) number ≡ Some x = get_right done (take ix kept) number near place ∙ get_taken ix near kept x before at in
-      alike_value t tables x y hx hy alike _ f (h.each number x f there says);
-}
+    no_subject : SharesSubject t x y → ⊥
+    no_subject (one_end (inl k) to) = omega (arith, same, ap rank k)
+    no_subject (one_end (inr k) to) = omega (arith, same, ap rank k)
+    no_subject (one_link (inl k) source) = omega (arith, same, ap rank k)
+    no_subject (one_link (inr k) source) = omega (arith, same, ap rank k)
+    no_subject (one_declaration k source from single) = omega (arith, same, ap rank k)
 
--- the edges with one more, that of the key at a place
-pub next_made : (t : Tables) (done kept : List Key) (ix : ℕ) (x : Key) (old mid new : MadeEdges) (more : List ℕ) → slice_get kept ix ≡ Some x
-    → map (λ e. e.0) mid.weak.entries ≡ first_ones (weak_sources ((done ++ take ix kept) ++ x ∷ []))
+-- the edge of an alike key in a slot
+pub near_edge : (t : Tables) → AreTables t → (m : MadeEdges) (slots : List (Key × ℕ)) (y : Key) (number : ℕ) → IsOfTables t y → AreNear t m slots → IsAlikeAt t slots y number → HasEdge t m y number
+near_edge t tables m slots y number hy near at = ⊎_elim
+    (λ e. absurd (not_empty t at.x y at.alike e))
+    (λ h. record { of_tables = hy; says = h.says; at = h.at; value = λ rest. alike_value t tables at.x y h.of_tables hy at.alike _ h.says (h.value rest) })
+    (near at.slot at.x number at.at)
+
+-- what is known of the slots stays known while edges and weak links are added
+pub near_later : (t : Tables) (old new : MadeEdges) (more : List ℕ) (slots : List (Key × ℕ)) → map (λ e. e.0) new.weak.entries ≡ map (λ e. e.0) old.weak.entries ++ more
+    → ((n : ℕ) (f : EdgeFacts) → slice_get old.edges n ≡ Some f → slice_get new.edges n ≡ Some f) → AreNear t old slots → AreNear t new slots
+near_later t old new more slots grown keeps near i x number at = ⊎_elim
+    (λ e. inl e)
+    (λ h. inr (record {
+      of_tables = h.of_tables;
+      says = h.says;
+      at = keeps number h.says h.at;
+      value = λ rest.
+          let same : map (λ e. e.0) old.weak.entries ++ (more ++ rest) ≡ map (λ e. e.0) new.weak.entries ++ rest = sym (append_assoc (map (λ e. e.0) old.weak.entries) more rest) ∙ ap (λ z. z ++ rest) (sym grown) in
+          subst (λ z. IsValueOf t z x h.says) same (h.value (more ++ rest));
+    }))
+    (near i x number at)
+
+-- an edge more
+pub near_added : (t : Tables) (x : Key) (old new : MadeEdges) (slots : List (Key × ℕ)) → IsAdded t x old new → AreNear t old slots → AreNear t new slots
+near_added t x old new slots a near = near_later t old new [] slots
+    (ap (map (λ e. e.0)) a.appended.weak ∙ sym (append-nil (map (λ e. e.0) old.weak.entries)))
+    (λ n f h. ap (λ z. slice_get z n) a.appended.edges ∙ get_left old.edges (a.says ∷ []) n f h)
+    near
+
+-- the edge of a key that takes a slot
+pub near_inserted : (t : Tables) (x : Key) (number : ℕ) (old new : MadeEdges) (slots more : List (Key × ℕ)) → IsOfTables t x → IsAdded t x old new → number ≡ length old.edges
+    → ((i : ℕ) (y : Key) (n : ℕ) → slice_get more i ≡ Some (y, n) → ((y ≡ x) × (n ≡ number)) ⊎ (slice_get slots i ≡ Some (y, n))) → AreNear t old slots → AreNear t new more
+near_inserted t x number old new slots more hx a end put near i y n at = ⊎_elim
+    (λ e. inr (subst (λ z. HasEdge t new z n) (sym e.0) (subst (λ z. HasEdge t new x z) (sym e.1) (record {
+      of_tables = hx;
+      says = a.says;
+      at = ap (λ z. slice_get z number) a.appended.edges ∙ get_right old.edges (a.says ∷ []) number 0 (omega (arith, end));
+      value = a.value;
+    }))))
+    (λ h. near_added t x old new slots a near i y n h)
+    (put i y n at)
+
+-- the edge of an alike key, appended again
+pub repeat_added : (t : Tables) (x : Key) (number : ℕ) (old new : MadeEdges) (h : HasEdge t old x number) → IsAppended x h.says old new → IsAdded t x old new
+repeat_added t x number old new h a = record { says = h.says; appended = a; value = λ rest. subst (λ z. IsValueOf t (map (λ e. e.0) z ++ rest) x h.says) (sym a.weak) (h.value rest) }
+
+-- the edges with one more, after its weak link is noted
+pub added_made : (t : Tables) (done : List Key) (x : Key) (old mid new : MadeEdges) (more : List ℕ)
+    → map (λ e. e.0) mid.weak.entries ≡ first_ones (weak_sources (done ++ x ∷ []))
     → AreGates t mid.weak.entries
     → map (λ e. e.0) mid.weak.entries ≡ map (λ e. e.0) old.weak.entries ++ more
     → mid.edges ≡ old.edges → mid.ends ≡ old.ends
-    → IsNext t kept ix x mid new → AreMade t (done ++ take ix kept) old → AreMade t (done ++ take (ix + 1) kept) new
-next_made t done kept ix x old mid new more at links gates grown edges ends n h =
-    let before : List Key = done ++ take ix kept in
-    let same = n.appended.weak in
-    let numbers : List ℕ = map (λ e. e.0) mid.weak.entries in
-    let step : before ++ x ∷ [] ≡ done ++ take (ix + 1) kept = append_assoc done (take ix kept) (x ∷ []) ∙ ap (λ z. done ++ z) (sym (take-next kept ix x at)) in
-    let value : (rest : List ℕ) → IsValueOf t (numbers ++ rest) x n.says = λ rest.
-    let one : map (λ e. e.0) old.weak.entries ++ (more ++ rest) ≡ numbers ++ rest = sym (append_assoc (map (λ e. e.0) old.weak.entries) more rest) ∙ ap (λ z. z ++ rest) (sym grown) in
-    let values : AreValues t (numbers ++ rest) before mid.edges = subst (λ z. AreValues t (numbers ++ rest) before z) (sym edges) (subst (λ z. AreValues t z before old.edges) one (h.values (more ++ rest))) in
-    n.value done rest values in
-    subst (λ z. AreMade t z new) step (made_next t before x old new n.says more
+    → IsAdded t x mid new → AreMade t done old → AreMade t (done ++ x ∷ []) new
+added_made t done x old mid new more links gates grown edges ends a h =
+    let same = a.appended.weak in
+    made_next t done x old new a.says more
     (ap (map (λ e. e.0)) same ∙ links)
     (subst (λ z. AreGates t z) (sym same) gates)
     (ap (map (λ e. e.0)) same ∙ grown)
-    (n.appended.edges ∙ ap (λ z. z ++ n.says ∷ []) edges)
-    (n.appended.ends ∙ ap (λ z. z ++ edge_end x n.says ∷ []) ends)
-    (λ rest. subst (λ z. IsValueOf t (map (λ e. e.0) z ++ rest) x n.says) (sym same) (value rest))
-    h)
-
--- the next edge is that of any key at the place
-pub next_there : (t : Tables) (kept : List Key) (ix : ℕ) (x y : Key) (old new : MadeEdges) → slice_get kept ix ≡ Some x → slice_get kept ix ≡ Some y → IsNext t kept ix x old new → IsNext t kept ix y old new
-next_there t kept ix x y old new a b n = subst (λ z. IsNext t kept ix z old new) (same_got kept ix x y a b) n
-
--- the note for a key at a place is that for any key there
-pub noted_there : (kept : List Key) (ix : ℕ) (x y : Key) (numbers : List ℕ) → slice_get kept ix ≡ Some x → slice_get kept ix ≡ Some y → (x.kind ≡ SlashWeak → Contains numbers x.source) → y.kind ≡ SlashWeak → Contains numbers y.source
-noted_there kept ix x y numbers a b = subst (λ z. z.kind ≡ SlashWeak → Contains numbers z.source) (same_got kept ix x y a b)
+    (a.appended.edges ∙ ap (λ z. z ++ a.says ∷ []) edges)
+    (a.appended.ends ∙ ap (λ z. z ++ edge_end x a.says ∷ []) ends)
+    a.value
+    h

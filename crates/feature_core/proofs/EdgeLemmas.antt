@@ -17,7 +17,7 @@ first_before x xs h k d l = h 0 (suc k) d (omega arith) (omega arith)
 later_before : (x : Key) (xs : List Key) → AllPairs IsBefore (x ∷ xs) → AllPairs IsBefore xs
 later_before x xs h i j d l m = h (suc i) (suc j) d (omega arith) (omega arith)
 
-not_before : (a b : Key) → a.from ≡ b.from → a.to ≡ b.to → IsBefore a b → ⊥
+pub not_before : (a b : Key) → a.from ≡ b.from → a.to ≡ b.to → IsBefore a b → ⊥
 not_before a b from to h = ⊎_elim (λ l. omega (arith, l, from)) (λ l. omega (arith, l.1, to)) h
 
 -- a pair has one kept key

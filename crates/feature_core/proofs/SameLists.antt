@@ -31,7 +31,7 @@ pub plain : {X : Type 0} (xs : List X) → map (λ z. z) xs ≡ xs
 plain [] = refl
 plain (x ∷ xs) = ap (λ z. x ∷ z) (plain xs)
 
-take-whole : {X : Type 0} (n : ℕ) (xs : List X) → length xs ≤ n → take n xs ≡ xs
+pub take-whole : {X : Type 0} (n : ℕ) (xs : List X) → length xs ≤ n → take n xs ≡ xs
 take-whole zero [] h = refl
 take-whole zero (x ∷ xs) h = absurd (omega (arith, h))
 take-whole (suc n) [] h = refl

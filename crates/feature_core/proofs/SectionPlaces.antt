@@ -22,9 +22,11 @@ use Rattle.feature_core.proofs.MaterialLemmas.{node_within}
 use Rattle.feature_links.specs.Links.{LinkFacts, IsLink, includes, has_declaration, ArePassing}
 use Rattle.feature_core.specs.Candidates.{requests, requesting}
 use Rattle.feature_core.specs.declared.key.Key.{Key}
-use Rattle.feature_core.specs.inner.Keys.{rank, IsLeast, IsNoLater, IsRun}
+use Rattle.feature_core.specs.inner.Made.{IsRun}
+use Rattle.feature_core.specs.inner.Keys.{rank, IsNoLater}
 use Rattle.feature_core.specs.inner.Parts.{key, IsOfItem, IsOfPackageAt, IsOfTables, start_of}
 use Rattle.feature_core.proofs.PushLemmas.{from_map, into_map}
+use Rattle.feature_core.proofs.KeyRuns.{run_least}
 use Rattle.feature_core.proofs.KindLemmas.{last_kind}
 use Rattle.feature_core.proofs.KeySays.{SaysSection}
 use Rattle.feature_core.proofs.Ranks.{same_home, same_label, same_link}
@@ -133,17 +135,16 @@ pub record AreRequests (t : Tables) (x : Key) (run : List Key) : Type 0 where
   pub ordered : AllPairs IsNoLater run
   pub exact : (y : Key) → Contains run y ↔ (IsOfTables t y × (y.kind ≡ Section) × (y.from ≡ x.from) × (y.to ≡ x.to))
 
--- if the least key of a pair is a declaration's, all keys of the pair are
-pub run_requests : (t : Tables) → AreTables t → (keys run : List Key) (x : Key) → ((y : Key) → Contains keys y → IsOfTables t y) → ((x y : Key) → Contains keys x → IsOfTables t y → y.from ≡ x.from → Contains keys y)
-    → IsLeast keys x → x.kind ≡ Section → IsRun keys x.from x.to run → AreRequests t x run
-run_requests t tables keys run x of whole least last is = record {
+-- if the first key of a pair is a declaration's, all keys of the pair are
+pub run_requests : (t : Tables) (run : List Key) (x : Key) → x.kind ≡ Section → IsRun t x run → AreRequests t x run
+run_requests t run x last is = record {
   ordered = is.ordered;
   exact = λ y. (
     (λ h.
         let i = (is.exact y).0 h in
-        let low : rank Section ≤ rank y.kind = subst (λ k. rank k ≤ rank y.kind) last (least.least y i.0 (sym i.1, sym i.2)) in
-        (of y i.0, last_kind y.kind low, i.1, i.2)),
-    (λ h. (is.exact y).1 (whole x y least.is_key h.0 h.2, h.2, h.3)),
+        let low : rank Section ≤ rank y.kind = subst (λ k. rank k ≤ rank y.kind) last (run_least run x y is.first is.ordered h i.1) in
+        (i.0, last_kind y.kind low, sym i.1.0, sym i.1.1)),
+    (λ h. (is.exact y).1 (h.0, (sym h.2, sym h.3))),
   );
 }
 

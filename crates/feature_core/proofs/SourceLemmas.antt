@@ -1,5 +1,5 @@
 -- The package that a key starts at, and the least keys of the packages in turn.
-use Rattle.std.proofs.Common.{◌≡◌, ℕ, zero, suc, ◌+◌, ◌<◌, ◌≤◌, ◌⊎◌, inl, inr, ⊎_elim, List, [], ◌∷◌, ◌++◌, length, take, get_or, refl, ap, sym, ◌∙◌, subst, arith, length-append, Some}
+use Rattle.std.proofs.Common.{◌≡◌, ℕ, zero, suc, ◌+◌, ◌<◌, ◌⊎◌, inl, inr, ⊎_elim, List, [], ◌∷◌, ◌++◌, length, take, get_or, refl, ap, sym, ◌∙◌, subst, arith, length-append, Some}
 use Rattle.std.specs.Prelude.{slice_get, flat_map, Contains, AllPairs, ◌↔◌}
 use Rattle.std.proofs.lemmas.List.Elements.{All-append, Contains-get_or, Contains-append_left, Contains-append_right, Contains-append_cases}
 use Rattle.std.proofs.lemmas.List.Kept.{AllPairs-cons}
@@ -11,11 +11,10 @@ use Rattle.feature_labels.specs.Names.LabelName.{named}
 use Rattle.feature_core.specs.declared.key.CandidateKind.{CandidateKind}
 use Rattle.feature_core.specs.Nodes.{NodeAt, labels_of, first_node}
 use Rattle.feature_core.specs.declared.key.Key.{Key}
-use Rattle.feature_core.specs.inner.Keys.{rank, IsBefore, IsLeast, AreLeast}
+use Rattle.feature_core.specs.inner.Keys.{IsBefore, AreLeast}
 use Rattle.feature_core.specs.inner.Made.{IsKept, IsKeptBelow}
 use Rattle.feature_core.specs.inner.Parts.{key, start_of, IsOfItem, IsOfPackageAt, IsOfLinkAt, IsLinkFrom, IsOfSource, IsOfTables}
 use Rattle.feature_core.proofs.AddsLemmas.{Contains-first, Contains-later, Contains-none, place_below}
-use Rattle.feature_core.proofs.EdgeLemmas.{one_kept}
 use Rattle.feature_core.proofs.LeastKeys.{AllPairs-first, AllPairs-later}
 use Rattle.feature_core.proofs.NodeLabels.{element_within}
 use Rattle.feature_core.proofs.PartLemmas.{feature_node}
@@ -110,24 +109,15 @@ pairs_append R (x ∷ xs) ys a b c = AllPairs-cons R x (xs ++ ys)
     (All-append (R x) xs ys (AllPairs-first R x xs a) (λ k d l. c x (get_or ys k d) (Contains-first x xs) (Contains-get_or ys k d l)))
     (pairs_append R xs ys (AllPairs-later R x xs a) b (λ y z i j. c y z (Contains-later x xs y i) j))
 
--- the least keys of two lists, if the source nodes of one precede those of the other
-least_joined : (a b kept more : List Key) → AreLeast a kept → AreLeast b more → ((x y : Key) → Contains a x → Contains b y → x.from < y.from) → AreLeast (a ++ b) (kept ++ more)
+-- the least keys of two lists, if the pairs of one precede those of the other
+pub least_joined : (a b kept more : List Key) → AreLeast a kept → AreLeast b more → ((x y : Key) → Contains a x → Contains b y → IsBefore x y) → AreLeast (a ++ b) (kept ++ more)
 least_joined a b kept more h i apart = record {
-  ascends = pairs_append IsBefore kept more h.ascends i.ascends (λ x y u v. inl (apart x y (h.from_keys x u) (i.from_keys y v)));
+  ascends = pairs_append IsBefore kept more h.ascends i.ascends (λ x y u v. apart x y (h.from_keys x u) (i.from_keys y v));
   from_keys = λ x c. ⊎_elim (λ u. Contains-append_left a b x (h.from_keys x u)) (λ u. Contains-append_right a b x (i.from_keys x u)) (Contains-append_cases kept more x c);
   each = λ x c. ⊎_elim
       (λ u. let s = h.each x u in record { by = s.by; kept_one = Contains-append_left kept more s.by s.kept_one; pair = s.pair; least = s.least })
       (λ u. let s = i.each x u in record { by = s.by; kept_one = Contains-append_right kept more s.by s.kept_one; pair = s.pair; least = s.least })
       (Contains-append_cases a b x c);
-}
-
-pub is_least : (keys kept : List Key) → AreLeast keys kept → (x : Key) → Contains kept x → IsLeast keys x
-is_least keys kept h x c = record {
-  is_key = h.from_keys x c;
-  least = λ y i pair.
-      let s = h.each y i in
-      let same : s.by ≡ x = one_kept kept h.ascends s.by x s.kept_one c (s.pair.0 ∙ sym pair.0) (s.pair.1 ∙ sym pair.1) in
-      subst (λ z. rank z.kind ≤ rank y.kind) same s.least;
 }
 
 pub kept_none : (t : Tables) → IsKeptBelow t 0 []
@@ -155,7 +145,7 @@ kept_next t p kept keys more h of least = record {
       let s = (h.of_sources x).0 u in
       let a = home t s.0 x s.2 in
       let b = home t p y ((of y).0 v) in
-      node_order t x.from y.from s.0 p a.0 b.0 a.1 b.1 s.1);
+      inl (node_order t x.from y.from s.0 p a.0 b.0 a.1 b.1 s.1));
 }
   where
     split : (k m : ℕ) → k < m + 1 → (k < m) ⊎ (k ≡ m)
@@ -171,9 +161,3 @@ kept_all t tables kept h = record {
   );
   least = h.least;
 }
-
-pub take_whole : {X : Type 0} (n : ℕ) (xs : List X) → length xs ≤ n → take n xs ≡ xs
-take_whole zero [] h = refl
-take_whole zero (x ∷ xs) h = absurd (omega (arith, h))
-take_whole (suc n) [] h = refl
-take_whole (suc n) (x ∷ xs) h = ap (λ z. x ∷ z) (take_whole n xs (omega (arith, h)))

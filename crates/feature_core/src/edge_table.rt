@@ -1,13 +1,13 @@
 //! The edges of a package graph and its warnings, package by package.
-ghost use Rattle.std.specs.Prelude.{◌≡◌, ◌++◌, [], ℕ, ◌+◌, ◌-◌, ◌<◌, ◌≤◌, Contains, IfOk, List, OnOk, Some, length, map, slice_get, take};
+ghost use Rattle.std.specs.Prelude.{◌≡◌, ◌++◌, ◌∷◌, [], ℕ, ◌+◌, ◌<◌, Contains, IfOk, List, OnOk, Some, length, map, slice_get};
 ghost use Rattle.indexmap.specs.IndexMap.{keys};
 ghost use Rattle.feature_core.specs.declared.key.Key.{Key as KeyValue};
 ghost use Rattle.feature_core.specs.Built.{pairs_of, built_edges, end_of};
 ghost use Rattle.feature_core.specs.Edges.{AreBuilt};
 ghost use Rattle.feature_links.specs.Facts.{EdgeFacts};
-ghost use Rattle.feature_core.specs.inner.Alike.{IsAppended, IsNext};
-ghost use Rattle.feature_core.specs.inner.Keys.{AreLeast, IsLeast};
-ghost use Rattle.feature_core.specs.inner.Made.{IsMaterial, IsValueOf, AreMade, AreMadeBelow, edge_end};
+ghost use Rattle.feature_core.specs.inner.Alike.{AreNear, IsAdded, IsAppended};
+ghost use Rattle.feature_core.specs.inner.Keys.{AreLeast};
+ghost use Rattle.feature_core.specs.inner.Made.{IsMaterial, IsRun, AreMade, AreMadeBelow, AreWholeKeys, edge_end};
 ghost use Rattle.feature_links.specs.NamedLinks.{AreNamedLinks};
 ghost use Rattle.feature_core.specs.inner.Collects.{AreWarningsBelow};
 ghost use Rattle.feature_core.specs.Nodes.{first_nodes, node_packages};
@@ -21,7 +21,7 @@ use crate::candidates::collect_package;
 use crate::collected::Collected;
 use crate::edge_list::EdgeList;
 use crate::edges::{Material, edge_of};
-use crate::key::{CandidateKind, Key, keep_least_of};
+use crate::key::{CandidateKind, Key, split_run};
 use crate::near_keys::NearKeys;
 use crate::nodes::NodeTable;
 use crate::numbers::Numbers;
@@ -59,119 +59,126 @@ pub(crate) struct MadeEdges {
     weak: IndexMap<usize, usize>,
 }
 
-/// Buffers that packages share: a package's keys beside the warnings so far, the least key of each pair, and recent keys.
+/// Buffers that packages share: a package's keys beside the warnings so far, and recent keys.
 #[derive(Drop)]
 struct Room {
     collected: Collected,
-    kept: Vec<Key>,
     near: NearKeys,
 }
 
 impl Room {
     /// Returns empty buffers.
     fn new(alloc: Global) -> Result<Room, AllocError>
-        ensures { IfOk result (λ room. (t : Tables) → AreWarningsBelow t 0 room.collected) }
+        ensures warnings { IfOk result (λ room. (t : Tables) → AreWarningsBelow t 0 room.collected) }
+        ensures near { IfOk result (λ room. (i : ℕ) (x : KeyValue) (number : ℕ) → slice_get room.near i ≡ Some (x, number) → x.kind ≡ CandidateKind.FeatureToBase) }
     {
         let near = NearKeys::new(alloc)?;
         Ok(Room {
             collected: Collected::new(alloc),
-            kept: Vec::new(alloc),
             near,
         })
     }
 }
 
 impl MadeEdges {
-    /// Builds and appends the edge of `key`, whose weak link is noted.
+    /// Builds and appends the edge of `key`, whose weak link is noted. `run` has the keys of its pair.
     fn make(
         &mut self,
         alloc: Global,
         material: Material<'_, '_>,
         key: Key,
+        run: &[Key],
     ) -> Result<(), AllocError>
         requires material { IsMaterial material }
         requires of_tables { IsOfTables material.numbers.graph.now key }
-        requires least { IsLeast material.keys.now key }
+        requires run { IsRun material.numbers.graph.now key run.now }
         requires noted { key.kind ≡ CandidateKind.SlashWeak → Contains (keys self.now.weak) key.source }
-        ensures { OnOk result ((f : EdgeFacts) × IsAppended key f self.old self.new × ((rest : List ℕ) → IsValueOf material.entry.numbers.graph.now (keys self.old.weak ++ rest) key f)) }
+        ensures { OnOk result (IsAdded material.entry.numbers.graph.now key self.old self.new) }
     {
-        let edge = edge_of(alloc, material, &self.weak, key)?;
+        let edge = edge_of(alloc, material, &self.weak, key, run)?;
         self.ends.push(edge_end(key, &edge))?;
         self.edges.push(edge)?;
         Ok(())
     }
 
-    /// Appends the edge `back` places before the end as the edge of `key`.
-    fn repeat(&mut self, key: Key, back: usize) -> Result<(), AllocError>
-        requires some { 0 < back }
-        requires within { back ≤ length self.now.edges }
-        ensures { OnOk result ((f : EdgeFacts) × IsAppended key f self.old self.new × (slice_get self.old.edges (length self.old.edges - back) ≡ Some f)) }
+    /// Appends edge `number` again, as the edge of `key`.
+    fn repeat(&mut self, key: Key, number: usize) -> Result<(), AllocError>
+        requires { number < length self.now.edges }
+        ensures { OnOk result ((f : EdgeFacts) → slice_get self.old.edges number ≡ Some f → IsAppended key f self.old self.new) }
     {
-        let number = self.edges.len() - back;
         let end = edge_end(key, self.edges.get(number));
         self.ends.push(end)?;
         self.edges.repeat(number)?;
         Ok(())
     }
 
-    /// Appends the edge of key `ix`, whose weak link is noted. If a recent key has an equal edge, that edge is repeated.
+    /// Appends the edge of `key`, whose weak link is noted. If a recent key is alike, its edge is repeated.
     fn add_noted(
         &mut self,
         alloc: Global,
         material: Material<'_, '_>,
         near: &mut NearKeys,
-        kept: &[Key],
-        ix: usize,
+        key: Key,
+        run: &[Key],
     ) -> Result<(), AllocError>
         requires material { IsMaterial material }
-        requires kept { AreLeast material.keys.now kept.now }
-        requires within { ix < length kept.now }
-        requires long { ix ≤ length self.now.edges }
-        requires noted { (x : KeyValue) → slice_get kept.now ix ≡ Some x → x.kind ≡ CandidateKind.SlashWeak → Contains (keys self.now.weak) x.source }
-        ensures { OnOk result ((x : KeyValue) → slice_get kept.now ix ≡ Some x → IsNext material.entry.numbers.graph.now kept.now ix x self.old self.new) }
+        requires of_tables { IsOfTables material.numbers.graph.now key }
+        requires run { IsRun material.numbers.graph.now key run.now }
+        requires noted { key.kind ≡ CandidateKind.SlashWeak → Contains (keys self.now.weak) key.source }
+        requires near { AreNear material.numbers.graph.now self.now near.now }
+        ensures added { OnOk result (IsAdded material.entry.numbers.graph.now key self.old self.new) }
+        ensures near { OnOk result (AreNear material.entry.numbers.graph.now self.new near.new) }
     {
         material.numbers.graph.facts();
-        let key = kept[ix];
-        match near.alike_before(material.numbers, kept, ix, key) {
-            Some(earlier) => self.repeat(key, ix - earlier),
-            None => self.make(alloc, material, key),
+        match near.alike(material.numbers, key) {
+            Some(number) => self.repeat(key, number),
+            None => {
+                near.insert(key, self.edges.len());
+                self.make(alloc, material, key, run)
+            }
         }
     }
 
-    /// Appends the edge of key `ix`.
+    /// Appends the edge of `key`. `run` has the keys of its pair.
     fn add(
         &mut self,
         alloc: Global,
         material: Material<'_, '_>,
         near: &mut NearKeys,
-        kept: &[Key],
-        ix: usize,
+        key: Key,
+        run: &[Key],
     ) -> Result<(), AllocError>
         requires material { IsMaterial material }
-        requires kept { AreLeast material.keys.now kept.now }
-        requires within { ix < length kept.now }
-        requires long { ix ≤ length self.now.edges }
-        ensures made { OnOk result ((done : List KeyValue) → AreMade material.entry.numbers.graph.now (done ++ take ix kept.now) self.old → AreMade material.entry.numbers.graph.now (done ++ take (ix + 1) kept.now) self.new) }
-        ensures long { OnOk result (ix + 1 ≤ length self.new.edges) }
+        requires of_tables { IsOfTables material.numbers.graph.now key }
+        requires run { IsRun material.numbers.graph.now key run.now }
+        requires near { AreNear material.numbers.graph.now self.now near.now }
+        ensures made { OnOk result ((done : List KeyValue) → AreMade material.entry.numbers.graph.now done self.old → AreMade material.entry.numbers.graph.now (done ++ key ∷ []) self.new) }
+        ensures near { OnOk result (AreNear material.entry.numbers.graph.now self.new near.new) }
     {
-        note_gate(&mut self.weak, material.numbers, kept[ix])?;
-        self.add_noted(alloc, material, near, kept, ix)
+        note_gate(&mut self.weak, material.numbers, key)?;
+        self.add_noted(alloc, material, near, key, run)
     }
 
-    /// Appends the edges of the least keys of a package.
+    /// Appends the edges of sorted keys, one for each pair.
     fn add_all(
         &mut self,
         alloc: Global,
         material: Material<'_, '_>,
         near: &mut NearKeys,
-        kept: &[Key],
+        keys: &[Key],
     ) -> Result<(), AllocError>
         requires material { IsMaterial material }
-        requires kept { AreLeast material.keys.now kept.now }
-        ensures { OnOk result ((done : List KeyValue) → AreMade material.entry.numbers.graph.now done self.old → AreMade material.entry.numbers.graph.now (done ++ kept.now) self.new) }
+        requires keys { AreWholeKeys material.numbers.graph.now keys.now }
+        requires near { AreNear material.numbers.graph.now self.now near.now }
+        ensures made { OnOk result ((kept : List KeyValue) × AreLeast keys.now kept × ((done : List KeyValue) → AreMade material.entry.numbers.graph.now done self.old → AreMade material.entry.numbers.graph.now (done ++ kept) self.new)) }
+        ensures near { OnOk result (AreNear material.entry.numbers.graph.now self.new near.new) }
     {
-        for ix in 0..kept.len() {
-            self.add(alloc, material, near, kept, ix)?;
+        let mut rest = keys;
+        while rest.len() > 0 {
+            let key = rest[0];
+            let (run, later) = split_run(rest, key);
+            self.add(alloc, material, near, key, run)?;
+            rest = later;
         }
         Ok(())
     }
@@ -191,18 +198,18 @@ impl MadeEdges {
         requires package { ix < length numbers.graph.now.packages }
         requires made { AreMadeBelow numbers.graph.now ix self.old }
         requires warnings { AreWarningsBelow numbers.graph.now ix room.old.collected }
+        requires near { AreNear numbers.graph.now self.now room.now.near }
         ensures made { OnOk result (AreMadeBelow numbers.entry.graph.now (ix + 1) self.new) }
         ensures warnings { OnOk result (AreWarningsBelow numbers.entry.graph.now (ix + 1) room.new.collected) }
+        ensures near { OnOk result (AreNear numbers.entry.graph.now self.new room.new.near) }
     {
         collect_package(&mut room.collected, alloc, numbers, groups, ix)?;
-        keep_least_of(&mut room.kept, &room.collected.keys)?;
         let material = Material {
             numbers,
             packages,
             groups,
-            keys: room.collected.keys.as_slice(),
         };
-        self.add_all(alloc, material, &mut room.near, &room.kept)?;
+        self.add_all(alloc, material, &mut room.near, &room.collected.keys)?;
         Ok(())
     }
 
@@ -219,8 +226,10 @@ impl MadeEdges {
         requires links { AreNamedLinks numbers.graph.now groups.now }
         requires made { AreMadeBelow numbers.graph.now 0 self.old }
         requires warnings { AreWarningsBelow numbers.graph.now 0 room.old.collected }
+        requires near { AreNear numbers.graph.now self.now room.now.near }
         ensures made { OnOk result (AreMadeBelow numbers.entry.graph.now (length numbers.entry.graph.now.packages) self.new) }
         ensures warnings { OnOk result (AreWarningsBelow numbers.entry.graph.now (length numbers.entry.graph.now.packages) room.new.collected) }
+        ensures near { OnOk result (AreNear numbers.entry.graph.now self.new room.new.near) }
     {
         for ix in 0..numbers.graph.package_count() {
             self.add_package(alloc, numbers, packages, groups, room, ix)?;

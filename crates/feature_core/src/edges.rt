@@ -1,21 +1,18 @@
 //! The edge of a key.
-ghost use Rattle.std.specs.Prelude.{◌≡◌, ◌==◌, ◌++◌, ◌<◌, ◌⊎◌, ℕ, AllPairs, Contains, IfOk, List, length, map, position};
+ghost use Rattle.std.specs.Prelude.{◌≡◌, ◌==◌, ◌++◌, ◌<◌, ◌⊎◌, ℕ, Contains, IfOk, List, length, map, position};
 ghost use Rattle.std.specs.Option.{option_map_or};
 ghost use Rattle.indexmap.specs.IndexMap.{keys};
 ghost use Rattle.std.specs.List.{dedup};
 ghost use Rattle.std.proofs.Common.{eqb};
 ghost use Rattle.guppy_packages.specs.Rows.{Text};
 ghost use Rattle.feature_labels.specs.Names.LabelName.{base, named, optional};
-ghost use Rattle.feature_core.specs.declared.key.Key.{Key as KeyValue};
 ghost use Rattle.feature_links.specs.Links.{by_name};
-ghost use Rattle.feature_core.specs.inner.Keys.{IsLeast, IsNoLater, IsRun};
-ghost use Rattle.feature_core.specs.inner.Made.{IsMaterial, IsValueOf};
+ghost use Rattle.feature_core.specs.inner.Made.{IsMaterial, IsRun, IsValueOf};
 ghost use Rattle.feature_core.specs.Nodes.{NodeAt};
 ghost use Rattle.feature_core.specs.inner.Parts.{IsOfTables};
 ghost use Rattle.feature_links.specs.Values.{link_facts, edge_facts, weak_number};
 
-use crate::edge_list::EdgeList;
-use crate::key::{CandidateKind, Key, run_of};
+use crate::key::{CandidateKind, Key};
 use crate::numbers::{Numbers, label_at};
 use feature_labels::{FeatureLabel, LinkDeclarations};
 use feature_links::{
@@ -26,14 +23,12 @@ use indexmap::IndexMap;
 use smallvec::SmallVec;
 use std::alloc::{AllocError, Global};
 
-/// The input for the edges of a package's nodes: the numbers of nodes, the package of each node, the links by package and name,
-/// and the package's sorted keys.
+/// The input for edges: the numbers of nodes, the package of each node, and the links by package and name.
 #[derive(Clone, Copy)]
 pub(crate) struct Material<'a, 'g> {
     pub(crate) numbers: Numbers<'g>,
     pub(crate) packages: &'a [usize],
     pub(crate) groups: &'a LinkGroups<'g>,
-    pub(crate) keys: &'a [Key],
 }
 
 /// Returns the name of node `ix`, which is no base.
@@ -87,17 +82,11 @@ fn places_of(alloc: Global, keys: &[Key]) -> Result<SmallVec<usize, 2>, AllocErr
     Ok(places)
 }
 
-/// Returns the places of the declarations that request the edge from `from` to `to`, ascending.
-fn places_at(
-    alloc: Global,
-    sorted: &[Key],
-    from: u32,
-    to: u32,
-) -> Result<SmallVec<usize, 2>, AllocError>
-    requires { AllPairs IsNoLater sorted.now }
-    ensures { IfOk result (λ places. (run : List KeyValue) × IsRun sorted.now from to run × (places.items ≡ dedup eqb (map (λ y. y.place) run))) }
+/// Returns the places of the declarations in a run of keys of one pair, ascending.
+fn places_in(alloc: Global, run: &[Key]) -> Result<SmallVec<usize, 2>, AllocError>
+    ensures { IfOk result (λ places. places.items ≡ dedup eqb (map (λ y. y.place) run.now)) }
 {
-    let mut places = places_of(alloc, run_of(sorted, from, to))?;
+    let mut places = places_of(alloc, run)?;
     places.dedup();
     Ok(places)
 }
@@ -226,21 +215,22 @@ fn weak_edge(
     })
 }
 
-/// Returns the edge of the declarations that request a pair of nodes.
+/// Returns the edge of the declarations that request a pair of nodes, whose keys are `run`.
 fn section_edge(
     alloc: Global,
     material: Material<'_, '_>,
     key: Key,
+    run: &[Key],
 ) -> Result<FeatureEdge, AllocError>
     requires material { IsMaterial material }
     requires of_tables { IsOfTables material.numbers.graph.now key }
     requires kind { key.kind ≡ CandidateKind.Section }
-    requires least { IsLeast material.keys.now key }
+    requires run { IsRun material.numbers.graph.now key run.now }
     ensures { IfOk result (λ edge. (weak : List ℕ) → IsValueOf material.entry.numbers.graph.now weak key (edge_facts edge)) }
 {
     material.numbers.graph.facts();
     let which = half_from(material, key.from as usize);
-    let places = places_at(alloc, material.keys, key.from, key.to)?;
+    let places = places_in(alloc, run)?;
     let link = section_link(
         alloc,
         material.numbers.graph,
@@ -251,15 +241,16 @@ fn section_edge(
     Ok(FeatureEdge::DependenciesSection(link))
 }
 
-/// Returns the edge of `key`, which is the least of its pair. If it is weak, its weak link is noted in `table`.
+/// Returns the edge of `key`, the first of the keys of its pair, `run`. If it is weak, its weak link is noted in `table`.
 pub(crate) fn edge_of(
     alloc: Global,
     material: Material<'_, '_>,
     table: &IndexMap<usize, usize>,
     key: Key,
+    run: &[Key],
 ) -> Result<FeatureEdge, AllocError>
     requires noted { key.kind ≡ CandidateKind.SlashWeak → Contains (keys table.now) key.source }
-    requires least { IsLeast material.keys.now key }
+    requires run { IsRun material.numbers.graph.now key run.now }
     requires material { IsMaterial material }
     requires of_tables { IsOfTables material.numbers.graph.now key }
     ensures { IfOk result (λ edge. (rest : List ℕ) → IsValueOf material.entry.numbers.graph.now (keys table.now ++ rest) key (edge_facts edge)) }
@@ -272,6 +263,6 @@ pub(crate) fn edge_of(
         CandidateKind::SlashFull => full_edge(alloc, material, key),
         CandidateKind::SlashOptional => beside_edge(alloc, material, key),
         CandidateKind::SlashWeak => weak_edge(alloc, material, table, key),
-        CandidateKind::Section => section_edge(alloc, material, key),
+        CandidateKind::Section => section_edge(alloc, material, key, run),
     }
 }

@@ -1,6 +1,7 @@
-//! Candidates for edges as small keys, and the least key of each pair of nodes.
-ghost use Rattle.std.specs.Prelude.{◌≡◌, ◌≤◌, ◌↔◌, IsTrue, IsPermutation, AllPairs, OnOk, length};
-ghost use Rattle.feature_core.specs.inner.Keys.{IsNoLater, AreLeast, IsRun, is_pair_below, is_pair_up_to};
+//! Candidates for edges as small keys, and the runs of keys of one pair.
+ghost use Rattle.std.specs.Prelude.{◌≡◌, ◌≤◌, ◌↔◌, All, IsTrue, IsPermutation, AllPairs, OnOk, Some, length, slice_get, take};
+ghost use Rattle.feature_core.specs.declared.key.Key.{Key as KeyValue};
+ghost use Rattle.feature_core.specs.inner.Keys.{IsNoLater, IsPair, IsSplitRun};
 
 use std::alloc::{AllocError, Global};
 
@@ -82,40 +83,33 @@ pub(crate) fn sort_keys_from(
     sort_end(alloc, keys.as_mut_slice(), start)
 }
 
-/// Keeps the least key of each pair; `keys` are sorted.
-fn keep_least(keys: &mut Vec<Key>)
-    requires { AllPairs IsNoLater keys.old.items }
-    ensures { AreLeast keys.old.items keys.new.items }
+/// Returns whether two keys are of one pair.
+fn is_pair(a: Key, b: Key) -> bool
+    ensures { IsTrue result ↔ IsPair a b }
 {
-    keys.dedup_by_key(|key| (key.from, key.to));
+    a.from == b.from && a.to == b.to
 }
 
-/// Sets `kept` to the least key of each pair; `keys` are sorted.
-pub(crate) fn keep_least_of(kept: &mut Vec<Key>, keys: &[Key]) -> Result<(), AllocError>
-    requires { AllPairs IsNoLater keys.now }
-    ensures { OnOk result (AreLeast keys.now kept.new.items) }
+/// Returns the number of keys at the front of `keys` that are of the pair of `key`.
+fn run_length(keys: &[Key], key: Key) -> usize
+    ensures within { result ≤ length keys.now }
+    ensures same { All (IsPair key) (take result keys.now) }
+    ensures end { (y : KeyValue) → slice_get keys.now result ≡ Some y → IsPair key y → ⊥ }
 {
-    kept.clear();
-    kept.extend_from_slice(keys)?;
-    keep_least(kept);
-    Ok(())
+    for ix in 0..keys.len() {
+        if !is_pair(key, keys[ix]) {
+            return ix;
+        }
+    }
+    keys.len()
 }
 
-/// Returns the keys of the pair `from`, `to`; `keys` are sorted.
-pub(crate) fn run_of(keys: &[Key], from: u32, to: u32) -> &[Key]
-    requires { AllPairs IsNoLater keys.now }
-    ensures { IsRun keys.now from to result.now }
+/// Splits sorted keys, of which `key` is the first, after those of its pair.
+pub(crate) fn split_run(keys: &[Key], key: Key) -> (&[Key], &[Key])
+    requires ordered { AllPairs IsNoLater keys.now }
+    requires first { slice_get keys.now 0 ≡ Some key }
+    ensures { IsSplitRun keys.now key result.0.now result.1.now }
 {
-    let end = keys.partition_point(
-        |key: &Key| -> bool
-            ensures { result ≡ is_pair_up_to from to key.now }
-        { key.from < from || (key.from == from && key.to <= to) },
-    );
-    let below = &keys[..end];
-    let first = below.partition_point(
-        |key: &Key| -> bool
-            ensures { result ≡ is_pair_below from to key.now }
-        { key.from < from || (key.from == from && key.to < to) },
-    );
-    &below[first..]
+    let count = run_length(keys, key);
+    keys.split_at(count)
 }

@@ -1,7 +1,7 @@
-//! Earlier keys of a package whose edges are equal.
-ghost use Rattle.std.specs.Prelude.{◌≡◌, ◌<◌, IfSome, IsTrue, Some, length, slice_get};
+//! Earlier keys whose edges are equal.
+ghost use Rattle.std.specs.Prelude.{◌≡◌, ◌<◌, ◌⊎◌, ℕ, IfOk, IfSome, IsTrue, Some, length, slice_get};
 ghost use Rattle.feature_core.specs.declared.key.Key.{Key as KeyValue};
-ghost use Rattle.feature_core.specs.inner.Alike.{AreAlike, IsAlikeBefore, IsSingle, SharesSubject};
+ghost use Rattle.feature_core.specs.inner.Alike.{AreAlike, IsAlikeAt, IsSingle, SharesSubject};
 ghost use Rattle.feature_core.specs.inner.Parts.{IsOfTables};
 
 use crate::key::{CandidateKind, Key};
@@ -9,16 +9,17 @@ use crate::numbers::Numbers;
 use std::alloc::{AllocError, Global};
 use std::marker::Model;
 
-/// A table of recent keys of a package: each slot contains the index of a key.
+/// A table of recent keys, each with the number of its edge. Keys that are alike have one slot.
 #[derive(Drop)]
 pub(crate) struct NearKeys {
-    slots: Vec<u32>,
+    slots: Vec<(Key, usize)>,
 }
 
 impl Model for NearKeys {
     ghost use Rattle.std.specs.Prelude.{◌≡◌, ℕ, List, length};
+    ghost use Rattle.feature_core.specs.declared.key.Key.{Key as KeyValue};
 
-    ghost Value = { List ℕ };
+    ghost Value = { List (KeyValue × ℕ) };
 
     ghost view = { λ n. n.slots.items };
 
@@ -74,44 +75,44 @@ fn are_alike(numbers: Numbers<'_>, earlier: Key, key: Key) -> bool
     }
 }
 
-/// Returns whether key `near` of `kept` is alike to `key`: their edges are equal.
-fn is_alike_at(numbers: Numbers<'_>, kept: &[Key], near: usize, key: Key) -> bool
-    requires { IsOfTables numbers.graph.now key }
-    ensures { IsTrue result → ((x : KeyValue) × (slice_get kept.now near ≡ Some x) × AreAlike numbers.entry.graph.now x key) }
-{
-    if near < kept.len() {
-        return are_alike(numbers, kept[near], key);
-    }
-    false
-}
+/// A key whose edge equals no other key's.
+const NO_KEY: Key = Key {
+    from: 0,
+    to: 0,
+    kind: CandidateKind::FeatureToBase,
+    source: 0,
+    place: 0,
+};
 
 impl NearKeys {
     /// Returns a table with no keys.
-    pub(crate) fn new(alloc: Global) -> Result<NearKeys, AllocError> {
-        let slots = vec![in alloc; 0u32; 4_096]?;
+    pub(crate) fn new(alloc: Global) -> Result<NearKeys, AllocError>
+        ensures { IfOk result (λ near. (i : ℕ) (x : KeyValue) (number : ℕ) → slice_get near i ≡ Some (x, number) → x.kind ≡ CandidateKind.FeatureToBase) }
+    {
+        let mut slots = Vec::with_capacity(alloc, 4_096)?;
+        for _ in 0..4_096usize {
+            slots.push((NO_KEY, 0))?;
+        }
         Ok(NearKeys { slots })
     }
 
-    /// Returns the index of an earlier key alike to `key`, if that key is the last one in the slot. Then `key` takes the slot, if
-    /// `ix` fits in 32 bits.
-    pub(crate) fn alike_before(
-        &mut self,
-        numbers: Numbers<'_>,
-        kept: &[Key],
-        ix: usize,
-        key: Key,
-    ) -> Option<usize>
+    /// Returns the number of the edge of an earlier key that is alike to `key`, if that key is in its slot.
+    pub(crate) fn alike(&self, numbers: Numbers<'_>, key: Key) -> Option<usize>
         requires { IsOfTables numbers.graph.now key }
-        ensures { IfSome result (λ near. IsAlikeBefore numbers.entry.graph.now kept.now ix key near) }
+        ensures { IfSome result (λ number. IsAlikeAt numbers.entry.graph.now self.now key number) }
     {
-        let slot = key_slot(key);
-        let near = self.slots[slot] as usize;
-        if ix <= u32::MAX as usize {
-            self.slots[slot] = ix as u32;
-        }
-        if near < ix && is_alike_at(numbers, kept, near, key) {
-            return Some(near);
+        let (earlier, number) = self.slots[key_slot(key)];
+        if are_alike(numbers, earlier, key) {
+            return Some(number);
         }
         None
+    }
+
+    /// Puts `key` into its slot, with the number of its edge.
+    pub(crate) fn insert(&mut self, key: Key, number: usize)
+        ensures { (i : ℕ) (x : KeyValue) (n : ℕ) → slice_get self.new i ≡ Some (x, n) → ((x ≡ key) × (n ≡ number)) ⊎ (slice_get self.old i ≡ Some (x, n)) }
+    {
+        let slot = key_slot(key);
+        self.slots[slot] = (key, number);
     }
 }

@@ -1,12 +1,13 @@
 -- Keys whose edges are equal, as the keys show.
-use Rattle.std.specs.Prelude.{◌≡◌, ℕ, ◌<◌, ◌⊎◌, List, [], ◌∷◌, ◌++◌, Some, length, map, slice_get, take}
+use Rattle.std.specs.Prelude.{◌≡◌, ℕ, ◌⊎◌, List, [], ◌∷◌, ◌++◌, Some, length, map, slice_get}
 use Rattle.guppy_packages.specs.Tables.{LinkTable, Tables}
 use Rattle.feature_links.specs.Links.{IsLink}
 use Rattle.feature_links.specs.Facts.{EdgeFacts}
-use Rattle.feature_core.specs.declared.key.CandidateKind.TheVariants.{DepColon, SlashFull, SlashOptional, SlashWeak, Section}
+use Rattle.feature_core.specs.declared.key.CandidateKind.TheVariants.{FeatureToBase, DepColon, SlashFull, SlashOptional, SlashWeak, Section}
 use Rattle.feature_core.specs.declared.key.Key.{Key}
 use Rattle.feature_core.specs.declared.edge_table.MadeEdges.{MadeEdges}
-use Rattle.feature_core.specs.inner.Made.{AreValues, IsValueOf, edge_end}
+use Rattle.feature_core.specs.inner.Made.{IsValueOf, edge_end}
+use Rattle.feature_core.specs.inner.Parts.{IsOfTables}
 
 -- Package link `k` has exactly one declaration.
 abbrev pub IsSingle : Tables → ℕ → Type 0
@@ -22,11 +23,22 @@ pub record AreAlike (t : Tables) (x y : Key) : Type 0 where
   pub kind : x.kind ≡ y.kind
   pub subject : SharesSubject t x y
 
--- Key `near` of `kept` is earlier than `ix` and alike to `y`.
-pub record IsAlikeBefore (t : Tables) (kept : List Key) (ix : ℕ) (y : Key) (near : ℕ) : Type 0 where
-  pub before : near < ix
+-- Edge `number` is that of key `x`, for any weak links that follow.
+pub record HasEdge (t : Tables) (m : MadeEdges) (x : Key) (number : ℕ) : Type 0 where
+  pub of_tables : IsOfTables t x
+  pub says : EdgeFacts
+  pub at : slice_get m.edges number ≡ Some says
+  pub value : (rest : List ℕ) → IsValueOf t (map (λ e. e.0) m.weak.entries ++ rest) x says
+
+-- Each slot has a key and the number of its edge, or is empty: it has a key that is alike to none.
+abbrev pub AreNear : Tables → MadeEdges → List (Key × ℕ) → Type 0
+AreNear t m slots = (i : ℕ) (x : Key) (number : ℕ) → slice_get slots i ≡ Some (x, number) → (x.kind ≡ FeatureToBase) ⊎ HasEdge t m x number
+
+-- A slot has a key that is alike to `y`, and this number.
+pub record IsAlikeAt (t : Tables) (slots : List (Key × ℕ)) (y : Key) (number : ℕ) : Type 0 where
+  pub slot : ℕ
   pub x : Key
-  pub at : slice_get kept near ≡ Some x
+  pub at : slice_get slots slot ≡ Some (x, number)
   pub alike : AreAlike t x y
 
 -- The edge `f` of key `x` is appended.
@@ -35,8 +47,8 @@ pub record IsAppended (x : Key) (f : EdgeFacts) (old new : MadeEdges) : Type 0 w
   pub edges : new.edges ≡ old.edges ++ f ∷ []
   pub ends : new.ends ≡ old.ends ++ edge_end x f ∷ []
 
--- The edge of key `x` at `ix` is appended, and it is correct if the edges of all earlier keys are.
-pub record IsNext (t : Tables) (kept : List Key) (ix : ℕ) (x : Key) (old new : MadeEdges) : Type 0 where
+-- The edge of key `x` is appended, and it is correct for any weak links that follow.
+pub record IsAdded (t : Tables) (x : Key) (old new : MadeEdges) : Type 0 where
   pub says : EdgeFacts
   pub appended : IsAppended x says old new
-  pub value : (done : List Key) (weak : List ℕ) → AreValues t (map (λ e. e.0) old.weak.entries ++ weak) (done ++ take ix kept) old.edges → IsValueOf t (map (λ e. e.0) old.weak.entries ++ weak) x says
+  pub value : (rest : List ℕ) → IsValueOf t (map (λ e. e.0) new.weak.entries ++ rest) x says

@@ -1,5 +1,5 @@
 -- Candidates as keys, and the least key of each pair.
-use Rattle.std.specs.Prelude.{◌≡◌, ℕ, ◌<◌, ◌≤◌, ◌⊎◌, List, Contains, AllPairs, Bool, true, ◌==◌, ◌&&◌, ◌||◌, ◌↔◌, nat_lt, nat_le}
+use Rattle.std.specs.Prelude.{◌≡◌, ℕ, ◌<◌, ◌≤◌, ◌⊎◌, List, Contains, AllPairs, All, true, Some, ◌++◌, slice_get}
 use Rattle.guppy_support.specs.declared.digraph.Edge.{Edge as End}
 use Rattle.feature_core.specs.declared.key.CandidateKind.{CandidateKind}
 use Rattle.feature_core.specs.declared.key.CandidateKind.TheVariants.{FeatureToBase, NamedFeature, DepColon, SlashFull, SlashOptional, SlashWeak, Section}
@@ -41,22 +41,14 @@ IsUpTo a b = IsBefore a b ⊎ (IsPair a b × (rank a.kind ≤ rank b.kind))
 abbrev pub IsNoLater : Key → Key → Type 0
 IsNoLater a b = IsBefore a b ⊎ (IsPair a b × ((rank a.kind < rank b.kind) ⊎ ((a.kind ≡ b.kind) × ((a.source < b.source) ⊎ ((a.source ≡ b.source) × (a.place ≤ b.place))))))
 
--- Whether the key's pair is before this pair; whether it is no later.
-abbrev pub is_pair_below : ℕ → ℕ → Key → Bool
-is_pair_below from to y = nat_lt y.from from || ((y.from == from) && nat_lt y.to to)
-
-abbrev pub is_pair_up_to : ℕ → ℕ → Key → Bool
-is_pair_up_to from to y = nat_lt y.from from || ((y.from == from) && nat_le y.to to)
-
--- `run` has exactly the keys of one pair, in order.
-pub record IsRun (keys : List Key) (from to : ℕ) (run : List Key) : Type 0 where
+-- `run` has the keys of the pair of `key`, the first of `keys`, and `later` has the keys after them.
+pub record IsSplitRun (keys : List Key) (key : Key) (run later : List Key) : Type 0 where
+  pub whole : keys ≡ run ++ later
+  pub first : slice_get run 0 ≡ Some key
   pub ordered : AllPairs IsNoLater run
-  pub exact : (y : Key) → Contains run y ↔ (Contains keys y × (y.from ≡ from) × (y.to ≡ to))
-
--- `x` is one of the keys, and none of its pair has a lower rank.
-pub record IsLeast (keys : List Key) (x : Key) : Type 0 where
-  pub is_key : Contains keys x
-  pub least : (y : Key) → Contains keys y → IsPair x y → rank x.kind ≤ rank y.kind
+  pub same : All (IsPair key) run
+  pub rest_ordered : AllPairs IsNoLater later
+  pub apart : All (IsBefore key) later
 
 -- A kept key of the pair of `b` has no higher rank.
 pub record IsServed (kept : List Key) (b : Key) : Type 0 where

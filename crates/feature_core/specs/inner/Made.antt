@@ -7,7 +7,7 @@ use Rattle.feature_core.specs.Nodes.{node_packages}
 use Rattle.feature_core.specs.Candidates.{Edge, Candidate}
 use Rattle.feature_links.specs.Facts.{EdgeFacts, is_dev_only}
 use Rattle.feature_core.specs.Edges.{facts_of, first_ones}
-use Rattle.feature_core.specs.inner.Keys.{kind_of, IsNoLater, AreLeast}
+use Rattle.feature_core.specs.inner.Keys.{kind_of, IsNoLater, IsPair, IsBefore, AreLeast}
 use Rattle.feature_links.specs.NamedLinks.{AreNamedLinks}
 use Rattle.feature_core.specs.inner.Parts.{IsOfSource, IsOfTables}
 use Rattle.feature_core.specs.declared.key.Key.{Key}
@@ -15,14 +15,22 @@ use Rattle.feature_core.specs.inner.Weak.{AreGates, weak_sources}
 use Rattle.feature_core.specs.declared.edges.Material.{Material}
 use Rattle.feature_core.specs.declared.edge_table.MadeEdges.{MadeEdges}
 
--- The input for an edge: the numbers of nodes, the links by name, and, for each source node of a key, all keys of the tables from
--- that node.
+-- The input for edges: the numbers of nodes, and the links by name.
 pub record IsMaterial (m : Material) : Type 0 where
   pub packages : m.packages.now ≡ node_packages m.numbers.graph.now
   pub groups : AreNamedLinks m.numbers.graph.now m.groups.now
-  pub ordered : AllPairs IsNoLater m.keys.now
-  pub of_tables : (y : Key) → Contains m.keys.now y → IsOfTables m.numbers.graph.now y
-  pub whole : (x y : Key) → Contains m.keys.now x → IsOfTables m.numbers.graph.now y → y.from ≡ x.from → Contains m.keys.now y
+
+-- Sorted keys of the tables: for each source node of a key, all keys from that node.
+pub record AreWholeKeys (t : Tables) (keys : List Key) : Type 0 where
+  pub ordered : AllPairs IsNoLater keys
+  pub of_tables : (y : Key) → Contains keys y → IsOfTables t y
+  pub whole : (x y : Key) → Contains keys x → IsOfTables t y → y.from ≡ x.from → Contains keys y
+
+-- `run` has exactly the keys of the tables for the pair of `x`, in order, and `x` is the first.
+pub record IsRun (t : Tables) (x : Key) (run : List Key) : Type 0 where
+  pub first : slice_get run 0 ≡ Some x
+  pub ordered : AllPairs IsNoLater run
+  pub exact : (y : Key) → Contains run y ↔ (IsOfTables t y × IsPair x y)
 
 -- `f` is the built edge of the key's candidate, if `weak` are the weak links.
 pub record IsValueOf (t : Tables) (weak : List ℕ) (x : Key) (f : EdgeFacts) : Type 0 where
@@ -58,6 +66,16 @@ pub record AreMade (t : Tables) (kept : List Key) (m : MadeEdges) : Type 0 where
   pub gates : AreGates t m.weak.entries
   pub values : (rest : List ℕ) → AreValues t (map (λ e. e.0) m.weak.entries ++ rest) kept m.edges
   pub ends : m.ends ≡ map (λ p. edge_end p.0 p.1) (zip kept m.edges)
+
+-- The edges of the keys before `rest` are built: `new` has them after those of `old`.
+pub record AreWalked (t : Tables) (keys rest : List Key) (old new : MadeEdges) : Type 0 where
+  pub front : List Key
+  pub kept : List Key
+  pub whole : keys ≡ front ++ rest
+  pub ordered : AllPairs IsNoLater rest
+  pub least : AreLeast front kept
+  pub apart : (a b : Key) → Contains front a → Contains rest b → IsBefore a b
+  pub made : (done : List Key) → AreMade t done old → AreMade t (done ++ kept) new
 
 -- `m` is built from the least keys of the packages before `p`.
 pub record AreMadeBelow (t : Tables) (p : ℕ) (m : MadeEdges) : Type 0 where

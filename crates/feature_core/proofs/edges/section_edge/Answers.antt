@@ -30,10 +30,10 @@ returns c weak =
     let o = told_section t (names_differ t c.facts.ensures) weak x c.requires.of_tables c.requires.kind in
     let s = o.tells in
     let p = c.in_ok-places.ensures in
-    let passing = places_passing t c.facts.ensures x o.link s p.0 (run_requests t c.facts.ensures c.args.material.keys.now p.0 x c.requires.material.of_tables c.requires.material.whole c.requires.least c.requires.kind p.1) in
+    let passing = places_passing t c.facts.ensures x o.link s c.args.run.now (run_requests t c.args.run.now x c.requires.kind c.requires.run) in
     let places : c.as_slice.result.now ≡ c.in_ok-places.places.items = c.as_slice.ensures in
     let which = half_is t x o.link s c.half_from-which.result c.half_from-which.ensures.required c.half_from-which.ensures.optional in
-    let there : ArePassing (requesting s.asked s.which) s.link.declarations c.as_slice.result.now = subst (ArePassing (requesting s.asked s.which) s.link.declarations) (sym (places ∙ p.2)) passing in
+    let there : ArePassing (requesting s.asked s.which) s.link.declarations c.as_slice.result.now = subst (ArePassing (requesting s.asked s.which) s.link.declarations) (sym (places ∙ p)) passing in
     let made = c.in_ok-link.ensures s.link (requesting s.asked s.which) s.is_link there in
     let link : link_facts c.in_ok-link.link ≡ o.link = made ∙ ap (λ z. over z (requesting s.asked s.which) ((x.source, s.link) ∷ [])) which ∙ sym s.is in
     value_over t weak x section edges.section_edge (SaysSection t x) (λ l. refl) o (link_facts c.in_ok-link.link) link

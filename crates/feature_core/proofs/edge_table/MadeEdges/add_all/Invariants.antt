@@ -1,7 +1,10 @@
-use Rattle.std.proofs.Common.{List, ◌++◌, ◌≤◌, length, take}
-use Rattle.feature_core.specs.declared.key.Key.{Key}
-use Rattle.feature_core.specs.inner.Made.{AreMade}
+use Rattle.std.proofs.Common.{length}
+use Rattle.feature_core.specs.inner.Alike.{AreNear}
+use Rattle.feature_core.specs.inner.Made.{AreWalked}
 use Rattle.feature_core.proofs.edge_table.MadeEdges.add_all.Given as goal
 
-abbrev pub invariant-loop-ix : goal.invariant-loop-ix
-invariant-loop-ix l = ((done : List Key) → AreMade l.material.numbers.graph.now done l.initial.self → AreMade l.material.numbers.graph.now (done ++ take l.ix l.kept) l.self) × (l.ix ≤ length l.self.edges)
+abbrev pub invariant-loop-rest : goal.invariant-loop-rest
+invariant-loop-rest l = AreWalked l.material.numbers.graph.now l.keys l.rest l.initial.self l.self × AreNear l.material.numbers.graph.now l.self l.near
+
+abbrev pub decreases-loop-rest : goal.decreases-loop-rest
+decreases-loop-rest l = length l.rest

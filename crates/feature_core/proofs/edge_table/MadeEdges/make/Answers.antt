@@ -3,12 +3,12 @@ use Rattle.feature_links.specs.Values.{edge_facts}
 use Rattle.feature_core.proofs.edge_table.MadeEdges.make.Goals as goal
 
 pub returns : goal.returns
-returns c = (
-  edge_facts c.in_ok-edge.edge,
-  record {
+returns c = record {
+  says = edge_facts c.in_ok-edge.edge;
+  appended = record {
     weak = refl;
     edges = c.in_ok-push-2.ensures;
     ends = c.in_ok-push.ensures.pushed ∙ ap (λ z. c.args.self.now.ends ++ z ∷ []) c.edge_end.ensures;
-  },
-  c.in_ok-edge.ensures,
-)
+  };
+  value = c.in_ok-edge.ensures;
+}
