@@ -33,7 +33,9 @@ pub mod ValueLemmas
 pub mod AlikeLemmas
 pub mod NodeLabels
 pub mod WarningLemmas
-pub mod QuietLemmas
+pub mod CollectLemmas
+pub mod LeavingLinks
+pub mod PackageWarnings
 pub mod BuildLemmas
 pub mod WeakLemmas
 pub mod Determined

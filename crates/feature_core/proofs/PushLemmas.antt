@@ -7,7 +7,7 @@ use Rattle.std.specs.Cmp.Lexicographic.{bytes_decides}
 use Rattle.std.proofs.lemmas.Bool.Decides.{nat_tests}
 use Rattle.guppy_packages.specs.Rows.{Text}
 use Rattle.guppy_packages.specs.Tables.{LinkTable, Tables, FeatureTable, PackageTable, AreLinksFrom}
-use Rattle.guppy_packages.specs.Items.{Item, feature_item, slash_item, item_of}
+use Rattle.guppy_packages.specs.Items.{feature_item, slash_item, item_of}
 use Rattle.feature_labels.specs.Names.{LabelName}
 use Rattle.feature_labels.specs.Names.LabelName.{named, optional}
 use Rattle.feature_core.specs.declared.key.CandidateKind.{CandidateKind}
@@ -230,6 +230,13 @@ texts_alike c d h = (bytes_decides c d).0 (go (bytes_eq c d) h)
     go true h = refl
     go false h = cc
 
+-- equal texts and unequal ones, by the test
+pub texts_equal : (c d : Text) → true ≡ bytes_eq c d → c ≡ d
+texts_equal c d h = (bytes_decides c d).0 (sym h)
+
+pub texts_apart : (c d : Text) → false ≡ bytes_eq c d → c ≢ d
+texts_apart c d h e = true≢false (sym ((bytes_decides c d).1 e) ∙ sym h)
+
 -- an item that names a feature: the feature itself adds nothing
 pub same_feature : (t : Tables) (u p : ℕ) (f g : Text) (a : List Key) → g ≡ f → Adds (IsOfItem t u p f (feature_item g)) a a
 same_feature t u p f g a same = Adds-nothing (IsOfItem t u p f (feature_item g)) a (λ x h. h.0 same)
@@ -252,10 +259,6 @@ strong_item t u p f d g weak a b c e h i = Adds-as (λ x. ((k : ℕ) × IsOver t
     (λ x j. ⊎_elim (λ z. inl z) (λ z. inr (e, z)) j)
     (λ x j. ⊎_elim (λ z. inl z) (λ z. inr z.1) j)
     (Adds-then (λ x. (k : ℕ) × IsOver t u p d g weak k x) (IsBeside t u p f d) a b c h i)
-
--- an item's text read as this item
-pub item_read : (t : Tables) (u p : ℕ) (f : Text) (said read : Item) (a b : List Key) → said ≡ read → Adds (IsOfItem t u p f said) a b → Adds (IsOfItem t u p f read) a b
-item_read t u p f said read a b e h = subst (λ z. Adds (IsOfItem t u p f z) a b) e h
 
 -- the elements for some place below `n` are the elements for some place
 pub Adds-all : {X : Type 0} (P : ℕ → X → Type 0) (n : ℕ) (a b : List X) → ((k : ℕ) (x : X) → P k x → k < n) → Adds (Below n P) a b → Adds (λ x. (k : ℕ) × P k x) a b

@@ -1,5 +1,5 @@
 -- The keys that the declarations of a link add.
-use Rattle.std.proofs.Common.{◌≡◌, ℕ, ◌+◌, ◌<◌, ◌⊎◌, inl, inr, ⊎_elim, List, length, map, get_or, Bool, true, false, cond, refl, ap, sym, ◌∙◌, subst, Option, Some, None}
+use Rattle.std.proofs.Common.{◌≡◌, ℕ, ◌<◌, ◌⊎◌, inl, inr, ⊎_elim, List, length, map, get_or, Bool, true, false, cond, refl, ap, sym, ◌∙◌, subst, Option, Some}
 use Rattle.std.specs.Prelude.{slice_get, IsTrue, ◌||◌, ◌&&◌, ◌↔◌, codes}
 use Rattle.std.specs.Str.{bytes_eq}
 use Rattle.std.specs.List.{list_any}
@@ -21,7 +21,7 @@ use Rattle.feature_core.specs.declared.key.Key.{Key}
 use Rattle.feature_core.specs.inner.Parts.{key, IsTo, start_of, IsRequest, IsOfDeclarationAt, IsOfLinkAt}
 use Rattle.feature_core.proofs.Places.{got_same}
 use Rattle.feature_core.proofs.PartLemmas.{base_back, list_any_there, list_any_back}
-use Rattle.feature_core.proofs.AddsLemmas.{Adds-nothing, Adds-then, Adds-as, Adds-turn}
+use Rattle.feature_core.proofs.AddsLemmas.{Adds-nothing, Adds-then, Adds-as}
 
 -- a key from `u` to a node that was looked up
 abbrev pub IsToFound : ℕ → Option ℕ → CandidateKind → ℕ → ℕ → Key → Type 0
@@ -65,14 +65,13 @@ not_both false e f = cc
 pub without_default : (t : Tables) (u p k j : ℕ) (d : Declared) (a : List Key) → d.default_features ≡ false → Adds (IsByDefault t u p k j d) a a
 without_default t u p k j d a unasked = Adds-nothing (IsByDefault t u p k j d) a (λ x h. not_both d.default_features h.0 unasked)
 
--- one more of the features that d lists
-pub listed_turn : (t : Tables) (u p k j : ℕ) (d : Declared) (i : ℕ) (g : Text) (to : Option ℕ) (a b c : List Key) → slice_get d.features i ≡ Some g → IsFound t p (named g) to → Adds (Below i (IsListed t u p k j d)) a b → Adds (IsToFound u to Section k j) b c → Adds (Below (i + 1) (IsListed t u p k j d)) a c
-listed_turn t u p k j d i g to a b c at found before h =
-    Adds-turn (IsListed t u p k j d) i a b c before
-    (Adds-as (IsTo t u p (named g) Section k j) (IsListed t u p k j d i) b c
+-- the key to a feature that d lists
+pub listed : (t : Tables) (u p k j : ℕ) (d : Declared) (i : ℕ) (g : Text) (to : Option ℕ) (a b : List Key) → slice_get d.features i ≡ Some g → IsFound t p (named g) to → Adds (IsToFound u to Section k j) a b → Adds (IsListed t u p k j d i) a b
+listed t u p k j d i g to a b at found h =
+    Adds-as (IsTo t u p (named g) Section k j) (IsListed t u p k j d i) a b
     (λ x h. (g, at, h))
     (λ x h. subst (λ z. IsTo t u p (named z) Section k j x) (got_same h.0 g (sym h.1 ∙ at)) h.2)
-    (found_adds t u p (named g) Section k j to b c found h))
+    (found_adds t u p (named g) Section k j to a b found h)
 
 or_left : (a b : Bool) → a ≡ true → a || b ≡ true
 or_left true b h = refl
@@ -133,57 +132,42 @@ module _ (t : Tables) (u p k j : ℕ) (d : Declared) where
       (Adds-then (λ x. IsTo t u p base Section k j x ⊎ IsByDefault t u p k j d x) (Below i (IsListed t u p k j d)) a c e
       (Adds-then (IsTo t u p base Section k j) (IsByDefault t u p k j d) a b c first second) third)
 
--- a declaration that is not optional starts from the base
-pub start_found : (t : Tables) (link : LinkTable) (d : Declared) (p first : ℕ) → d.optional ≡ false → p ≡ link.from → first ≡ first_node t p → NodeAt t first p base → IsFound t link.from (start_of link d) (Some first)
-start_found t link d p first required q is node =
-    subst (λ label. IsFound t link.from label (Some first)) (sym (ap (λ b. cond b (optional link.name) base) required))
-    (subst (λ z. IsFound t z base (Some first)) q (base_found t p first is node))
+-- the node of a label, and no other
+pub only_node : (t : Tables) (p : ℕ) (label : LabelName) (node : ℕ) → IsFound t p label (Some node) → (n : ℕ) → (node ≡ n) ↔ NodeAt t n p label
+only_node t p label node found n = (λ e. (found n).0 (ap Some e), λ h. got_same node n ((found n).1 h))
 
--- the keys of declaration `j` of link `k`
-abbrev pub IsOfDeclaration : Tables → ℕ → ℕ → Key → Type 0
-IsOfDeclaration t k j x = (link : LinkTable) × IsLink t k link × IsOfDeclarationAt t k link j x
+-- a declaration starts from the base or from the optional dependency
+pub start_base : (t : Tables) (link : LinkTable) (d : Declared) (p first : ℕ) → d.optional ≡ false → p ≡ link.from → first ≡ first_node t p → NodeAt t first p base → (n : ℕ) → (first ≡ n) ↔ NodeAt t n link.from (start_of link d)
+start_base t link d p first required q is node =
+    subst (λ label. (n : ℕ) → (first ≡ n) ↔ NodeAt t n link.from label) (sym (ap (λ b. cond b (optional link.name) base) required))
+    (subst (λ z. (n : ℕ) → (first ≡ n) ↔ NodeAt t n z base) q (only_node t p base first (base_found t p first is node)))
 
--- the keys of declaration `d`, which is declaration `j` of link `k`
+pub start_optional : (t : Tables) (link : LinkTable) (d : Declared) (p node : ℕ) (name : Text) → d.optional ≡ true → p ≡ link.from → name ≡ link.name → IsFound t p (optional name) (Some node) → (n : ℕ) → (node ≡ n) ↔ NodeAt t n link.from (start_of link d)
+start_optional t link d p node name is q same found =
+    subst (λ label. (n : ℕ) → (node ≡ n) ↔ NodeAt t n link.from label) (sym (ap (λ b. cond b (optional link.name) base) is))
+    (subst (λ z. (n : ℕ) → (node ≡ n) ↔ NodeAt t n z (optional link.name)) q
+    (subst (λ z. (n : ℕ) → (node ≡ n) ↔ NodeAt t n p (optional z)) same (only_node t p (optional name) node found)))
+
+-- the keys of declaration `d`, which starts from `u`
 abbrev IsByStart : Tables → ℕ → ℕ → LinkTable → Declared → Key → Type 0
 IsByStart t k j link d x = (u : ℕ) × NodeAt t u link.from (start_of link d) × IsRequest t u link.to k j d x
 
-the_declaration : (t : Tables) (k j : ℕ) (link : LinkTable) (d : Declared) (x : Key) → IsLink t k link → slice_get link.declarations j ≡ Some d → IsOfDeclaration t k j x → IsByStart t k j link d x
-the_declaration t k j link d x is at h =
-    let e : h.0 ≡ link = got_same h.0 link (sym h.1 ∙ is) in
-    let m : slice_get link.declarations j ≡ Some h.2.0 = subst (λ l. slice_get l.declarations j ≡ Some h.2.0) e h.2.1 in
-    let f : h.2.0 ≡ d = got_same h.2.0 d (sym m ∙ at) in
-    subst (λ z. IsByStart t k j link z x) f (subst (λ l. IsByStart t k j l h.2.0 x) e h.2.2)
-
--- a declaration without a source node adds no keys
-pub no_start : (t : Tables) (k j : ℕ) (link : LinkTable) (d : Declared) (start : Option ℕ) (a : List Key) → IsLink t k link → slice_get link.declarations j ≡ Some d → IsFound t link.from (start_of link d) start → start ≡ None → Adds (IsOfDeclaration t k j) a a
-no_start t k j link d start a is at found none = Adds-nothing (IsOfDeclaration t k j) a (λ x h.
-    let s = the_declaration t k j link d x is at h in
-    apart s.0 (sym none ∙ (found s.0).1 s.1))
-  where
-    apart : (n : ℕ) → ◌≡◌ {A = Option ℕ} None (Some n) → ⊥
-    apart n e = cc
-
-pub by_start : (t : Tables) (k j : ℕ) (link : LinkTable) (d : Declared) (start : Option ℕ) (u p : ℕ) (a b : List Key) → IsLink t k link → slice_get link.declarations j ≡ Some d → IsFound t link.from (start_of link d) start → start ≡ Some u → p ≡ link.to → Adds (IsRequest t u p k j d) a b → Adds (IsOfDeclaration t k j) a b
-by_start t k j link d start u p a b is at found some q h =
-    Adds-as (IsRequest t u link.to k j d) (IsOfDeclaration t k j) a b
-    (λ x i. (link, is, (d, at, (u, (found u).0 some, i))))
+pub by_start : (t : Tables) (k j : ℕ) (link : LinkTable) (d : Declared) (u : ℕ) (a b : List Key) → slice_get link.declarations j ≡ Some d → ((n : ℕ) → (u ≡ n) ↔ NodeAt t n link.from (start_of link d))
+    → Adds (IsRequest t u link.to k j d) a b → Adds (IsOfDeclarationAt t k link j) a b
+by_start t k j link d u a b at from h =
+    Adds-as (IsRequest t u link.to k j d) (IsOfDeclarationAt t k link j) a b
+    (λ x i. (d, at, (u, (from u).0 refl, i)))
     (λ x i.
-    let s = the_declaration t k j link d x is at i in
-    subst (λ v. IsRequest t v link.to k j d x) (got_same s.0 u (sym ((found s.0).1 s.1) ∙ some)) s.2)
-    (subst (λ z. Adds (IsRequest t u z k j d) a b) q h)
-
--- a declaration of link k
-pub declaration_place : (t : Tables) (k j n : ℕ) (link other : LinkTable) → IsLink t k link → n ≡ length link.declarations → j < n → IsLink t k other → j < length other.declarations
-declaration_place t k j n link other is long l same =
-    subst (λ z. j < length z.declarations) (got_same link other (sym is ∙ same)) (subst (λ m. j < m) long l)
+    let s = subst (λ z. IsByStart t k j link z x) (got_same i.0 d (sym i.1 ∙ at)) i.2 in
+    subst (λ v. IsRequest t v link.to k j d x) (sym ((from s.0).1 s.1)) s.2)
+    h
 
 -- all declarations of link k
-pub of_link : (t : Tables) (k n : ℕ) (link : LinkTable) (a b : List Key) → IsLink t k link → n ≡ length link.declarations → Adds (Below n (IsOfDeclaration t k)) a b → Adds (IsOfLinkAt t k) a b
+pub of_link : (t : Tables) (k n : ℕ) (link : LinkTable) (a b : List Key) → IsLink t k link → n ≡ length link.declarations → Adds (Below n (IsOfDeclarationAt t k link)) a b → Adds (IsOfLinkAt t k) a b
 of_link t k n link a b is long h =
-    Adds-as (Below n (IsOfDeclaration t k)) (IsOfLinkAt t k) a b
-    (λ x i. (i.2.0, i.2.1, (i.0, i.2.2)))
+    Adds-as (Below n (IsOfDeclarationAt t k link)) (IsOfLinkAt t k) a b
+    (λ x i. (link, is, (i.0, i.2)))
     (λ x i.
-    let e : i.0 ≡ link = got_same i.0 link (sym i.1 ∙ is) in
-    let l : i.2.0 < length i.0.declarations = slice_get_within i.0.declarations i.2.0 i.2.1.0 i.2.1.1 in
-    (i.2.0, subst (λ m. i.2.0 < m) (sym long) (subst (λ z. i.2.0 < length z.declarations) e l), (i.0, i.1, i.2.1)))
+    let s = subst (λ z. (j : ℕ) × IsOfDeclarationAt t k z j x) (got_same i.0 link (sym i.1 ∙ is)) i.2 in
+    (s.0, subst (λ m. s.0 < m) (sym long) (slice_get_within link.declarations s.0 s.1.0 s.1.1), s.1))
     h

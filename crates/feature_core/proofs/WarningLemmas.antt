@@ -1,5 +1,5 @@
 -- Warnings, appended one after another.
-use Rattle.std.proofs.Common.{◌≡◌, ℕ, zero, suc, ◌+◌, ◌<◌, ◌≤◌, List, [], ◌∷◌, ◌++◌, Bool, true, false, cond, not, length, map, take, Option, Some, None, refl, ap, sym, ◌∙◌, arith, is_some, if◌then◌else◌}
+use Rattle.std.proofs.Common.{◌≡◌, ℕ, zero, suc, ◌+◌, ◌<◌, ◌≤◌, List, [], ◌∷◌, ◌++◌, Bool, true, false, cond, not, length, map, take, Some, None, refl, ap, sym, ◌∙◌, arith, is_some, if◌then◌else◌}
 use Rattle.std.specs.Prelude.{slice_get, position, nat_lt, flat_map, filter, ◌==◌, ◌&&◌}
 use Rattle.std.specs.List.{enumerate_from, list_any, position_or_len}
 use Rattle.std.specs.Option.{option_map_or}
@@ -13,14 +13,17 @@ use Rattle.guppy_packages.specs.Tables.{PackageTable, LinkTable, Tables}
 use Rattle.guppy_packages.proofs.ItemLemmas.{list_any-found, list_any-absent}
 use Rattle.feature_links.specs.Links.{numbered, links_named}
 use Rattle.feature_links.specs.NamedLinks.{link_numbers}
-use Rattle.feature_core.specs.inner.Quiet.{lack_by}
+use Rattle.feature_core.specs.inner.Collects.{lack_by}
 use Rattle.feature_core.specs.Warnings.{Warning, missing_feature, lack_of, lack_over, lacks_over}
 use Rattle.feature_core.proofs.NodeLemmas.{append-none, take-next}
 
 module _ {X Y : Type 0} (f : X → List Y) where
   -- one more element adds its warnings
+  pub added-more : (xs ys : List X) (x : X) (start before after : List Y) → ys ≡ xs ++ x ∷ [] → before ≡ start ++ flat_map f xs → after ≡ before ++ f x → after ≡ start ++ flat_map f ys
+  added-more xs ys x start before after e b a = a ∙ ap (λ z. z ++ f x) b ∙ flat_map_more f start xs x ∙ ap (λ z. start ++ flat_map f z) (sym e)
+
   pub added-next : (xs : List X) (i : ℕ) (x : X) (start before after : List Y) → slice_get xs i ≡ Some x → before ≡ start ++ flat_map f (take i xs) → after ≡ before ++ f x → after ≡ start ++ flat_map f (take (i + 1) xs)
-  added-next xs i x start before after at b a = a ∙ ap (λ z. z ++ f x) b ∙ flat_map_more f start (take i xs) x ∙ ap (λ z. start ++ flat_map f z) (sym (take-next xs i x at))
+  added-next xs i x start before after at b a = added-more (take i xs) (take (i + 1) xs) x start before after (take-next xs i x at) b a
 
   -- the elements before the end are all elements
   pub added-all : (xs : List X) (n : ℕ) (start end : List Y) → length xs ≤ n → end ≡ start ++ flat_map f (take n xs) → end ≡ start ++ flat_map f xs
@@ -47,6 +50,9 @@ enumerated_end xs n e = let l : length (enumerate_from 0 xs) ≡ length xs = len
 pub not_empty : {X : Type 0} (xs : List X) (b : Bool) → b ≡ (length xs == 0) → b ≡ false → 0 < length xs
 not_empty xs b e f = grind (arith, nat_tests)
 
+pub is_empty : {X : Type 0} (xs : List X) (b : Bool) → b ≡ (length xs == 0) → b ≡ true → length xs ≡ 0
+is_empty xs b e f = grind (arith, nat_tests)
+
 -- there is a first place if and only if an element passes
 pub placed-any : {X : Type 0} (p : X → Bool) (xs : List X) → is_some (position p xs) ≡ list_any p xs
 placed-any p xs = go (nat_lt (position_or_len p xs) (length xs)) refl
@@ -54,15 +60,6 @@ placed-any p xs = go (nat_lt (position_or_len p xs) (length xs)) refl
     go : (b : Bool) → nat_lt (position_or_len p xs) (length xs) ≡ b → is_some (cond b (Some (position_or_len p xs)) None) ≡ list_any p xs
     go true e = sym (list_any-found p xs (grind (arith, nat_tests)))
     go false e = let within = prefix_len-le-length (λ x. not (p x)) xs in sym (list_any-absent p xs (grind (arith, nat_tests, within)))
-
-module _ {X : Type 0} (p : X → Bool) (xs : List X) (place : Option ℕ) (none : Bool) (at : place ≡ position p xs) (tested : is_some place ≡ not none) where
-  -- no place was found
-  pub none_passes : none ≡ true → list_any p xs ≡ false
-  none_passes e = sym (placed-any p xs) ∙ sym (ap is_some at) ∙ tested ∙ ap not e
-
-  -- one was found
-  pub some_passes : none ≡ false → list_any p xs ≡ true
-  some_passes e = sym (placed-any p xs) ∙ sym (ap is_some at) ∙ tested ∙ ap not e
 
 -- a warning if a test fails, and none if it passes
 pub warned : (test : Bool) (start end : List Warning) (x : Warning) → test ≡ false → end ≡ start ++ x ∷ [] → end ≡ start ++ (if test then [] else x ∷ [])

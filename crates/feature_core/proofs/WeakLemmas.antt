@@ -9,7 +9,7 @@ use Rattle.std.proofs.lemmas.List.{append-nil}
 use Rattle.std.proofs.lemmas.List.Elements.{filter_map-append}
 use Rattle.std.proofs.lemmas.Iterator.Adapters.{position_from-zero}
 use Rattle.indexmap.specs.IndexMap.{insert_entry}
-use Rattle.guppy_packages.specs.Rows.{Text}
+use Rattle.guppy_packages.specs.Rows.{Text, Declared}
 use Rattle.guppy_packages.specs.Tables.{LinkTable, Tables, AreTables, has_name}
 use Rattle.guppy_packages.specs.Items.{Item, feature_item, optional_item, slash_item, item_of}
 use Rattle.feature_labels.specs.Names.LabelName.{optional}
@@ -23,7 +23,7 @@ use Rattle.feature_core.specs.inner.Keys.{rank}
 use Rattle.feature_core.specs.inner.Parts.{key, over_kind, IsOfItem, IsOfPackageAt, IsOfLinkAt, IsOfTables}
 use Rattle.feature_core.specs.inner.Weak.{weak_source_of, IsOptionalLink, AreGates, weak_source, weak_sources}
 use Rattle.feature_core.specs.declared.key.Key.{Key}
-use Rattle.feature_core.proofs.AddsLemmas.{Contains-first, Contains-later, Contains-cases, Contains-none}
+use Rattle.feature_core.proofs.AddsLemmas.{place_of_element, Contains-first, Contains-later, Contains-cases, Contains-none}
 use Rattle.feature_core.proofs.LabelLemmas.{optional_label}
 use Rattle.feature_core.proofs.NodeLabels.{element_within}
 use Rattle.feature_core.proofs.PartLemmas.{list_any_there, list_any_back}
@@ -192,6 +192,12 @@ optional_node t tables k link is o =
     let same : found.element ≡ link.name = sym ((bytes_decides link.name found.element).0 found.passes) in
     let at : slice_get table.0.optional_names found.place ≡ Some link.name = found.there ∙ ap Some same in
     (first_node t link.from + suc (length table.0.features + found.place), node_there t link.from (suc (length table.0.features + found.place)) table.0 (optional link.name) table.1 (optional_label table.0 found.place link.name at))
+
+-- a link with this optional declaration has a node for its name
+pub declared_node : (t : Tables) → AreTables t → (k : ℕ) (link : LinkTable) (d : Declared) → IsLink t k link → Contains link.declarations d → d.optional ≡ true → (n : ℕ) × NodeAt t n link.from (optional link.name)
+declared_node t tables k link d is there o =
+    let at = place_of_element link.declarations d there in
+    optional_node t tables k link is (list_any_there (λ d. d.optional) link.declarations at.0 d at.1 o)
 
 weak_over : (b : Bool) → cond b SlashWeak SlashFull ≡ SlashWeak → b ≡ true
 weak_over true h = refl

@@ -8,6 +8,6 @@ pub mod Asking
 pub mod Made
 pub mod Weak
 pub mod Pools
-pub mod Quiet
+pub mod Collects
 pub mod DefaultNodes
 pub mod Alike

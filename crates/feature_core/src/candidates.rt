@@ -1,21 +1,26 @@
-//! The candidates for the edges of a package's nodes, as keys, one part of the tables at a time.
-ghost use Rattle.std.specs.Prelude.{◌≡◌, ◌+◌, ◌<◌, ◌^◌, ◌↔◌, ◌&&◌, if◌then◌else◌, ℕ, AllPairs, Contains, OnOk, IsFalse, IsTrue, IfOk, Some, [], flat_map, length, slice_get};
+//! The candidates for the edges of a package's nodes, as keys, and the warnings of items, one part of the tables at a time.
+ghost use Rattle.std.specs.Prelude.{◌≡◌, ◌+◌, ◌<◌, ◌^◌, ◌↔◌, ◌&&◌, if◌then◌else◌, ℕ, AllPairs, Contains, OnOk, IsFalse, Some, [], flat_map, length};
 ghost use Rattle.feature_labels.specs.declared.link_declarations.LinkDeclarations.TheVariants.{Optional};
-ghost use Rattle.guppy_packages.specs.Items.{item_of};
+ghost use Rattle.guppy_packages.specs.Items.{feature_item, optional_item, item_of};
 ghost use Rattle.guppy_packages.specs.Metadata.{package_graph_of, package_table_of, link_table_of};
 ghost use Rattle.guppy_packages.specs.NamedFeature.{feature_table};
 ghost use Rattle.feature_labels.specs.Names.LabelName.{base, named, optional};
+ghost use Rattle.guppy_packages.specs.Rows.{Text};
 ghost use Rattle.feature_core.specs.declared.key.Key.{Key as KeyValue};
 ghost use Rattle.feature_core.specs.inner.Adds.{Adds, Below};
+ghost use Rattle.feature_core.specs.inner.Collects.{Collects, AreWarningsBelow, lack_by};
 ghost use Rattle.feature_core.specs.inner.Keys.{IsNoLater};
+ghost use Rattle.feature_links.specs.Links.{links_named};
 ghost use Rattle.feature_links.specs.NamedLinks.{AreNamedLinks};
-ghost use Rattle.feature_core.specs.inner.Quiet.{lack_by, IsQuiet, IsQuietItem, IsQuietFeature, AreQuietFeatures, IsQuietPackage};
-ghost use Rattle.feature_core.specs.inner.Parts.{key, over_kind, IsToFirst, IsOverLink, IsBeside, IsOfItem, IsOfItemAt, IsOfFeatureAt, IsOfPackageAt, IsOfSource};
+ghost use Rattle.feature_core.specs.inner.Parts.{key, over_kind, IsToFirst, IsOver, IsOverLink, IsBeside, IsOfItem, IsOfItemAt, IsOfFeatureAt, IsOfPackageAt, IsOfSource};
+ghost use Rattle.feature_core.specs.Warnings.{lacks_over, of_item, of_package};
 
+use crate::collected::Collected;
 use crate::declarations::push_links;
 use crate::key::{CandidateKind, Key, sort_keys, sort_keys_from};
 use crate::numbers::Numbers;
-use crate::quiet::{Quiet, note};
+use crate::package_input::PackageInput;
+use crate::warning::{push_lack, push_lack_of_dependency, push_missing, push_self_loop};
 use feature_labels::LinkDeclarations;
 use feature_links::{LinkGroups, is_any_included, numbers_of};
 use guppy_packages::{NamedFeature, NamedFeatureDep, PackageLink, PackageMetadata};
@@ -90,44 +95,48 @@ fn kind_over(link: PackageLink<'_>, weak: bool) -> CandidateKind
     )
 }
 
-/// Appends a key to the named feature `feature` of the target of link `ix`, if the target has it. Returns whether it does.
+/// Appends the key to the named feature `feature` of the target of link `ix`, or a warning if the target doesn't have it.
 fn push_over_link(
-    keys: &mut Vec<Key>,
-    numbers: Numbers<'_>,
+    collected: &mut Collected,
+    input: PackageInput<'_, '_>,
     from: usize,
     feature: &str,
     weak: bool,
     ix: usize,
-) -> Result<bool, AllocError>
-    requires { ix < length numbers.graph.now.links }
-    ensures keys { OnOk result (Adds (IsOverLink numbers.entry.graph.now from feature.now weak ix) keys.old.items keys.new.items) }
-    ensures quiet { IfOk result (λ there. IsTrue there → lack_by numbers.entry.graph.now feature.now ix ≡ []) }
+) -> Result<(), AllocError>
+    requires { ix < length input.numbers.graph.now.links }
+    ensures { OnOk result (Collects (IsOverLink input.entry.numbers.graph.now from feature.now weak ix) (lack_by input.entry.numbers.graph.now feature.now ix) [] collected.old collected.new) }
 {
-    let link = numbers.graph.link(ix);
-    let to = numbers.named(link.to(), feature);
-    push_to(keys, from, to, kind_over(link, weak), ix, 0)?;
-    Ok(to.is_some())
+    let link = input.numbers.graph.link(ix);
+    let target = link.to();
+    let to = input.numbers.named(target, feature);
+    push_to(&mut collected.keys, from, to, kind_over(link, weak), ix, 0)?;
+    let warnings = &mut collected.item_warnings;
+    push_lack(input.alloc, warnings, target, feature, to.is_some())
 }
 
-/// Appends a key to the named feature `feature` of each link's target that has it. Returns whether there is a link and each
-/// target has the feature.
+/// Appends the keys to the named feature `feature` of the targets of the links under `dep_name`, and a warning for each target
+/// that doesn't have it, or one if there is no such link.
 fn push_over(
-    keys: &mut Vec<Key>,
-    numbers: Numbers<'_>,
-    links: &[usize],
+    collected: &mut Collected,
+    input: PackageInput<'_, '_>,
     from: usize,
+    dep_name: &str,
     feature: &str,
     weak: bool,
-) -> Result<bool, AllocError>
-    requires { (i k : ℕ) → slice_get links.now i ≡ Some k → k < length numbers.graph.now.links }
-    ensures keys { OnOk result (Adds (λ x. (i k : ℕ) × (slice_get links.now i ≡ Some k) × IsOverLink numbers.entry.graph.now from feature.now weak k x) keys.old.items keys.new.items) }
-    ensures quiet { IfOk result (λ each_has. IsTrue each_has → (0 < length links.now) × (flat_map (lack_by numbers.entry.graph.now feature.now) links.now ≡ [])) }
+) -> Result<(), AllocError>
+    ensures { OnOk result (Collects (λ x. (k : ℕ) × IsOver input.entry.numbers.graph.now from input.entry.metadata.package_ix dep_name.now feature.now weak k x) (lacks_over input.entry.numbers.graph.now (package_table_of input.entry.metadata) dep_name.now feature.now (links_named input.entry.numbers.graph.now input.entry.metadata.package_ix dep_name.now)) [] collected.old collected.new) }
 {
-    let mut each_has = !links.is_empty();
-    for place in 0..links.len() {
-        each_has &= push_over_link(keys, numbers, from, feature, weak, links[place])?;
+    let links = numbers_of(input.groups, input.metadata.package_ix(), dep_name);
+    if links.is_empty() {
+        let name = String::from_str(input.alloc, dep_name)?;
+        let warnings = &mut collected.item_warnings;
+        return push_missing(input.alloc, warnings, input.metadata, name);
     }
-    Ok(each_has)
+    for place in 0..links.len() {
+        push_over_link(collected, input, from, feature, weak, links[place])?;
+    }
+    Ok(())
 }
 
 /// Appends the keys of a strong item to nodes of its own package: the optional dependency `dep_name`, and the feature of that
@@ -154,179 +163,169 @@ fn push_beside(
     Ok(())
 }
 
-/// Appends the keys of an item of the feature `feature_name`. Neighbours of `place` are tried first as its target. If the result
-/// is true, the item has no warning.
-fn push_item(
-    keys: &mut Vec<Key>,
-    numbers: Numbers<'_>,
-    groups: &LinkGroups<'_>,
-    metadata: PackageMetadata<'_>,
+/// Appends the key of an item of the feature `feature_name` that names `feature`, or its warning.
+fn push_feature_item(
+    collected: &mut Collected,
+    input: PackageInput<'_, '_>,
     from: usize,
     feature_name: &str,
-    place: usize,
+    feature: &str,
+) -> Result<(), AllocError>
+    ensures { OnOk result (Collects (IsOfItem input.entry.numbers.graph.now from input.entry.metadata.package_ix feature_name.now (feature_item feature.now)) (of_item input.entry.numbers.graph.now input.entry.metadata.package_ix (package_table_of input.entry.metadata) feature_name.now (feature_item feature.now)) [] collected.old collected.new) }
+{
+    let warnings = &mut collected.item_warnings;
+    if feature == feature_name {
+        return push_self_loop(input.alloc, warnings, input.metadata, feature_name);
+    }
+    let to = input.numbers.named(input.metadata, feature);
+    push_to(
+        &mut collected.keys,
+        from,
+        to,
+        CandidateKind::NamedFeature,
+        0,
+        0,
+    )?;
+    push_lack(input.alloc, warnings, input.metadata, feature, to.is_some())
+}
+
+/// Appends the key of an item, of any feature, that names the optional dependency `name`, or its warning.
+fn push_optional_item(
+    collected: &mut Collected,
+    input: PackageInput<'_, '_>,
+    from: usize,
+    name: &str,
+) -> Result<(), AllocError>
+    ensures { (f : Text) → OnOk result (Collects (IsOfItem input.entry.numbers.graph.now from input.entry.metadata.package_ix f (optional_item name.now)) (of_item input.entry.numbers.graph.now input.entry.metadata.package_ix (package_table_of input.entry.metadata) f (optional_item name.now)) [] collected.old collected.new) }
+{
+    let to = input.numbers.optional(input.metadata, name);
+    push_to(&mut collected.keys, from, to, CandidateKind::DepColon, 0, 0)?;
+    let warnings = &mut collected.item_warnings;
+    push_lack_of_dependency(input.alloc, warnings, input.metadata, name, to.is_some())
+}
+
+/// Appends the keys and warnings of an item of the feature `feature_name`.
+fn push_item(
+    collected: &mut Collected,
+    input: PackageInput<'_, '_>,
+    from: usize,
+    feature_name: &str,
     item: &str,
-) -> Result<bool, AllocError>
-    requires graph { package_graph_of metadata ≡ numbers.graph.now }
-    requires links { AreNamedLinks numbers.graph.now groups.now }
-    ensures keys { OnOk result (Adds (IsOfItem numbers.entry.graph.now from metadata.entry.package_ix feature_name.now (item_of item.now)) keys.old.items keys.new.items) }
-    ensures quiet { IfOk result (λ quiet. IsTrue quiet → IsQuietItem numbers.entry.graph.now metadata.entry.package_ix feature_name.now (item_of item.now)) }
+) -> Result<(), AllocError>
+    ensures { OnOk result (Collects (IsOfItem input.entry.numbers.graph.now from input.entry.metadata.package_ix feature_name.now (item_of item.now)) (of_item input.entry.numbers.graph.now input.entry.metadata.package_ix (package_table_of input.entry.metadata) feature_name.now (item_of item.now)) [] collected.old collected.new) }
 {
     match NamedFeatureDep::from_cargo_string(item) {
         NamedFeatureDep::NamedFeature(feature) => {
-            if feature != feature_name {
-                let to = numbers.named_beside(metadata, place, feature);
-                push_to(keys, from, to, CandidateKind::NamedFeature, 0, 0)?;
-                return Ok(to.is_some());
-            }
-            Ok(false)
+            push_feature_item(collected, input, from, feature_name, feature)
         }
         NamedFeatureDep::OptionalDependency(name) => {
-            let to = numbers.optional(metadata, name);
-            push_to(keys, from, to, CandidateKind::DepColon, 0, 0)?;
-            Ok(to.is_some())
+            push_optional_item(collected, input, from, name)
         }
         NamedFeatureDep::DependencyNamedFeature {
             dep_name,
             feature,
             weak,
         } => {
-            let links = numbers_of(groups, metadata.package_ix(), dep_name);
-            let all = push_over(keys, numbers, links, from, feature, weak)?;
+            push_over(collected, input, from, dep_name, feature, weak)?;
             if !weak {
-                push_beside(keys, numbers, metadata, from, feature_name, dep_name)?;
+                let keys = &mut collected.keys;
+                push_beside(
+                    keys,
+                    input.numbers,
+                    input.metadata,
+                    from,
+                    feature_name,
+                    dep_name,
+                )?;
             }
-            Ok(all)
+            Ok(())
         }
     }
 }
 
-/// Appends the keys of a feature's items. If the result is true, they have no warning.
+/// Appends the keys and warnings of a feature's items.
 fn push_feature(
-    keys: &mut Vec<Key>,
-    numbers: Numbers<'_>,
-    groups: &LinkGroups<'_>,
-    metadata: PackageMetadata<'_>,
+    collected: &mut Collected,
+    input: PackageInput<'_, '_>,
     from: usize,
-    place: usize,
     feature: &NamedFeature,
-) -> Result<bool, AllocError>
-    requires graph { package_graph_of metadata ≡ numbers.graph.now }
-    requires links { AreNamedLinks numbers.graph.now groups.now }
-    ensures keys { OnOk result (Adds (λ x. (j : ℕ) × IsOfItemAt numbers.entry.graph.now from metadata.entry.package_ix (feature_table feature.now) j x) keys.old.items keys.new.items) }
-    ensures quiet { IfOk result (λ quiet. IsTrue quiet → IsQuietFeature numbers.entry.graph.now metadata.entry.package_ix (feature_table feature.now)) }
+) -> Result<(), AllocError>
+    ensures { OnOk result (Collects (λ x. (j : ℕ) × IsOfItemAt input.entry.numbers.graph.now from input.entry.metadata.package_ix (feature_table feature.now) j x) (flat_map (λ text. of_item input.entry.numbers.graph.now input.entry.metadata.package_ix (package_table_of input.entry.metadata) (feature_table feature.now).name (item_of text)) (feature_table feature.now).items) [] collected.old collected.new) }
 {
-    let mut quiet = true;
     for ix in 0..feature.item_count() {
-        quiet &= push_item(
-            keys,
-            numbers,
-            groups,
-            metadata,
-            from,
-            feature.name(),
-            place,
-            feature.item(ix),
-        )?;
+        push_item(collected, input, from, feature.name(), feature.item(ix))?;
     }
-    Ok(quiet)
+    Ok(())
 }
 
-/// Appends the keys of a feature's items, sorted. If the result is true, they have no warning.
+/// Appends the keys of a feature's items, sorted, and the items' warnings.
 fn push_in_order(
-    alloc: Global,
-    keys: &mut Vec<Key>,
-    numbers: Numbers<'_>,
-    groups: &LinkGroups<'_>,
-    metadata: PackageMetadata<'_>,
+    collected: &mut Collected,
+    input: PackageInput<'_, '_>,
     from: usize,
-    place: usize,
     feature: &NamedFeature,
-) -> Result<bool, AllocError>
-    requires graph { package_graph_of metadata ≡ numbers.graph.now }
-    requires links { AreNamedLinks numbers.graph.now groups.now }
-    ensures keys { OnOk result (Adds (λ x. (j : ℕ) × IsOfItemAt numbers.entry.graph.now from metadata.entry.package_ix (feature_table feature.now) j x) keys.old.items keys.new.items) }
-    ensures quiet { IfOk result (λ quiet. IsTrue quiet → IsQuietFeature numbers.entry.graph.now metadata.entry.package_ix (feature_table feature.now)) }
+) -> Result<(), AllocError>
+    ensures { OnOk result (Collects (λ x. (j : ℕ) × IsOfItemAt input.entry.numbers.graph.now from input.entry.metadata.package_ix (feature_table feature.now) j x) (flat_map (λ text. of_item input.entry.numbers.graph.now input.entry.metadata.package_ix (package_table_of input.entry.metadata) (feature_table feature.now).name (item_of text)) (feature_table feature.now).items) [] collected.old collected.new) }
 {
-    let start = keys.len();
-    let quiet = push_feature(keys, numbers, groups, metadata, from, place, feature)?;
-    sort_keys_from(alloc, keys, start)?;
-    Ok(quiet)
+    let start = collected.keys.len();
+    push_feature(collected, input, from, feature)?;
+    sort_keys_from(input.alloc, &mut collected.keys, start)
 }
 
-/// Appends the keys of the items of a package's features. If the result is true, they have no warning.
-fn push_features(
-    alloc: Global,
-    keys: &mut Vec<Key>,
-    numbers: Numbers<'_>,
-    groups: &LinkGroups<'_>,
-    metadata: PackageMetadata<'_>,
-) -> Result<bool, AllocError>
-    requires graph { package_graph_of metadata ≡ numbers.graph.now }
-    requires links { AreNamedLinks numbers.graph.now groups.now }
-    ensures keys { OnOk result (Adds (λ x. (k : ℕ) × IsOfFeatureAt numbers.entry.graph.now metadata.entry.package_ix (package_table_of metadata.entry) k x) keys.old.items keys.new.items) }
-    ensures quiet { IfOk result (λ quiet. IsTrue quiet → AreQuietFeatures numbers.entry.graph.now metadata.entry.package_ix (package_table_of metadata.entry).features) }
+/// Appends the keys and warnings of the items of a package's features.
+fn push_features(collected: &mut Collected, input: PackageInput<'_, '_>) -> Result<(), AllocError>
+    ensures { OnOk result (Collects (λ x. (k : ℕ) × IsOfFeatureAt input.entry.numbers.graph.now input.entry.metadata.package_ix (package_table_of input.entry.metadata) k x) (of_package input.entry.numbers.graph.now (input.entry.metadata.package_ix, package_table_of input.entry.metadata)) [] collected.old collected.new) }
 {
-    let features = metadata.named_features();
-    let mut quiet = true;
+    let features = input.metadata.named_features();
     for ix in 0..features.len() {
-        let from = numbers.feature(metadata, ix);
-        quiet &= push_in_order(
-            alloc,
-            keys,
-            numbers,
-            groups,
-            metadata,
-            from,
-            ix,
-            &features[ix],
-        )?;
+        let from = input.numbers.feature(input.metadata, ix);
+        push_in_order(collected, input, from, &features[ix])?;
     }
-    Ok(quiet)
+    Ok(())
 }
 
-/// Appends the keys of a package's nodes to its base, and those of its features' items. If the result is true, the items have no
-/// warning.
-fn push_package(
-    alloc: Global,
-    keys: &mut Vec<Key>,
-    numbers: Numbers<'_>,
-    groups: &LinkGroups<'_>,
-    metadata: PackageMetadata<'_>,
-) -> Result<bool, AllocError>
-    requires graph { package_graph_of metadata ≡ numbers.graph.now }
-    requires links { AreNamedLinks numbers.graph.now groups.now }
-    ensures keys { OnOk result (Adds (IsOfPackageAt numbers.entry.graph.now metadata.entry.package_ix) keys.old.items keys.new.items) }
-    ensures quiet { IfOk result (λ quiet. IsTrue quiet → IsQuietPackage numbers.entry.graph.now metadata.entry.package_ix) }
+/// Appends the keys of a package's nodes to its base, and the keys and warnings of its features' items.
+fn push_package(collected: &mut Collected, input: PackageInput<'_, '_>) -> Result<(), AllocError>
+    ensures { OnOk result (Collects (IsOfPackageAt input.entry.numbers.graph.now input.entry.metadata.package_ix) (of_package input.entry.numbers.graph.now (input.entry.metadata.package_ix, package_table_of input.entry.metadata)) [] collected.old collected.new) }
 {
+    let PackageInput {
+        numbers,
+        metadata,
+        ..
+    } = input;
     let _ix = metadata.package_ix();
+    let keys = &mut collected.keys;
     push_to_first(keys, numbers.base(metadata), numbers.node_count(metadata))?;
-    let quiet = push_features(alloc, keys, numbers, groups, metadata)?;
-    Ok(quiet)
+    push_features(collected, input)
 }
 
-/// Sets `keys` to the keys of package `ix`, sorted: those of its nodes, of its features' items, and of the declarations of its
-/// links. Records in `quiet` the parts without a warning.
-pub(crate) fn package_keys(
+/// Sets the keys of `collected` to those of package `ix`, sorted: those of its nodes, of its features' items, and of the
+/// declarations of its links. Appends the package's warnings.
+pub(crate) fn collect_package(
+    collected: &mut Collected,
     alloc: Global,
-    keys: &mut Vec<Key>,
-    quiet: &mut Quiet,
     numbers: Numbers<'_>,
     groups: &LinkGroups<'_>,
     ix: usize,
 ) -> Result<(), AllocError>
     requires links { AreNamedLinks numbers.graph.now groups.now }
     requires package { ix < length numbers.graph.now.packages }
-    requires quiet { IsQuiet numbers.graph.now quiet.now }
-    ensures ordered { OnOk result (AllPairs IsNoLater keys.new.items) }
-    ensures keys { OnOk result ((x : KeyValue) → Contains keys.new.items x ↔ IsOfSource numbers.entry.graph.now ix x) }
-    ensures quiet { OnOk result (IsQuiet numbers.entry.graph.now quiet.new) }
+    requires warnings { AreWarningsBelow numbers.graph.now ix collected.old }
+    ensures ordered { OnOk result (AllPairs IsNoLater collected.new.keys.items) }
+    ensures keys { OnOk result ((x : KeyValue) → Contains collected.new.keys.items x ↔ IsOfSource numbers.entry.graph.now ix x) }
+    ensures warnings { OnOk result (AreWarningsBelow numbers.entry.graph.now (ix + 1) collected.new) }
 {
-    let metadata = numbers.graph.package(ix);
-    keys.clear();
+    numbers.graph.facts();
+    let input = PackageInput {
+        alloc,
+        numbers,
+        groups,
+        metadata: numbers.graph.package(ix),
+    };
+    collected.keys.clear();
     // sorting is faster with the links first: most keys from the base are of links, and the base is the least node
-    push_links(keys, &mut quiet.links, numbers, metadata)?;
-    let told = push_package(alloc, keys, numbers, groups, metadata)?;
-    note(&mut quiet.packages, ix, told);
-    sort_keys(keys)?;
+    push_links(collected, input)?;
+    push_package(collected, input)?;
+    sort_keys(&mut collected.keys)?;
     Ok(())
 }

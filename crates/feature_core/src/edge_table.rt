@@ -1,4 +1,4 @@
-//! The edges of a package graph, built from keys, package by package.
+//! The edges of a package graph and its warnings, package by package.
 ghost use Rattle.std.specs.Prelude.{◌≡◌, ◌++◌, ◌∷◌, [], ℕ, ◌+◌, ◌<◌, Contains, IfOk, List, OnOk, Some, length, map, slice_get};
 ghost use Rattle.indexmap.specs.IndexMap.{keys};
 ghost use Rattle.feature_core.specs.declared.key.Key.{Key as KeyValue};
@@ -9,23 +9,25 @@ ghost use Rattle.feature_core.specs.inner.Alike.{AreNear, IsAdded, IsAppended};
 ghost use Rattle.feature_core.specs.inner.Keys.{AreLeast};
 ghost use Rattle.feature_core.specs.inner.Made.{IsMaterial, IsRun, AreMade, AreMadeBelow, AreWholeKeys, edge_end};
 ghost use Rattle.feature_links.specs.NamedLinks.{AreNamedLinks};
-ghost use Rattle.feature_core.specs.inner.Quiet.{IsQuiet};
+ghost use Rattle.feature_core.specs.inner.Collects.{AreWarningsBelow};
 ghost use Rattle.feature_core.specs.Nodes.{first_nodes, node_packages};
 ghost use Rattle.feature_core.specs.Pairs.{IsPairList};
 ghost use Rattle.feature_core.specs.inner.Parts.{IsOfTables};
+ghost use Rattle.feature_core.specs.Warnings.{warnings, warnings_in};
 ghost use Rattle.feature_links.specs.Values.{edge_facts};
+ghost use Rattle.guppy_packages.specs.Tables.{Tables};
 
-use crate::candidates::package_keys;
+use crate::candidates::collect_package;
+use crate::collected::Collected;
 use crate::edge_list::EdgeList;
 use crate::edges::{Material, edge_of};
 use crate::key::{CandidateKind, Key, split_run};
 use crate::near_keys::NearKeys;
 use crate::nodes::NodeTable;
 use crate::numbers::Numbers;
-use crate::quiet::Quiet;
+use crate::warning::FeatureGraphWarning;
 use crate::weak_links::note_gate;
 use feature_links::{FeatureEdge, LinkGroups};
-use guppy_packages::PackageGraph;
 use guppy_support::{Digraph, Edge, EdgeColumns};
 use indexmap::IndexMap;
 use std::alloc::{AllocError, Global};
@@ -57,26 +59,23 @@ pub(crate) struct MadeEdges {
     weak: IndexMap<usize, usize>,
 }
 
-/// Buffers that packages share: a package's keys, and recent keys. `quiet` collects the parts without a warning.
+/// Buffers that packages share: a package's keys beside the warnings so far, and recent keys.
 #[derive(Drop)]
 struct Room {
-    keys: Vec<Key>,
+    collected: Collected,
     near: NearKeys,
-    quiet: Quiet,
 }
 
 impl Room {
-    /// Returns empty buffers, with no part recorded as quiet.
-    fn new(alloc: Global, graph: &PackageGraph) -> Result<Room, AllocError>
-        ensures quiet { IfOk result (λ room. IsQuiet graph.now room.quiet) }
+    /// Returns empty buffers.
+    fn new(alloc: Global) -> Result<Room, AllocError>
+        ensures warnings { IfOk result (λ room. (t : Tables) → AreWarningsBelow t 0 room.collected) }
         ensures near { IfOk result (λ room. (i : ℕ) (x : KeyValue) (number : ℕ) → slice_get room.near i ≡ Some (x, number) → x.kind ≡ CandidateKind.FeatureToBase) }
     {
         let near = NearKeys::new(alloc)?;
-        let quiet = Quiet::none(alloc, graph)?;
         Ok(Room {
-            keys: Vec::new(alloc),
+            collected: Collected::new(alloc),
             near,
-            quiet,
         })
     }
 }
@@ -184,7 +183,7 @@ impl MadeEdges {
         Ok(())
     }
 
-    /// Appends the edges of the nodes of package `ix`.
+    /// Appends the edges of the nodes of package `ix`, and its warnings.
     fn add_package(
         &mut self,
         alloc: Global,
@@ -198,23 +197,23 @@ impl MadeEdges {
         requires links { AreNamedLinks numbers.graph.now groups.now }
         requires package { ix < length numbers.graph.now.packages }
         requires made { AreMadeBelow numbers.graph.now ix self.old }
-        requires quiet { IsQuiet numbers.graph.now room.now.quiet }
+        requires warnings { AreWarningsBelow numbers.graph.now ix room.old.collected }
         requires near { AreNear numbers.graph.now self.now room.now.near }
         ensures made { OnOk result (AreMadeBelow numbers.entry.graph.now (ix + 1) self.new) }
-        ensures quiet { OnOk result (IsQuiet numbers.entry.graph.now room.new.quiet) }
+        ensures warnings { OnOk result (AreWarningsBelow numbers.entry.graph.now (ix + 1) room.new.collected) }
         ensures near { OnOk result (AreNear numbers.entry.graph.now self.new room.new.near) }
     {
-        package_keys(alloc, &mut room.keys, &mut room.quiet, numbers, groups, ix)?;
+        collect_package(&mut room.collected, alloc, numbers, groups, ix)?;
         let material = Material {
             numbers,
             packages,
             groups,
         };
-        self.add_all(alloc, material, &mut room.near, &room.keys)?;
+        self.add_all(alloc, material, &mut room.near, &room.collected.keys)?;
         Ok(())
     }
 
-    /// Appends the edges of the nodes of all packages.
+    /// Appends the edges of the nodes of all packages, and the warnings.
     fn add_packages(
         &mut self,
         alloc: Global,
@@ -226,10 +225,10 @@ impl MadeEdges {
         requires packages { packages.now ≡ node_packages numbers.graph.now }
         requires links { AreNamedLinks numbers.graph.now groups.now }
         requires made { AreMadeBelow numbers.graph.now 0 self.old }
-        requires quiet { IsQuiet numbers.graph.now room.now.quiet }
+        requires warnings { AreWarningsBelow numbers.graph.now 0 room.old.collected }
         requires near { AreNear numbers.graph.now self.now room.now.near }
         ensures made { OnOk result (AreMadeBelow numbers.entry.graph.now (length numbers.entry.graph.now.packages) self.new) }
-        ensures quiet { OnOk result (IsQuiet numbers.entry.graph.now room.new.quiet) }
+        ensures warnings { OnOk result (AreWarningsBelow numbers.entry.graph.now (length numbers.entry.graph.now.packages) room.new.collected) }
         ensures near { OnOk result (AreNear numbers.entry.graph.now self.new room.new.near) }
     {
         for ix in 0..numbers.graph.package_count() {
@@ -238,23 +237,24 @@ impl MadeEdges {
         Ok(())
     }
 
-    /// Appends the edges of the nodes of all packages to an empty list, and returns the parts without a warning.
+    /// Appends the edges of the nodes of all packages to an empty list, and returns the warnings.
     fn fill(
         &mut self,
         alloc: Global,
         numbers: Numbers<'_>,
         packages: &[usize],
         groups: &LinkGroups<'_>,
-    ) -> Result<Quiet, AllocError>
+    ) -> Result<Vec<FeatureGraphWarning>, AllocError>
         requires packages { packages.now ≡ node_packages numbers.graph.now }
         requires links { AreNamedLinks numbers.graph.now groups.now }
         requires made { AreMadeBelow numbers.graph.now 0 self.old }
         ensures made { OnOk result (AreMadeBelow numbers.entry.graph.now (length numbers.entry.graph.now.packages) self.new) }
-        ensures quiet { IfOk result (λ quiet. IsQuiet numbers.entry.graph.now quiet) }
+        ensures warnings { IfOk result (λ found. warnings_in found ≡ warnings numbers.entry.graph.now) }
     {
-        let mut room = Room::new(alloc, numbers.graph)?;
+        numbers.graph.facts();
+        let mut room = Room::new(alloc)?;
         self.add_packages(alloc, numbers, packages, groups, &mut room)?;
-        Ok(room.quiet)
+        room.collected.into_warnings()
     }
 }
 
@@ -291,30 +291,30 @@ fn no_edges(alloc: Global, nodes: usize, links: usize) -> Result<MadeEdges, Allo
     }
 }
 
-/// Returns the edges of the nodes of all packages, and the parts without a warning.
+/// Returns the edges of the nodes of all packages, and the warnings.
 fn made_edges(
     alloc: Global,
     numbers: Numbers<'_>,
     packages: &[usize],
     groups: &LinkGroups<'_>,
-) -> Result<(MadeEdges, Quiet), AllocError>
+) -> Result<(MadeEdges, Vec<FeatureGraphWarning>), AllocError>
     requires packages { packages.now ≡ node_packages numbers.graph.now }
     requires links { AreNamedLinks numbers.graph.now groups.now }
     ensures made { IfOk result (λ m. AreMadeBelow numbers.entry.graph.now (length numbers.entry.graph.now.packages) m.0) }
-    ensures quiet { IfOk result (λ m. IsQuiet numbers.entry.graph.now m.1) }
+    ensures warnings { IfOk result (λ m. warnings_in m.1 ≡ warnings numbers.entry.graph.now) }
 {
     let mut made = no_edges(alloc, packages.len(), numbers.graph.link_count())?;
-    let quiet = made.fill(alloc, numbers, packages, groups)?;
-    Ok((made, quiet))
+    let warnings = made.fill(alloc, numbers, packages, groups)?;
+    Ok((made, warnings))
 }
 
-/// Returns the edges of a package graph whose nodes are in `table`, and the parts without a warning.
+/// Returns the edges of a package graph whose nodes are in `table`, and its warnings.
 pub(crate) fn edge_table(
     alloc: Global,
     numbers: Numbers<'_>,
     table: &NodeTable,
     groups: &LinkGroups<'_>,
-) -> Result<(EdgeTable, Quiet), AllocError>
+) -> Result<(EdgeTable, Vec<FeatureGraphWarning>), AllocError>
     requires firsts { table.now.firsts.items ≡ first_nodes numbers.graph.now }
     requires packages { table.now.packages.items ≡ node_packages numbers.graph.now }
     requires links { AreNamedLinks numbers.graph.now groups.now }
@@ -323,10 +323,10 @@ pub(crate) fn edge_table(
     ensures long { IfOk result (λ e. length e.0.edges ≡ length e.0.digraph.edges) }
     ensures ends { IfOk result (λ e. e.0.digraph.edges ≡ map end_of (built_edges e.0.digraph.edges e.0.edges)) }
     ensures edges { IfOk result (λ e. AreBuilt numbers.entry.graph.now (built_edges e.0.digraph.edges e.0.edges) e.0.weak.entries) }
-    ensures quiet { IfOk result (λ e. IsQuiet numbers.entry.graph.now e.1) }
+    ensures warnings { IfOk result (λ e. warnings_in e.1 ≡ warnings numbers.entry.graph.now) }
 {
     numbers.graph.facts();
-    let (made, quiet) = made_edges(alloc, numbers, table.packages.as_slice(), groups)?;
+    let (made, warnings) = made_edges(alloc, numbers, table.packages.as_slice(), groups)?;
     let MadeEdges { edges, ends, weak } = made;
     let digraph = Digraph::from_columns(alloc, table.packages.len(), ends)?;
     let edge_table = EdgeTable {
@@ -334,5 +334,5 @@ pub(crate) fn edge_table(
         edges,
         weak,
     };
-    Ok((edge_table, quiet))
+    Ok((edge_table, warnings))
 }

@@ -28,7 +28,7 @@ use crate::gates::release_table;
 use crate::nodes::{NodeTable, node_table};
 use crate::numbers::{Numbers, label_at};
 use crate::packed::Packed;
-use crate::warning::{FeatureGraphWarning, warnings};
+use crate::warning::FeatureGraphWarning;
 use digraph_orders::Order;
 use feature_labels::{FeatureId, FeatureLabel};
 use feature_links::{EdgeChoice, FeatureEdge, named_links};
@@ -163,9 +163,7 @@ fn made(
     ensures warnings { IfOk result (λ m. warnings_in m.1 ≡ warnings numbers.entry.graph.now) }
 {
     let groups = named_links(alloc, numbers.graph)?;
-    let (edges, quiet) = edge_table(alloc, numbers, table, &groups)?;
-    let warnings = warnings(alloc, numbers.graph, &groups, &quiet)?;
-    Ok((edges, warnings))
+    edge_table(alloc, numbers, table, &groups)
 }
 
 /// Returns the feature graph of `graph`, marked with `stamp`. The feature `default` of each package is looked up once.

@@ -4,6 +4,7 @@
 mod candidates;
 mod checks;
 mod chosen_reach;
+mod collected;
 mod declarations;
 mod defaults;
 mod edge_list;
@@ -20,8 +21,8 @@ pub mod laws;
 mod near_keys;
 mod nodes;
 mod numbers;
+mod package_input;
 mod packed;
-mod quiet;
 mod walks;
 mod warning;
 mod weak_links;

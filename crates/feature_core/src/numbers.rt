@@ -1,15 +1,14 @@
 //! The number of each node, by its package and label.
-ghost use Rattle.std.specs.Prelude.{◌≡◌, ◌+◌, ◌<◌, ◌^◌, ◌↔◌, ℕ, IfSome, IsTrue, Some, codes, length, map, slice_get, slice_index};
+ghost use Rattle.std.specs.Prelude.{◌≡◌, ◌+◌, ◌<◌, ◌^◌, ◌↔◌, ℕ, Some, codes, is_some, length, slice_get, slice_index};
 ghost use Rattle.guppy_packages.specs.Metadata.{package_graph_of, package_table_of};
-ghost use Rattle.guppy_packages.specs.NamedFeature.{feature_table};
-ghost use Rattle.guppy_packages.specs.Tables.{FeatureTable};
+ghost use Rattle.guppy_packages.specs.Tables.{has_feature, has_name};
 ghost use Rattle.feature_labels.specs.Names.{label_of};
 ghost use Rattle.feature_labels.specs.Names.LabelName.{base, named, optional};
 ghost use Rattle.feature_core.specs.inner.DefaultNodes.{AreDefaultNodes};
 ghost use Rattle.feature_core.specs.Nodes.{NodeAt, labels_of, first_node, first_nodes, node_packages, node_places};
 
 use feature_labels::FeatureLabel;
-use guppy_packages::{NamedFeature, PackageGraph, PackageMetadata};
+use guppy_packages::{PackageGraph, PackageMetadata};
 
 /// A package graph with the first node of each package. `defaults` has the node of the feature `default` of the packages below
 /// its length, `None` if there is no such feature. For other packages it is looked up.
@@ -64,38 +63,6 @@ pub(crate) fn label_at<'g>(
     label(graph.package(package_ix), place)
 }
 
-/// Returns whether the name of `feature` is `name`.
-fn is_called(feature: &NamedFeature, name: &str) -> bool
-    ensures { IsTrue result → (feature_table feature.now).name ≡ name.now }
-{
-    feature.name() == name
-}
-
-/// Returns whether there is a feature `place`, with the name `name`.
-fn has_name(features: &[NamedFeature], place: usize, name: &str) -> bool
-    ensures { IsTrue result → (f : FeatureTable) × (slice_get (map feature_table features.now) place ≡ Some f) × (f.name ≡ name.now) }
-{
-    if place < features.len() {
-        return is_called(&features[place], name);
-    }
-    false
-}
-
-/// Returns the index of the feature `name`, if it is next to `place`.
-fn place_beside(features: &[NamedFeature], place: usize, name: &str) -> Option<usize>
-    ensures { IfSome result (λ k. (f : FeatureTable) × (slice_get (map feature_table features.now) k ≡ Some f) × (f.name ≡ name.now)) }
-{
-    let after = place.saturating_add(1);
-    if has_name(features, after, name) {
-        return Some(after);
-    }
-    let before = place.saturating_sub(1);
-    if has_name(features, before, name) {
-        return Some(before);
-    }
-    None
-}
-
 impl<'g> Numbers<'g> {
     /// Returns the node of label `place` of a package.
     fn number(self, metadata: PackageMetadata<'g>, place: usize) -> usize
@@ -120,33 +87,14 @@ impl<'g> Numbers<'g> {
     /// Returns the node of the named feature `name` of a package, or `None` if there is none.
     pub(crate) fn named(self, metadata: PackageMetadata<'g>, name: &str) -> Option<usize>
         requires { package_graph_of metadata ≡ self.graph.now }
-        ensures { (n : ℕ) → (result ≡ Some n) ↔ NodeAt self.entry.graph.now n metadata.entry.package_ix (named name.now) }
+        ensures node { (n : ℕ) → (result ≡ Some n) ↔ NodeAt self.entry.graph.now n metadata.entry.package_ix (named name.now) }
+        ensures found { is_some result ≡ has_feature name.now (package_table_of metadata.entry).features }
     {
         self.graph.facts();
         let _ix = metadata.package_ix();
         match metadata.feature_place(name) {
             Some(place) => Some(self.number(metadata, 1 + place)),
             None => None,
-        }
-    }
-
-    /// Returns the node of the named feature `name` of a package, or `None` if there is none. Neighbours of `place` are tried
-    /// first, since features often name them.
-    pub(crate) fn named_beside(
-        self,
-        metadata: PackageMetadata<'g>,
-        place: usize,
-        name: &str,
-    ) -> Option<usize>
-        requires { package_graph_of metadata ≡ self.graph.now }
-        ensures { (n : ℕ) → (result ≡ Some n) ↔ NodeAt self.entry.graph.now n metadata.entry.package_ix (named name.now) }
-    {
-        self.graph.facts();
-        let _ix = metadata.package_ix();
-        let features = metadata.named_features();
-        match place_beside(features, place, name) {
-            Some(found) => Some(self.number(metadata, 1 + found)),
-            None => self.named(metadata, name),
         }
     }
 
@@ -165,7 +113,8 @@ impl<'g> Numbers<'g> {
     /// Returns the node of the optional dependency `name` of a package, or `None` if there is none.
     pub(crate) fn optional(self, metadata: PackageMetadata<'g>, name: &str) -> Option<usize>
         requires { package_graph_of metadata ≡ self.graph.now }
-        ensures { (n : ℕ) → (result ≡ Some n) ↔ NodeAt self.entry.graph.now n metadata.entry.package_ix (optional name.now) }
+        ensures node { (n : ℕ) → (result ≡ Some n) ↔ NodeAt self.entry.graph.now n metadata.entry.package_ix (optional name.now) }
+        ensures found { is_some result ≡ has_name name.now (package_table_of metadata.entry).optional_names }
     {
         self.graph.facts();
         let _ix = metadata.package_ix();

@@ -10,9 +10,9 @@ returns-in_ok-push_to-2 c =
     let u = c.args.from in
     let p = c.args.metadata.package_ix in
     let d = c.args.dep_name.now in
-    two_beside t u c.in-Some.dependency p c.args.feature_name.now d c.args.keys.now.items c.push_to.new.keys.items c.push_to-then-ne.new.keys.items (texts_differ d c.args.feature_name.now c.if-ne.ensures) ((c.in-Some.ensures c.in-Some.dependency).0 refl)
-    (pushed_to t u p SlashOptional 0 0 (optional d) (Some c.in-Some.dependency) c.args.keys.now.items c.push_to.new.keys.items (λ n. c.in-Some.ensures n) c.in_ok-push_to.ensures)
-    (pushed_to t u p SlashOptional 0 0 (named d) c.named.result c.push_to.new.keys.items c.push_to-then-ne.new.keys.items (λ n. c.named.ensures n) c.in_ok-push_to-2.ensures)
+    two_beside t u c.in-Some.dependency p c.args.feature_name.now d c.args.keys.now.items c.push_to.new.keys.items c.push_to-then-ne.new.keys.items (texts_differ d c.args.feature_name.now c.if-ne.ensures) ((c.in-Some.ensures.node c.in-Some.dependency).0 refl)
+    (pushed_to t u p SlashOptional 0 0 (optional d) (Some c.in-Some.dependency) c.args.keys.now.items c.push_to.new.keys.items (λ n. c.in-Some.ensures.node n) c.in_ok-push_to.ensures)
+    (pushed_to t u p SlashOptional 0 0 (named d) c.named.result c.push_to.new.keys.items c.push_to-then-ne.new.keys.items (λ n. c.named.ensures.node n) c.in_ok-push_to-2.ensures)
 
 pub returns-else-ne : goal.returns-else-ne
 returns-else-ne c =
@@ -21,7 +21,7 @@ returns-else-ne c =
     let p = c.args.metadata.package_ix in
     let d = c.args.dep_name.now in
     one_beside t u p c.args.feature_name.now d c.args.keys.now.items c.push_to.new.keys.items (texts_alike d c.args.feature_name.now c.if-ne.ensures)
-    (pushed_to t u p SlashOptional 0 0 (optional d) (Some c.in-Some.dependency) c.args.keys.now.items c.push_to.new.keys.items (λ n. c.in-Some.ensures n) c.in_ok-push_to.ensures)
+    (pushed_to t u p SlashOptional 0 0 (optional d) (Some c.in-Some.dependency) c.args.keys.now.items c.push_to.new.keys.items (λ n. c.in-Some.ensures.node n) c.in_ok-push_to.ensures)
 
 pub returns-in_default : goal.returns-in_default
-returns-in_default c = none_beside c.args.numbers.graph.now c.args.from c.args.metadata.package_ix c.args.feature_name.now c.args.dep_name.now c.args.keys.now.items (λ n. c.in_default.ensures n)
+returns-in_default c = none_beside c.args.numbers.graph.now c.args.from c.args.metadata.package_ix c.args.feature_name.now c.args.dep_name.now c.args.keys.now.items (λ n. c.in_default.ensures.node n)

@@ -1,34 +1,44 @@
-use Rattle.std.proofs.Common.{arith, refl}
-use Rattle.std.specs.Prelude.{◌&&◌}
+use Rattle.std.proofs.Common.{◌≡◌, ◌++◌, subst, arith}
+use Rattle.guppy_packages.specs.Items.{item_of}
+use Rattle.guppy_packages.specs.Metadata.{package_table_of}
 use Rattle.guppy_packages.specs.NamedFeature.{feature_table}
+use Rattle.feature_core.specs.Warnings.{of_item, warnings_in}
 use Rattle.feature_core.specs.inner.Parts.{IsOfItemAt}
-use Rattle.feature_core.proofs.AddsLemmas.{Adds-turn, Adds-start}
+use Rattle.feature_core.proofs.CollectLemmas.{collects-start, items-turn}
 use Rattle.feature_core.proofs.PushLemmas.{item_at, items_within, Adds-all}
-use Rattle.feature_core.proofs.QuietLemmas.{items_next, items_all}
+use Rattle.feature_core.proofs.WarningLemmas.{added-all}
 use Rattle.feature_core.proofs.candidates.push_feature.Goals as goal
 
 pub loop-ix-init : goal.loop-ix-init
-loop-ix-init c = (
-  Adds-start (IsOfItemAt c.args.numbers.graph.now c.args.from c.args.metadata.package_ix (feature_table c.args.feature.now)) c.args.keys.now.items,
-  (λ h table is. refl),
-)
+loop-ix-init c = collects-start (IsOfItemAt c.args.input.numbers.graph.now c.args.from c.args.input.metadata.package_ix (feature_table c.args.feature.now)) c.args.collected.now
 
 pub loop-ix-preserved : goal.loop-ix-preserved
 loop-ix-preserved c =
-    let t = c.args.numbers.graph.now in
-    let feature = feature_table c.args.feature.now in (
-      Adds-turn (IsOfItemAt t c.args.from c.args.metadata.package_ix feature) c.loop-ix.ix c.args.keys.now.items c.loop-ix.keys.items c.push_item.new.keys.items c.loop-ix.invariant.0
-          (item_at t c.args.from c.args.metadata.package_ix c.loop-ix.ix feature c.item.result.now c.name.result.now c.loop-ix.keys.items c.push_item.new.keys.items c.item.ensures c.name.ensures c.in_ok-quiet.ensures.keys),
-      items_next t c.args.metadata.package_ix c.loop-ix.ix feature c.item.result.now c.name.result.now c.loop-ix.quiet c.in_ok-quiet.field-0 (c.loop-ix.quiet && c.in_ok-quiet.field-0) c.item.ensures c.name.ensures refl c.loop-ix.invariant.1 c.in_ok-quiet.ensures.quiet,
-    )
-
-pub returns-clause-keys : goal.returns-clause-keys
-returns-clause-keys c =
-    let t = c.args.numbers.graph.now in
+    let t = c.args.input.numbers.graph.now in
+    let p = c.args.input.metadata.package_ix in
     let u = c.args.from in
-    let p = c.args.metadata.package_ix in
+    let table = package_table_of c.args.input.metadata in
     let feature = feature_table c.args.feature.now in
-    Adds-all (IsOfItemAt t u p feature) c.loop-ix.ix c.args.keys.now.items c.loop-ix.keys.items (λ k x h. let l = items_within t u p feature k x h in omega (arith, l)) c.loop-ix.invariant.0
+    let text = c.item.result.now in
+    let before = c.loop-ix.collected in
+    let after = c.push_item.new.collected in
+    let this = c.in_ok-push_item.ensures in
+    items-turn (IsOfItemAt t u p feature) (λ text. of_item t p table feature.name (item_of text)) feature.items c.loop-ix.ix text c.args.collected.now before after c.item.ensures c.loop-ix.invariant
+    (record {
+      keys = item_at t u p c.loop-ix.ix feature text c.name.result.now before.keys.items after.keys.items c.item.ensures c.name.ensures this.keys;
+      of_items = subst (λ z. warnings_in after.item_warnings ≡ warnings_in before.item_warnings ++ of_item t p table z (item_of text)) c.name.ensures this.of_items;
+      of_names = this.of_names;
+    })
 
-pub returns-clause-quiet : goal.returns-clause-quiet
-returns-clause-quiet c h = items_all c.args.numbers.graph.now c.args.metadata.package_ix c.loop-ix.ix (feature_table c.args.feature.now) (omega arith) (c.loop-ix.invariant.1 h)
+pub returns : goal.returns
+returns c =
+    let t = c.args.input.numbers.graph.now in
+    let p = c.args.input.metadata.package_ix in
+    let u = c.args.from in
+    let feature = feature_table c.args.feature.now in
+    let all = c.loop-ix.invariant in
+    record {
+      keys = Adds-all (IsOfItemAt t u p feature) c.loop-ix.ix c.args.collected.now.keys.items c.loop-ix.collected.keys.items (λ k x h. let l = items_within t u p feature k x h in omega (arith, l)) all.keys;
+      of_items = added-all (λ text. of_item t p (package_table_of c.args.input.metadata) feature.name (item_of text)) feature.items c.loop-ix.ix (warnings_in c.args.collected.now.item_warnings) (warnings_in c.loop-ix.collected.item_warnings) (omega arith) all.of_items;
+      of_names = all.of_names;
+    }

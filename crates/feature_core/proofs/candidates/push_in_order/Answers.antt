@@ -1,9 +1,17 @@
+use Rattle.std.specs.Prelude.{ℕ}
+use Rattle.std.proofs.lemmas.Result.{on_ok_weaker}
 use Rattle.guppy_packages.specs.NamedFeature.{feature_table}
 use Rattle.feature_core.specs.inner.Parts.{IsOfItemAt}
-use Rattle.std.specs.Prelude.{ℕ}
 use Rattle.feature_core.proofs.AddsLemmas.{Adds-permuted}
 use Rattle.feature_core.proofs.candidates.push_in_order.Goals as goal
 
-pub returns-clause-keys : goal.returns-clause-keys
-returns-clause-keys c =
-    Adds-permuted (λ x. (j : ℕ) × IsOfItemAt c.args.numbers.graph.now c.args.from c.args.metadata.package_ix (feature_table c.args.feature.now) j x) c.args.keys.now.items c.push_feature.new.keys.items c.sort_keys_from.new.keys.items c.in_ok-quiet.ensures.keys c.in_ok-sort_keys_from.ensures
+pub returns : goal.returns
+returns c =
+    let h = c.in_ok-push_feature.ensures in
+    on_ok_weaker c.sort_keys_from.result
+    (λ moved. record {
+      keys = Adds-permuted (λ x. (j : ℕ) × IsOfItemAt c.args.input.numbers.graph.now c.args.from c.args.input.metadata.package_ix (feature_table c.args.feature.now) j x) c.args.collected.now.keys.items c.push_feature.new.collected.keys.items c.sort_keys_from.new.keys.items h.keys moved;
+      of_items = h.of_items;
+      of_names = h.of_names;
+    })
+    c.sort_keys_from.ensures

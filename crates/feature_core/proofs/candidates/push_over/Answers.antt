@@ -1,38 +1,82 @@
-use Rattle.std.proofs.Common.{arith, ◌≡◌, Some, refl}
-use Rattle.std.specs.Prelude.{slice_get, slice_index, ◌&&◌}
+use Rattle.std.proofs.Common.{◌≡◌, ◌∙◌, ◌++◌, ◌∷◌, [], ap, arith, length, Some}
+use Rattle.std.specs.Prelude.{slice_get, slice_index}
 use Rattle.std.proofs.lemmas.Option.{slice_get-get_or}
-use Rattle.feature_core.specs.inner.Quiet.{lack_by}
-use Rattle.feature_core.proofs.AddsLemmas.{Adds-turn, Adds-start}
-use Rattle.feature_core.proofs.PushLemmas.{OverAt, over_pushed, over_end}
-use Rattle.feature_core.proofs.QuietLemmas.{quiet-next, quiet-all, and_cases, is_false}
-use Rattle.feature_core.proofs.WarningLemmas.{not_empty}
+use Rattle.std.proofs.lemmas.Result.{on_ok_weaker}
+use Rattle.guppy_packages.specs.Metadata.{package_id_of, package_table_of}
+use Rattle.feature_links.specs.NamedLinks.{link_numbers}
+use Rattle.feature_core.specs.Warnings.{warnings_in, missing_feature}
+use Rattle.feature_core.specs.inner.Collects.{lack_by}
+use Rattle.feature_core.proofs.AddsLemmas.{Adds-start}
+use Rattle.feature_core.proofs.CollectLemmas.{nothing, collects-start, items-turn}
+use Rattle.feature_core.proofs.PushLemmas.{OverAt, over_pushed, over_end, over_named, under_within}
+use Rattle.feature_core.proofs.WarningLemmas.{added-all, is_empty, not_empty, with_links, without_links}
 use Rattle.feature_core.proofs.candidates.push_over.Goals as goal
 
 pub loop-place-init : goal.loop-place-init
-loop-place-init c = (
-  Adds-start (OverAt c.args.numbers.graph.now c.args.from c.args.feature.now c.args.weak c.args.links.now) c.args.keys.now.items,
-  (λ h. (not_empty c.args.links.now c.is_empty-each_has.result c.is_empty-each_has.ensures (is_false c.is_empty-each_has.result h), refl)),
-)
+loop-place-init c = collects-start (OverAt c.args.input.numbers.graph.now c.args.from c.args.feature.now c.args.weak c.numbers_of-links.result.now) c.args.collected.now
+
+pub push_over_link-requires : goal.push_over_link-requires
+push_over_link-requires c =
+    let t = c.args.input.numbers.graph.now in
+    let p = c.args.input.metadata.package_ix in
+    let d = c.args.dep_name.now in
+    let links = c.numbers_of-links.result.now in
+    let named : links ≡ link_numbers t p d = c.numbers_of-links.ensures ∙ c.args.input.named_links c.package_ix.result d ∙ ap (λ z. link_numbers t z d) c.package_ix.ensures.number in
+    under_within t p d links named c.loop-place.place (slice_index links c.loop-place.place) (slice_get-get_or links c.loop-place.place 0 (omega arith))
 
 pub loop-place-preserved : goal.loop-place-preserved
 loop-place-preserved c =
-    let t = c.args.numbers.graph.now in
-    let links = c.args.links.now in
+    let t = c.args.input.numbers.graph.now in
+    let links = c.numbers_of-links.result.now in
     let k = slice_index links c.loop-place.place in
-    let at : slice_get links c.loop-place.place ≡ Some k = slice_get-get_or links c.loop-place.place 0 (omega arith) in (
-      Adds-turn (OverAt t c.args.from c.args.feature.now c.args.weak links) c.loop-place.place c.args.keys.now.items c.loop-place.keys.items c.push_over_link.new.keys.items c.loop-place.invariant.0
-          (over_pushed t c.args.from c.loop-place.place k c.args.feature.now c.args.weak links c.loop-place.keys.items c.push_over_link.new.keys.items at c.in_ok-each_has.ensures.keys),
-      (λ h.
-          let both = and_cases c.loop-place.each_has c.in_ok-each_has.field-0 h in (
-            (c.loop-place.invariant.1 both.0).0,
-            quiet-next (lack_by t c.args.feature.now) links c.loop-place.place k c.loop-place.each_has c.in_ok-each_has.field-0 (c.loop-place.each_has && c.in_ok-each_has.field-0) at refl (λ i. (c.loop-place.invariant.1 i).1) c.in_ok-each_has.ensures.quiet h,
-          )),
-    )
+    let g = c.args.feature.now in
+    let at : slice_get links c.loop-place.place ≡ Some k = slice_get-get_or links c.loop-place.place 0 (omega arith) in
+    let this = c.in_ok-push_over_link.ensures in
+    items-turn (OverAt t c.args.from g c.args.weak links) (lack_by t g) links c.loop-place.place k c.args.collected.now c.loop-place.collected c.push_over_link.new.collected at c.loop-place.invariant
+    (record {
+      keys = over_pushed t c.args.from c.loop-place.place k g c.args.weak links c.loop-place.collected.keys.items c.push_over_link.new.collected.keys.items at this.keys;
+      of_items = this.of_items;
+      of_names = this.of_names;
+    })
 
-pub returns-clause-keys : goal.returns-clause-keys
-returns-clause-keys c = over_end c.args.numbers.graph.now c.args.from c.loop-place.place c.args.feature.now c.args.weak c.args.links.now c.args.keys.now.items c.loop-place.keys.items (omega arith) c.loop-place.invariant.0
+pub returns-then-is_empty : goal.returns-then-is_empty
+returns-then-is_empty c =
+    let t = c.args.input.numbers.graph.now in
+    let p = c.args.input.metadata.package_ix in
+    let d = c.args.dep_name.now in
+    let g = c.args.feature.now in
+    let u = c.args.from in
+    let weak = c.args.weak in
+    let links = c.numbers_of-links.result.now in
+    let before = c.args.collected.now in
+    let named : links ≡ link_numbers t p d = c.numbers_of-links.ensures ∙ c.args.input.named_links c.package_ix.result d ∙ ap (λ z. link_numbers t z d) c.package_ix.ensures.number in
+    let none : length links ≡ 0 = is_empty links c.is_empty.result c.is_empty.ensures c.if-is_empty.true in
+    on_ok_weaker c.push_missing.result
+    (λ told. record {
+      keys = over_named t u p d g weak links before.keys.items before.keys.items named (over_end t u 0 g weak links before.keys.items before.keys.items (omega (arith, none)) (Adds-start (OverAt t u g weak links) before.keys.items));
+      of_items =
+          told ∙ ap (λ z. warnings_in before.item_warnings ++ missing_feature (package_id_of c.args.input.metadata) z ∷ []) c.in_ok-name.ensures.ok
+          ∙ ap (λ z. warnings_in before.item_warnings ++ z) (without_links t (package_table_of c.args.input.metadata) d g p links named none);
+      of_names = nothing (warnings_in before.name_warnings);
+    })
+    c.push_missing.ensures
 
-pub returns-clause-quiet : goal.returns-clause-quiet
-returns-clause-quiet c h =
-    let all = c.loop-place.invariant.1 h in
-    (all.0, quiet-all (lack_by c.args.numbers.graph.now c.args.feature.now) c.args.links.now c.loop-place.place (omega arith) all.1)
+pub returns : goal.returns
+returns c =
+    let t = c.args.input.numbers.graph.now in
+    let p = c.args.input.metadata.package_ix in
+    let d = c.args.dep_name.now in
+    let g = c.args.feature.now in
+    let links = c.numbers_of-links.result.now in
+    let before = c.args.collected.now in
+    let after = c.loop-place.collected in
+    let n = c.loop-place.place in
+    let named : links ≡ link_numbers t p d = c.numbers_of-links.ensures ∙ c.args.input.named_links c.package_ix.result d ∙ ap (λ z. link_numbers t z d) c.package_ix.ensures.number in
+    let all = c.loop-place.invariant in
+    record {
+      keys = over_named t c.args.from p d g c.args.weak links before.keys.items after.keys.items named (over_end t c.args.from n g c.args.weak links before.keys.items after.keys.items (omega arith) all.keys);
+      of_items =
+          added-all (lack_by t g) links n (warnings_in before.item_warnings) (warnings_in after.item_warnings) (omega arith) all.of_items
+          ∙ ap (λ z. warnings_in before.item_warnings ++ z) (with_links t (package_table_of c.args.input.metadata) d g p links named (not_empty links c.is_empty.result c.is_empty.ensures c.if-is_empty.false));
+      of_names = all.of_names;
+    }

@@ -1,34 +1,51 @@
-use Rattle.std.proofs.Common.{◌≡◌, arith, length, refl}
-use Rattle.std.specs.Prelude.{◌&&◌}
-use Rattle.guppy_packages.specs.Metadata.{link_table_of}
+use Rattle.std.proofs.Common.{◌≡◌, ◌∙◌, [], sym, subst, arith, length}
+use Rattle.std.specs.Prelude.{flat_map}
+use Rattle.guppy_packages.specs.Metadata.{link_number_of, link_table_of}
 use Rattle.guppy_packages.specs.Stored.{declared}
-use Rattle.feature_core.proofs.AddsLemmas.{Adds-turn, Adds-start}
-use Rattle.feature_core.proofs.QuietLemmas.{declarations_next, declarations_all}
-use Rattle.feature_core.proofs.RequestLemmas.{mapped_length, of_link, IsOfDeclaration}
+use Rattle.feature_core.specs.Warnings.{lack_over, of_link, warnings_in}
+use Rattle.feature_core.specs.inner.Adds.{Adds, Below}
+use Rattle.feature_core.specs.inner.Collects.{Collects}
+use Rattle.feature_core.specs.inner.Parts.{IsOfDeclarationAt, IsOfLinkAt}
+use Rattle.feature_core.proofs.CollectLemmas.{collects-start, names-turn}
+use Rattle.feature_core.proofs.Places.{got_same}
+use Rattle.feature_core.proofs.RequestLemmas.{mapped_at, mapped_length}
+use Rattle.feature_core.proofs.RequestLemmas as request
+use Rattle.feature_core.proofs.WarningLemmas.{added-all}
 use Rattle.feature_core.proofs.declarations.push_link.Goals as goal
 
 pub loop-place-init : goal.loop-place-init
-loop-place-init c = (Adds-start (IsOfDeclaration c.args.numbers.graph.now c.args.ix) c.args.keys.now.items, (λ h link is. refl))
+loop-place-init c = collects-start (IsOfDeclarationAt c.args.input.numbers.graph.now (link_number_of c.link-link.result) (link_table_of c.link-link.result)) c.args.collected.now
+
+pub push_declaration-requires : goal.push_declaration-requires
+push_declaration-requires c =
+    let link = link_table_of c.link-link.result in
+    record {
+      graph = c.link-link.ensures.graph;
+      declaration = mapped_at declared c.declarations-declarations.result.now link.declarations c.loop-place.place c.index-declarations-place.result c.declarations-declarations.ensures (omega arith) c.index-declarations-place.is;
+    }
 
 pub loop-place-preserved : goal.loop-place-preserved
 loop-place-preserved c =
-    let t = c.args.numbers.graph.now in
+    let t = c.args.input.numbers.graph.now in
     let link = link_table_of c.link-link.result in
-    let n = length c.declarations-declarations.result.now in
-    let long = mapped_length declared c.declarations-declarations.result.now link.declarations c.declarations-declarations.ensures in (
-      Adds-turn (IsOfDeclaration t c.args.ix) c.loop-place.place c.args.keys.now.items c.loop-place.keys.items c.push_declaration.new.keys.items c.loop-place.invariant.0 c.in_ok-quiet.ensures.keys,
-      declarations_next t c.args.ix c.loop-place.place n link c.loop-place.quiet c.in_ok-quiet.field-0 (c.loop-place.quiet && c.in_ok-quiet.field-0) c.link-link.ensures.link long (omega arith) refl c.loop-place.invariant.1 c.in_ok-quiet.ensures.quiet,
-    )
+    let at = mapped_at declared c.declarations-declarations.result.now link.declarations c.loop-place.place c.index-declarations-place.result c.declarations-declarations.ensures (omega arith) c.index-declarations-place.is in
+    names-turn (IsOfDeclarationAt t (link_number_of c.link-link.result) link) (λ d. flat_map (lack_over t link) d.features) link.declarations c.loop-place.place (declared c.index-declarations-place.result) c.args.collected.now c.loop-place.collected c.push_declaration.new.collected
+    at c.loop-place.invariant c.in_ok-push_declaration.ensures
 
-pub returns-clause-keys : goal.returns-clause-keys
-returns-clause-keys c =
+pub returns : goal.returns
+returns c other is =
+    let t = c.args.input.numbers.graph.now in
     let link = link_table_of c.link-link.result in
+    let n = c.loop-place.place in
+    let before = c.args.collected.now in
+    let after = c.loop-place.collected in
+    let all = c.loop-place.invariant in
     let long = mapped_length declared c.declarations-declarations.result.now link.declarations c.declarations-declarations.ensures in
-    let end : c.loop-place.place ≡ length c.declarations-declarations.result.now = omega arith in
-    of_link c.args.numbers.graph.now c.args.ix c.loop-place.place link c.args.keys.now.items c.loop-place.keys.items c.link-link.ensures.link (omega (arith, end, long)) c.loop-place.invariant.0
-
-pub returns-clause-quiet : goal.returns-clause-quiet
-returns-clause-quiet c h =
-    let link = link_table_of c.link-link.result in
-    let long = mapped_length declared c.declarations-declarations.result.now link.declarations c.declarations-declarations.ensures in
-    declarations_all c.args.numbers.graph.now c.args.ix c.loop-place.place link c.link-link.ensures.link (omega (arith, long)) (c.loop-place.invariant.1 h)
+    let end : n ≡ length c.declarations-declarations.result.now = omega arith in
+    let keys : Adds (Below n (IsOfDeclarationAt t c.args.ix link)) before.keys.items after.keys.items = subst (λ z. Adds (Below n (IsOfDeclarationAt t z link)) before.keys.items after.keys.items) c.link-link.ensures.number all.keys in
+    subst (λ z. Collects (IsOfLinkAt t c.args.ix) [] (of_link t z) before after) (got_same link other (sym c.link-link.ensures.link ∙ is))
+    (record {
+      keys = request.of_link t c.args.ix n link before.keys.items after.keys.items c.link-link.ensures.link (end ∙ long) keys;
+      of_items = all.of_items;
+      of_names = added-all (λ d. flat_map (lack_over t link) d.features) link.declarations n (warnings_in before.name_warnings) (warnings_in after.name_warnings) (omega (arith, end, long)) all.of_names;
+    })

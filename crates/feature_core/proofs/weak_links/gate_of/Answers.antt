@@ -17,4 +17,4 @@ unreachable-requires c =
     let node = optional_node t c.facts.ensures c.args.ix link c.link-link.ensures.link (subst (λ z. IsTrue (has_declaration Optional z)) same c.requires.is_optional) in
     let named : NodeAt t node.0 link.from (optional c.dep_name.result.now) = subst (λ z. NodeAt t node.0 link.from (optional z)) (sym c.dep_name.ensures) node.1 in
     let there : NodeAt t node.0 c.from.result.package_ix (optional c.dep_name.result.now) = subst (λ z. NodeAt t node.0 z (optional c.dep_name.result.now)) (sym c.from.ensures.number) named in
-    not_none c.optional.result node.0 c.in-None.is ((c.optional.ensures node.0).1 there)
+    not_none c.optional.result node.0 c.in-None.is ((c.optional.ensures.node node.0).1 there)

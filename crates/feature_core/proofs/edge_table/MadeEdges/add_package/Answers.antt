@@ -7,9 +7,9 @@ use Rattle.feature_core.proofs.edge_table.MadeEdges.add_package.Goals as goal
 pub add_all-requires-clause-keys : goal.add_all-requires-clause-keys
 add_all-requires-clause-keys c =
     let t = c.args.numbers.graph.now in
-    let of = c.in_ok-package_keys.ensures.keys in
+    let of = c.in_ok-collect_package.ensures.keys in
     subst (AreWholeKeys t) (sym c.deref.ensures.value) (record {
-      ordered = c.in_ok-package_keys.ensures.ordered;
+      ordered = c.in_ok-collect_package.ensures.ordered;
       of_tables = λ y h. source_of_tables t c.args.ix y ((of y).0 h);
       whole = λ x y a b e. (of y).1 (same_source t c.args.ix x y ((of x).0 a) b e);
     })
@@ -21,6 +21,6 @@ returns-clause-made c =
     let more = c.in_ok-add_all.ensures.made in
     record {
       kept = made.kept ++ more.0;
-      is_kept = kept_next t c.args.ix made.kept c.package_keys.new.keys.items more.0 made.is_kept c.in_ok-package_keys.ensures.keys (subst (λ z. AreLeast z more.0) c.deref.ensures.value more.1);
+      is_kept = kept_next t c.args.ix made.kept c.collect_package.new.collected.keys.items more.0 made.is_kept c.in_ok-collect_package.ensures.keys (subst (λ z. AreLeast z more.0) c.deref.ensures.value more.1);
       made = more.2 made.kept made.made;
     }

@@ -1,9 +1,0 @@
-use Rattle.std.proofs.Common.{◌≡◌, ◌++◌, take}
-use Rattle.std.specs.Prelude.{flat_map}
-use Rattle.guppy_packages.specs.Metadata.{link_graph_of, link_table_of}
-use Rattle.guppy_packages.specs.Stored.{declared}
-use Rattle.feature_core.specs.Warnings.{warnings_in, lack_over}
-use Rattle.feature_core.proofs.warning.push_declaration.Given as goal
-
-abbrev pub invariant-loop-ix : goal.invariant-loop-ix
-invariant-loop-ix l = warnings_in l.found ≡ warnings_in l.initial.found ++ flat_map (lack_over (link_graph_of l.link) (link_table_of l.link)) (take l.ix (declared l.declaration).features)

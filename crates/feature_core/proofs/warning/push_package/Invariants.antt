@@ -1,9 +1,0 @@
-use Rattle.std.proofs.Common.{◌≡◌, ◌++◌, take}
-use Rattle.std.specs.Prelude.{flat_map}
-use Rattle.guppy_packages.specs.Items.{item_of}
-use Rattle.guppy_packages.specs.Metadata.{package_graph_of, package_table_of}
-use Rattle.feature_core.specs.Warnings.{warnings_in, of_item}
-use Rattle.feature_core.proofs.warning.push_package.Given as goal
-
-abbrev pub invariant-loop-ix : goal.invariant-loop-ix
-invariant-loop-ix l = warnings_in l.found ≡ warnings_in l.initial.found ++ flat_map (λ f. flat_map (λ text. of_item (package_graph_of l.metadata) l.metadata.package_ix (package_table_of l.metadata) f.name (item_of text)) f.items) (take l.ix (package_table_of l.metadata).features)
