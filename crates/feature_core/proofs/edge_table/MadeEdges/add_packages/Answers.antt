@@ -17,4 +17,4 @@ returns-clause-made c =
 pub returns-clause-warnings : goal.returns-clause-warnings
 returns-clause-warnings c =
     let end : c.loop-ix.ix ≡ length c.args.numbers.graph.now.packages = omega arith in
-    subst (λ z. AreWarningsBelow c.args.numbers.graph.now z c.loop-ix.room.collected) end c.loop-ix.invariant.1.0
+    subst (λ z. AreWarningsBelow c.args.numbers.graph.now z c.loop-ix.room.collected) end c.loop-ix.invariant.1

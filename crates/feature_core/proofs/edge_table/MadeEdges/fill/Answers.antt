@@ -12,3 +12,6 @@ returns-clause-warnings c =
 
 pub add_packages-requires-clause-near : goal.add_packages-requires-clause-near
 add_packages-requires-clause-near c = λ i x number h. inl (c.in_ok-room.ensures.near i x number h)
+
+pub add_packages-requires-clause-warnings : goal.add_packages-requires-clause-warnings
+add_packages-requires-clause-warnings c = c.in_ok-room.ensures.warnings c.args.numbers.graph.now
