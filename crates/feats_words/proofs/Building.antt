@@ -1,33 +1,26 @@
 -- Options that are added to a command, one after the other.
-use Rattle.std.proofs.Common.{◌≡◌, ◌∙◌, ap, ap₂, sym, List, [], ◌∷◌, ◌++◌, append_assoc, append-nil, false}
-use Rattle.std.specs.Prelude.{◌||◌}
+use Rattle.std.proofs.Common.{◌≡◌, ◌∙◌, ap, ap₂, List, ◌∷◌, [], ◌++◌, append_assoc, false}
+use Rattle.std.specs.Prelude.{◌||◌, IfOk, Result}
+use Rattle.std.proofs.lemmas.Result.{IfOk-weaker}
 use Rattle.clap.specs.Words.{AddsArg, AddsSubcommand, App, Rule, Shape, app_of, rule_of, with_rule, with_subcommand}
 use Rattle.clap.specs.declared.builder.arg.Arg.{Arg}
 use Rattle.clap.specs.declared.builder.command.Command.{Command}
-use Rattle.clap.specs.declared.builder.command.Command.TheViews.{out-Command}
-use Rattle.feats_words.specs.inner.Building.{AddsRules, IsSubcommand, with_rules}
+use Rattle.feats_words.specs.inner.Building.{IsMade, alone, with_rules}
 
-pub begun : (c : Command) → (out-Command c).has_globals ≡ false → AddsRules c c []
-begun c local = record {
-  app = ap (λ rules. record (app_of c) { top = record (app_of c).top { rules = rules } }) (sym (append-nil (app_of c).top.rules));
-  local = local;
-}
-
-pub added : (first old new : Command) (a : Arg) (rules : List Rule) (rule : Rule) → AddsRules first old rules → AddsArg old a new → rule_of a ≡ rule → a.global ≡ false → AddsRules first new (rules ++ rule ∷ [])
-added first old new a rules rule h adds is local = record {
-  app = adds.shape local ∙ ap₂ with_rule h.app is
-      ∙ ap (λ rs. record (app_of first) { top = record (app_of first).top { rules = rs } }) (append_assoc (app_of first).top.rules rules (rule ∷ []));
-  local = adds.globals ∙ ap₂ (λ a b. a || b) h.local local;
+-- one more option
+pub with_one : (old new : Command) (a : Arg) (app : App) (rule : Rule) → rule_of a ≡ rule → IsMade old app → AddsArg old a new → a.global ≡ false → IsMade new (with_rules app (rule ∷ []))
+with_one old new a app rule is_rule made adds is = record {
+  app = adds.shape is ∙ ap₂ with_rule made.app is_rule;
+  local = adds.globals ∙ ap₂ (λ a b. a || b) made.local is;
 }
 
 -- more options, after others
-pub added_all : (first old new : Command) (rules others : List Rule) → AddsRules first old rules → AddsRules old new others → AddsRules first new (rules ++ others)
-added_all first old new rules others h k = record {
-  app = k.app ∙ ap (λ (a : App). with_rules a others) h.app
-      ∙ ap (λ rs. record (app_of first) { top = record (app_of first).top { rules = rs } }) (append_assoc (app_of first).top.rules rules others);
-  local = k.local;
-}
+pub joined : {E : Type 0} (r : Result Command E) (app : App) (rules others : List Rule) → IfOk r (λ c. IsMade c (with_rules (with_rules app rules) others)) → IfOk r (λ c. IsMade c (with_rules app (rules ++ others)))
+joined r app rules others = IfOk-weaker r _ _ (λ c made. record {
+  app = made.app ∙ ap (λ rs. record app { top = record app.top { rules = rs } }) (append_assoc app.top.rules rules others);
+  local = made.local;
+})
 
 -- one more command
-pub with_one : (old sub new : Command) (a : App) (s : Shape) → app_of old ≡ a → IsSubcommand sub s → AddsSubcommand old sub new → app_of new ≡ with_subcommand a s
-with_one old sub new a s h is adds = adds.shape is.local ∙ ap₂ with_subcommand h is.shape
+pub with_command : (old sub new : Command) (app : App) (shape : Shape) → app_of old ≡ app → IsMade sub (alone shape) → AddsSubcommand old sub new → app_of new ≡ with_subcommand app shape
+with_command old sub new app shape is made adds = adds.shape made.local ∙ ap₂ with_subcommand is (ap (λ (a : App). a.top) made.app)

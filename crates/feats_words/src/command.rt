@@ -1,195 +1,166 @@
 //! The commands of the program and their options, as `clap` knows them.
 ghost use Rattle.std.specs.Prelude.{◌≡◌, ◌++◌, ◌∷◌, [], false, IfOk};
-ghost use Rattle.clap.specs.Words.{app_of, rule_of};
-ghost use Rattle.clap.specs.declared.builder.command.Command.TheViews.{out-Command};
+ghost use Rattle.clap.specs.Words.{App, Rule, Shape, app_of, new_app, rule_of, with_subcommand};
 ghost use Rattle.feats_words.specs.Commands as spec;
-ghost use Rattle.feats_words.specs.inner.Building.{AddsRules, IsSubcommand};
+ghost use Rattle.feats_words.specs.inner.Building.{IsMade, alone, with_rules};
 
 use crate::examples::{
     CHECK_EXAMPLE, DIFF_EXAMPLE, DOT_EXAMPLE, DUPLICATES_EXAMPLE, FEATURE_HELP, LIST_EXAMPLE,
     PLAN_EXAMPLE, SLIM_EXAMPLE, SPECS_EXAMPLE, TREE_EXAMPLE, WHY_EXAMPLE, WHY_NOT_EXAMPLE,
 };
-use clap::{Arg, ArgAction, Command};
+use crate::options::{flag, lettered, option, repeated, required, short, word};
+use clap::{Arg, Command};
 use std::alloc::{AllocError, Global};
 
-/// Returns an option with a value, which is given at most once.
-fn option<'a>(alloc: Global, name: &'a str, value: &'a str, help: &'a str) -> Arg<'a>
-    ensures rule { rule_of result ≡ spec.option_rule name.entry.now }
-    ensures local { result.global ≡ false }
-{
-    Arg::new(alloc, name)
-        .long(name)
-        .action(ArgAction::Set)
-        .value_name(value)
-        .help(help)
-}
+/// A command in the making, or the error of an allocation. The functions below take it whole: a function that returns early past a
+/// `Command` of its own takes ten seconds of proof for each.
+type Made<'a> = Result<Command<'a>, AllocError>;
 
-/// Returns an option with a value, which is given exactly once.
-fn required<'a>(alloc: Global, name: &'a str, value: &'a str, help: &'a str) -> Arg<'a>
-    ensures rule { rule_of result ≡ spec.required_rule name.entry.now }
-    ensures local { result.global ≡ false }
+/// Adds `arg` to `command`.
+#[tactic(auto, using(crate::proofs::Building::with_one))]
+fn with_arg<'a>(command: Made<'a>, arg: Arg<'a>) -> Made<'a>
+    requires { arg.global ≡ false }
+    ensures { (app : App) (rule : Rule) → rule_of arg.entry ≡ rule → IfOk command.entry (λ c. IsMade c app) → IfOk result (λ r. IsMade r (with_rules app (rule ∷ []))) }
 {
-    option(alloc, name, value, help).required(true)
-}
-
-/// Returns an option with a value, which may be given several times.
-fn repeated<'a>(alloc: Global, name: &'a str, value: &'a str, help: &'a str) -> Arg<'a>
-    ensures rule { rule_of result ≡ spec.repeated_rule name.entry.now }
-    ensures local { result.global ≡ false }
-{
-    option(alloc, name, value, help).action(ArgAction::Append)
-}
-
-/// Returns an option with a value and a letter, which may be given several times.
-fn lettered<'a>(
-    alloc: Global,
-    name: &'a str,
-    letter: char,
-    value: &'a str,
-    help: &'a str,
-) -> Arg<'a>
-    ensures rule { rule_of result ≡ spec.lettered_rule name.entry.now letter }
-    ensures local { result.global ≡ false }
-{
-    repeated(alloc, name, value, help).short(letter)
-}
-
-/// Returns an option with a value and a letter, which is given at most once.
-fn short<'a>(alloc: Global, name: &'a str, letter: char, value: &'a str, help: &'a str) -> Arg<'a>
-    ensures rule { rule_of result ≡ spec.short_rule name.entry.now letter }
-    ensures local { result.global ≡ false }
-{
-    option(alloc, name, value, help).short(letter)
-}
-
-/// Returns an option without a value.
-fn flag<'a>(alloc: Global, name: &'a str, help: &'a str) -> Arg<'a>
-    ensures rule { rule_of result ≡ spec.flag_rule name.entry.now }
-    ensures local { result.global ≡ false }
-{
-    Arg::new(alloc, name)
-        .long(name)
-        .action(ArgAction::SetTrue)
-        .help(help)
-}
-
-/// Returns a word without an option, which is given exactly once.
-fn word<'a>(alloc: Global, name: &'a str, value: &'a str, help: &'a str) -> Arg<'a>
-    ensures rule { rule_of result ≡ spec.word_rule name.entry.now }
-    ensures local { result.global ≡ false }
-{
-    Arg::new(alloc, name)
-        .action(ArgAction::Set)
-        .value_name(value)
-        .help(help)
-        .required(true)
+    match command {
+        Ok(command) => command.arg(arg),
+        Err(error) => Err(error),
+    }
 }
 
 /// Adds the options that name the files of the platforms and the resolver.
-fn with_platforms(alloc: Global, command: Command<'_>) -> Result<Command<'_>, AllocError>
-    requires { (out-Command command).has_globals ≡ false }
-    ensures { IfOk result (λ r. AddsRules command.entry r spec.platform_rules) }
+fn with_platforms<'a>(alloc: Global, command: Made<'a>) -> Made<'a>
+    ensures { (app : App) → IfOk command.entry (λ c. IsMade c app) → IfOk result (λ r. IsMade r (with_rules app spec.platform_rules)) }
 {
-    command
-        .arg(required(
+    let command = with_arg(
+        command,
+        required(
             alloc,
             "host",
             "TRIPLE=CFGFILE",
             "The host, and a file with the output of `rustc --print cfg`",
-        ))?
-        .arg(repeated(
+        ),
+    );
+    let command = with_arg(
+        command,
+        repeated(
             alloc,
             "target",
             "TRIPLE=CFGFILE",
             "A target platform, and a file with the output of `rustc --print cfg --target TRIPLE`; without it the host",
-        ))?
-        .arg(option(
+        ),
+    );
+    let command = with_arg(
+        command,
+        option(
             alloc,
             "resolver",
             "N",
             "The version of the resolver: 1, 2 or 3; without it and --manifest 2",
-        ))?
-        .arg(option(
+        ),
+    );
+    with_arg(
+        command,
+        option(
             alloc,
             "manifest",
             "FILE",
             "The root manifest of the workspace, from which the version of the resolver is read",
-        ))
+        ),
+    )
 }
 
 /// Adds the options that select packages and features.
-fn with_selection(alloc: Global, command: Command<'_>) -> Result<Command<'_>, AllocError>
-    requires { (out-Command command).has_globals ≡ false }
-    ensures { IfOk result (λ r. AddsRules command.entry r spec.selection_rules) }
+fn with_selection<'a>(alloc: Global, command: Made<'a>) -> Made<'a>
+    ensures { (app : App) → IfOk command.entry (λ c. IsMade c app) → IfOk result (λ r. IsMade r (with_rules app spec.selection_rules)) }
 {
-    command
-        .arg(lettered(
+    let command = with_arg(
+        command,
+        lettered(
             alloc,
             "package",
             'p',
             "SPEC",
             "A package to build: NAME, NAME@VERSION or an id; without it and --workspace the default members",
-        ))?
-        .arg(flag(alloc, "workspace", "Build all members of the workspace"))?
-        .arg(lettered(
+        ),
+    );
+    let command = with_arg(
+        command,
+        flag(alloc, "workspace", "Build all members of the workspace"),
+    );
+    let command = with_arg(
+        command,
+        lettered(
             alloc,
             "features",
             'F',
             "FEATURES",
             "Features to turn on, separated by spaces or commas",
-        ))?
-        .arg(flag(
+        ),
+    );
+    let command = with_arg(
+        command,
+        flag(
             alloc,
             "all-features",
             "Turn on all features of the selected packages",
-        ))?
-        .arg(flag(
+        ),
+    );
+    let command = with_arg(
+        command,
+        flag(
             alloc,
             "no-default-features",
             "Don't turn on the default features of the selected packages",
-        ))?
-        .arg(flag(alloc, "tests", "Build the tests too"))?
-        .arg(option(
+        ),
+    );
+    let command = with_arg(command, flag(alloc, "tests", "Build the tests too"));
+    with_arg(
+        command,
+        option(
             alloc,
             "format",
             "FORMAT",
             "`text` (the default) or `json`: one object a line",
-        ))
+        ),
+    )
 }
 
 /// Adds the options of commands without a document.
-fn with_common(alloc: Global, command: Command<'_>) -> Result<Command<'_>, AllocError>
-    requires { (out-Command command).has_globals ≡ false }
-    ensures { IfOk result (λ r. AddsRules command.entry r (spec.platform_rules ++ spec.selection_rules)) }
+fn with_common<'a>(alloc: Global, command: Made<'a>) -> Made<'a>
+    ensures { (app : App) → IfOk command.entry (λ c. IsMade c app) → IfOk result (λ r. IsMade r (with_rules app (spec.platform_rules ++ spec.selection_rules))) }
 {
-    with_selection(alloc, with_platforms(alloc, command)?)
+    with_selection(alloc, with_platforms(alloc, command))
 }
 
 /// Adds the options of a command about a document.
-fn with_options(alloc: Global, command: Command<'_>) -> Result<Command<'_>, AllocError>
-    requires { (out-Command command).has_globals ≡ false }
-    ensures { IfOk result (λ r. AddsRules command.entry r (spec.document_rule ∷ (spec.platform_rules ++ spec.selection_rules))) }
+fn with_options<'a>(alloc: Global, command: Made<'a>) -> Made<'a>
+    ensures { (app : App) → IfOk command.entry (λ c. IsMade c app) → IfOk result (λ r. IsMade r (with_rules app (spec.document_rule ∷ (spec.platform_rules ++ spec.selection_rules)))) }
 {
-    let with_document = command.arg(required(
-        alloc,
-        "metadata",
-        "FILE",
-        "The output of `cargo metadata --format-version 1 --all-features`; `-` is standard input",
-    ))?;
-    with_common(alloc, with_document)
+    let command = with_arg(
+        command,
+        required(
+            alloc,
+            "metadata",
+            "FILE",
+            "The output of `cargo metadata --format-version 1 --all-features`; `-` is standard input",
+        ),
+    );
+    with_common(alloc, command)
+}
+
+/// Returns a command without options.
+fn begun<'a>(alloc: Global, name: &'a str, about: &'a str, example: &'a str) -> Made<'a>
+    ensures { IfOk result (λ r. IsMade r (new_app name.entry.now)) }
+{
+    Ok(Command::new(alloc, name).about(about).after_help(example))
 }
 
 /// Returns a command without words of its own.
-fn wordless<'a>(
-    alloc: Global,
-    name: &'a str,
-    about: &'a str,
-    example: &'a str,
-) -> Result<Command<'a>, AllocError>
-    ensures { IfOk result (λ r. IsSubcommand r (spec.command_shape name.entry.now [])) }
+fn wordless<'a>(alloc: Global, name: &'a str, about: &'a str, example: &'a str) -> Made<'a>
+    ensures { IfOk result (λ r. IsMade r (alone (spec.command_shape name.entry.now []))) }
 {
-    let command = Command::new(alloc, name).about(about).after_help(example);
-    with_options(alloc, command)
+    with_options(alloc, begun(alloc, name, about, example))
 }
 
 /// Returns a command with one word, or one option, of its own.
@@ -199,17 +170,16 @@ fn worded<'a>(
     about: &'a str,
     example: &'a str,
     word: Arg<'a>,
-) -> Result<Command<'a>, AllocError>
+) -> Made<'a>
     requires { word.global ≡ false }
-    ensures { IfOk result (λ r. IsSubcommand r (spec.command_shape name.entry.now (rule_of word.entry ∷ []))) }
+    ensures { IfOk result (λ r. IsMade r (alone (spec.command_shape name.entry.now (rule_of word.entry ∷ [])))) }
 {
-    let command = Command::new(alloc, name).about(about).after_help(example);
-    with_options(alloc, command.arg(word)?)
+    with_options(alloc, with_arg(begun(alloc, name, about, example), word))
 }
 
 /// Returns the command `plan`.
-fn plan_command<'a>(alloc: Global) -> Result<Command<'a>, AllocError>
-    ensures { IfOk result (λ r. IsSubcommand r spec.plan_shape) }
+fn plan_command<'a>(alloc: Global) -> Made<'a>
+    ensures { IfOk result (λ r. IsMade r (alone spec.plan_shape)) }
 {
     wordless(
         alloc,
@@ -220,24 +190,30 @@ fn plan_command<'a>(alloc: Global) -> Result<Command<'a>, AllocError>
 }
 
 /// Returns the command `why`.
-fn why_command<'a>(alloc: Global) -> Result<Command<'a>, AllocError>
-    ensures { IfOk result (λ r. IsSubcommand r spec.why_shape) }
+fn why_command<'a>(alloc: Global) -> Made<'a>
+    ensures { IfOk result (λ r. IsMade r (alone spec.why_shape)) }
 {
-    let command = Command::new(alloc, "why")
-        .about("Prints the steps from what is selected to a feature that is on")
-        .after_help(WHY_EXAMPLE)
-        .arg(word(alloc, "feature", "FEATURE", FEATURE_HELP))?
-        .arg(flag(
+    let command = begun(
+        alloc,
+        "why",
+        "Prints the steps from what is selected to a feature that is on",
+        WHY_EXAMPLE,
+    );
+    let command = with_arg(command, word(alloc, "feature", "FEATURE", FEATURE_HELP));
+    let command = with_arg(
+        command,
+        flag(
             alloc,
             "all",
             "Print every direct reason of each step, and not only one",
-        ))?;
+        ),
+    );
     with_options(alloc, command)
 }
 
 /// Returns the command `why-not`.
-fn why_not_command<'a>(alloc: Global) -> Result<Command<'a>, AllocError>
-    ensures { IfOk result (λ r. IsSubcommand r spec.why_not_shape) }
+fn why_not_command<'a>(alloc: Global) -> Made<'a>
+    ensures { IfOk result (λ r. IsMade r (alone spec.why_not_shape)) }
 {
     worded(
         alloc,
@@ -249,8 +225,8 @@ fn why_not_command<'a>(alloc: Global) -> Result<Command<'a>, AllocError>
 }
 
 /// Returns the command `specs`.
-fn specs_command<'a>(alloc: Global) -> Result<Command<'a>, AllocError>
-    ensures { IfOk result (λ r. IsSubcommand r spec.specs_shape) }
+fn specs_command<'a>(alloc: Global) -> Made<'a>
+    ensures { IfOk result (λ r. IsMade r (alone spec.specs_shape)) }
 {
     wordless(
         alloc,
@@ -261,8 +237,8 @@ fn specs_command<'a>(alloc: Global) -> Result<Command<'a>, AllocError>
 }
 
 /// Returns the command `list`.
-fn list_command<'a>(alloc: Global) -> Result<Command<'a>, AllocError>
-    ensures { IfOk result (λ r. IsSubcommand r spec.list_shape) }
+fn list_command<'a>(alloc: Global) -> Made<'a>
+    ensures { IfOk result (λ r. IsMade r (alone spec.list_shape)) }
 {
     worded(
         alloc,
@@ -279,8 +255,8 @@ fn list_command<'a>(alloc: Global) -> Result<Command<'a>, AllocError>
 }
 
 /// Returns the command `duplicates`.
-fn duplicates_command<'a>(alloc: Global) -> Result<Command<'a>, AllocError>
-    ensures { IfOk result (λ r. IsSubcommand r spec.duplicates_shape) }
+fn duplicates_command<'a>(alloc: Global) -> Made<'a>
+    ensures { IfOk result (λ r. IsMade r (alone spec.duplicates_shape)) }
 {
     worded(
         alloc,
@@ -310,27 +286,35 @@ fn edges<'a>(alloc: Global) -> Arg<'a>
 }
 
 /// Returns the command `tree`.
-fn tree_command<'a>(alloc: Global) -> Result<Command<'a>, AllocError>
-    ensures { IfOk result (λ r. IsSubcommand r spec.tree_shape) }
+fn tree_command<'a>(alloc: Global) -> Made<'a>
+    ensures { IfOk result (λ r. IsMade r (alone spec.tree_shape)) }
 {
-    let command = Command::new(alloc, "tree")
-        .about("Prints what depends on what, as a tree")
-        .after_help(TREE_EXAMPLE)
-        .arg(short(
+    let command = begun(
+        alloc,
+        "tree",
+        "Prints what depends on what, as a tree",
+        TREE_EXAMPLE,
+    );
+    let command = with_arg(
+        command,
+        short(
             alloc,
             "invert",
             'i',
             "SPEC",
             "Print what depends on the package: NAME, NAME@VERSION or an id; with `--edges features` what turns on the feature",
-        ))?
-        .arg(option(alloc, "depth", "N", "Print nothing below this depth"))?
-        .arg(edges(alloc))?;
-    with_options(alloc, command)
+        ),
+    );
+    let command = with_arg(
+        command,
+        option(alloc, "depth", "N", "Print nothing below this depth"),
+    );
+    with_options(alloc, with_arg(command, edges(alloc)))
 }
 
 /// Returns the command `dot`.
-fn dot_command<'a>(alloc: Global) -> Result<Command<'a>, AllocError>
-    ensures { IfOk result (λ r. IsSubcommand r spec.dot_shape) }
+fn dot_command<'a>(alloc: Global) -> Made<'a>
+    ensures { IfOk result (λ r. IsMade r (alone spec.dot_shape)) }
 {
     worded(
         alloc,
@@ -342,46 +326,64 @@ fn dot_command<'a>(alloc: Global) -> Result<Command<'a>, AllocError>
 }
 
 /// Returns the command `check`.
-fn check_command<'a>(alloc: Global) -> Result<Command<'a>, AllocError>
-    ensures { IfOk result (λ r. IsSubcommand r spec.check_shape) }
+fn check_command<'a>(alloc: Global) -> Made<'a>
+    ensures { IfOk result (λ r. IsMade r (alone spec.check_shape)) }
 {
-    let command = Command::new(alloc, "check")
-        .about("Prints the rules of a policy that a build breaks, and why")
-        .after_help(CHECK_EXAMPLE)
-        .arg(word(alloc, "policy", "POLICY", "The file with the rules"))?
-        .arg(flag(
+    let command = begun(
+        alloc,
+        "check",
+        "Prints the rules of a policy that a build breaks, and why",
+        CHECK_EXAMPLE,
+    );
+    let command = with_arg(
+        command,
+        word(alloc, "policy", "POLICY", "The file with the rules"),
+    );
+    let command = with_arg(
+        command,
+        flag(
             alloc,
             "every-choice",
             "Check each `deny` for every choice of members, features of members, tests and platforms",
-        ))?;
+        ),
+    );
     with_options(alloc, command)
 }
 
 /// Returns the command `diff`.
-fn diff_command<'a>(alloc: Global) -> Result<Command<'a>, AllocError>
-    ensures { IfOk result (λ r. IsSubcommand r spec.diff_shape) }
+fn diff_command<'a>(alloc: Global) -> Made<'a>
+    ensures { IfOk result (λ r. IsMade r (alone spec.diff_shape)) }
 {
-    let command = Command::new(alloc, "diff")
-        .about("Prints the packages and features that differ between two builds")
-        .after_help(DIFF_EXAMPLE)
-        .arg(word(
+    let command = begun(
+        alloc,
+        "diff",
+        "Prints the packages and features that differ between two builds",
+        DIFF_EXAMPLE,
+    );
+    let command = with_arg(
+        command,
+        word(
             alloc,
             "old",
             "OLD",
             "The output of `cargo metadata --format-version 1 --all-features` before a change; `-` is standard input",
-        ))?
-        .arg(word(
+        ),
+    );
+    let command = with_arg(
+        command,
+        word(
             alloc,
             "new",
             "NEW",
             "That after the change; `-` is standard input",
-        ))?;
+        ),
+    );
     with_common(alloc, command)
 }
 
 /// Returns the command `slim`.
-fn slim_command<'a>(alloc: Global) -> Result<Command<'a>, AllocError>
-    ensures { IfOk result (λ r. IsSubcommand r spec.slim_shape) }
+fn slim_command<'a>(alloc: Global) -> Made<'a>
+    ensures { IfOk result (λ r. IsMade r (alone spec.slim_shape)) }
 {
     wordless(
         alloc,
@@ -400,20 +402,27 @@ fn bare_command<'a>(alloc: Global) -> Command<'a>
         .subcommand_required(true)
 }
 
+/// Adds the command `added` to the program `command`.
+#[tactic(auto, using(crate::proofs::Building::with_command))]
+fn with_command<'a>(command: Made<'a>, added: Made<'a>) -> Made<'a>
+    ensures { (app : App) (shape : Shape) → IfOk command.entry (λ c. app_of c ≡ app) → IfOk added.entry (λ c. IsMade c (alone shape)) → IfOk result (λ r. app_of r ≡ with_subcommand app shape) }
+{
+    command?.subcommand(added?)
+}
+
 /// Returns the program with its commands.
 pub(crate) fn feats_command<'a>(alloc: Global) -> Result<Command<'a>, AllocError>
     ensures { IfOk result (λ r. app_of r ≡ spec.feats_app) }
 {
-    bare_command(alloc)
-        .subcommand(plan_command(alloc)?)?
-        .subcommand(why_command(alloc)?)?
-        .subcommand(why_not_command(alloc)?)?
-        .subcommand(specs_command(alloc)?)?
-        .subcommand(list_command(alloc)?)?
-        .subcommand(duplicates_command(alloc)?)?
-        .subcommand(tree_command(alloc)?)?
-        .subcommand(dot_command(alloc)?)?
-        .subcommand(check_command(alloc)?)?
-        .subcommand(diff_command(alloc)?)?
-        .subcommand(slim_command(alloc)?)
+    let command = with_command(Ok(bare_command(alloc)), plan_command(alloc));
+    let command = with_command(command, why_command(alloc));
+    let command = with_command(command, why_not_command(alloc));
+    let command = with_command(command, specs_command(alloc));
+    let command = with_command(command, list_command(alloc));
+    let command = with_command(command, duplicates_command(alloc));
+    let command = with_command(command, tree_command(alloc));
+    let command = with_command(command, dot_command(alloc));
+    let command = with_command(command, check_command(alloc));
+    let command = with_command(command, diff_command(alloc));
+    with_command(command, slim_command(alloc))
 }

@@ -7,6 +7,7 @@ mod depths;
 mod edges;
 mod examples;
 mod fault;
+mod options;
 mod platform_words;
 mod request;
 mod splitting;

@@ -1,6 +1,6 @@
 -- How commands are made.
-use Rattle.std.specs.Prelude.{◌≡◌, List, ◌++◌, false}
-use Rattle.clap.specs.Words.{App, Rule, Shape, app_of, shape_of}
+use Rattle.std.specs.Prelude.{◌≡◌, List, [], ◌++◌, false}
+use Rattle.clap.specs.Words.{App, Rule, Shape, app_of}
 use Rattle.clap.specs.declared.builder.command.Command.TheViews.{out-Command}
 use Rattle.clap.specs.declared.builder.command.Command.{Command}
 
@@ -8,12 +8,11 @@ use Rattle.clap.specs.declared.builder.command.Command.{Command}
 abbrev pub with_rules : App → List Rule → App
 with_rules a rules = record a { top = record a.top { rules = a.top.rules ++ rules } }
 
--- The options were added, and none is global.
-pub record AddsRules (old new : Command) (rules : List Rule) : Type 0 where
-  pub app : app_of new ≡ with_rules (app_of old) rules
-  pub local : (out-Command new).has_globals ≡ false
-
 -- A command without commands of its own.
-pub record IsSubcommand (c : Command) (s : Shape) : Type 0 where
-  pub shape : shape_of c ≡ s
+abbrev pub alone : Shape → App
+alone shape = record { top = shape; subs = [] }
+
+-- A command that reads words as an app does, and has no global option.
+pub record IsMade (c : Command) (a : App) : Type 0 where
+  pub app : app_of c ≡ a
   pub local : (out-Command c).has_globals ≡ false

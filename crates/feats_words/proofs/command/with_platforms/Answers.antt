@@ -1,13 +1,11 @@
-use Rattle.std.proofs.Common.{codes}
-use Rattle.std.proofs.lemmas.Result.{IfOk-weaker}
+use Rattle.std.proofs.Common.{[], ◌∷◌, codes}
 use Rattle.feats_words.specs.Commands.{option_rule, repeated_rule, required_rule}
-use Rattle.feats_words.proofs.Building.{added, begun}
+use Rattle.feats_words.proofs.Building.{joined}
 use Rattle.feats_words.proofs.command.with_platforms.Goals as goal
 
 pub returns : goal.returns
-returns c =
-    let none = begun c.args.command c.requires in
-    let host = added _ _ _ _ _ (required_rule (codes "host")) none c.in_ok-arg.ensures c.required.ensures.rule c.required.ensures.local in
-    let targets = added _ _ _ _ _ (repeated_rule (codes "target")) host c.in_ok-arg-2.ensures c.repeated.ensures.rule c.repeated.ensures.local in
-    let resolver = added _ _ _ _ _ (option_rule (codes "resolver")) targets c.in_ok-arg-3.ensures c.option.ensures.rule c.option.ensures.local in
-    IfOk-weaker c.arg-4.result _ _ (λ r h. added _ _ r _ _ (option_rule (codes "manifest")) resolver h c.option-2.ensures.rule c.option-2.ensures.local) c.arg-4.ensures
+returns c = λ app made.
+    let host = c.with_arg-command.ensures app (required_rule (codes "host")) c.required.ensures.rule made in
+    let targets = joined c.with_arg-command-2.result app (required_rule (codes "host") ∷ []) (repeated_rule (codes "target") ∷ []) (c.with_arg-command-2.ensures _ (repeated_rule (codes "target")) c.repeated.ensures.rule host) in
+    let resolver = joined c.with_arg-command-3.result app (required_rule (codes "host") ∷ repeated_rule (codes "target") ∷ []) (option_rule (codes "resolver") ∷ []) (c.with_arg-command-3.ensures _ (option_rule (codes "resolver")) c.option.ensures.rule targets) in
+    joined c.with_arg.result app (required_rule (codes "host") ∷ repeated_rule (codes "target") ∷ option_rule (codes "resolver") ∷ []) (option_rule (codes "manifest") ∷ []) (c.with_arg.ensures _ (option_rule (codes "manifest")) c.option-2.ensures.rule resolver)

@@ -1,16 +1,14 @@
-use Rattle.std.proofs.Common.{codes}
-use Rattle.std.proofs.lemmas.Result.{IfOk-weaker}
+use Rattle.std.proofs.Common.{[], ◌∷◌, codes}
 use Rattle.feats_words.specs.Commands.{flag_rule, lettered_rule, option_rule}
-use Rattle.feats_words.proofs.Building.{added, begun}
+use Rattle.feats_words.proofs.Building.{joined}
 use Rattle.feats_words.proofs.command.with_selection.Goals as goal
 
 pub returns : goal.returns
-returns c =
-    let none = begun c.args.command c.requires in
-    let packages = added _ _ _ _ _ (lettered_rule (codes "package") 112) none c.in_ok-arg.ensures c.lettered.ensures.rule c.lettered.ensures.local in
-    let workspace = added _ _ _ _ _ (flag_rule (codes "workspace")) packages c.in_ok-arg-2.ensures c.flag.ensures.rule c.flag.ensures.local in
-    let features = added _ _ _ _ _ (lettered_rule (codes "features") 70) workspace c.in_ok-arg-3.ensures c.lettered-2.ensures.rule c.lettered-2.ensures.local in
-    let all = added _ _ _ _ _ (flag_rule (codes "all-features")) features c.in_ok-arg-4.ensures c.flag-2.ensures.rule c.flag-2.ensures.local in
-    let no_default = added _ _ _ _ _ (flag_rule (codes "no-default-features")) all c.in_ok-arg-5.ensures c.flag-3.ensures.rule c.flag-3.ensures.local in
-    let tests = added _ _ _ _ _ (flag_rule (codes "tests")) no_default c.in_ok-arg-6.ensures c.flag-4.ensures.rule c.flag-4.ensures.local in
-    IfOk-weaker c.arg-7.result _ _ (λ r h. added _ _ r _ _ (option_rule (codes "format")) tests h c.option.ensures.rule c.option.ensures.local) c.arg-7.ensures
+returns c = λ app made.
+    let packages = c.with_arg-command.ensures app (lettered_rule (codes "package") 112) c.lettered.ensures.rule made in
+    let workspace = joined c.with_arg-command-2.result app (lettered_rule (codes "package") 112 ∷ []) (flag_rule (codes "workspace") ∷ []) (c.with_arg-command-2.ensures _ (flag_rule (codes "workspace")) c.flag.ensures.rule packages) in
+    let features = joined c.with_arg-command-3.result app (lettered_rule (codes "package") 112 ∷ flag_rule (codes "workspace") ∷ []) (lettered_rule (codes "features") 70 ∷ []) (c.with_arg-command-3.ensures _ (lettered_rule (codes "features") 70) c.lettered-2.ensures.rule workspace) in
+    let all = joined c.with_arg-command-4.result app (lettered_rule (codes "package") 112 ∷ flag_rule (codes "workspace") ∷ lettered_rule (codes "features") 70 ∷ []) (flag_rule (codes "all-features") ∷ []) (c.with_arg-command-4.ensures _ (flag_rule (codes "all-features")) c.flag-2.ensures.rule features) in
+    let no_default = joined c.with_arg-command-5.result app (lettered_rule (codes "package") 112 ∷ flag_rule (codes "workspace") ∷ lettered_rule (codes "features") 70 ∷ flag_rule (codes "all-features") ∷ []) (flag_rule (codes "no-default-features") ∷ []) (c.with_arg-command-5.ensures _ (flag_rule (codes "no-default-features")) c.flag-3.ensures.rule all) in
+    let tests = joined c.with_arg-command-6.result app (lettered_rule (codes "package") 112 ∷ flag_rule (codes "workspace") ∷ lettered_rule (codes "features") 70 ∷ flag_rule (codes "all-features") ∷ flag_rule (codes "no-default-features") ∷ []) (flag_rule (codes "tests") ∷ []) (c.with_arg-command-6.ensures _ (flag_rule (codes "tests")) c.flag-4.ensures.rule no_default) in
+    joined c.with_arg.result app (lettered_rule (codes "package") 112 ∷ flag_rule (codes "workspace") ∷ lettered_rule (codes "features") 70 ∷ flag_rule (codes "all-features") ∷ flag_rule (codes "no-default-features") ∷ flag_rule (codes "tests") ∷ []) (option_rule (codes "format") ∷ []) (c.with_arg.ensures _ (option_rule (codes "format")) c.option.ensures.rule tests)

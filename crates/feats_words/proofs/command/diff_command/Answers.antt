@@ -1,0 +1,8 @@
+use Rattle.std.proofs.Common.{codes}
+use Rattle.feats_words.specs.Commands.{word_rule}
+use Rattle.feats_words.proofs.command.diff_command.Goals as goal
+
+pub returns : goal.returns
+returns c =
+    let old = c.with_arg-command.ensures _ (word_rule (codes "old")) c.word.ensures.rule c.begun-command.ensures in
+    c.with_common.ensures _ (c.with_arg-command-2.ensures _ (word_rule (codes "new")) c.word-2.ensures.rule old)
