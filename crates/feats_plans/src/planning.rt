@@ -92,7 +92,9 @@ fn planned_output<'w, 'n, 's, V: PlanVisitor>(
                 words,
                 plan: &plan,
             };
-            visitor.visit(alloc, &planned)
+            let output = visitor.visit(alloc, &planned);
+            drop(plan);
+            output
         }
         Err(PlanFault::Memory) => Err(Fault::Memory),
         Err(fault) => Err(plan_refused(alloc, workspace, fault)),

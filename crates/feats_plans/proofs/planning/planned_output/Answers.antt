@@ -12,7 +12,7 @@ use Rattle.feats_plans.proofs.planning.planned_output.Goals as goal
 
 pub returns-in-Ok-clause-output : goal.returns-in-Ok-clause-output
 returns-in-Ok-clause-output g c =
-    IfOk-weaker c.visit.result _ _ (λ output h. record { plan = plan_text c.in-Ok.plan; is_plan = c.in-Ok.ensures.plan; holds = h }) c.visit.ensures.output
+    IfOk-weaker c.visit-output.result _ _ (λ output h. record { plan = plan_text c.in-Ok.plan; is_plan = c.in-Ok.ensures.plan; holds = h }) c.visit-output.ensures.output
 
 pub returns-in-Ok-clause-fault : goal.returns-in-Ok-clause-fault
 returns-in-Ok-clause-fault g c =
@@ -21,7 +21,7 @@ returns-in-Ok-clause-fault g c =
     let words = words_text holds_on c.args.words.now in
     let plan = plan_text c.in-Ok.plan in
     let R = g.V.PlanVisitor.refuses c.args.visitor.now in
-    if_err_more c.visit.result (R (planned inputs w words plan)) (IsPlanRefusal inputs w words R) (λ m h. of_plan plan c.in-Ok.ensures.plan h) c.visit.ensures.fault
+    if_err_more c.visit-output.result (R (planned inputs w words plan)) (IsPlanRefusal inputs w words R) (λ m h. of_plan plan c.in-Ok.ensures.plan h) c.visit-output.ensures.fault
 
 pub returns-in-Err : goal.returns-in-Err
 returns-in-Err g c =
