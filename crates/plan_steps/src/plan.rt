@@ -53,6 +53,12 @@ impl<'w> Plan<'w> {
         self.starts.as_slice()
     }
 
+    /// Drops the plan. Call it for a plan that isn't needed any more: a crate that drops one itself proves the drop of all that a plan
+    /// has, which takes 20 processor seconds.
+    pub fn discard(self) {
+        drop(self);
+    }
+
     /// Returns whether `feature` of package `package` is on, on `side`.
     pub fn is_on(&self, side: Side, package: usize, feature: &str) -> bool
         ensures { result ≡ is_on (plan_text self.now).on side «package» (named feature.now) }
