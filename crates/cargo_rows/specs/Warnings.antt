@@ -1,5 +1,6 @@
 -- The declarations of workspace packages that lead to no package, but should.
 use Rattle.std.specs.Prelude.{◌&&◌, ◌||◌, List, [], map, filter, flat_map, take, drop, length, codes, Bool, true, false, not, is_some, Option, Some, None, Result, Ok, if◌then◌else◌}
+use Rattle.std.specs.Fmt.{◌++?◌, debug_str}
 use Rattle.std.specs.List.{list_any}
 use Rattle.std.specs.Str.{bytes_eq}
 use Rattle.std.specs.String.{string_bytes}
@@ -66,6 +67,12 @@ pub record WarningText : Type 0 where
 
 abbrev pub warning_view : Warning → WarningText
 warning_view w = record { owner = string_bytes w.package; dependency = string_bytes w.dependency }
+
+-- the line about a warning, without its line feed; None if a text isn't ASCII, because the kit doesn't say then how a text is quoted
+abbrev pub warning_line : WarningText → Option Text
+warning_line w =
+    Some (codes "package ") ++? debug_str w.owner ++? Some (codes ": dependency ") ++? debug_str w.dependency
+    ++? Some (codes " leads to no package; was --all-features forgotten?")
 
 -- the warning for a declaration of package `id`
 abbrev pub warning_of : Text → DeclarationText → WarningText

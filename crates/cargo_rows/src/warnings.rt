@@ -28,6 +28,8 @@ pub struct Warning {
 }
 
 impl fmt::Display for Warning {
+    ghost output = { λ warning. spec.warning_line (spec.warning_view warning) };
+
     fn fmt<W: fmt::Write>(&self, f: &mut fmt::Formatter<W>) -> fmt::Result {
         write!(
             f,
