@@ -14,10 +14,13 @@ use Rattle.why_nots.specs.Lines.{said_of}
 use Rattle.why_nots.specs.Objects.{answer_tokens, head_tokens}
 use Rattle.why_nots.specs.Parts.{PartText, title_of}
 
--- The beginning of a text: a line that says that the part is off. Objects have none.
+-- The beginning of a text: a line that says that what has this title is off. Objects have none.
+abbrev pub head_line : Format → Text → Text
+head_line format.Text title = off_line title
+head_line format.Json title = []
+
 abbrev pub head_text : Format → List PackageText → PartText → Text
-head_text format.Text packages part = off_line (title_of packages part)
-head_text format.Json packages part = []
+head_text form packages part = head_line form (title_of packages part)
 
 -- What is said of a widening, where its words have this answer about the part.
 abbrev pub section_text : Format → List PackageText → WordsText → Widening → PartText → AnswerText → Text

@@ -1,6 +1,7 @@
 //! Parts that are off, and their titles.
-ghost use Rattle.std.specs.Prelude.{◌≡◌, IfOk, string_bytes};
+ghost use Rattle.std.specs.Prelude.{◌≡◌, IfOk, map, string_bytes};
 ghost use Rattle.cargo_workspaces.specs.WorkspaceView.{workspace_text};
+ghost use Rattle.plan_rows.specs.declared.side.Side.TheVariants.{Target};
 ghost use Rattle.plan_whys.specs.StepViews.{spot_text};
 ghost use Rattle.why_nots.specs.PartView.{part_text};
 ghost use Rattle.why_nots.specs.Parts as spec;
@@ -10,7 +11,7 @@ use feature_labels::FeatureLabel;
 use plan_rows::Side;
 use plan_whys::Spot;
 use std::alloc::{AllocError, Global};
-use why_lines::spot_label;
+use why_lines::spot_labels;
 
 /// A label of a package that is off.
 #[derive(Clone, Copy)]
@@ -31,13 +32,25 @@ pub(crate) fn spot_on(side: Side, part: OffPart<'_>) -> Spot<'_>
     }
 }
 
-/// Returns the title of `part`.
-pub(crate) fn title_of(
+/// Returns each of `parts` on the target side.
+fn target_spots<'w>(alloc: Global, parts: &[OffPart<'w>]) -> Result<Vec<Spot<'w>>, AllocError>
+    ensures { IfOk result (λ spots. map spot_text spots.items ≡ map (spec.spot_on Target) (map part_text parts.now)) }
+{
+    let mut spots = Vec::with_capacity(alloc, parts.len())?;
+    for part in parts {
+        spots.push(spot_on(Side::Target, *part))?;
+    }
+    Ok(spots)
+}
+
+/// Returns the titles of `parts`.
+pub(crate) fn titles_of(
     alloc: Global,
     workspace: &Workspace<'_>,
-    part: OffPart<'_>,
-) -> Result<String, AllocError>
-    ensures { IfOk result (λ title. string_bytes title ≡ spec.title_of (workspace_text workspace.now).packages (part_text part.entry)) }
+    parts: &[OffPart<'_>],
+) -> Result<Vec<String>, AllocError>
+    ensures { IfOk result (λ titles. map string_bytes titles.items ≡ map (spec.title_of (workspace_text workspace.now).packages) (map part_text parts.now)) }
 {
-    spot_label(alloc, workspace, false, spot_on(Side::Target, part))
+    let spots = target_spots(alloc, parts)?;
+    spot_labels(alloc, workspace, false, &spots)
 }

@@ -1,5 +1,5 @@
 //! The texts about parts that are off.
-ghost use Rattle.std.specs.Prelude.{◌≡◌, List, IfOk, map};
+ghost use Rattle.std.specs.Prelude.{◌≡◌, List, IfOk, map, string_bytes};
 ghost use Rattle.std.specs.List.{AllZip};
 ghost use Rattle.cargo_plans.specs.Plans.{IsPlanOf};
 ghost use Rattle.cargo_plans.specs.WordsView.{words_text};
@@ -15,7 +15,7 @@ ghost use Rattle.why_nots.specs.inner.Lists.{joined as joined_texts, texts_of};
 
 use crate::base::{Base, sections_by};
 use crate::joined::joined;
-use crate::parts::{OffPart, title_of};
+use crate::parts::{OffPart, titles_of};
 use cargo_plans::{Plan, PlanWords};
 use cargo_workspaces::Workspace;
 use feats_words::Format;
@@ -33,22 +33,25 @@ fn off_line_of(alloc: Global, name: &str) -> Result<Vec<u8>, AllocError>
     Ok(text)
 }
 
-/// Returns the beginning of the text about `part`.
-fn head_of(
-    alloc: Global,
-    form: Format,
-    workspace: &Workspace<'_>,
-    part: OffPart<'_>,
-) -> Result<Vec<u8>, AllocError>
-    ensures { IfOk result (λ text. text.items ≡ spec.head_text form (workspace_text workspace.now).packages (part_text part.entry)) }
+/// Returns the beginning of the text about a part with the title `title`.
+fn head_of(alloc: Global, form: Format, title: &str) -> Result<Vec<u8>, AllocError>
+    ensures { IfOk result (λ text. text.items ≡ spec.head_line form title.now) }
 {
     match form {
-        Format::Text => {
-            let title = title_of(alloc, workspace, part)?;
-            off_line_of(alloc, title.as_str())
-        }
+        Format::Text => off_line_of(alloc, title),
         Format::Json => Ok(Vec::new(alloc)),
     }
+}
+
+/// Returns the beginnings of the texts about parts with these titles.
+fn heads_by(alloc: Global, form: Format, titles: &[String]) -> Result<Vec<Vec<u8>>, AllocError>
+    ensures { IfOk result (λ heads. texts_of heads.items ≡ map (spec.head_line form) (map string_bytes titles.now)) }
+{
+    let mut heads = Vec::with_capacity(alloc, titles.len())?;
+    for title in titles {
+        heads.push(head_of(alloc, form, title.as_str())?)?;
+    }
+    Ok(heads)
 }
 
 /// Returns the beginnings of the texts about `parts`.
@@ -60,11 +63,8 @@ fn heads_of(
 ) -> Result<Vec<Vec<u8>>, AllocError>
     ensures { IfOk result (λ texts. texts_of texts.items ≡ map (spec.head_text form (workspace_text workspace.now).packages) (map part_text parts.now)) }
 {
-    let mut heads = Vec::with_capacity(alloc, parts.len())?;
-    for part in parts {
-        heads.push(head_of(alloc, form, workspace, *part)?)?;
-    }
-    Ok(heads)
+    let titles = titles_of(alloc, workspace, parts)?;
+    heads_by(alloc, form, &titles)
 }
 
 /// Returns `texts`, each followed by the section about `widening` of the build `base` and the part at the same place in `parts`.
