@@ -11,7 +11,7 @@ use Rattle.digraph_orders.specs.inner.Heads.{IsDone, IsHead, IsEntered}
 use Rattle.digraph_orders.specs.inner.Plans.{is_fresh, IsRun, IsWithin, IsChosen, IsSetup, IsPause, AreReadyBut, AreCut, TakesFresh, IsBegun, IsWaiting, RowWaits, IsFreshPlace}
 use Rattle.guppy_support.specs.Rows.{places}
 use Rattle.digraph_orders.proofs.PlaceLemmas.{places_within}
-use Rattle.digraph_orders.proofs.GroupLemmas.{row_complete, row_alone, rising}
+use Rattle.digraph_orders.proofs.GroupLemmas.{row_complete, rising}
 use Rattle.digraph_orders.proofs.Available.{IsFront, some_available, rank_same}
 use Rattle.digraph_orders.proofs.HeadLemmas.{next_within, next_start, done_cases}
 use Rattle.digraph_orders.proofs.PlanLemmas.{holds_of, entered_of, zero_of}
@@ -139,16 +139,6 @@ module _ (g : Graph) (ranks : List ℕ) (s : IsSetup g ranks) (listed : List ℕ
           plan = w.plan;
           whole = λ d a b da lb fb e. absurd (fb (none b (w.run.rest_all b lb fb (sym e ∙ w.run.whole a b da lb fb e))));
         }
-
-    -- A component of one node is done after its start.
-    pub alone_end : length (places c ranks) ≡ 1 → IsPause g ranks listed done outside held starts
-    alone_end one =
-        let b = w.run.begun in
-        let by : get_or (places c ranks) 0 0 ≡ b.by = row_alone ranks c b.by (omega (arith, s.ranking.long, w.plan.nodes b.by (w.plan.marks.listed_one b.by b.marked))) b.same one 0 (omega (arith, one)) in
-        within_end
-        (λ y cy.
-        let o = w.run.rest_only y cy in
-        rw (sym by ∙ row_alone ranks c y (omega (arith, s.ranking.long, o.0)) o.1 one 0 (omega (arith, one))) at b.marked)
 
   module _ (q : IsPause g ranks listed done outside held starts) where
     never_begun : (u : ℕ) → u < g.nodes → ¬ IsDone done u → ¬ IsBegun ranks done (get_or ranks u 0)

@@ -48,26 +48,6 @@ has_at (y ∷ ys) x h =
 pub row_complete : (ranks : List ℕ) (c u : ℕ) → u < length ranks → get_or ranks u 0 ≡ c → (k : ℕ) × (k < length (places c ranks)) × (get_or (places c ranks) k 0 ≡ u)
 row_complete ranks c u h e = has_at (places c ranks) u (has_place c 0 ranks u u h e (omega arith))
 
--- In a component of one node, the row has only that node.
-pub row_alone : (ranks : List ℕ) (c u : ℕ) → u < length ranks → get_or ranks u 0 ≡ c → length (places c ranks) ≡ 1 → (j : ℕ) → j < length (places c ranks) → get_or (places c ranks) j 0 ≡ u
-row_alone ranks c u h e one j l =
-    let r = row_complete ranks c u h e in
-    let same : r.0 ≡ j = omega (arith, r.1, one, l) in
-    rw same at r.2
-
--- In a component of one node, that node is the first.
-pub first_alone : (ranks held : List ℕ) (c u : ℕ) → u < length ranks → get_or ranks u 0 ≡ c → length (places c ranks) ≡ 1 → IsFirst (places c ranks) held u
-first_alone ranks held c u h e one =
-    record {
-      place = 0;
-      within = omega (arith, one);
-      is = row_alone ranks c u h e one 0 (omega (arith, one));
-      first = elim (cases_eq (get_or held u 0) 0) [
-        | inl free ↦ inl (free, λ j l. absurd (omega arith))
-        | inr stuck ↦ inr (refl, λ j l z. stuck (rw (row_alone ranks c u h e one j l) at z))
-      ];
-    }
-
 -- In a component with no node done, the first node without a hold, or else the first, is the head.
 pub first_head : (n : ℕ) (ranks held : List ℕ) (done : List Bool) (c x : ℕ) → length ranks ≡ n → ((u : ℕ) → get_or ranks u 0 ≡ c → ¬ IsDone done u) → IsFirst (places c ranks) held x → (get_or ranks x 0 ≡ c) × IsHead n ranks held done x
 first_head n ranks held done c x long fresh f =

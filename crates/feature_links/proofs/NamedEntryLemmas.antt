@@ -144,14 +144,6 @@ module _ (name : Text) (names : List (Bor (List ℕ))) (numbers : List ℕ) (fir
       cut name names numbers first (end - first) long (omega (arith, l, within)) before (λ k d m o. inside k d m (omega (arith, l, o)))
       (λ k d m o. passed_by above k d (omega (arith, l, m)) o (bytes_eq name (get_or names k d).now) refl)
 
-  -- the first place is found by scanning
-  pub scanned : ((k : ℕ) (d : Bor (List ℕ)) → k < first → bytes_eq name (get_or names k d).now ≡ false)
-      → ((d : Bor (List ℕ)) → first < length names → bytes_eq name (get_or names first d).now ≡ true)
-      → take (end - first) (drop first numbers) ≡ numbers_named name (zip names numbers)
-  scanned before found = beside before (λ d m.
-      let start : name ≡ (get_or names first d).now = (bytes_decides name (get_or names first d).now).0 (found d (omega (arith, l, m))) in
-      ap (λ z. is_lt (compare (get_or names end d).now z)) start ∙ far names ordered first end d l m)
-
   -- the first place is found by halves
   pub halved : IsPartitionPoint (λ y. is_below name y ≡ true) (λ y. is_below name y ≡ false) names first → take (end - first) (drop first numbers) ≡ numbers_named name (zip names numbers)
   halved low = beside (λ k d m. equal_by name (get_or names k d).now ∙ by_less _ (low.0 k d (omega arith) m)) (λ d m. low.1 end d l m)

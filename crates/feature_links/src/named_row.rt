@@ -48,23 +48,6 @@ fn push_entries<'g>(
     Ok(())
 }
 
-/// The most names that are scanned; a longer row is searched by halves.
-const FEW: usize = 12;
-
-/// Returns the first place of `name`, or the number of names if it isn't among them.
-fn first_place(names: &[&str], name: &str) -> usize
-    ensures within { result ≤ length names.now }
-    ensures before { (k : ℕ) (d : Bor (List ℕ)) → k < result → bytes_eq name.now (get_or names.now k d).now ≡ false }
-    ensures found { (d : Bor (List ℕ)) → result < length names.now → bytes_eq name.now (get_or names.now result d).now ≡ true }
-{
-    for place in 0..names.len() {
-        if name == names[place] {
-            return place;
-        }
-    }
-    names.len()
-}
-
 /// Returns the first place from `start` on of a name other than `name`, or the number of names.
 fn end_place(names: &[&str], start: usize, name: &str) -> usize
     requires { start ≤ length names.now }
@@ -81,19 +64,8 @@ fn end_place(names: &[&str], start: usize, name: &str) -> usize
     names.len()
 }
 
-/// Returns the numbers beside `name`; `names` are ordered. Scans for the first.
-fn numbers_scanned<'a>(names: &[&str], numbers: &'a [usize], name: &str) -> &'a [usize]
-    requires ordered { AreOrdered names.now }
-    requires beside { length names.now ≡ length numbers.now }
-    ensures { result.now ≡ numbers_named name.now (zip names.now numbers.now) }
-{
-    let first = first_place(names, name);
-    let end = end_place(names, first, name);
-    &numbers[first..end]
-}
-
-/// Returns the numbers beside `name`; `names` are ordered. Searches for the first by halves.
-fn numbers_halved<'a>(names: &[&str], numbers: &'a [usize], name: &str) -> &'a [usize]
+/// Returns the numbers beside `name`; `names` are ordered.
+fn numbers_beside<'a>(names: &[&str], numbers: &'a [usize], name: &str) -> &'a [usize]
     requires ordered { AreOrdered names.now }
     requires beside { length names.now ≡ length numbers.now }
     ensures { result.now ≡ numbers_named name.now (zip names.now numbers.now) }
@@ -105,19 +77,6 @@ fn numbers_halved<'a>(names: &[&str], numbers: &'a [usize], name: &str) -> &'a [
     );
     let end = end_place(names, first, name);
     &numbers[first..end]
-}
-
-/// Returns the numbers beside `name`; `names` are ordered.
-fn numbers_beside<'a>(names: &[&str], numbers: &'a [usize], name: &str) -> &'a [usize]
-    requires ordered { AreOrdered names.now }
-    requires beside { length names.now ≡ length numbers.now }
-    ensures { result.now ≡ numbers_named name.now (zip names.now numbers.now) }
-{
-    if names.len() <= FEW {
-        numbers_scanned(names, numbers, name)
-    } else {
-        numbers_halved(names, numbers, name)
-    }
 }
 
 impl<'g> NamedRows<'g> {

@@ -83,25 +83,6 @@ impl Digraph {
         }
     }
 
-    /// Builds a digraph as [`Digraph::new`] does, and frees `edges` once they are copied.
-    pub fn from_edges(
-        alloc: Global,
-        nodes: usize,
-        edges: Vec<Edge>,
-    ) -> Result<Digraph, DigraphError>
-        ensures made { IfOk result (λ g. g ≡ record { nodes = nodes; edges = edges.items }) }
-        ensures sound { IfOk result (λ g. IsDigraph g) }
-        ensures refused { IfErr result (λ e. IsRefused nodes edges.items e) }
-    {
-        if let Some(fault) = first_fault(nodes, &edges) {
-            return Err(fault);
-        }
-        match Digraph::taken(alloc, nodes, edges) {
-            Ok(graph) => Ok(graph),
-            Err(_) => Err(DigraphError::Memory),
-        }
-    }
-
     /// Builds the digraph of `edges`, which have no fault by the precondition and aren't copied. Returns
     /// `AllocError` where `new` returns `Memory`.
     pub fn from_columns(
@@ -130,16 +111,6 @@ impl Digraph {
         ensures { IfOk result (λ g. g ≡ record { nodes = nodes; edges = edges.now }) }
     {
         let columns = EdgeColumns::copied(alloc, edges)?;
-        let graph = Digraph::from_columns(alloc, nodes, columns)?;
-        Ok(graph)
-    }
-
-    fn taken(alloc: Global, nodes: usize, edges: Vec<Edge>) -> Result<Digraph, AllocError>
-        requires { IsDigraph (record { nodes = nodes; edges = edges.items }) }
-        ensures { IfOk result (λ g. g ≡ record { nodes = nodes; edges = edges.items }) }
-    {
-        let columns = EdgeColumns::copied(alloc, &edges)?;
-        drop(edges);
         let graph = Digraph::from_columns(alloc, nodes, columns)?;
         Ok(graph)
     }

@@ -1,10 +1,9 @@
 //! The nodes of each component, by its rank.
-ghost use Rattle.std.specs.Prelude.{◌≡◌, ℕ, ◌<◌, length, slice_index, IfOk, true};
+ghost use Rattle.std.specs.Prelude.{◌≡◌, ℕ, ◌<◌, length, slice_index, IfOk};
 ghost use Rattle.guppy_support.specs.Rows.{places};
-ghost use Rattle.guppy_support.specs.PackedRows.{IsPacked};
-ghost use Rattle.digraph_orders.specs.inner.Groups.{AreAlone, AreGroups};
+ghost use Rattle.digraph_orders.specs.inner.Groups.{AreGroups};
 
-use guppy_support::{IxBitSet, Rows, pack_rows};
+use guppy_support::{Rows, pack_rows};
 use std::alloc::{AllocError, Global};
 
 /// The nodes of each component.
@@ -12,32 +11,6 @@ use std::alloc::{AllocError, Global};
 pub(crate) struct Groups {
     /// The nodes of each component: row `r` is the component of rank `r`.
     pub(crate) rows: Rows,
-    /// The ranks of the components that have one node.
-    pub(crate) alone: IxBitSet,
-}
-
-/// Returns the nodes of component `rank`, ascending.
-fn row<'a>(rows: &'a Rows, ranks: &[u32], rank: usize, nodes: usize) -> &'a [u32]
-    requires rank { rank < nodes }
-    requires packed { IsPacked nodes ranks.now rows.now.begins.items rows.now.numbers.items }
-    ensures { result.now ≡ places rank ranks.now }
-{
-    &rows.numbers[rows.begins[rank] as usize..rows.begins[rank + 1] as usize]
-}
-
-/// Returns the ranks of the components that have one node.
-fn alone_of(alloc: Global, rows: &Rows, ranks: &[u32], nodes: usize) -> Result<IxBitSet, AllocError>
-    requires packed { IsPacked nodes ranks.now rows.now.begins.items rows.now.numbers.items }
-    ensures { IfOk result (AreAlone nodes ranks.now) }
-{
-    let mut alone = IxBitSet::empty(alloc, nodes)?;
-    for rank in 0..nodes {
-        let members = row(rows, ranks, rank, nodes);
-        if members.len() == 1 {
-            alone.insert(rank);
-        }
-    }
-    Ok(alone)
 }
 
 impl Groups {
@@ -47,17 +20,7 @@ impl Groups {
         ensures { IfOk result (AreGroups nodes ranks.now) }
     {
         let rows = pack_rows(alloc, nodes, &ranks)?;
-        let alone = alone_of(alloc, &rows, ranks, nodes)?;
-        Ok(Groups { rows, alone })
-    }
-
-    /// Returns true if component `rank` has exactly one node.
-    pub(crate) fn is_alone(&self, ranks: &[u32], rank: usize, nodes: usize) -> bool
-        requires rank { rank < nodes }
-        requires groups { AreGroups nodes ranks.now self.now }
-        ensures { result ≡ true → length (places rank ranks.now) ≡ 1 }
-    {
-        self.alone.contains(rank)
+        Ok(Groups { rows })
     }
 
     /// Returns the nodes of component `rank`, ascending.
@@ -66,6 +29,6 @@ impl Groups {
         requires groups { AreGroups nodes ranks.now self.now }
         ensures { result.now ≡ places rank ranks.now }
     {
-        row(&self.rows, ranks, rank, nodes)
+        &self.rows.numbers[self.rows.begins[rank] as usize..self.rows.begins[rank + 1] as usize]
     }
 }

@@ -86,9 +86,6 @@ fn head_of(groups: &Groups, ranks: &[u32], held: &[u32], node: usize, nodes: usi
     ensures { IsFirst (places (slice_index ranks.now node) ranks.now) held.now result }
 {
     let rank = ranks[node] as usize;
-    if groups.is_alone(ranks, rank, nodes) {
-        return node;
-    }
     first_of(groups.row(ranks, rank, nodes), held)
 }
 
@@ -170,9 +167,6 @@ impl Plan {
     {
         if let Some(node) = pop_fresh(&mut self.ready, &self.done) {
             return Some(node);
-        }
-        if groups.is_alone(ranks, rank, graph.node_count()) {
-            return None;
         }
         let members = groups.row(ranks, rank, graph.node_count());
         let Some(place) = fresh_from(members, self.next, &self.done) else {
@@ -413,9 +407,6 @@ fn make_ready(
     ensures room { length ready.new ≡ length ready.old }
 {
     let rank = ranks[start] as usize;
-    if groups.is_alone(ranks, rank, nodes) {
-        return;
-    }
     let row = groups.row(ranks, rank, nodes);
     add_ready(ready, row, held, start);
 }

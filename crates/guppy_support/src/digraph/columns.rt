@@ -43,7 +43,7 @@ impl EdgeColumns {
 
     /// Returns a copy of `edges`. Returns `AllocError` if an allocation fails or a number doesn't fit, as
     /// `push` does.
-    pub(crate) fn copied(alloc: Global, edges: &[Edge]) -> Result<EdgeColumns, AllocError>
+    pub fn copied(alloc: Global, edges: &[Edge]) -> Result<EdgeColumns, AllocError>
         ensures { IfOk result (λ columns. columns ≡ edges.now) }
     {
         let mut columns = EdgeColumns::with_capacity(alloc, edges.len())?;

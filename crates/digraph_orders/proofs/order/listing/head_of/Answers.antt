@@ -1,10 +1,6 @@
 use Rattle.std.proofs.Common.{arith, refl, get_or}
-use Rattle.digraph_orders.proofs.GroupLemmas.{row_complete, first_alone}
+use Rattle.digraph_orders.proofs.GroupLemmas.{row_complete}
 use Rattle.digraph_orders.proofs.order.listing.head_of.Goals as goal
-
-pub returns-then-is_alone : goal.returns-then-is_alone
-returns-then-is_alone c =
-    first_alone c.args.ranks.now c.args.held.now (get_or c.args.ranks.now c.args.node 0) c.args.node c.requires.node refl (c.is_alone.ensures c.if-is_alone.true)
 
 pub first_of-requires-clause-some : goal.first_of-requires-clause-some
 first_of-requires-clause-some c =

@@ -3,7 +3,7 @@ use Rattle.guppy_support.specs.Bits.{members}
 use Rattle.guppy_support.specs.Rows.{places}
 use Rattle.digraph_orders.specs.inner.Plans.{rest_of, IsFreshPlace}
 use Rattle.digraph_orders.proofs.PlaceLemmas.{places_within}
-use Rattle.digraph_orders.proofs.ChoiceLemmas.{choose_ready, choose_rest, within_end, alone_end, rank_small, takes_row, row_done}
+use Rattle.digraph_orders.proofs.ChoiceLemmas.{choose_ready, choose_rest, within_end, rank_small, takes_row, row_done}
 use Rattle.digraph_orders.proofs.order.listing.Plan.next_within.Goals as goal
 
 pub pop_fresh-requires : goal.pop_fresh-requires
@@ -26,15 +26,6 @@ row-members-requires-clause-rank c =
     let small = rank_small c.args.graph.now c.args.ranks.now c.requires.setup p.listed.items p.done p.outside.items p.held.items (members p.starts)
     c.args.rank (members p.ready) (rest_of c.args.ranks.now c.args.rank p) c.requires.within in
     omega (arith, small, c.node_count.ensures)
-
-pub returns-then-is_alone-clause-none : goal.returns-then-is_alone-clause-none
-returns-then-is_alone-clause-none c =
-    let p = c.args.self.now in (
-      alone_end c.args.graph.now c.args.ranks.now c.requires.setup p.listed.items p.done p.outside.items p.held.items (members p.starts)
-          c.args.rank (members p.ready) (rest_of c.args.ranks.now c.args.rank p) c.requires.within
-          (c.is_alone.ensures c.if-is_alone.true),
-      c.in_default.ensures.empty,
-    )
 
 pub fresh_from-requires : goal.fresh_from-requires
 fresh_from-requires c =
