@@ -5,36 +5,57 @@
 #![tactic(auto)]
 
 use guppy_support::collect_exactly;
-use guppy_tool::{Fault, FromReader, ToWriter, parse_words, run};
+use guppy_tool::{Command, Fault, FromReader, ToWriter, parse_words, run};
 use std::fs::File;
 use std::io::ErrorKind;
 use std::process::ExitCode;
 use std::{env, io};
 
-/// Runs the command of the program's arguments. The error is the first fault.
-fn answer(rt: &HostRuntime) -> Result<(), Fault> {
-    let arguments = match env::args(rt) {
-        Ok(arguments) => arguments,
-        Err(error) if error.kind() == ErrorKind::InvalidData => return Err(Fault::Usage),
-        Err(_) => return Err(Fault::Memory),
-    };
-    let owned = collect_exactly(arguments.skip(1), rt.alloc())?;
-    let words = collect_exactly(owned.iter().map(|word| word.as_str()), rt.alloc())?;
-    let (file, command) = parse_words(rt.alloc(), &words)?;
+/// Runs `command` over the row file at `path`, or over standard input if `path` is `-`.
+fn answer(rt: &HostRuntime, path: &str, command: &Command<'_>) -> Result<(), Fault> {
     let mut writer = ToWriter::new(io::writer(rt));
-    if file == "-" {
+    if path == "-" {
         let mut reader = FromReader::new(rt.stdin());
-        return run(rt.alloc(), &command, &mut reader, &mut writer);
+        return run(rt.alloc(), command, &mut reader, &mut writer);
     }
-    let Ok(opened) = File::open(rt, file) else {
-        return Err(Fault::CannotRead);
-    };
-    let mut reader = FromReader::new(opened);
-    run(rt.alloc(), &command, &mut reader, &mut writer)
+    match File::open(rt, path) {
+        Ok(file) => {
+            let mut reader = FromReader::new(file);
+            run(rt.alloc(), command, &mut reader, &mut writer)
+        }
+        Err(_) => Err(Fault::CannotRead),
+    }
+}
+
+/// Runs the command of `words`.
+fn answer_words(rt: &HostRuntime, words: &[&str]) -> Result<(), Fault> {
+    let (path, command) = parse_words(rt.alloc(), words)?;
+    answer(rt, path, &command)
+}
+
+/// Runs the command of the words `owned`.
+fn answer_owned(rt: &HostRuntime, owned: &[String]) -> Result<(), Fault> {
+    let words = collect_exactly(owned.iter().map(|word| word.as_str()), rt.alloc())?;
+    answer_words(rt, &words)
+}
+
+/// Returns the words of the command line, without the program's name.
+fn command_line(rt: &HostRuntime) -> Result<Vec<String>, Fault> {
+    match env::args(rt) {
+        Ok(arguments) => Ok(collect_exactly(arguments.skip(1), rt.alloc())?),
+        Err(error) if error.kind() == ErrorKind::InvalidData => Err(Fault::Usage),
+        Err(_) => Err(Fault::Memory),
+    }
+}
+
+/// Runs the command of the program's arguments.
+fn answer_line(rt: &HostRuntime) -> Result<(), Fault> {
+    let words = command_line(rt)?;
+    answer_owned(rt, &words)
 }
 
 fn main(rt: HostRuntime) -> ExitCode {
-    match answer(&rt) {
+    match answer_line(&rt) {
         Ok(()) => ExitCode::SUCCESS,
         Err(fault) => {
             let _ = eprintln!(rt; "{fault}");
