@@ -47,7 +47,6 @@ pub struct Target<'v> {
 }
 
 /// A package of a document.
-#[derive(Drop)]
 pub struct Package<'v> {
     pub id: &'v str,
     pub name: &'v str,
@@ -60,6 +59,21 @@ pub struct Package<'v> {
     pub declarations: Vec<Declaration<'v>>,
     /// The targets, in the order of the document.
     pub targets: Vec<Target<'v>>,
+}
+
+impl Drop for Package<'_> {
+    // Written out, so that a crate above calls it. A derived drop is proved in each crate that drops a value, with those of all fields.
+    fn drop(self) {
+        let Package {
+            id: _id,
+            name: _name,
+            version: _version,
+            source: _source,
+            features: _features,
+            declarations: _declarations,
+            targets: _targets,
+        } = self;
+    }
 }
 
 /// Returns whether targets of this kind are linked into the packages that depend on theirs.

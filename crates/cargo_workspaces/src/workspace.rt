@@ -6,13 +6,24 @@ ghost use Rattle.cargo_workspaces.specs.Workspaces.{IsWorkspace, IsWorkspace-pro
 use crate::package::Package;
 
 /// A workspace with all packages that it depends on. Packages are numbered from 0, in the order of their ids.
-#[derive(Drop)]
 pub struct Workspace<'v> {
     packages: Vec<Package<'v>>,
     members: Vec<usize>,
     default_members: Vec<usize>,
     root: Option<usize>,
     ghost valid: { IsWorkspace (record { packages = map package_text packages.items; members = members.items; default_members = default_members.items; root = root }) } by { IsWorkspace-prop (record { packages = map package_text packages.items; members = members.items; default_members = default_members.items; root = root }) },
+}
+
+impl Drop for Workspace<'_> {
+    // Written out, so that a crate above calls it. A derived drop is proved in each crate that drops a value, with those of all fields.
+    fn drop(self) {
+        let Workspace {
+            packages: _packages,
+            members: _members,
+            default_members: _default_members,
+            root: _root,
+        } = self;
+    }
 }
 
 impl<'v> Workspace<'v> {

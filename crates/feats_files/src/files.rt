@@ -16,10 +16,19 @@ use std::alloc::{AllocError, Global};
 use std::str;
 
 /// A platform, and the bytes of its cfg text.
-#[derive(Drop)]
 pub struct PlatformFile<'f> {
     pub triple: &'f str,
     pub bytes: Vec<u8>,
+}
+
+impl Drop for PlatformFile<'_> {
+    // Written out, so that a crate above calls it. A derived drop is proved in each crate that drops a value, with those of all fields.
+    fn drop(self) {
+        let PlatformFile {
+            triple: _triple,
+            bytes: _bytes,
+        } = self;
+    }
 }
 
 /// Returns the refusal of a manifest.

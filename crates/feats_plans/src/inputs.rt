@@ -10,7 +10,6 @@ use feats_words::PlatformWord;
 use std::alloc::Global;
 
 /// The bytes of the files that arguments name, besides the document.
-#[derive(Drop)]
 pub struct PlanFiles<'f> {
     /// The root manifest; empty if no manifest is named.
     pub manifest: Vec<u8>,
@@ -19,6 +18,18 @@ pub struct PlanFiles<'f> {
     pub targets: Vec<PlatformFile<'f>>,
     /// The policy; empty if no policy is named.
     pub policy: Vec<u8>,
+}
+
+impl Drop for PlanFiles<'_> {
+    // Written out, so that a crate above calls it. A derived drop is proved in each crate that drops a value, with those of all fields.
+    fn drop(self) {
+        let PlanFiles {
+            manifest: _manifest,
+            host: _host,
+            targets: _targets,
+            policy: _policy,
+        } = self;
+    }
 }
 
 /// Returns the platform of `word`, with all bytes that are left of its file.

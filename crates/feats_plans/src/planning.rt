@@ -93,7 +93,7 @@ fn planned_output<'w, 'n, 's, V: PlanVisitor>(
                 plan: &plan,
             };
             let output = visitor.visit(alloc, &planned);
-            plan.discard();
+            drop(plan);
             output
         }
         Err(PlanFault::Memory) => Err(Fault::Memory),

@@ -30,7 +30,6 @@ pub enum Format {
 }
 
 /// The arguments of a command.
-#[derive(Drop)]
 pub struct CommandArguments<'a> {
     pub question: Question<'a>,
     /// The path of the document, or `-`.
@@ -52,6 +51,29 @@ pub struct CommandArguments<'a> {
     pub depth: Option<usize>,
     /// What the nodes of a tree or a graph are.
     pub edges: Edges,
+}
+
+impl Drop for CommandArguments<'_> {
+    // Written out, so that a crate above calls it. A derived drop is proved in each crate that drops a value, with those of all fields.
+    fn drop(self) {
+        let CommandArguments {
+            question: _question,
+            metadata: _metadata,
+            new: _new,
+            host: _host,
+            targets: _targets,
+            resolver: _resolver,
+            packages: _packages,
+            workspace: _workspace,
+            features: _features,
+            all_features: _all_features,
+            no_default_features: _no_default_features,
+            tests: _tests,
+            format: _format,
+            depth: _depth,
+            edges: _edges,
+        } = self;
+    }
 }
 
 /// Returns the platform of `word`, or `Platform` if it isn't `TRIPLE=CFGFILE`.

@@ -41,7 +41,6 @@ use std::marker::Model;
 
 /// The nodes and edges of a package graph's features. A contract sees the stamp, the node table, the edges, the weak links with
 /// their gates, the warnings, and the default features.
-#[derive(Drop)]
 pub struct FeatureGraphData {
     stamp: u64,
     table: NodeTable,
@@ -53,6 +52,24 @@ pub struct FeatureGraphData {
     released: Vec<(usize, usize)>,
     warnings: Vec<FeatureGraphWarning>,
     defaults: IxBitSet,
+}
+
+impl Drop for FeatureGraphData {
+    // Written out, so that a crate above calls it. A derived drop is proved in each crate that drops a value, with those of all fields.
+    fn drop(self) {
+        let FeatureGraphData {
+            stamp: _stamp,
+            table: _table,
+            digraph: _digraph,
+            order: _order,
+            cyclic: _cyclic,
+            edges: _edges,
+            weak: _weak,
+            released: _released,
+            warnings: _warnings,
+            defaults: _defaults,
+        } = self;
+    }
 }
 
 impl Model for FeatureGraphData {

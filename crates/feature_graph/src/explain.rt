@@ -27,7 +27,6 @@ use std::marker::Model;
 use walk_engine::{Half, Step};
 
 /// A resolved set with the reason for each of its features, and the refused links.
-#[derive(Drop)]
 pub struct Explained<'g> {
     set: FeatureSet<'g>,
     direction: DependencyDirection,
@@ -35,6 +34,20 @@ pub struct Explained<'g> {
     steps: Vec<(FeatureId<'g>, Reason<'g>)>,
     refused_numbers: Vec<(usize, Half)>,
     refused: Vec<(FeatureId<'g>, FeatureId<'g>, LinkDeclarations)>,
+}
+
+impl Drop for Explained<'_> {
+    // Written out, so that a crate above calls it. A derived drop is proved in each crate that drops a value, with those of all fields.
+    fn drop(self) {
+        let Explained {
+            set: _set,
+            direction: _direction,
+            numbers: _numbers,
+            steps: _steps,
+            refused_numbers: _refused_numbers,
+            refused: _refused,
+        } = self;
+    }
 }
 
 impl<'g> Model for Explained<'g> {
@@ -111,7 +124,15 @@ impl<'g> Explained<'g> {
     pub fn into_set(self) -> FeatureSet<'g>
         ensures { result ≡ record { graph = self.entry.graph; members = self.entry.members } }
     {
-        self.set
+        let Explained {
+            set,
+            direction: _,
+            numbers: _numbers,
+            steps: _steps,
+            refused_numbers: _refused_numbers,
+            refused: _refused,
+        } = self;
+        set
     }
 
     /// Returns the reason chain of a feature: the steps that its own step rests on, gates included, in order and each

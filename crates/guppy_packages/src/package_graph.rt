@@ -14,13 +14,24 @@ use std::marker::Model;
 use std::ops::Range;
 
 /// Packages with their features, and the links between them. A contract sees it as its tables.
-#[derive(Drop)]
 pub struct PackageGraph {
     pub(crate) packages: TextMap<PackageId, PackageData>,
     pub(crate) links: Vec<Link>,
     // the number of each package's first link, and the number of links at the end
     pub(crate) begins: Vec<u32>,
     pub(crate) order: Order,
+}
+
+impl Drop for PackageGraph {
+    // Written out, so that a crate above calls it. A derived drop is proved in each crate that drops a value, with those of all fields.
+    fn drop(self) {
+        let PackageGraph {
+            packages: _packages,
+            links: _links,
+            begins: _begins,
+            order: _order,
+        } = self;
+    }
 }
 
 impl Model for PackageGraph {

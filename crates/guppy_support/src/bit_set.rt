@@ -14,10 +14,20 @@ use std::alloc::{AllocError, Global};
 use std::marker::Model;
 
 /// A set of numbers below `size`.
-#[derive(Debug, Drop)]
+#[derive(Debug)]
 pub struct IxBitSet {
     size: usize,
     words: Vec<u64>,
+}
+
+impl Drop for IxBitSet {
+    // Written out, so that a crate above calls it. A derived drop is proved in each crate that drops a value, with those of all fields.
+    fn drop(self) {
+        let IxBitSet {
+            size: _size,
+            words: _words,
+        } = self;
+    }
 }
 
 impl Model for IxBitSet {

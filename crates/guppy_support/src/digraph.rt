@@ -40,13 +40,25 @@ pub enum DigraphError {
 }
 
 /// A digraph. Its nodes are the numbers below a count; its edges ascend strictly by source and then by target.
-#[derive(Debug, Drop)]
+#[derive(Debug)]
 pub struct Digraph {
     nodes: usize,
     edges: EdgeColumns,
     // the first edge number of each source, then the number of edges
     begins: Vec<u32>,
     inward: Rows,
+}
+
+impl Drop for Digraph {
+    // Written out, so that a crate above calls it. A derived drop is proved in each crate that drops a value, with those of all fields.
+    fn drop(self) {
+        let Digraph {
+            nodes: _nodes,
+            edges: _edges,
+            begins: _begins,
+            inward: _inward,
+        } = self;
+    }
 }
 
 impl Model for Digraph {

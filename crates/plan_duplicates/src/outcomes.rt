@@ -51,7 +51,7 @@ fn built_by<'w>(alloc: Global, plan: Plan<'w>) -> Result<Outcome<'w>, AllocError
     ensures { IfOk result (λ outcome. outcome_text outcome ≡ built (plan_text plan.entry).units) }
 {
     let units = copies_of(alloc, plan.units());
-    plan.discard();
+    drop(plan);
     Ok(Outcome::Built(units?))
 }
 

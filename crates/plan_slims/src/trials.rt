@@ -50,7 +50,7 @@ fn counted_by<'v>(
     ensures numbers { IfOk result (λ slim. HasNumbersOf (losses_by (map package_text packages.now) (map unit_text before.now) (plan_text after.entry).units) (slim_text slim)) }
 {
     let slim = counted(alloc, packages, before, edit, after.units());
-    after.discard();
+    drop(after);
     slim
 }
 

@@ -12,10 +12,19 @@ use step_visits::{FeatureLabel, Visited};
 
 /// A visit of a step in which each package has two entries: step `resolved`, where a package is a dependency of others and a started
 /// one, or step `on`, where it is on the target side and on the host side.
-#[derive(Drop)]
 pub struct PackageVisit {
     visited: Visited,
     count: usize,
+}
+
+impl Drop for PackageVisit {
+    // Written out, so that a crate above calls it. A derived drop is proved in each crate that drops a value, with those of all fields.
+    fn drop(self) {
+        let PackageVisit {
+            visited: _visited,
+            count: _count,
+        } = self;
+    }
 }
 
 impl Model for PackageVisit {

@@ -9,7 +9,6 @@ use plan_rows::Side;
 use plan_units::{FeatureLabel, PackageVisit, Unit, Visited};
 
 /// The packages that are built, with their features, and which features are on.
-#[derive(Drop)]
 pub struct Plan<'w> {
     pub(crate) units: Vec<Unit<'w>>,
     /// The visit of step `on`.
@@ -18,6 +17,18 @@ pub struct Plan<'w> {
     pub(crate) built: Visited,
     /// The places at which step `built` starts.
     pub(crate) starts: Vec<(usize, FeatureLabel<'static>)>,
+}
+
+impl Drop for Plan<'_> {
+    // Written out, so that a crate above calls it. A derived drop is proved in each crate that drops a value, with those of all fields.
+    fn drop(self) {
+        let Plan {
+            units: _units,
+            on: _on,
+            built: _built,
+            starts: _starts,
+        } = self;
+    }
 }
 
 impl<'w> Plan<'w> {
@@ -51,12 +62,6 @@ impl<'w> Plan<'w> {
         ensures { map start_of result.now ≡ (plan_text self.now).starts }
     {
         self.starts.as_slice()
-    }
-
-    /// Drops the plan. Call it for a plan that isn't needed any more: a crate that drops one itself proves the drop of all that a plan
-    /// has, which takes 20 processor seconds.
-    pub fn discard(self) {
-        drop(self);
     }
 
     /// Returns whether `feature` of package `package` is on, on `side`.

@@ -13,10 +13,20 @@ use std::alloc::{AllocError, Global};
 use std::marker::Model;
 
 /// A target for which platform specs may hold. A contract sees it as a `Target`: the triple and the facts.
-#[derive(Debug, Drop)]
+#[derive(Debug)]
 pub struct TargetCfg {
     triple: String,
     facts: Vec<Fact>,
+}
+
+impl Drop for TargetCfg {
+    // Written out, so that a crate above calls it. A derived drop is proved in each crate that drops a value, with those of all fields.
+    fn drop(self) {
+        let TargetCfg {
+            triple: _triple,
+            facts: _facts,
+        } = self;
+    }
 }
 
 impl Model for TargetCfg {

@@ -65,7 +65,7 @@ fn answer_widely<'w, 'n, 's>(
     match plan(alloc, workspace, &wide) {
         Ok(widest) => {
             let printed = printed_with(alloc, asked, workspace, selected, here, &wide, &widest);
-            widest.discard();
+            drop(widest);
             printed
         }
         Err(fault) => Err(plan_refused(alloc, workspace, fault)),

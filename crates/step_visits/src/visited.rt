@@ -15,11 +15,21 @@ use std::alloc::{AllocError, Global};
 use std::marker::Model;
 
 /// The features that a visit reaches, with the graph that it walked. A contract sees the tables, and whether each node was reached.
-#[derive(Drop)]
 pub struct Visited {
     pub(crate) packages: PackageGraph,
     pub(crate) built: FeatureGraphData,
     pub(crate) members: IxBitSet,
+}
+
+impl Drop for Visited {
+    // Written out, so that a crate above calls it. A derived drop is proved in each crate that drops a value, with those of all fields.
+    fn drop(self) {
+        let Visited {
+            packages: _packages,
+            built: _built,
+            members: _members,
+        } = self;
+    }
 }
 
 impl Model for Visited {

@@ -138,7 +138,7 @@ pub(crate) fn widened_sections(
     match plan(alloc, workspace, words) {
         Ok(plan) => {
             let sections = planned_sections(alloc, form, workspace, words, widening, parts, &plan);
-            plan.discard();
+            drop(plan);
             sections
         }
         Err(PlanFault::Memory) => Err(AllocError),
