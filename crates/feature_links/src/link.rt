@@ -18,9 +18,15 @@ use std::slice::from_ref;
 
 /// The link of a conditional edge: the declarations that it covers, their platforms for each kind of dependency, and the package
 /// links that have one of them.
-#[derive(Drop)]
 pub struct ConditionalLinkImpl {
     held: HeldLink,
+}
+
+impl Drop for ConditionalLinkImpl {
+    // Written out, so that a crate above calls it. A derived drop is proved in each crate that drops a value, with those of all fields.
+    fn drop(self) {
+        let ConditionalLinkImpl { held: _held } = self;
+    }
 }
 
 impl ConditionalLinkImpl {

@@ -20,9 +20,16 @@ pub enum SpecKind {
 }
 
 /// A platform spec as Cargo reads it. A contract sees it as a `Spec`: a platform name, or an expression.
-#[derive(Debug, Drop)]
+#[derive(Debug)]
 pub struct PlatformSpec {
     kind: SpecKind,
+}
+
+impl Drop for PlatformSpec {
+    // Written out, so that a crate above calls it. A derived drop is proved in each crate that drops a value, with those of all fields.
+    fn drop(self) {
+        let PlatformSpec { kind: _kind } = self;
+    }
 }
 
 impl Model for PlatformSpec {
