@@ -7,7 +7,8 @@ use Rattle.std.specs.Ordering.{is_eq, ordering_reverse}
 use Rattle.std.proofs.lemmas.Map.Keys.{sorted_head, sorted_tail}
 use Rattle.feature_labels.specs.Lists.{Ascends, SameLabels}
 use Rattle.feature_labels.specs.Names.{LabelName, label_cmp}
-use Rattle.feature_labels.specs.Orders.{label_cmp_total, label_eq-Decides}
+use Rattle.feature_labels.specs.Orders.{label_cmp_total}
+use Rattle.feature_labels.proofs.OrderLemmas.{label_eq-Decides}
 use Rattle.feature_core.proofs.AddsLemmas.{Contains-cases, Contains-first, Contains-later, Contains-none}
 
 -- `more` ascends and has `label` and the labels of `labels`.

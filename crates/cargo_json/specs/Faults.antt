@@ -55,14 +55,14 @@ read_fault error.Failed = fault.CannotRead
 read_fault error.Memory = fault.Memory
 
 -- the exit status: 2 for a fault of the command line, and 1 for every other
-abbrev pub status_of : Fault → ℕ
-status_of fault.Usage = 2
-status_of fault.CannotRead = 1
-status_of fault.NotText = 1
-status_of (fault.NotJson line column) = 1
-status_of (fault.Document refused) = 1
-status_of fault.Memory = 1
-status_of fault.CannotWrite = 1
+abbrev pub exit_status : Fault → ℕ
+exit_status fault.Usage = 2
+exit_status fault.CannotRead = 1
+exit_status fault.NotText = 1
+exit_status (fault.NotJson line column) = 1
+exit_status (fault.Document refused) = 1
+exit_status fault.Memory = 1
+exit_status fault.CannotWrite = 1
 
 -- nothing is claimed if an allocation fails
 abbrev pub IfNotMemory : Refusal → Type 0 → Type 0

@@ -11,13 +11,13 @@ wanted place name (Some x) = Ok x
 wanted place name None = Err (bad_field place name)
 
 -- a text, or `None` for null
-abbrev pub text_or_null : Json → Option (Option Text)
-text_or_null null = Some None
-text_or_null (boolean b) = None
-text_or_null (number n) = None
-text_or_null (string s) = Some (Some s)
-text_or_null (array ds) = None
-text_or_null (object ms) = None
+abbrev pub as_text_or_null : Json → Option (Option Text)
+as_text_or_null null = Some None
+as_text_or_null (boolean b) = None
+as_text_or_null (number n) = None
+as_text_or_null (string s) = Some (Some s)
+as_text_or_null (array ds) = None
+as_text_or_null (object ms) = None
 
 -- the items, if each is a text
 abbrev pub all_texts : Items → Option (List Text)
@@ -28,7 +28,7 @@ abbrev pub text_in : Place → Text → Json → Result Text Refusal
 text_in place name d = wanted place name (option_and_then as_str (get name d))
 
 abbrev pub optional_text_in : Place → Text → Json → Result (Option Text) Refusal
-optional_text_in place name d = wanted place name (option_and_then text_or_null (get name d))
+optional_text_in place name d = wanted place name (option_and_then as_text_or_null (get name d))
 
 abbrev pub flag_in : Place → Text → Json → Result Bool Refusal
 flag_in place name d = wanted place name (option_and_then as_bool (get name d))

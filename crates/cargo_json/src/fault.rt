@@ -1,6 +1,6 @@
 //! The faults of a document and of the program `rows`.
 ghost use Rattle.std.specs.Prelude.{◌≡◌, Some};
-ghost use Rattle.cargo_json.specs.Faults.{place_text, read_fault, status_of};
+ghost use Rattle.cargo_json.specs.Faults.{place_text, read_fault, exit_status};
 
 use byte_devices::ReadError;
 use std::alloc::{AllocError, AllocFailed};
@@ -175,7 +175,7 @@ impl From<ReadError> for Fault {
 impl Fault {
     /// Returns the exit status: 2 for a fault of the command line, and 1 for every other.
     pub fn status(&self) -> u8
-        ensures { result ≡ status_of self.now }
+        ensures { result ≡ exit_status self.now }
     {
         match self {
             Fault::Usage => 2,

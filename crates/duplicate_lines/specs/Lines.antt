@@ -2,7 +2,7 @@
 use Rattle.std.specs.Prelude.{Bool, true, false, List, [], ◌∷◌, ◌++◌, map, flat_map, codes}
 use Rattle.cargo_workspaces.specs.Workspaces.{Text, PackageText}
 use Rattle.line_parts.specs.Tables.{RowText, table_of}
-use Rattle.plan_lines.specs.Lines.{label_of, name_of}
+use Rattle.plan_lines.specs.Lines.{label_of, name_of, spaced}
 use Rattle.duplicate_lines.specs.Shown.{ShownText, version, in_place, alone, joined, refused, kind_of, package_of}
 
 abbrev pub quoted : Text → Text
@@ -28,9 +28,6 @@ agreement false = codes " # still differ"
 
 abbrev pub joined_detail : PackageText → List Text → Bool → Text
 joined_detail p features agrees = manifest_line p features ++ agreement agrees
-
-abbrev pub spaced : Text → Text
-spaced text = 32 ∷ text
 
 -- Features after what has them.
 abbrev pub feature_list : List Text → Text

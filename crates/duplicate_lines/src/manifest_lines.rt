@@ -2,6 +2,7 @@
 ghost use Rattle.std.specs.Prelude.{◌≡◌, ◌++◌, IfOk, OnOk, flat_map, string_bytes};
 ghost use Rattle.cargo_workspaces.specs.Views.{package_text, texts};
 ghost use Rattle.duplicate_lines.specs.Lines as spec;
+ghost use Rattle.plan_lines.specs.Lines.{spaced};
 
 use cargo_workspaces::Package;
 use std::alloc::{AllocError, Global};
@@ -83,7 +84,7 @@ pub(crate) fn joined_detail(
 
 /// Appends a space and the text for each of `features`.
 fn push_spaced(text: &mut String, features: &[&str]) -> Result<(), AllocError>
-    ensures { OnOk result (string_bytes text.new ≡ string_bytes text.old ++ flat_map spec.spaced (texts features.now)) }
+    ensures { OnOk result (string_bytes text.new ≡ string_bytes text.old ++ flat_map spaced (texts features.now)) }
 {
     for feature in features {
         text.push_str(" ")?;

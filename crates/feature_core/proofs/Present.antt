@@ -20,7 +20,7 @@ use Rattle.feature_labels.specs.Names.LabelName.{base, optional}
 use Rattle.feature_labels.specs.declared.link_declarations.LinkDeclarations.{LinkDeclarations}
 use Rattle.feature_labels.specs.declared.link_declarations.LinkDeclarations.TheVariants.{Unsplit, Required, Optional}
 use Rattle.feature_core.specs.Nodes.{NodeAt, labels_of}
-use Rattle.feature_links.specs.Links.{LinkFacts, IsLink, joined, is_kind, includes, status_of, over, numbered, links_named, by_name}
+use Rattle.feature_links.specs.Links.{LinkFacts, IsLink, platforms_status, is_kind, includes, joined_status, over, numbered, links_named, by_name}
 use Rattle.feature_core.specs.Candidates.{Edge, feature_to_base, named_feature, dep_colon, slash_full, slash_optional, slash_weak, section, Candidate, to_base, to_feature, to_dependency, over_strong, over_weak, with_dependency, with_feature, of_required, of_optional, IsSection, requesting, unsplit_of}
 use Rattle.feature_links.specs.Facts.{EdgeFacts, full_link, is_never, is_present}
 use Rattle.feature_core.specs.Edges.{facts_of}
@@ -55,7 +55,7 @@ place_of (y ∷ ys) x h p e = ⊎_elim
     or_true true = refl
     or_true false = refl
 
-joined_there : (platforms : List (Option Text)) (p : Option Text) → Contains platforms p → is_never (joined platforms) ≡ false
+joined_there : (platforms : List (Option Text)) (p : Option Text) → Contains platforms p → is_never (platforms_status platforms) ≡ false
 joined_there platforms p h = go (list_any (λ p. not (is_some p)) platforms) refl p h
   where
     go : (b : Bool) → list_any (λ p. not (is_some p)) platforms ≡ b → (p : Option Text) → Contains platforms p
@@ -81,7 +81,7 @@ both_true a b h i = rw (h, i)
 
 -- the status of a kind with a covered declaration isn't never
 status_there : (kind : DependencyKind) (passes : Declared → Bool) (links : List (ℕ × LinkTable)) (l : ℕ × LinkTable) (d : Declared) → Contains links l → Contains l.1.declarations d
-    → passes d ≡ true → is_kind kind d.kind ≡ true → is_never (status_of kind passes links) ≡ false
+    → passes d ≡ true → is_kind kind d.kind ≡ true → is_never (joined_status kind passes links) ≡ false
 status_there kind passes links l d h i p e =
     let kept = into_filter (λ d. passes d && is_kind kind d.kind) l.1.declarations d i (both_true (passes d) (is_kind kind d.kind) p e) in
     joined_there (flat_map (λ l. map (λ d. d.platform) (filter (λ d. passes d && is_kind kind d.kind) l.1.declarations)) links) d.platform
@@ -106,9 +106,9 @@ over_there : (which : LinkDeclarations) (passes : Declared → Bool) (links : Li
 over_there which passes links l d h i p = go d.kind refl
   where
     never : DependencyKind → Bool
-    never = λ kind. is_never (status_of kind passes links)
+    never = λ kind. is_never (joined_status kind passes links)
 
-    there : (kind : DependencyKind) → is_kind kind d.kind ≡ true → is_never (status_of kind passes links) ≡ false
+    there : (kind : DependencyKind) → is_kind kind d.kind ≡ true → is_never (joined_status kind passes links) ≡ false
     there kind e = status_there kind passes links l d h i p e
 
     go : (kind : DependencyKind) → d.kind ≡ kind → IsTrue (is_present (over which passes links))

@@ -8,7 +8,7 @@ use Rattle.guppy_packages.specs.Tables.{PackageTable, Tables}
 use Rattle.feature_labels.specs.Names.{LabelName}
 use Rattle.feature_core.specs.Nodes.{labels_of, nodes, first_nodes, node_packages}
 pub use Rattle.feature_core.specs.Edges.{ends_of}
-use Rattle.feature_links.specs.Facts.{EdgeFacts, is_dev_only}
+use Rattle.feature_links.specs.Facts.{EdgeFacts, is_dev_edge}
 use Rattle.feature_core.specs.Edges.{AreBuilt}
 use Rattle.feature_core.specs.Defaults.{AreDefaults}
 use Rattle.feature_core.specs.Pairs.{IsPairList}
@@ -55,7 +55,7 @@ built_edges edges facts = map (λ p. (p.0.from, p.0.to, p.1)) (zip edges facts)
 
 -- The digraph's edge: its two nodes, and whether it is not dev-only.
 abbrev pub end_of : ℕ × ℕ × EdgeFacts → Edge
-end_of e = record { from = e.0; to = e.1; non_dev = not (is_dev_only e.2) }
+end_of e = record { from = e.0; to = e.1; non_dev = not (is_dev_edge e.2) }
 
 -- The digraph of the nodes.
 abbrev pub digraph_of : Built → Graph

@@ -11,7 +11,8 @@ use Rattle.guppy_packages.specs.Rows.{Text}
 use Rattle.guppy_packages.specs.Tables.{Tables}
 use Rattle.feature_core.specs.Nodes.{nodes}
 use Rattle.feature_labels.specs.Names.{LabelName}
-use Rattle.feature_labels.specs.Orders.{label_eq, label_eq-Decides}
+use Rattle.feature_labels.specs.Orders.{label_eq}
+use Rattle.feature_labels.proofs.OrderLemmas.{label_eq-Decides}
 use Rattle.feature_graph.specs.Names.{HasFeature, has_feature}
 use Rattle.feature_graph.specs.SetValues.{AreEqualSets, name_eq, graph_eq, set_eq}
 use Rattle.feature_graph.specs.Values.{Set}

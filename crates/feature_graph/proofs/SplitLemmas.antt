@@ -11,7 +11,8 @@ use Rattle.order_views.specs.Laws.{ListsOnce, MembersComeOnce}
 use Rattle.guppy_packages.specs.declared.direction.DependencyDirection.{DependencyDirection}
 use Rattle.feature_core.specs.Built.{digraph_of}
 use Rattle.feature_graph.proofs.ListLemmas.{from_map, into_map}
-use Rattle.feature_graph.specs.Ordered.{ordered_nodes, reading_of}
+use Rattle.guppy_packages.specs.PackageSets.{reading_of}
+use Rattle.feature_graph.specs.Ordered.{ordered_nodes}
 use Rattle.feature_graph.specs.PartLaws.{AreSplit}
 use Rattle.feature_graph.specs.Parts.{IsPart, is_yes}
 use Rattle.feature_graph.specs.Values.{Set}

@@ -6,12 +6,10 @@ use Rattle.std.specs.Option.{option_map, option_map_or}
 use Rattle.guppy_support.specs.declared.digraph.Edge.{Edge}
 use Rattle.digraph_orders.specs.Sequences.{Sequence, IsOrderOf}
 use Rattle.order_views.specs.Views.{in_order, links_in_order, roots_in_order}
-use Rattle.order_views.specs.declared.reading.Reading.{Reading}
-use Rattle.order_views.specs.declared.reading.Reading.TheVariants as reading
+use Rattle.guppy_packages.specs.PackageSets.{reading_of}
 use Rattle.guppy_packages.specs.Rows.{Text}
 use Rattle.guppy_packages.specs.Tables.{Tables}
 use Rattle.guppy_packages.specs.declared.direction.DependencyDirection.{DependencyDirection}
-use Rattle.guppy_packages.specs.declared.direction.DependencyDirection.TheVariants.{Forward, Reverse}
 use Rattle.walk_engine.specs.declared.walks.Half.TheVariants.{Full}
 use Rattle.feature_labels.specs.Names.{LabelName, id_of}
 use Rattle.feature_labels.specs.declared.feature_id.FeatureId.{FeatureId}
@@ -30,11 +28,6 @@ use Rattle.feature_graph.specs.declared.graph.metadata.FeatureMetadata.{FeatureM
 -- `P` holds for the order of the graph, with its components
 abbrev pub AtOrder : Graph → (Sequence → Type 0) → Type 0
 AtOrder g P = (o : Sequence) × IsOrderOf (digraph_of g.built) o × P o
-
--- the reading of the order for a direction
-abbrev pub reading_of : DependencyDirection → Reading
-reading_of Forward = reading.Forward
-reading_of Reverse = reading.Backward
 
 -- the edges between the nodes of the graph
 abbrev pub edges_of : Graph → List Edge

@@ -1,11 +1,9 @@
 -- The packages with a feature in a set.
-use Rattle.std.specs.Prelude.{◌≡◌, ℕ, ◌-◌, ◌==◌, List, Bool, Some, filter, map, length}
+use Rattle.std.specs.Prelude.{◌≡◌, ℕ, ◌-◌, ◌==◌, List, Bool, Some, filter, length}
 use Rattle.std.specs.List.{list_any, range_with_len}
 use Rattle.guppy_support.specs.Bits.{has}
 use Rattle.guppy_packages.specs.Rows.{Text}
 use Rattle.guppy_packages.specs.Tables.{Tables, package_place}
-use Rattle.guppy_packages.specs.Metadata.{package_graph_of}
-use Rattle.guppy_packages.specs.declared.package_metadata.PackageMetadata.{PackageMetadata}
 use Rattle.feature_core.specs.Nodes.{node_packages}
 use Rattle.feature_core.specs.Errors.{Refusal, unknown_package}
 use Rattle.feature_graph.specs.Names.{HasPackage, at_places}
@@ -25,13 +23,6 @@ member_packages_from t members n = filter (λ p. has_member_of t members p) (ran
 -- the packages with a member, ascending
 abbrev pub member_packages : Tables → List Bool → List ℕ
 member_packages t members = member_packages_from t members 0
-
--- packages by their numbers, each with its tables
-abbrev pub numbered : Tables → List ℕ → List (Tables × ℕ)
-numbered t numbers = map (λ p. (t, p)) numbers
-
-abbrev pub numbered_package : PackageMetadata → Tables × ℕ
-numbered_package m = (package_graph_of m, m.package_ix)
 
 -- the graph has the package with this id, and `answer` is whether it has a member
 pub record TellsPackage (t : Tables) (members : List Bool) (id : Text) (answer : Bool) : Type 0 where

@@ -2,7 +2,8 @@
 ghost use Rattle.std.specs.Prelude.{◌≡◌, IfOk, IfErr, MatchResult, map};
 ghost use Rattle.feature_labels.specs.Names.{id_of};
 ghost use Rattle.feature_core.specs.Errors.{refusal_of};
-ghost use Rattle.feature_graph.specs.Packages.{RefusesPackageId, TellsPackage, member_packages, numbered};
+ghost use Rattle.feature_graph.specs.Packages.{RefusesPackageId, TellsPackage, member_packages};
+ghost use Rattle.guppy_packages.specs.PackageSets.{numbered};
 ghost use Rattle.feature_graph.specs.Names.{AreKnown, RefusesNames, HoldsExactly};
 
 pub(crate) mod context;

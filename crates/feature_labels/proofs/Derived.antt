@@ -7,7 +7,7 @@ use Rattle.std.proofs.lemmas.Bool.Decides.{Decides-and}
 use Rattle.std.specs.Cmp.Derive.Mapped.{pointwise-map}
 use Rattle.feature_labels.specs.Lists.{ListValue}
 use Rattle.feature_labels.specs.Names.{label_of, label_cmp, id_of, id_cmp}
-use Rattle.feature_labels.specs.Orders.{label_eq, label_eq-Decides, list_eq}
+use Rattle.feature_labels.specs.Orders.{label_eq, list_eq}
 use Rattle.feature_labels.specs.declared.feature_label.FeatureLabel.{FeatureLabel}
 use Rattle.feature_labels.specs.declared.feature_label.FeatureLabel.TheVariants.{Base, Named, OptionalDependency}
 use Rattle.feature_labels.specs.declared.feature_id.FeatureId.{FeatureId}
@@ -15,6 +15,7 @@ use Rattle.feature_labels.specs.contracts.feature_id.FeatureIdOrd.TheImpl as id_
 use Rattle.feature_labels.specs.contracts.feature_id.FeatureIdPartialEq.TheImpl as id_same
 use Rattle.feature_labels.specs.contracts.feature_label.FeatureLabelOrd.TheImpl as order
 use Rattle.feature_labels.specs.contracts.feature_label.FeatureLabelPartialEq.TheImpl as same
+use Rattle.feature_labels.proofs.OrderLemmas.{label_eq-Decides}
 
 pub label_cmp-derived : (a b : FeatureLabel) → (order.ghosts).cmp a b ≡ label_cmp (label_of a) (label_of b)
 label_cmp-derived Base Base = refl

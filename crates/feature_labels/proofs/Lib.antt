@@ -1,5 +1,6 @@
 pub mod Derived
 pub mod Listed
 pub mod Made
+pub mod OrderLemmas
 pub mod Searched
 pub mod Texts

@@ -8,12 +8,13 @@ use Rattle.std.proofs.lemmas.List.Kept.{IsStrictlySortedBy-dedup, Contains-dedup
 use Rattle.std.proofs.lemmas.List.Sorted.{Contains-permutation, IsPermutation-map, IsPermutation-sym}
 use Rattle.feature_labels.specs.Lists.{Ascends, SameLabels}
 use Rattle.feature_labels.specs.Names.{label_of, label_cmp}
-use Rattle.feature_labels.specs.Orders.{label_eq, label_eq-Decides, label_eq_equiv, label_cmp_total}
+use Rattle.feature_labels.specs.Orders.{label_eq, label_eq_equiv, label_cmp_total}
 use Rattle.feature_labels.specs.declared.feature_label.FeatureLabel.{FeatureLabel}
 use Rattle.feature_labels.specs.contracts.feature_label.FeatureLabelOrd.TheImpl as order
 use Rattle.feature_labels.specs.contracts.feature_label.FeatureLabelPartialEq.TheImpl as same
 use Rattle.feature_labels.proofs.Derived.{label_cmp-derived, label_eq-derived}
 use Rattle.feature_labels.proofs.Listed.{dedup-map, IsSorted-map}
+use Rattle.feature_labels.proofs.OrderLemmas.{label_eq-Decides}
 
 pub record IsKept (given kept : List FeatureLabel) : Type 0 where
   pub ascends : Ascends (map label_of kept)

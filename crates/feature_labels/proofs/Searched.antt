@@ -7,11 +7,12 @@ use Rattle.std.specs.Result.{is_ok}
 use Rattle.std.proofs.lemmas.List.{length-map}
 use Rattle.feature_labels.specs.Lists.{Ascends}
 use Rattle.feature_labels.specs.Names.{label_of, label_cmp}
-use Rattle.feature_labels.specs.Orders.{label_eq-Decides, label_cmp_total}
+use Rattle.feature_labels.specs.Orders.{label_cmp_total}
 use Rattle.feature_labels.specs.declared.feature_label.FeatureLabel.{FeatureLabel}
 use Rattle.feature_labels.specs.contracts.feature_label.FeatureLabelOrd.TheImpl as order
 use Rattle.feature_labels.proofs.Derived.{label_cmp-derived}
 use Rattle.feature_labels.proofs.Listed.{IsBinarySearchResult-map, found_from_search}
+use Rattle.feature_labels.proofs.OrderLemmas.{label_eq-Decides}
 
 pub found_label : (labels : List FeatureLabel) (label : FeatureLabel) (r : Result ℕ ℕ) → Ascends (map label_of labels) → IsSearchInRange r (length labels) → IsBinarySearchResult (λ each. (order.ghosts).cmp each label) labels r → IsTrue (is_ok r) ↔ Contains (map label_of labels) (label_of label)
 found_label labels label r rises below searched =

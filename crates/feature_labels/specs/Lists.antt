@@ -30,8 +30,8 @@ abbrev pub SameLabels : List LabelName → List LabelName → Type 0
 SameLabels labels others = (label : LabelName) → Contains labels label ↔ Contains others label
 
 -- The ids of the package's features with these labels.
-abbrev pub ids_in : Text → List LabelName → List (Text × LabelName)
-ids_in id labels = map (λ label. (id, label)) labels
+abbrev pub ids_of_labels : Text → List LabelName → List (Text × LabelName)
+ids_of_labels id labels = map (λ label. (id, label)) labels
 
 abbrev pub name_if_named : LabelName → Option Text
 name_if_named base = None

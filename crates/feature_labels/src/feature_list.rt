@@ -4,7 +4,7 @@ ghost use Rattle.std.specs.List.{Contains, filter_map};
 ghost use Rattle.guppy_packages.specs.Metadata.{package_graph_of, package_id_of, package_number_of};
 ghost use Rattle.feature_labels.specs.Names.{label_of};
 ghost use Rattle.feature_labels.specs.Names.LabelName.{base, named, optional};
-ghost use Rattle.feature_labels.specs.Lists.{Ascends, SameLabels, TextsAscend, ids_in, name_if_named, name_if_optional, labels_shown};
+ghost use Rattle.feature_labels.specs.Lists.{Ascends, SameLabels, TextsAscend, ids_of_labels, name_if_named, name_if_optional, labels_shown};
 ghost use Rattle.feature_labels.specs.Orders.{list_eq, list_eq_equiv};
 ghost use Rattle.std.specs.Cmp.{partial_equiv_from_equiv};
 
@@ -126,7 +126,7 @@ impl<'g> FeatureList<'g> {
 
     /// Returns the ids of the features, in the order of the labels.
     pub fn iter<'a>(&'a self) -> Iter<'g, 'a>
-        ensures { result ≡ ids_in self.now.package_id self.now.labels }
+        ensures { result ≡ ids_of_labels self.now.package_id self.now.labels }
     {
         Iter::new(self)
     }

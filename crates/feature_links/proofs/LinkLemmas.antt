@@ -13,7 +13,7 @@ use Rattle.guppy_packages.specs.declared.row.DependencyKind.TheVariants.{Normal,
 use Rattle.feature_labels.specs.declared.link_declarations.LinkDeclarations.{LinkDeclarations}
 use Rattle.feature_links.specs.declared.link.statuses.KindCollectors.{KindCollectors}
 use Rattle.feature_links.specs.declared.link.from_declarations.LinkParts.{LinkParts}
-use Rattle.feature_links.specs.Links.{LinkFacts, IsLink, includes, is_kind, joined, platforms_of, status_of, over, over_parts, at_places, links_at, links_named, numbered, has_declaration, half_of, half_over}
+use Rattle.feature_links.specs.Links.{LinkFacts, IsLink, includes, is_kind, platforms_status, platforms_of, joined_status, over, over_parts, at_places, links_at, links_named, numbered, has_declaration, half_of, half_over}
 use Rattle.feature_links.specs.NamedLinks.{link_numbers}
 use Rattle.feature_links.specs.inner.Collected.{HasKinds, HasParts}
 
@@ -121,14 +121,14 @@ links_kept passes (l ∷ links) = go (list_any passes l.1.declarations) (any_kep
 -- the link over the declarations of package links that pass
 pub over_of_parts : (which : LinkDeclarations) (passes : Declared → Bool) (links : List (ℕ × LinkTable)) → over_parts which (parts_of passes links) ≡ over which passes links
 over_of_parts which passes links =
-    let normal : joined (platforms_of Normal (flat_map (λ x. x.1) (parts_of passes links))) ≡ status_of Normal passes links = ap joined (platforms_over Normal passes links) in
-    let build : joined (platforms_of Build (flat_map (λ x. x.1) (parts_of passes links))) ≡ status_of Build passes links = ap joined (platforms_over Build passes links) in
-    let dev : joined (platforms_of Development (flat_map (λ x. x.1) (parts_of passes links))) ≡ status_of Development passes links = ap joined (platforms_over Development passes links) in
+    let normal : platforms_status (platforms_of Normal (flat_map (λ x. x.1) (parts_of passes links))) ≡ joined_status Normal passes links = ap platforms_status (platforms_over Normal passes links) in
+    let build : platforms_status (platforms_of Build (flat_map (λ x. x.1) (parts_of passes links))) ≡ joined_status Build passes links = ap platforms_status (platforms_over Build passes links) in
+    let dev : platforms_status (platforms_of Development (flat_map (λ x. x.1) (parts_of passes links))) ≡ joined_status Development passes links = ap platforms_status (platforms_over Development passes links) in
     let kept = links_kept passes links in
-    ap (λ z. record { declarations = which; normal = z; build = joined (platforms_of Build (flat_map (λ x. x.1) (parts_of passes links))); dev = joined (platforms_of Development (flat_map (λ x. x.1) (parts_of passes links))); package_links = map (λ x. x.0) (filter (λ x. list_any (λ d. true) x.1) (parts_of passes links)) }) normal
-    ∙ ap (λ z. record { declarations = which; normal = status_of Normal passes links; build = z; dev = joined (platforms_of Development (flat_map (λ x. x.1) (parts_of passes links))); package_links = map (λ x. x.0) (filter (λ x. list_any (λ d. true) x.1) (parts_of passes links)) }) build
-    ∙ ap (λ z. record { declarations = which; normal = status_of Normal passes links; build = status_of Build passes links; dev = z; package_links = map (λ x. x.0) (filter (λ x. list_any (λ d. true) x.1) (parts_of passes links)) }) dev
-    ∙ ap (λ z. record { declarations = which; normal = status_of Normal passes links; build = status_of Build passes links; dev = status_of Development passes links; package_links = z }) kept
+    ap (λ z. record { declarations = which; normal = z; build = platforms_status (platforms_of Build (flat_map (λ x. x.1) (parts_of passes links))); dev = platforms_status (platforms_of Development (flat_map (λ x. x.1) (parts_of passes links))); package_links = map (λ x. x.0) (filter (λ x. list_any (λ d. true) x.1) (parts_of passes links)) }) normal
+    ∙ ap (λ z. record { declarations = which; normal = joined_status Normal passes links; build = z; dev = platforms_status (platforms_of Development (flat_map (λ x. x.1) (parts_of passes links))); package_links = map (λ x. x.0) (filter (λ x. list_any (λ d. true) x.1) (parts_of passes links)) }) build
+    ∙ ap (λ z. record { declarations = which; normal = joined_status Normal passes links; build = joined_status Build passes links; dev = z; package_links = map (λ x. x.0) (filter (λ x. list_any (λ d. true) x.1) (parts_of passes links)) }) dev
+    ∙ ap (λ z. record { declarations = which; normal = joined_status Normal passes links; build = joined_status Build passes links; dev = joined_status Development passes links; package_links = z }) kept
 
 -- a list with one number
 the_one : (xs : List ℕ) → 1 ≤ length xs → length xs < 2 → xs ≡ get_or xs 0 0 ∷ []

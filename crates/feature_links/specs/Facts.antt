@@ -54,8 +54,8 @@ abbrev pub is_dev_link : LinkFacts → Bool
 is_dev_link l = is_never l.normal && is_never l.build
 
 -- The edge is conditional, and its link has no declaration for normal use or for build scripts.
-abbrev pub is_dev_only : EdgeFacts → Bool
-is_dev_only f = option_map_or is_dev_link (full_link f) false
+abbrev pub is_dev_edge : EdgeFacts → Bool
+is_dev_edge f = option_map_or is_dev_link (full_link f) false
 
 -- Some kind has a declaration that applies on some platform.
 abbrev pub is_present : LinkFacts → Bool

@@ -21,8 +21,8 @@ IsLink t k link = slice_get t.links k ≡ Some link
 
 -- Always if some declaration applies on all platforms; never if there is none; otherwise the specs by first appearance, without
 -- repeats.
-abbrev pub joined : List (Option Text) → Status
-joined platforms = if list_any (λ p. not (is_some p)) platforms then always_status else status_by (firsts bytes_eq (filter_map (λ p. p) platforms))
+abbrev pub platforms_status : List (Option Text) → Status
+platforms_status platforms = if list_any (λ p. not (is_some p)) platforms then always_status else status_by (firsts bytes_eq (filter_map (λ p. p) platforms))
 
 abbrev pub is_kind : DependencyKind → DependencyKind → Bool
 is_kind Normal Normal = true
@@ -49,8 +49,8 @@ pub record LinkFacts : Type 0 where
   pub package_links : List ℕ
 
 -- The status of `kind`, over the declarations of `links` that pass.
-abbrev pub status_of : DependencyKind → (Declared → Bool) → List (ℕ × LinkTable) → Status
-status_of kind passes links = joined (flat_map (λ l. map (λ d. d.platform) (filter (λ d. passes d && is_kind kind d.kind) l.1.declarations)) links)
+abbrev pub joined_status : DependencyKind → (Declared → Bool) → List (ℕ × LinkTable) → Status
+joined_status kind passes links = platforms_status (flat_map (λ l. map (λ d. d.platform) (filter (λ d. passes d && is_kind kind d.kind) l.1.declarations)) links)
 
 -- The platforms of the declarations of `kind`.
 abbrev pub platforms_of : DependencyKind → List Declared → List (Option Text)
@@ -60,9 +60,9 @@ platforms_of kind declarations = map (λ d. d.platform) (filter (λ d. is_kind k
 abbrev pub over : LinkDeclarations → (Declared → Bool) → List (ℕ × LinkTable) → LinkFacts
 over which passes links = record {
   declarations = which;
-  normal = status_of Normal passes links;
-  build = status_of Build passes links;
-  dev = status_of Development passes links;
+  normal = joined_status Normal passes links;
+  build = joined_status Build passes links;
+  dev = joined_status Development passes links;
   package_links = map (λ l. l.0) (filter (λ l. list_any passes l.1.declarations) links);
 }
 
@@ -70,9 +70,9 @@ over which passes links = record {
 abbrev pub over_parts : LinkDeclarations → List (ℕ × List Declared) → LinkFacts
 over_parts which parts = record {
   declarations = which;
-  normal = joined (platforms_of Normal (flat_map (λ x. x.1) parts));
-  build = joined (platforms_of Build (flat_map (λ x. x.1) parts));
-  dev = joined (platforms_of Development (flat_map (λ x. x.1) parts));
+  normal = platforms_status (platforms_of Normal (flat_map (λ x. x.1) parts));
+  build = platforms_status (platforms_of Build (flat_map (λ x. x.1) parts));
+  dev = platforms_status (platforms_of Development (flat_map (λ x. x.1) parts));
   package_links = map (λ x. x.0) (filter (λ x. list_any (λ d. true) x.1) parts);
 }
 

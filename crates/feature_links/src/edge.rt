@@ -1,7 +1,7 @@
 //! Edges between two features.
 ghost use Rattle.std.specs.Prelude.{◌≡◌, IfOk, option_copied};
 ghost use Rattle.std.specs.Option.{option_map};
-ghost use Rattle.feature_links.specs.Facts.{full_link, is_dev_only, halves_of, link_at, has_present_link};
+ghost use Rattle.feature_links.specs.Facts.{full_link, is_dev_edge, halves_of, link_at, has_present_link};
 ghost use Rattle.feature_links.specs.Values.{link_facts, half_facts, weak_facts_of, weak_number, slash_facts, edge_facts};
 
 use crate::link::{ConditionalLinkImpl, EnabledLink};
@@ -182,7 +182,7 @@ impl FeatureEdge {
 
     /// Returns whether the edge is conditional and its link has no declaration for normal use or for build scripts.
     pub fn is_dev_only(&self) -> bool
-        ensures { result ≡ is_dev_only (edge_facts self.now) }
+        ensures { result ≡ is_dev_edge (edge_facts self.now) }
     {
         match self.full_link() {
             Some(link) => link.is_dev_only(),

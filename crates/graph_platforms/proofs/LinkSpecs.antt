@@ -17,7 +17,7 @@ use Rattle.feature_labels.specs.declared.link_declarations.LinkDeclarations.TheV
 use Rattle.walk_engine.specs.declared.walks.Half.{Half}
 use Rattle.walk_engine.specs.declared.walks.Half.TheVariants.{Full, Required, Optional}
 use Rattle.feature_links.specs.Facts.{EdgeFacts, base_edge, feature_edge, colon_edge, strong_edge, weak_edge, section_edge, link_at}
-use Rattle.feature_links.specs.Links.{LinkFacts, IsLink, joined, is_kind, includes, status_of, over, numbered, links_named, by_name, has_declaration, half_of, half_over}
+use Rattle.feature_links.specs.Links.{LinkFacts, IsLink, platforms_status, is_kind, includes, joined_status, over, numbered, links_named, by_name, has_declaration, half_of, half_over}
 use Rattle.feature_core.specs.Built.{Built, IsBuilt}
 use Rattle.feature_core.specs.Candidates.{Edge, feature_to_base, named_feature, dep_colon, slash_full, slash_optional, slash_weak, section, Candidate, to_base, to_feature, to_dependency, over_strong, over_weak, with_dependency, with_feature, of_required, of_optional, IsSection, requesting, unsplit_of}
 use Rattle.feature_core.specs.Edges.{facts_of, weak_facts}
@@ -37,8 +37,8 @@ by_specs : (specs : List Text) → status_specs (status_by specs) ≡ specs
 by_specs [] = refl
 by_specs (s ∷ specs) = refl
 
--- the specs of joined platforms
-joined_from : (platforms : List (Option Text)) (text : Text) → Contains (status_specs (joined platforms)) text → Contains platforms (Some text)
+-- the specs of the status over platforms
+joined_from : (platforms : List (Option Text)) (text : Text) → Contains (status_specs (platforms_status platforms)) text → Contains platforms (Some text)
 joined_from platforms text h = go (list_any (λ p. not (is_some p)) platforms) h
   where
     go : (b : Bool) → Contains (status_specs (if b then always_status else status_by (firsts bytes_eq (filter_map (λ p. p) platforms)))) text → Contains platforms (Some text)
@@ -52,7 +52,7 @@ module _ (t : Tables) where
   abbrev AreDeclared : Status → Type 0
   AreDeclared status = (text : Text) → Contains (status_specs status) text → Contains (declared_specs t) text
 
-  status_declared : (kind : DependencyKind) (passes : Declared → Bool) (links : List (ℕ × LinkTable)) → AreLinks links → AreDeclared (status_of kind passes links)
+  status_declared : (kind : DependencyKind) (passes : Declared → Bool) (links : List (ℕ × LinkTable)) → AreLinks links → AreDeclared (joined_status kind passes links)
   status_declared kind passes links are text h =
       let covered : (ℕ × LinkTable) → List Declared = λ l. filter (λ d. passes d && is_kind kind d.kind) l.1.declarations in
       let platforms : (ℕ × LinkTable) → List (Option Text) = λ l. map (λ d. d.platform) (covered l) in

@@ -9,13 +9,13 @@ use Rattle.guppy_packages.specs.Tables.{Tables}
 use Rattle.guppy_packages.specs.declared.direction.DependencyDirection.TheVariants.{Forward}
 use Rattle.feature_core.specs.Built.{Built, digraph_of, end_of}
 use Rattle.feature_core.specs.Candidates.{Edge, feature_to_base, named_feature, dep_colon, slash_full, slash_optional, slash_weak, section, IsEdge}
-use Rattle.feature_links.specs.Facts.{EdgeFacts, is_dev_only}
+use Rattle.feature_links.specs.Facts.{EdgeFacts, is_dev_edge}
 use Rattle.feature_core.specs.Edges.{EdgeSays, facts_of}
 use Rattle.feature_core.specs.Offers.{content_of}
 use Rattle.feature_core.specs.Ways.{way}
 
 -- an edge is dev-only or not, independently of where the weak links lie
-dev_alike : (t : Tables) (v w : List ℕ) (e : Edge) → is_dev_only (facts_of t v e) ≡ is_dev_only (facts_of t w e)
+dev_alike : (t : Tables) (v w : List ℕ) (e : Edge) → is_dev_edge (facts_of t v e) ≡ is_dev_edge (facts_of t w e)
 dev_alike t v w feature_to_base = refl
 dev_alike t v w named_feature = refl
 dev_alike t v w (dep_colon l) = refl
@@ -25,20 +25,20 @@ dev_alike t v w (slash_weak k l) = refl
 dev_alike t v w (section l) = refl
 
 -- two edges of one pair of nodes are both dev-only or both not
-said_alike : (t : Tables) (v w : List ℕ) (x y : ℕ × ℕ × EdgeFacts) → EdgeSays t v x.0 x.1 x.2 → ((e : Edge) → IsEdge t y.0 y.1 e → y.2 ≡ facts_of t w e) → x.0 ≡ y.0 → x.1 ≡ y.1 → is_dev_only x.2 ≡ is_dev_only y.2
+said_alike : (t : Tables) (v w : List ℕ) (x y : ℕ × ℕ × EdgeFacts) → EdgeSays t v x.0 x.1 x.2 → ((e : Edge) → IsEdge t y.0 y.1 e → y.2 ≡ facts_of t w e) → x.0 ≡ y.0 → x.1 ≡ y.1 → is_dev_edge x.2 ≡ is_dev_edge y.2
 said_alike t v w x y says same from to =
-    let one : IsProp (is_dev_only x.2 ≡ is_dev_only y.2) = hlevel props in
+    let one : IsProp (is_dev_edge x.2 ≡ is_dev_edge y.2) = hlevel props in
     ∥∥₁_elim says one (λ s.
     let edge : IsEdge t y.0 y.1 s.0 = subst (λ z. IsEdge t z y.1 s.0) from (subst (λ z. IsEdge t x.0 z s.0) to s.1) in
-    ap is_dev_only s.2 ∙ dev_alike t v w s.0 ∙ sym (ap is_dev_only (same s.0 edge)))
+    ap is_dev_edge s.2 ∙ dev_alike t v w s.0 ∙ sym (ap is_dev_edge (same s.0 edge)))
 
 abbrev between : ℕ → ℕ → Bool → Between
 between from to non_dev = record { from = from; to = to; non_dev = non_dev }
 
-end_alike : (x y : ℕ × ℕ × EdgeFacts) → x.0 ≡ y.0 → x.1 ≡ y.1 → is_dev_only x.2 ≡ is_dev_only y.2 → end_of x ≡ end_of y
+end_alike : (x y : ℕ × ℕ × EdgeFacts) → x.0 ≡ y.0 → x.1 ≡ y.1 → is_dev_edge x.2 ≡ is_dev_edge y.2 → end_of x ≡ end_of y
 end_alike x y from to dev =
-    ap (λ z. between z x.1 (not (is_dev_only x.2))) from
-    ∙ ap (λ z. between y.0 z (not (is_dev_only x.2))) to
+    ap (λ z. between z x.1 (not (is_dev_edge x.2))) from
+    ∙ ap (λ z. between y.0 z (not (is_dev_edge x.2))) to
     ∙ ap (λ z. between y.0 y.1 (not z)) dev
 
 -- lists with the same values of `f` and `g` have the same values of `h`, if each pair of equal values has

@@ -15,7 +15,8 @@ use Rattle.feature_labels.specs.Names.{LabelName}
 use Rattle.feature_core.specs.Built.{Built, IsBuilt, digraph_of}
 use Rattle.feature_core.specs.Nodes.{nodes}
 use Rattle.feature_graph.specs.Names.{names_of_nodes}
-use Rattle.feature_graph.specs.Ordered.{reading_of, ordered_names}
+use Rattle.guppy_packages.specs.PackageSets.{reading_of}
+use Rattle.feature_graph.specs.Ordered.{ordered_names}
 use Rattle.feature_graph.specs.Tied.{cycle_names}
 use Rattle.feature_graph.specs.Values.{Graph, Set}
 use Rattle.guppy_tool.specs.Answers.{OrdersNodes, ListsInOrder, ListsCycles, groups, listing, read_by}

@@ -17,7 +17,7 @@ use Rattle.guppy_packages.specs.Rows.{Text}
 use Rattle.feature_labels.specs.Names.{LabelName}
 use Rattle.guppy_tool.specs.Faults.{Refusal, bad_id, IfNotMemory}
 use Rattle.guppy_tool.specs.Words.{cut_at_last_slash, is_slash, id_or_refusal, id_in, ids_in}
-use Rattle.row_files.specs.FirstFaultLaws.{with_front, one_refused}
+use Rattle.row_files.proofs.FirstFaultLemmas.{with_front, one_refused}
 use Rattle.guppy_tool.proofs.RefusalLemmas.{if_not_memory}
 
 some_pair : (a c b d : Text) → a ≡ c → b ≡ d → ◌≡◌ {A = Option (Text × Text)} (Some (a, b)) (Some (c, d))

@@ -113,14 +113,14 @@ declarations_word Optional = codes "optional"
 
 -- the reason why a feature is on: it is initial, or an edge or a link with these declarations leads to it from another
 -- feature
-abbrev pub reason_text : ReasonName → Text
-reason_text initial = codes "initial"
-reason_text (edge from to) = codes "edge" ++ 9 ∷ id_text from
-reason_text (link from to declarations) = codes "link" ++ 9 ∷ id_text from ++ 9 ∷ declarations_word declarations
+abbrev pub reason_fields : ReasonName → Text
+reason_fields initial = codes "initial"
+reason_fields (edge from to) = codes "edge" ++ 9 ∷ id_text from
+reason_fields (link from to declarations) = codes "link" ++ 9 ∷ id_text from ++ 9 ∷ declarations_word declarations
 
 -- the line of a step: the feature and the reason, with tabs between
 abbrev pub step_line : (Text × LabelName) × ReasonName → Text
-step_line (id, reason) = id_text id ++ 9 ∷ reason_text reason ++ 10 ∷ []
+step_line (id, reason) = id_text id ++ 9 ∷ reason_fields reason ++ 10 ∷ []
 
 abbrev pub step_lines : List ((Text × LabelName) × ReasonName) → Text
 step_lines told = flat_map step_line told

@@ -4,7 +4,7 @@ use Rattle.guppy_tool.specs.declared.fault.Fault.{Fault}
 use Rattle.guppy_tool.specs.declared.fault.Fault.TheVariants.{Usage, BadId}
 
 -- 2 for a fault of the command line, and 1 for every other
-abbrev pub status_of : Fault → ℕ
-status_of Usage = 2
-status_of (BadId argument) = 2
-status_of _ = 1
+abbrev pub exit_status : Fault → ℕ
+exit_status Usage = 2
+exit_status (BadId argument) = 2
+exit_status _ = 1

@@ -27,14 +27,14 @@ pub data CommandText : Type 0 where
 abbrev pub given_of : GivenId → Text × LabelName
 given_of id = (id.package_id, label_of id.label)
 
-abbrev pub command_of : Command → CommandText
-command_of (commands.Resolve direction ids) = resolve direction (map given_of ids.items)
-command_of (commands.Visit direction ids) = visit direction (map given_of ids.items)
-command_of (commands.Order direction) = ordered direction
-command_of commands.Cycles = all_cycles
-command_of (commands.List package_id) = list_of package_id
-command_of commands.Warnings = all_warnings
-command_of (commands.Build kinds ids specs) = build kinds.items (map given_of ids.items) (texts specs.items)
+abbrev pub command_text : Command → CommandText
+command_text (commands.Resolve direction ids) = resolve direction (map given_of ids.items)
+command_text (commands.Visit direction ids) = visit direction (map given_of ids.items)
+command_text (commands.Order direction) = ordered direction
+command_text commands.Cycles = all_cycles
+command_text (commands.List package_id) = list_of package_id
+command_text commands.Warnings = all_warnings
+command_text (commands.Build kinds ids specs) = build kinds.items (map given_of ids.items) (texts specs.items)
 
 abbrev pub is_slash : ℕ → Bool
 is_slash b = b == 47
@@ -71,13 +71,13 @@ direction_in word =
     if bytes_eq word (codes "forward") then Some Forward
     else (if bytes_eq word (codes "reverse") then Some Reverse else None)
 
-abbrev pub beside : DependencyDirection → Result (List (Text × LabelName)) Refusal → Result (DependencyDirection × List (Text × LabelName)) Refusal
-beside direction (Ok ids) = Ok (direction, ids)
-beside direction (Err e) = Err e
+abbrev pub with_direction : DependencyDirection → Result (List (Text × LabelName)) Refusal → Result (DependencyDirection × List (Text × LabelName)) Refusal
+with_direction direction (Ok ids) = Ok (direction, ids)
+with_direction direction (Err e) = Err e
 
 abbrev pub ids_after : Option DependencyDirection → List Text → Result (DependencyDirection × List (Text × LabelName)) Refusal
 ids_after None words = Err usage
-ids_after (Some direction) words = beside direction (ids_in words)
+ids_after (Some direction) words = with_direction direction (ids_in words)
 
 -- a direction, followed by ids
 abbrev pub directed_ids : List Text → Result (DependencyDirection × List (Text × LabelName)) Refusal
@@ -85,9 +85,9 @@ directed_ids [] = Err usage
 directed_ids (word ∷ words) = ids_after (direction_in word) words
 
 -- a command with a direction and ids
-abbrev pub over : (DependencyDirection → List (Text × LabelName) → CommandText) → Result (DependencyDirection × List (Text × LabelName)) Refusal → Result CommandText Refusal
-over command (Ok asked) = Ok (command asked.0 asked.1)
-over command (Err e) = Err e
+abbrev pub directed_command : (DependencyDirection → List (Text × LabelName) → CommandText) → Result (DependencyDirection × List (Text × LabelName)) Refusal → Result CommandText Refusal
+directed_command command (Ok asked) = Ok (command asked.0 asked.1)
+directed_command command (Err e) = Err e
 
 abbrev pub ordered_by : Option DependencyDirection → Result CommandText Refusal
 ordered_by None = Err usage
@@ -116,13 +116,13 @@ kinds_in word = each_or kind_in (λ part. usage) (slice_split (λ b. b == 44) wo
 abbrev pub is_dashes : Text → Bool
 is_dashes word = bytes_eq word (codes "--")
 
-abbrev pub build_of : List DependencyKind → List Text → Result (List (Text × LabelName)) Refusal → Result CommandText Refusal
-build_of kinds specs (Ok ids) = Ok (build kinds ids specs)
-build_of kinds specs (Err e) = Err e
+abbrev pub build_command : List DependencyKind → List Text → Result (List (Text × LabelName)) Refusal → Result CommandText Refusal
+build_command kinds specs (Ok ids) = Ok (build kinds ids specs)
+build_command kinds specs (Err e) = Err e
 
 -- the words after the first `--` are specs, and the words before it are ids
 abbrev pub build_over : Result (List DependencyKind) Refusal → List Text → Result CommandText Refusal
-build_over (Ok kinds) words = build_of kinds (after_first is_dashes words) (ids_in (before_first is_dashes words))
+build_over (Ok kinds) words = build_command kinds (after_first is_dashes words) (ids_in (before_first is_dashes words))
 build_over (Err e) words = Err e
 
 -- dependency kinds, followed by ids and specs
@@ -131,19 +131,19 @@ build_in [] = Err usage
 build_in (word ∷ words) = build_over (kinds_in word) words
 
 -- a command without arguments
-abbrev pub alone : CommandText → List Text → Result CommandText Refusal
-alone command [] = Ok command
-alone command (word ∷ words) = Err usage
+abbrev pub without_arguments : CommandText → List Text → Result CommandText Refusal
+without_arguments command [] = Ok command
+without_arguments command (word ∷ words) = Err usage
 
 -- the command named by a word, with its arguments
 abbrev pub command_in : Text → List Text → Result CommandText Refusal
 command_in word arguments =
-    if bytes_eq word (codes "resolve") then over resolve (directed_ids arguments)
-    else (if bytes_eq word (codes "visit") then over visit (directed_ids arguments)
+    if bytes_eq word (codes "resolve") then directed_command resolve (directed_ids arguments)
+    else (if bytes_eq word (codes "visit") then directed_command visit (directed_ids arguments)
     else (if bytes_eq word (codes "order") then one_direction arguments
-    else (if bytes_eq word (codes "cycles") then alone all_cycles arguments
+    else (if bytes_eq word (codes "cycles") then without_arguments all_cycles arguments
     else (if bytes_eq word (codes "list") then one_package arguments
-    else (if bytes_eq word (codes "warnings") then alone all_warnings arguments
+    else (if bytes_eq word (codes "warnings") then without_arguments all_warnings arguments
     else (if bytes_eq word (codes "build") then build_in arguments else Err usage))))))
 
 abbrev pub of_file : Text → Result CommandText Refusal → Result (Text × CommandText) Refusal

@@ -2,7 +2,7 @@
 ghost use Rattle.feature_core.specs.Built.{IsBuilt};
 ghost use Rattle.guppy_tool.specs.Faults.{Gives};
 ghost use Rattle.guppy_tool.specs.RowFileRefusals.{tables_in};
-ghost use Rattle.guppy_tool.specs.Words.{command_of};
+ghost use Rattle.guppy_tool.specs.Words.{command_text};
 ghost use Rattle.guppy_tool.specs.Answers.{IsOutput};
 ghost use Rattle.guppy_tool.specs.Run.{GivesAnswer, IsAnswer};
 
@@ -26,7 +26,7 @@ fn answer_built(
     built: &FeatureGraphData,
 ) -> Result<Vec<u8>, Fault>
     requires { IsBuilt graph.now built.now }
-    ensures { GivesAnswer (λ text. text.items) result (IsOutput (command_of command.now) graph.now) }
+    ensures { GivesAnswer (λ text. text.items) result (IsOutput (command_text command.now) graph.now) }
 {
     match command {
         Command::Resolve { direction, ids } => resolved(alloc, graph, built, *direction, ids),
@@ -42,7 +42,7 @@ fn answer_built(
 /// Builds the feature graph of `graph`, and returns the output of `command` over it or the first refusal. The built
 /// data is not freed: the process frees all its memory at once when it ends.
 fn answer_graph(alloc: Global, command: &Command, graph: &PackageGraph) -> Result<Vec<u8>, Fault>
-    ensures { GivesAnswer (λ text. text.items) result (IsOutput (command_of command.now) graph.now) }
+    ensures { GivesAnswer (λ text. text.items) result (IsOutput (command_text command.now) graph.now) }
 {
     match FeatureGraphData::build(alloc, graph, 0) {
         Ok(built) => {
@@ -67,7 +67,7 @@ fn graph_of_bytes(alloc: Global, bytes: &[u8]) -> Result<PackageGraph, Fault>
 /// Returns the output of `command` over the row file `bytes`, or the first refusal. The package graph is not freed
 /// before the process ends.
 pub fn answer(alloc: Global, command: &Command, bytes: Vec<u8>) -> Result<Vec<u8>, Fault>
-    ensures { GivesAnswer (λ text. text.items) result (IsAnswer (command_of command.now) bytes.items) }
+    ensures { GivesAnswer (λ text. text.items) result (IsAnswer (command_text command.now) bytes.items) }
 {
     let graph = graph_of_bytes(alloc, &bytes)?;
     drop(bytes);

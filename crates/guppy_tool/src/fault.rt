@@ -101,11 +101,11 @@ impl From<ReadError> for Fault {
 }
 
 impl Fault {
-    ghost use Rattle.guppy_tool.specs.Status.{status_of};
+    ghost use Rattle.guppy_tool.specs.Status.{exit_status};
 
     /// Returns the exit status: 2 for a fault of the command line, and 1 for every other.
     pub fn status(&self) -> u8
-        ensures { result ≡ status_of self.now }
+        ensures { result ≡ exit_status self.now }
     {
         match self {
             Fault::Usage | Fault::BadId { .. } => 2,

@@ -5,7 +5,7 @@ ghost use Rattle.std.specs.Option.{option_map};
 ghost use Rattle.guppy_packages.specs.Rows.{Text, texts};
 ghost use Rattle.feature_labels.specs.Names.{label_of, id_of, LabelName};
 ghost use Rattle.guppy_tool.specs.Faults.{Gives};
-ghost use Rattle.guppy_tool.specs.Words.{given_of, command_of, cut_at_last_slash as slash_cut, label_in, id_in, ids_in, words_ask, id_or_refusal, direction_in, directed_ids, command_in, one_direction, one_package, kind_in, kinds_in, is_dashes, build_in};
+ghost use Rattle.guppy_tool.specs.Words.{given_of, command_text, cut_at_last_slash as slash_cut, label_in, id_in, ids_in, words_ask, id_or_refusal, direction_in, directed_ids, command_in, one_direction, one_package, kind_in, kinds_in, is_dashes, build_in};
 
 use crate::fault::Fault;
 use feature_labels::{FeatureId, FeatureLabel};
@@ -129,7 +129,7 @@ fn directed<'a>(
 
 /// Returns the command `order` with the one direction in `arguments`, or `Usage`.
 fn ordering<'a>(arguments: &[&'a str]) -> Result<Command<'a>, Fault>
-    ensures { Gives command_of result (one_direction (texts arguments.now)) }
+    ensures { Gives command_text result (one_direction (texts arguments.now)) }
 {
     let [word] = arguments else {
         return Err(Fault::Usage);
@@ -142,7 +142,7 @@ fn ordering<'a>(arguments: &[&'a str]) -> Result<Command<'a>, Fault>
 
 /// Returns the command `list` with the one package in `arguments`, or `Usage` or `Memory`.
 fn listing<'a>(alloc: Global, arguments: &[&'a str]) -> Result<Command<'a>, Fault>
-    ensures { Gives command_of result (one_package (texts arguments.now)) }
+    ensures { Gives command_text result (one_package (texts arguments.now)) }
 {
     let [package_id] = arguments else {
         return Err(Fault::Usage);
@@ -202,7 +202,7 @@ fn cut_at_dashes<'w, 'a>(words: &'w [&'a str]) -> (&'w [&'a str], &'w [&'a str])
 
 /// Returns the command `build` with these arguments. The error is `Usage`, `BadId` or `Memory`.
 fn building<'a>(alloc: Global, arguments: &[&'a str]) -> Result<Command<'a>, Fault>
-    ensures { Gives command_of result (build_in (texts arguments.now)) }
+    ensures { Gives command_text result (build_in (texts arguments.now)) }
 {
     let [word, rest @ ..] = arguments else {
         return Err(Fault::Usage);
@@ -218,7 +218,7 @@ fn building<'a>(alloc: Global, arguments: &[&'a str]) -> Result<Command<'a>, Fau
 
 /// Returns the command named `word` with these arguments. The error is `Usage`, `BadId` or `Memory`.
 fn asked<'a>(alloc: Global, word: &str, arguments: &[&'a str]) -> Result<Command<'a>, Fault>
-    ensures { Gives command_of result (command_in word.now (texts arguments.now)) }
+    ensures { Gives command_text result (command_in word.now (texts arguments.now)) }
 {
     if word == "resolve" {
         let (direction, ids) = directed(alloc, arguments)?;
@@ -254,7 +254,7 @@ fn asked<'a>(alloc: Global, word: &str, arguments: &[&'a str]) -> Result<Command
 ///
 /// The error is `BadId` with the first ID that has no slash, `Usage` for every other form, or `Memory`.
 pub fn parse_words<'a>(alloc: Global, words: &[&'a str]) -> Result<(&'a str, Command<'a>), Fault>
-    ensures { Gives (λ asked. (asked.0.now, command_of asked.1)) result (words_ask (texts words.now)) }
+    ensures { Gives (λ asked. (asked.0.now, command_text asked.1)) result (words_ask (texts words.now)) }
 {
     let [file, word, arguments @ ..] = words else {
         return Err(Fault::Usage);

@@ -48,12 +48,12 @@ pub record AloneText : Type 0 where
   pub units : List MemberUnitText
 
 -- Package `p` for a place, if the features of these rows differ.
-abbrev pub if_different : ℕ → Place → List MemberUnitText → List AloneText
-if_different p place rows = if differ (map (λ r. r.unit.features) rows) then record { number = p; place = place; units = rows } ∷ [] else []
+abbrev pub alone_if_different : ℕ → Place → List MemberUnitText → List AloneText
+alone_if_different p place rows = if differ (map (λ r. r.unit.features) rows) then record { number = p; place = place; units = rows } ∷ [] else []
 
 -- Package `p`, which these rows build, for a place.
 abbrev pub alone_at : ℕ → List MemberUnitText → Place → List AloneText
-alone_at p rows place = if_different p place (rows_at place rows)
+alone_at p rows place = alone_if_different p place (rows_at place rows)
 
 abbrev pub alone_in : List Place → List MemberUnitText → ℕ → List AloneText
 alone_in places rows p = flat_map (alone_at p (rows_of rows p)) places

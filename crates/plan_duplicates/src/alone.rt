@@ -86,7 +86,7 @@ fn push_if_different<'u, 'w>(
     place: Place,
     here: Vec<MemberUnit<'u, 'w>>,
 ) -> Result<(), AllocError>
-    ensures { OnOk result (map alone_text list.new.items ≡ map alone_text list.old.items ++ spec.if_different «package» place (map member_unit_text here.entry.items)) }
+    ensures { OnOk result (map alone_text list.new.items ≡ map alone_text list.old.items ++ spec.alone_if_different «package» place (map member_unit_text here.entry.items)) }
 {
     if rows_differ(&here) {
         list.push(Alone {

@@ -30,7 +30,7 @@ fn push_if_different<'u, 'w>(
     package: usize,
     places: &[PlaceFeatures<'u, 'w>],
 ) -> Result<(), AllocError>
-    ensures { OnOk result (map places_text list.new.items ≡ map places_text list.old.items ++ spec.if_different «package» (map placed_text places.now)) }
+    ensures { OnOk result (map places_text list.new.items ≡ map places_text list.old.items ++ spec.places_if_different «package» (map placed_text places.now)) }
 {
     if places_differ(places) {
         list.push(Places {
@@ -60,7 +60,7 @@ pub(crate) fn places_of<'u, 'w>(
     packages: &[Package<'_>],
     units: &'u [Unit<'w>],
 ) -> Result<Vec<Places<'u, 'w>>, AllocError>
-    ensures { IfOk result (λ list. map places_text list.items ≡ spec.places_of (map package_text packages.now) (map unit_text units.now)) }
+    ensures { IfOk result (λ list. map places_text list.items ≡ spec.differing_packages (map package_text packages.now) (map unit_text units.now)) }
 {
     let groups = places_by_package(alloc, units)?;
     let mut list = Vec::new(alloc);

@@ -17,8 +17,9 @@ use Rattle.guppy_packages.specs.declared.direction.DependencyDirection.TheVarian
 use Rattle.guppy_packages.proofs.Lists.{slice_get-map}
 use Rattle.feature_labels.specs.Names.{LabelName}
 use Rattle.feature_labels.specs.Names.LabelName.{base, named, optional}
-use Rattle.feature_labels.specs.Orders.{label_eq, label_eq-Decides}
+use Rattle.feature_labels.specs.Orders.{label_eq}
 use Rattle.feature_labels.specs.declared.link_declarations.LinkDeclarations.TheVariants as covered
+use Rattle.feature_labels.proofs.OrderLemmas.{label_eq-Decides}
 use Rattle.walk_engine.specs.declared.walks.Ask.{Ask}
 use Rattle.walk_engine.specs.declared.walks.Ask.TheVariants as asks
 use Rattle.walk_engine.specs.declared.walks.Half.{Half}

@@ -14,7 +14,7 @@ use Rattle.plan_words.specs.Refusals.{Refusal, unless, ◌>>=◌}
 use Rattle.plan_words.specs.Selections.{SelectionText}
 use Rattle.cargo_plans.specs.plan_steps.Plans.{IsPlan}
 use Rattle.cargo_plans.specs.Plans.{settings_by}
-use Rattle.plan_laws.specs.Growth.{CommandsGrow, MoreWordsTurnNothingOff, select_features, with_features}
+use Rattle.plan_laws.specs.Growth.{CommandsGrow, MoreWordsTurnNothingOff, select_features, with_feature_words}
 use Rattle.plan_laws.proofs.Members.{from_filter_map, same_some}
 use Rattle.plan_laws.proofs.MoreEntries.{into_filter_map}
 use Rattle.plan_laws.proofs.MoreFeatures.{more_turns_nothing_off}
@@ -136,7 +136,7 @@ more_words w words more p q is among a b u h =
     let is_first : first ≡ a.chosen = same_ok first a.chosen v.2 in
     let is_second : second ≡ b.chosen = same_ok second b.chosen j.2 in
     let plan = subst (λ (c : ChosenText). IsPlan w (settings_by words c) c.selected p) (sym is_first) a.holds in
-    let other = subst (λ (c : ChosenText). IsPlan w (settings_by (with_features words more) c) c.selected q) (sym is_second) b.holds in
+    let other = subst (λ (c : ChosenText). IsPlan w (settings_by (with_feature_words words more) c) c.selected q) (sym is_second) b.holds in
     let grow : CommandsGrow v.0 j.0 = subst (λ z. CommandsGrow z j.0) (commands_are w s r.0 v.0 v.1)
     (subst (λ z. CommandsGrow (commands_from s (shape w (root_of w s) (members_among w r.0) s.features) 0 w.packages) z) (commands_are w t i.0 j.0 j.1)
     (subst (λ ps. CommandsGrow (commands_from s (shape w (root_of w s) (members_among w r.0) s.features) 0 w.packages) (commands_from t (shape w (root_of w s) (members_among w ps) more) 0 w.packages)) packages

@@ -13,7 +13,7 @@ use Rattle.plan_rows.specs.declared.side.Side.TheVariants.{Target, Host}
 use Rattle.cargo_plans.specs.plan_starts.Lists.{joined_from}
 use Rattle.cargo_plans.specs.plan_starts.Targets.{is_macro}
 use Rattle.cargo_plans.specs.plan_units.Commands.{command_label, command_places, on_starts}
-use Rattle.plan_laws.specs.Laws.{AreAlike, IsDeclaredAlike, ResolversAgree, with_split}
+use Rattle.plan_laws.specs.Laws.{AllCountAlike, IsDeclaredAlike, ResolversAgree, with_split}
 
 -- equal values of equal lists
 filter_map_same : {X Y : Type 0} (f g : X → Option Y) (xs : List X) → ((x : X) → Contains xs x → f x ≡ g x) → filter_map f xs ≡ filter_map g xs
@@ -60,7 +60,7 @@ no_macro [] h q = refl
 no_macro (x ∷ xs) h zero = h x (Contains-first x xs)
 no_macro (x ∷ xs) h (suc q) = no_macro xs (λ y c. h y (Contains-later x xs y c)) q
 
-module _ (w : WorkspaceText) (s : SettingsText) (alike : AreAlike w s) where
+module _ (w : WorkspaceText) (s : SettingsText) (alike : AllCountAlike w s) where
   module _ (kept : ℕ → Text → Bool) where
     same_admitted : (p : ℕ) (d : DeclarationText) → IsDeclaredAlike s d → admitted (with_split s true) kept p Target d ≡ admitted (with_split s false) kept p Target d
     same_admitted p d is =

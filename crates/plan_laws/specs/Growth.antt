@@ -59,11 +59,11 @@ MoreTurnsNothingOff = (w : WorkspaceText) (s : SettingsText) (commands : List (O
 abbrev pub select_features : SelectionText → List Text → SelectionText
 select_features s features = record { packages = s.packages; features = features; all_features = s.all_features; no_default_features = s.no_default_features; split = s.split }
 
-abbrev pub with_features : WordsText → List Text → WordsText
-with_features words features = record { selection = select_features words.selection features; test = words.test; host = words.host; targets = words.targets }
+abbrev pub with_feature_words : WordsText → List Text → WordsText
+with_feature_words words features = record { selection = select_features words.selection features; test = words.test; host = words.host; targets = words.targets }
 
 -- MORE FEATURE WORDS TURN NOTHING OFF.
 abbrev pub MoreWordsTurnNothingOff : Type 0
 MoreWordsTurnNothingOff = (w : WorkspaceText) (words : WordsText) (more : List Text) (p q : PlanText) → IsWorkspace w
-    → ((f : Text) → Contains words.selection.features f → Contains more f) → IsPlanOf w words p → IsPlanOf w (with_features words more) q
+    → ((f : Text) → Contains words.selection.features f → Contains more f) → IsPlanOf w words p → IsPlanOf w (with_feature_words words more) q
     → (u : UnitText) → Contains p.units u → (v : UnitText) × Contains q.units v × (v.place ≡ u.place) × (v.number ≡ u.number) × ((f : Text) → Contains u.features f → Contains v.features f)

@@ -67,13 +67,13 @@ abbrev pub IsDeclaredAlike : SettingsText → DeclarationText → Type 0
 IsDeclaredAlike s d =
     IsFalse (is_build d.kind) × (IsTrue (is_development d.kind) → IsTrue s.test) × IsTrue (list_any (λ holds. admits holds d.platform) s.targets)
 
--- Nothing is for the host alone: no package is a procedural macro, and all declarations count alike.
-abbrev pub AreAlike : WorkspaceText → SettingsText → Type 0
-AreAlike w s = (x : PackageText) → Contains w.packages x → IsFalse (is_proc_macro x) × ((d : DeclarationText) → Contains x.declarations d → IsDeclaredAlike s d)
+-- No package is a procedural macro, and each declaration counts alike with each resolver. So nothing is for the host alone.
+abbrev pub AllCountAlike : WorkspaceText → SettingsText → Type 0
+AllCountAlike w s = (x : PackageText) → Contains w.packages x → IsFalse (is_proc_macro x) × ((d : DeclarationText) → Contains x.declarations d → IsDeclaredAlike s d)
 
 -- RESOLVERS 1 and 2 resolve alike, and then have the same features to turn on for the targets, from the same starts.
 abbrev pub ResolversAgree : Type 0
-ResolversAgree = (w : WorkspaceText) (s : SettingsText) → AreAlike w s
+ResolversAgree = (w : WorkspaceText) (s : SettingsText) → AllCountAlike w s
     → (resolved_entries w (with_split s true) ≡ resolved_entries w (with_split s false))
     × ((kept : ℕ → Text → Bool) → on_side w.packages (with_split s true) kept Target ≡ on_side w.packages (with_split s false) kept Target)
     × (on_starts w (with_split s true) ≡ on_starts w (with_split s false))

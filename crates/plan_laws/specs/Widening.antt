@@ -71,11 +71,11 @@ WidestTurnsAllOn = (w : WorkspaceText) (words widest : WordsText) (p q : PlanTex
     → IsWidest w widest → IsCovered w words widest → IsPlanOf w words p → IsPlanOf w widest q → IsOnIn p q
 
 -- A label of package `k` is off, on both sides.
-abbrev pub IsOff : PlanText → ℕ → LabelName → Type 0
-IsOff plan k label = (side : Side) → IsFalse (is_on plan.on side k label)
+abbrev pub IsOffInPlan : PlanText → ℕ → LabelName → Type 0
+IsOffInPlan plan k label = (side : Side) → IsFalse (is_on plan.on side k label)
 
 -- NO SELECTION TURNS ON what is off in the plan of the widest words: all words that they cover leave it off.
 abbrev pub NoSelectionTurnsOn : Type 0
 NoSelectionTurnsOn = (w : WorkspaceText) (widest : WordsText) (q : PlanText) → IsWorkspace w → IsWidest w widest → IsPlanOf w widest q
-    → (k : ℕ) (label : LabelName) → IsOff q k label
-    → (words : WordsText) (p : PlanText) → IsCovered w words widest → IsPlanOf w words p → IsOff p k label
+    → (k : ℕ) (label : LabelName) → IsOffInPlan q k label
+    → (words : WordsText) (p : PlanText) → IsCovered w words widest → IsPlanOf w words p → IsOffInPlan p k label

@@ -5,10 +5,11 @@ use Rattle.std.specs.List.{after_last, before_last, list_all, list_any}
 use Rattle.std.proofs.lemmas.List.{get_or-replicate}
 use Rattle.std.proofs.lemmas.Bool.{lt-ltb, ltb-true}
 use Rattle.cargo_workspaces.specs.Workspaces.{PackageText, Text}
+use Rattle.plan_words.specs.FeatureWords.{is_slash}
 use Rattle.plan_words.specs.PackageWords.{has_id, is_named, numbers_from, packages_of_word}
 use Rattle.plan_words.specs.PackageWords as words
 use Rattle.plan_names.specs.Faults.{NameRefusal, several, unknown, out_of_memory, Gives, IfNotMemory, candidates_of, named_of, refusal_of, the_package}
-use Rattle.plan_names.specs.Names.{NamedText, PartText, candidates, has_star, is_slash, of_package, or_else, parts_among, parts_anywhere, parts_by_name, parts_called, parts_from, whole, whole_packages}
+use Rattle.plan_names.specs.Names.{NamedText, PartText, candidates, has_star, of_package, or_else, parts_among, parts_anywhere, parts_by_name, parts_called, parts_from, whole, whole_packages}
 use Rattle.plan_names.specs.declared.fault.NameFault.{NameFault}
 use Rattle.plan_names.specs.inner.Cuts.{CutText, cut_of}
 use Rattle.plan_names.specs.inner.Marks.{Marks}

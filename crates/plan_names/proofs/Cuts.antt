@@ -9,7 +9,7 @@ use Rattle.std.proofs.lemmas.List.Folds.{list_any_at}
 use Rattle.std.proofs.lemmas.List.Sums.{suffix_len_is}
 use Rattle.std.proofs.lemmas.Str.Pattern.{NoCharPasses-char, drop_at_char}
 use Rattle.cargo_workspaces.specs.Workspaces.{Text}
-use Rattle.plan_names.specs.Names.{is_slash}
+use Rattle.plan_words.specs.FeatureWords.{is_slash}
 use Rattle.plan_names.specs.inner.Cuts.{CutText, cut_of}
 use Rattle.plan_names.proofs.Fits.{false_of, never}
 

@@ -1,8 +1,9 @@
 -- The packages, features and optional dependencies that words name.
-use Rattle.std.specs.Prelude.{ℕ, ◌+◌, List, [], ◌∷◌, ◌++◌, Bool, true, map, drop, nat_eq, not, ◌==◌, if◌then◌else◌, codes}
+use Rattle.std.specs.Prelude.{ℕ, ◌+◌, List, [], ◌∷◌, ◌++◌, Bool, true, map, drop, nat_eq, not, if◌then◌else◌, codes}
 use Rattle.std.specs.List.{after_last, before_last, filter, list_any, starts_with}
 use Rattle.std.specs.Str.{bytes_eq}
 use Rattle.cargo_workspaces.specs.Workspaces.{Text, PackageText}
+use Rattle.plan_words.specs.FeatureWords.{is_slash}
 use Rattle.plan_words.specs.PackageWords.{packages_of_word}
 use Rattle.plan_names.specs.Patterns.{fits, is_star}
 
@@ -19,9 +20,6 @@ pub record NamedText : Type 0 where
 
 abbrev pub of_package : ℕ → PartText → NamedText
 of_package k part = record { owner = k; part = part }
-
-abbrev pub is_slash : ℕ → Bool
-is_slash c = c == 47
 
 -- The texts, each where it is first.
 abbrev pub each_once : List Text → List Text

@@ -10,11 +10,7 @@ use Rattle.plan_losses.specs.Losses.{LossesText, losses_of}
 use Rattle.cargo_plans.specs.plan_steps.Plans.{PlanText}
 use Rattle.cargo_plans.specs.plan_units.Units.{UnitText}
 use Rattle.workspace_edits.specs.Edits.{EditText, edited_text, edits_of}
-use Rattle.plan_slims.specs.Orders as orders
-use Rattle.plan_slims.specs.Orders.{SlimText}
-
-abbrev pub IsInOrder : List SlimText → List SlimText → Type 0
-IsInOrder = orders.IsInOrder
+use Rattle.plan_slims.specs.Orders.{IsInOrder, SlimText}
 
 -- As many packages and features as are lost.
 abbrev pub HasNumbersOf : LossesText → SlimText → Type 0

@@ -8,6 +8,7 @@ ghost use Rattle.cargo_plans.specs.plan_units.UnitViews.{unit_text};
 ghost use Rattle.plan_words.specs.Choices.{choose as chosen_by};
 ghost use Rattle.plan_words.specs.Refusals.{IfNotMemory, refusal_of};
 ghost use Rattle.plan_words.specs.Selections.{selection_text};
+ghost use Rattle.plan_slims.specs.Orders.{IsInOrder};
 ghost use Rattle.plan_slims.specs.Slims as spec;
 ghost use Rattle.plan_slims.specs.Slims.{AreSlimsBy, AreSlimsOf};
 ghost use Rattle.plan_slims.specs.SlimViews.{slim_text};
@@ -68,7 +69,7 @@ fn smaller<'v>(alloc: Global, tried: &[Slim<'v>]) -> Result<Vec<Slim<'v>>, Alloc
 
 /// Returns those of `tried` by which something falls away, most first.
 fn in_order<'v>(alloc: Global, tried: &[Slim<'v>]) -> Result<Vec<Slim<'v>>, AllocError>
-    ensures { IfOk result (λ slims. spec.IsInOrder (filter spec.makes_smaller (map slim_text tried.now)) (map slim_text slims.items)) }
+    ensures { IfOk result (λ slims. IsInOrder (filter spec.makes_smaller (map slim_text tried.now)) (map slim_text slims.items)) }
 {
     let mut slims = smaller(alloc, tried)?;
     sort_slims(&mut slims)?;

@@ -1,7 +1,7 @@
 //! The entries that start, by number.
 ghost use Rattle.std.specs.Prelude.{◌≡◌, ◌++◌, ◌∷◌, [], IfOk, OnOk, if◌then◌else◌, map};
 ghost use Rattle.step_visits.specs.feature_labels.Names.LabelName.{base};
-ghost use Rattle.step_visits.specs.Visits.{start_of};
+ghost use Rattle.step_visits.specs.Visits.{place_view};
 ghost use Rattle.plan_starts.specs.Starts as spec;
 ghost use Rattle.plan_starts.specs.Starts.{times};
 ghost use Rattle.plan_starts.specs.StartViews.{starts_text};
@@ -49,7 +49,7 @@ fn push_base(
     ix: usize,
     flag: bool,
 ) -> Result<(), AllocError>
-    ensures { OnOk result (map start_of places.new.items ≡ map start_of places.old.items ++ (if flag then (ix, base) ∷ [] else [])) }
+    ensures { OnOk result (map place_view places.new.items ≡ map place_view places.old.items ++ (if flag then (ix, base) ∷ [] else [])) }
 {
     if flag {
         places.push((ix, FeatureLabel::Base))?;
@@ -62,7 +62,7 @@ fn bases_of(
     alloc: Global,
     flags: &[bool],
 ) -> Result<Vec<(usize, FeatureLabel<'static>)>, AllocError>
-    ensures { IfOk result (λ places. map start_of places.items ≡ spec.bases_of flags.now) }
+    ensures { IfOk result (λ places. map place_view places.items ≡ spec.bases_of flags.now) }
 {
     let mut places = Vec::new(alloc);
     for (ix, flag) in flags.iter().enumerate() {
@@ -77,7 +77,7 @@ pub fn start_places(
     targets: usize,
     starts: &Starts,
 ) -> Result<Vec<(usize, FeatureLabel<'static>)>, AllocError>
-    ensures { IfOk result (λ places. map start_of places.items ≡ spec.start_places targets (starts_text starts.now)) }
+    ensures { IfOk result (λ places. map place_view places.items ≡ spec.start_places targets (starts_text starts.now)) }
 {
     let flags = joined(alloc, &starts.hosts, &starts.others, targets)?;
     bases_of(alloc, &flags)

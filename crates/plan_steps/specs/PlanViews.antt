@@ -3,14 +3,14 @@ use Rattle.std.specs.Prelude.{ℕ, List, map, Result, Ok, Err, ⊤}
 use Rattle.cargo_workspaces.specs.Workspaces.{WorkspaceText}
 use Rattle.plan_rows.specs.Steps.{SettingsText}
 use Rattle.plan_units.specs.UnitViews.{unit_text}
-use Rattle.plan_units.specs.step_visits.Visits.{start_of}
+use Rattle.plan_units.specs.step_visits.Visits.{place_view}
 use Rattle.plan_steps.specs.Plans.{PlanText, IsPlan, HasNoTests, IsNotOn, IsLacking}
 use Rattle.plan_steps.specs.declared.fault.StepFault.{StepFault}
 use Rattle.plan_steps.specs.declared.fault.StepFault.TheVariants as fault
 use Rattle.plan_steps.specs.declared.plan.Plan.{Plan}
 
 abbrev pub plan_text : Plan → PlanText
-plan_text p = record { units = map unit_text p.units.items; on = p.on; built = p.built; starts = map start_of p.starts.items }
+plan_text p = record { units = map unit_text p.units.items; on = p.on; built = p.built; starts = map place_view p.starts.items }
 
 -- Why there is no plan. Nothing is claimed if an allocation fails.
 abbrev pub IsRefused : WorkspaceText → SettingsText → List ℕ → StepFault → Type 0

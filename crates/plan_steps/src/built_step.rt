@@ -4,7 +4,7 @@ ghost use Rattle.cargo_workspaces.specs.WorkspaceView.{workspace_text};
 ghost use Rattle.plan_rows.specs.SettingsView.{settings_text};
 ghost use Rattle.plan_units.specs.plan_starts.Starts as spec;
 ghost use Rattle.plan_units.specs.plan_starts.StartViews.{starts_text};
-ghost use Rattle.plan_units.specs.step_visits.Visits.{start_of};
+ghost use Rattle.plan_units.specs.step_visits.Visits.{place_view};
 ghost use Rattle.plan_steps.specs.Plans.{IsBuiltFrom};
 ghost use Rattle.plan_steps.specs.inner.StepTables.{AreBuiltTables};
 
@@ -60,7 +60,7 @@ fn visited<P: Platform>(
     tables: PackageGraph,
 ) -> Result<Visited, AllocError>
     requires tables { AreBuiltTables (workspace_text workspace.now) (settings_text P.holds settings.now) on.now (starts_text starts.now) tables }
-    requires places { map start_of places.now ≡ spec.start_places (length (settings_text P.holds settings.now).targets) (starts_text starts.now) }
+    requires places { map place_view places.now ≡ spec.start_places (length (settings_text P.holds settings.now).targets) (starts_text starts.now) }
     ensures { IfOk result (λ built. IsBuiltFrom (workspace_text workspace.now) (settings_text P.holds settings.now) on.now (starts_text starts.now) built) }
 {
     visit(alloc, tables, places)
@@ -78,7 +78,7 @@ pub(crate) fn built_step<P: Platform>(
     places: &[(usize, FeatureLabel<'static>)],
 ) -> Result<Visited, AllocError>
     requires room { length (workspace_text workspace.now).packages + length settings.now.targets.now * length (workspace_text workspace.now).packages ≤ ids.now }
-    requires places { map start_of places.now ≡ spec.start_places (length (settings_text P.holds settings.now).targets) (starts_text starts.now) }
+    requires places { map place_view places.now ≡ spec.start_places (length (settings_text P.holds settings.now).targets) (starts_text starts.now) }
     ensures { IfOk result (λ built. IsBuiltFrom (workspace_text workspace.now) (settings_text P.holds settings.now) on.now (starts_text starts.now) built) }
 {
     let tables = tables(alloc, ids, workspace, settings, on, starts)?;

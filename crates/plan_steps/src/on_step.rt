@@ -5,7 +5,7 @@ ghost use Rattle.plan_rows.specs.Commands.{are_commands, command_texts};
 ghost use Rattle.plan_rows.specs.SettingsView.{settings_text};
 ghost use Rattle.plan_units.specs.plan_starts.Targets.{is_macro};
 ghost use Rattle.plan_units.specs.Commands.{command_places, on_starts};
-ghost use Rattle.plan_units.specs.step_visits.Visits.{start_of};
+ghost use Rattle.plan_units.specs.step_visits.Visits.{place_view};
 ghost use Rattle.plan_steps.specs.Plans.{IsOn};
 ghost use Rattle.plan_steps.specs.inner.StepTables.{AreOnTables};
 
@@ -37,7 +37,7 @@ fn push_host<'s, P: Platform>(
     settings: &Settings<'_, '_, P>,
 ) -> Result<(), AllocError>
     requires { length (workspace_text workspace.now).packages + length settings.now.commands.now < 2 ^ 64 }
-    ensures { OnOk result (map start_of places.new.items ≡ map start_of places.old.items
+    ensures { OnOk result (map place_view places.new.items ≡ map place_view places.old.items
         ++ (if settings.now.split then command_places (is_macro (workspace_text workspace.now).packages) (length (workspace_text workspace.now).packages) (command_texts settings.now.commands.now) else [])) }
 {
     if !settings.split {
@@ -55,7 +55,7 @@ pub fn on_places<P: Platform>(
     settings: &Settings<'_, '_, P>,
 ) -> Result<Vec<(usize, FeatureLabel<'static>)>, AllocError>
     requires { length (workspace_text workspace.now).packages + length settings.now.commands.now < 2 ^ 64 }
-    ensures { IfOk result (λ places. map start_of places.items ≡ on_starts (workspace_text workspace.now) (settings_text P.holds settings.now)) }
+    ensures { IfOk result (λ places. map place_view places.items ≡ on_starts (workspace_text workspace.now) (settings_text P.holds settings.now)) }
 {
     let packages = workspace.packages();
     let mut places = Vec::new(alloc);

@@ -3,7 +3,7 @@ ghost use Rattle.std.specs.Prelude.{◌≡◌, map};
 ghost use Rattle.plan_units.specs.feature_labels.Names.LabelName.{named};
 ghost use Rattle.plan_units.specs.plan_starts.PackageVisits.{is_on};
 ghost use Rattle.plan_units.specs.UnitViews.{unit_text};
-ghost use Rattle.plan_units.specs.step_visits.Visits.{start_of};
+ghost use Rattle.plan_units.specs.step_visits.Visits.{place_view};
 
 use plan_rows::Side;
 use plan_units::{FeatureLabel, PackageVisit, Unit, Visited};
@@ -59,7 +59,7 @@ impl<'w> Plan<'w> {
 
     /// Returns the places at which step `built` starts: the base of each entry that starts, in the order of the entries.
     pub fn starts(&self) -> &[(usize, FeatureLabel<'static>)]
-        ensures { map start_of result.now ≡ (plan_text self.now).starts }
+        ensures { map place_view result.now ≡ (plan_text self.now).starts }
     {
         self.starts.as_slice()
     }

@@ -5,7 +5,7 @@ ghost use Rattle.plan_rows.specs.Commands.{are_commands, command_texts};
 ghost use Rattle.plan_rows.specs.Gates.{AreGated, AreGates};
 ghost use Rattle.plan_rows.specs.SettingsView.{settings_text};
 ghost use Rattle.plan_units.specs.Commands.{resolved_starts};
-ghost use Rattle.plan_units.specs.step_visits.Visits.{start_of};
+ghost use Rattle.plan_units.specs.step_visits.Visits.{place_view};
 ghost use Rattle.plan_steps.specs.Plans.{IsResolved};
 ghost use Rattle.plan_steps.specs.inner.StepTables.{AreResolvedTables};
 
@@ -70,7 +70,7 @@ fn places<P: Platform>(
     settings: &Settings<'_, '_, P>,
 ) -> Result<Vec<(usize, FeatureLabel<'static>)>, AllocError>
     requires { length (workspace_text workspace.now).packages + length settings.now.commands.now < 2 ^ 64 }
-    ensures { IfOk result (λ places. map start_of places.items ≡ resolved_starts (workspace_text workspace.now) (settings_text P.holds settings.now)) }
+    ensures { IfOk result (λ places. map place_view places.items ≡ resolved_starts (workspace_text workspace.now) (settings_text P.holds settings.now)) }
 {
     let packages = workspace.packages();
     let first = workspace.package_count();

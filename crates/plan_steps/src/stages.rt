@@ -5,7 +5,7 @@ ghost use Rattle.cargo_workspaces.specs.WorkspaceView.{workspace_text};
 ghost use Rattle.plan_rows.specs.SettingsView.{settings_text};
 ghost use Rattle.plan_units.specs.plan_starts.StartViews.{starts_text};
 ghost use Rattle.plan_units.specs.plan_starts.Starts as spec;
-ghost use Rattle.plan_units.specs.step_visits.Visits.{start_of};
+ghost use Rattle.plan_units.specs.step_visits.Visits.{place_view};
 ghost use Rattle.plan_steps.specs.Plans.{AreBuilt, starts_by};
 ghost use Rattle.plan_steps.specs.inner.Stages.{Builds, plan_with};
 
@@ -66,7 +66,7 @@ fn built_by<'w, P: Platform>(
     places: Vec<(usize, FeatureLabel<'static>)>,
 ) -> Result<Built<'w>, AllocError>
     requires room { length (workspace_text workspace.now).packages + length settings.now.targets.now * length (workspace_text workspace.now).packages ≤ ids.now }
-    requires places { map start_of places.items ≡ spec.start_places (length (settings_text P.holds settings.now).targets) (starts_text starts.now) }
+    requires places { map place_view places.items ≡ spec.start_places (length (settings_text P.holds settings.now).targets) (starts_text starts.now) }
     ensures { IfOk result (λ built. AreBuilt (workspace_text workspace.now) (settings_text P.holds settings.now) on.now (starts_text starts.now) (plan_with on.now built)) }
 {
     let _limit = ids.count();

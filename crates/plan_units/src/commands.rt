@@ -3,7 +3,7 @@ ghost use Rattle.std.specs.Prelude.{◌≡◌, ◌+◌, ◌<◌, ◌^◌, ◌++�
 ghost use Rattle.cargo_workspaces.specs.Views.{package_text};
 ghost use Rattle.plan_starts.specs.plan_rows.Commands.{command_texts};
 ghost use Rattle.plan_starts.specs.Targets.{is_macro};
-ghost use Rattle.plan_starts.specs.step_visits.Visits.{start_of};
+ghost use Rattle.plan_starts.specs.step_visits.Visits.{place_view};
 ghost use Rattle.plan_units.specs.Commands as spec;
 ghost use Rattle.plan_units.specs.Commands.{command_label};
 
@@ -17,7 +17,7 @@ fn push_command<'s>(
     ix: usize,
     flag: bool,
 ) -> Result<(), AllocError>
-    ensures { OnOk result (map start_of places.new.items ≡ map start_of places.old.items ++ (if flag then (ix, command_label) ∷ [] else [])) }
+    ensures { OnOk result (map place_view places.new.items ≡ map place_view places.old.items ++ (if flag then (ix, command_label) ∷ [] else [])) }
 {
     if flag {
         places.push((ix, FeatureLabel::Named("[command]")))?;
@@ -35,7 +35,7 @@ pub fn push_commands<'s>(
     first: usize,
 ) -> Result<(), AllocError>
     requires { first + length commands.now < 2 ^ 64 }
-    ensures { OnOk result (map start_of places.new.items ≡ map start_of places.old.items
+    ensures { OnOk result (map place_view places.new.items ≡ map place_view places.old.items
         ++ spec.command_places (λ p. all || is_macro (map package_text packages.now) p) first (command_texts commands.now)) }
 {
     for (ix, command) in commands.iter().enumerate() {

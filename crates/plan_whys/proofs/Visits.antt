@@ -19,7 +19,7 @@ use Rattle.cargo_plans.specs.plan_rows.declared.side.Side.TheVariants.{Target, H
 use Rattle.cargo_plans.specs.plan_starts.PackageVisits.{PairVisit, first_entry, is_on}
 use Rattle.cargo_plans.specs.plan_steps.Plans.{IsOn}
 use Rattle.cargo_plans.specs.plan_units.Commands.{on_starts}
-use Rattle.step_visits.specs.Visits.{IsVisit, Visit, is_start, node_at, reaches, start_of}
+use Rattle.step_visits.specs.Visits.{IsVisit, Visit, is_start, node_at, reaches, place_view}
 use Rattle.walk_engine.specs.Laws.{every}
 use Rattle.walk_engine.specs.Walks.{Content, Least}
 use Rattle.plan_whys.specs.Steps.{SpotText, WhyText}
@@ -77,10 +77,10 @@ answers_by_node w s on spot I n (Some whys) same starts answer = record {
 }
 
 -- the nodes of the places where step `on` starts
-pub starts_are : (w : WorkspaceText) (s : SettingsText) (on : PairVisit) (v : Visit) (places taken : List (ℕ × FeatureLabel)) (I : ℕ → Bool) → v ≡ on.visit → map start_of places ≡ on_starts w s → taken ≡ places
-    → ((n : ℕ) → I n ≡ is_start v.tables (map start_of taken) n) → (n : ℕ) → I n ≡ is_start on.visit.tables (on_starts w s) n
+pub starts_are : (w : WorkspaceText) (s : SettingsText) (on : PairVisit) (v : Visit) (places taken : List (ℕ × FeatureLabel)) (I : ℕ → Bool) → v ≡ on.visit → map place_view places ≡ on_starts w s → taken ≡ places
+    → ((n : ℕ) → I n ≡ is_start v.tables (map place_view taken) n) → (n : ℕ) → I n ≡ is_start on.visit.tables (on_starts w s) n
 starts_are w s on v places taken I visit are same nodes n =
-    nodes n ∙ ap (λ (u : Visit). is_start u.tables (map start_of taken) n) visit ∙ ap (λ ps. is_start on.visit.tables (map start_of ps) n) same ∙ ap (λ starts. is_start on.visit.tables starts n) are
+    nodes n ∙ ap (λ (u : Visit). is_start u.tables (map place_view taken) n) visit ∙ ap (λ ps. is_start on.visit.tables (map place_view ps) n) same ∙ ap (λ starts. is_start on.visit.tables starts n) are
 
 spot_answered : (w : WorkspaceText) (s : SettingsText) (on : PairVisit) (I : ℕ → Bool) (spot : SpotText) (node : Option ℕ) (found : Option (List WhyText)) → node ≡ node_of on spot → ((k : ℕ) → I k ≡ is_start on.visit.tables (on_starts w s) k)
     → AnswersAt on I node found → Answers w s on spot found

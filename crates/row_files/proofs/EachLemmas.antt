@@ -5,7 +5,7 @@ use Rattle.std.specs.Prelude.{slice_get}
 use Rattle.std.specs.List.{filter_map}
 use Rattle.std.specs.Option.{option_map, option_map_or}
 use Rattle.row_files.specs.FirstFault.{each_or}
-use Rattle.row_files.specs.FirstFaultLaws.{with_first, each_or-cons}
+use Rattle.row_files.proofs.FirstFaultLemmas.{with_first, each_or-cons}
 
 -- The item that has this value.
 item : {A B : Type 0} (f : A → B) (o : Option A) (y : B) → option_map f o ≡ Some y → (x : A) × (o ≡ Some x) × (f x ≡ y)

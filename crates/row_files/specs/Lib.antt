@@ -2,7 +2,6 @@ pub mod Lines
 pub mod Forms
 pub mod RowOfLine
 pub mod FirstFault
-pub mod FirstFaultLaws
 pub mod RowFile
 pub mod WellFormed
 pub mod RowLines

@@ -13,7 +13,7 @@ use Rattle.workspace_documents.proofs.Sorted.{both_ok, ok_same}
 use Rattle.cargo_rows.specs.Rows.{allowed, fields_text, has_control, row, row_text}
 use Rattle.guppy_packages.specs.Graph.{tables_of}
 use Rattle.guppy_packages.specs.Rows.{RowText, Text}
-use Rattle.row_files.specs.FirstFaultLaws.{each_or-cons, with_first}
+use Rattle.row_files.proofs.FirstFaultLemmas.{each_or-cons, with_first}
 use Rattle.row_files.specs.Lines.{fields_in, is_skipped, kept_lines, lines_in}
 use Rattle.row_files.specs.RowFile.{◌>>=◌, by_line, rows_of, tables_in, tables_of_lines}
 use Rattle.row_files.specs.RowOfLine.{row_of}

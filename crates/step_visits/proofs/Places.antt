@@ -8,7 +8,8 @@ use Rattle.std.proofs.lemmas.Option.{slice_get-map}
 use Rattle.guppy_packages.specs.Rows.{Text}
 use Rattle.guppy_packages.specs.Tables.{PackageTable, Tables, AreTables}
 use Rattle.feature_labels.specs.Names.{LabelName}
-use Rattle.feature_labels.specs.Orders.{label_eq, label_eq-Decides}
+use Rattle.feature_labels.specs.Orders.{label_eq}
+use Rattle.feature_labels.proofs.OrderLemmas.{label_eq-Decides}
 use Rattle.feature_core.specs.Built.{NodeNamed}
 use Rattle.feature_core.specs.Nodes.{NodeAt, node_packages, node_places}
 use Rattle.feature_core.proofs.AddsLemmas.{place_below}

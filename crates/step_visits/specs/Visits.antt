@@ -41,8 +41,9 @@ is_node node n = option_map_or (λ m. m == n) node false
 abbrev pub is_start : Tables → List (ℕ × LabelName) → ℕ → Bool
 is_start t starts n = list_any (λ s. is_node (node_at t s.0 s.1) n) starts
 
-abbrev pub start_of : ℕ × FeatureLabel → ℕ × LabelName
-start_of s = (s.0, label_of s.1)
+-- A place as a plain value: the number of its package, and its label.
+abbrev pub place_view : ℕ × FeatureLabel → ℕ × LabelName
+place_view s = (s.0, label_of s.1)
 
 -- Node `n` is in the least set that has the starts, by any build of the tables: forward, with every offer accepted.
 abbrev pub IsReached : Tables → List (ℕ × LabelName) → ℕ → Type 0

@@ -4,7 +4,7 @@ ghost use Rattle.guppy_support.specs.Bits.{has};
 ghost use Rattle.feature_labels.specs.Names.{label_of};
 ghost use Rattle.feature_core.specs.Built.{IsBuilt};
 ghost use Rattle.feature_core.specs.Nodes.{NodeAt, node_packages};
-ghost use Rattle.step_visits.specs.Visits.{is_start, node_at, reaches, start_of};
+ghost use Rattle.step_visits.specs.Visits.{is_start, node_at, reaches, place_view};
 
 use crate::visiting::start_nodes;
 use feature_core::FeatureGraphData;
@@ -110,7 +110,7 @@ impl Visited {
         starts: &[(usize, FeatureLabel<'_>)],
     ) -> Result<IxBitSet, AllocError>
         ensures size { IfOk result (λ set. length set ≡ length (node_packages self.now.tables)) }
-        ensures nodes { IfOk result (λ set. (n : ℕ) → has set n ≡ is_start self.now.tables (map start_of starts.now) n) }
+        ensures nodes { IfOk result (λ set. (n : ℕ) → has set n ≡ is_start self.now.tables (map place_view starts.now) n) }
     {
         start_nodes(alloc, &self.packages, &self.built, starts)
     }

@@ -3,7 +3,7 @@ ghost use Rattle.std.specs.Prelude.{◌≡◌, ◌↔◌, ◌||◌, ℕ, true, I
 ghost use Rattle.guppy_support.specs.Bits.{has};
 ghost use Rattle.feature_core.specs.Built.{IsBuilt};
 ghost use Rattle.feature_labels.specs.Names.{label_of};
-ghost use Rattle.step_visits.specs.Visits.{IsReached, IsVisit, is_node, is_start, node_at, start_of};
+ghost use Rattle.step_visits.specs.Visits.{IsReached, IsVisit, is_node, is_start, node_at, place_view};
 
 use crate::visited::{Visited, node_of};
 use feature_core::engine::{Half, Offerer};
@@ -56,7 +56,7 @@ pub(crate) fn start_nodes(
 ) -> Result<IxBitSet, AllocError>
     requires { IsBuilt packages.now built.now }
     ensures size { IfOk result (λ set. length set ≡ length built.now.packages) }
-    ensures nodes { IfOk result (λ set. (n : ℕ) → has set n ≡ is_start packages.now (map start_of starts.now) n) }
+    ensures nodes { IfOk result (λ set. (n : ℕ) → has set n ≡ is_start packages.now (map place_view starts.now) n) }
 {
     let mut set = IxBitSet::empty(alloc, built.node_count())?;
     'starts: for &(ix, label) in starts {
@@ -74,7 +74,7 @@ fn reached(
 ) -> Result<IxBitSet, AllocError>
     requires { IsBuilt packages.now built.now }
     ensures size { IfOk result (λ set. length set ≡ length built.now.packages) }
-    ensures members { IfOk result (λ set. (n : ℕ) → IsTrue (has set n) ↔ IsReached packages.now (map start_of starts.now) n) }
+    ensures members { IfOk result (λ set. (n : ℕ) → IsTrue (has set n) ↔ IsReached packages.now (map place_view starts.now) n) }
 {
     one_content(packages);
     agrees_by_answer::<AllOffers>();
@@ -98,7 +98,7 @@ pub fn visit(
     packages: PackageGraph,
     starts: &[(usize, FeatureLabel<'_>)],
 ) -> Result<Visited, AllocError>
-    ensures { IfOk result (λ v. IsVisit packages (map start_of starts.now) v) }
+    ensures { IfOk result (λ v. IsVisit packages (map place_view starts.now) v) }
 {
     let Ok(built) = FeatureGraphData::build(alloc, &packages, 0) else {
         return Err(AllocError);

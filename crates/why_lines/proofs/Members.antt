@@ -5,7 +5,7 @@ use Rattle.json.specs.Token.{Token, key}
 use Rattle.json.specs.Written.{Written}
 use Rattle.cargo_workspaces.specs.Workspaces.{Text, PackageText}
 use Rattle.plan_lines.specs.Objects.{member}
-use Rattle.why_lines.specs.Objects.{Appends, dependency_name, feature_name, gate_of, id_at, platform_tokens, reason_tokens, reason_word, side_word, spot_members, spot_or_null, start_of, text_or_null}
+use Rattle.why_lines.specs.Objects.{Appends, dependency_name, feature_name, id_at, platform_tokens, reason_tokens, reason_word, shown_gate, shown_start, side_word, spot_members, spot_or_null, text_or_null}
 use Rattle.why_lines.specs.Relations.{relation_of}
 use Rattle.plan_whys.specs.Steps.{SpotText, ReasonText}
 
@@ -19,6 +19,6 @@ pub spot_same : (packages : List PackageText) (s : SpotText) (id : Text) (featur
 spot_same packages s id feature dependency side is_id is_feature is_dependency is_side = rw (is_id, is_feature, is_dependency, is_side) refl
 
 pub reason_same : (packages : List PackageText) (platforms : List Text) (at : SpotText) (reason : ReasonText) (word : Text) (start gate : Option SpotText)
-    → word ≡ reason_word (relation_of at reason) → start ≡ start_of reason → gate ≡ gate_of reason
+    → word ≡ reason_word (relation_of at reason) → start ≡ shown_start reason → gate ≡ shown_gate reason
     → member (codes "reason") word ++ ((key (codes "from") ∷ spot_or_null packages start) ++ ((key (codes "gate") ∷ spot_or_null packages gate) ++ platform_tokens platforms)) ≡ reason_tokens packages platforms at reason
 reason_same packages platforms at reason word start gate is_word is_start is_gate = rw (is_word, is_start, is_gate) refl

@@ -22,9 +22,9 @@ abbrev pub side_label : Bool → Side → Text
 side_label sides side = if sides && is_host side then codes " (host)" else []
 
 -- The label of a spot of this package.
-abbrev pub label_in : List PackageText → Bool → SpotText → PackageText → Text
-label_in packages sides s p = package_label packages p ++ (part_label s.label ++ side_label sides s.side)
+abbrev pub spot_label_in : List PackageText → Bool → SpotText → PackageText → Text
+spot_label_in packages sides s p = package_label packages p ++ (part_label s.label ++ side_label sides s.side)
 
 -- The label of a spot; nothing, if there is no such package.
 abbrev pub spot_label : List PackageText → Bool → SpotText → Text
-spot_label packages sides s = option_map_or (label_in packages sides s) (slice_get packages s.number) []
+spot_label packages sides s = option_map_or (spot_label_in packages sides s) (slice_get packages s.number) []

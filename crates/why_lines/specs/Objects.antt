@@ -9,8 +9,8 @@ use Rattle.feature_labels.specs.Names.{LabelName, base, named, optional}
 use Rattle.plan_lines.specs.Objects.{member}
 use Rattle.plan_rows.specs.declared.side.Side.{Side}
 use Rattle.plan_rows.specs.declared.side.Side.TheVariants as side
-use Rattle.why_lines.specs.Platforms.{platforms_of}
-use Rattle.why_lines.specs.Relations.{is_command, is_shown, relation_of}
+use Rattle.why_lines.specs.Platforms.{shown_platforms}
+use Rattle.why_lines.specs.Relations.{is_command_spot, is_shown, relation_of}
 use Rattle.why_lines.specs.Settings.{SettingsText}
 use Rattle.plan_whys.specs.Steps.{SpotText, ReasonText, WhyText, selected, from}
 use Rattle.why_lines.specs.declared.relations.Relation.{Relation}
@@ -68,17 +68,18 @@ reason_word relation.Depends = codes "depends"
 reason_word relation.Asks = codes "asks"
 
 -- The spot from which a reason leads: none, if that is the selection.
-abbrev pub start_of : ReasonText → Option SpotText
-start_of selected = None
-start_of (from start gate) = if is_command start then None else Some start
+abbrev pub shown_start : ReasonText → Option SpotText
+shown_start selected = None
+shown_start (from start gate) = if is_command_spot start then None else Some start
 
-abbrev pub gate_of : ReasonText → Option SpotText
-gate_of selected = None
-gate_of (from start gate) = gate
+-- The spot of the gate, if the reason has one.
+abbrev pub shown_gate : ReasonText → Option SpotText
+shown_gate selected = None
+shown_gate (from start gate) = gate
 
 abbrev pub reason_platforms : List PackageText → SettingsText → SpotText → ReasonText → List Text
 reason_platforms packages s at selected = []
-reason_platforms packages s at (from start gate) = platforms_of s packages start at
+reason_platforms packages s at (from start gate) = shown_platforms s packages start at
 
 abbrev pub platform_tokens : List Text → List Token
 platform_tokens platforms = key (codes "platforms") ∷ begin_array ∷ (map string platforms ++ end_array ∷ [])
@@ -87,8 +88,8 @@ platform_tokens platforms = key (codes "platforms") ∷ begin_array ∷ (map str
 abbrev pub reason_tokens : List PackageText → List Text → SpotText → ReasonText → List Token
 reason_tokens packages platforms at reason =
     member (codes "reason") (reason_word (relation_of at reason))
-    ++ (key (codes "from") ∷ (spot_or_null packages (start_of reason)
-    ++ (key (codes "gate") ∷ (spot_or_null packages (gate_of reason) ++ platform_tokens platforms))))
+    ++ (key (codes "from") ∷ (spot_or_null packages (shown_start reason)
+    ++ (key (codes "gate") ∷ (spot_or_null packages (shown_gate reason) ++ platform_tokens platforms))))
 
 -- The object of a step, whose reason is for these platforms.
 abbrev pub object_tokens : List PackageText → List Text → WhyText → List Token

@@ -20,8 +20,8 @@ holds_on s side d = if is_build d.kind || is_host side then admits s.host d.plat
 
 -- Whether the declaration leads from its package, at `start`, to the package at `at`, which is or isn't a procedural macro. A declaration
 -- for development counts if tests are built; an optional one is counted as the others are.
-abbrev pub leads : SettingsText → Bool → SpotText → SpotText → DeclarationText → Bool
-leads s macro start at d =
+abbrev pub leads_to_spot : SettingsText → Bool → SpotText → SpotText → DeclarationText → Bool
+leads_to_spot s macro start at d =
     both_lead_to d.leads_to (Some at.number)
     && is_same_side (lands s.split d macro start.side) at.side
     && (not (is_development d.kind) || s.test)
@@ -51,7 +51,7 @@ is_macro_at packages p = option_map_or is_proc_macro (slice_get packages p) fals
 -- The platforms for which the package of `start` depends on the package of `at`. Without sides platforms don't count.
 abbrev pub platforms_between : SettingsText → List PackageText → SpotText → SpotText → List Text
 platforms_between s packages start at =
-    option_map_or (λ p. platforms_by (leads s (is_macro_at packages at.number) start at) p.declarations) (slice_get packages start.number) []
+    option_map_or (λ p. platforms_by (leads_to_spot s (is_macro_at packages at.number) start at) p.declarations) (slice_get packages start.number) []
 
-abbrev pub platforms_of : SettingsText → List PackageText → SpotText → SpotText → List Text
-platforms_of s packages start at = if s.split && is_by_declaration (relation_from start at) then platforms_between s packages start at else []
+abbrev pub shown_platforms : SettingsText → List PackageText → SpotText → SpotText → List Text
+shown_platforms s packages start at = if s.split && is_by_declaration (relation_from start at) then platforms_between s packages start at else []

@@ -23,12 +23,12 @@ is_feature name (named feature) = bytes_eq feature name
 is_feature name (optional dependency) = false
 
 -- Whether the spot is a command feature: what the selection asks of a package.
-abbrev pub is_command : SpotText → Bool
-is_command s = is_feature (codes "[command]") s.label
+abbrev pub is_command_spot : SpotText → Bool
+is_command_spot s = is_feature (codes "[command]") s.label
 
 -- Steps at command features aren't shown.
 abbrev pub is_shown : WhyText → Bool
-is_shown step = not (is_command step.spot)
+is_shown step = not (is_command_spot step.spot)
 
 -- From a command feature to a part of its package, or of another package.
 abbrev pub from_command : Bool → SpotText → Relation
@@ -43,7 +43,7 @@ abbrev pub between : SpotText → SpotText → Relation
 between start at = if is_base at.label && not (is_named start.label) then relation.Depends else relation.Asks
 
 abbrev pub relation_by : Bool → SpotText → SpotText → Relation
-relation_by same start at = if is_command start then from_command same at else if same then within at else between start at
+relation_by same start at = if is_command_spot start then from_command same at else if same then within at else between start at
 
 abbrev pub relation_from : SpotText → SpotText → Relation
 relation_from start at = relation_by (nat_eq start.number at.number) start at

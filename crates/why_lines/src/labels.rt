@@ -105,7 +105,7 @@ fn push_label(
     package: Option<&Package<'_>>,
 ) -> Result<(), AllocError>
     requires { AreLabels labels.now }
-    ensures { OnOk result (string_bytes text.new ≡ string_bytes text.old ++ option_map_or (spec.label_in (packages_of labels.now) labels.now.sides (spot_text spot.entry)) (option_map (λ p. package_text p.now) «package».entry) []) }
+    ensures { OnOk result (string_bytes text.new ≡ string_bytes text.old ++ option_map_or (spec.spot_label_in (packages_of labels.now) labels.now.sides (spot_text spot.entry)) (option_map (λ p. package_text p.now) «package».entry) []) }
 {
     match package {
         Some(package) => {

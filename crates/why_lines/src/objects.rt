@@ -138,8 +138,8 @@ fn reason_word(relation: Relation) -> &'static str
 }
 
 /// Returns the spot from which `reason` leads, if that isn't the selection.
-fn start_of(reason: WhyReason<'_>) -> Option<Spot<'_>>
-    ensures { option_map spot_text result ≡ spec.start_of (reason_text reason.entry) }
+fn shown_start(reason: WhyReason<'_>) -> Option<Spot<'_>>
+    ensures { option_map spot_text result ≡ spec.shown_start (reason_text reason.entry) }
 {
     match reason {
         WhyReason::From { start, .. } if !is_command(start) => Some(start),
@@ -148,8 +148,8 @@ fn start_of(reason: WhyReason<'_>) -> Option<Spot<'_>>
 }
 
 /// Returns the gate of `reason`, if it has one.
-fn gate_of(reason: WhyReason<'_>) -> Option<Spot<'_>>
-    ensures { option_map spot_text result ≡ spec.gate_of (reason_text reason.entry) }
+fn shown_gate(reason: WhyReason<'_>) -> Option<Spot<'_>>
+    ensures { option_map spot_text result ≡ spec.shown_gate (reason_text reason.entry) }
 {
     match reason {
         WhyReason::From { gate, .. } => gate,
@@ -204,8 +204,8 @@ pub(crate) fn write_reason(
     ensures { OnOk result (spec.Appends writer.old writer.new (spec.reason_tokens (map package_text packages.now) (texts platforms.now) (spot_text at.entry) (reason_text reason.entry))) }
 {
     write_member(writer, "reason", reason_word(relation_of(at, reason)))?;
-    write_spot_member(writer, packages, "from", start_of(reason))?;
-    write_spot_member(writer, packages, "gate", gate_of(reason))?;
+    write_spot_member(writer, packages, "from", shown_start(reason))?;
+    write_spot_member(writer, packages, "gate", shown_gate(reason))?;
     write_platforms(writer, platforms)
 }
 

@@ -103,7 +103,7 @@ fn leads<P: Platform>(
     between: Between<'_>,
     declaration: &Declaration<'_>,
 ) -> bool
-    ensures { result ≡ spec.leads (settings_text P.holds settings.now) between.entry.is_macro (spot_text between.entry.start) (spot_text between.entry.at) (declaration_text declaration.now) }
+    ensures { result ≡ spec.leads_to_spot (settings_text P.holds settings.now) between.entry.is_macro (spot_text between.entry.start) (spot_text between.entry.at) (declaration_text declaration.now) }
 {
     let side = between.start.side;
     leads_to(declaration, between.at.package)
@@ -121,7 +121,7 @@ fn is_anywhere<P: Platform>(
     between: Between<'_>,
     declarations: &[Declaration<'_>],
 ) -> bool
-    ensures { result ≡ list_any (spec.is_anywhere (spec.leads (settings_text P.holds settings.now) between.entry.is_macro (spot_text between.entry.start) (spot_text between.entry.at))) (map declaration_text declarations.now) }
+    ensures { result ≡ list_any (spec.is_anywhere (spec.leads_to_spot (settings_text P.holds settings.now) between.entry.is_macro (spot_text between.entry.start) (spot_text between.entry.at))) (map declaration_text declarations.now) }
 {
     for declaration in declarations {
         if leads(settings, between, declaration) && declaration.platform.is_none() {
@@ -160,7 +160,7 @@ fn platform_if<'v, P: Platform>(
     between: Between<'_>,
     declaration: &Declaration<'v>,
 ) -> Option<&'v str>
-    ensures { option_map (λ t. t.now) result ≡ spec.platform_if (spec.leads (settings_text P.holds settings.now) between.entry.is_macro (spot_text between.entry.start) (spot_text between.entry.at)) (declaration_text declaration.now) }
+    ensures { option_map (λ t. t.now) result ≡ spec.platform_if (spec.leads_to_spot (settings_text P.holds settings.now) between.entry.is_macro (spot_text between.entry.start) (spot_text between.entry.at)) (declaration_text declaration.now) }
 {
     if leads(settings, between, declaration) {
         declaration.platform
@@ -176,7 +176,7 @@ fn platforms_in<'v, P: Platform>(
     between: Between<'_>,
     declarations: &[Declaration<'v>],
 ) -> Result<Vec<&'v str>, AllocError>
-    ensures { IfOk result (λ platforms. texts_of platforms.items ≡ fold spec.with_text [] (map (spec.platform_if (spec.leads (settings_text P.holds settings.now) between.entry.is_macro (spot_text between.entry.start) (spot_text between.entry.at))) (map declaration_text declarations.now))) }
+    ensures { IfOk result (λ platforms. texts_of platforms.items ≡ fold spec.with_text [] (map (spec.platform_if (spec.leads_to_spot (settings_text P.holds settings.now) between.entry.is_macro (spot_text between.entry.start) (spot_text between.entry.at))) (map declaration_text declarations.now))) }
 {
     let mut platforms = Vec::new(alloc);
     for declaration in declarations {
@@ -192,7 +192,7 @@ fn platforms_by<'v, P: Platform>(
     between: Between<'_>,
     declarations: &[Declaration<'v>],
 ) -> Result<Vec<&'v str>, AllocError>
-    ensures { IfOk result (λ platforms. texts_of platforms.items ≡ spec.platforms_by (spec.leads (settings_text P.holds settings.now) between.entry.is_macro (spot_text between.entry.start) (spot_text between.entry.at)) (map declaration_text declarations.now)) }
+    ensures { IfOk result (λ platforms. texts_of platforms.items ≡ spec.platforms_by (spec.leads_to_spot (settings_text P.holds settings.now) between.entry.is_macro (spot_text between.entry.start) (spot_text between.entry.at)) (map declaration_text declarations.now)) }
 {
     if is_anywhere(settings, between, declarations) {
         return Ok(Vec::new(alloc));
@@ -240,7 +240,7 @@ pub(crate) fn platforms_of<'v, P: Platform>(
     start: Spot<'_>,
     at: Spot<'_>,
 ) -> Result<Vec<&'v str>, AllocError>
-    ensures { IfOk result (λ platforms. texts_of platforms.items ≡ spec.platforms_of (settings_text P.holds settings.now) (map package_text packages.now) (spot_text start.entry) (spot_text at.entry)) }
+    ensures { IfOk result (λ platforms. texts_of platforms.items ≡ spec.shown_platforms (settings_text P.holds settings.now) (map package_text packages.now) (spot_text start.entry) (spot_text at.entry)) }
 {
     if settings.split && is_by_declaration(relation_from(start, at)) {
         platforms_between(alloc, settings, packages, start, at)

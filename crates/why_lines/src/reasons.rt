@@ -18,7 +18,7 @@ use std::alloc::{AllocError, Global};
 
 /// Returns the spot of the package of `spot`.
 fn package_of(spot: Spot<'_>) -> Spot<'_>
-    ensures { spot_text result ≡ spec.package_of (spot_text spot.entry) }
+    ensures { spot_text result ≡ spec.package_spot (spot_text spot.entry) }
 {
     Spot {
         side: spot.side,
@@ -52,7 +52,7 @@ fn subject(relation: Relation, start: Spot<'_>) -> Option<Spot<'_>>
 
 /// Returns the words for `relation`.
 fn words(relation: Relation) -> &'static str
-    ensures { result.now ≡ spec.words relation }
+    ensures { result.now ≡ spec.relation_words relation }
 {
     match relation {
         Relation::Selected => "selected",
@@ -94,7 +94,7 @@ fn push_more(text: &mut String, platforms: &[&str]) -> Result<(), AllocError>
 
 /// Returns the end of the words about a platform and `more`.
 fn holding(more: &[&str]) -> &'static str
-    ensures { result.now ≡ spec.holding (texts more.now) }
+    ensures { result.now ≡ spec.holding_words (texts more.now) }
 {
     match more {
         [] => ", which holds",

@@ -58,7 +58,7 @@ fn is_feature(name: &str, label: FeatureLabel<'_>) -> bool
 
 /// Returns whether `spot` is a command feature.
 pub(crate) fn is_command(spot: Spot<'_>) -> bool
-    ensures { result ≡ spec.is_command (spot_text spot.entry) }
+    ensures { result ≡ spec.is_command_spot (spot_text spot.entry) }
 {
     is_feature("[command]", spot.label)
 }

@@ -8,7 +8,7 @@ use Rattle.plan_rows.specs.declared.side.Side.TheVariants.{Host, Target}
 use Rattle.cargo_plans.specs.plan_starts.PackageVisits.{is_on}
 use Rattle.cargo_plans.specs.plan_steps.Plans.{PlanText}
 use Rattle.cargo_plans.specs.Plans.{WordsText}
-use Rattle.plan_laws.specs.Widening.{IsOff, IsWidest, NoSelectionTurnsOn}
+use Rattle.plan_laws.specs.Widening.{IsOffInPlan, IsWidest, NoSelectionTurnsOn}
 use Rattle.plan_widenings.specs.Findings.{are_some, sides_of}
 use Rattle.plan_widenings.specs.Widenings.{widened}
 use Rattle.plan_widenings.specs.declared.widening.Widening.TheVariants as widening
@@ -35,7 +35,7 @@ either_false : (a b : Bool) → (a || b) ≡ false → (a ≡ false) × (b ≡ f
 either_false true b h = absurd (cc)
 either_false false b h = (refl, h)
 
-off_on_both : (q : PlanText) (k : ℕ) (label : LabelName) → IsFalse (are_some (sides_of q.on k label)) → IsOff q k label
+off_on_both : (q : PlanText) (k : ℕ) (label : LabelName) → IsFalse (are_some (sides_of q.on k label)) → IsOffInPlan q k label
 off_on_both q k label h Target = (either_false (is_on q.on Target k label) (is_on q.on Host k label) h).0
 off_on_both q k label h Host = (either_false (is_on q.on Target k label) (is_on q.on Host k label) h).1
 

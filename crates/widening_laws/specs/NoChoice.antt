@@ -6,7 +6,7 @@ use Rattle.plan_platforms.specs.DeclaredSpecs.{declared_specs}
 use Rattle.plan_platforms.specs.HeldSpecs.{is_declared}
 use Rattle.cargo_plans.specs.plan_steps.Plans.{PlanText}
 use Rattle.cargo_plans.specs.Plans.{IsPlanOf, WordsText}
-use Rattle.plan_laws.specs.Widening.{IsCovered, IsOff}
+use Rattle.plan_laws.specs.Widening.{IsCovered, IsOffInPlan}
 use Rattle.plan_widenings.specs.Findings.{IsOffEverywhere}
 
 -- Each platform spec that a declaration of the workspace names holds.
@@ -18,4 +18,4 @@ HoldsEach w every = (text : Text) → IsTrue (is_declared (declared_specs w.pack
 abbrev pub NoChoiceTurnsOn : Type 0
 NoChoiceTurnsOn = (w : WorkspaceText) (words : WordsText) (every : Text → Bool) → IsWorkspace w → HoldsEach w every
     → (k : ℕ) (label : LabelName) → IsOffEverywhere w words every k label
-    → (others : WordsText) (plan : PlanText) → IsCovered w others words → IsPlanOf w others plan → IsOff plan k label
+    → (others : WordsText) (plan : PlanText) → IsCovered w others words → IsPlanOf w others plan → IsOffInPlan plan k label

@@ -5,7 +5,7 @@ use Rattle.guppy_support.specs.declared.digraph.Edge.{Edge as End}
 use Rattle.guppy_packages.specs.Tables.{Tables}
 use Rattle.feature_core.specs.Nodes.{node_packages}
 use Rattle.feature_core.specs.Candidates.{Edge, Candidate}
-use Rattle.feature_links.specs.Facts.{EdgeFacts, is_dev_only}
+use Rattle.feature_links.specs.Facts.{EdgeFacts, is_dev_edge}
 use Rattle.feature_core.specs.Edges.{facts_of, first_ones}
 use Rattle.feature_core.specs.inner.Keys.{kind_of, IsNoLater, IsPair, IsBefore, AreLeast}
 use Rattle.feature_links.specs.NamedLinks.{AreNamedLinks}
@@ -52,7 +52,7 @@ pub record IsKept (t : Tables) (kept : List Key) : Type 0 where
 
 -- The digraph's edge of a key, which is dev-only if the built edge is.
 abbrev pub edge_end : Key → EdgeFacts → End
-edge_end k f = record { from = k.from; to = k.to; non_dev = not (is_dev_only f) }
+edge_end k f = record { from = k.from; to = k.to; non_dev = not (is_dev_edge f) }
 
 -- `kept` are the least keys of the packages before `p`.
 pub record IsKeptBelow (t : Tables) (p : ℕ) (kept : List Key) : Type 0 where

@@ -2,7 +2,7 @@
 ghost use Rattle.std.specs.Prelude.{◌≡◌};
 ghost use Rattle.feature_labels.specs.Names.{id_of};
 ghost use Rattle.feature_labels.specs.declared.feature_id.FeatureId.{FeatureId};
-ghost use Rattle.feature_graph.specs.Boxed.{leaves};
+ghost use Rattle.feature_graph.specs.Boxed.{EndsAs};
 ghost use Rattle.feature_graph.specs.Lent.{lent_accept};
 ghost use Rattle.feature_graph.specs.Names.{HasFeature};
 ghost use Rattle.feature_graph.specs.Views.{graph_of};
@@ -61,7 +61,7 @@ pub trait FeatureFilterObject: Drop {
 impl<'g> FeatureFilter<'g> for Box<dyn FeatureFilterObject> {
     ghost can_accept = { λ s g i. (FeatureFilterObject-box s).can_accept_any s.value g i };
 
-    ghost accept_gives = { λ s g i r t. leaves s t (λ y. (FeatureFilterObject-box s).accept_any_gives s.value g i r y) };
+    ghost accept_gives = { λ s g i r t. EndsAs s t (λ y. (FeatureFilterObject-box s).accept_any_gives s.value g i r y) };
 
     fn accept(&mut self, graph: &FeatureGraph<'g>, feature_id: FeatureId<'g>) -> bool {
         (**self).accept_any(graph, feature_id)

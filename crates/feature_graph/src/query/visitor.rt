@@ -1,6 +1,6 @@
 //! Visitors, which decide the links that a query follows.
 ghost use Rattle.std.specs.Prelude.{◌≡◌, Bool};
-ghost use Rattle.feature_graph.specs.Boxed.{leaves};
+ghost use Rattle.feature_graph.specs.Boxed.{EndsAs};
 ghost use Rattle.feature_graph.specs.ByClosure.{closure_can, closure_gives};
 ghost use Rattle.feature_graph.specs.Lent.{lent_visit};
 ghost use Rattle.feature_graph.specs.LinkValues.{Link};
@@ -57,7 +57,7 @@ pub trait FeatureLinkObject: Drop {
 impl<'g> FeatureLinkVisitor<'g> for Box<dyn FeatureLinkObject> {
     ghost can_visit = { λ s q l. (FeatureLinkObject-box s).can_visit_any s.value q l };
 
-    ghost visit_gives = { λ s q l answer t. leaves s t (λ y. (FeatureLinkObject-box s).visit_any_gives s.value q l answer y) };
+    ghost visit_gives = { λ s q l answer t. EndsAs s t (λ y. (FeatureLinkObject-box s).visit_any_gives s.value q l answer y) };
 
     fn visit_link(&mut self, cx: &FeatureLinkContext<'g>, link: ConditionalLink<'g>) -> bool {
         (**self).visit_any(cx, link)

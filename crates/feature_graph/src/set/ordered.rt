@@ -4,7 +4,8 @@ ghost use Rattle.std.specs.Iterator.{YieldsFirstBy, UpTo, item_count};
 ghost use Rattle.std.specs.Iterator.SizeHint.{IsWithinCount};
 ghost use Rattle.feature_labels.specs.Names.{id_of};
 ghost use Rattle.feature_core.specs.Nodes.{nodes};
-ghost use Rattle.feature_graph.specs.Ordered.{AtOrder, feature_of, features_named, ordered_names, ordered_nodes, reading_of};
+ghost use Rattle.feature_graph.specs.Ordered.{AtOrder, feature_of, features_named, ordered_names, ordered_nodes};
+ghost use Rattle.guppy_packages.specs.PackageSets.{reading_of};
 
 use crate::graph::FeatureGraph;
 use crate::graph::metadata::FeatureMetadata;

@@ -3,7 +3,8 @@ ghost use Rattle.std.specs.Prelude.{◌≡◌, ◌+◌, ◌^◌, ◌<◌, ◌≤
 ghost use Rattle.std.specs.Iterator.{YieldsFirstBy, UpTo, item_count};
 ghost use Rattle.std.specs.Iterator.SizeHint.{IsWithinCount};
 ghost use Rattle.feature_core.specs.Errors.{refusal_of};
-ghost use Rattle.feature_graph.specs.Packages.{RefusesPackageId, TellsPackage, has_member_of, member_packages, member_packages_from, numbered, numbered_package};
+ghost use Rattle.feature_graph.specs.Packages.{RefusesPackageId, TellsPackage, has_member_of, member_packages, member_packages_from};
+ghost use Rattle.guppy_packages.specs.PackageSets.{numbered, numbered_package};
 
 use crate::set::FeatureSet;
 use feature_core::Error;
@@ -93,7 +94,8 @@ pub struct InitialPackages<'g, 'a> {
 impl<'g, 'a> Model for InitialPackages<'g, 'a> {
     ghost use Rattle.std.specs.Prelude.{List, ℕ, ◌≡◌, ◌≤◌, length};
     ghost use Rattle.guppy_packages.specs.Tables.{Tables};
-    ghost use Rattle.feature_graph.specs.Packages.{member_packages_from, numbered};
+    ghost use Rattle.feature_graph.specs.Packages.{member_packages_from};
+    ghost use Rattle.guppy_packages.specs.PackageSets.{numbered};
 
     ghost Value = { List (Tables × ℕ) };
 

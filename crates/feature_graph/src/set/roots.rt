@@ -5,7 +5,8 @@ ghost use Rattle.std.specs.Iterator.SizeHint.{IsWithinCount};
 ghost use Rattle.feature_labels.specs.Names.{id_of};
 ghost use Rattle.feature_core.specs.Nodes.{nodes};
 ghost use Rattle.order_views.specs.Views.{roots_in_order};
-ghost use Rattle.feature_graph.specs.Ordered.{AtOrder, edges_of, feature_of, features_named, reading_of, root_names};
+ghost use Rattle.feature_graph.specs.Ordered.{AtOrder, edges_of, feature_of, features_named, root_names};
+ghost use Rattle.guppy_packages.specs.PackageSets.{reading_of};
 
 use crate::graph::FeatureGraph;
 use crate::graph::metadata::FeatureMetadata;

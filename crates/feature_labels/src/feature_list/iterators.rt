@@ -4,7 +4,7 @@ ghost use Rattle.std.specs.List.{filter_map};
 ghost use Rattle.std.specs.Iterator.{YieldsFirstBy, UpTo, item_count};
 ghost use Rattle.std.specs.Iterator.SizeHint.{IsWithinCount};
 ghost use Rattle.feature_labels.specs.Names.{id_of, label_of};
-ghost use Rattle.feature_labels.specs.Lists.{ids_in, name_if_named, name_if_optional};
+ghost use Rattle.feature_labels.specs.Lists.{ids_of_labels, name_if_named, name_if_optional};
 
 use crate::feature_id::FeatureId;
 use crate::feature_label::FeatureLabel;
@@ -30,15 +30,15 @@ impl<'g, 'a> Model for Iter<'g, 'a> {
     ghost Value = { List (Text × LabelName) };
 
     ghost use Rattle.feature_labels.specs.Names.{label_of};
-    ghost use Rattle.feature_labels.specs.Lists.{ids_in};
+    ghost use Rattle.feature_labels.specs.Lists.{ids_of_labels};
 
-    ghost view = { λ it. ids_in it.package_id.now (map label_of (iter_rest it.labels)) };
+    ghost view = { λ it. ids_of_labels it.package_id.now (map label_of (iter_rest it.labels)) };
 }
 
 impl<'g, 'a> Iter<'g, 'a> {
     /// Returns an iterator over the ids of `feature_list`.
     pub fn new(feature_list: &'a FeatureList<'g>) -> Self
-        ensures { result ≡ ids_in feature_list.now.package_id feature_list.now.labels }
+        ensures { result ≡ ids_of_labels feature_list.now.package_id feature_list.now.labels }
     {
         Iter {
             package_id: feature_list.package().id(),
@@ -82,7 +82,7 @@ impl<'g, 'a> IntoIterator for &'a FeatureList<'g> {
 
     type IntoIter = Iter<'g, 'a>;
 
-    ghost into_iter_gives = { λ list it. it ≡ ids_in list.now.package_id list.now.labels };
+    ghost into_iter_gives = { λ list it. it ≡ ids_of_labels list.now.package_id list.now.labels };
 
     fn into_iter(self) -> Iter<'g, 'a> {
         Iter::new(self)
@@ -105,15 +105,15 @@ impl<'g> Model for IntoIter<'g> {
     ghost Value = { List (Text × LabelName) };
 
     ghost use Rattle.feature_labels.specs.Names.{label_of};
-    ghost use Rattle.feature_labels.specs.Lists.{ids_in};
+    ghost use Rattle.feature_labels.specs.Lists.{ids_of_labels};
 
-    ghost view = { λ it. ids_in it.package_id.now (map label_of (into_iter_items it.labels)) };
+    ghost view = { λ it. ids_of_labels it.package_id.now (map label_of (into_iter_items it.labels)) };
 }
 
 impl<'g> IntoIter<'g> {
     /// Returns an iterator over the ids of `feature_list`.
     pub fn new(feature_list: FeatureList<'g>) -> Self
-        ensures { result ≡ ids_in feature_list.entry.package_id feature_list.entry.labels }
+        ensures { result ≡ ids_of_labels feature_list.entry.package_id feature_list.entry.labels }
     {
         IntoIter {
             package_id: feature_list.package().id(),
@@ -157,7 +157,7 @@ impl<'g> IntoIterator for FeatureList<'g> {
 
     type IntoIter = IntoIter<'g>;
 
-    ghost into_iter_gives = { λ list it. it ≡ ids_in list.package_id list.labels };
+    ghost into_iter_gives = { λ list it. it ≡ ids_of_labels list.package_id list.labels };
 
     fn into_iter(self) -> IntoIter<'g> {
         IntoIter::new(self)

@@ -6,7 +6,7 @@ ghost use Rattle.guppy_packages.specs.Platform.{impl_status};
 ghost use Rattle.guppy_packages.specs.Rows.{Declared};
 ghost use Rattle.guppy_packages.specs.Stored.{declared};
 ghost use Rattle.guppy_packages.specs.Tables.{LinkTable};
-ghost use Rattle.feature_links.specs.Links.{by_name, half_of, IsLink, includes, links_at, at_places, joined, over, over_parts, platforms_of, ArePassing};
+ghost use Rattle.feature_links.specs.Links.{by_name, half_of, IsLink, includes, links_at, at_places, platforms_status, over, over_parts, platforms_of, ArePassing};
 ghost use Rattle.feature_links.specs.inner.Collected.{HasKinds, HasParts, wanted, wanted_parts};
 ghost use Rattle.feature_links.specs.NamedLinks.{AreNamedLinks};
 ghost use Rattle.feature_links.specs.Values.{link_facts, half_facts};
@@ -232,7 +232,7 @@ fn status_of_one(
     declaration: &Declaration,
     kind: DependencyKind,
 ) -> Result<PlatformStatusImpl, AllocError>
-    ensures { IfOk result (λ status. impl_status status ≡ joined (platforms_of kind (declared declaration.now ∷ []))) }
+    ensures { IfOk result (λ status. impl_status status ≡ platforms_status (platforms_of kind (declared declaration.now ∷ []))) }
 {
     if declaration.kind() == kind {
         let status = declaration.platform().try_clone(alloc)?;

@@ -6,7 +6,7 @@ ghost use Rattle.guppy_packages.specs.Graph.{firsts};
 ghost use Rattle.guppy_packages.specs.Platform.{platform_specs, impl_status, spec_text};
 ghost use Rattle.guppy_packages.specs.Rows.{Text, Declared};
 ghost use Rattle.guppy_packages.specs.Stored.{declared};
-ghost use Rattle.feature_links.specs.Links.{joined};
+ghost use Rattle.feature_links.specs.Links.{platforms_status};
 ghost use Rattle.feature_links.specs.inner.Collected.{HasPlatforms, HasKinds, texts_in};
 
 use guppy_packages::{Declaration, DependencyKind, PlatformStatusImpl, Spec};
@@ -72,7 +72,7 @@ impl<'g> StatusCollector<'g> {
 
     /// Returns the status that joins the platforms. If it is `Always`, no text is copied.
     pub(crate) fn status(&self, alloc: Global) -> Result<PlatformStatusImpl, AllocError>
-        ensures { IfOk result (λ status. (platforms : List (Option Text)) → HasPlatforms self.now platforms → impl_status status ≡ joined platforms) }
+        ensures { IfOk result (λ status. (platforms : List (Option Text)) → HasPlatforms self.now platforms → impl_status status ≡ platforms_status platforms) }
     {
         if self.always {
             return Ok(PlatformStatusImpl::Always);

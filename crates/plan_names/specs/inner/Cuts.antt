@@ -2,7 +2,7 @@
 use Rattle.std.specs.Prelude.{Option, Some, None, if◌then◌else◌}
 use Rattle.std.specs.List.{after_last, before_last, list_any}
 use Rattle.cargo_workspaces.specs.Workspaces.{Text}
-use Rattle.plan_names.specs.Names.{is_slash}
+use Rattle.plan_words.specs.FeatureWords.{is_slash}
 use Rattle.plan_names.specs.declared.word_cuts.Cut.{Cut}
 
 pub record CutText : Type 0 where

@@ -5,7 +5,7 @@ use Rattle.plan_rows.specs.Steps.{SettingsText}
 use Rattle.plan_units.specs.plan_starts.PackageVisits.{PairVisit}
 use Rattle.plan_units.specs.plan_starts.Starts.{Starts}
 use Rattle.plan_units.specs.UnitViews.{unit_text}
-use Rattle.plan_units.specs.step_visits.Visits.{start_of}
+use Rattle.plan_units.specs.step_visits.Visits.{place_view}
 use Rattle.plan_steps.specs.Plans.{AreBuilt, IsComplete, PlanText, lacks, not_on}
 use Rattle.plan_steps.specs.PlanViews.{plan_text}
 use Rattle.plan_steps.specs.declared.fault.StepFault.{StepFault}
@@ -27,7 +27,7 @@ Checks w s on from (Some e) = Stops w s on from e
 
 -- The plan of what is built, where `on` is the visit of step `on`.
 abbrev pub plan_with : PairVisit → Built → PlanText
-plan_with on b = record { units = map unit_text b.units.items; on = on; built = b.visited; starts = map start_of b.starts.items }
+plan_with on b = record { units = map unit_text b.units.items; on = on; built = b.visited; starts = map place_view b.starts.items }
 
 -- What is built, or the first reason why nothing is.
 abbrev pub Builds : WorkspaceText → SettingsText → PairVisit → Starts → Result Built StepFault → Type 0

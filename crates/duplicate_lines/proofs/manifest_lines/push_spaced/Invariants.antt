@@ -1,7 +1,7 @@
 use Rattle.std.proofs.Common.{◌≡◌, ◌++◌, flat_map, drop}
 use Rattle.std.specs.String.{string_bytes}
 use Rattle.cargo_workspaces.specs.Views.{texts}
-use Rattle.duplicate_lines.specs.Lines.{spaced}
+use Rattle.plan_lines.specs.Lines.{spaced}
 use Rattle.duplicate_lines.proofs.manifest_lines.push_spaced.Given as goal
 
 abbrev pub invariant-loop-feature : goal.invariant-loop-feature

@@ -1,4 +1,4 @@
-use Rattle.feature_labels.specs.Orders.{id_cmp_total}
+use Rattle.feature_labels.proofs.OrderLemmas.{id_cmp_total}
 use Rattle.feature_labels.proofs.laws.id_order_is_total.Goals as goal
 
 pub returns : goal.returns

@@ -5,7 +5,7 @@ use Rattle.std.proofs.lemmas.Grind.{common_steps}
 use Rattle.guppy_packages.specs.Rows.{texts}
 use Rattle.guppy_tool.specs.Faults.{bad_id, refusal_of}
 use Rattle.guppy_tool.specs.Words.{given_of, id_in}
-use Rattle.row_files.specs.FirstFaultLaws.{one_given, drop_map_at}
+use Rattle.row_files.proofs.FirstFaultLemmas.{one_given, drop_map_at}
 use Rattle.guppy_tool.proofs.WordLemmas.{word_refused, an_id}
 use Rattle.guppy_tool.proofs.words.ids.Goals as goal
 

@@ -1,7 +1,7 @@
 use Rattle.std.proofs.Common.{◌≡◌, drop, map}
 use Rattle.guppy_packages.specs.Rows.{texts}
 use Rattle.guppy_tool.specs.Words.{given_of, ids_in}
-use Rattle.row_files.specs.FirstFaultLaws.{with_front}
+use Rattle.row_files.proofs.FirstFaultLemmas.{with_front}
 use Rattle.guppy_tool.proofs.words.ids.Given as goal
 
 -- The ids so far, then the ids of the words to come, are the ids of all words.

@@ -7,7 +7,7 @@ use Rattle.std.specs.Str.Pattern.{FindsChar}
 use Rattle.guppy_tool.specs.Faults.{usage}
 use Rattle.guppy_tool.specs.Words.{kind_in, kinds_in}
 use Rattle.row_files.specs.FirstFault.{each_or}
-use Rattle.row_files.specs.FirstFaultLaws.{with_front, none_yet, one_refused, one_given}
+use Rattle.row_files.proofs.FirstFaultLemmas.{with_front, none_yet, one_refused, one_given}
 use Rattle.guppy_tool.proofs.WordLemmas.{next_yielded, none_yielded}
 use Rattle.guppy_tool.proofs.words.kinds.Goals as goal
 

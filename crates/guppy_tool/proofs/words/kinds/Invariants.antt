@@ -6,7 +6,7 @@ use Rattle.guppy_packages.specs.Rows.{Text}
 use Rattle.guppy_tool.specs.Faults.{usage}
 use Rattle.guppy_tool.specs.Words.{kind_in, kinds_in}
 use Rattle.row_files.specs.FirstFault.{each_or}
-use Rattle.row_files.specs.FirstFaultLaws.{with_front}
+use Rattle.row_files.proofs.FirstFaultLemmas.{with_front}
 use Rattle.guppy_tool.proofs.words.kinds.Given as goal
 
 -- The kinds so far, then the kinds of the parts to come, are the kinds of the word.

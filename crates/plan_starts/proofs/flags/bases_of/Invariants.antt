@@ -1,10 +1,10 @@
 use Rattle.std.proofs.Common.{◌≡◌, ℕ, Bool, ◌++◌, ◌∷◌, [], if◌then◌else◌, drop, map}
 use Rattle.step_visits.specs.feature_labels.Names.{LabelName}
 use Rattle.step_visits.specs.feature_labels.Names.LabelName.{base}
-use Rattle.step_visits.specs.Visits.{start_of}
+use Rattle.step_visits.specs.Visits.{place_view}
 use Rattle.plan_starts.specs.Lists.{joined_from}
 use Rattle.plan_starts.specs.Starts as spec
 use Rattle.plan_starts.proofs.flags.bases_of.Given as goal
 
 abbrev pub invariant-loop-ix : goal.invariant-loop-ix
-invariant-loop-ix l = spec.bases_of l.flags ≡ map start_of l.places.items ++ spec.bases_from l.ix (drop l.ix l.flags)
+invariant-loop-ix l = spec.bases_of l.flags ≡ map place_view l.places.items ++ spec.bases_from l.ix (drop l.ix l.flags)

@@ -10,5 +10,5 @@ pub returns : goal.returns
 returns c = on_ok c.write_platforms.result c.write_platforms.ensures (λ last.
     appends_same _ _ _ _
     (reason_same (map package_text c.args.packages.now) (texts c.args.platforms.now) (spot_text c.args.at) (reason_text c.args.reason) _ _ _
-    (c.reason_word.ensures ∙ ap reason_word c.relation_of.ensures) c.start_of.ensures c.gate_of.ensures)
+    (c.reason_word.ensures ∙ ap reason_word c.relation_of.ensures) c.shown_start.ensures c.shown_gate.ensures)
     (appended _ _ _ _ _ c.in_ok-write_member.ensures (appended _ _ _ _ _ c.in_ok-write_spot_member.ensures (appended _ _ _ _ _ c.in_ok-write_spot_member-2.ensures last))))

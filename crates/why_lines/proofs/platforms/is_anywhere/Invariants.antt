@@ -8,5 +8,5 @@ use Rattle.why_lines.proofs.platforms.is_anywhere.Given as goal
 
 abbrev pub invariant-loop-declaration : goal.invariant-loop-declaration
 invariant-loop-declaration g l =
-    let test = spec.is_anywhere (spec.leads (settings_text g.P.Platform.holds l.settings) l.between.is_macro (spot_text l.between.start) (spot_text l.between.at)) in
+    let test = spec.is_anywhere (spec.leads_to_spot (settings_text g.P.Platform.holds l.settings) l.between.is_macro (spot_text l.between.start) (spot_text l.between.at)) in
     list_any test (map declaration_text l.declarations) ≡ list_any test (map declaration_text (drop l.declaration-index l.declarations))

@@ -1,6 +1,7 @@
 use Rattle.std.proofs.Common.{◌≡◌, ◌↔◌, ◌∙◌, IsTrue, ap, nat_eq, sym, true}
 use Rattle.std.specs.Cmp.Lexicographic.{pointwise}
-use Rattle.feature_labels.specs.Orders.{list_eq, list_eq-Decides}
+use Rattle.feature_labels.specs.Orders.{list_eq}
+use Rattle.feature_labels.proofs.OrderLemmas.{list_eq-Decides}
 use Rattle.feature_labels.proofs.Derived.{list_eq-derived}
 use Rattle.feature_labels.proofs.feature_list.FeatureListPartialEq.eq.Goals as goal
 
