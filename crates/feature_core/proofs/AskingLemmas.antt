@@ -6,19 +6,19 @@ use Rattle.std.proofs.lemmas.List.{length-map}
 use Rattle.std.proofs.lemmas.Option.{slice_get-map, slice_get_within}
 use Rattle.guppy_support.specs.declared.digraph.Edge.{Edge}
 use Rattle.guppy_support.specs.Graph.{Graph, IsDigraph}
-use Rattle.guppy_packages.specs.declared.direction.DependencyDirection.{DependencyDirection}
-use Rattle.guppy_packages.specs.declared.direction.DependencyDirection.TheVariants.{Forward, Reverse}
+use Rattle.feature_edges.specs.guppy_packages.declared.direction.DependencyDirection.{DependencyDirection}
+use Rattle.feature_edges.specs.guppy_packages.declared.direction.DependencyDirection.TheVariants.{Forward, Reverse}
 use Rattle.walk_engine.specs.declared.walks.Taken.{Taken}
 use Rattle.walk_engine.specs.Walks.{Way, EndsAreNodes, numbers_where, starting, releasing, told, taken_of, is_gated}
 use Rattle.walk_checks.specs.Tables.{Tells}
 use Rattle.walk_checks.specs.declared.table.TableEdge.{TableEdge}
 use Rattle.feature_core.specs.declared.packed.Asking.{Asking}
 use Rattle.feature_core.specs.declared.packed.Asking.TheVariants.{Offers, Chosen}
-use Rattle.feature_links.specs.Facts.{EdgeFacts}
+use Rattle.feature_edges.specs.feature_links.Facts.{EdgeFacts}
 use Rattle.feature_core.specs.Built.{built_edges}
 use Rattle.feature_core.specs.inner.Asking.{ask_in, gate_in, way_in, held, IsTied, IsOrdered, released_place}
 use Rattle.feature_core.specs.inner.OpenWays.{open_way, open_ways}
-use Rattle.feature_core.proofs.Places.{got_map}
+use Rattle.feature_edges.proofs.Places.{got_map}
 use Rattle.feature_core.proofs.WayNumbers.{number_way}
 use Rattle.feature_core.proofs.OpenWayLemmas.{ends_are_nodes, edge_way}
 use Rattle.feature_core.proofs.PackedLemmas.{built_edge_at, edge_of_facts, length-built_edges, none_waits, releases_same, gate_within}

@@ -2,22 +2,22 @@
 use Rattle.std.proofs.Common.{◌≡◌, ℕ, ◌⊎◌, ⊎_elim, inl, inr, List, [], ◌∷◌, map, Bool, refl, sym, ap, ◌∙◌, subst}
 use Rattle.std.specs.Prelude.{◌↔◌, ◌==◌, Contains, filter}
 use Rattle.std.proofs.Math.Logic.{∥∥₁_elim, ∥∥₁_map}
-use Rattle.guppy_packages.specs.Tables.{Tables}
-use Rattle.guppy_packages.specs.declared.direction.DependencyDirection.{DependencyDirection}
-use Rattle.guppy_packages.specs.declared.direction.DependencyDirection.TheVariants.{Forward, Reverse}
-use Rattle.feature_links.specs.declared.edge.EdgeChoice.{EdgeChoice}
-use Rattle.feature_links.specs.declared.edge.EdgeChoice.TheVariants.{All, FeatureToBaseAndNamed}
-use Rattle.feature_core.specs.Candidates.{Edge, feature_to_base, named_feature, dep_colon, slash_full, slash_optional, slash_weak, section, IsEdge}
-use Rattle.feature_links.specs.Facts.{EdgeFacts}
-use Rattle.feature_core.specs.Edges.{AreBuilt, facts_of}
-use Rattle.feature_core.specs.Pairs.{PairLeads, Reach, ReachAlong}
+use Rattle.feature_edges.specs.guppy_packages.Tables.{Tables}
+use Rattle.feature_edges.specs.guppy_packages.declared.direction.DependencyDirection.{DependencyDirection}
+use Rattle.feature_edges.specs.guppy_packages.declared.direction.DependencyDirection.TheVariants.{Forward, Reverse}
+use Rattle.feature_edges.specs.feature_links.declared.edge.EdgeChoice.{EdgeChoice}
+use Rattle.feature_edges.specs.feature_links.declared.edge.EdgeChoice.TheVariants.{All, FeatureToBaseAndNamed}
+use Rattle.feature_edges.specs.Candidates.{Edge, feature_to_base, named_feature, dep_colon, slash_full, slash_optional, slash_weak, section, IsEdge}
+use Rattle.feature_edges.specs.feature_links.Facts.{EdgeFacts}
+use Rattle.feature_edges.specs.Edges.{AreBuilt, facts_of}
+use Rattle.feature_edges.specs.Pairs.{PairLeads, Reach, ReachAlong}
 use Rattle.feature_core.specs.Built.{Built, IsBuilt, ends_of}
-use Rattle.feature_core.specs.Choices.{is_chosen, chosen_pairs, is_chosen_edge, ChosenEdge, ChosenLeads, ChosenReach}
+use Rattle.feature_edges.specs.Choices.{is_chosen, chosen_pairs, is_chosen_edge, ChosenEdge, ChosenLeads, ChosenReach}
 use Rattle.std.proofs.lemmas.Bool.{eqb-true, eqb-false}
 use Rattle.feature_core.proofs.Answered.{decide}
-use Rattle.feature_core.proofs.AddsLemmas.{Contains-first, Contains-later, Contains-cases, Contains-none}
-use Rattle.feature_core.proofs.PairLemmas.{Along-weaker, member_alike}
-use Rattle.feature_core.proofs.PushLemmas.{from_filter, into_filter, from_map, into_map}
+use Rattle.feature_edges.proofs.AddsLemmas.{Contains-first, Contains-later, Contains-cases, Contains-none}
+use Rattle.feature_core.proofs.PairReach.{Along-weaker, member_alike}
+use Rattle.feature_edges.proofs.PushLemmas.{from_filter, into_filter, from_map, into_map}
 
 -- `All` chooses all edges
 all_kept : (edges : List (ℕ × ℕ × EdgeFacts)) → filter (λ e. is_chosen All e.2) edges ≡ edges

@@ -3,22 +3,22 @@ use Rattle.std.proofs.Common.{◌≡◌, ℕ, suc, Bool, true, false, ◌&&◌, 
 use Rattle.std.specs.Prelude.{IsFalse, ◌==◌, ◌↔◌, slice_get, filter, Contains}
 use Rattle.std.proofs.lemmas.Option.{slice_get-map, slice_get-get_or, slice_get_within, get_or_from_slice_get}
 use Rattle.std.specs.Option.{option_map}
-use Rattle.guppy_packages.specs.declared.direction.DependencyDirection.{DependencyDirection}
-use Rattle.guppy_packages.specs.declared.direction.DependencyDirection.TheVariants.{Forward, Reverse}
-use Rattle.feature_links.specs.declared.edge.EdgeChoice.{EdgeChoice}
+use Rattle.feature_edges.specs.guppy_packages.declared.direction.DependencyDirection.{DependencyDirection}
+use Rattle.feature_edges.specs.guppy_packages.declared.direction.DependencyDirection.TheVariants.{Forward, Reverse}
+use Rattle.feature_edges.specs.feature_links.declared.edge.EdgeChoice.{EdgeChoice}
 use Rattle.walk_engine.specs.declared.walks.Half.{Half}
 use Rattle.walk_engine.specs.declared.walks.Ask.TheVariants as asks
-use Rattle.feature_links.specs.Facts.{EdgeFacts}
+use Rattle.feature_edges.specs.feature_links.Facts.{EdgeFacts}
 use Rattle.walk_engine.specs.Walks.{Call, Way, Content, IsWay, GoesAlong, Reach, numbers_where, is_gated, is_of, was_accepted}
-use Rattle.feature_core.specs.Pairs.{PairLeads, Along, ReachAlong}
-use Rattle.feature_core.specs.Pairs.Along.{nowhere, onward}
-use Rattle.feature_core.specs.Choices.{is_chosen, chosen_pairs}
+use Rattle.feature_edges.specs.Pairs.{PairLeads, Along, ReachAlong}
+use Rattle.feature_edges.specs.Pairs.Along.{nowhere, onward}
+use Rattle.feature_edges.specs.Choices.{is_chosen, chosen_pairs}
 use Rattle.feature_core.specs.Ways.{start_of, far_of}
 use Rattle.feature_core.specs.inner.ChosenWays.{ask_where, chosen_way, chosen_content}
 use Rattle.feature_core.proofs.Answered.{clash}
-use Rattle.feature_core.proofs.Places.{got_map}
+use Rattle.feature_edges.proofs.Places.{got_map}
 use Rattle.feature_core.proofs.Reaches.{reach_in, reach_more, open_nobody, open_cases}
-use Rattle.feature_core.proofs.PushLemmas.{from_filter, into_filter, from_map, into_map}
+use Rattle.feature_edges.proofs.PushLemmas.{from_filter, into_filter, from_map, into_map}
 
 ungated : (b : Bool) → IsFalse (is_gated (ask_where b))
 ungated true = refl

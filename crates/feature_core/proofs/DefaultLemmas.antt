@@ -5,23 +5,23 @@ use Rattle.std.proofs.lemmas.List.{length-map}
 use Rattle.std.proofs.Math.Logic.{∥∥₁_elim, ∥∥₁_map, ∥∥₁_prop}
 use Rattle.std.proofs.Math.Bool.{Bool-set}
 use Rattle.guppy_support.specs.Bits.{has}
-use Rattle.guppy_packages.specs.Tables.{Tables}
-use Rattle.guppy_packages.specs.declared.direction.DependencyDirection.TheVariants.{Forward}
-use Rattle.feature_labels.specs.Names.{LabelName}
-use Rattle.feature_labels.specs.Names.LabelName.{base, named}
-use Rattle.feature_links.specs.declared.edge.EdgeChoice.TheVariants.{FeatureToBaseAndNamed}
-use Rattle.feature_core.specs.Nodes.{NodeAt, node_places, node_packages}
-use Rattle.feature_core.specs.Candidates.{Edge, Candidate, to_base, to_feature, to_dependency, over_strong, over_weak, with_dependency, with_feature, of_required, of_optional}
-use Rattle.feature_links.specs.Facts.{EdgeFacts}
-use Rattle.feature_core.specs.Edges.{AreBuilt}
-use Rattle.feature_core.specs.Pairs.{Along, nowhere, onward, PairLeads, ReachAlong}
-use Rattle.feature_core.specs.Choices.{is_chosen_edge, chosen_pairs, ChosenEdge}
+use Rattle.feature_edges.specs.guppy_packages.Tables.{Tables}
+use Rattle.feature_edges.specs.guppy_packages.declared.direction.DependencyDirection.TheVariants.{Forward}
+use Rattle.feature_edges.specs.feature_labels.Names.{LabelName}
+use Rattle.feature_edges.specs.feature_labels.Names.LabelName.{base, named}
+use Rattle.feature_edges.specs.feature_links.declared.edge.EdgeChoice.TheVariants.{FeatureToBaseAndNamed}
+use Rattle.feature_edges.specs.Nodes.{NodeAt, node_places, node_packages}
+use Rattle.feature_edges.specs.Candidates.{Edge, Candidate, to_base, to_feature, to_dependency, over_strong, over_weak, with_dependency, with_feature, of_required, of_optional}
+use Rattle.feature_edges.specs.feature_links.Facts.{EdgeFacts}
+use Rattle.feature_edges.specs.Edges.{AreBuilt}
+use Rattle.feature_edges.specs.Pairs.{Along, nowhere, onward, PairLeads, ReachAlong}
+use Rattle.feature_edges.specs.Choices.{is_chosen_edge, chosen_pairs, ChosenEdge}
 use Rattle.feature_core.specs.Defaults.{IsDefaultFeature, by_name, by_base, IsDefault}
-use Rattle.feature_core.proofs.AddsLemmas.{place_below}
+use Rattle.feature_edges.proofs.AddsLemmas.{place_below}
 use Rattle.feature_core.proofs.ChoiceLemmas.{chosen_pair}
-use Rattle.feature_core.proofs.PairLemmas.{Along-weaker}
-use Rattle.feature_core.proofs.Places.{got_same, node_back}
-use Rattle.feature_core.proofs.LabelLemmas.{one_base}
+use Rattle.feature_core.proofs.PairReach.{Along-weaker}
+use Rattle.feature_edges.proofs.Places.{got_same, node_back}
+use Rattle.feature_edges.proofs.LabelLemmas.{one_base}
 use Rattle.feature_core.proofs.WayNumbers.{marked_set, marked_grows, marked_cases}
 
 -- node n is a label of package p

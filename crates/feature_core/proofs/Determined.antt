@@ -6,25 +6,25 @@ use Rattle.std.proofs.Math.Logic.{∥∥₁_elim}
 use Rattle.std.proofs.Props.{props}
 use Rattle.std.proofs.lemmas.List.{length-map, get_or-map}
 use Rattle.guppy_support.specs.Bits.{has}
-use Rattle.guppy_packages.specs.Tables.{Tables, AreTables, optional_place}
-use Rattle.feature_labels.specs.Names.LabelName.{optional}
-use Rattle.guppy_packages.specs.declared.direction.DependencyDirection.{DependencyDirection}
+use Rattle.feature_edges.specs.guppy_packages.Tables.{Tables, AreTables, optional_place}
+use Rattle.feature_edges.specs.feature_labels.Names.LabelName.{optional}
+use Rattle.feature_edges.specs.guppy_packages.declared.direction.DependencyDirection.{DependencyDirection}
 use Rattle.feature_core.specs.Built.{Built, IsBuilt, AreAlike}
 use Rattle.feature_core.specs.Offers.{content_of}
 use Rattle.feature_core.specs.Ways.{content}
-use Rattle.feature_core.specs.Nodes.{NodeAt, labels_of, first_node}
-use Rattle.feature_core.specs.Candidates.{Edge, feature_to_base, named_feature, dep_colon, slash_full, slash_optional, slash_weak, section}
-use Rattle.feature_links.specs.Facts.{EdgeFacts}
-use Rattle.feature_core.specs.Edges.{EdgeSays, AreBuilt, IsGate, facts_of, weak_link, first_ones}
+use Rattle.feature_edges.specs.Nodes.{NodeAt, labels_of, first_node}
+use Rattle.feature_edges.specs.Candidates.{Edge, feature_to_base, named_feature, dep_colon, slash_full, slash_optional, slash_weak, section}
+use Rattle.feature_edges.specs.feature_links.Facts.{EdgeFacts}
+use Rattle.feature_edges.specs.Edges.{EdgeSays, AreBuilt, IsGate, facts_of, weak_link, first_ones}
 use Rattle.feature_core.specs.Defaults.{AreDefaults}
-use Rattle.feature_core.specs.Warnings.{Warning}
-use Rattle.feature_core.proofs.AddsLemmas.{Contains-first, Contains-later, Contains-cases, Contains-none}
-use Rattle.feature_core.proofs.LabelLemmas.{optional_found, optional_missing}
-use Rattle.feature_core.proofs.LeastKeys.{AllPairs-first, AllPairs-later}
-use Rattle.feature_core.proofs.NodeLabels.{element_within}
-use Rattle.feature_core.specs.BuiltOnce.{Contains-prop}
-use Rattle.feature_core.proofs.Places.{IsSpread, node_back}
-use Rattle.feature_core.proofs.PushLemmas.{from_map, into_map}
+use Rattle.feature_edges.specs.Warnings.{Warning}
+use Rattle.feature_edges.proofs.AddsLemmas.{Contains-first, Contains-later, Contains-cases, Contains-none}
+use Rattle.feature_edges.proofs.LabelLemmas.{optional_found, optional_missing}
+use Rattle.feature_edges.proofs.LeastKeys.{AllPairs-first, AllPairs-later}
+use Rattle.feature_edges.proofs.NodeLabels.{element_within}
+use Rattle.feature_edges.specs.EdgesOnce.{Contains-prop}
+use Rattle.feature_edges.proofs.Places.{IsSpread, node_back}
+use Rattle.feature_edges.proofs.PushLemmas.{from_map, into_map}
 
 -- ascending lists with the same elements are equal
 module _ {X : Type 0} (R : X → X → Type 0) (never : (x y : X) → R x y → R y x → ⊥) where

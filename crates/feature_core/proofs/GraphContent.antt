@@ -5,26 +5,24 @@ use Rattle.std.specs.Option.{option_map_or}
 use Rattle.std.proofs.Math.Logic.{∥∥₁_elim}
 use Rattle.std.proofs.Props.{props}
 use Rattle.std.proofs.lemmas.List.{length-map}
-use Rattle.std.proofs.lemmas.Option.{slice_get_within}
-use Rattle.guppy_packages.specs.Tables.{Tables, AreTables}
-use Rattle.guppy_packages.specs.declared.direction.DependencyDirection.{DependencyDirection}
-use Rattle.guppy_packages.specs.declared.direction.DependencyDirection.TheVariants.{Forward, Reverse}
-use Rattle.feature_labels.specs.Names.{LabelName}
-use Rattle.feature_labels.specs.Names.LabelName.{base, named, optional}
+use Rattle.feature_edges.specs.guppy_packages.Tables.{Tables, AreTables}
+use Rattle.feature_edges.specs.guppy_packages.declared.direction.DependencyDirection.{DependencyDirection}
+use Rattle.feature_edges.specs.guppy_packages.declared.direction.DependencyDirection.TheVariants.{Forward, Reverse}
+use Rattle.feature_edges.specs.feature_labels.Names.LabelName.{optional}
 use Rattle.walk_engine.specs.declared.walks.Ask.{Ask}
 use Rattle.walk_engine.specs.declared.walks.Ask.TheVariants as asks
 use Rattle.walk_engine.specs.Laws.{every, AreReverse, IsUngated}
 use Rattle.walk_engine.specs.Walks.{Way, Path, EndsAreNodes, is_gated, is_open, Reach as ReachOver}
 use Rattle.feature_core.specs.Built.{Built, IsBuilt}
-use Rattle.feature_core.specs.Candidates.{Edge, Candidate, to_base, to_feature, to_dependency, over_strong, over_weak, with_dependency, with_feature, of_required, of_optional}
-use Rattle.feature_links.specs.Facts.{EdgeFacts, base_edge, feature_edge, colon_edge, strong_edge, weak_edge, section_edge}
-use Rattle.feature_core.specs.Nodes.{NodeAt, labels_of, spread, nodes, node_places, node_packages}
+use Rattle.feature_edges.specs.feature_links.Facts.{EdgeFacts, base_edge, feature_edge, colon_edge, strong_edge, weak_edge, section_edge}
+use Rattle.feature_edges.specs.Nodes.{labels_of, spread, nodes, node_places, node_packages}
 use Rattle.feature_core.specs.Offers.{content_of}
-use Rattle.feature_core.specs.Pairs.{Along, nowhere, onward, LeadsTo, Reach}
+use Rattle.feature_edges.specs.Pairs.{Along, nowhere, onward, LeadsTo, Reach}
 use Rattle.feature_core.specs.Ways.{way, asked, gate_at, gate_of, start_of, far_of}
-use Rattle.feature_core.proofs.AddsLemmas.{element_at_place, place_of_element}
+use Rattle.feature_edges.proofs.AddsLemmas.{element_at_place, place_of_element}
+pub use Rattle.feature_edges.proofs.CandidateNodes.{at_node, candidate_within}
 use Rattle.feature_core.proofs.OfferLemmas.{way_edge, edge_way, weak_whole}
-use Rattle.feature_core.proofs.PushLemmas.{from_map, into_map}
+use Rattle.feature_edges.proofs.PushLemmas.{from_map, into_map}
 
 length-spread : {A B : Type 0} (f : A → List B) (q : ℕ) (xs : List A) → length (spread f q xs) ≡ length (flat_map f xs)
 length-spread f q [] = refl
@@ -52,27 +50,6 @@ node_count t =
 
 pub built_count : (t : Tables) (b : Built) → IsBuilt t b → length b.packages ≡ length (nodes t)
 built_count t b h = ap length h.packages ∙ node_count t
-
--- a label of a package is a node below their number
-pub at_node : (t : Tables) (n p : ℕ) (label : LabelName) → NodeAt t n p label → n < length (node_packages t)
-at_node t n p label h =
-    let below : n < length (node_places t) = slice_get_within (node_places t) n (p, label) h in
-    let long : length (node_packages t) ≡ length (node_places t) = length-map (node_places t) (λ x. x.0) in
-    omega (arith, below, long)
-
-abbrev pub AreWithin : Tables → ℕ → ℕ → Type 0
-AreWithin t u w = (u < length (node_packages t)) × (w < length (node_packages t))
-
-pub candidate_within : (t : Tables) (u w : ℕ) (e : Edge) → Candidate t u w e → AreWithin t u w
-candidate_within t u w e (to_base p label from differ to is) = (at_node t u p label from, at_node t w p base to)
-candidate_within t u w e (to_feature p f g item differ from to is) = (at_node t u p (named f) from, at_node t w p (named g) to)
-candidate_within t u w e (to_dependency p f d item from to is) = (at_node t u p (named f) from, at_node t w p (optional d) to)
-candidate_within t u w e (over_strong k link weak leads strong is) = (at_node t u link.from (named leads.f) leads.from_node, at_node t w link.to (named leads.g) leads.to_node)
-candidate_within t u w e (over_weak k link leads has is) = (at_node t u link.from (named leads.f) leads.from_node, at_node t w link.to (named leads.g) leads.to_node)
-candidate_within t u w e (with_dependency p f d g item from to is) = (at_node t u p (named f) from, at_node t w p (optional d) to)
-candidate_within t u w e (with_feature p n f d g item from beside differ to is) = (at_node t u p (named f) from, at_node t w p (named d) to)
-candidate_within t u w e (of_required s) = (at_node t u s.link.from base s.from_node, at_node t w s.link.to s.asked s.to_node)
-candidate_within t u w e (of_optional s) = (at_node t u s.link.from (optional s.link.name) s.from_node, at_node t w s.link.to s.asked s.to_node)
 
 -- the nodes of an edge are nodes of the graph
 edge_within : (t : Tables) (b : Built) → IsBuilt t b → (k : ℕ) (x : ℕ × ℕ × EdgeFacts) → slice_get b.edges k ≡ Some x → (x.0 < length b.packages) × (x.1 < length b.packages)

@@ -1,52 +1,33 @@
-pub mod Places
 pub mod PathLemmas
 pub mod Present
-pub mod AddsLemmas
-pub mod KeySays
-pub mod KindLemmas
-pub mod KeyRuns
-pub mod PartLemmas
-pub mod LeastKeys
 pub mod Answered
 pub mod Reaches
 pub mod WayNumbers
-pub mod NodeLemmas
-pub mod LabelLemmas
 pub mod OpenWayLemmas
 pub mod Released
 pub mod ReleaseTables
+pub mod ReleaseSteps
 pub mod PackedLemmas
 pub mod ChosenWayLemmas
 pub mod AskingLemmas
 pub mod NameLemmas
-pub mod PushLemmas
-pub mod PairLemmas
+pub mod PairReach
 pub mod ChoiceLemmas
-pub mod RequestLemmas
-pub mod Ranks
-pub mod EdgeLemmas
-pub mod SourceLemmas
-pub mod SectionPlaces
-pub mod KeyEdges
-pub mod MaterialLemmas
-pub mod ValueLemmas
-pub mod AlikeLemmas
-pub mod NodeLabels
-pub mod WarningLemmas
-pub mod CollectLemmas
-pub mod LeavingLinks
-pub mod PackageWarnings
-pub mod BuildLemmas
-pub mod WeakLemmas
 pub mod Determined
-pub mod SameLists
-pub mod PoolLemmas
-pub mod ListSteps
 pub mod SameData
 pub mod DefaultLemmas
-pub mod DefaultNodeLemmas
 pub mod OfferLemmas
 pub mod LinkNumbers
 pub mod OfferNames
 pub mod GraphContent
-pub mod SoundEnds
+-- lemmas that crates above cite
+pub use Rattle.feature_edges.proofs.Places as Places
+pub use Rattle.feature_edges.proofs.AddsLemmas as AddsLemmas
+pub use Rattle.feature_edges.proofs.PartLemmas as PartLemmas
+pub use Rattle.feature_edges.proofs.LabelLemmas as LabelLemmas
+pub use Rattle.feature_edges.proofs.PushLemmas as PushLemmas
+pub use Rattle.feature_edges.proofs.Ranks as Ranks
+pub use Rattle.feature_edges.proofs.NodeLabels as NodeLabels
+pub use Rattle.feature_edges.proofs.BuildLemmas as BuildLemmas
+pub use Rattle.feature_edges.proofs.WeakLemmas as WeakLemmas
+pub use Rattle.feature_edges.proofs.SoundEnds as SoundEnds

@@ -6,24 +6,24 @@ use Rattle.std.specs.List.{list_any}
 use Rattle.std.specs.Str.{bytes_eq}
 use Rattle.std.proofs.Math.Logic.{∥∥₁_elim}
 use Rattle.std.proofs.Props.{props}
-use Rattle.guppy_packages.specs.Rows.{Text, Declared}
-use Rattle.guppy_packages.specs.Tables.{LinkTable, Tables}
-use Rattle.feature_labels.specs.Names.{LabelName}
-use Rattle.feature_labels.specs.Names.LabelName.{base, optional}
-use Rattle.feature_labels.specs.declared.link_declarations.LinkDeclarations.{LinkDeclarations}
-use Rattle.feature_labels.specs.declared.link_declarations.LinkDeclarations.TheVariants as covered
+use Rattle.feature_edges.specs.guppy_packages.Rows.{Text, Declared}
+use Rattle.feature_edges.specs.guppy_packages.Tables.{LinkTable, Tables}
+use Rattle.feature_edges.specs.feature_labels.Names.{LabelName}
+use Rattle.feature_edges.specs.feature_labels.Names.LabelName.{base, optional}
+use Rattle.feature_edges.specs.feature_labels.declared.link_declarations.LinkDeclarations.{LinkDeclarations}
+use Rattle.feature_edges.specs.feature_labels.declared.link_declarations.LinkDeclarations.TheVariants as covered
 use Rattle.walk_engine.specs.declared.walks.Half.{Half}
 use Rattle.walk_engine.specs.declared.walks.Half.TheVariants.{Full, Required, Optional}
 use Rattle.feature_core.specs.Built.{Built, IsBuilt}
-use Rattle.feature_core.specs.Candidates.{Edge, Candidate, IsSection, feature_to_base, named_feature, dep_colon, slash_full, slash_optional, slash_weak, section, to_base, to_feature, to_dependency, over_strong, over_weak, with_dependency, with_feature, of_required, of_optional, unsplit_of, requesting}
-use Rattle.feature_links.specs.Links.{by_name, half_of, half_over, LinkFacts, IsLink, over, includes, has_declaration, numbered, links_named}
-use Rattle.feature_core.specs.Edges.{facts_of}
-use Rattle.feature_links.specs.Facts.{link_at}
+use Rattle.feature_edges.specs.Candidates.{Edge, Candidate, IsSection, feature_to_base, named_feature, dep_colon, slash_full, slash_optional, slash_weak, section, to_base, to_feature, to_dependency, over_strong, over_weak, with_dependency, with_feature, of_required, of_optional, unsplit_of, requesting}
+use Rattle.feature_edges.specs.feature_links.Links.{by_name, half_of, half_over, LinkFacts, IsLink, over, includes, has_declaration, numbered, links_named}
+use Rattle.feature_edges.specs.Edges.{facts_of}
+use Rattle.feature_edges.specs.feature_links.Facts.{link_at}
 use Rattle.feature_core.specs.Offers.{IsLinkOf}
-use Rattle.feature_core.proofs.AddsLemmas.{Contains-cases, Contains-none, element_at_place, place_below}
+use Rattle.feature_edges.proofs.AddsLemmas.{Contains-cases, Contains-none, element_at_place, place_below}
 use Rattle.feature_core.proofs.OfferLemmas.{numbers, says}
-use Rattle.feature_core.proofs.Places.{got_same}
-use Rattle.feature_core.proofs.PushLemmas.{from_filter, from_map}
+use Rattle.feature_edges.proofs.Places.{got_same}
+use Rattle.feature_edges.proofs.PushLemmas.{from_filter, from_map}
 
 -- the package links of a link are links of the tables
 abbrev AreLinks : Tables → LinkFacts → Type 0

@@ -6,16 +6,16 @@ use Rattle.std.specs.Str.{bytes_eq}
 use Rattle.std.specs.Cmp.Lexicographic.{bytes_decides}
 use Rattle.std.proofs.lemmas.List.{length-map}
 use Rattle.std.proofs.lemmas.Option.{slice_get-map}
-use Rattle.guppy_packages.specs.Rows.{Text}
-use Rattle.guppy_packages.specs.Tables.{PackageTable, Tables, AreTables, package_place}
-use Rattle.feature_labels.specs.Names.{LabelName}
-use Rattle.feature_labels.specs.Names.LabelName.{base}
-use Rattle.feature_core.specs.Nodes.{NodeAt, labels_of, first_node}
-use Rattle.feature_links.specs.Links.{IsPackage}
+use Rattle.feature_edges.specs.guppy_packages.Rows.{Text}
+use Rattle.feature_edges.specs.guppy_packages.Tables.{PackageTable, Tables, AreTables, package_place}
+use Rattle.feature_edges.specs.feature_labels.Names.{LabelName}
+use Rattle.feature_edges.specs.feature_labels.Names.LabelName.{base}
+use Rattle.feature_edges.specs.Nodes.{NodeAt, labels_of, first_node}
+use Rattle.feature_edges.specs.feature_links.Links.{IsPackage}
 use Rattle.feature_core.specs.Built.{NodeNamed}
-use Rattle.feature_core.proofs.Places.{IsSpread, node_back, there, get_left, get_right, get_cases, got_map, got_same}
-use Rattle.feature_core.proofs.PartLemmas.{base_back}
-use Rattle.feature_core.proofs.LabelLemmas.{position_there, position_missing}
+use Rattle.feature_edges.proofs.Places.{IsSpread, node_back, there, get_left, get_right, get_cases, got_map, got_same}
+use Rattle.feature_edges.proofs.PartLemmas.{base_back}
+use Rattle.feature_edges.proofs.LabelLemmas.{position_there, position_missing}
 
 module _ {A B C : Type 0} (f : A → List B) (g : A → B → C) where
   abbrev pub all_of : List A → List C

@@ -7,27 +7,27 @@ use Rattle.std.proofs.Math.Logic.{∥∥₁_elim, ∥∥₁_map}
 use Rattle.std.proofs.Props.{props}
 use Rattle.std.proofs.lemmas.Bool.Decides.{nat_tests}
 use Rattle.std.proofs.lemmas.Option.{slice_get-map, get_or_from_slice_get, slice_get_within}
-use Rattle.guppy_packages.specs.Tables.{LinkTable, Tables, AreTables}
-use Rattle.guppy_packages.specs.declared.direction.DependencyDirection.{DependencyDirection}
-use Rattle.feature_labels.specs.declared.link_declarations.LinkDeclarations.TheVariants as covered
+use Rattle.feature_edges.specs.guppy_packages.Tables.{LinkTable, Tables, AreTables}
+use Rattle.feature_edges.specs.guppy_packages.declared.direction.DependencyDirection.{DependencyDirection}
+use Rattle.feature_edges.specs.feature_labels.declared.link_declarations.LinkDeclarations.TheVariants as covered
 use Rattle.walk_engine.specs.declared.walks.Half.{Half}
 use Rattle.walk_engine.specs.declared.walks.Half.TheVariants.{Full, Required, Optional}
 use Rattle.walk_engine.specs.Walks.{Way, IsWay, has_half}
 use Rattle.feature_core.specs.Built.{Built, IsBuilt}
-use Rattle.feature_core.specs.BuiltOnce.{facts-set}
-use Rattle.feature_core.specs.Candidates.{Edge, Candidate, IsEdge, feature_to_base, named_feature, dep_colon, slash_full, slash_optional, slash_weak, section, to_base, to_feature, to_dependency, over_strong, over_weak, with_dependency, with_feature, of_required, of_optional, unsplit_of}
-use Rattle.feature_links.specs.Facts.{WeakFacts, EdgeFacts, base_edge, feature_edge, colon_edge, strong_edge, weak_edge, section_edge, link_at}
-use Rattle.feature_core.specs.Edges.{EdgeBefore, EdgeSays, facts_of, weak_facts, weak_link, weak_links, first_ones}
-use Rattle.feature_links.specs.Links.{half_of, half_over, LinkFacts, IsLink, has_declaration, over, includes}
+use Rattle.feature_edges.specs.EdgesOnce.{facts-set}
+use Rattle.feature_edges.specs.Candidates.{Edge, Candidate, IsEdge, feature_to_base, named_feature, dep_colon, slash_full, slash_optional, slash_weak, section, to_base, to_feature, to_dependency, over_strong, over_weak, with_dependency, with_feature, of_required, of_optional, unsplit_of}
+use Rattle.feature_edges.specs.feature_links.Facts.{WeakFacts, EdgeFacts, base_edge, feature_edge, colon_edge, strong_edge, weak_edge, section_edge, link_at}
+use Rattle.feature_edges.specs.Edges.{EdgeBefore, EdgeSays, facts_of, weak_facts, weak_link, weak_links, first_ones}
+use Rattle.feature_edges.specs.feature_links.Links.{half_of, half_over, LinkFacts, IsLink, has_declaration, over, includes}
 use Rattle.feature_core.specs.Offers.{content_of, IsOffer, IsLinkOf, IsWeakEdge}
 use Rattle.feature_core.specs.Ways.{way, asked}
-use Rattle.feature_core.proofs.AddsLemmas.{Contains-first, Contains-later, Contains-cases, Contains-none, element_at_place, place_of_element}
-use Rattle.feature_core.proofs.BuildLemmas.{alone}
-use Rattle.feature_core.proofs.LabelLemmas.{position_there, position_missing}
-use Rattle.feature_core.proofs.NodeLabels.{element_within}
-use Rattle.feature_core.proofs.Places.{got_map, got_same}
-use Rattle.feature_core.proofs.PushLemmas.{into_filter}
-use Rattle.feature_core.proofs.Ranks.{one_edge}
+use Rattle.feature_edges.proofs.AddsLemmas.{Contains-first, Contains-later, Contains-cases, Contains-none, element_at_place, place_of_element}
+use Rattle.feature_edges.proofs.BuildLemmas.{alone}
+use Rattle.feature_edges.proofs.LabelLemmas.{position_there, position_missing}
+use Rattle.feature_edges.proofs.NodeLabels.{element_within}
+use Rattle.feature_edges.proofs.Places.{got_map, got_same}
+use Rattle.feature_edges.proofs.PushLemmas.{into_filter}
+use Rattle.feature_edges.proofs.Ranks.{one_edge}
 
 -- the edge of a way
 pub way_edge : (b : Built) (direction : DependencyDirection) (e : ℕ) (w : Way) → IsWay (content_of direction b) e w → (x : ℕ × ℕ × EdgeFacts) × (slice_get b.edges e ≡ Some x) × (way direction b.weak x ≡ w)

@@ -2,30 +2,30 @@
 use Rattle.std.proofs.Common.{◌≡◌, ℕ, ◌+◌, List, Option, Some, None, refl, ap, sym, ◌∙◌, subst}
 use Rattle.std.specs.Prelude.{slice_get, IsTrue}
 use Rattle.std.proofs.Math.Logic.{∥∥₁_elim}
-use Rattle.guppy_packages.specs.Rows.{Text}
-use Rattle.guppy_packages.specs.Tables.{Tables, AreTables, feature_place}
-use Rattle.guppy_packages.specs.declared.direction.DependencyDirection.{DependencyDirection}
-use Rattle.feature_labels.specs.Names.{LabelName}
-use Rattle.feature_labels.specs.Names.LabelName.{base, named, optional}
-use Rattle.feature_labels.specs.declared.link_declarations.LinkDeclarations.TheVariants as covered
+use Rattle.feature_edges.specs.guppy_packages.Rows.{Text}
+use Rattle.feature_edges.specs.guppy_packages.Tables.{Tables, AreTables, feature_place}
+use Rattle.feature_edges.specs.guppy_packages.declared.direction.DependencyDirection.{DependencyDirection}
+use Rattle.feature_edges.specs.feature_labels.Names.{LabelName}
+use Rattle.feature_edges.specs.feature_labels.Names.LabelName.{base, named, optional}
+use Rattle.feature_edges.specs.feature_labels.declared.link_declarations.LinkDeclarations.TheVariants as covered
 use Rattle.walk_engine.specs.declared.walks.Half.{Half}
 use Rattle.walk_engine.specs.declared.walks.Half.TheVariants.{Full, Required, Optional}
 use Rattle.walk_engine.specs.Walks.{Way, has_half}
 use Rattle.feature_core.specs.Built.{Built, IsBuilt, NodeNamed, NamesAreLabels}
-use Rattle.feature_core.specs.Candidates.{Edge, feature_to_base, named_feature, dep_colon, slash_full, slash_optional, slash_weak, section}
-use Rattle.feature_links.specs.Facts.{WeakFacts, EdgeFacts, base_edge, feature_edge, colon_edge, strong_edge, weak_edge, section_edge, link_at}
-use Rattle.feature_core.specs.Edges.{facts_of, weak_facts}
-use Rattle.feature_links.specs.Links.{LinkFacts}
-use Rattle.feature_core.specs.Nodes.{NodeAt, labels_of, first_node}
+use Rattle.feature_edges.specs.Candidates.{Edge, feature_to_base, named_feature, dep_colon, slash_full, slash_optional, slash_weak, section}
+use Rattle.feature_edges.specs.feature_links.Facts.{WeakFacts, EdgeFacts, base_edge, feature_edge, colon_edge, strong_edge, weak_edge, section_edge, link_at}
+use Rattle.feature_edges.specs.Edges.{facts_of, weak_facts}
+use Rattle.feature_edges.specs.feature_links.Links.{LinkFacts}
+use Rattle.feature_edges.specs.Nodes.{NodeAt, labels_of, first_node}
 use Rattle.feature_core.specs.Offers.{content_of, IsOffer, HaveOneName}
 use Rattle.feature_core.specs.Ways.{asked}
-use Rattle.feature_core.proofs.AddsLemmas.{element_at_place, place_of_element}
+use Rattle.feature_edges.proofs.AddsLemmas.{element_at_place, place_of_element}
 use Rattle.feature_core.proofs.Determined.{one_node}
-use Rattle.feature_core.proofs.LabelLemmas.{one_base, named_found, named_missing}
+use Rattle.feature_edges.proofs.LabelLemmas.{one_base, named_found, named_missing}
 use Rattle.feature_core.proofs.LinkNumbers.{half_declares}
 use Rattle.feature_core.proofs.NameLemmas.{named_node, node_name, id_at}
 use Rattle.feature_core.proofs.OfferLemmas.{numbers, says, edge_once, way_edge}
-use Rattle.feature_core.proofs.Places.{IsSpread, node_there, node_back, got_same}
+use Rattle.feature_edges.proofs.Places.{IsSpread, node_there, node_back, got_same}
 
 -- a named feature of a package has one node
 one_feature : (t : Tables) → AreTables t → (p m n : ℕ) (name : Text) → NodeAt t m p (named name) → NodeAt t n p (named name) → m ≡ n

@@ -9,12 +9,12 @@ use Rattle.std.specs.Option.{option_map}
 use Rattle.guppy_support.specs.declared.digraph.Edge.{Edge}
 use Rattle.guppy_support.specs.Graph.{Graph, IsDigraph, sources, targets}
 use Rattle.guppy_support.specs.Rows.{places, places_from}
-use Rattle.guppy_packages.specs.declared.direction.DependencyDirection.{DependencyDirection}
-use Rattle.guppy_packages.specs.declared.direction.DependencyDirection.TheVariants.{Forward, Reverse}
+use Rattle.feature_edges.specs.guppy_packages.declared.direction.DependencyDirection.{DependencyDirection}
+use Rattle.feature_edges.specs.guppy_packages.declared.direction.DependencyDirection.TheVariants.{Forward, Reverse}
 use Rattle.walk_engine.specs.Walks.{Way, IsWay, EndsAreNodes, numbers_where, starting, is_gated}
 use Rattle.feature_core.specs.inner.OpenWays.{open_way, open_ways}
 use Rattle.feature_core.proofs.Answered.{clash}
-use Rattle.feature_core.proofs.Places.{got_map}
+use Rattle.feature_edges.proofs.Places.{got_map}
 
 -- the ways that start at a node are the edges that leave it, or in reverse those that enter it
 pub forward_numbers : (n first : ℕ) (es : List Edge) → numbers_where (λ w. w.start == n) first (map (open_way Forward) es) ≡ places_from n first (sources es)

@@ -6,22 +6,22 @@ use Rattle.std.proofs.lemmas.List.{length-map}
 use Rattle.std.proofs.lemmas.Option.{slice_get_within, slice_get-get_or}
 use Rattle.guppy_support.specs.declared.digraph.Edge.{Edge}
 use Rattle.guppy_support.specs.Graph.{Graph}
-use Rattle.guppy_packages.specs.declared.direction.DependencyDirection.TheVariants.{Forward, Reverse}
-use Rattle.guppy_packages.specs.Tables.{Tables}
-use Rattle.feature_labels.specs.Names.{LabelName}
-use Rattle.feature_labels.specs.Names.LabelName.{optional}
-use Rattle.feature_core.specs.Nodes.{node_packages, node_places}
-use Rattle.feature_links.specs.Facts.{EdgeFacts}
-use Rattle.feature_core.specs.Edges.{AreBuilt}
-use Rattle.feature_links.specs.Facts.EdgeFacts.{base_edge, feature_edge, colon_edge, strong_edge, weak_edge, section_edge}
+use Rattle.feature_edges.specs.guppy_packages.declared.direction.DependencyDirection.TheVariants.{Forward, Reverse}
+use Rattle.feature_edges.specs.guppy_packages.Tables.{Tables}
+use Rattle.feature_edges.specs.feature_labels.Names.{LabelName}
+use Rattle.feature_edges.specs.feature_labels.Names.LabelName.{optional}
+use Rattle.feature_edges.specs.Nodes.{node_packages, node_places}
+use Rattle.feature_edges.specs.feature_links.Facts.{EdgeFacts}
+use Rattle.feature_edges.specs.Edges.{AreBuilt}
+use Rattle.feature_edges.specs.feature_links.Facts.EdgeFacts.{base_edge, feature_edge, colon_edge, strong_edge, weak_edge, section_edge}
 use Rattle.walk_engine.specs.Walks.{numbers_where, releasing, is_gated}
 use Rattle.feature_core.specs.Built.{built_edges}
 use Rattle.feature_core.specs.Ways.{ways, content, asked, gate_of, gate_at, GatesAreNodes}
 use Rattle.feature_core.specs.inner.Releases.{AreTied, released_by, releases_from}
 use Rattle.feature_core.proofs.Answered.{decide}
-use Rattle.feature_core.proofs.Places.{got_same}
+use Rattle.feature_edges.proofs.Places.{got_same}
 use Rattle.feature_core.proofs.Released.{Rises, same_rising, in_released, released_in, released_rises}
-use Rattle.feature_core.proofs.NodeLabels.{element_within}
+use Rattle.feature_edges.proofs.NodeLabels.{element_within}
 use Rattle.feature_core.proofs.ReleaseTables.{exact_releases}
 
 -- an edge with its value

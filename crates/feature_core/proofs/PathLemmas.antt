@@ -4,13 +4,13 @@ use Rattle.std.specs.Prelude.{◌↔◌, Contains}
 use Rattle.std.proofs.lemmas.Bool.{eqb-true, eq-eqb}
 use Rattle.guppy_support.specs.declared.digraph.Edge.{Edge}
 use Rattle.guppy_support.specs.Paths.{HasEdge, Path, nowhere as ended, onward as along}
-use Rattle.guppy_packages.specs.Tables.{Tables}
-use Rattle.guppy_packages.specs.declared.direction.DependencyDirection.TheVariants.{Forward, Reverse}
+use Rattle.feature_edges.specs.guppy_packages.Tables.{Tables}
+use Rattle.feature_edges.specs.guppy_packages.declared.direction.DependencyDirection.TheVariants.{Forward, Reverse}
 use Rattle.walk_engine.specs.Laws.{only}
-use Rattle.feature_links.specs.Facts.{EdgeFacts}
+use Rattle.feature_edges.specs.feature_links.Facts.{EdgeFacts}
 use Rattle.feature_core.specs.Built.{Built, IsBuilt, digraph_of, end_of, ends_of}
-use Rattle.feature_core.specs.Pairs.{Along, nowhere, onward, LeadsTo, HasCandidate, Reach}
-use Rattle.feature_core.proofs.PushLemmas.{from_map, into_map}
+use Rattle.feature_edges.specs.Pairs.{Along, nowhere, onward, LeadsTo, HasCandidate, Reach}
+use Rattle.feature_edges.proofs.PushLemmas.{from_map, into_map}
 
 -- ---- an edge of the digraph is a candidate
 

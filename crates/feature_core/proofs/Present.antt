@@ -9,28 +9,28 @@ use Rattle.std.proofs.Math.Logic.{∥∥₁_elim}
 use Rattle.std.proofs.lemmas.List.Elements.{Contains-append_left, Contains-append_right}
 use Rattle.std.proofs.lemmas.Bool.Decides.{nat_tests}
 use Rattle.guppy_support.specs.declared.digraph.Edge.{Edge as End}
-use Rattle.guppy_packages.specs.Graph.{firsts}
-use Rattle.guppy_packages.specs.Platform.{always_status, status_by}
-use Rattle.guppy_packages.specs.Rows.{Text, Declared}
-use Rattle.guppy_packages.specs.Tables.{LinkTable, Tables, AreTables, optional_place, has_name, has_optional_link}
-use Rattle.guppy_packages.specs.declared.row.DependencyKind.{DependencyKind}
-use Rattle.guppy_packages.specs.declared.row.DependencyKind.TheVariants.{Normal, Build, Development}
-use Rattle.feature_labels.specs.Names.{LabelName}
-use Rattle.feature_labels.specs.Names.LabelName.{base, optional}
-use Rattle.feature_labels.specs.declared.link_declarations.LinkDeclarations.{LinkDeclarations}
-use Rattle.feature_labels.specs.declared.link_declarations.LinkDeclarations.TheVariants.{Unsplit, Required, Optional}
-use Rattle.feature_core.specs.Nodes.{NodeAt, labels_of}
-use Rattle.feature_links.specs.Links.{LinkFacts, IsLink, platforms_status, is_kind, includes, joined_status, over, numbered, links_named, by_name}
-use Rattle.feature_core.specs.Candidates.{Edge, feature_to_base, named_feature, dep_colon, slash_full, slash_optional, slash_weak, section, Candidate, to_base, to_feature, to_dependency, over_strong, over_weak, with_dependency, with_feature, of_required, of_optional, IsSection, requesting, unsplit_of}
-use Rattle.feature_links.specs.Facts.{EdgeFacts, full_link, is_never, is_present}
-use Rattle.feature_core.specs.Edges.{facts_of}
+use Rattle.feature_edges.specs.guppy_packages.Graph.{firsts}
+use Rattle.feature_edges.specs.guppy_packages.Platform.{always_status, status_by}
+use Rattle.feature_edges.specs.guppy_packages.Rows.{Text, Declared}
+use Rattle.feature_edges.specs.guppy_packages.Tables.{LinkTable, Tables, AreTables, optional_place, has_name, has_optional_link}
+use Rattle.feature_edges.specs.guppy_packages.declared.row.DependencyKind.{DependencyKind}
+use Rattle.feature_edges.specs.guppy_packages.declared.row.DependencyKind.TheVariants.{Normal, Build, Development}
+use Rattle.feature_edges.specs.feature_labels.Names.{LabelName}
+use Rattle.feature_edges.specs.feature_labels.Names.LabelName.{base, optional}
+use Rattle.feature_edges.specs.feature_labels.declared.link_declarations.LinkDeclarations.{LinkDeclarations}
+use Rattle.feature_edges.specs.feature_labels.declared.link_declarations.LinkDeclarations.TheVariants.{Unsplit, Required, Optional}
+use Rattle.feature_edges.specs.Nodes.{NodeAt, labels_of}
+use Rattle.feature_edges.specs.feature_links.Links.{LinkFacts, IsLink, platforms_status, is_kind, includes, joined_status, over, numbered, links_named, by_name}
+use Rattle.feature_edges.specs.Candidates.{Edge, feature_to_base, named_feature, dep_colon, slash_full, slash_optional, slash_weak, section, Candidate, to_base, to_feature, to_dependency, over_strong, over_weak, with_dependency, with_feature, of_required, of_optional, IsSection, requesting, unsplit_of}
+use Rattle.feature_edges.specs.feature_links.Facts.{EdgeFacts, full_link, is_never, is_present}
+use Rattle.feature_edges.specs.Edges.{facts_of}
 use Rattle.feature_core.specs.Built.{Built, IsBuilt, built_edges}
-use Rattle.feature_core.proofs.AddsLemmas.{Contains-first, Contains-later, Contains-cases, Contains-none, element_at_place}
-use Rattle.feature_core.proofs.BuildLemmas.{built_long}
-use Rattle.feature_core.proofs.LabelLemmas.{position_there, optional_missing}
-use Rattle.feature_core.proofs.PartLemmas.{list_any_there, list_any_back}
-use Rattle.feature_core.proofs.Places.{IsSpread, node_back}
-use Rattle.feature_core.proofs.PushLemmas.{into_map, into_filter}
+use Rattle.feature_edges.proofs.AddsLemmas.{Contains-first, Contains-later, Contains-cases, Contains-none, element_at_place}
+use Rattle.feature_edges.proofs.BuildLemmas.{built_long}
+use Rattle.feature_edges.proofs.LabelLemmas.{position_there, optional_missing}
+use Rattle.feature_edges.proofs.PartLemmas.{list_any_there, list_any_back}
+use Rattle.feature_edges.proofs.Places.{IsSpread, node_back}
+use Rattle.feature_edges.proofs.PushLemmas.{into_map, into_filter}
 
 -- the status of platforms with a spec isn't never
 specs_there : (platforms : List (Option Text)) (text : Text) → Contains platforms (Some text) → is_never (status_by (firsts bytes_eq (filter_map (λ p. p) platforms))) ≡ false

@@ -9,8 +9,8 @@ use Rattle.std.proofs.lemmas.List.Sorted.{Contains-permutation, IsPermutation-sy
 use Rattle.std.proofs.lemmas.List.Sums.{sum_by-cons}
 use Rattle.std.proofs.lemmas.Bool.{eqb-true, eq-eqb}
 use Rattle.std.proofs.lemmas.Bool.Decides.{nat_tests}
-use Rattle.feature_links.specs.Facts.{EdgeFacts}
-use Rattle.feature_core.specs.Pairs.{IsBefore}
+use Rattle.feature_edges.specs.feature_links.Facts.{EdgeFacts}
+use Rattle.feature_edges.specs.Pairs.{IsBefore}
 use Rattle.feature_core.specs.Ways.{gate_of}
 use Rattle.feature_core.specs.inner.Releases.{releases_from, IsUpTo, AreReleases}
 use Rattle.feature_core.proofs.Answered.{decide, clash}

@@ -5,7 +5,7 @@ use Rattle.std.proofs.lemmas.List.Elements.{All-cons, All-head, All-tail, All-we
 use Rattle.std.specs.List.Sorted.{IsNonDecreasingBy, IsPartitionPoint}
 use Rattle.std.proofs.lemmas.Bool.{eqb-true, eq-eqb}
 use Rattle.std.proofs.lemmas.Bool.Decides.{eqb_tells, nat_tests}
-use Rattle.feature_core.specs.Pairs.{IsBefore}
+use Rattle.feature_edges.specs.Pairs.{IsBefore}
 use Rattle.walk_engine.specs.Walks.{is_in}
 use Rattle.feature_core.specs.inner.Releases.{Begins, released_by}
 use Rattle.feature_core.proofs.Answered.{decide, clash, or_left, or_right, or_cases}

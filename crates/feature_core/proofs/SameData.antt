@@ -4,9 +4,9 @@ use Rattle.std.specs.Prelude.{◌↔◌, IsTrue}
 use Rattle.std.specs.List.{zip}
 use Rattle.guppy_support.specs.declared.digraph.Edge.{Edge}
 use Rattle.feature_core.specs.Built.{ends_of, pairs_of, built_edges}
-use Rattle.feature_links.specs.Facts.{EdgeFacts}
-use Rattle.feature_core.proofs.BuildLemmas.{built_ends}
-use Rattle.feature_core.proofs.SameLists.{is_not}
+use Rattle.feature_edges.specs.feature_links.Facts.{EdgeFacts}
+use Rattle.feature_edges.proofs.BuildLemmas.{built_ends}
+use Rattle.feature_edges.proofs.SameLists.{is_not}
 
 -- the edges of a digraph with their values, from the pairs of their ends
 told_by : List (ℕ × ℕ) → List EdgeFacts → List (ℕ × ℕ × EdgeFacts)

@@ -1,18 +1,17 @@
 -- The data built from tables.
-use Rattle.std.specs.Prelude.{◌≡◌, ◌↔◌, ℕ, List, Bool, Some, Contains, length, map, not, slice_get}
-use Rattle.std.specs.List.{zip}
-use Rattle.guppy_support.specs.declared.digraph.Edge.{Edge}
+use Rattle.std.specs.Prelude.{◌≡◌, ◌↔◌, ℕ, List, Bool, Some, Contains, length, map, slice_get}
 use Rattle.guppy_support.specs.Graph.{Graph}
-use Rattle.guppy_packages.specs.Rows.{Text}
-use Rattle.guppy_packages.specs.Tables.{PackageTable, Tables}
-use Rattle.feature_labels.specs.Names.{LabelName}
-use Rattle.feature_core.specs.Nodes.{labels_of, nodes, first_nodes, node_packages}
-pub use Rattle.feature_core.specs.Edges.{ends_of}
-use Rattle.feature_links.specs.Facts.{EdgeFacts, is_dev_edge}
-use Rattle.feature_core.specs.Edges.{AreBuilt}
+use Rattle.feature_edges.specs.guppy_packages.Rows.{Text}
+use Rattle.feature_edges.specs.guppy_packages.Tables.{PackageTable, Tables}
+use Rattle.feature_edges.specs.feature_labels.Names.{LabelName}
+use Rattle.feature_edges.specs.Nodes.{labels_of, nodes, first_nodes, node_packages}
+pub use Rattle.feature_edges.specs.EdgeEnds.{built_edges, end_of, pairs_of}
+pub use Rattle.feature_edges.specs.Edges.{ends_of}
+use Rattle.feature_edges.specs.feature_links.Facts.{EdgeFacts}
+use Rattle.feature_edges.specs.Edges.{AreBuilt}
 use Rattle.feature_core.specs.Defaults.{AreDefaults}
-use Rattle.feature_core.specs.Pairs.{IsPairList}
-use Rattle.feature_core.specs.Warnings.{Warning, warnings}
+use Rattle.feature_edges.specs.Pairs.{IsPairList}
+use Rattle.feature_edges.specs.Warnings.{Warning, warnings}
 
 -- The caller's stamp, the first node of each package, and the package of each node. The edges are sorted by source and then by
 -- target. `weak` has the package link and the gate of each weak link, `defaults` whether each node is on by default.
@@ -45,17 +44,6 @@ NodeNamed t n name = slice_get (nodes t) n ≡ Some name
 -- The names of nodes are exactly the labels of the packages, each with its package's id.
 abbrev pub NamesAreLabels : Tables → Type 0
 NamesAreLabels t = (name : Text × LabelName) → ((n : ℕ) × NodeNamed t n name) ↔ ((table : PackageTable) × Contains t.packages table × (table.id ≡ name.0) × Contains (labels_of table) name.1)
-
-abbrev pub pairs_of : List Edge → List (ℕ × ℕ)
-pairs_of edges = map (λ e. (e.from, e.to)) edges
-
--- The edges of a digraph, each with its value.
-abbrev pub built_edges : List Edge → List EdgeFacts → List (ℕ × ℕ × EdgeFacts)
-built_edges edges facts = map (λ p. (p.0.from, p.0.to, p.1)) (zip edges facts)
-
--- The digraph's edge: its two nodes, and whether it is not dev-only.
-abbrev pub end_of : ℕ × ℕ × EdgeFacts → Edge
-end_of e = record { from = e.0; to = e.1; non_dev = not (is_dev_edge e.2) }
 
 -- The digraph of the nodes.
 abbrev pub digraph_of : Built → Graph

@@ -1,13 +1,13 @@
 -- The default feature of each package, and the features of the package that it turns on.
 use Rattle.std.specs.Prelude.{◌≡◌, ℕ, ◌↔◌, List, Bool, IsTrue, length, codes}
 use Rattle.guppy_support.specs.Bits.{has}
-use Rattle.guppy_packages.specs.Tables.{Tables}
-use Rattle.feature_labels.specs.Names.{LabelName}
-use Rattle.feature_labels.specs.Names.LabelName.{base, named}
-use Rattle.feature_links.specs.declared.edge.EdgeChoice.TheVariants.{FeatureToBaseAndNamed}
-use Rattle.feature_core.specs.Nodes.{NodeAt, node_packages}
-use Rattle.feature_core.specs.Pairs.{Along}
-use Rattle.feature_core.specs.Choices.{ChosenEdge}
+use Rattle.feature_edges.specs.guppy_packages.Tables.{Tables}
+use Rattle.feature_edges.specs.feature_labels.Names.{LabelName}
+use Rattle.feature_edges.specs.feature_labels.Names.LabelName.{base, named}
+use Rattle.feature_edges.specs.feature_links.declared.edge.EdgeChoice.TheVariants.{FeatureToBaseAndNamed}
+use Rattle.feature_edges.specs.Nodes.{NodeAt, node_packages}
+use Rattle.feature_edges.specs.Pairs.{Along}
+use Rattle.feature_edges.specs.Choices.{ChosenEdge}
 
 -- The default feature of package `p`: its feature named `default`, or its base if it has none.
 pub data IsDefaultFeature (t : Tables) (p n : ℕ) : Type 0 where

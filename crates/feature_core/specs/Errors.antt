@@ -1,6 +1,6 @@
 -- Errors as plain values.
-use Rattle.guppy_packages.specs.Rows.{Text}
-use Rattle.feature_labels.specs.Names.{LabelName, id_of}
+use Rattle.feature_edges.specs.guppy_packages.Rows.{Text}
+use Rattle.feature_edges.specs.feature_labels.Names.{LabelName, id_of}
 use Rattle.feature_core.specs.declared.error.Error.{Error}
 use Rattle.feature_core.specs.declared.error.Error.TheVariants as error
 

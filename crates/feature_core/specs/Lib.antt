@@ -1,14 +1,14 @@
-pub mod Nodes
-pub mod Candidates
-pub mod Edges
 pub mod Present
-pub mod Pairs
 pub mod Ways
 pub mod Errors
 pub mod Built
 pub mod BuiltOnce
-pub mod Choices
 pub mod Offers
-pub mod Warnings
 pub mod Defaults
 pub mod inner
+pub use Rattle.feature_edges.specs.Nodes as Nodes
+pub use Rattle.feature_edges.specs.Candidates as Candidates
+pub use Rattle.feature_edges.specs.Edges as Edges
+pub use Rattle.feature_edges.specs.Pairs as Pairs
+pub use Rattle.feature_edges.specs.Choices as Choices
+pub use Rattle.feature_edges.specs.Warnings as Warnings

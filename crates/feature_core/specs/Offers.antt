@@ -1,14 +1,14 @@
 -- The offers of a feature graph, and their links.
 use Rattle.std.specs.Prelude.{◌≡◌, ℕ, ◌∷◌, [], Some, IsTrue, length, slice_get}
-use Rattle.guppy_packages.specs.Tables.{LinkTable, Tables}
-use Rattle.guppy_packages.specs.declared.direction.DependencyDirection.{DependencyDirection}
-use Rattle.feature_labels.specs.Names.LabelName.{optional}
+use Rattle.feature_edges.specs.guppy_packages.Tables.{LinkTable, Tables}
+use Rattle.feature_edges.specs.guppy_packages.declared.direction.DependencyDirection.{DependencyDirection}
+use Rattle.feature_edges.specs.feature_labels.Names.LabelName.{optional}
 use Rattle.walk_engine.specs.declared.walks.Half.{Half}
 use Rattle.walk_engine.specs.Walks.{Way, Content, IsWay, has_half}
 use Rattle.feature_core.specs.Built.{Built}
-use Rattle.feature_links.specs.Facts.{WeakFacts, EdgeFacts, link_at}
-use Rattle.feature_links.specs.Links.{LinkFacts, IsLink}
-use Rattle.feature_core.specs.Nodes.{NodeAt}
+use Rattle.feature_edges.specs.feature_links.Facts.{WeakFacts, EdgeFacts, link_at}
+use Rattle.feature_edges.specs.feature_links.Links.{LinkFacts, IsLink}
+use Rattle.feature_edges.specs.Nodes.{NodeAt}
 use Rattle.feature_core.specs.Ways.{content}
 
 -- The ways that walks of a feature graph follow in a direction.

@@ -1,7 +1,7 @@
 -- Links that are present for some kind of dependency.
 use Rattle.std.specs.Prelude.{◌≡◌, ℕ, List, Some, IsTrue, slice_get}
-use Rattle.feature_links.specs.Links.{LinkFacts}
-use Rattle.feature_links.specs.Facts.{EdgeFacts, full_link, is_present}
+use Rattle.feature_edges.specs.feature_links.Links.{LinkFacts}
+use Rattle.feature_edges.specs.feature_links.Facts.{EdgeFacts, full_link, is_present}
 
 -- The link of each conditional edge is present.
 abbrev pub ArePresent : List (ℕ × ℕ × EdgeFacts) → Type 0

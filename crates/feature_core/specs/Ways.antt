@@ -1,12 +1,12 @@
 -- The edges of a feature graph as ways in a direction.
 use Rattle.std.specs.Prelude.{ℕ, ◌<◌, List, Bool, true, false, Option, Some, None, map, slice_get, All}
 use Rattle.std.specs.Option.{option_map_or, is_some}
-use Rattle.guppy_packages.specs.declared.direction.DependencyDirection.{DependencyDirection}
-use Rattle.guppy_packages.specs.declared.direction.DependencyDirection.TheVariants.{Forward, Reverse}
+use Rattle.feature_edges.specs.guppy_packages.declared.direction.DependencyDirection.{DependencyDirection}
+use Rattle.feature_edges.specs.guppy_packages.declared.direction.DependencyDirection.TheVariants.{Forward, Reverse}
 use Rattle.walk_engine.specs.declared.walks.Ask.{Ask}
 use Rattle.walk_engine.specs.declared.walks.Ask.TheVariants.{Nobody, Full, Weak}
-use Rattle.feature_links.specs.Facts.{EdgeFacts}
-use Rattle.feature_links.specs.Facts.EdgeFacts.{base_edge, feature_edge, colon_edge, strong_edge, weak_edge, section_edge}
+use Rattle.feature_edges.specs.feature_links.Facts.{EdgeFacts}
+use Rattle.feature_edges.specs.feature_links.Facts.EdgeFacts.{base_edge, feature_edge, colon_edge, strong_edge, weak_edge, section_edge}
 use Rattle.walk_engine.specs.Walks.{Way, Content}
 
 -- An optional half waits for its gate forward, and not in reverse.

@@ -1,13 +1,4 @@
-pub mod Adds
-pub mod Keys
-pub mod Parts
 pub mod OpenWays
 pub mod ChosenWays
 pub mod Releases
 pub mod Asking
-pub mod Made
-pub mod Weak
-pub mod Pools
-pub mod Collects
-pub mod DefaultNodes
-pub mod Alike

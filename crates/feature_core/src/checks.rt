@@ -12,7 +12,7 @@ ghost use Rattle.feature_core.specs.Offers.{content_of};
 use crate::error::Error;
 use crate::feature_graph_data::FeatureGraphData;
 use crate::packed::Packed;
-use guppy_packages::DependencyDirection;
+use feature_edges::DependencyDirection;
 use guppy_support::IxBitSet;
 use std::alloc::Global;
 use walk_engine::{Half, Step};

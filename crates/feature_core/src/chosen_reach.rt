@@ -1,14 +1,12 @@
 //! Reach over chosen edges of a digraph.
 ghost use Rattle.std.specs.Prelude.{◌≡◌, ◌↔◌, ℕ, false, IfOk, IsTrue, length};
 ghost use Rattle.guppy_support.specs.Bits.{has};
-ghost use Rattle.feature_core.specs.Pairs.{PairLeads, ReachAlong};
+ghost use Rattle.feature_edges.specs.Pairs.{PairLeads, ReachAlong};
 ghost use Rattle.feature_core.specs.Built.{built_edges};
-ghost use Rattle.feature_core.specs.Choices.{chosen_pairs};
+ghost use Rattle.feature_edges.specs.Choices.{chosen_pairs};
 
-use crate::edge_list::EdgeList;
 use crate::packed::Packed;
-use feature_links::EdgeChoice;
-use guppy_packages::DependencyDirection;
+use feature_edges::{DependencyDirection, EdgeChoice, EdgeList};
 use guppy_support::{Digraph, IxBitSet};
 use std::alloc::{AllocError, Global};
 use walk_engine::{Half, Offerer, walk_over};

@@ -1,47 +1,17 @@
 //! The features that are on by default.
 ghost use Rattle.std.specs.Prelude.{◌≡◌, ◌<◌, ◌↔◌, ℕ, IfOk, IsTrue, length};
 ghost use Rattle.guppy_support.specs.Bits.{has};
-ghost use Rattle.guppy_packages.specs.Metadata.{package_graph_of};
+ghost use Rattle.feature_edges.specs.guppy_packages.Metadata.{package_graph_of};
 ghost use Rattle.feature_core.specs.Built.{built_edges};
 ghost use Rattle.feature_core.specs.Defaults.{IsDefaultFeature, AreDefaults};
-ghost use Rattle.feature_core.specs.Edges.{AreBuilt};
-ghost use Rattle.feature_core.specs.inner.DefaultNodes.{AreDefaultNodes};
-ghost use Rattle.feature_core.specs.Nodes.{node_packages};
+ghost use Rattle.feature_edges.specs.Edges.{AreBuilt};
+ghost use Rattle.feature_edges.specs.Nodes.{node_packages};
 
 use crate::chosen_reach::reach_chosen;
-use crate::edge_table::EdgeTable;
-use crate::numbers::Numbers;
-use feature_links::EdgeChoice;
-use guppy_packages::{DependencyDirection, PackageMetadata};
+use feature_edges::edge_table::EdgeTable;
+use feature_edges::{DependencyDirection, EdgeChoice, Numbers, PackageMetadata};
 use guppy_support::IxBitSet;
 use std::alloc::{AllocError, Global};
-
-/// Returns the node of the feature `default` of each package, or `None` if it has none.
-pub(crate) fn default_nodes(
-    alloc: Global,
-    numbers: Numbers<'_>,
-) -> Result<Vec<Option<usize>>, AllocError>
-    ensures { IfOk result (λ nodes. AreDefaultNodes numbers.entry.graph.now nodes.items) }
-{
-    let count = numbers.graph.package_count();
-    let mut nodes = Vec::with_capacity(alloc, count)?;
-    for ix in 0..count {
-        nodes.push(numbers.named(numbers.graph.package(ix), "default"))?;
-    }
-    Ok(nodes)
-}
-
-/// Returns `numbers` with the features `default` that were looked up.
-pub(crate) fn with_defaults<'a>(numbers: Numbers<'a>, defaults: &'a [Option<usize>]) -> Numbers<'a>
-    requires { AreDefaultNodes numbers.graph.now defaults.now }
-    ensures { result.graph.now ≡ numbers.entry.graph.now }
-{
-    Numbers {
-        graph: numbers.graph,
-        firsts: numbers.firsts,
-        defaults,
-    }
-}
 
 /// Returns the default feature of a package: its feature named `default`, or its base if it has none.
 fn default_feature(numbers: Numbers<'_>, metadata: PackageMetadata<'_>) -> usize

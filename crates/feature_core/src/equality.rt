@@ -2,17 +2,17 @@
 ghost use Rattle.std.specs.Prelude.{◌≡◌, ◌<◌, ◌↔◌, ℕ, Some, IfOk, IfErr, IsTrue, map, slice_get};
 ghost use Rattle.indexmap.specs.IndexMap.{index_map_len};
 ghost use Rattle.feature_core.specs.Built.{IsBuilt, pairs_of};
-ghost use Rattle.feature_links.specs.Values.{link_facts, half_facts, weak_facts_of, slash_facts, edge_facts};
-ghost use Rattle.feature_core.specs.Warnings.{warning_of};
-ghost use Rattle.guppy_packages.specs.Platform.{spec_text, status_of};
+ghost use Rattle.feature_edges.specs.feature_links.Values.{link_facts, half_facts, weak_facts_of, slash_facts, edge_facts};
+ghost use Rattle.feature_edges.specs.Warnings.{warning_of};
+ghost use Rattle.feature_edges.specs.guppy_packages.Platform.{spec_text, status_of};
 
-use crate::edge_list::EdgeList;
 use crate::error::Error;
 use crate::feature_graph_data::FeatureGraphData;
 use crate::laws::warning_equality;
-use crate::warning::FeatureGraphWarning;
-use feature_links::{ConditionalLinkImpl, EnabledLink, FeatureEdge, SlashForm, WeakSlashImpl};
-use guppy_packages::{PackageGraph, PlatformStatus, Spec};
+use feature_edges::{
+    ConditionalLinkImpl, EdgeList, EnabledLink, FeatureEdge, FeatureGraphWarning, PackageGraph,
+    PlatformStatus, SlashForm, Spec, WeakSlashImpl,
+};
 use guppy_support::{Digraph, Edge};
 use indexmap::IndexMap;
 use std::alloc::Global;

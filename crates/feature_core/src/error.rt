@@ -1,6 +1,5 @@
 //! Errors of calls on a feature graph.
-use feature_labels::FeatureId;
-use guppy_packages::PackageId;
+use feature_edges::{FeatureId, PackageId};
 use std::alloc::{AllocError, AllocFailed};
 
 /// The reason why a call on a feature graph failed. It borrows the ids that it names.

@@ -1,38 +1,36 @@
 //! The data of a feature graph, built from a package graph.
 ghost use Rattle.std.specs.Prelude.{◌≡◌, ◌+◌, ◌<◌, ◌↔◌, ℕ, Some, IfOk, IfErr, IsTrue, length, map, not, position, slice_get};
-ghost use Rattle.guppy_packages.specs.Metadata.{package_graph_of};
-ghost use Rattle.guppy_packages.specs.Tables.{Tables};
-ghost use Rattle.feature_labels.specs.Names.{id_of, label_of};
-ghost use Rattle.feature_core.specs.Nodes.{NodeAt, nodes, first_node, first_nodes, node_packages};
+ghost use Rattle.feature_edges.specs.guppy_packages.Metadata.{package_graph_of};
+ghost use Rattle.feature_edges.specs.guppy_packages.Tables.{Tables};
+ghost use Rattle.feature_edges.specs.feature_labels.Names.{id_of, label_of};
+ghost use Rattle.feature_edges.specs.Nodes.{NodeAt, nodes, first_node, first_nodes, node_packages};
 ghost use Rattle.guppy_support.specs.Bits.{has};
-ghost use Rattle.feature_core.specs.Pairs.{IsPairList, PairLeads, ReachAlong};
+ghost use Rattle.feature_edges.specs.Pairs.{IsPairList, PairLeads, ReachAlong};
 ghost use Rattle.digraph_orders.specs.Sequences.{IsOrderOf};
 ghost use Rattle.order_views.specs.Cycles.{cyclic_components};
 ghost use Rattle.feature_core.specs.Built.{AreAlike, IsBuilt, NodeNamed, built_edges, digraph_of, end_of, pairs_of};
-ghost use Rattle.feature_core.specs.Choices.{chosen_pairs};
+ghost use Rattle.feature_edges.specs.Choices.{chosen_pairs};
 ghost use Rattle.feature_core.specs.Defaults.{AreDefaults, IsDefault};
-ghost use Rattle.feature_core.specs.Edges.{AreBuilt};
-ghost use Rattle.feature_links.specs.Facts.{has_present_link};
-ghost use Rattle.feature_links.specs.Values.{edge_facts};
-ghost use Rattle.feature_core.specs.Warnings.{warning_of, warnings, warnings_in};
+ghost use Rattle.feature_edges.specs.Edges.{AreBuilt};
+ghost use Rattle.feature_edges.specs.feature_links.Facts.{has_present_link};
+ghost use Rattle.feature_edges.specs.feature_links.Values.{edge_facts};
+ghost use Rattle.feature_edges.specs.Warnings.{warning_of, warnings, warnings_in};
 ghost use Rattle.feature_core.specs.inner.Releases.{AreReleases};
 ghost use Rattle.feature_core.specs.Ways.{content};
 
 use crate::chosen_reach::reach_chosen;
-use crate::defaults::{default_marks, default_nodes, with_defaults};
-use crate::edge_list::{EdgeList, first_absent};
-use crate::edge_table::{EdgeTable, edge_table};
+use crate::defaults::default_marks;
 use crate::equality::{same_edges, same_gates, same_numbers, same_pairs, same_warnings};
 use crate::error::Error;
 use crate::gates::release_table;
-use crate::nodes::{NodeTable, node_table};
-use crate::numbers::{Numbers, label_at};
 use crate::packed::Packed;
-use crate::warning::FeatureGraphWarning;
 use digraph_orders::Order;
-use feature_labels::{FeatureId, FeatureLabel};
-use feature_links::{EdgeChoice, FeatureEdge, named_links};
-use guppy_packages::{DependencyDirection, PackageGraph, PackageMetadata};
+use feature_edges::edge_table::{EdgeTable, edge_table};
+use feature_edges::{
+    DependencyDirection, EdgeChoice, EdgeList, FeatureEdge, FeatureGraphWarning, FeatureId,
+    FeatureLabel, NodeTable, Numbers, PackageGraph, PackageMetadata, default_nodes, first_absent,
+    label_at, named_links, node_table, numbers_in, with_defaults,
+};
 use guppy_support::{Digraph, IxBitSet};
 use indexmap::IndexMap;
 use order_views::cyclic_components;
@@ -78,7 +76,7 @@ impl Model for FeatureGraphData {
     ghost use Rattle.order_views.specs.Cycles.{cyclic_components};
     ghost use Rattle.feature_core.specs.Built.{Built, built_edges, end_of};
     ghost use Rattle.feature_core.specs.inner.Releases.{AreTied};
-    ghost use Rattle.feature_core.specs.Warnings.{warnings_in};
+    ghost use Rattle.feature_edges.specs.Warnings.{warnings_in};
 
     ghost Value = { Built };
 
@@ -92,19 +90,6 @@ impl Model for FeatureGraphData {
         × (length d.defaults ≡ length d.table.packages.items)
         × IsOrderOf d.digraph d.order
         × (d.cyclic.items ≡ cyclic_components d.digraph.edges d.order) };
-}
-
-/// Returns the numbers of the nodes of `table`.
-fn numbers_in<'a>(graph: &'a PackageGraph, table: &'a NodeTable) -> Numbers<'a>
-    requires firsts { table.now.firsts.items ≡ first_nodes graph.now }
-    requires packages { table.now.packages.items ≡ node_packages graph.now }
-    ensures { result.graph.now ≡ graph.now }
-{
-    Numbers {
-        graph,
-        firsts: table.firsts.as_slice(),
-        defaults: &[],
-    }
 }
 
 /// Returns the node of the feature `label` of a package, or `None` if the package doesn't have it.

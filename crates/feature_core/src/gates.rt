@@ -1,13 +1,12 @@
 //! The edges that wait for a gate, by their gates.
 ghost use Rattle.std.specs.Prelude.{◌≡◌, ◌≤◌, ◌++◌, ◌∷◌, [], IfOk, OnOk, AllPairs, IsPermutation, drop, length, slice_get};
 ghost use Rattle.std.specs.Option.{option_map_or};
-ghost use Rattle.feature_core.specs.Pairs.{IsBefore};
+ghost use Rattle.feature_edges.specs.Pairs.{IsBefore};
 ghost use Rattle.feature_core.specs.Ways.{gate_at, gate_of};
 ghost use Rattle.feature_core.specs.inner.Releases.{AreReleases, releases_from, released_by, Begins, IsUpTo};
-ghost use Rattle.feature_links.specs.Values.{edge_facts};
+ghost use Rattle.feature_edges.specs.feature_links.Values.{edge_facts};
 
-use crate::edge_list::EdgeList;
-use feature_links::{FeatureEdge, SlashForm};
+use feature_edges::{EdgeList, FeatureEdge, SlashForm};
 use indexmap::IndexMap;
 use std::alloc::{AllocError, Global};
 

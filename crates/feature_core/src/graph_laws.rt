@@ -2,23 +2,23 @@
 
 ghost use Rattle.std.specs.Prelude.{◌≡◌, ◌↔◌, ◌<◌, ℕ, Bool, Some, length, map, slice_get};
 ghost use Rattle.guppy_support.specs.Paths.{Path};
-ghost use Rattle.guppy_packages.specs.Rows.{Text};
-ghost use Rattle.guppy_packages.specs.declared.direction.DependencyDirection.{DependencyDirection};
-ghost use Rattle.guppy_packages.specs.declared.direction.DependencyDirection.TheVariants.{Forward, Reverse};
-ghost use Rattle.feature_labels.specs.Names.{LabelName};
+ghost use Rattle.feature_edges.specs.guppy_packages.Rows.{Text};
+ghost use Rattle.feature_edges.specs.guppy_packages.declared.direction.DependencyDirection.{DependencyDirection};
+ghost use Rattle.feature_edges.specs.guppy_packages.declared.direction.DependencyDirection.TheVariants.{Forward, Reverse};
+ghost use Rattle.feature_edges.specs.feature_labels.Names.{LabelName};
 ghost use Rattle.walk_engine.specs.declared.walks.Half.{Half};
 ghost use Rattle.walk_engine.specs.Laws.{every, only, AreReverse, IsUngated};
 ghost use Rattle.walk_engine.specs.Walks.{EndsAreNodes, Reach as ReachOver};
 ghost use Rattle.feature_core.specs.Built.{Built, IsBuilt, NodeNamed, NamesAreLabels, digraph_of};
-ghost use Rattle.feature_core.specs.Candidates.{Edge, IsEdge};
-ghost use Rattle.feature_links.specs.Facts.{EdgeFacts, WeakFacts, weak_edge};
-ghost use Rattle.feature_core.specs.Edges.{EdgeSays, facts_of};
-ghost use Rattle.feature_links.specs.Links.{LinkFacts};
-ghost use Rattle.feature_core.specs.Nodes.{nodes};
+ghost use Rattle.feature_edges.specs.Candidates.{Edge, IsEdge};
+ghost use Rattle.feature_edges.specs.feature_links.Facts.{EdgeFacts, WeakFacts, weak_edge};
+ghost use Rattle.feature_edges.specs.Edges.{EdgeSays, facts_of};
+ghost use Rattle.feature_edges.specs.feature_links.Links.{LinkFacts};
+ghost use Rattle.feature_edges.specs.Nodes.{nodes};
 ghost use Rattle.feature_core.specs.Offers.{content_of, IsOffer, IsLinkOf, HaveOneName, IsWeakEdge};
-ghost use Rattle.feature_core.specs.Pairs.{Reach};
+ghost use Rattle.feature_edges.specs.Pairs.{Reach};
 
-use guppy_packages::PackageGraph;
+use feature_edges::PackageGraph;
 
 /// States that each built edge is the edge of its pair by the tables, and that a pair has one edge.
 pub fn edges_say(graph: &PackageGraph)

@@ -3,14 +3,13 @@
 
 ghost use Rattle.digraph_orders.specs.Laws.{ComponentsFollowEdges, CyclesAreMutual, FirmEdgesFollow};
 ghost use Rattle.std.specs.Prelude.{◌≡◌, ◌↔◌, ℕ, IsTrue};
-ghost use Rattle.feature_core.specs.Candidates.{Edge, Candidate, IsEdge, rank_of};
+ghost use Rattle.feature_edges.specs.Candidates.{Edge, Candidate, IsEdge, rank_of};
 ghost use Rattle.feature_core.specs.Built.{Built, IsBuilt};
 ghost use Rattle.feature_core.specs.Present.{ArePresent};
-ghost use Rattle.feature_core.specs.Warnings.{warning_of};
+ghost use Rattle.feature_edges.specs.Warnings.{warning_of};
 
-use crate::warning::FeatureGraphWarning;
 use digraph_orders::laws::{components_follow_edges, cycles_are_mutual, firm_edges_follow};
-use guppy_packages::PackageGraph;
+use feature_edges::{FeatureGraphWarning, PackageGraph};
 pub use walk_checks::laws::{exact_is_least, explained_in_least, run_is_exact, walk_is_exact};
 pub use walk_engine::laws::{
     agrees_by_answer, least_monotone, one_result, reach_additive, reach_both_ways,

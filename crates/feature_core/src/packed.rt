@@ -3,21 +3,19 @@ ghost use Rattle.std.specs.Prelude.{◌≡◌, ◌+◌, ◌^◌, ◌<◌, Some, 
 ghost use Rattle.std.specs.Option.{option_map};
 ghost use Rattle.walk_engine.specs.Walks.{starting, told};
 ghost use Rattle.feature_core.specs.Built.{built_edges};
-ghost use Rattle.feature_core.specs.Choices.{is_chosen};
+ghost use Rattle.feature_edges.specs.Choices.{is_chosen};
 ghost use Rattle.feature_core.specs.Ways.{asked, content, waits, Reading};
 ghost use Rattle.feature_core.specs.inner.Asking.{ask_in, gate_in, held, IsTied, IsOrdered, released_place};
 ghost use Rattle.feature_core.specs.inner.ChosenWays.{ask_where, chosen_content};
 ghost use Rattle.feature_core.specs.inner.OpenWays.{open_way, open_ways};
 ghost use Rattle.feature_core.specs.inner.Releases.{AreTied};
-ghost use Rattle.feature_links.specs.Values.{edge_facts};
+ghost use Rattle.feature_edges.specs.feature_links.Values.{edge_facts};
 ghost use Rattle.walk_checks.specs.Tables.{Tells};
 
-use crate::edge_list::EdgeList;
 use crate::engine::{Ask, EdgeSource, Taken};
 use crate::feature_graph_data::FeatureGraphData;
 use crate::gates::{gate_of, released_at};
-use feature_links::{EdgeChoice, FeatureEdge, SlashForm};
-use guppy_packages::DependencyDirection;
+use feature_edges::{DependencyDirection, EdgeChoice, EdgeList, FeatureEdge, SlashForm};
 use guppy_support::{Digraph, Edge};
 use indexmap::IndexMap;
 use std::marker::Model;

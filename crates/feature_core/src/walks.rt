@@ -1,19 +1,18 @@
 //! Walks over the edges of a feature graph.
 ghost use Rattle.std.specs.Prelude.{◌≡◌, ◌↔◌, ℕ, IfOk, IfErr, OnErr, IsTrue, length};
 ghost use Rattle.guppy_support.specs.Bits.{has};
-ghost use Rattle.guppy_packages.specs.Tables.{Tables};
+ghost use Rattle.feature_edges.specs.guppy_packages.Tables.{Tables};
 ghost use Rattle.feature_core.specs.Built.{IsBuilt};
-ghost use Rattle.feature_core.specs.Choices.{ChosenReach, chosen_pairs};
-ghost use Rattle.feature_links.specs.declared.edge.EdgeChoice.TheVariants.{All};
-ghost use Rattle.feature_core.specs.Pairs.{PairLeads, Reach, ReachAlong};
+ghost use Rattle.feature_edges.specs.Choices.{ChosenReach, chosen_pairs};
+ghost use Rattle.feature_edges.specs.feature_links.declared.edge.EdgeChoice.TheVariants.{All};
+ghost use Rattle.feature_edges.specs.Pairs.{PairLeads, Reach, ReachAlong};
 ghost use Rattle.walk_engine.specs.Walks.{IsWalk, LegalRun, MayAsk};
 ghost use Rattle.feature_core.specs.Ways.{content};
 
 use crate::error::Error;
 use crate::feature_graph_data::FeatureGraphData;
 use crate::packed::Packed;
-use feature_links::EdgeChoice;
-use guppy_packages::DependencyDirection;
+use feature_edges::{DependencyDirection, EdgeChoice};
 use guppy_support::IxBitSet;
 use std::alloc::Global;
 use walk_engine::{Offerer, Walk, walk_over};

@@ -2,15 +2,15 @@
 use Rattle.std.specs.Prelude.{◌≡◌, ℕ, List, Option, None, map, length, slice_get, AllPairs}
 use Rattle.std.specs.Option.{option_map_or}
 use Rattle.guppy_support.specs.Graph.{Graph}
-use Rattle.guppy_packages.specs.declared.direction.DependencyDirection.{DependencyDirection}
-use Rattle.guppy_packages.specs.declared.direction.DependencyDirection.TheVariants.{Forward, Reverse}
+use Rattle.feature_edges.specs.guppy_packages.declared.direction.DependencyDirection.{DependencyDirection}
+use Rattle.feature_edges.specs.guppy_packages.declared.direction.DependencyDirection.TheVariants.{Forward, Reverse}
 use Rattle.walk_engine.specs.declared.walks.Ask.{Ask}
 use Rattle.walk_engine.specs.Walks.{Way, Content}
 use Rattle.feature_core.specs.declared.packed.Asking.{Asking}
 use Rattle.feature_core.specs.declared.packed.Asking.TheVariants.{Offers, Chosen}
-use Rattle.feature_links.specs.Facts.{EdgeFacts}
-use Rattle.feature_core.specs.Pairs.{IsBefore}
-use Rattle.feature_core.specs.Choices.{is_chosen}
+use Rattle.feature_edges.specs.feature_links.Facts.{EdgeFacts}
+use Rattle.feature_edges.specs.Pairs.{IsBefore}
+use Rattle.feature_edges.specs.Choices.{is_chosen}
 use Rattle.feature_core.specs.inner.ChosenWays.{ask_where}
 use Rattle.feature_core.specs.Ways.{asked, gate_of, start_of, far_of}
 use Rattle.feature_core.specs.inner.Releases.{AreTied, released_by}

@@ -1,11 +1,11 @@
 -- Chosen edges as unconditional ways, and the other edges as offered ways.
 use Rattle.std.specs.Prelude.{ℕ, List, Bool, true, false, map}
-use Rattle.guppy_packages.specs.declared.direction.DependencyDirection.{DependencyDirection}
-use Rattle.feature_links.specs.declared.edge.EdgeChoice.{EdgeChoice}
+use Rattle.feature_edges.specs.guppy_packages.declared.direction.DependencyDirection.{DependencyDirection}
+use Rattle.feature_edges.specs.feature_links.declared.edge.EdgeChoice.{EdgeChoice}
 use Rattle.walk_engine.specs.declared.walks.Ask.{Ask}
 use Rattle.walk_engine.specs.declared.walks.Ask.TheVariants.{Nobody, Full}
-use Rattle.feature_links.specs.Facts.{EdgeFacts}
-use Rattle.feature_core.specs.Choices.{is_chosen}
+use Rattle.feature_edges.specs.feature_links.Facts.{EdgeFacts}
+use Rattle.feature_edges.specs.Choices.{is_chosen}
 use Rattle.walk_engine.specs.Walks.{Way, Content}
 use Rattle.feature_core.specs.Ways.{start_of, far_of}
 

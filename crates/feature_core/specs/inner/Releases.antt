@@ -2,8 +2,8 @@
 use Rattle.std.specs.Prelude.{◌≡◌, ℕ, ◌<◌, ◌≤◌, ◌+◌, ◌==◌, ◌⊎◌, ◌↔◌, List, [], ◌∷◌, ◌++◌, Some, map, filter, length, slice_get, slice_index_or, AllPairs, Contains}
 use Rattle.std.specs.Option.{option_map_or}
 use Rattle.guppy_support.specs.Graph.{Graph}
-use Rattle.feature_links.specs.Facts.{EdgeFacts}
-use Rattle.feature_core.specs.Pairs.{IsBefore}
+use Rattle.feature_edges.specs.feature_links.Facts.{EdgeFacts}
+use Rattle.feature_edges.specs.Pairs.{IsBefore}
 use Rattle.feature_core.specs.Ways.{gate_of, GatesAreNodes}
 
 -- `released` has the gate and the number of each weak edge, ascending.

@@ -1,6 +1,6 @@
 use Rattle.std.proofs.Common.{◌≡◌, ℕ, List, ap, sym, subst}
 use Rattle.guppy_support.specs.Bits.{has}
-use Rattle.feature_links.specs.Facts.{EdgeFacts}
+use Rattle.feature_edges.specs.feature_links.Facts.{EdgeFacts}
 use Rattle.walk_engine.specs.Walks.{Content, Reach, was_accepted}
 use Rattle.feature_core.specs.Built.{built_edges}
 use Rattle.feature_core.specs.Ways.{Reading}

@@ -2,7 +2,7 @@ use Rattle.std.proofs.Common.{◌∙◌, ◌<◌, ◌≤◌, ◌+◌, ◌↔◌,
 use Rattle.std.specs.Prelude.{IsTrue}
 use Rattle.std.proofs.lemmas.List.{length-replicate, length-set}
 use Rattle.guppy_support.specs.Bits.{has}
-use Rattle.feature_core.specs.Nodes.{node_packages}
+use Rattle.feature_edges.specs.Nodes.{node_packages}
 use Rattle.feature_core.proofs.DefaultLemmas.{Starts, start_below, none_start, next_start, all_starts}
 use Rattle.feature_core.proofs.defaults.default_features.Goals as goal
 

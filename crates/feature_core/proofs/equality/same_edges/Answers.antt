@@ -1,6 +1,6 @@
 use Rattle.std.proofs.Common.{arith}
-use Rattle.feature_links.specs.Values.{edge_facts}
-use Rattle.feature_core.proofs.SameLists.{yes, no, is_so, is_not, same_next, plain_all, plain_apart}
+use Rattle.feature_edges.specs.feature_links.Values.{edge_facts}
+use Rattle.feature_edges.proofs.SameLists.{yes, no, is_so, is_not, same_next, plain_all, plain_apart}
 use Rattle.feature_core.proofs.equality.same_edges.Goals as goal
 
 pub returns-then-not-same_edge : goal.returns-then-not-same_edge

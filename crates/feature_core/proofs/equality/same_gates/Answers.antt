@@ -1,5 +1,5 @@
 use Rattle.std.proofs.Common.{arith}
-use Rattle.feature_core.proofs.SameLists.{yes, no, is_so, is_not, same_next, plain_all, plain_apart}
+use Rattle.feature_edges.proofs.SameLists.{yes, no, is_so, is_not, same_next, plain_all, plain_apart}
 use Rattle.feature_core.proofs.equality.same_gates.Goals as goal
 
 pub returns-then-not-same_gate : goal.returns-then-not-same_gate

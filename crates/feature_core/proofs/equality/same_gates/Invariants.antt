@@ -1,4 +1,4 @@
-use Rattle.feature_core.proofs.SameLists.{AreSame}
+use Rattle.feature_edges.proofs.SameLists.{AreSame}
 use Rattle.feature_core.proofs.equality.same_gates.Given as goal
 
 abbrev pub invariant-loop-ix : goal.invariant-loop-ix

@@ -1,5 +1,5 @@
 use Rattle.std.proofs.Common.{arith, ℕ}
-use Rattle.feature_core.proofs.SameLists.{yes, no, is_so, is_not, same_next, same_all, apart_at}
+use Rattle.feature_edges.proofs.SameLists.{yes, no, is_so, is_not, same_next, same_all, apart_at}
 use Rattle.feature_core.proofs.equality.same_pairs.Goals as goal
 
 pub returns-then-not-same_ends : goal.returns-then-not-same_ends

@@ -1,5 +1,5 @@
 use Rattle.std.proofs.Common.{ℕ}
-use Rattle.feature_core.proofs.SameLists.{AreSame}
+use Rattle.feature_edges.proofs.SameLists.{AreSame}
 use Rattle.feature_core.proofs.equality.same_pairs.Given as goal
 
 abbrev pub invariant-loop-ix : goal.invariant-loop-ix

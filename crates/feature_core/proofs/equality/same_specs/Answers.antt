@@ -1,6 +1,6 @@
 use Rattle.std.proofs.Common.{arith}
-use Rattle.guppy_packages.specs.Platform.{spec_text}
-use Rattle.feature_core.proofs.SameLists.{yes, no, is_so, is_not, read, same_next, same_all, apart_at}
+use Rattle.feature_edges.specs.guppy_packages.Platform.{spec_text}
+use Rattle.feature_edges.proofs.SameLists.{yes, no, is_so, is_not, read, same_next, same_all, apart_at}
 use Rattle.feature_core.proofs.equality.same_specs.Goals as goal
 
 pub returns-then-not-same_spec : goal.returns-then-not-same_spec

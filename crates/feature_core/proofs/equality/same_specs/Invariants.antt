@@ -1,5 +1,5 @@
-use Rattle.guppy_packages.specs.Platform.{spec_text}
-use Rattle.feature_core.proofs.SameLists.{AreSame}
+use Rattle.feature_edges.specs.guppy_packages.Platform.{spec_text}
+use Rattle.feature_edges.proofs.SameLists.{AreSame}
 use Rattle.feature_core.proofs.equality.same_specs.Given as goal
 
 abbrev pub invariant-loop-ix : goal.invariant-loop-ix

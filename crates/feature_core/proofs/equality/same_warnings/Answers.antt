@@ -1,6 +1,6 @@
 use Rattle.std.proofs.Common.{arith}
-use Rattle.feature_core.specs.Warnings.{warning_of}
-use Rattle.feature_core.proofs.SameLists.{yes, no, is_so, is_not, read, same_next, same_all, apart_at}
+use Rattle.feature_edges.specs.Warnings.{warning_of}
+use Rattle.feature_edges.proofs.SameLists.{yes, no, is_so, is_not, read, same_next, same_all, apart_at}
 use Rattle.feature_core.proofs.equality.same_warnings.Goals as goal
 
 pub returns-then-not-warning_equality : goal.returns-then-not-warning_equality

@@ -1,12 +1,12 @@
 use Rattle.std.proofs.Common.{◌≡◌, ◌∙◌, ap, sym, subst, length}
-use Rattle.feature_core.specs.Nodes.{node_packages}
+use Rattle.feature_edges.specs.Nodes.{node_packages}
 use Rattle.feature_core.proofs.PackedLemmas.{built_gates}
 use Rattle.feature_core.specs.Built.{pairs_of, ends_of, built_edges}
-use Rattle.feature_core.specs.Edges.{AreBuilt}
+use Rattle.feature_edges.specs.Edges.{AreBuilt}
 use Rattle.feature_core.specs.Defaults.{AreDefaults}
-use Rattle.feature_core.specs.Pairs.{IsPairList}
-use Rattle.feature_core.specs.Warnings.{warnings}
-use Rattle.feature_core.proofs.BuildLemmas.{built_ends}
+use Rattle.feature_edges.specs.Pairs.{IsPairList}
+use Rattle.feature_edges.specs.Warnings.{warnings}
+use Rattle.feature_edges.proofs.BuildLemmas.{built_ends}
 use Rattle.feature_core.proofs.feature_graph_data.built.Goals as goal
 
 pub returns-clause-built : goal.returns-clause-built

@@ -1,7 +1,7 @@
 use Rattle.std.proofs.Common.{sym, subst, ℕ, ◌≡◌, Option, Some}
 use Rattle.std.specs.Prelude.{◌↔◌}
-use Rattle.feature_labels.specs.Names.{label_of}
-use Rattle.feature_core.specs.Nodes.{NodeAt}
+use Rattle.feature_edges.specs.feature_labels.Names.{label_of}
+use Rattle.feature_edges.specs.Nodes.{NodeAt}
 use Rattle.feature_core.proofs.NameLemmas.{base_found}
 use Rattle.feature_core.proofs.feature_graph_data.number_of.Goals as goal
 

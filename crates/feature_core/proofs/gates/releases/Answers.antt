@@ -1,6 +1,6 @@
 use Rattle.std.proofs.Common.{arith}
-use Rattle.feature_links.specs.Values.{edge_facts}
-use Rattle.feature_core.proofs.ListSteps.{split_more, split_all}
+use Rattle.feature_edges.specs.feature_links.Values.{edge_facts}
+use Rattle.feature_core.proofs.ReleaseSteps.{split_more, split_all}
 use Rattle.feature_core.proofs.gates.releases.Goals as goal
 
 pub loop-number-preserved : goal.loop-number-preserved

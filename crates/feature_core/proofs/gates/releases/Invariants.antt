@@ -1,4 +1,4 @@
-use Rattle.feature_core.proofs.ListSteps.{AreSplit}
+use Rattle.feature_core.proofs.ReleaseSteps.{AreSplit}
 use Rattle.feature_core.proofs.gates.releases.Given as goal
 
 abbrev pub invariant-loop-number : goal.invariant-loop-number

@@ -1,4 +1,4 @@
-use Rattle.feature_core.proofs.Ranks.{same_rank, one_edge}
+use Rattle.feature_edges.proofs.Ranks.{same_rank, one_edge}
 use Rattle.feature_core.proofs.laws.one_candidate.Goals as goal
 
 pub returns-clause-of_rank : goal.returns-clause-of_rank

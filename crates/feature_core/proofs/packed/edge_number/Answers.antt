@@ -1,6 +1,6 @@
 use Rattle.std.proofs.Common.{◌≡◌, ◌+◌, Some, None, sym, ◌∙◌, ap, subst, arith}
 use Rattle.std.specs.Prelude.{slice_get}
-use Rattle.guppy_packages.specs.declared.direction.DependencyDirection.{DependencyDirection}
+use Rattle.feature_edges.specs.guppy_packages.declared.direction.DependencyDirection.{DependencyDirection}
 use Rattle.walk_engine.specs.Walks.{starting}
 use Rattle.feature_core.specs.inner.OpenWays.{open_ways}
 use Rattle.feature_core.proofs.OpenWayLemmas.{reverse_numbers, out_place, out_past}

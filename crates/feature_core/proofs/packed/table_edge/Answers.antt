@@ -1,9 +1,9 @@
 use Rattle.std.proofs.Common.{◌≡◌, ◌∙◌, ap}
 use Rattle.std.specs.Option.{option_map}
 use Rattle.feature_core.specs.inner.Asking.{ask_in}
-use Rattle.feature_links.specs.Values.{edge_facts}
+use Rattle.feature_edges.specs.feature_links.Values.{edge_facts}
 use Rattle.feature_core.proofs.AskingLemmas.{tells_held}
-use Rattle.feature_core.proofs.Places.{got_same}
+use Rattle.feature_edges.proofs.Places.{got_same}
 use Rattle.feature_core.proofs.packed.table_edge.Goals as goal
 
 pub returns : goal.returns

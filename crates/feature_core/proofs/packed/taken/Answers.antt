@@ -4,10 +4,10 @@ use Rattle.std.specs.Option.{option_map}
 use Rattle.std.proofs.lemmas.Option.{slice_get-get_or}
 use Rattle.walk_engine.specs.declared.walks.Ask.{Ask}
 use Rattle.walk_engine.specs.declared.walks.Taken.{Taken}
-use Rattle.feature_links.specs.Facts.{EdgeFacts, base_edge}
+use Rattle.feature_edges.specs.feature_links.Facts.{EdgeFacts, base_edge}
 use Rattle.feature_core.specs.inner.Asking.{ask_in}
 use Rattle.feature_core.proofs.AskingLemmas.{told_held}
-use Rattle.feature_core.proofs.Places.{got_same}
+use Rattle.feature_edges.proofs.Places.{got_same}
 use Rattle.feature_core.proofs.packed.taken.Goals as goal
 
 pub returns : goal.returns

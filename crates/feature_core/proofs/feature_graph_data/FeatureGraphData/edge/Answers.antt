@@ -1,8 +1,8 @@
 use Rattle.std.proofs.Common.{◌≡◌, ◌∙◌, ap, sym, length, arith}
 use Rattle.std.specs.Prelude.{slice_get}
 use Rattle.feature_core.specs.Built.{built_edges}
-use Rattle.feature_links.specs.Values.{edge_facts}
-use Rattle.feature_core.proofs.BuildLemmas.{built_at, built_long}
+use Rattle.feature_edges.specs.feature_links.Values.{edge_facts}
+use Rattle.feature_edges.proofs.BuildLemmas.{built_at, built_long}
 use Rattle.feature_core.proofs.feature_graph_data.FeatureGraphData.edge.Goals as goal
 
 pub get-requires : goal.get-requires

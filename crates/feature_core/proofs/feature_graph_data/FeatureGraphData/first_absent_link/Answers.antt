@@ -1,5 +1,5 @@
 use Rattle.std.proofs.Common.{◌∙◌, ap, sym, not}
-use Rattle.feature_links.specs.Facts.{has_present_link}
+use Rattle.feature_edges.specs.feature_links.Facts.{has_present_link}
 use Rattle.feature_core.proofs.Present.{position_built}
 use Rattle.feature_core.proofs.feature_graph_data.FeatureGraphData.first_absent_link.Goals as goal
 

@@ -1,11 +1,11 @@
 use Rattle.std.proofs.Common.{◌≡◌, ◌∙◌, sym, ap, subst}
 use Rattle.std.specs.Prelude.{slice_index}
-use Rattle.guppy_packages.specs.Metadata.{package_table_of}
-use Rattle.feature_labels.specs.Names.{label_of, id_of}
-use Rattle.feature_core.specs.Nodes.{NodeAt}
+use Rattle.feature_edges.specs.guppy_packages.Metadata.{package_table_of}
+use Rattle.feature_edges.specs.feature_labels.Names.{label_of, id_of}
+use Rattle.feature_edges.specs.Nodes.{NodeAt}
 use Rattle.feature_core.specs.Built.{NodeNamed}
 use Rattle.feature_core.proofs.NameLemmas.{node_name}
-use Rattle.feature_core.proofs.NodeLabels.{in_package, index_there}
+use Rattle.feature_edges.proofs.NodeLabels.{in_package, index_there}
 use Rattle.feature_core.proofs.feature_graph_data.FeatureGraphData.id.Goals as goal
 
 pub package-metadata-requires : goal.package-metadata-requires

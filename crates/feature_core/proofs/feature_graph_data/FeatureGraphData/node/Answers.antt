@@ -1,5 +1,5 @@
 use Rattle.std.proofs.Common.{◌≡◌, Option, Some, ℕ}
-use Rattle.feature_labels.specs.Names.{label_of, id_of}
+use Rattle.feature_edges.specs.feature_labels.Names.{label_of, id_of}
 use Rattle.feature_core.proofs.NameLemmas.{numbered_name, no_number}
 use Rattle.feature_core.proofs.feature_graph_data.FeatureGraphData.node.Goals as goal
 

@@ -2,8 +2,8 @@ use Rattle.std.proofs.Common.{◌≡◌, ap, subst}
 use Rattle.std.specs.Prelude.{◌↔◌, IsTrue}
 use Rattle.guppy_support.specs.Bits.{has}
 use Rattle.feature_core.specs.Built.{built_edges}
-use Rattle.feature_core.specs.Choices.{chosen_pairs}
-use Rattle.feature_core.specs.Pairs.{PairLeads, ReachAlong}
+use Rattle.feature_edges.specs.Choices.{chosen_pairs}
+use Rattle.feature_edges.specs.Pairs.{PairLeads, ReachAlong}
 use Rattle.std.proofs.lemmas.Result.{IfOk-weaker}
 use Rattle.feature_core.proofs.feature_graph_data.FeatureGraphData.reach.Goals as goal
 
