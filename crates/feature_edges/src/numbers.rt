@@ -164,10 +164,7 @@ pub fn numbers_in<'a>(graph: &'a PackageGraph, table: &'a NodeTable) -> Numbers<
 }
 
 /// Returns the node of the feature `default` of each package, or `None` if it has none.
-pub fn default_nodes(
-    alloc: Global,
-    numbers: Numbers<'_>,
-) -> Result<Vec<Option<usize>>, AllocError>
+pub fn default_nodes(alloc: Global, numbers: Numbers<'_>) -> Result<Vec<Option<usize>>, AllocError>
     ensures { IfOk result (λ nodes. AreDefaultNodes numbers.entry.graph.now nodes.items) }
 {
     let count = numbers.graph.package_count();
