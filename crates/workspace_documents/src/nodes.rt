@@ -27,21 +27,12 @@ pub struct Dep<'p, 'v> {
 }
 
 /// The node of one package in Cargo's resolution.
+#[derive(Drop)]
 pub struct Node<'p, 'v> {
     /// The enabled features.
     pub features: Vec<&'v str>,
     /// The packages that it uses.
     pub deps: Vec<Dep<'p, 'v>>,
-}
-
-impl Drop for Node<'_, '_> {
-    // Written out, so that a crate above calls it. A derived drop is proved in each crate that drops a value, with those of all fields.
-    fn drop(self) {
-        let Node {
-            features: _features,
-            deps: _deps,
-        } = self;
-    }
 }
 
 impl Node<'_, '_> {
