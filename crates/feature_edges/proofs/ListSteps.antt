@@ -1,5 +1,5 @@
 -- Lists traversed by number.
-use Rattle.std.proofs.Common.{◌≡◌, ℕ, ◌+◌, ◌≤◌, List, [], ◌∷◌, ◌++◌, length, map, drop, Bool, true, false, cond, Option, None, Some, ap, sym, ◌∙◌, append_assoc, append-nil}
+use Rattle.std.proofs.Common.{◌≡◌, ℕ, ◌+◌, ◌≤◌, List, [], ◌∷◌, ◌++◌, length, map, drop, Bool, true, false, cond, None, Some, ap, sym, ◌∙◌, append_assoc, append-nil}
 use Rattle.std.specs.Prelude.{position, slice_get}
 use Rattle.std.specs.List.{position_from, zip}
 use Rattle.std.proofs.lemmas.Iterator.Adapters.{position_from-zero}
