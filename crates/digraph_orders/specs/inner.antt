@@ -8,4 +8,3 @@ pub mod Numbering
 pub mod Plans
 pub mod Queues
 pub mod Ranks
-pub mod Widths

@@ -1,16 +1,12 @@
 //! Components of a digraph, found in one depth-first walk.
 ghost use Rattle.std.specs.Prelude.{ℕ, ◌<◌, IfOk, slice_index};
 ghost use Rattle.digraph_orders.specs.inner.Ranks.{IsRanking};
-ghost use Rattle.digraph_orders.specs.inner.Widths.{IsNarrow};
 
 mod walk;
 
 use guppy_support::Digraph;
 use std::alloc::{AllocError, Global};
 use walk::{lowered, walked};
-
-/// The most nodes for which twice the number of nodes fits in 32 bits.
-const MOST_NODES: usize = 2147483647;
 
 /// The components as ranks.
 #[derive(Drop)]
@@ -20,18 +16,14 @@ pub(crate) struct Ranked {
     pub(crate) count: usize,
 }
 
-/// Returns the rank of each node's component; ranks never fall along an edge. Returns `AllocError` if an
-/// allocation fails or there are more than 2147483647 nodes.
+/// Returns the rank of each node's component; ranks never fall along an edge.
 pub(crate) fn component_ranks(alloc: Global, graph: &Digraph) -> Result<Ranked, AllocError>
-    requires narrow { IsNarrow graph.now }
     ensures ranking { IfOk result (λ r. IsRanking graph.now r.ranks.items) }
     ensures small { IfOk result (λ r. (v : ℕ) → v < graph.now.nodes → slice_index r.ranks.items v < graph.now.nodes) }
 {
     graph.facts();
+    graph.bounds();
     let nodes = graph.node_count();
-    if nodes > MOST_NODES {
-        return Err(AllocError);
-    }
     let walk = walked(alloc, graph)?;
     let count = 2 * nodes - walk.rank as usize;
     let ranks = lowered(walk.marks, nodes as u32 + 1);

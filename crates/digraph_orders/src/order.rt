@@ -64,16 +64,12 @@ impl Model for Order {
 
 impl Order {
     /// Computes the order and the components of `graph`. Each next node is the least-numbered one that is
-    /// available. Returns `AllocError` if an allocation fails, or if there are more than 2147483647 nodes or
-    /// 4294967295 edges.
+    /// available. An allocation's failure is the only error.
     pub fn new(alloc: Global, graph: &Digraph) -> Result<Order, AllocError>
         ensures { IfOk result (IsOrderOf graph.now) }
     {
-        let most = u32::MAX as usize;
-        if graph.node_count() > most || graph.edge_count() > most {
-            return Err(AllocError);
-        }
         graph.facts();
+        graph.bounds();
         let ranked = component_ranks(alloc, graph)?;
         let ranks = ranked.ranks;
         let list = listed(alloc, graph, &ranks)?;

@@ -2,5 +2,4 @@ pub mod Lines
 pub mod Objects
 pub mod Shown
 pub mod Views
-pub use Rattle.plan_joins.specs as plan_joins
 pub use Rattle.plan_duplicates.specs as plan_duplicates

@@ -10,8 +10,8 @@ use Rattle.plan_duplicates.specs.Duplicates.{DuplicatesText}
 use Rattle.plan_duplicates.specs.MemberPlans.{MemberPlanText, OutcomeText, built, not_planned}
 use Rattle.plan_duplicates.specs.Places.{PlacesText}
 use Rattle.plan_duplicates.specs.Versions.{VersionsText}
-use Rattle.plan_joins.specs.Disagreements.{DisagreementText, is_agreed}
-use Rattle.plan_joins.specs.Features.{is_from_default_registry, joined_features}
+use Rattle.plan_duplicates.specs.Disagreements.{DisagreementText, is_agreed}
+use Rattle.plan_duplicates.specs.Features.{is_from_default_registry, joined_features}
 
 -- A line: one of several versions of a package; a package in one of several places, with its features there; a package for a place in
 -- the plan of a member alone, with its features; its features in all these plans together, and whether the members agree once they have

@@ -2,15 +2,16 @@
 ghost use Rattle.std.specs.Prelude.{◌≡◌, ◌++◌, OnOk, map, flat_map};
 ghost use Rattle.cargo_workspaces.specs.Views.{package_text, texts};
 ghost use Rattle.plan_duplicates.specs.Views.{alone_text, member_unit_text};
-ghost use Rattle.plan_joins.specs.Views.{disagreement_text};
+ghost use Rattle.plan_duplicates.specs.DisagreementViews.{disagreement_text};
 ghost use Rattle.duplicate_lines.specs.Shown as spec;
 ghost use Rattle.duplicate_lines.specs.Views.{shown_text};
 
 use crate::place_names::place_name;
 use crate::shown::{Shown, package_at, push_shown};
 use cargo_workspaces::Package;
-use plan_duplicates::{Alone, MemberUnit};
-use plan_joins::{Disagreement, is_agreed, is_from_default_registry, joined_features};
+use plan_duplicates::{
+    Alone, Disagreement, MemberUnit, is_agreed, is_from_default_registry, joined_features,
+};
 use std::alloc::{AllocError, Global};
 
 /// Appends the line of `package`, as `row` builds it for `place`.

@@ -3,7 +3,7 @@ ghost use Rattle.std.specs.Prelude.{◌≡◌, ◌++◌, IfOk, map};
 ghost use Rattle.cargo_workspaces.specs.Views.{package_text, texts};
 ghost use Rattle.plan_duplicates.specs.DuplicatesView.{duplicates_text};
 ghost use Rattle.plan_duplicates.specs.Views.{member_plan_text};
-ghost use Rattle.plan_joins.specs.Views.{disagreement_text};
+ghost use Rattle.plan_duplicates.specs.DisagreementViews.{disagreement_text};
 ghost use Rattle.duplicate_lines.specs.Shown as spec;
 ghost use Rattle.duplicate_lines.specs.Views.{shown_text};
 
@@ -11,8 +11,7 @@ use crate::alone::push_alone;
 use crate::listed::{push_places, push_refusals, push_versions};
 use crate::shown::Shown;
 use cargo_workspaces::Package;
-use plan_duplicates::{Duplicates, MemberPlan};
-use plan_joins::Disagreement;
+use plan_duplicates::{Disagreement, Duplicates, MemberPlan};
 use std::alloc::{AllocError, Global};
 
 /// Returns a line for each package in `found`, and for each of `plans` that isn't a plan: versions, places, what single members get,

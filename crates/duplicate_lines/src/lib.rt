@@ -13,7 +13,8 @@ mod table;
 
 pub use gathered::all_shown;
 pub use objects::duplicate_objects;
-pub use plan_duplicates::{Duplicates, MemberPlan, duplicates_of, plans_alone};
-pub use plan_joins::{Disagreement, disagreements_of};
+pub use plan_duplicates::{
+    Disagreement, Duplicates, MemberPlan, disagreements_of, duplicates_of, plans_alone,
+};
 pub use shown::Shown;
 pub use table::duplicate_lines;

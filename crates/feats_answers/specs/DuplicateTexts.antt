@@ -10,7 +10,7 @@ use Rattle.feats_words.specs.declared.command_arguments.Format.{Format}
 use Rattle.feats_words.specs.declared.command_arguments.Format.TheVariants as format
 use Rattle.duplicate_lines.specs.plan_duplicates.Duplicates.{AreDuplicates, DuplicatesText}
 use Rattle.duplicate_lines.specs.plan_duplicates.MemberPlans.{ArePlansAlone, MemberPlanText}
-use Rattle.duplicate_lines.specs.plan_joins.Disagreements.{AreDisagreements, DisagreementText}
+use Rattle.duplicate_lines.specs.plan_duplicates.Disagreements.{AreDisagreements, DisagreementText}
 use Rattle.cargo_plans.specs.plan_steps.Plans.{PlanText}
 use Rattle.cargo_plans.specs.plan_units.Units.{UnitText}
 use Rattle.feats_answers.specs.PlanTexts.{target_names}

@@ -9,7 +9,7 @@ ghost use Rattle.feats_files.specs.FileViews.{file_text};
 ghost use Rattle.duplicate_lines.specs.plan_duplicates.DuplicatesView.{duplicates_text as found_text};
 ghost use Rattle.duplicate_lines.specs.plan_duplicates.MemberPlans.{ArePlansAlone};
 ghost use Rattle.duplicate_lines.specs.plan_duplicates.Views.{member_plan_text};
-ghost use Rattle.duplicate_lines.specs.plan_joins.Views.{disagreement_text};
+ghost use Rattle.duplicate_lines.specs.plan_duplicates.DisagreementViews.{disagreement_text};
 ghost use Rattle.plan_platforms.specs.HeldSpecs.{holds_on};
 ghost use Rattle.cargo_plans.specs.plan_steps.PlanViews.{plan_text};
 ghost use Rattle.cargo_plans.specs.plan_units.UnitViews.{unit_text};

@@ -34,12 +34,15 @@ abbrev pub platform_rules : List Rule
 platform_rules =
     required_rule (codes "host") ∷ repeated_rule (codes "target") ∷ option_rule (codes "resolver") ∷ option_rule (codes "manifest") ∷ []
 
--- The options that select packages and features.
+-- The options that select features.
+abbrev pub feature_rules : List Rule
+feature_rules = lettered_rule (codes "features") 70 ∷ flag_rule (codes "all-features") ∷ flag_rule (codes "no-default-features") ∷ []
+
+-- The options that select packages and features, and the form of the answer.
 abbrev pub selection_rules : List Rule
 selection_rules =
-    lettered_rule (codes "package") 112 ∷ flag_rule (codes "workspace")
-    ∷ lettered_rule (codes "features") 70 ∷ flag_rule (codes "all-features") ∷ flag_rule (codes "no-default-features")
-    ∷ flag_rule (codes "tests") ∷ option_rule (codes "format") ∷ []
+    (lettered_rule (codes "package") 112 ∷ flag_rule (codes "workspace") ∷ []) ++ feature_rules
+    ++ (flag_rule (codes "tests") ∷ option_rule (codes "format") ∷ [])
 
 -- A command about a document, with words of its own.
 abbrev pub command_shape : Text → List Rule → Shape

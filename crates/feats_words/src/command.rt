@@ -70,24 +70,10 @@ fn with_platforms<'a>(alloc: Global, command: Made<'a>) -> Made<'a>
     )
 }
 
-/// Adds the options that select packages and features.
-fn with_selection<'a>(alloc: Global, command: Made<'a>) -> Made<'a>
-    ensures { (app : App) → IfOk command.entry (λ c. IsMade c app) → IfOk result (λ r. IsMade r (with_rules app spec.selection_rules)) }
+/// Adds the options that select features.
+fn with_features<'a>(alloc: Global, command: Made<'a>) -> Made<'a>
+    ensures { (app : App) → IfOk command.entry (λ c. IsMade c app) → IfOk result (λ r. IsMade r (with_rules app spec.feature_rules)) }
 {
-    let command = with_arg(
-        command,
-        lettered(
-            alloc,
-            "package",
-            'p',
-            "SPEC",
-            "A package to build: NAME, NAME@VERSION or an id; without it and --workspace the default members",
-        ),
-    );
-    let command = with_arg(
-        command,
-        flag(alloc, "workspace", "Build all members of the workspace"),
-    );
     let command = with_arg(
         command,
         lettered(
@@ -106,14 +92,35 @@ fn with_selection<'a>(alloc: Global, command: Made<'a>) -> Made<'a>
             "Turn on all features of the selected packages",
         ),
     );
-    let command = with_arg(
+    with_arg(
         command,
         flag(
             alloc,
             "no-default-features",
             "Don't turn on the default features of the selected packages",
         ),
+    )
+}
+
+/// Adds the options that select packages and features, and the form of the answer.
+fn with_selection<'a>(alloc: Global, command: Made<'a>) -> Made<'a>
+    ensures { (app : App) → IfOk command.entry (λ c. IsMade c app) → IfOk result (λ r. IsMade r (with_rules app spec.selection_rules)) }
+{
+    let command = with_arg(
+        command,
+        lettered(
+            alloc,
+            "package",
+            'p',
+            "SPEC",
+            "A package to build: NAME, NAME@VERSION or an id; without it and --workspace the default members",
+        ),
     );
+    let command = with_arg(
+        command,
+        flag(alloc, "workspace", "Build all members of the workspace"),
+    );
+    let command = with_features(alloc, command);
     let command = with_arg(command, flag(alloc, "tests", "Build the tests too"));
     with_arg(
         command,

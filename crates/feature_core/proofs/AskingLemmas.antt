@@ -12,8 +12,8 @@ use Rattle.walk_engine.specs.declared.walks.Taken.{Taken}
 use Rattle.walk_engine.specs.Walks.{Way, EndsAreNodes, numbers_where, starting, releasing, told, taken_of, is_gated}
 use Rattle.walk_checks.specs.Tables.{Tells}
 use Rattle.walk_checks.specs.declared.table.TableEdge.{TableEdge}
-use Rattle.feature_core.specs.declared.packed.Asking.{Asking}
-use Rattle.feature_core.specs.declared.packed.Asking.TheVariants.{Offers, Chosen}
+use Rattle.feature_core.specs.declared.directed_edges.Asking.{Asking}
+use Rattle.feature_core.specs.declared.directed_edges.Asking.TheVariants.{Offers, Chosen}
 use Rattle.feature_edges.specs.feature_links.Facts.{EdgeFacts}
 use Rattle.feature_core.specs.Built.{built_edges}
 use Rattle.feature_core.specs.inner.Asking.{ask_in, gate_in, way_in, held, IsTied, IsOrdered, released_place}

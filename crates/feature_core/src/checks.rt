@@ -9,9 +9,9 @@ ghost use Rattle.walk_checks.specs.Exact.{IsExact};
 ghost use Rattle.walk_checks.specs.Whys.{IsWhy};
 ghost use Rattle.feature_core.specs.Offers.{content_of};
 
+use crate::data::FeatureGraphData;
+use crate::directed_edges::Packed;
 use crate::error::Error;
-use crate::feature_graph_data::FeatureGraphData;
-use crate::packed::Packed;
 use feature_edges::DependencyDirection;
 use guppy_support::IxBitSet;
 use std::alloc::Global;

@@ -5,7 +5,7 @@ ghost use Rattle.feature_edges.specs.Pairs.{PairLeads, ReachAlong};
 ghost use Rattle.feature_core.specs.Built.{built_edges};
 ghost use Rattle.feature_edges.specs.Choices.{chosen_pairs};
 
-use crate::packed::Packed;
+use crate::directed_edges::Packed;
 use feature_edges::{DependencyDirection, EdgeChoice, EdgeList};
 use guppy_support::{Digraph, IxBitSet};
 use std::alloc::{AllocError, Global};

@@ -8,7 +8,7 @@ ghost use Rattle.feature_edges.specs.Edges.{AreBuilt};
 ghost use Rattle.feature_edges.specs.Nodes.{node_packages};
 
 use crate::chosen_reach::reach_chosen;
-use feature_edges::edge_table::EdgeTable;
+use feature_edges::table::EdgeTable;
 use feature_edges::{DependencyDirection, EdgeChoice, Numbers, PackageMetadata};
 use guppy_support::IxBitSet;
 use std::alloc::{AllocError, Global};

@@ -6,8 +6,8 @@ ghost use Rattle.feature_edges.specs.feature_links.Values.{link_facts, half_fact
 ghost use Rattle.feature_edges.specs.Warnings.{warning_of};
 ghost use Rattle.feature_edges.specs.guppy_packages.Platform.{spec_text, status_of};
 
+use crate::data::FeatureGraphData;
 use crate::error::Error;
-use crate::feature_graph_data::FeatureGraphData;
 use crate::laws::warning_equality;
 use feature_edges::{
     ConditionalLinkImpl, EdgeList, EnabledLink, FeatureEdge, FeatureGraphWarning, PackageGraph,

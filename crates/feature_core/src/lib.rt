@@ -3,23 +3,23 @@
 
 mod checks;
 mod chosen_reach;
+mod data;
 mod defaults;
+mod directed_edges;
 pub mod engine;
 mod equality;
 mod error;
-mod feature_graph_data;
 mod gates;
 pub mod graph_laws;
 pub mod laws;
-mod packed;
 mod walks;
 
 pub use checks::{check_exact_steps, check_steps, why};
+pub use data::FeatureGraphData;
+pub use directed_edges::Packed;
 pub use error::Error;
 pub use feature_edges::{
     ConditionalLinkImpl, EdgeChoice, EnabledLink, FeatureEdge, FeatureGraphWarning, SlashForm,
     WeakIndex, WeakSlashImpl,
 };
-pub use feature_graph_data::FeatureGraphData;
-pub use packed::Packed;
 pub use walks::{walk, walk_all};

@@ -9,9 +9,9 @@ ghost use Rattle.feature_edges.specs.Pairs.{PairLeads, Reach, ReachAlong};
 ghost use Rattle.walk_engine.specs.Walks.{IsWalk, LegalRun, MayAsk};
 ghost use Rattle.feature_core.specs.Ways.{content};
 
+use crate::data::FeatureGraphData;
+use crate::directed_edges::Packed;
 use crate::error::Error;
-use crate::feature_graph_data::FeatureGraphData;
-use crate::packed::Packed;
 use feature_edges::{DependencyDirection, EdgeChoice};
 use guppy_support::IxBitSet;
 use std::alloc::Global;

@@ -8,7 +8,7 @@ use Rattle.guppy_packages.specs.Tables.{LinkTable, Tables, AreTables}
 use Rattle.feature_labels.specs.Names.LabelName.{base, named, optional}
 use Rattle.feature_labels.specs.declared.link_declarations.LinkDeclarations.{LinkDeclarations}
 use Rattle.feature_labels.specs.declared.link_declarations.LinkDeclarations.TheVariants.{Unsplit, Required, Optional}
-use Rattle.feature_edges.specs.declared.key.CandidateKind.TheVariants.{FeatureToBase, DepColon, SlashFull, SlashOptional, SlashWeak, Section}
+use Rattle.feature_edges.specs.declared.candidate.CandidateKind.TheVariants.{FeatureToBase, DepColon, SlashFull, SlashOptional, SlashWeak, Section}
 use Rattle.feature_edges.specs.Nodes.{NodeAt}
 use Rattle.feature_links.specs.Links.{LinkFacts, IsLink, over, by_name}
 use Rattle.feature_edges.specs.Candidates.{Edge, dep_colon, slash_full, slash_optional, slash_weak, section, requesting, unsplit_of}
@@ -18,8 +18,8 @@ use Rattle.feature_edges.specs.inner.Alike.{IsSingle, SharesSubject, one_end, on
 use Rattle.feature_edges.specs.inner.Made.{IsValueOf, AreMade, edge_end}
 use Rattle.feature_edges.specs.inner.Parts.{IsOfTables}
 use Rattle.feature_edges.specs.inner.Weak.{AreGates, weak_sources}
-use Rattle.feature_edges.specs.declared.edge_table.MadeEdges.{MadeEdges}
-use Rattle.feature_edges.specs.declared.key.Key.{Key}
+use Rattle.feature_edges.specs.declared.table.MadeEdges.{MadeEdges}
+use Rattle.feature_edges.specs.declared.candidate.Key.{Key}
 use Rattle.feature_edges.proofs.KeyEdges.{IsTold, told_colon, told_full, told_beside, told_weak, told_section}
 use Rattle.feature_edges.proofs.KeySays.{SaysColon, SaysOver, SaysBeside, SaysSection}
 use Rattle.feature_edges.proofs.PairLemmas.{names_differ}

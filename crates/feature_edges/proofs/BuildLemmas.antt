@@ -16,7 +16,7 @@ use Rattle.feature_links.specs.Facts.{EdgeFacts}
 use Rattle.feature_edges.specs.Edges.{EdgeBefore, AreBuilt, ends_of, weak_link, first_ones, facts_of}
 use Rattle.feature_edges.specs.inner.Made.{AreValues, IsValueOf, IsKept, AreMadeBelow, edge_end}
 use Rattle.feature_edges.specs.inner.Weak.{weak_source, weak_source_of, weak_sources, AreGates}
-use Rattle.feature_edges.specs.declared.key.Key.{Key}
+use Rattle.feature_edges.specs.declared.candidate.Key.{Key}
 use Rattle.feature_edges.specs.Pairs.{IsPairList}
 use Rattle.feature_edges.specs.inner.Parts.{IsOfTables}
 use Rattle.feature_edges.proofs.AddsLemmas.{Contains-first, Contains-later, Contains-cases, Contains-none}
@@ -27,7 +27,7 @@ use Rattle.feature_edges.specs.EdgesOnce.{edge_there-prop}
 use Rattle.feature_edges.proofs.PartLemmas.{stands_for, contributed}
 use Rattle.feature_edges.proofs.PairLemmas.{names_differ, pairs_kept}
 use Rattle.std.proofs.lemmas.List.{append-nil}
-use Rattle.feature_edges.specs.declared.edge_table.MadeEdges.{MadeEdges}
+use Rattle.feature_edges.specs.declared.table.MadeEdges.{MadeEdges}
 use Rattle.feature_edges.proofs.SourceLemmas.{kept_all}
 use Rattle.feature_edges.proofs.Ranks.{same_rank, one_edge}
 

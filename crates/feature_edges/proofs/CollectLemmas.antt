@@ -1,8 +1,8 @@
 -- What the steps of a pass collect, one after another.
 use Rattle.std.proofs.Common.{◌≡◌, ℕ, ◌+◌, List, [], ◌++◌, take, Some, sym, ◌∙◌, subst}
 use Rattle.std.specs.Prelude.{slice_get, flat_map}
-use Rattle.feature_edges.specs.declared.collected.Collected.{Collected}
-use Rattle.feature_edges.specs.declared.key.Key.{Key}
+use Rattle.feature_edges.specs.declared.collect.Collected.{Collected}
+use Rattle.feature_edges.specs.declared.candidate.Key.{Key}
 use Rattle.guppy_packages.specs.Rows.{Text}
 use Rattle.guppy_packages.specs.Items.{Item}
 use Rattle.guppy_packages.specs.Tables.{PackageTable, Tables}

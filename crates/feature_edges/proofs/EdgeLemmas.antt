@@ -4,7 +4,7 @@ use Rattle.std.specs.Prelude.{◌↔◌, Contains, All, AllPairs}
 use Rattle.std.proofs.lemmas.List.Elements.{All-contains}
 use Rattle.guppy_packages.specs.Tables.{Tables}
 use Rattle.feature_edges.specs.Candidates.{Edge, Candidate, IsEdge}
-use Rattle.feature_edges.specs.declared.key.Key.{Key}
+use Rattle.feature_edges.specs.declared.candidate.Key.{Key}
 use Rattle.feature_edges.specs.inner.Keys.{rank, kind_of, AreLeast, IsBefore}
 use Rattle.feature_edges.specs.inner.Parts.{IsOfTables}
 use Rattle.feature_edges.proofs.AddsLemmas.{Contains-cases, Contains-none}

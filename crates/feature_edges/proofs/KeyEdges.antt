@@ -2,14 +2,14 @@
 use Rattle.std.proofs.Common.{◌≡◌, ℕ, List, refl, ap, ◌∙◌, subst, arith}
 use Rattle.guppy_packages.specs.Tables.{Tables}
 use Rattle.feature_links.specs.Links.{LinkFacts}
-use Rattle.feature_edges.specs.declared.key.CandidateKind.TheVariants.{FeatureToBase, NamedFeature, DepColon, SlashFull, SlashOptional, SlashWeak, Section}
+use Rattle.feature_edges.specs.declared.candidate.CandidateKind.TheVariants.{FeatureToBase, NamedFeature, DepColon, SlashFull, SlashOptional, SlashWeak, Section}
 use Rattle.feature_edges.specs.Candidates.{Edge, feature_to_base, named_feature, dep_colon, slash_full, slash_optional, slash_weak, section, Candidate}
 use Rattle.feature_links.specs.Facts.{EdgeFacts, base_edge, feature_edge}
 use Rattle.feature_edges.specs.Edges.{facts_of}
 use Rattle.feature_edges.specs.inner.Keys.{rank, kind_of}
 use Rattle.feature_edges.specs.inner.Made.{IsValueOf}
 use Rattle.feature_edges.specs.inner.Parts.{IsOfTables}
-use Rattle.feature_edges.specs.declared.key.Key.{Key}
+use Rattle.feature_edges.specs.declared.candidate.Key.{Key}
 use Rattle.feature_edges.proofs.KeySays.{Says, SaysColon, SaysOver, SaysBeside, SaysSection}
 use Rattle.feature_edges.proofs.PartLemmas.{NamesDiffer, stands_for}
 

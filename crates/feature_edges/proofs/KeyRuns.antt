@@ -5,8 +5,8 @@ use Rattle.std.proofs.lemmas.List.{append_assoc, append-nil, get_or-take, get_or
 use Rattle.std.proofs.lemmas.List.Elements.{All-contains, Contains-append_left, Contains-append_right, Contains-append_cases}
 use Rattle.std.proofs.lemmas.Option.{slice_get-get_or, get_or_from_slice_get}
 use Rattle.guppy_packages.specs.Tables.{Tables}
-use Rattle.feature_edges.specs.declared.edge_table.MadeEdges.{MadeEdges}
-use Rattle.feature_edges.specs.declared.key.Key.{Key}
+use Rattle.feature_edges.specs.declared.table.MadeEdges.{MadeEdges}
+use Rattle.feature_edges.specs.declared.candidate.Key.{Key}
 use Rattle.feature_edges.specs.inner.Keys.{rank, AreLeast, IsBefore, IsNoLater, IsPair, IsSplitRun}
 use Rattle.feature_edges.specs.inner.Made.{AreMade, AreWalked, AreWholeKeys, IsRun}
 use Rattle.feature_edges.specs.inner.Parts.{IsOfTables}

@@ -10,7 +10,7 @@ use Rattle.feature_labels.specs.declared.link_declarations.LinkDeclarations.TheV
 use Rattle.feature_edges.specs.Nodes.{NodeAt}
 use Rattle.feature_links.specs.Links.{LinkFacts, IsLink, over, has_declaration, by_name}
 use Rattle.feature_edges.specs.Candidates.{Edge, feature_to_base, named_feature, dep_colon, slash_full, slash_optional, slash_weak, section, requesting, unsplit_of}
-use Rattle.feature_edges.specs.declared.key.Key.{Key}
+use Rattle.feature_edges.specs.declared.candidate.Key.{Key}
 
 pub record SaysColon (t : Tables) (x : Key) (l : LinkFacts) : Type 0 where
   pub p : ℕ

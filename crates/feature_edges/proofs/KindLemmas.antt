@@ -1,7 +1,7 @@
 -- The ranks of kinds of candidates.
 use Rattle.std.proofs.Common.{◌≡◌, ◌≤◌, refl, sym, ap, ◌∙◌, arith}
-use Rattle.feature_edges.specs.declared.key.CandidateKind.{CandidateKind}
-use Rattle.feature_edges.specs.declared.key.CandidateKind.TheVariants.{FeatureToBase, NamedFeature, DepColon, SlashFull, SlashOptional, SlashWeak, Section}
+use Rattle.feature_edges.specs.declared.candidate.CandidateKind.{CandidateKind}
+use Rattle.feature_edges.specs.declared.candidate.CandidateKind.TheVariants.{FeatureToBase, NamedFeature, DepColon, SlashFull, SlashOptional, SlashWeak, Section}
 use Rattle.feature_edges.specs.Candidates.{Edge, feature_to_base, named_feature, dep_colon, slash_full, slash_optional, slash_weak, section, rank_of}
 use Rattle.feature_edges.specs.inner.Keys.{rank, kind_of}
 

@@ -1,7 +1,7 @@
 -- The order of keys.
 use Rattle.std.proofs.Common.{◌≡◌, suc, inl, inr, List, ◌∷◌, Bool, true, false, cond, refl, ap, arith}
 use Rattle.std.specs.Prelude.{All, AllPairs}
-use Rattle.feature_edges.specs.declared.key.Key.{Key}
+use Rattle.feature_edges.specs.declared.candidate.Key.{Key}
 use Rattle.feature_edges.specs.inner.Keys.{rank, IsBefore, IsUpTo, IsNoLater}
 
 pub before_up : (a b c : Key) → IsBefore a b → IsUpTo b c → IsBefore a c

@@ -28,6 +28,5 @@ pub mod WeakLemmas
 pub mod SameLists
 pub mod PoolLemmas
 pub mod ListSteps
-pub mod DefaultNodeLemmas
 pub mod CandidateNodes
 pub mod SoundEnds

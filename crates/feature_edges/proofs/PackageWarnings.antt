@@ -4,8 +4,8 @@ use Rattle.std.specs.Prelude.{slice_get, flat_map}
 use Rattle.std.specs.List.{enumerate_from}
 use Rattle.std.proofs.lemmas.Grind.{flat_map-append}
 use Rattle.guppy_packages.specs.Tables.{PackageTable, Tables, AreTables}
-use Rattle.feature_edges.specs.declared.collected.Collected.{Collected}
-use Rattle.feature_edges.specs.declared.key.Key.{Key}
+use Rattle.feature_edges.specs.declared.collect.Collected.{Collected}
+use Rattle.feature_edges.specs.declared.candidate.Key.{Key}
 use Rattle.feature_edges.specs.Warnings.{of_link, of_package, warnings, warnings_in}
 use Rattle.feature_edges.specs.inner.Collects.{Collects, AreWarningsBelow, links_from, links_below}
 use Rattle.feature_edges.proofs.LeavingLinks.{below-next, below-none, below-all}

@@ -10,7 +10,7 @@ use Rattle.guppy_support.specs.declared.digraph.Edge.{Edge}
 use Rattle.guppy_packages.specs.Tables.{Tables, FeatureTable, AreTables}
 use Rattle.feature_edges.specs.Pairs.{IsPairList, IsBefore}
 use Rattle.feature_edges.specs.Candidates.{Candidate}
-use Rattle.feature_edges.specs.declared.key.Key.{Key}
+use Rattle.feature_edges.specs.declared.candidate.Key.{Key}
 use Rattle.feature_edges.specs.inner.Keys.{AreLeast, edge_of, IsBefore as Before}
 use Rattle.feature_edges.specs.inner.Parts.{IsOfTables}
 use Rattle.feature_edges.specs.EdgesOnce.{pair_there-prop}

@@ -11,12 +11,12 @@ use Rattle.feature_labels.specs.Names.{LabelName}
 use Rattle.feature_labels.specs.Names.LabelName.{base, named, optional}
 use Rattle.feature_labels.specs.declared.link_declarations.LinkDeclarations.{LinkDeclarations}
 use Rattle.feature_labels.specs.declared.link_declarations.LinkDeclarations.TheVariants.{Unsplit, Required, Optional}
-use Rattle.feature_edges.specs.declared.key.CandidateKind.{CandidateKind}
-use Rattle.feature_edges.specs.declared.key.CandidateKind.TheVariants.{FeatureToBase, NamedFeature, DepColon, SlashFull, SlashOptional, SlashWeak, Section}
+use Rattle.feature_edges.specs.declared.candidate.CandidateKind.{CandidateKind}
+use Rattle.feature_edges.specs.declared.candidate.CandidateKind.TheVariants.{FeatureToBase, NamedFeature, DepColon, SlashFull, SlashOptional, SlashWeak, Section}
 use Rattle.feature_edges.specs.Nodes.{NodeAt, labels_of, first_node}
 use Rattle.feature_links.specs.Links.{IsPackage, IsLink, over, includes, has_declaration, by_name}
 use Rattle.feature_edges.specs.Candidates.{Edge, Candidate, HasItem, LeadsOver, IsSection, requests, requesting, unsplit_of, to_base, to_feature, to_dependency, over_strong, over_weak, with_dependency, with_feature, of_required, of_optional, feature_to_base, named_feature, dep_colon, slash_full, slash_optional, slash_weak, section}
-use Rattle.feature_edges.specs.declared.key.Key.{Key}
+use Rattle.feature_edges.specs.declared.candidate.Key.{Key}
 use Rattle.feature_edges.specs.inner.Keys.{kind_of}
 use Rattle.feature_edges.specs.inner.Parts.{key, over_kind, IsToFirst, IsOfItem, IsOfPackageAt, start_of, IsOfLinkAt, IsOfTables}
 use Rattle.feature_edges.proofs.KeySays.{Says}

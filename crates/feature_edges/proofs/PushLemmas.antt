@@ -10,13 +10,13 @@ use Rattle.guppy_packages.specs.Tables.{LinkTable, Tables, FeatureTable, Package
 use Rattle.guppy_packages.specs.Items.{feature_item, slash_item, item_of}
 use Rattle.feature_labels.specs.Names.{LabelName}
 use Rattle.feature_labels.specs.Names.LabelName.{named, optional}
-use Rattle.feature_edges.specs.declared.key.CandidateKind.{CandidateKind}
-use Rattle.feature_edges.specs.declared.key.CandidateKind.TheVariants.{FeatureToBase, NamedFeature, SlashOptional}
+use Rattle.feature_edges.specs.declared.candidate.CandidateKind.{CandidateKind}
+use Rattle.feature_edges.specs.declared.candidate.CandidateKind.TheVariants.{FeatureToBase, NamedFeature, SlashOptional}
 use Rattle.feature_edges.specs.inner.Adds.{Adds, Below}
 use Rattle.feature_links.specs.Links.{IsPackage, IsLink, numbered}
 use Rattle.feature_links.specs.NamedLinks.{link_numbers}
 use Rattle.feature_edges.specs.Nodes.{NodeAt, first_node, labels_of}
-use Rattle.feature_edges.specs.declared.key.Key.{Key}
+use Rattle.feature_edges.specs.declared.candidate.Key.{Key}
 use Rattle.feature_edges.specs.inner.Parts.{key, over_kind, IsToFirst, IsTo, IsOver, IsOverLink, IsBeside, IsOfItem, IsOfItemAt, IsOfFeatureAt, IsOfPackageAt, IsOfLinkAt, IsLinkFrom, IsOfSource}
 use Rattle.feature_edges.proofs.NodeLabels.{element_within}
 use Rattle.feature_edges.proofs.AddsLemmas.{Adds-nothing, Adds-then, Adds-as, place_of_element, element_at_place, place_below, Contains-first, Contains-later, Contains-cases, Contains-none}

@@ -11,13 +11,13 @@ use Rattle.guppy_packages.specs.Rows.{Text, Declared}
 use Rattle.guppy_packages.specs.Tables.{LinkTable, Tables}
 use Rattle.feature_labels.specs.Names.{LabelName}
 use Rattle.feature_labels.specs.Names.LabelName.{base, named, optional}
-use Rattle.feature_edges.specs.declared.key.CandidateKind.{CandidateKind}
-use Rattle.feature_edges.specs.declared.key.CandidateKind.TheVariants.{Section}
+use Rattle.feature_edges.specs.declared.candidate.CandidateKind.{CandidateKind}
+use Rattle.feature_edges.specs.declared.candidate.CandidateKind.TheVariants.{Section}
 use Rattle.feature_edges.specs.inner.Adds.{Adds, Below}
 use Rattle.feature_edges.specs.Nodes.{NodeAt, first_node}
 use Rattle.feature_links.specs.Links.{IsLink}
 use Rattle.feature_edges.specs.Candidates.{requests}
-use Rattle.feature_edges.specs.declared.key.Key.{Key}
+use Rattle.feature_edges.specs.declared.candidate.Key.{Key}
 use Rattle.feature_edges.specs.inner.Parts.{key, IsTo, start_of, IsRequest, IsOfDeclarationAt, IsOfLinkAt}
 use Rattle.feature_edges.proofs.Places.{got_same}
 use Rattle.feature_edges.proofs.PartLemmas.{base_back, list_any_there, list_any_back}

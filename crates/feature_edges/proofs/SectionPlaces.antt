@@ -14,14 +14,14 @@ use Rattle.feature_labels.specs.Names.{LabelName}
 use Rattle.feature_labels.specs.Names.LabelName.{base, optional}
 use Rattle.feature_labels.specs.declared.link_declarations.LinkDeclarations.{LinkDeclarations}
 use Rattle.feature_labels.specs.declared.link_declarations.LinkDeclarations.TheVariants.{Required, Optional}
-use Rattle.feature_edges.specs.declared.key.CandidateKind.{CandidateKind}
-use Rattle.feature_edges.specs.declared.key.CandidateKind.TheVariants.{SlashFull, SlashWeak, Section}
+use Rattle.feature_edges.specs.declared.candidate.CandidateKind.{CandidateKind}
+use Rattle.feature_edges.specs.declared.candidate.CandidateKind.TheVariants.{SlashFull, SlashWeak, Section}
 use Rattle.feature_edges.specs.Nodes.{NodeAt, node_packages}
 use Rattle.feature_edges.proofs.LeastKeys.{AllPairs-first, AllPairs-later, cond_has}
 use Rattle.feature_edges.proofs.MaterialLemmas.{node_within}
 use Rattle.feature_links.specs.Links.{LinkFacts, IsLink, includes, has_declaration, ArePassing}
 use Rattle.feature_edges.specs.Candidates.{requests, requesting}
-use Rattle.feature_edges.specs.declared.key.Key.{Key}
+use Rattle.feature_edges.specs.declared.candidate.Key.{Key}
 use Rattle.feature_edges.specs.inner.Made.{IsRun}
 use Rattle.feature_edges.specs.inner.Keys.{rank, IsNoLater}
 use Rattle.feature_edges.specs.inner.Parts.{key, IsOfItem, IsOfPackageAt, IsOfTables, start_of}

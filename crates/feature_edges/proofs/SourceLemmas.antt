@@ -8,9 +8,9 @@ use Rattle.guppy_packages.specs.Tables.{FeatureTable, Tables, AreTables}
 use Rattle.guppy_packages.specs.Items.{Item, feature_item, optional_item, slash_item, item_of}
 use Rattle.feature_labels.specs.Names.{LabelName}
 use Rattle.feature_labels.specs.Names.LabelName.{named}
-use Rattle.feature_edges.specs.declared.key.CandidateKind.{CandidateKind}
+use Rattle.feature_edges.specs.declared.candidate.CandidateKind.{CandidateKind}
 use Rattle.feature_edges.specs.Nodes.{NodeAt, labels_of, first_node}
-use Rattle.feature_edges.specs.declared.key.Key.{Key}
+use Rattle.feature_edges.specs.declared.candidate.Key.{Key}
 use Rattle.feature_edges.specs.inner.Keys.{IsBefore, AreLeast}
 use Rattle.feature_edges.specs.inner.Made.{IsKept, IsKeptBelow}
 use Rattle.feature_edges.specs.inner.Parts.{key, start_of, IsOfItem, IsOfPackageAt, IsOfLinkAt, IsLinkFrom, IsOfSource, IsOfTables}

@@ -6,8 +6,8 @@ use Rattle.std.proofs.lemmas.List.{append_assoc}
 use Rattle.std.proofs.lemmas.Option.{slice_get_within}
 use Rattle.guppy_support.specs.declared.digraph.Edge.{Edge as End}
 use Rattle.guppy_packages.specs.Tables.{Tables}
-use Rattle.feature_edges.specs.declared.edge_table.MadeEdges.{MadeEdges}
-use Rattle.feature_edges.specs.declared.key.Key.{Key}
+use Rattle.feature_edges.specs.declared.table.MadeEdges.{MadeEdges}
+use Rattle.feature_edges.specs.declared.candidate.Key.{Key}
 use Rattle.feature_links.specs.Facts.{EdgeFacts}
 use Rattle.feature_edges.specs.Edges.{first_ones}
 use Rattle.feature_edges.specs.inner.Made.{IsValueOf, AreValues, AreMade, edge_end}

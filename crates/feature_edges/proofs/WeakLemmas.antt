@@ -14,15 +14,15 @@ use Rattle.guppy_packages.specs.Tables.{LinkTable, Tables, AreTables, has_name}
 use Rattle.guppy_packages.specs.Items.{Item, feature_item, optional_item, slash_item, item_of}
 use Rattle.feature_labels.specs.Names.LabelName.{optional}
 use Rattle.feature_labels.specs.declared.link_declarations.LinkDeclarations.TheVariants.{Optional}
-use Rattle.feature_edges.specs.declared.key.CandidateKind.{CandidateKind}
-use Rattle.feature_edges.specs.declared.key.CandidateKind.TheVariants.{FeatureToBase, NamedFeature, DepColon, SlashFull, SlashOptional, SlashWeak, Section}
+use Rattle.feature_edges.specs.declared.candidate.CandidateKind.{CandidateKind}
+use Rattle.feature_edges.specs.declared.candidate.CandidateKind.TheVariants.{FeatureToBase, NamedFeature, DepColon, SlashFull, SlashOptional, SlashWeak, Section}
 use Rattle.feature_edges.specs.Nodes.{NodeAt, first_node}
 use Rattle.feature_links.specs.Links.{IsLink, has_declaration}
 use Rattle.feature_edges.specs.Edges.{IsGate, first_ones}
 use Rattle.feature_edges.specs.inner.Keys.{rank}
 use Rattle.feature_edges.specs.inner.Parts.{key, over_kind, IsOfItem, IsOfPackageAt, IsOfLinkAt, IsOfTables}
 use Rattle.feature_edges.specs.inner.Weak.{weak_source_of, IsOptionalLink, AreGates, weak_source, weak_sources}
-use Rattle.feature_edges.specs.declared.key.Key.{Key}
+use Rattle.feature_edges.specs.declared.candidate.Key.{Key}
 use Rattle.feature_edges.proofs.AddsLemmas.{place_of_element, Contains-first, Contains-later, Contains-cases, Contains-none}
 use Rattle.feature_edges.proofs.LabelLemmas.{optional_label}
 use Rattle.feature_edges.proofs.NodeLabels.{element_within}

@@ -6,7 +6,6 @@ pub mod Pairs
 pub mod EdgesOnce
 pub mod Choices
 pub mod Warnings
-pub mod DefaultNodes
 pub mod inner
 pub use Rattle.guppy_packages.specs as guppy_packages
 pub use Rattle.feature_labels.specs as feature_labels

@@ -8,8 +8,8 @@ use Rattle.guppy_packages.specs.Rows.{Text}
 use Rattle.guppy_packages.specs.Tables.{PackageTable, LinkTable, Tables, has_feature, has_name}
 use Rattle.guppy_packages.specs.Items.{Item, feature_item, optional_item, slash_item, item_of}
 use Rattle.feature_links.specs.Links.{links_named}
-use Rattle.feature_edges.specs.declared.warning.FeatureGraphWarning.{FeatureGraphWarning}
-use Rattle.feature_edges.specs.declared.warning.FeatureGraphWarning.TheVariants.{MissingFeature, SelfLoop}
+use Rattle.feature_edges.specs.declared.warnings.FeatureGraphWarning.{FeatureGraphWarning}
+use Rattle.feature_edges.specs.declared.warnings.FeatureGraphWarning.TheVariants.{MissingFeature, SelfLoop}
 
 -- A package's id, and the missing name or the feature that names itself.
 pub data Warning : Type 0 where

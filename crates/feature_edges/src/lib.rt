@@ -2,21 +2,17 @@
 //! warnings.
 #![tactic(auto)]
 
-mod candidates;
-mod collected;
-mod declarations;
-mod edge_list;
-pub mod edge_table;
-mod edges;
-mod key;
+mod candidate;
+mod collect;
+mod gates;
+mod make;
 mod near_keys;
+mod node_numbers;
 mod nodes;
-mod numbers;
-mod package_input;
-mod warning;
-mod weak_links;
+mod pool;
+pub mod table;
+mod warnings;
 
-pub use edge_list::{EdgeList, first_absent};
 pub use feature_labels::{FeatureId, FeatureLabel};
 pub use feature_links::{
     ConditionalLinkImpl, EdgeChoice, EnabledLink, FeatureEdge, SlashForm, WeakIndex, WeakSlashImpl,
@@ -25,6 +21,7 @@ pub use feature_links::{
 pub use guppy_packages::{
     DependencyDirection, PackageGraph, PackageId, PackageMetadata, PlatformStatus, Spec,
 };
+pub use node_numbers::{Numbers, label_at, numbers_in};
 pub use nodes::{NodeTable, node_table};
-pub use numbers::{Numbers, default_nodes, label_at, numbers_in, with_defaults};
-pub use warning::FeatureGraphWarning;
+pub use pool::{EdgeList, first_absent};
+pub use warnings::FeatureGraphWarning;

@@ -1,11 +1,11 @@
 //! Earlier keys whose edges are equal.
 ghost use Rattle.std.specs.Prelude.{◌≡◌, ◌<◌, ◌⊎◌, ℕ, IfOk, IfSome, IsTrue, Some, length, slice_get};
-ghost use Rattle.feature_edges.specs.declared.key.Key.{Key as KeyValue};
+ghost use Rattle.feature_edges.specs.declared.candidate.Key.{Key as KeyValue};
 ghost use Rattle.feature_edges.specs.inner.Alike.{AreAlike, IsAlikeAt, IsSingle, SharesSubject};
 ghost use Rattle.feature_edges.specs.inner.Parts.{IsOfTables};
 
-use crate::key::{CandidateKind, Key};
-use crate::numbers::Numbers;
+use crate::candidate::{CandidateKind, Key};
+use crate::node_numbers::Numbers;
 use std::alloc::{AllocError, Global};
 use std::marker::Model;
 
@@ -17,7 +17,7 @@ pub(crate) struct NearKeys {
 
 impl Model for NearKeys {
     ghost use Rattle.std.specs.Prelude.{◌≡◌, ℕ, List, length};
-    ghost use Rattle.feature_edges.specs.declared.key.Key.{Key as KeyValue};
+    ghost use Rattle.feature_edges.specs.declared.candidate.Key.{Key as KeyValue};
 
     ghost Value = { List (KeyValue × ℕ) };
 

@@ -1,5 +1,5 @@
 //! The number of each package's first link. Links are ordered by the packages that they leave.
-ghost use Rattle.std.specs.Prelude.{◌≡◌, ℕ, ◌+◌, ◌<◌, ◌≤◌, length, slice_index, max, IfOk, OnOk};
+ghost use Rattle.std.specs.Prelude.{length, IfOk};
 ghost use Rattle.guppy_packages.specs.inner.Begins.{AreAllBegun};
 ghost use Rattle.guppy_packages.specs.Stored.{link_tables, package_tables};
 ghost use Rattle.guppy_packages.specs.Tables.{AreTables};
@@ -8,19 +8,8 @@ use crate::contents::{Link, PackageData};
 use crate::narrow::LAST_PLACE;
 use crate::package_id::PackageId;
 use crate::text_map::TextMap;
+use order_views::begin_up_to;
 use std::alloc::{AllocError, Global};
-
-/// Extends `begins` up to index `from` with `place`; earlier entries are unchanged.
-fn begin_up_to(begins: &mut Vec<u32>, from: usize, place: u32) -> Result<(), AllocError>
-    ensures long { OnOk result (length begins.new.items ≡ max (length begins.old.items) (from + 1)) }
-    ensures kept { OnOk result ((p : ℕ) → p < length begins.old.items → slice_index begins.new.items p ≡ slice_index begins.old.items p) }
-    ensures added { OnOk result ((p : ℕ) → length begins.old.items ≤ p → p < length begins.new.items → slice_index begins.new.items p ≡ place) }
-{
-    while begins.len() <= from {
-        begins.push(place)?;
-    }
-    Ok(())
-}
 
 /// Returns the number of each package's first link, followed by the number of links. Returns `AllocError` if that number doesn't
 /// fit in 32 bits.

@@ -1,5 +1,5 @@
 -- A digraph: a number of nodes, and edges that ascend by source and then by target.
-use Rattle.std.specs.Prelude.{◌≡◌, ℕ, ◌+◌, ◌<◌, ◌≤◌, List, length, map, slice_index}
+use Rattle.std.specs.Prelude.{◌≡◌, ℕ, ◌+◌, ◌*◌, ◌^◌, ◌<◌, ◌≤◌, List, length, map, slice_index}
 use Rattle.guppy_support.specs.declared.digraph.Edge.{Edge}
 use Rattle.guppy_support.specs.declared.digraph.DigraphError.{DigraphError}
 use Rattle.guppy_support.specs.declared.digraph.DigraphError.TheVariants.{BadNode, Unsorted, Memory}
@@ -42,6 +42,11 @@ pub record IsSound (n : ℕ) (es : List Edge) (k : ℕ) : Type 0 where
 
 abbrev pub IsDigraph : Graph → Type 0
 IsDigraph g = (k : ℕ) → k < length g.edges → IsSound g.nodes g.edges k
+
+-- The numbers of the nodes fit in 31 bits, and those of the edges in 32.
+pub record IsNarrow (g : Graph) : Type 0 where
+  pub nodes : 2 * g.nodes < 2 ^ 32
+  pub edges : length g.edges < 2 ^ 32
 
 -- The error for edges that aren't a digraph. It is about the first edge with a fault, and `BadNode` has
 -- priority over `Unsorted`. `Memory` is only for edges without a fault.

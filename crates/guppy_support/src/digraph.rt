@@ -1,7 +1,7 @@
 //! A digraph whose edges are indexed by source and by target.
 ghost use Rattle.std.specs.List.{range_with_len};
-ghost use Rattle.std.specs.Prelude.{◌≡◌, ℕ, ◌+◌, ◌-◌, ◌<◌, ◌≤◌, length, slice_get, Some, None, IfOk, IfErr, IfSome, IfNone, IsTrue, ◌↔◌};
-ghost use Rattle.guppy_support.specs.Graph.{IsDigraph, IsRefused, IsEdgeAt, IsBefore, sources, targets};
+ghost use Rattle.std.specs.Prelude.{◌≡◌, ℕ, ◌+◌, ◌-◌, ◌^◌, ◌<◌, ◌≤◌, length, slice_get, Some, None, IfOk, IfErr, IfSome, IfNone, IsTrue, ◌↔◌};
+ghost use Rattle.guppy_support.specs.Graph.{IsDigraph, IsNarrow, IsRefused, IsEdgeAt, IsBefore, sources, targets};
 ghost use Rattle.guppy_support.specs.Paths.{HasEdge};
 ghost use Rattle.guppy_support.specs.Rows.{places};
 ghost use Rattle.guppy_support.specs.PackedRows.{IsPacked};
@@ -10,14 +10,18 @@ mod begins;
 mod columns;
 
 use crate::rows::{Keys, Rows, pack_rows};
+pub use begins::begin_up_to;
 use begins::source_begins;
 pub use columns::EdgeColumns;
 use std::alloc::{AllocError, Global};
 use std::marker::Model;
 use std::ops::Range;
 
-/// The most nodes whose numbers fit in 31 bits.
-const MOST_NODES: usize = 2147483648;
+/// The most nodes: twice as many fit in 32 bits.
+const MOST_NODES: usize = 2147483647;
+
+/// The most edges: as many fit in 32 bits.
+const MOST_EDGES: usize = 4294967295;
 
 /// An edge of a digraph. `non_dev` is false if the edge is dev-only. Only an edge with `non_dev` orders its two
 /// ends inside a component.
@@ -62,7 +66,7 @@ impl Drop for Digraph {
 }
 
 impl Model for Digraph {
-    ghost use Rattle.guppy_support.specs.Graph.{Graph, IsDigraph, sources, targets};
+    ghost use Rattle.guppy_support.specs.Graph.{Graph, IsDigraph, IsNarrow, sources, targets};
     ghost use Rattle.guppy_support.specs.PackedRows.{AreAllBegun, IsPacked};
 
     ghost Value = { Graph };
@@ -72,15 +76,16 @@ impl Model for Digraph {
     ghost invariant = { λ d.
         IsDigraph (record { nodes = d.nodes; edges = d.edges })
         × AreAllBegun d.nodes (sources d.edges) d.begins.items
-        × IsPacked d.nodes (targets d.edges) d.inward.begins.items d.inward.numbers.items };
+        × IsPacked d.nodes (targets d.edges) d.inward.begins.items d.inward.numbers.items
+        × IsNarrow (record { nodes = d.nodes; edges = d.edges }) };
 }
 
 impl Digraph {
     /// Builds the digraph of `nodes` nodes and `edges`. Returns `BadNode` or `Unsorted` for the first edge with
     /// a fault; the ends of an edge are checked before its place.
     ///
-    /// Returns `Memory` if an allocation fails, or if there are more than 2147483648 nodes or 4294967295 edges,
-    /// whose numbers don't fit. Such a digraph would take over 24 gigabytes.
+    /// Returns `Memory` if an allocation fails, or if there are more than 2147483647 nodes or 4294967295 edges.
+    /// Such a digraph would take over 24 gigabytes.
     pub fn new(alloc: Global, nodes: usize, edges: &[Edge]) -> Result<Digraph, DigraphError>
         ensures made { IfOk result (λ g. g ≡ record { nodes = nodes; edges = edges.now }) }
         ensures sound { IfOk result (λ g. IsDigraph g) }
@@ -105,7 +110,7 @@ impl Digraph {
         requires sound { IsDigraph (record { nodes = nodes; edges = edges }) }
         ensures { IfOk result (λ g. g ≡ record { nodes = nodes; edges = edges }) }
     {
-        if nodes > MOST_NODES {
+        if nodes > MOST_NODES || edges.len() > MOST_EDGES {
             return Err(AllocError);
         }
         let inward = inward_rows(alloc, nodes, &edges)?;
@@ -144,6 +149,13 @@ impl Digraph {
     /// Does nothing. The contract states the invariant: each digraph meets `IsDigraph`.
     pub fn facts(&self)
         ensures { IsDigraph self.now }
+    {
+        let _nodes = self.nodes;
+    }
+
+    /// Does nothing. The contract states the bounds of each digraph: it has at most 2147483647 nodes and 4294967295 edges.
+    pub fn bounds(&self)
+        ensures { IsNarrow self.now }
     {
         let _nodes = self.nodes;
     }
@@ -187,8 +199,22 @@ impl Digraph {
         self.begins[node] as usize..self.begins[node + 1] as usize
     }
 
+    /// Returns edge `place`, from 0, of those that enter `node`, by their numbers; `None` if there are fewer.
+    pub fn in_edge(&self, node: usize, place: usize) -> Option<usize>
+        requires { node < self.now.nodes }
+        ensures number { result ≡ slice_get (places node (targets self.now.edges)) place }
+        ensures few { IfSome result (λ _. place + 1 < 2 ^ 64) }
+    {
+        let numbers = self.in_numbers(node);
+        if place < numbers.len() {
+            Some(numbers[place] as usize)
+        } else {
+            None
+        }
+    }
+
     /// Returns the numbers of the edges that enter `node`, ascending.
-    pub fn in_edges(&self, node: usize) -> &[u32]
+    fn in_numbers(&self, node: usize) -> &[u32]
         requires { node < self.now.nodes }
         ensures { result.now ≡ places node (targets self.now.edges) }
     {

@@ -9,5 +9,5 @@ mod rows;
 
 pub use bit_set::{IxBitSet, Ones};
 pub use collecting::collect_exactly;
-pub use digraph::{Digraph, DigraphError, Edge, EdgeColumns};
+pub use digraph::{Digraph, DigraphError, Edge, EdgeColumns, begin_up_to};
 pub use rows::{Keys, Rows, pack_rows, zeroes};

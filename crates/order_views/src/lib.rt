@@ -13,7 +13,7 @@ mod root_nodes;
 pub use cycles::{cyclic_components, is_cyclic};
 pub use depending::depends_on;
 pub use digraph_orders::Order;
-pub use guppy_support::{Digraph, DigraphError, Edge, EdgeColumns, IxBitSet, collect_exactly};
+pub use guppy_support::{Digraph, Edge, EdgeColumns, IxBitSet, begin_up_to, collect_exactly};
 pub use in_order::InOrder;
 pub use links_in_order::LinksInOrder;
 pub use reading::Reading;

@@ -66,18 +66,6 @@ impl<'a> LinksInOrder<'a> {
     }
 }
 
-// Returns the number at `place`.
-fn number_at(numbers: &[u32], place: usize) -> Option<usize>
-    ensures number { result ≡ slice_get numbers.now place }
-    ensures few { IfSome result (λ _. place + 1 < 2 ^ 64) }
-{
-    if place < numbers.len() {
-        Some(numbers[place] as usize)
-    } else {
-        None
-    }
-}
-
 // Returns the edge at `place` among those that start at `node`.
 fn edge_at(digraph: &Digraph, reading: Reading, node: usize, place: usize) -> Option<usize>
     requires { node < digraph.now.nodes }
@@ -93,7 +81,7 @@ fn edge_at(digraph: &Digraph, reading: Reading, node: usize, place: usize) -> Op
                 None
             }
         }
-        Reading::Backward => number_at(digraph.in_edges(node), place),
+        Reading::Backward => digraph.in_edge(node, place),
     }
 }
 

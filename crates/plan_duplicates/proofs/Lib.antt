@@ -1,2 +1,4 @@
+pub mod JoinedLemmas
 pub mod Lists
 pub mod NameLemmas
+pub mod Sets

@@ -1,7 +1,11 @@
 pub mod Alone
 pub mod Built
+pub mod DisagreementViews
+pub mod Disagreements
 pub mod Duplicates
 pub mod DuplicatesView
+pub mod Features
+pub mod Joined
 pub mod MemberPlans
 pub mod Places
 pub mod Versions

@@ -1,3 +1,5 @@
 -- Definitions for private functions.
 pub mod Groups
+pub mod JoinViews
 pub mod Rows
+pub mod Sets

@@ -1,6 +1,8 @@
 mod BuiltStep
 mod Closed
 mod Declarations
+mod DeclaredSpecs
+mod DenyLemmas
 mod EntryGrowth
 mod EntryLinks
 mod Flags
@@ -13,6 +15,7 @@ mod MoreFeatures
 mod MoreOn
 mod MoreSteps
 mod MoreWords
+mod NoChoice
 mod Numbered
 mod OneOutcome
 mod OnePlan

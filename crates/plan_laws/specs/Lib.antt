@@ -1,3 +1,5 @@
+pub mod EveryChoice
 pub mod Growth
 pub mod Laws
+pub mod NoChoice
 pub mod Widening

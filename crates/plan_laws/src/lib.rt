@@ -1,4 +1,6 @@
 //! Laws of plans.
 #![tactic(auto)]
 
+pub mod choices;
+pub mod denies;
 pub mod laws;

@@ -18,13 +18,17 @@ abbrev pub several_message : List PackageText → Text → List ℕ → Text
 several_message packages word candidates =
     joined (codes "several packages fit `" ∷ word ∷ codes "`: write NAME@VERSION or one of these ids" ∷ []) ++ flat_map (id_line packages) candidates
 
+-- The message that the manifest of package `p` lacks what is named.
+abbrev pub lacks_message : List PackageText → ℕ → Text → Text → Text
+lacks_message packages p lacks name = joined (codes "package " ∷ id_at packages p ∷ lacks ∷ name ∷ codes "`: look it up in its manifest" ∷ [])
+
 abbrev pub word_message : List PackageText → WordFault → Text
 word_message packages (word.UnknownPackage w) = joined (codes "no package of the document fits `" ∷ w.now ∷ codes "`: write NAME, NAME@VERSION or an id" ∷ [])
 word_message packages (word.AmbiguousPackage w candidates) = several_message packages w.now candidates.items
 word_message packages word.NoMember = joined (codes "features are asked for, and no selected package is a member of the workspace: select a member, or leave the features out" ∷ [])
 word_message packages (word.UnknownFeature w) = joined (codes "no selected member has `" ∷ w.now ∷ codes "`: write a feature of a selected member, or DEPENDENCY/FEATURE" ∷ [])
-word_message packages (word.NoFeature p feature) = joined (codes "package " ∷ id_at packages p ∷ codes " has no feature `" ∷ feature.now ∷ codes "`: look it up in its manifest" ∷ [])
-word_message packages (word.NoDependency p dependency) = joined (codes "package " ∷ id_at packages p ∷ codes " declares no dependency `" ∷ dependency.now ∷ codes "`: look it up in its manifest" ∷ [])
+word_message packages (word.NoFeature p feature) = lacks_message packages p (codes " has no feature `") feature.now
+word_message packages (word.NoDependency p dependency) = lacks_message packages p (codes " declares no dependency `") dependency.now
 word_message packages word.Memory = codes "out of memory"
 
 abbrev pub side_word : Side → Text

@@ -45,6 +45,28 @@ fn several_refused<'p>(
     }
 }
 
+/// Returns the refusal of words that name what the manifest of `package` lacks: `lacks` says what, and `name` is its name.
+fn lacks_refused(
+    alloc: Global,
+    workspace: &Workspace<'_>,
+    package: usize,
+    lacks: &str,
+    name: &str,
+) -> Fault
+    ensures { IsRefused (spec.lacks_message (workspace_text workspace.now).packages «package» lacks.now name.now) result }
+{
+    refused(
+        alloc,
+        &[
+            "package ",
+            id_at(workspace, package),
+            lacks,
+            name,
+            "`: look it up in its manifest",
+        ],
+    )
+}
+
 /// Returns the refusal of the words of a selection.
 fn selection_refused<'p>(alloc: Global, workspace: &'p Workspace<'_>, fault: WordFault<'p>) -> Fault
     ensures { IsRefused (spec.word_message (workspace_text workspace.now).packages fault.entry) result }
@@ -75,28 +97,18 @@ fn selection_refused<'p>(alloc: Global, workspace: &'p Workspace<'_>, fault: Wor
                 "`: write a feature of a selected member, or DEPENDENCY/FEATURE",
             ],
         ),
-        WordFault::NoFeature { package, feature } => refused(
-            alloc,
-            &[
-                "package ",
-                id_at(workspace, package),
-                " has no feature `",
-                feature,
-                "`: look it up in its manifest",
-            ],
-        ),
+        WordFault::NoFeature { package, feature } => {
+            lacks_refused(alloc, workspace, package, " has no feature `", feature)
+        }
         WordFault::NoDependency {
             package,
             dependency,
-        } => refused(
+        } => lacks_refused(
             alloc,
-            &[
-                "package ",
-                id_at(workspace, package),
-                " declares no dependency `",
-                dependency,
-                "`: look it up in its manifest",
-            ],
+            workspace,
+            package,
+            " declares no dependency `",
+            dependency,
         ),
         WordFault::Memory => Fault::Memory,
     }

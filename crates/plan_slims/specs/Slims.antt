@@ -6,7 +6,7 @@ use Rattle.cargo_plans.specs.Plans.{AfterWords, IsPlanOf, WordsText}
 use Rattle.cargo_plans.specs.Refusals.{IsRefusal}
 use Rattle.cargo_plans.specs.declared.fault.PlanFault.{PlanFault}
 use Rattle.cargo_plans.specs.declared.fault.PlanFault.TheVariants as fault
-use Rattle.plan_losses.specs.Losses.{LossesText, losses_of}
+use Rattle.plan_slims.specs.Losses.{LossesText, losses_of}
 use Rattle.cargo_plans.specs.plan_steps.Plans.{PlanText}
 use Rattle.cargo_plans.specs.plan_units.Units.{UnitText}
 use Rattle.workspace_edits.specs.Edits.{EditText, edited_text, edits_of}

@@ -1,8 +1,13 @@
-//! The edits of declarations after which a build has fewer packages or features.
+//! The edits of declarations after which a build has fewer packages or features, and what one plan of a workspace builds and another
+//! doesn't.
 #![tactic(auto)]
 
+mod groups;
+mod loss;
+mod losses;
 mod lost;
 mod orders;
+mod places;
 mod slims;
 mod trials;
 

@@ -5,7 +5,6 @@ use Rattle.guppy_support.specs.Graph.{Graph, IsDigraph, sources, targets}
 use Rattle.guppy_support.specs.Bits.{members}
 use Rattle.guppy_support.specs.Rows.{places}
 use Rattle.digraph_orders.specs.inner.Ranks.{IsRanking}
-use Rattle.digraph_orders.specs.inner.Widths.{IsNarrow}
 use Rattle.digraph_orders.specs.Orders.{IsNext}
 use Rattle.digraph_orders.specs.inner.Queues.{Joins}
 use Rattle.digraph_orders.specs.inner.Counts.{count_below, IsTally, enters, holds}
@@ -109,10 +108,9 @@ pub record StartsGrow (row held : List ℕ) (k : ℕ) (old new : List ℕ) : Typ
   pub stays : k ≢ 0 → new ≡ old
   pub grows : k ≡ 0 → (x : ℕ) × IsFirst row held x × Joins old x new
 
--- The input: a digraph that fits, and a rank for each node's component, below the number of nodes.
+-- The input: a digraph, and a rank for each node's component, below the number of nodes.
 pub record IsSetup (g : Graph) (ranks : List ℕ) : Type 0 where
   pub digraph : IsDigraph g
-  pub narrow : IsNarrow g
   pub ranking : IsRanking g ranks
   pub small : (v : ℕ) → v < g.nodes → slice_index ranks v < g.nodes
 

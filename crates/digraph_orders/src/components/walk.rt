@@ -57,7 +57,6 @@ impl Walk {
     /// Enters `node`, which isn't entered and is reachable from each pending node. An allocation failure is the
     /// only error.
     fn enter(&mut self, graph: &Digraph, node: usize) -> Result<(), AllocError>
-        requires narrow { (2 * graph.now.nodes < 2 ^ 32) × (length graph.now.edges < 2 ^ 32) }
         requires walk { IsWalk graph.now self.old }
         requires node { node < graph.now.nodes }
         requires new { slice_index self.old.marks.items node ≡ 0 }
@@ -68,6 +67,7 @@ impl Walk {
         ensures entered { OnOk result (slice_index self.new.marks.items node ≢ 0) }
     {
         graph.facts();
+        graph.bounds();
         let edges = graph.out_edges(node);
         let place = self.pending.len() as u32;
         self.pending.push(node as u32)?;
@@ -81,7 +81,6 @@ impl Walk {
     /// Closes the last open node `top`, which has no edges left. If a component begins with it, the component
     /// gets its rank.
     fn close(&mut self, graph: &Digraph, top: usize)
-        requires narrow { 2 * graph.now.nodes < 2 ^ 32 }
         requires walk { IsWalk graph.now self.old }
         requires opened { 0 < length self.old.opened.items }
         requires top { slice_index self.old.opened.items (length self.old.opened.items - 1) ≡ top }
@@ -91,6 +90,7 @@ impl Walk {
         ensures kept { (v : ℕ) → slice_index self.old.marks.items v ≢ 0 → slice_index self.new.marks.items v ≢ 0 }
     {
         graph.facts();
+        graph.bounds();
         let place = self.marks[top] - 1;
         let _ = self.opened.pop();
         let _ = self.left.pop();
@@ -155,7 +155,6 @@ impl Walk {
     /// Looks at the next edge of the last open node: enters its target, or passes the edge if the target was
     /// entered. If no edge is left, closes the node. An allocation failure is the only error.
     fn step(&mut self, graph: &Digraph) -> Result<(), AllocError>
-        requires narrow { (2 * graph.now.nodes < 2 ^ 32) × (length graph.now.edges < 2 ^ 32) }
         requires walk { IsWalk graph.now self.old }
         requires opened { 0 < length self.old.opened.items }
         ensures walk { OnOk result (IsWalk graph.now self.new) }
@@ -178,7 +177,6 @@ impl Walk {
     /// Enters `root` if it wasn't entered, and walks until no node is open. An allocation failure is the only
     /// error.
     fn visit(&mut self, graph: &Digraph, root: usize) -> Result<(), AllocError>
-        requires narrow { (2 * graph.now.nodes < 2 ^ 32) × (length graph.now.edges < 2 ^ 32) }
         requires walk { IsWalk graph.now self.old }
         requires none { length self.old.opened.items ≡ 0 }
         requires root { root < graph.now.nodes }
@@ -200,10 +198,10 @@ impl Walk {
 
 /// Returns a walk that has entered no node.
 fn fresh(alloc: Global, graph: &Digraph) -> Result<Walk, AllocError>
-    requires narrow { 2 * graph.now.nodes < 2 ^ 32 }
     ensures walk { IfOk result (λ w. IsWalk graph.now w) }
     ensures none { IfOk result (λ w. length w.opened.items ≡ 0) }
 {
+    graph.bounds();
     let nodes = graph.node_count();
     let marks = zeroes(alloc, nodes)?;
     Ok(Walk {
@@ -218,7 +216,6 @@ fn fresh(alloc: Global, graph: &Digraph) -> Result<Walk, AllocError>
 
 /// Returns the finished walk from every node: each mark is a rank. An allocation failure is the only error.
 pub(crate) fn walked(alloc: Global, graph: &Digraph) -> Result<Walk, AllocError>
-    requires narrow { (2 * graph.now.nodes < 2 ^ 32) × (length graph.now.edges < 2 ^ 32) }
     ensures walk { IfOk result (λ w. IsWalk graph.now w) }
     ensures whole { IfOk result (λ w. (v : ℕ) → v < graph.now.nodes → graph.now.nodes < slice_index w.marks.items v) }
 {

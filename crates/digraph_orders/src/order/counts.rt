@@ -37,7 +37,7 @@ fn count_edge(
     ensures entering { AreEntering graph.now ranks.now (number + 1) outside.new.items }
     ensures holding { AreHolding graph.now ranks.now (number + 1) held.new.items }
 {
-    let _edges = graph.edge_count();
+    graph.bounds();
     let edge = edge_at(graph, number);
     let rank = ranks[edge.to];
     if ranks[edge.from] != rank {

@@ -6,8 +6,8 @@ use Rattle.feature_edges.specs.guppy_packages.declared.direction.DependencyDirec
 use Rattle.feature_edges.specs.guppy_packages.declared.direction.DependencyDirection.TheVariants.{Forward, Reverse}
 use Rattle.walk_engine.specs.declared.walks.Ask.{Ask}
 use Rattle.walk_engine.specs.Walks.{Way, Content}
-use Rattle.feature_core.specs.declared.packed.Asking.{Asking}
-use Rattle.feature_core.specs.declared.packed.Asking.TheVariants.{Offers, Chosen}
+use Rattle.feature_core.specs.declared.directed_edges.Asking.{Asking}
+use Rattle.feature_core.specs.declared.directed_edges.Asking.TheVariants.{Offers, Chosen}
 use Rattle.feature_edges.specs.feature_links.Facts.{EdgeFacts}
 use Rattle.feature_edges.specs.Pairs.{IsBefore}
 use Rattle.feature_edges.specs.Choices.{is_chosen}

@@ -3,9 +3,9 @@ use Rattle.std.specs.Prelude.{◌≡◌, ℕ, ◌⊎◌, List, [], ◌∷◌, �
 use Rattle.guppy_packages.specs.Tables.{LinkTable, Tables}
 use Rattle.feature_links.specs.Links.{IsLink}
 use Rattle.feature_links.specs.Facts.{EdgeFacts}
-use Rattle.feature_edges.specs.declared.key.CandidateKind.TheVariants.{FeatureToBase, DepColon, SlashFull, SlashOptional, SlashWeak, Section}
-use Rattle.feature_edges.specs.declared.key.Key.{Key}
-use Rattle.feature_edges.specs.declared.edge_table.MadeEdges.{MadeEdges}
+use Rattle.feature_edges.specs.declared.candidate.CandidateKind.TheVariants.{FeatureToBase, DepColon, SlashFull, SlashOptional, SlashWeak, Section}
+use Rattle.feature_edges.specs.declared.candidate.Key.{Key}
+use Rattle.feature_edges.specs.declared.table.MadeEdges.{MadeEdges}
 use Rattle.feature_edges.specs.inner.Made.{IsValueOf, edge_end}
 use Rattle.feature_edges.specs.inner.Parts.{IsOfTables}
 

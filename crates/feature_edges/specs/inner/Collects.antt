@@ -6,8 +6,8 @@ use Rattle.guppy_packages.specs.Rows.{Text}
 use Rattle.guppy_packages.specs.Tables.{LinkTable, Tables}
 use Rattle.feature_edges.specs.Warnings.{Warning, lack_over, of_package, of_link, warnings_in}
 use Rattle.feature_edges.specs.inner.Adds.{Adds}
-use Rattle.feature_edges.specs.declared.key.Key.{Key}
-use Rattle.feature_edges.specs.declared.collected.Collected.{Collected}
+use Rattle.feature_edges.specs.declared.candidate.Key.{Key}
+use Rattle.feature_edges.specs.declared.collect.Collected.{Collected}
 
 -- The keys that satisfy `P` are added, and the warnings `items` and `names` are appended.
 pub record Collects (P : Key → Type 0) (items names : List Warning) (old new : Collected) : Type 0 where

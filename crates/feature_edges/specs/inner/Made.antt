@@ -10,10 +10,10 @@ use Rattle.feature_edges.specs.Edges.{facts_of, first_ones}
 use Rattle.feature_edges.specs.inner.Keys.{kind_of, IsNoLater, IsPair, IsBefore, AreLeast}
 use Rattle.feature_links.specs.NamedLinks.{AreNamedLinks}
 use Rattle.feature_edges.specs.inner.Parts.{IsOfSource, IsOfTables}
-use Rattle.feature_edges.specs.declared.key.Key.{Key}
+use Rattle.feature_edges.specs.declared.candidate.Key.{Key}
 use Rattle.feature_edges.specs.inner.Weak.{AreGates, weak_sources}
-use Rattle.feature_edges.specs.declared.edges.Material.{Material}
-use Rattle.feature_edges.specs.declared.edge_table.MadeEdges.{MadeEdges}
+use Rattle.feature_edges.specs.declared.make.Material.{Material}
+use Rattle.feature_edges.specs.declared.table.MadeEdges.{MadeEdges}
 
 -- The input for edges: the numbers of nodes, and the links by name.
 pub record IsMaterial (m : Material) : Type 0 where

@@ -6,12 +6,12 @@ use Rattle.guppy_packages.specs.Items.{Item, feature_item, optional_item, slash_
 use Rattle.feature_labels.specs.Names.{LabelName}
 use Rattle.feature_labels.specs.Names.LabelName.{base, named, optional}
 use Rattle.feature_labels.specs.declared.link_declarations.LinkDeclarations.TheVariants.{Optional}
-use Rattle.feature_edges.specs.declared.key.CandidateKind.{CandidateKind}
-use Rattle.feature_edges.specs.declared.key.CandidateKind.TheVariants.{FeatureToBase, NamedFeature, DepColon, SlashFull, SlashOptional, SlashWeak, Section}
+use Rattle.feature_edges.specs.declared.candidate.CandidateKind.{CandidateKind}
+use Rattle.feature_edges.specs.declared.candidate.CandidateKind.TheVariants.{FeatureToBase, NamedFeature, DepColon, SlashFull, SlashOptional, SlashWeak, Section}
 use Rattle.feature_edges.specs.Nodes.{NodeAt, labels_of, first_node}
 use Rattle.feature_links.specs.Links.{IsPackage, IsLink, has_declaration}
 use Rattle.feature_edges.specs.Candidates.{requests}
-use Rattle.feature_edges.specs.declared.key.Key.{Key}
+use Rattle.feature_edges.specs.declared.candidate.Key.{Key}
 
 abbrev pub key : ℕ → ℕ → CandidateKind → ℕ → ℕ → Key
 key from to kind source place = record { from = from; to = to; kind = kind; source = source; place = place }

@@ -3,10 +3,10 @@ use Rattle.std.specs.Prelude.{◌≡◌, ℕ, List, IsTrue, Option, None, Some, 
 use Rattle.guppy_packages.specs.Tables.{LinkTable, Tables}
 use Rattle.feature_labels.specs.declared.link_declarations.LinkDeclarations.TheVariants.{Optional}
 use Rattle.feature_links.specs.Links.{IsLink, has_declaration}
-use Rattle.feature_edges.specs.declared.key.CandidateKind.{CandidateKind}
-use Rattle.feature_edges.specs.declared.key.CandidateKind.TheVariants.{FeatureToBase, NamedFeature, DepColon, SlashFull, SlashOptional, SlashWeak, Section}
+use Rattle.feature_edges.specs.declared.candidate.CandidateKind.{CandidateKind}
+use Rattle.feature_edges.specs.declared.candidate.CandidateKind.TheVariants.{FeatureToBase, NamedFeature, DepColon, SlashFull, SlashOptional, SlashWeak, Section}
 use Rattle.feature_edges.specs.Edges.{IsGate}
-use Rattle.feature_edges.specs.declared.key.Key.{Key}
+use Rattle.feature_edges.specs.declared.candidate.Key.{Key}
 
 -- The package link of a candidate of this kind from package link `k`, if its edge is weak.
 abbrev pub weak_source_of : CandidateKind → ℕ → Option ℕ

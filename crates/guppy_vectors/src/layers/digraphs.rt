@@ -51,8 +51,11 @@ fn tell_edges_at(out: &Out, graph: &Digraph, node: usize) {
             out.number(" ", number);
         }
         out.part(", in");
-        for number in graph.in_edges(node) {
-            out.number(" ", *number as usize);
+        for place in 0..graph.edge_count() {
+            let Some(number) = graph.in_edge(node, place) else {
+                break;
+            };
+            out.number(" ", number);
         }
     }
 }

@@ -1,7 +1,7 @@
 use Rattle.std.proofs.Common.{◌≡◌, ◌++◌, flat_map, map, drop}
 use Rattle.cargo_workspaces.specs.Views.{package_text, texts}
 use Rattle.plan_duplicates.specs.Views.{alone_text}
-use Rattle.plan_joins.specs.Views.{disagreement_text}
+use Rattle.plan_duplicates.specs.DisagreementViews.{disagreement_text}
 use Rattle.duplicate_lines.specs.Shown.{alone_of}
 use Rattle.duplicate_lines.specs.Views.{shown_text}
 use Rattle.duplicate_lines.proofs.alone.push_alone.Given as goal

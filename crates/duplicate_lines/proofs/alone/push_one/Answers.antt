@@ -4,8 +4,8 @@ use Rattle.cargo_workspaces.specs.Views.{package_text, texts}
 use Rattle.cargo_workspaces.specs.Workspaces.{PackageText, Text}
 use Rattle.plan_duplicates.specs.Views.{alone_text, member_unit_text}
 use Rattle.plan_duplicates.specs.declared.member_units.MemberUnit.{MemberUnit}
-use Rattle.plan_joins.specs.Disagreements.{is_agreed}
-use Rattle.plan_joins.specs.Views.{disagreement_text}
+use Rattle.plan_duplicates.specs.Disagreements.{is_agreed}
+use Rattle.plan_duplicates.specs.DisagreementViews.{disagreement_text}
 use Rattle.duplicate_lines.specs.Shown.{alone_lines, place_name}
 use Rattle.duplicate_lines.specs.Views.{shown_text}
 use Rattle.duplicate_lines.proofs.Lists.{nothing}

@@ -15,5 +15,5 @@ returns-else-place-numbers-clause-edge c =
 
 pub returns-in-Backward-clause-edge : goal.returns-in-Backward-clause-edge
 returns-in-Backward-clause-edge c =
-    c.number_at.ensures.number
-    ∙ ap (λ xs. slice_get xs c.args.place) (c.in_edges.ensures ∙ starting_backward c.args.reading c.args.digraph.now.edges c.args.node c.in-Backward.is)
+    c.in_edge.ensures.number
+    ∙ ap (λ xs. slice_get xs c.args.place) (starting_backward c.args.reading c.args.digraph.now.edges c.args.node c.in-Backward.is)

@@ -9,7 +9,7 @@ overflow_add-index_mut c =
     let d = get_or c.args.ranks.now c.edge_at-edge.result.to 0 in
     let read = get_or_read c.args.outside.now.items d c.index_mut.result.now (omega (arith, c.requires.setup.small _ e.node_to, c.requires.entering.long)) c.index_mut.ensures.value 0 in
     let r = room c.args.graph.now c.args.ranks.now c.requires.setup c.args.number _ _ _ e c.args.outside.now.items c.requires.entering in
-    omega (arith, read, r, c.requires.setup.narrow.edges)
+    omega (arith, read, r, c.bounds.ensures.edges)
 
 pub returns-then-ranks-edge-clause-entering : goal.returns-then-ranks-edge-clause-entering
 returns-then-ranks-edge-clause-entering c =
@@ -28,7 +28,7 @@ overflow_add-index_mut-2 c =
     let e = c.edge_at-edge.ensures in
     let read = get_or_read c.args.held.now.items c.edge_at-edge.result.to c.index_mut-2.result.now (omega (arith, e.node_to, c.requires.holding.long)) c.index_mut-2.ensures.value 0 in
     let r = room_held c.args.graph.now c.args.ranks.now c.requires.setup c.args.number _ _ _ e c.args.held.now.items c.requires.holding in
-    omega (arith, read, r, c.requires.setup.narrow.edges)
+    omega (arith, read, r, c.bounds.ensures.edges)
 
 pub returns-clause-entering : goal.returns-clause-entering
 returns-clause-entering c =

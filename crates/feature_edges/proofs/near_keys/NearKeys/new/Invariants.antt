@@ -1,7 +1,7 @@
 use Rattle.std.proofs.Common.{◌≡◌, ℕ, Some, length}
 use Rattle.std.specs.Prelude.{slice_get}
-use Rattle.feature_edges.specs.declared.key.CandidateKind.TheVariants.{FeatureToBase}
-use Rattle.feature_edges.specs.declared.key.Key.{Key}
+use Rattle.feature_edges.specs.declared.candidate.CandidateKind.TheVariants.{FeatureToBase}
+use Rattle.feature_edges.specs.declared.candidate.Key.{Key}
 use Rattle.feature_edges.proofs.near_keys.NearKeys.new.Given as goal
 
 abbrev pub invariant-loop : goal.invariant-loop

@@ -17,14 +17,14 @@ loop-place-preserved c =
     let edges = length-map es (λ (d : Edge). d.from) in
     let inside : k < length es = omega (arith, c.loop-place-test.true, c.len-end.ensures) in
     let read = source_got es k c.edge.result inside c.edge.ensures in
-    let node = (c.requires k inside).nodes.from in
+    let node = (c.requires.sound k inside).nodes.from in
     record {
       begun = begun_up (sources es) c.loop-place.begins.items c.begin_up_to.new.begins.items c.edge.result.from k i.begun (omega (arith, edges, inside)) i.before
           (λ j g l.
           let lj : j < length es = omega (arith, l, edges) in
           elim (cases_eq k j) [
             | inl is ↦ let same : source_of es k ≡ source_of es j = rw is refl in omega (arith, read, same)
-            | inr ne ↦ omega (arith, read, (ascends digraph c.requires k j (omega arith) lj).by_first)
+            | inr ne ↦ omega (arith, read, (ascends digraph c.requires.sound k j (omega arith) lj).by_first)
           ])
           e.long e.kept e.added;
       before = λ j l. elim (cases_eq j k) [ inl is ↦ rw is (omega (arith, read, e.long)) | inr ne ↦ omega (arith, i.before j (omega arith), e.long) ];

@@ -1,6 +1,0 @@
-use Rattle.std.proofs.Common.{◌∙◌, ap}
-use Rattle.feature_core.proofs.SameData.{alike_at}
-use Rattle.feature_core.proofs.feature_graph_data.FeatureGraphData.has_same_packages.Goals as goal
-
-pub returns : goal.returns
-returns c = alike_at _ _ _ _ _ (c.as_slice-own.ensures.value ∙ ap (λ b. b.packages) c.self.view_is) (c.as_slice-others.ensures.value ∙ ap (λ b. b.packages) c.other.view_is) c.same_numbers.ensures

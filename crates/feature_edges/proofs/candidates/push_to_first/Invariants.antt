@@ -1,6 +1,0 @@
-use Rattle.feature_edges.specs.inner.Adds.{Adds, Below}
-use Rattle.feature_edges.specs.inner.Parts.{IsToFirst}
-use Rattle.feature_edges.proofs.candidates.push_to_first.Given as goal
-
-abbrev pub invariant-loop-place : goal.invariant-loop-place
-invariant-loop-place l = Adds (Below l.place (IsToFirst l.first)) l.initial.keys.items l.keys.items

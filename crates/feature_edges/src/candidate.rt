@@ -1,0 +1,115 @@
+//! Candidates for edges as small keys, and the runs of keys of one pair.
+ghost use Rattle.std.specs.Prelude.{◌≡◌, ◌≤◌, ◌↔◌, All, IsTrue, IsPermutation, AllPairs, OnOk, Some, length, slice_get, take};
+ghost use Rattle.feature_edges.specs.declared.candidate.Key.{Key as KeyValue};
+ghost use Rattle.feature_edges.specs.inner.Keys.{IsNoLater, IsPair, IsSplitRun};
+
+use std::alloc::{AllocError, Global};
+
+/// The kinds of candidates, by rank: of the candidates of a pair of nodes, the one of the first kind is the edge.
+#[derive(Clone, Copy, PartialEq, Eq, PartialOrd, Ord)]
+pub(crate) enum CandidateKind {
+    /// From another node of a package to its base.
+    FeatureToBase,
+
+    /// For an item that names a feature of the same package.
+    NamedFeature,
+
+    /// For an item `dep:d`.
+    DepColon,
+
+    /// For an item `d/g`, or `d?/g`, to the feature `g` of a link's target. Its edge covers all declarations of the link.
+    SlashFull,
+
+    /// For an item `d/g`, to the optional dependency `d`, or to the feature `d` of the same package.
+    SlashOptional,
+
+    /// For an item `d?/g`, to the feature `g` of the target of a link with an optional declaration.
+    SlashWeak,
+
+    /// For a declaration, to a feature of the link's target that it requests.
+    Section,
+}
+
+impl CandidateKind {
+    /// Returns whether the edge of a candidate of this kind is weak.
+    pub(crate) fn is_weak(self) -> bool
+        ensures { IsTrue result ↔ (self ≡ CandidateKind.SlashWeak) }
+    {
+        matches!(self, CandidateKind::SlashWeak)
+    }
+}
+
+/// A candidate for the edge of a pair of nodes.
+///
+/// Keys are ordered by the pair, then by `kind`. `source` is the number of the candidate's package link, and `place` the index of
+/// its declaration there; both are 0 if the pair determines the candidate. The fields have 32 bits each or fewer, because a
+/// package with 100,000 features has hundreds of thousands of keys.
+#[derive(Clone, Copy, PartialEq, Eq, PartialOrd, Ord)]
+pub(crate) struct Key {
+    pub(crate) from: u32,
+    pub(crate) to: u32,
+    pub(crate) kind: CandidateKind,
+    pub(crate) source: u32,
+    pub(crate) place: u32,
+}
+
+/// Sorts `keys` by pair, kind, source and place. They contain long sorted runs, which a merge sort uses.
+pub(crate) fn sort_keys(keys: &mut Vec<Key>) -> Result<(), AllocError>
+    ensures permutation { IsPermutation keys.old.items keys.new.items }
+    ensures sorted { OnOk result (AllPairs IsNoLater keys.new.items) }
+{
+    keys.sort()?;
+    Ok(())
+}
+
+/// Sorts `keys` from index `start` on.
+fn sort_end(alloc: Global, keys: &mut [Key], start: usize) -> Result<(), AllocError>
+    requires { start ≤ length keys.old }
+    ensures { IsPermutation keys.old keys.new }
+{
+    let (_, end) = keys.split_at_mut(start);
+    end.sort(alloc)
+}
+
+/// Sorts `keys` from index `start` on. Sorting each part when it is complete leaves the whole mostly sorted.
+pub(crate) fn sort_keys_from(
+    alloc: Global,
+    keys: &mut Vec<Key>,
+    start: usize,
+) -> Result<(), AllocError>
+    ensures { OnOk result (IsPermutation keys.old.items keys.new.items) }
+{
+    let start = start.min(keys.len());
+    sort_end(alloc, keys.as_mut_slice(), start)
+}
+
+/// Returns whether two keys are of one pair.
+fn is_pair(a: Key, b: Key) -> bool
+    ensures { IsTrue result ↔ IsPair a b }
+{
+    a.from == b.from && a.to == b.to
+}
+
+/// Returns the number of keys at the front of `keys` that are of the pair of `key`.
+fn run_length(keys: &[Key], key: Key) -> usize
+    ensures within { result ≤ length keys.now }
+    ensures same { All (IsPair key) (take result keys.now) }
+    ensures end { (y : KeyValue) → slice_get keys.now result ≡ Some y → IsPair key y → ⊥ }
+{
+    for ix in 0..keys.len() {
+        if !is_pair(key, keys[ix]) {
+            return ix;
+        }
+    }
+    keys.len()
+}
+
+/// Splits sorted keys, of which `key` is the first, after those of its pair.
+pub(crate) fn split_run(keys: &[Key], key: Key) -> (&[Key], &[Key])
+    requires ordered { AllPairs IsNoLater keys.now }
+    requires first { slice_get keys.now 0 ≡ Some key }
+    ensures { IsSplitRun keys.now key result.0.now result.1.now }
+{
+    let count = run_length(keys, key);
+    keys.split_at(count)
+}

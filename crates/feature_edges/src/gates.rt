@@ -1,0 +1,44 @@
+//! The weak links of keys, with their gates.
+ghost use Rattle.std.specs.Prelude.{◌≡◌, ◌++◌, ◌∷◌, [], ℕ, List, Contains, OnOk, map};
+ghost use Rattle.feature_edges.specs.declared.candidate.Key.{Key as KeyValue};
+ghost use Rattle.feature_edges.specs.Edges.{IsGate, first_ones};
+ghost use Rattle.feature_edges.specs.inner.Parts.{IsOfTables};
+ghost use Rattle.feature_edges.specs.inner.Weak.{IsOptionalLink, AreGates, weak_sources};
+
+use crate::candidate::{CandidateKind, Key};
+use crate::node_numbers::Numbers;
+use indexmap::IndexMap;
+use std::alloc::AllocError;
+
+/// Returns the gate of weak link `ix`: the node of its name among the optional dependencies of its source.
+fn gate_of(numbers: Numbers<'_>, ix: usize) -> usize
+    requires { IsOptionalLink numbers.graph.now ix }
+    ensures { IsGate numbers.entry.graph.now ix result }
+{
+    numbers.graph.facts();
+    let link = numbers.graph.link(ix);
+    match numbers.optional(link.from(), link.dep_name()) {
+        Some(gate) => gate,
+        None => unreachable!(),
+    }
+}
+
+/// Inserts the weak link of `key` and its gate into `table`, if the edge of `key` is weak.
+pub(crate) fn note_gate(
+    table: &mut IndexMap<usize, usize>,
+    numbers: Numbers<'_>,
+    key: Key,
+) -> Result<(), AllocError>
+    requires { IsOfTables numbers.graph.now key }
+    ensures links { OnOk result ((done : List KeyValue) → map (λ e. e.0) table.old.entries ≡ first_ones (weak_sources done) → map (λ e. e.0) table.new.entries ≡ first_ones (weak_sources (done ++ key ∷ []))) }
+    ensures grown { OnOk result ((more : List ℕ) × (map (λ e. e.0) table.new.entries ≡ map (λ e. e.0) table.old.entries ++ more)) }
+    ensures noted { OnOk result (key.kind ≡ CandidateKind.SlashWeak → Contains (map (λ e. e.0) table.new.entries) key.source) }
+    ensures gates { OnOk result (AreGates numbers.entry.graph.now table.old.entries → AreGates numbers.entry.graph.now table.new.entries) }
+{
+    if !key.kind.is_weak() {
+        return Ok(());
+    }
+    let gate = gate_of(numbers, key.source as usize);
+    table.insert(key.source as usize, gate)?;
+    Ok(())
+}

@@ -1,0 +1,337 @@
+//! The edges of a package graph and its warnings, package by package.
+ghost use Rattle.std.specs.Prelude.{◌≡◌, ◌++◌, ◌∷◌, [], ℕ, ◌+◌, ◌<◌, Contains, IfOk, List, OnOk, Some, length, map, slice_get};
+ghost use Rattle.indexmap.specs.IndexMap.{keys};
+ghost use Rattle.feature_edges.specs.declared.candidate.Key.{Key as KeyValue};
+ghost use Rattle.feature_edges.specs.EdgeEnds.{pairs_of, built_edges, end_of};
+ghost use Rattle.feature_edges.specs.Edges.{AreBuilt};
+ghost use Rattle.feature_links.specs.Facts.{EdgeFacts};
+ghost use Rattle.feature_edges.specs.inner.Alike.{AreNear, IsAdded, IsAppended};
+ghost use Rattle.feature_edges.specs.inner.Keys.{AreLeast};
+ghost use Rattle.feature_edges.specs.inner.Made.{IsMaterial, IsRun, AreMade, AreMadeBelow, AreWholeKeys, edge_end};
+ghost use Rattle.feature_links.specs.NamedLinks.{AreNamedLinks};
+ghost use Rattle.feature_edges.specs.inner.Collects.{AreWarningsBelow};
+ghost use Rattle.feature_edges.specs.Nodes.{first_nodes, node_packages};
+ghost use Rattle.feature_edges.specs.Pairs.{IsPairList};
+ghost use Rattle.feature_edges.specs.inner.Parts.{IsOfTables};
+ghost use Rattle.feature_edges.specs.Warnings.{warnings, warnings_in};
+ghost use Rattle.feature_links.specs.Values.{edge_facts};
+ghost use Rattle.guppy_packages.specs.Tables.{Tables};
+
+use crate::candidate::{CandidateKind, Key, split_run};
+use crate::collect::{Collected, collect_package};
+use crate::gates::note_gate;
+use crate::make::{Material, edge_of};
+use crate::near_keys::NearKeys;
+use crate::node_numbers::Numbers;
+use crate::nodes::NodeTable;
+use crate::pool::EdgeList;
+use crate::warnings::FeatureGraphWarning;
+use feature_links::{FeatureEdge, LinkGroups};
+use guppy_support::{Digraph, Edge, EdgeColumns};
+use indexmap::IndexMap;
+use std::alloc::{AllocError, Global};
+
+/// The edges, sorted by source and then by target, and the gate of each weak link.
+#[derive(Drop)]
+pub struct EdgeTable {
+    pub digraph: Digraph,
+    pub edges: EdgeList,
+    pub weak: IndexMap<usize, usize>,
+}
+
+/// Returns the digraph's edge of `key`, whose built edge is `edge`.
+fn edge_end(key: Key, edge: &FeatureEdge) -> Edge
+    ensures { result ≡ edge_end key (edge_facts edge.now) }
+{
+    Edge {
+        from: key.from as usize,
+        to: key.to as usize,
+        non_dev: !edge.is_dev_only(),
+    }
+}
+
+/// The edges of keys, one after the other: their values, their ends, and the gate of each weak link.
+#[derive(Drop)]
+pub(crate) struct MadeEdges {
+    edges: EdgeList,
+    ends: EdgeColumns,
+    weak: IndexMap<usize, usize>,
+}
+
+/// Buffers that packages share: a package's keys beside the warnings so far, and recent keys.
+#[derive(Drop)]
+struct Room {
+    collected: Collected,
+    near: NearKeys,
+}
+
+impl Room {
+    /// Returns empty buffers.
+    fn new(alloc: Global) -> Result<Room, AllocError>
+        ensures warnings { IfOk result (λ room. (t : Tables) → AreWarningsBelow t 0 room.collected) }
+        ensures near { IfOk result (λ room. (i : ℕ) (x : KeyValue) (number : ℕ) → slice_get room.near i ≡ Some (x, number) → x.kind ≡ CandidateKind.FeatureToBase) }
+    {
+        let near = NearKeys::new(alloc)?;
+        Ok(Room {
+            collected: Collected::new(alloc),
+            near,
+        })
+    }
+}
+
+impl MadeEdges {
+    /// Builds and appends the edge of `key`, whose weak link is noted. `run` has the keys of its pair.
+    fn make(
+        &mut self,
+        alloc: Global,
+        material: Material<'_, '_>,
+        key: Key,
+        run: &[Key],
+    ) -> Result<(), AllocError>
+        requires material { IsMaterial material }
+        requires of_tables { IsOfTables material.numbers.graph.now key }
+        requires run { IsRun material.numbers.graph.now key run.now }
+        requires noted { key.kind ≡ CandidateKind.SlashWeak → Contains (keys self.now.weak) key.source }
+        ensures { OnOk result (IsAdded material.entry.numbers.graph.now key self.old self.new) }
+    {
+        let edge = edge_of(alloc, material, &self.weak, key, run)?;
+        self.ends.push(edge_end(key, &edge))?;
+        self.edges.push(edge)?;
+        Ok(())
+    }
+
+    /// Appends edge `number` again, as the edge of `key`.
+    fn repeat(&mut self, key: Key, number: usize) -> Result<(), AllocError>
+        requires { number < length self.now.edges }
+        ensures { OnOk result ((f : EdgeFacts) → slice_get self.old.edges number ≡ Some f → IsAppended key f self.old self.new) }
+    {
+        let end = edge_end(key, self.edges.get(number));
+        self.ends.push(end)?;
+        self.edges.repeat(number)?;
+        Ok(())
+    }
+
+    /// Appends the edge of `key`, whose weak link is noted. If a recent key is alike, its edge is repeated.
+    fn add_noted(
+        &mut self,
+        alloc: Global,
+        material: Material<'_, '_>,
+        near: &mut NearKeys,
+        key: Key,
+        run: &[Key],
+    ) -> Result<(), AllocError>
+        requires material { IsMaterial material }
+        requires of_tables { IsOfTables material.numbers.graph.now key }
+        requires run { IsRun material.numbers.graph.now key run.now }
+        requires noted { key.kind ≡ CandidateKind.SlashWeak → Contains (keys self.now.weak) key.source }
+        requires near { AreNear material.numbers.graph.now self.now near.now }
+        ensures added { OnOk result (IsAdded material.entry.numbers.graph.now key self.old self.new) }
+        ensures near { OnOk result (AreNear material.entry.numbers.graph.now self.new near.new) }
+    {
+        material.numbers.graph.facts();
+        match near.alike(material.numbers, key) {
+            Some(number) => self.repeat(key, number),
+            None => {
+                near.insert(key, self.edges.len());
+                self.make(alloc, material, key, run)
+            }
+        }
+    }
+
+    /// Appends the edge of `key`. `run` has the keys of its pair.
+    fn add(
+        &mut self,
+        alloc: Global,
+        material: Material<'_, '_>,
+        near: &mut NearKeys,
+        key: Key,
+        run: &[Key],
+    ) -> Result<(), AllocError>
+        requires material { IsMaterial material }
+        requires of_tables { IsOfTables material.numbers.graph.now key }
+        requires run { IsRun material.numbers.graph.now key run.now }
+        requires near { AreNear material.numbers.graph.now self.now near.now }
+        ensures made { OnOk result ((done : List KeyValue) → AreMade material.entry.numbers.graph.now done self.old → AreMade material.entry.numbers.graph.now (done ++ key ∷ []) self.new) }
+        ensures near { OnOk result (AreNear material.entry.numbers.graph.now self.new near.new) }
+    {
+        note_gate(&mut self.weak, material.numbers, key)?;
+        self.add_noted(alloc, material, near, key, run)
+    }
+
+    /// Appends the edges of sorted keys, one for each pair.
+    fn add_all(
+        &mut self,
+        alloc: Global,
+        material: Material<'_, '_>,
+        near: &mut NearKeys,
+        keys: &[Key],
+    ) -> Result<(), AllocError>
+        requires material { IsMaterial material }
+        requires keys { AreWholeKeys material.numbers.graph.now keys.now }
+        requires near { AreNear material.numbers.graph.now self.now near.now }
+        ensures made { OnOk result ((kept : List KeyValue) × AreLeast keys.now kept × ((done : List KeyValue) → AreMade material.entry.numbers.graph.now done self.old → AreMade material.entry.numbers.graph.now (done ++ kept) self.new)) }
+        ensures near { OnOk result (AreNear material.entry.numbers.graph.now self.new near.new) }
+    {
+        let mut rest = keys;
+        while rest.len() > 0 {
+            let key = rest[0];
+            let (run, later) = split_run(rest, key);
+            self.add(alloc, material, near, key, run)?;
+            rest = later;
+        }
+        Ok(())
+    }
+
+    /// Appends the edges of the nodes of package `ix`, and its warnings.
+    fn add_package(
+        &mut self,
+        alloc: Global,
+        numbers: Numbers<'_>,
+        packages: &[usize],
+        groups: &LinkGroups<'_>,
+        room: &mut Room,
+        ix: usize,
+    ) -> Result<(), AllocError>
+        requires packages { packages.now ≡ node_packages numbers.graph.now }
+        requires links { AreNamedLinks numbers.graph.now groups.now }
+        requires package { ix < length numbers.graph.now.packages }
+        requires made { AreMadeBelow numbers.graph.now ix self.old }
+        requires warnings { AreWarningsBelow numbers.graph.now ix room.old.collected }
+        requires near { AreNear numbers.graph.now self.now room.now.near }
+        ensures made { OnOk result (AreMadeBelow numbers.entry.graph.now (ix + 1) self.new) }
+        ensures warnings { OnOk result (AreWarningsBelow numbers.entry.graph.now (ix + 1) room.new.collected) }
+        ensures near { OnOk result (AreNear numbers.entry.graph.now self.new room.new.near) }
+    {
+        collect_package(&mut room.collected, alloc, numbers, groups, ix)?;
+        let material = Material {
+            numbers,
+            packages,
+            groups,
+        };
+        self.add_all(alloc, material, &mut room.near, &room.collected.keys)?;
+        Ok(())
+    }
+
+    /// Appends the edges of the nodes of all packages, and the warnings.
+    fn add_packages(
+        &mut self,
+        alloc: Global,
+        numbers: Numbers<'_>,
+        packages: &[usize],
+        groups: &LinkGroups<'_>,
+        room: &mut Room,
+    ) -> Result<(), AllocError>
+        requires packages { packages.now ≡ node_packages numbers.graph.now }
+        requires links { AreNamedLinks numbers.graph.now groups.now }
+        requires made { AreMadeBelow numbers.graph.now 0 self.old }
+        requires warnings { AreWarningsBelow numbers.graph.now 0 room.old.collected }
+        requires near { AreNear numbers.graph.now self.now room.now.near }
+        ensures made { OnOk result (AreMadeBelow numbers.entry.graph.now (length numbers.entry.graph.now.packages) self.new) }
+        ensures warnings { OnOk result (AreWarningsBelow numbers.entry.graph.now (length numbers.entry.graph.now.packages) room.new.collected) }
+        ensures near { OnOk result (AreNear numbers.entry.graph.now self.new room.new.near) }
+    {
+        for ix in 0..numbers.graph.package_count() {
+            self.add_package(alloc, numbers, packages, groups, room, ix)?;
+        }
+        Ok(())
+    }
+
+    /// Appends the edges of the nodes of all packages to an empty list, and returns the warnings.
+    fn fill(
+        &mut self,
+        alloc: Global,
+        numbers: Numbers<'_>,
+        packages: &[usize],
+        groups: &LinkGroups<'_>,
+    ) -> Result<Vec<FeatureGraphWarning>, AllocError>
+        requires packages { packages.now ≡ node_packages numbers.graph.now }
+        requires links { AreNamedLinks numbers.graph.now groups.now }
+        requires made { AreMadeBelow numbers.graph.now 0 self.old }
+        ensures made { OnOk result (AreMadeBelow numbers.entry.graph.now (length numbers.entry.graph.now.packages) self.new) }
+        ensures warnings { IfOk result (λ found. warnings_in found ≡ warnings numbers.entry.graph.now) }
+    {
+        numbers.graph.facts();
+        let mut room = Room::new(alloc)?;
+        self.add_packages(alloc, numbers, packages, groups, &mut room)?;
+        room.collected.into_warnings()
+    }
+}
+
+/// Returns no edges, with capacity for `room` of them and for `own` that differ from each other.
+fn edges_with_capacity(alloc: Global, room: usize, own: usize) -> Result<MadeEdges, AllocError>
+    ensures edges { IfOk result (λ made. made.edges ≡ []) }
+    ensures ends { IfOk result (λ made. made.ends ≡ []) }
+    ensures weak { IfOk result (λ made. made.weak.entries ≡ []) }
+{
+    let edges = EdgeList::with_capacity(alloc, room, own)?;
+    let ends = EdgeColumns::with_capacity(alloc, room)?;
+    Ok(MadeEdges {
+        edges,
+        ends,
+        weak: IndexMap::new(alloc),
+    })
+}
+
+/// The capacity up to which a refused request means that memory ran out.
+const LITTLE_ROOM: usize = 1_024;
+
+/// Returns no edges, with capacity for one edge per node and four per link, and for two distinct edges per link. Most graphs need
+/// no more, and unused capacity is never touched. If that much is refused, the capacity is small.
+fn no_edges(alloc: Global, nodes: usize, links: usize) -> Result<MadeEdges, AllocError>
+    ensures edges { IfOk result (λ made. made.edges ≡ []) }
+    ensures ends { IfOk result (λ made. made.ends ≡ []) }
+    ensures weak { IfOk result (λ made. made.weak.entries ≡ []) }
+{
+    let own = links.saturating_mul(2);
+    let room = nodes.saturating_add(own.saturating_mul(2));
+    match edges_with_capacity(alloc, room, own) {
+        Err(_) if room > LITTLE_ROOM => edges_with_capacity(alloc, 0, 0),
+        made => made,
+    }
+}
+
+/// Returns the edges of the nodes of all packages, and the warnings.
+fn made_edges(
+    alloc: Global,
+    numbers: Numbers<'_>,
+    packages: &[usize],
+    groups: &LinkGroups<'_>,
+) -> Result<(MadeEdges, Vec<FeatureGraphWarning>), AllocError>
+    requires packages { packages.now ≡ node_packages numbers.graph.now }
+    requires links { AreNamedLinks numbers.graph.now groups.now }
+    ensures made { IfOk result (λ m. AreMadeBelow numbers.entry.graph.now (length numbers.entry.graph.now.packages) m.0) }
+    ensures warnings { IfOk result (λ m. warnings_in m.1 ≡ warnings numbers.entry.graph.now) }
+{
+    let mut made = no_edges(alloc, packages.len(), numbers.graph.link_count())?;
+    let warnings = made.fill(alloc, numbers, packages, groups)?;
+    Ok((made, warnings))
+}
+
+/// Returns the edges of a package graph whose nodes are in `table`, and its warnings.
+pub fn edge_table(
+    alloc: Global,
+    numbers: Numbers<'_>,
+    table: &NodeTable,
+    groups: &LinkGroups<'_>,
+) -> Result<(EdgeTable, Vec<FeatureGraphWarning>), AllocError>
+    requires firsts { table.now.firsts.items ≡ first_nodes numbers.graph.now }
+    requires packages { table.now.packages.items ≡ node_packages numbers.graph.now }
+    requires links { AreNamedLinks numbers.graph.now groups.now }
+    ensures nodes { IfOk result (λ e. e.0.digraph.nodes ≡ length table.now.packages.items) }
+    ensures pairs { IfOk result (λ e. IsPairList numbers.entry.graph.now (pairs_of e.0.digraph.edges)) }
+    ensures long { IfOk result (λ e. length e.0.edges ≡ length e.0.digraph.edges) }
+    ensures ends { IfOk result (λ e. e.0.digraph.edges ≡ map end_of (built_edges e.0.digraph.edges e.0.edges)) }
+    ensures edges { IfOk result (λ e. AreBuilt numbers.entry.graph.now (built_edges e.0.digraph.edges e.0.edges) e.0.weak.entries) }
+    ensures warnings { IfOk result (λ e. warnings_in e.1 ≡ warnings numbers.entry.graph.now) }
+{
+    numbers.graph.facts();
+    let (made, warnings) = made_edges(alloc, numbers, table.packages.as_slice(), groups)?;
+    let MadeEdges { edges, ends, weak } = made;
+    let digraph = Digraph::from_columns(alloc, table.packages.len(), ends)?;
+    let edge_table = EdgeTable {
+        digraph,
+        edges,
+        weak,
+    };
+    Ok((edge_table, warnings))
+}

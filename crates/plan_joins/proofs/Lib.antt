@@ -1,2 +1,0 @@
-pub mod JoinedLemmas
-pub mod Sets

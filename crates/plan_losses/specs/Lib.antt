@@ -1,3 +1,0 @@
-pub mod LossViews
-pub mod Losses
-pub mod inner

@@ -1,4 +1,0 @@
-//! The laws of `check --every-choice`.
-#![tactic(auto)]
-
-pub mod laws;

@@ -1,2 +1,0 @@
-mod DeclaredSpecs
-mod NoChoice

@@ -1,4 +1,0 @@
-//! The law that `why-not` states.
-#![tactic(auto)]
-
-pub mod laws;
