@@ -18,7 +18,7 @@ abbrev pub several_message : List PackageText → Text → List ℕ → Text
 several_message packages word candidates =
     joined (codes "several packages fit `" ∷ word ∷ codes "`: write NAME@VERSION or one of these ids" ∷ []) ++ flat_map (id_line packages) candidates
 
--- The message that the manifest of package `p` lacks what is named.
+-- The message that package `p` doesn't declare `name`. `lacks` is the text before the name, and says what is missing.
 abbrev pub lacks_message : List PackageText → ℕ → Text → Text → Text
 lacks_message packages p lacks name = joined (codes "package " ∷ id_at packages p ∷ lacks ∷ name ∷ codes "`: look it up in its manifest" ∷ [])
 

@@ -45,7 +45,8 @@ fn several_refused<'p>(
     }
 }
 
-/// Returns the refusal of words that name what the manifest of `package` lacks: `lacks` says what, and `name` is its name.
+/// Returns the refusal of words with the feature or the dependency `name`, which `package` doesn't declare. `lacks` is the text
+/// before the name, and says what is missing.
 fn lacks_refused(
     alloc: Global,
     workspace: &Workspace<'_>,
