@@ -1,7 +1,7 @@
 -- Steps of loops over lists.
 use Rattle.std.proofs.Common.{◌≡◌, ℕ, suc, ◌+◌, ◌<◌, List, [], ◌∷◌, ◌++◌, Bool, true, false, cond, length, map, filter, drop, get_or, refl, ap, sym, ◌∙◌, add-one, drop-cons, append_assoc, arith}
 use Rattle.std.specs.List.{AllByRecursion}
-use Rattle.std.proofs.lemmas.List.{append-nil, map-append}
+use Rattle.std.proofs.lemmas.List.{map-append}
 use Rattle.cargo_plans.specs.plan_starts.Lists.{joined_from}
 
 -- the rest of a list from an item on

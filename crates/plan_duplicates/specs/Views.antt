@@ -1,5 +1,5 @@
 -- The values that Rust's types contain.
-use Rattle.std.specs.Prelude.{List, map, string_bytes}
+use Rattle.std.specs.Prelude.{map, string_bytes}
 use Rattle.cargo_workspaces.specs.Views.{texts}
 use Rattle.cargo_plans.specs.plan_units.UnitViews.{unit_text}
 use Rattle.plan_duplicates.specs.Alone.{AloneText, MemberUnitText}

@@ -1,17 +1,16 @@
 //! What the plan of one member alone builds, or why there is none.
-ghost use Rattle.std.specs.Prelude.{◌≡◌, ◌++◌, IfOk, map, string_bytes};
+ghost use Rattle.std.specs.Prelude.{◌≡◌, IfOk, string_bytes};
 ghost use Rattle.cargo_workspaces.specs.WorkspaceView.{workspace_text};
 ghost use Rattle.cargo_plans.specs.WordsView.{words_text};
 ghost use Rattle.plan_messages.specs.Messages.{plan_message};
-ghost use Rattle.cargo_plans.specs.plan_steps.PlanViews.{plan_text};
-ghost use Rattle.cargo_plans.specs.plan_units.UnitViews.{unit_text};
-ghost use Rattle.plan_duplicates.specs.MemberPlans.{IsOutcome, built};
+ghost use Rattle.plan_duplicates.specs.MemberPlans.{IsOutcome};
 ghost use Rattle.plan_duplicates.specs.Views.{outcome_text};
 
-use cargo_plans::{Plan, PlanFault, PlanWords, Unit, plan};
+use cargo_plans::{PlanFault, PlanWords, Unit};
 use cargo_workspaces::Workspace;
 use feats_files::Fault;
 use plan_messages::plan_refused;
+use plan_parts::units_of;
 use plan_rows::Platform;
 use std::alloc::{AllocError, Global};
 
@@ -22,37 +21,6 @@ pub enum Outcome<'w> {
     Built(Vec<Unit<'w>>),
     /// The selection has no plan, with the message why.
     NotPlanned(String),
-}
-
-/// Returns a copy of `unit`.
-fn copy_of<'w>(alloc: Global, unit: &Unit<'w>) -> Result<Unit<'w>, AllocError>
-    ensures { IfOk result (λ copy. unit_text copy ≡ unit_text unit.now) }
-{
-    Ok(Unit {
-        place: unit.place,
-        package: unit.package,
-        features: Vec::from_slice(alloc, &unit.features)?,
-    })
-}
-
-/// Returns copies of `units`.
-fn copies_of<'w>(alloc: Global, units: &[Unit<'w>]) -> Result<Vec<Unit<'w>>, AllocError>
-    ensures { IfOk result (λ copies. map unit_text copies.items ≡ map unit_text units.now) }
-{
-    let mut copies = Vec::with_capacity(alloc, units.len())?;
-    for unit in units {
-        copies.push(copy_of(alloc, unit)?)?;
-    }
-    Ok(copies)
-}
-
-/// Returns what `plan` builds. The plan is dropped, because it also has the visit of a whole step.
-fn built_by<'w>(alloc: Global, plan: Plan<'w>) -> Result<Outcome<'w>, AllocError>
-    ensures { IfOk result (λ outcome. outcome_text outcome ≡ built (plan_text plan.entry).units) }
-{
-    let units = copies_of(alloc, plan.units());
-    drop(plan);
-    Ok(Outcome::Built(units?))
 }
 
 /// Returns the message about `fault`, which a selection in `workspace` has.
@@ -77,8 +45,8 @@ pub(crate) fn outcome_of<'w, P: Platform>(
 ) -> Result<Outcome<'w>, AllocError>
     ensures { IfOk result (λ outcome. IsOutcome (workspace_text workspace.now) (words_text P.holds words.now) (outcome_text outcome)) }
 {
-    match plan(alloc, workspace, words) {
-        Ok(plan) => built_by(alloc, plan),
+    match units_of(alloc, workspace, words) {
+        Ok(units) => Ok(Outcome::Built(units)),
         Err(PlanFault::Memory) => Err(AllocError),
         Err(fault) => Ok(Outcome::NotPlanned(message_of(alloc, workspace, fault)?)),
     }

@@ -1,6 +1,6 @@
 -- A deny that is kept where more is on.
 use Rattle.std.proofs.Common.{◌≡◌, ℕ, List, [], ◌∷◌, Bool, true, false, cond, ◌&&◌, ◌||◌, refl, ap, sym, subst, ◌∙◌, filter, flat_map, map}
-use Rattle.std.specs.Prelude.{nat_eq, Contains, slice_get, unwrap_or}
+use Rattle.std.specs.Prelude.{nat_eq, slice_get, unwrap_or}
 use Rattle.std.specs.List.{Any, list_any}
 use Rattle.std.specs.Str.{bytes_eq}
 use Rattle.std.proofs.lemmas.List.Folds.{Any-from_list_any, list_any_at}
@@ -16,7 +16,7 @@ use Rattle.cargo_plans.specs.Plans.{IsPlanOf, WordsText}
 use Rattle.plan_laws.specs.Widening.{IsCovered, IsOnIn, IsWidest, WidestTurnsAllOn}
 use Rattle.policy_checks.specs.plan_whys.Steps.{SpotText}
 use Rattle.policy_checks.specs.Builds.{BuildText, built_for, has_side, is_built_for, is_platform, triple_of}
-use Rattle.policy_checks.specs.Found.{FoundText, denied, denied_at, denied_for, denied_on, kept, no_platform, of_meaning}
+use Rattle.policy_checks.specs.Found.{denied, denied_at, denied_for, denied_on, kept, no_platform, of_meaning}
 use Rattle.policy_checks.specs.Meanings.{MeaningText, meaning_in, meaning_of, one_of, these}
 use Rattle.policy_checks.specs.Spots.{is_spot_on, is_spot_on_for, on_both_sides, spots_on, spots_on_for}
 use Rattle.plan_laws.specs.EveryChoice.{AreBuilds, HasNoMoreBuilt, HasNoMoreOn, NoChoiceBreaksDeny, NoChoiceBreaksDenyForPlatform}

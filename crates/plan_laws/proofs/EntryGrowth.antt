@@ -52,7 +52,7 @@ package_at k (x ∷ es) zero e h =
 package_at k (x ∷ es) (suc m) e h =
     ap (λ ps. slice_get ps (suc m)) (packages_step k x es) ∙ package_at (k + 1) es m e h ∙ ap (λ n. Some (package_of n e)) (number_on k m)
 
-packages_long : (k : ℕ) (es : List Entry) → length (packages_of (rows_from k es)) ≡ length es
+pub packages_long : (k : ℕ) (es : List Entry) → length (packages_of (rows_from k es)) ≡ length es
 packages_long k [] = refl
 packages_long k (e ∷ es) = ap length (packages_step k e es) ∙ ap suc (packages_long (k + 1) es)
 
@@ -111,20 +111,24 @@ module _ (all : List PackageTable) where
       (Contains-append_right (after (read all) past (entry_rows k x)) (after (read all) (past ++ entry_rows k x) (rows_from (k + 1) es)) (read_as (k + suc m) d)
       (subst (λ n. Contains (after (read all) (past ++ entry_rows k x) (rows_from (k + 1) es)) (read_as n d)) (number_on k m) (entries_into (past ++ entry_rows k x) (k + 1) es more m e d at h place)))
 
--- What an entry has, the other has too.
-pub record IsMoreEntry (e f : Entry) : Type 0 where
+-- The dependency, which leads to the entry with this number.
+abbrev pub renumbered : (ℕ → ℕ) → Dependency → Dependency
+renumbered number d = record { name = d.name; to = number d.to; optional = d.optional; default_features = d.default_features; features = d.features }
+
+-- What an entry has, the other has too, where `number` is the number of each entry there.
+pub record IsMoreEntry (number : ℕ → ℕ) (e f : Entry) : Type 0 where
   pub features : (x : FeatureText) → Contains e.features x → (y : FeatureText) × Contains f.features y × (y.name ≡ x.name) × ((i : Text) → Contains x.items i → Contains y.items i)
-  pub dependencies : (d : Dependency) → Contains e.dependencies d → Contains f.dependencies d
+  pub dependencies : (d : Dependency) → Contains e.dependencies d → Contains f.dependencies (renumbered number d)
 
 -- Dependencies of one entry on one entry have one name.
 abbrev pub HasOneName : Entry → Type 0
 HasOneName e = (c d : Dependency) → Contains e.dependencies c → Contains e.dependencies d → c.to ≡ d.to → c.name ≡ d.name
 
--- Entries of a set have more in the second list.
-pub record HaveMore (es fs : List Entry) (R : ℕ → Bool) : Type 0 where
-  pub entries : (m : ℕ) (e : Entry) → IsTrue (R m) → slice_get es m ≡ Some e → (f : Entry) × (slice_get fs m ≡ Some f) × IsMoreEntry e f
+-- Entries of a set have more in the second list, where `number` is the number of each of them. No dependency leads out of the set.
+pub record HaveMore (es fs : List Entry) (R : ℕ → Bool) (number : ℕ → ℕ) : Type 0 where
+  pub entries : (m : ℕ) (e : Entry) → IsTrue (R m) → slice_get es m ≡ Some e → (f : Entry) × (slice_get fs (number m) ≡ Some f) × IsMoreEntry number e f
   pub stays : (m : ℕ) (e : Entry) (d : Dependency) → IsTrue (R m) → slice_get es m ≡ Some e → Contains e.dependencies d → IsTrue (R d.to)
-  pub names : (m : ℕ) (f : Entry) → IsTrue (R m) → slice_get fs m ≡ Some f → HasOneName f
+  pub names : (m : ℕ) (f : Entry) → IsTrue (R m) → slice_get fs (number m) ≡ Some f → HasOneName f
 
 joined_is : (c d : GraphDependency) → is_joined c d ≡ true → (c.from ≡ d.from) × (c.to ≡ d.to)
 joined_is c d h = let parts = both_true (c.from == d.from) (c.to == d.to) h in (eqb-true c.from d.from parts.0, eqb-true c.to d.to parts.1)
@@ -138,7 +142,7 @@ joined_along b c d x y =
     let q = joined_is c d y in
     is_joined-of b d (p.0 ∙ q.0) (p.1 ∙ q.1)
 
-module _ (es fs : List Entry) (t s : Tables) (is_t : tables_of (rows_of es) ≡ Ok t) (is_s : tables_of (rows_of fs) ≡ Ok s) (within_t : AreWithin es) (within_s : AreWithin fs) (R : ℕ → Bool) (more : HaveMore es fs R) where
+module _ (es fs : List Entry) (t s : Tables) (is_t : tables_of (rows_of es) ≡ Ok t) (is_s : tables_of (rows_of fs) ≡ Ok s) (within_t : AreWithin es) (within_s : AreWithin fs) (R : ℕ → Bool) (number : ℕ → ℕ) (more : HaveMore es fs R number) where
   abbrev all_t : List PackageTable
   all_t = packages_of (rows_of es)
 
@@ -165,12 +169,12 @@ module _ (es fs : List Entry) (t s : Tables) (is_t : tables_of (rows_of es) ≡ 
       let same : x ≡ package_of (0 + m) e.0 = same_some x (package_of (0 + m) e.0) (sym h ∙ at) in
       (e.0, e.1, ap (λ (z : PackageTable). z.features) same ∙ features_of e.0.features e.0.dependencies)
 
-  packages_more : (p : ℕ) (x : PackageTable) → IsTrue (R p) → slice_get t.packages p ≡ Some x → (y : PackageTable) × (slice_get s.packages p ≡ Some y) × IsMoreOf x y
+  packages_more : (p : ℕ) (x : PackageTable) → IsTrue (R p) → slice_get t.packages p ≡ Some x → (y : PackageTable) × (slice_get s.packages (number p) ≡ Some y) × IsMoreOf x y
   packages_more p x r h =
       let e = entry_there p x h in
       let f = more.entries p e.0 r e.1 in
-      let at : slice_get s.packages p ≡ Some (package_of (0 + p) f.0) = ap (λ ps. slice_get ps p) (sym (packages_are fs s is_s within_s)) ∙ package_at 0 fs p f.0 f.1 in (
-        package_of (0 + p) f.0,
+      let at : slice_get s.packages (number p) ≡ Some (package_of (0 + number p) f.0) = ap (λ ps. slice_get ps (number p)) (sym (packages_are fs s is_s within_s)) ∙ package_at 0 fs (number p) f.0 f.1 in (
+        package_of (0 + number p) f.0,
         at,
         record {
           features = λ g c.
@@ -204,22 +208,23 @@ module _ (es fs : List Entry) (t s : Tables) (is_t : tables_of (rows_of es) ≡ 
       subst (λ z. Contains z (read_as m d)) (sym (each_after-is (row_dependency all_s) (rows_of fs))) (subst (λ n. Contains (after (read all_s) [] (rows_from 0 fs)) (read_as n d)) (plain m) i)
 
   -- a dependency of the smaller tables is one of the larger
-  moved : (x : GraphDependency) → Contains deps_t x → IsTrue (R x.from) → (y : GraphDependency) × Contains deps_s y × (y.from ≡ x.from) × (y.to ≡ x.to) × (y.name ≡ x.name) × (y.declared ≡ x.declared)
+  moved : (x : GraphDependency) → Contains deps_t x → IsTrue (R x.from) → (y : GraphDependency) × Contains deps_s y × (y.from ≡ number x.from) × (y.to ≡ number x.to) × (y.name ≡ x.name) × (y.declared ≡ x.declared)
   moved x c r =
       let b = dependency_back es t is_t within_t x c in
       let f = more.entries x.from b.entry r b.there in
       let d = f.2.dependencies b.dependency b.member in
-      (read_as x.from b.dependency, read_there x.from f.0 b.dependency f.1 d, refl, b.leads, sym b.name, sym b.declared)
+      (read_as (number x.from) (renumbered number b.dependency), read_there (number x.from) f.0 (renumbered number b.dependency) f.1 d, refl, ap number b.leads, sym b.name, sym b.declared)
 
-  -- dependencies of one pair have one name
-  one_name : (x y : GraphDependency) → Contains deps_s x → Contains deps_s y → IsTrue (R x.from) → x.from ≡ y.from → x.to ≡ y.to → x.name ≡ y.name
-  one_name x y c d r from to =
+  -- dependencies of one entry on one entry have one name
+  one_name : (m : ℕ) → IsTrue (R m) → (x y : GraphDependency) → Contains deps_s x → Contains deps_s y → x.from ≡ number m → y.from ≡ number m → x.to ≡ y.to → x.name ≡ y.name
+  one_name m r x y c d first second to =
       let a = dependency_back fs s is_s within_s x c in
       let b = dependency_back fs s is_s within_s y d in
-      let same : b.entry ≡ a.entry = same_some b.entry a.entry (sym b.there ∙ ap (λ n. slice_get fs n) (sym from) ∙ a.there) in
-      a.name ∙ more.names x.from a.entry r a.there a.dependency b.dependency a.member (subst (λ (z : Entry). Contains z.dependencies b.dependency) same b.member) (a.leads ∙ to ∙ sym b.leads) ∙ sym b.name
+      let there : slice_get fs (number m) ≡ Some a.entry = ap (slice_get fs) (sym first) ∙ a.there in
+      let same : b.entry ≡ a.entry = same_some b.entry a.entry (sym b.there ∙ ap (slice_get fs) second ∙ there) in
+      a.name ∙ more.names m a.entry r there a.dependency b.dependency a.member (subst (λ (z : Entry). Contains z.dependencies b.dependency) same b.member) (a.leads ∙ to ∙ sym b.leads) ∙ sym b.name
 
-  link_there : (x : GraphDependency) → Contains deps_t x → IsTrue (R x.from) → HasLink s (link_of deps_t x)
+  link_there : (x : GraphDependency) → Contains deps_t x → IsTrue (R x.from) → HasLink s number (link_of deps_t x)
   link_there x c r =
       let y = moved x c r in
       let any : list_any (is_joined y.0) (firsts is_joined deps_s) ≡ true = list_any-firsts is_joined joined_along y.0 deps_s ∙ any_member (is_joined y.0) deps_s y.0 y.1 (is_joined-of y.0 y.0 refl refl) in
@@ -228,25 +233,25 @@ module _ (es fs : List Entry) (t s : Tables) (is_t : tables_of (rows_of es) ≡ 
       let first = from_firsts is_joined deps_s z.element z.member in
       let link = link_of deps_s z.element in
       let q = place_of_element s.links link (subst (λ ls. Contains ls link) (links_are fs s is_s within_s) (into_map (link_of deps_s) (firsts is_joined deps_s) z.element z.member)) in
-      let from : z.element.from ≡ x.from = sym pair.0 ∙ y.2 in
-      let to : z.element.to ≡ x.to = sym pair.1 ∙ y.3 in
+      let from : z.element.from ≡ number x.from = sym pair.0 ∙ y.2 in
+      let to : z.element.to ≡ number x.to = sym pair.1 ∙ y.3 in
       record {
         place = q.0;
         link = link;
         is_link = q.1;
         from = from;
         to = to;
-        name = sym (one_name y.0 z.element y.1 first (subst (λ n. IsTrue (R n)) (sym y.2) r) pair.0 pair.1) ∙ y.4;
+        name = sym (one_name x.from r y.0 z.element y.1 first y.2 from pair.1) ∙ y.4;
         declarations = λ d i.
             let m = from_map (λ (e : GraphDependency). e.declared) (filter (is_joined x) deps_t) d i in
             let k = from_filter (is_joined x) deps_t m.0 m.1 in
             let own = joined_is x m.0 k.1 in
             let v = moved m.0 k.0 (subst (λ n. IsTrue (R n)) own.0 r) in
-            let joined : is_joined z.element v.0 ≡ true = is_joined-of z.element v.0 (from ∙ own.0 ∙ sym v.2) (to ∙ own.1 ∙ sym v.3) in
+            let joined : is_joined z.element v.0 ≡ true = is_joined-of z.element v.0 (from ∙ ap number own.0 ∙ sym v.2) (to ∙ ap number own.1 ∙ sym v.3) in
             subst (λ e. Contains link.declarations e) (v.5 ∙ m.2) (into_map (λ (e : GraphDependency). e.declared) (filter (is_joined z.element) deps_s) v.0 (into_filter (is_joined z.element) deps_s v.0 v.1 joined));
       }
 
-  links_more : (k : ℕ) (l : LinkTable) → IsTrue (R l.from) → slice_get t.links k ≡ Some l → HasLink s l × IsTrue (R l.to)
+  links_more : (k : ℕ) (l : LinkTable) → IsTrue (R l.from) → slice_get t.links k ≡ Some l → HasLink s number l × IsTrue (R l.to)
   links_more k l r h =
       let listed : Contains (links_of deps_t) l = subst (λ z. Contains z l) (sym (links_are es t is_t within_t)) (element_at_place t.links k l h) in
       let x = from_map (link_of deps_t) (firsts is_joined deps_t) l listed in
@@ -255,7 +260,7 @@ module _ (es fs : List Entry) (t s : Tables) (is_t : tables_of (rows_of es) ≡ 
       let to : x.0.to ≡ l.to = ap (λ (z : LinkTable). z.to) x.2 in
       let own : IsTrue (R x.0.from) = subst (λ n. IsTrue (R n)) (sym from) r in
       let b = dependency_back es t is_t within_t x.0 c in
-      (subst (HasLink s) x.2 (link_there x.0 c own), subst (λ n. IsTrue (R n)) (b.leads ∙ to) (more.stays x.0.from b.entry b.dependency own b.there b.member))
+      (subst (HasLink s number) x.2 (link_there x.0 c own), subst (λ n. IsTrue (R n)) (b.leads ∙ to) (more.stays x.0.from b.entry b.dependency own b.there b.member))
 
-  pub has_more : HasMore t s R
+  pub has_more : HasMore t s R number
   has_more = record { packages = packages_more; links = links_more }

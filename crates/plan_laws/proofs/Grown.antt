@@ -47,8 +47,7 @@ use Rattle.feature_core.proofs.PushLemmas.{from_map, into_map}
 use Rattle.answer_laws.proofs.BuildExists.{built_exists}
 use Rattle.step_visits.specs.Visits.{IsReached, is_node, is_place, is_start, node_at, reaches}
 use Rattle.step_visits.proofs.Places.{node_found}
-use Rattle.plan_laws.specs.Laws.{AreAmong}
-use Rattle.plan_laws.specs.Growth.{GrownTablesReachMore, HasLink, HasMore, IsMoreOf}
+use Rattle.plan_laws.specs.Growth.{AreAmongBy, GrownTablesReachMore, HasLink, HasMore, IsMoreOf}
 use Rattle.plan_laws.proofs.Closed.{at_found, in_set, reached_in, stable}
 use Rattle.plan_laws.proofs.Members.{any_member, both_true, member_any}
 
@@ -59,7 +58,7 @@ two_true : (a b : Bool) → a ≡ true → b ≡ true → (a && b) ≡ true
 two_true a b x y = rw (x, y) refl
 
 -- the node that is found is at the place
-got : (t : Tables) (n p : ℕ) (l : LabelName) → node_at t p l ≡ Some n → NodeAt t n p l
+pub got : (t : Tables) (n p : ℕ) (l : LabelName) → node_at t p l ≡ Some n → NodeAt t n p l
 got t n p l h =
     let q = position_there (is_place (p, l)) n (node_places t) h in
     let parts = both_true (p == q.element.0) (label_eq l q.element.1) q.passes in
@@ -73,7 +72,7 @@ one_place : (t : Tables) (n p q : ℕ) (a b : LabelName) → NodeAt t n p a → 
 one_place t n p q a b x y = let e : ◌≡◌ {A = Option (ℕ × LabelName)} (Some (p, a)) (Some (q, b)) = sym x ∙ y in cc
 
 -- a place has one node, which is found
-found : (t : Tables) → AreTables t → (n p : ℕ) (l : LabelName) → NodeAt t n p l → node_at t p l ≡ Some n
+pub found : (t : Tables) → AreTables t → (n p : ℕ) (l : LabelName) → NodeAt t n p l → node_at t p l ≡ Some n
 found t tables n p l x = sym (node_found t p l (Some n) (λ m. (
   (λ e. let same : n ≡ m = cc in subst (λ z. NodeAt t z p l) same x),
   (λ y. ap Some (one m y)),
@@ -148,14 +147,14 @@ module _ (t : Tables) (tables : AreTables t) (b : Built) (is : IsBuilt t b) wher
   weak_way e x at k l (of_required sec) facts = let same = sec.is_edge in absurd (cc)
   weak_way e x at k l (of_optional sec) facts = let same = sec.is_edge in absurd (cc)
 
-module _ (t s : Tables) (ts : AreTables t) (ss : AreTables s) (R : ℕ → Bool) (more : HasMore t s R) where
+module _ (t s : Tables) (ts : AreTables t) (ss : AreTables s) (R : ℕ → Bool) (number : ℕ → ℕ) (more : HasMore t s R number) where
   -- Labels, nodes and items are there.
 
-  optional_there : (p : ℕ) (x y : PackageTable) (d : Text) → IsTrue (R p) → IsPackage t p x → IsPackage s p y → Contains x.optional_names d → Contains y.optional_names d
+  optional_there : (p : ℕ) (x y : PackageTable) (d : Text) → IsTrue (R p) → IsPackage t p x → IsPackage s (number p) y → Contains x.optional_names d → Contains y.optional_names d
   optional_there p x y d r is_x is_y c =
       let had : has_name d x.optional_names ≡ true = any_member (bytes_eq d) x.optional_names d c ((bytes_decides d d).1 refl) in
-      let test : LinkTable → Bool = λ l. (p == l.from) && bytes_eq d l.name && list_any (λ z. z.optional) l.declarations in
-      let q = list_any_back test t.links (sym (ts.optional p x d is_x) ∙ had) in
+      let test : ℕ → LinkTable → Bool = λ n l. (n == l.from) && bytes_eq d l.name && list_any (λ z. z.optional) l.declarations in
+      let q = list_any_back (test p) t.links (sym (ts.optional p x d is_x) ∙ had) in
       let parts = both_true ((p == q.element.from) && bytes_eq d q.element.name) (list_any (λ z. z.optional) q.element.declarations) q.passes in
       let pair = both_true (p == q.element.from) (bytes_eq d q.element.name) parts.0 in
       let from : p ≡ q.element.from = eqb-true p q.element.from pair.0 in
@@ -163,12 +162,12 @@ module _ (t s : Tables) (ts : AreTables t) (ss : AreTables s) (R : ℕ → Bool)
       let h = (more.links q.place q.element (subst (λ z. IsTrue (R z)) from r) q.there).0 in
       let m = member_any (λ (z : Declared). z.optional) q.element.declarations parts.1 in
       let any : list_any (λ (z : Declared). z.optional) h.link.declarations ≡ true = any_member (λ (z : Declared). z.optional) h.link.declarations m.element (h.declarations m.element m.member) m.passes in
-      let passes : test h.link ≡ true = three_true (p == h.link.from) (bytes_eq d h.link.name) (list_any (λ z. z.optional) h.link.declarations) (eq-eqb p h.link.from (from ∙ sym h.from)) ((bytes_decides d h.link.name).1 (name ∙ sym h.name)) any in
-      let has : has_name d y.optional_names ≡ true = ss.optional p y d is_y ∙ list_any_there test s.links h.place h.link h.is_link passes in
+      let passes : test (number p) h.link ≡ true = three_true (number p == h.link.from) (bytes_eq d h.link.name) (list_any (λ z. z.optional) h.link.declarations) (eq-eqb (number p) h.link.from (ap number from ∙ sym h.from)) ((bytes_decides d h.link.name).1 (name ∙ sym h.name)) any in
+      let has : has_name d y.optional_names ≡ true = ss.optional (number p) y d is_y ∙ list_any_there (test (number p)) s.links h.place h.link h.is_link passes in
       let w = member_any (bytes_eq d) y.optional_names has in
       subst (λ z. Contains y.optional_names z) (sym ((bytes_decides d w.element).0 w.passes)) w.member
 
-  label_there : (p : ℕ) (x y : PackageTable) → IsTrue (R p) → IsPackage t p x → IsPackage s p y → IsMoreOf x y → (l : LabelName) → Contains (labels_of x) l → Contains (labels_of y) l
+  label_there : (p : ℕ) (x y : PackageTable) → IsTrue (R p) → IsPackage t p x → IsPackage s (number p) y → IsMoreOf x y → (l : LabelName) → Contains (labels_of x) l → Contains (labels_of y) l
   label_there p x y r is_x is_y grows l c = ⊎_elim
       (λ e. subst (λ z. Contains (labels_of y) z) e (Contains-first base features_y))
       (λ i. Contains-later base features_y l (⊎_elim
@@ -183,15 +182,15 @@ module _ (t s : Tables) (ts : AreTables t) (ss : AreTables s) (R : ℕ → Bool)
       features_y : List LabelName
       features_y = map (λ f. named f.name) y.features ++ map (λ d. optional d) y.optional_names
 
-  node_on : (n p : ℕ) (l : LabelName) → IsTrue (R p) → NodeAt t n p l → (m : ℕ) × NodeAt s m p l
+  pub node_on : (n p : ℕ) (l : LabelName) → IsTrue (R p) → NodeAt t n p l → (m : ℕ) × NodeAt s m (number p) l
   node_on n p l r x =
       let b = node_back t n p l x in
       let y = more.packages p b.row r b.is_row in
       let c = label_there p b.row y.0 r b.is_row y.1 y.2 l (element_at_place (labels_of b.row) b.place l b.is_place) in
       let q = place_of_element (labels_of y.0) l c in
-      (first_node s p + q.0, node_there s p q.0 y.0 l y.1 q.1)
+      (first_node s (number p) + q.0, node_there s (number p) q.0 y.0 l y.1 q.1)
 
-  item_on : (p : ℕ) (f : Text) (item : Item) → IsTrue (R p) → HasItem t p f item → HasItem s p f item
+  item_on : (p : ℕ) (f : Text) (item : Item) → IsTrue (R p) → HasItem t p f item → HasItem s (number p) f item
   item_on p f item r h =
       let y = more.packages p h.table r h.is_package in
       let g = y.2.features h.feature h.is_feature in
@@ -199,19 +198,19 @@ module _ (t s : Tables) (ts : AreTables t) (ss : AreTables s) (R : ℕ → Bool)
 
   -- Over a link.
 
-  link_on : (k : ℕ) (link : LinkTable) → IsTrue (R link.from) → IsLink t k link → HasLink s link
+  link_on : (k : ℕ) (link : LinkTable) → IsTrue (R link.from) → IsLink t k link → HasLink s number link
   link_on k link r is = (more.links k link r is).0
 
-  any_on : (p : Declared → Bool) (link : LinkTable) (h : HasLink s link) → IsTrue (list_any p link.declarations) → IsTrue (list_any p h.link.declarations)
+  any_on : (p : Declared → Bool) (link : LinkTable) (h : HasLink s number link) → IsTrue (list_any p link.declarations) → IsTrue (list_any p h.link.declarations)
   any_on p link h any =
       let m = member_any p link.declarations any in
       any_member p h.link.declarations m.element (h.declarations m.element m.member) m.passes
 
-  leads_on : (u w m n k : ℕ) (weak : Bool) (link : LinkTable) (h : HasLink s link) → IsTrue (R link.from) → (x : LeadsOver t u w weak k link) → NodeAt s m link.from (named x.f) → NodeAt s n link.to (named x.g) → LeadsOver s m n weak h.place h.link
+  leads_on : (u w m n k : ℕ) (weak : Bool) (link : LinkTable) (h : HasLink s number link) → IsTrue (R link.from) → (x : LeadsOver t u w weak k link) → NodeAt s m (number link.from) (named x.f) → NodeAt s n (number link.to) (named x.g) → LeadsOver s m n weak h.place h.link
   leads_on u w m n k weak link h r x from to = record {
     f = x.f;
     g = x.g;
-    has_item = subst (λ z. HasItem s z x.f (slash_item h.link.name x.g weak)) (sym h.from) (subst (λ z. HasItem s link.from x.f (slash_item z x.g weak)) (sym h.name) (item_on link.from x.f (slash_item link.name x.g weak) r x.has_item));
+    has_item = subst (λ z. HasItem s z x.f (slash_item h.link.name x.g weak)) (sym h.from) (subst (λ z. HasItem s (number link.from) x.f (slash_item z x.g weak)) (sym h.name) (item_on link.from x.f (slash_item link.name x.g weak) r x.has_item));
     from_node = subst (λ z. NodeAt s m z (named x.f)) (sym h.from) from;
     is_link = h.is_link;
     to_node = subst (λ z. NodeAt s n z (named x.g)) (sym h.to) to;
@@ -219,16 +218,16 @@ module _ (t s : Tables) (ts : AreTables t) (ss : AreTables s) (R : ℕ → Bool)
 
   -- A closed set of the larger tables, and what it has of the smaller ones.
 
-  module _ (a b : Built) (is_a : IsBuilt t a) (is_b : IsBuilt s b) (starts others : List (ℕ × LabelName)) (among : AreAmong starts others) (begins : (x : ℕ × LabelName) → Contains starts x → IsTrue (R x.0))
+  module _ (a b : Built) (is_a : IsBuilt t a) (is_b : IsBuilt s b) (starts others : List (ℕ × LabelName)) (among : AreAmongBy number starts others) (begins : (x : ℕ × LabelName) → Contains starts x → IsTrue (R x.0))
       (B : ℕ → Bool) (closed : IsClosed (content_of Forward b) (is_start s others) every (λ n. IsTrue (B n))) where
     abbrev member : ℕ → LabelName → Bool
     member p l = option_map_or B (node_at s p l) false
 
     abbrev A : ℕ → Bool
-    A n = option_map_or (λ x. R x.0 && member x.0 x.1) (slice_get (node_places t) n) false
+    A n = option_map_or (λ x. R x.0 && member (number x.0) x.1) (slice_get (node_places t) n) false
 
-    at_node : (n p : ℕ) (l : LabelName) → NodeAt t n p l → A n ≡ (R p && member p l)
-    at_node n p l x = ap (λ o. option_map_or (λ x. R x.0 && member x.0 x.1) o false) x
+    at_node : (n p : ℕ) (l : LabelName) → NodeAt t n p l → A n ≡ (R p && member (number p) l)
+    at_node n p l x = ap (λ o. option_map_or (λ x. R x.0 && member (number x.0) x.1) o false) x
 
     member_is : (n p : ℕ) (l : LabelName) → NodeAt s n p l → member p l ≡ B n
     member_is n p l x = ap (λ o. option_map_or B o false) (found s ss n p l x)
@@ -271,16 +270,16 @@ module _ (t s : Tables) (ts : AreTables t) (ss : AreTables s) (R : ℕ → Bool)
     -- From one node of the smaller tables to another.
 
     source : (u p : ℕ) (k : LabelName) → NodeAt t u p k → IsTrue (A u) → IsTrue (R p)
-    source u p k from h = (both_true (R p) (member p k) (sym (at_node u p k from) ∙ h)).0
+    source u p k from h = (both_true (R p) (member (number p) k) (sym (at_node u p k from) ∙ h)).0
 
-    cross : (u w p q : ℕ) (k l : LabelName) → NodeAt t u p k → NodeAt t w q l → IsTrue (R q) → ((m n : ℕ) → NodeAt s m p k → NodeAt s n q l → HasCandidate s m n × Passes m n) → IsTrue (A u) → IsTrue (A w)
+    cross : (u w p q : ℕ) (k l : LabelName) → NodeAt t u p k → NodeAt t w q l → IsTrue (R q) → ((m n : ℕ) → NodeAt s m (number p) k → NodeAt s n (number q) l → HasCandidate s m n × Passes m n) → IsTrue (A u) → IsTrue (A w)
     cross u w p q k l from to r leads h =
-        let parts = both_true (R p) (member p k) (sym (at_node u p k from) ∙ h) in
+        let parts = both_true (R p) (member (number p) k) (sym (at_node u p k from) ∙ h) in
         let m = node_on u p k parts.0 from in
         let n = node_on w q l r to in
         let both = leads m.0 n.0 m.1 n.1 in
-        let in_n : IsTrue (B n.0) = arrives m.0 n.0 both.0 both.1 (sym (member_is m.0 p k m.1) ∙ parts.1) in
-        at_node w q l to ∙ two_true (R q) (member q l) r (member_is n.0 q l n.1 ∙ in_n)
+        let in_n : IsTrue (B n.0) = arrives m.0 n.0 both.0 both.1 (sym (member_is m.0 (number p) k m.1) ∙ parts.1) in
+        at_node w q l to ∙ two_true (R q) (member (number q) l) r (member_is n.0 (number q) l n.1 ∙ in_n)
 
     -- an edge of smaller rank is no weak one
     no_weak : (m n : ℕ) (e : Edge) → Candidate s m n e → rank_of e < 6 → Passes m n
@@ -300,11 +299,11 @@ module _ (t s : Tables) (ts : AreTables t) (ss : AreTables s) (R : ℕ → Bool)
     abbrev IsOpen : ℕ → LinkTable → Type 0
     IsOpen k link = IsTrue (is_some (half_of t covered.Required k)) ⊎ ((gate : ℕ) × NodeAt t gate link.from (optional link.name) × IsTrue (A gate))
 
-    required_there : (m n : ℕ) (link : LinkTable) (h : HasLink s link) → LeadsOver s m n true h.place h.link → IsTrue (has_declaration covered.Required link) → (k : ℕ) (other : LinkTable) → LeadsOver s m n true k other → IsTrue (is_some (half_of s covered.Required k))
+    required_there : (m n : ℕ) (link : LinkTable) (h : HasLink s number link) → LeadsOver s m n true h.place h.link → IsTrue (has_declaration covered.Required link) → (k : ℕ) (other : LinkTable) → LeadsOver s m n true k other → IsTrue (is_some (half_of s covered.Required k))
     required_there m n link h x any k other y =
         subst (λ z. IsTrue (is_some (half_of s covered.Required z))) (its_number m n h.place h.link x k other y) (half_there s h.place h.link h.is_link (any_on (λ d. includes covered.Required d) link h any))
 
-    strong_on : (u w k : ℕ) (link : LinkTable) (weak : Bool) (x : LeadsOver t u w weak k link) → IsTrue (R link.from) → (weak && has_declaration covered.Optional link) ≡ false → (h : HasLink s link) → (m n : ℕ) → LeadsOver s m n weak h.place h.link → HasCandidate s m n × Passes m n
+    strong_on : (u w k : ℕ) (link : LinkTable) (weak : Bool) (x : LeadsOver t u w weak k link) → IsTrue (R link.from) → (weak && has_declaration covered.Optional link) ≡ false → (h : HasLink s number link) → (m n : ℕ) → LeadsOver s m n weak h.place h.link → HasCandidate s m n × Passes m n
     strong_on u w k link weak x r strong h m n y = go (weak && has_declaration covered.Optional h.link) refl
       where
         go : (b : Bool) → (weak && has_declaration covered.Optional h.link) ≡ b → HasCandidate s m n × Passes m n
@@ -316,7 +315,7 @@ module _ (t s : Tables) (ts : AreTables t) (ss : AreTables s) (R : ℕ → Bool)
             let any = one_required link.declarations (ts.declarations k link x.is_link) none in
             (∣ (slash_weak h.place (unsplit_of h.place h.link), over_weak h.place h.link z parts.1 refl) ∣₁, λ j l edge other leads gate node. inl (required_there m n link h z any j other leads))
 
-    weak_on : (u w k : ℕ) (link : LinkTable) (x : LeadsOver t u w true k link) → IsOpen k link → IsTrue (has_declaration covered.Optional link) → (h : HasLink s link) → (m n : ℕ) → LeadsOver s m n true h.place h.link → HasCandidate s m n × Passes m n
+    weak_on : (u w k : ℕ) (link : LinkTable) (x : LeadsOver t u w true k link) → IsOpen k link → IsTrue (has_declaration covered.Optional link) → (h : HasLink s number link) → (m n : ℕ) → LeadsOver s m n true h.place h.link → HasCandidate s m n × Passes m n
     weak_on u w k link x opened has h m n y = (
       ∣ (slash_weak h.place (unsplit_of h.place h.link), over_weak h.place h.link y (any_on (λ d. includes covered.Optional d) link h has) refl) ∣₁,
       λ j l edge other leads gate node. ⊎_elim
@@ -327,12 +326,12 @@ module _ (t s : Tables) (ts : AreTables t) (ss : AreTables s) (R : ℕ → Bool)
       where
         gated : (j : ℕ) (other : LinkTable) → LeadsOver s m n true j other → (gate : ℕ) → NodeAt s gate other.from (optional other.name) → (g : ℕ) → NodeAt t g link.from (optional link.name) → IsTrue (A g) → IsTrue (B gate)
         gated j other leads gate node g at in_g =
-            let number = its_number m n h.place h.link y j other leads in
-            let both : ◌≡◌ {A = Option LinkTable} (Some h.link) (Some other) = sym h.is_link ∙ ap (λ z. slice_get s.links z) number ∙ leads.is_link in
+            let place = its_number m n h.place h.link y j other leads in
+            let both : ◌≡◌ {A = Option LinkTable} (Some h.link) (Some other) = sym h.is_link ∙ ap (λ z. slice_get s.links z) place ∙ leads.is_link in
             let same : h.link ≡ other = cc in
             let own : NodeAt s gate h.link.from (optional h.link.name) = subst (λ (z : LinkTable). NodeAt s gate z.from (optional z.name)) (sym same) node in
-            let there : NodeAt s gate link.from (optional link.name) = subst (λ z. NodeAt s gate z (optional link.name)) h.from (subst (λ z. NodeAt s gate h.link.from (optional z)) h.name own) in
-            sym (member_is gate link.from (optional link.name) there) ∙ (both_true (R link.from) (member link.from (optional link.name)) (sym (at_node g link.from (optional link.name) at) ∙ in_g)).1
+            let there : NodeAt s gate (number link.from) (optional link.name) = subst (λ z. NodeAt s gate z (optional link.name)) h.from (subst (λ z. NodeAt s gate h.link.from (optional z)) h.name own) in
+            sym (member_is gate (number link.from) (optional link.name) there) ∙ (both_true (R link.from) (member (number link.from) (optional link.name)) (sym (at_node g link.from (optional link.name) at) ∙ in_g)).1
 
     -- a section leaves no node of a feature
     section_on : (m n : ℕ) (e : Edge) (p : ℕ) (label : LabelName) → Candidate s m n e → NodeAt s m p label → ((f : Text) → named f ≡ label → ⊥) → HasCandidate s m n × Passes m n
@@ -340,20 +339,20 @@ module _ (t s : Tables) (ts : AreTables t) (ss : AreTables s) (R : ℕ → Bool)
 
     stays : (u w : ℕ) (c : Edge) → Candidate t u w c → ((k : ℕ) (link : LinkTable) → c ≡ slash_weak k (unsplit_of k link) → LeadsOver t u w true k link → IsOpen k link) → IsTrue (A u) → IsTrue (A w)
     stays u w c (to_base p l from differ to is) opened h =
-        cross u w p p l base from to (source u p l from h) (λ m n x y. reached_by m n feature_to_base (to_base p l x differ y refl) (omega arith)) h
+        cross u w p p l base from to (source u p l from h) (λ m n x y. reached_by m n feature_to_base (to_base (number p) l x differ y refl) (omega arith)) h
     stays u w c (to_feature p f g item differ from to is) opened h =
         let r = source u p (named f) from h in
-        cross u w p p (named f) (named g) from to r (λ m n x y. reached_by m n named_feature (to_feature p f g (item_on p f _ r item) differ x y refl) (omega arith)) h
+        cross u w p p (named f) (named g) from to r (λ m n x y. reached_by m n named_feature (to_feature (number p) f g (item_on p f _ r item) differ x y refl) (omega arith)) h
     stays u w c (to_dependency p f d item from to is) opened h =
         let r = source u p (named f) from h in
-        cross u w p p (named f) (optional d) from to r (λ m n x y. reached_by m n (dep_colon _) (to_dependency p f d (item_on p f _ r item) x y refl) (omega arith)) h
+        cross u w p p (named f) (optional d) from to r (λ m n x y. reached_by m n (dep_colon _) (to_dependency (number p) f d (item_on p f _ r item) x y refl) (omega arith)) h
     stays u w c (with_dependency p f d g item from to is) opened h =
         let r = source u p (named f) from h in
-        cross u w p p (named f) (optional d) from to r (λ m n x y. reached_by m n (slash_optional _) (with_dependency p f d g (item_on p f _ r item) x y refl) (omega arith)) h
+        cross u w p p (named f) (optional d) from to r (λ m n x y. reached_by m n (slash_optional _) (with_dependency (number p) f d g (item_on p f _ r item) x y refl) (omega arith)) h
     stays u w c (with_feature p k f d g item from between differ to is) opened h =
         let r = source u p (named f) from h in
         let b = node_on k p (optional d) r between in
-        cross u w p p (named f) (named d) from to r (λ m n x y. reached_by m n (slash_optional _) (with_feature p b.0 f d g (item_on p f _ r item) x b.1 differ y refl) (omega arith)) h
+        cross u w p p (named f) (named d) from to r (λ m n x y. reached_by m n (slash_optional _) (with_feature (number p) b.0 f d g (item_on p f _ r item) x b.1 differ y refl) (omega arith)) h
     stays u w c (over_strong k link weak leads strong is) opened h =
         let r = source u link.from (named leads.f) leads.from_node h in
         let more_of = more.links k link r leads.is_link in
@@ -369,7 +368,7 @@ module _ (t s : Tables) (ts : AreTables t) (ss : AreTables s) (R : ℕ → Bool)
         let more_of = more.links sec.k sec.link r sec.is_link in
         let i = more_of.0 in
         cross u w sec.link.from sec.link.to base sec.asked sec.from_node sec.to_node more_of.1
-        (λ m n x y. section_on m n (section (over covered.Required (requesting sec.asked covered.Required) ((i.place, i.link) ∷ []))) sec.link.from base (of_required (record {
+        (λ m n x y. section_on m n (section (over covered.Required (requesting sec.asked covered.Required) ((i.place, i.link) ∷ []))) (number sec.link.from) base (of_required (record {
           k = i.place;
           link = i.link;
           is_link = i.is_link;
@@ -384,13 +383,13 @@ module _ (t s : Tables) (ts : AreTables t) (ss : AreTables s) (R : ℕ → Bool)
         let more_of = more.links sec.k sec.link r sec.is_link in
         let i = more_of.0 in
         cross u w sec.link.from sec.link.to (optional sec.link.name) sec.asked sec.from_node sec.to_node more_of.1
-        (λ m n x y. section_on m n (section (over covered.Optional (requesting sec.asked covered.Optional) ((i.place, i.link) ∷ []))) sec.link.from (optional sec.link.name) (of_optional (record {
+        (λ m n x y. section_on m n (section (over covered.Optional (requesting sec.asked covered.Optional) ((i.place, i.link) ∷ []))) (number sec.link.from) (optional sec.link.name) (of_optional (record {
           k = i.place;
           link = i.link;
           is_link = i.is_link;
           asked = sec.asked;
           is_requested = any_on (requesting sec.asked covered.Optional) sec.link i sec.is_requested;
-          from_node = subst (λ z. NodeAt s m z (optional i.link.name)) (sym i.from) (subst (λ z. NodeAt s m sec.link.from (optional z)) (sym i.name) x);
+          from_node = subst (λ z. NodeAt s m z (optional i.link.name)) (sym i.from) (subst (λ z. NodeAt s m (number sec.link.from) (optional z)) (sym i.name) x);
           to_node = subst (λ z. NodeAt s n z sec.asked) (sym i.to) y;
           is_edge = refl;
         })) x (λ f e. cc)) h
@@ -433,8 +432,8 @@ module _ (t s : Tables) (ts : AreTables t) (ss : AreTables s) (R : ℕ → Bool)
         inside x c at =
             let r = begins x c in
             let m = node_on n x.0 x.1 r at in
-            let start : IsTrue (is_start s others m.0) = any_member (λ y. is_node (node_at s y.0 y.1) m.0) others x (among x c) (ap (λ o. is_node o m.0) (found s ss m.0 x.0 x.1 m.1) ∙ eq-eqb m.0 m.0 refl) in
-            at_node n x.0 x.1 at ∙ two_true (R x.0) (member x.0 x.1) r (member_is m.0 x.0 x.1 m.1 ∙ closed.initial m.0 start)
+            let start : IsTrue (is_start s others m.0) = any_member (λ y. is_node (node_at s y.0 y.1) m.0) others (number x.0, x.1) (among x c) (ap (λ o. is_node o m.0) (found s ss m.0 (number x.0) x.1 m.1) ∙ eq-eqb m.0 m.0 refl) in
+            at_node n x.0 x.1 at ∙ two_true (R x.0) (member (number x.0) x.1) r (member_is m.0 (number x.0) x.1 m.1 ∙ closed.initial m.0 start)
 
         go : (x : ℕ × LabelName) → Contains starts x → (o : Option ℕ) → node_at t x.0 x.1 ≡ o → is_node o n ≡ true → IsTrue (A n)
         go x c None e i = absurd (cc)
@@ -447,27 +446,28 @@ module _ (t s : Tables) (ts : AreTables t) (ss : AreTables s) (R : ℕ → Bool)
       offered = λ e half w at has accepted h gate. moves e w at (inr (half, has, gate)) h;
     }
 
-    grown : (n m p : ℕ) (l : LabelName) → NodeAt t n p l → NodeAt s m p l → IsReached t starts n → IsTrue (B m)
-    grown n m p l x y r = sym (member_is m p l y) ∙ (both_true (R p) (member p l) (sym (at_node n p l x) ∙ r a is_a A A_closed)).1
+    grown : (n m p : ℕ) (l : LabelName) → NodeAt t n p l → NodeAt s m (number p) l → IsReached t starts n → IsTrue (B m)
+    grown n m p l x y r = sym (member_is m (number p) l y) ∙ (both_true (R p) (member (number p) l) (sym (at_node n p l x) ∙ r a is_a A A_closed)).1
 
-  reached_more : (starts others : List (ℕ × LabelName)) → AreAmong starts others → ((x : ℕ × LabelName) → Contains starts x → IsTrue (R x.0)) → (n m p : ℕ) (l : LabelName) → NodeAt t n p l → NodeAt s m p l → IsReached t starts n → IsReached s others m
+  -- what is reached is reached in the larger tables
+  pub reached_more : (starts others : List (ℕ × LabelName)) → AreAmongBy number starts others → ((x : ℕ × LabelName) → Contains starts x → IsTrue (R x.0)) → (n m p : ℕ) (l : LabelName) → NodeAt t n p l → NodeAt s m (number p) l → IsReached t starts n → IsReached s others m
   reached_more starts others among begins n m p l x y r b is_b B closed =
       stable (B m) (λ none. built_exists t ts (λ a. none (grown a.0 b a.1 is_b starts others among begins B closed n m p l x y r)))
 
   -- a node that is reached is in the set
-  in_region : (starts : List (ℕ × LabelName)) → ((x : ℕ × LabelName) → Contains starts x → IsTrue (R x.0)) → (n p : ℕ) (l : LabelName) → NodeAt t n p l → IsReached t starts n → IsTrue (R p)
+  pub in_region : (starts : List (ℕ × LabelName)) → ((x : ℕ × LabelName) → Contains starts x → IsTrue (R x.0)) → (n p : ℕ) (l : LabelName) → NodeAt t n p l → IsReached t starts n → IsTrue (R p)
   in_region starts begins n p l x r =
       sym (at_found t R n p l (found t ts n p l x)) ∙ stable (in_set t R n) (λ none. built_exists t ts (λ a. none (reached_in t R (λ k link is q. (more.links k link q is).1) a.0 a.1 starts begins n r)))
 
 pub grown_tables : GrownTablesReachMore
-grown_tables t s ts ss R more starts others among begins u v is_u is_v k label h = go (node_at t k label) refl (subst (λ (z : Tables). option_map_or (has u.members) (node_at z k label) false ≡ true) is_u.tables h)
+grown_tables t s ts ss R number more starts others among begins u v is_u is_v k label h = go (node_at t k label) refl (subst (λ (z : Tables). option_map_or (has u.members) (node_at z k label) false ≡ true) is_u.tables h)
   where
-    go : (o : Option ℕ) → node_at t k label ≡ o → option_map_or (has u.members) o false ≡ true → IsTrue (reaches v k label)
+    go : (o : Option ℕ) → node_at t k label ≡ o → option_map_or (has u.members) o false ≡ true → IsTrue (reaches v (number k) label)
     go None e i = absurd (cc)
     go (Some n) e i =
         let x : NodeAt t n k label = got t n k label e in
         let reached : IsReached t starts n = (is_u.members n).0 i in
-        let r = in_region t s ts ss R more starts begins n k label x reached in
-        let m = node_on t s ts ss R more n k label r x in
-        let there : has v.members m.0 ≡ true = (is_v.members m.0).1 (reached_more t s ts ss R more starts others among begins n m.0 k label x m.1 reached) in
-        subst (λ (z : Tables). option_map_or (has v.members) (node_at z k label) false ≡ true) (sym is_v.tables) (ap (λ o. option_map_or (has v.members) o false) (found s ss m.0 k label m.1) ∙ there)
+        let r = in_region t s ts ss R number more starts begins n k label x reached in
+        let m = node_on t s ts ss R number more n k label r x in
+        let there : has v.members m.0 ≡ true = (is_v.members m.0).1 (reached_more t s ts ss R number more starts others among begins n m.0 k label x m.1 reached) in
+        subst (λ (z : Tables). option_map_or (has v.members) (node_at z (number k) label) false ≡ true) (sym is_v.tables) (ap (λ o. option_map_or (has v.members) o false) (found s ss m.0 (number k) label m.1) ∙ there)

@@ -78,7 +78,7 @@ module _ (w : WorkspaceText) (is : IsWorkspace w) (s : SettingsText) (dev : ℕ 
         (λ i. targets_named (suc a) ts i.0 e (subst (λ b. slice_get (steps.built_from w.packages s turned_on dev b ts) i.0 ≡ Some e) (one_further a) i.2))
         (get_cases (steps.built_place w.packages s (turned_on Target) dev (a * count) holds) (steps.built_from w.packages s turned_on dev (a * count + count) ts) m e h)
 
-    built_named : (m : ℕ) (e : Entry) → slice_get (steps.built_entries w s turned_on dev) m ≡ Some e → HasOneName e
+    pub built_named : (m : ℕ) (e : Entry) → slice_get (steps.built_entries w s turned_on dev) m ≡ Some e → HasOneName e
     built_named m e h = ⊎_elim
         (λ i. place_named (turned_on (steps.side_of s.split true)) 0 s.host m e (subst (λ b. slice_get (steps.built_place w.packages s (turned_on (steps.side_of s.split true)) dev b s.host) m ≡ Some e) none i))
         (λ i. targets_named 1 s.targets i.0 e (subst (λ b. slice_get (steps.built_from w.packages s turned_on dev b s.targets) i.0 ≡ Some e) one i.2))
@@ -110,7 +110,7 @@ module _ (w : WorkspaceText) (is : IsWorkspace w) (s : SettingsText) (commands :
       (or_more (not d.optional) (turned side p d.name) (others side p d.name) (turned_more side p d.name) second.1))
       first.1
 
-  entry_more : (side : Side) (b : ℕ) (holds : Text → Bool) (p : ℕ) (x : PackageText) → IsMoreEntry (steps.built_entry (steps.macros_of w.packages) s (turned side) dev b holds p x) (steps.built_entry (steps.macros_of w.packages) more (others side) devs b holds p x)
+  entry_more : (side : Side) (b : ℕ) (holds : Text → Bool) (p : ℕ) (x : PackageText) → IsMoreEntry (λ k. k) (steps.built_entry (steps.macros_of w.packages) s (turned side) dev b holds p x) (steps.built_entry (steps.macros_of w.packages) more (others side) devs b holds p x)
   entry_more side b holds p x = record {
     features = λ f i. absurd (Contains-none f i);
     dependencies = deps_more true (steps.built_lead (steps.macros_of w.packages) s (turned side) dev b holds (has_script x) p) (steps.built_lead (steps.macros_of w.packages) more (others side) devs b holds (has_script x) p) x.declarations
@@ -128,29 +128,29 @@ module _ (w : WorkspaceText) (is : IsWorkspace w) (s : SettingsText) (commands :
       length-each_from (steps.built_entry (steps.macros_of w.packages) s (turned side) dev b holds) 0 w.packages
       ∙ sym (length-each_from (steps.built_entry (steps.macros_of w.packages) more (others side) devs b holds) 0 w.packages)
 
-  place_more : (side : Side) (b : ℕ) (holds : Text → Bool) (m : ℕ) (e : Entry) → slice_get (small side b holds) m ≡ Some e → (f : Entry) × (slice_get (large side b holds) m ≡ Some f) × IsMoreEntry e f
+  place_more : (side : Side) (b : ℕ) (holds : Text → Bool) (m : ℕ) (e : Entry) → slice_get (small side b holds) m ≡ Some e → (f : Entry) × (slice_get (large side b holds) m ≡ Some f) × IsMoreEntry (λ k. k) e f
   place_more side b holds m e h =
       let r = each_back (steps.built_entry (steps.macros_of w.packages) s (turned side) dev b holds) 0 w.packages m e h in (
         steps.built_entry (steps.macros_of w.packages) more (others side) devs b holds (0 + m) r.item,
         each_there (steps.built_entry (steps.macros_of w.packages) more (others side) devs b holds) 0 w.packages m r.item r.there,
-        subst (λ z. IsMoreEntry z (steps.built_entry (steps.macros_of w.packages) more (others side) devs b holds (0 + m) r.item)) r.is (entry_more side b holds (0 + m) r.item),
+        subst (λ z. IsMoreEntry (λ k. k) z (steps.built_entry (steps.macros_of w.packages) more (others side) devs b holds (0 + m) r.item)) r.is (entry_more side b holds (0 + m) r.item),
       )
 
   -- two places one after the other
-  joined_more : (xs ys us vs : List Entry) → length xs ≡ length ys → ((m : ℕ) (e : Entry) → slice_get xs m ≡ Some e → (f : Entry) × (slice_get ys m ≡ Some f) × IsMoreEntry e f) → ((m : ℕ) (e : Entry) → slice_get us m ≡ Some e → (f : Entry) × (slice_get vs m ≡ Some f) × IsMoreEntry e f)
-      → (m : ℕ) (e : Entry) → slice_get (xs ++ us) m ≡ Some e → (f : Entry) × (slice_get (ys ++ vs) m ≡ Some f) × IsMoreEntry e f
+  joined_more : (xs ys us vs : List Entry) → length xs ≡ length ys → ((m : ℕ) (e : Entry) → slice_get xs m ≡ Some e → (f : Entry) × (slice_get ys m ≡ Some f) × IsMoreEntry (λ k. k) e f) → ((m : ℕ) (e : Entry) → slice_get us m ≡ Some e → (f : Entry) × (slice_get vs m ≡ Some f) × IsMoreEntry (λ k. k) e f)
+      → (m : ℕ) (e : Entry) → slice_get (xs ++ us) m ≡ Some e → (f : Entry) × (slice_get (ys ++ vs) m ≡ Some f) × IsMoreEntry (λ k. k) e f
   joined_more xs ys us vs long first rest m e h = ⊎_elim
       (λ i. let r = first m e i in (r.0, get_left ys vs m r.0 r.1, r.2))
       (λ i. let r = rest i.0 e i.2 in (r.0, get_right ys vs m i.0 (i.1 ∙ ap (λ z. z + i.0) long) ∙ r.1, r.2))
       (get_cases xs us m e h)
 
-  targets_more : (b : ℕ) (ts : List (Text → Bool)) (m : ℕ) (e : Entry) → slice_get (steps.built_from w.packages s turned dev b ts) m ≡ Some e → (f : Entry) × (slice_get (steps.built_from w.packages more others devs b ts) m ≡ Some f) × IsMoreEntry e f
+  targets_more : (b : ℕ) (ts : List (Text → Bool)) (m : ℕ) (e : Entry) → slice_get (steps.built_from w.packages s turned dev b ts) m ≡ Some e → (f : Entry) × (slice_get (steps.built_from w.packages more others devs b ts) m ≡ Some f) × IsMoreEntry (λ k. k) e f
   targets_more b [] m e h = absurd (cc)
   targets_more b (holds ∷ ts) m e h =
       joined_more (small Target b holds) (large Target b holds) (steps.built_from w.packages s turned dev (b + length w.packages) ts) (steps.built_from w.packages more others devs (b + length w.packages) ts)
       (one_long Target b holds) (place_more Target b holds) (targets_more (b + length w.packages) ts) m e h
 
-  pub built_more : HaveMore (steps.built_entries w s turned dev) (steps.built_entries w more others devs) everywhere
+  pub built_more : HaveMore (steps.built_entries w s turned dev) (steps.built_entries w more others devs) everywhere (λ k. k)
   built_more = record {
     entries = λ m e r h.
         joined_more (small (steps.side_of s.split true) 0 s.host) (large (steps.side_of s.split true) 0 s.host) (steps.built_from w.packages s turned dev (length w.packages) s.targets) (steps.built_from w.packages more others devs (length w.packages) s.targets)

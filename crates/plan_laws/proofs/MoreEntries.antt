@@ -159,14 +159,14 @@ module _ (w : WorkspaceText) (is : IsWorkspace w) (s : SettingsText) (commands :
   gates_more : (f g : FeatureText) → ((i : Text) → Contains f.items i → Contains g.items i) → (i : Text) → Contains (steps.gated_feature f).items i → Contains (steps.gated_feature g).items i
   gates_more f g more i h = flat_more (λ item. steps.gate_of (item_of item) ++ item ∷ []) f.items g.items more i h
 
-  started_entries : (p : ℕ) (x : PackageText) → IsMoreEntry (starts_of s.commands p x) (starts_of commands p x)
+  started_entries : (p : ℕ) (x : PackageText) → IsMoreEntry (λ k. k) (starts_of s.commands p x) (starts_of commands p x)
   started_entries p x = go (command_of s.commands p) refl
     where
-      go : (o : Option FeatureText) → command_of s.commands p ≡ o → IsMoreEntry (steps.started_entry o x) (starts_of commands p x)
+      go : (o : Option FeatureText) → command_of s.commands p ≡ o → IsMoreEntry (λ k. k) (steps.started_entry o x) (starts_of commands p x)
       go None e = record { features = λ y i. absurd (Contains-none y i); dependencies = λ d i. absurd (Contains-none d i) }
       go (Some f) e =
           let g = grow p f e in
-          subst (λ o. IsMoreEntry (steps.started_entry (Some f) x) (steps.started_entry o x)) (sym g.1) (record {
+          subst (λ o. IsMoreEntry (λ k. k) (steps.started_entry (Some f) x) (steps.started_entry o x)) (sym g.1) (record {
             features = λ y i. ⊎_elim
                 (λ j. (y, Contains-append_left (map steps.gated_feature x.features) (steps.gated_feature g.0 ∷ []) y j, refl, λ k c. c))
                 (λ j. let same : steps.gated_feature f ≡ y = ⊎_elim (λ z. z) (λ z. absurd (Contains-none y z)) (Contains-cases (steps.gated_feature f) [] y j) in (
@@ -179,7 +179,7 @@ module _ (w : WorkspaceText) (is : IsWorkspace w) (s : SettingsText) (commands :
             dependencies = λ d i. i;
           })
 
-  same_entry : (e : Entry) → IsMoreEntry e e
+  same_entry : (e : Entry) → IsMoreEntry (λ k. k) e e
   same_entry e = record { features = λ x c. (x, c, refl, λ i k. k); dependencies = λ d c. c }
 
   resolved_back : (cs : List (Option FeatureText)) (m : ℕ) (e : Entry) → slice_get (steps.resolved_entries w (with_commands s cs)) m ≡ Some e
@@ -217,7 +217,7 @@ module _ (w : WorkspaceText) (is : IsWorkspace w) (s : SettingsText) (commands :
   pub resolved_within : (cs : List (Option FeatureText)) → AreWithin (steps.resolved_entries w (with_commands s cs))
   resolved_within cs m e d h i = subst (λ z. d.to < z) (sym (resolved_long cs)) ((resolved_rules cs m e h).0 d i)
 
-  pub resolved_more : HaveMore (steps.resolved_entries w s) (steps.resolved_entries w more) everywhere
+  pub resolved_more : HaveMore (steps.resolved_entries w s) (steps.resolved_entries w more) everywhere (λ k. k)
   resolved_more = record {
     entries = λ m e r h. ⊎_elim
         (λ b. (
@@ -230,7 +230,7 @@ module _ (w : WorkspaceText) (is : IsWorkspace w) (s : SettingsText) (commands :
         let there : slice_get (steps.resolved_entries w more) m ≡ Some (starts_of commands b.0 b.1) =
         get_right (each_from steps.other_entry 0 w.packages) (each_from (starts_of commands) 0 w.packages) m b.0 (b.2 ∙ ap (λ z. z + b.0) (sym (length-each_from steps.other_entry 0 w.packages)))
         ∙ each_there (starts_of commands) 0 w.packages b.0 b.1 b.3 ∙ ap (λ z. Some (starts_of commands z b.1)) (zero_plus b.0) in
-        (starts_of commands b.0 b.1, there, subst (λ z. IsMoreEntry z (starts_of commands b.0 b.1)) b.4 (started_entries b.0 b.1)))
+        (starts_of commands b.0 b.1, there, subst (λ z. IsMoreEntry (λ k. k) z (starts_of commands b.0 b.1)) b.4 (started_entries b.0 b.1)))
         (resolved_back s.commands m e h);
     stays = λ m e d r h i. refl;
     names = λ m f r h. (resolved_rules commands m f h).1;

@@ -184,7 +184,7 @@ module _ (w : WorkspaceText) (is : IsWorkspace w) where
         subst (λ split. steps.number_if (steps.admitted t others p side d) (to split) ≡ Some n) grow.split
         (number_more (steps.admitted s kept p side d) (steps.admitted t others p side d) (to s.split) n (admitted_more x d of_w of_x p side) h)
 
-    entry_more : (x : PackageText) → Contains w.packages x → (side : Side) (p : ℕ) → IsMoreEntry (steps.on_entry macros s kept side p x) (steps.on_entry macros t others side p x)
+    entry_more : (x : PackageText) → Contains w.packages x → (side : Side) (p : ℕ) → IsMoreEntry (λ k. k) (steps.on_entry macros s kept side p x) (steps.on_entry macros t others side p x)
     entry_more x of_w side p = record {
       features = λ f i. ⊎_elim
           (λ j. (f, Contains-append_left x.features (steps.command_list (command_of t.commands p)) f j, refl, λ k c. c))
@@ -193,13 +193,13 @@ module _ (w : WorkspaceText) (is : IsWorkspace w) where
       dependencies = deps_more false (steps.on_lead macros s kept side p) (steps.on_lead macros t others side p) x.declarations (λ d c. lead_more x d of_w c p side);
     }
 
-    pub on_more : HaveMore (steps.on_entries w s kept) (steps.on_entries w t others) everywhere
+    pub on_more : HaveMore (steps.on_entries w s kept) (steps.on_entries w t others) everywhere (λ k. k)
     on_more = record {
       entries = λ m e r h.
           let b = on_back s kept s.split m e h in (
             steps.on_entry macros t others b.side b.place b.item,
             on_there t others t.split b.side (λ i. sym grow.split ∙ b.host i) b.place b.item b.there m b.number,
-            subst (λ z. IsMoreEntry z (steps.on_entry macros t others b.side b.place b.item)) b.entry (entry_more b.item (element_at_place w.packages b.place b.item b.there) b.side b.place),
+            subst (λ z. IsMoreEntry (λ k. k) z (steps.on_entry macros t others b.side b.place b.item)) b.entry (entry_more b.item (element_at_place w.packages b.place b.item b.there) b.side b.place),
           );
       stays = λ m e d r h i. refl;
       names = λ m f r h. (on_rules t others t.split refl m f h).1;

@@ -30,10 +30,10 @@ use Rattle.plan_laws.proofs.OnePlan.{on_is, resolved_is}
 
 -- Visits.
 
-pub visit_more : (es fs : List Entry) → AreWithin es → AreWithin fs → HaveMore es fs everywhere → (starts others : List (ℕ × LabelName)) → AreAmong starts others → (u v : Visit) → IsVisitOf (rows_of es) starts u → IsVisitOf (rows_of fs) others v → (k : ℕ) (label : LabelName) → reaches u k label ≡ true → reaches v k label ≡ true
+pub visit_more : (es fs : List Entry) → AreWithin es → AreWithin fs → HaveMore es fs everywhere (λ k. k) → (starts others : List (ℕ × LabelName)) → AreAmong starts others → (u v : Visit) → IsVisitOf (rows_of es) starts u → IsVisitOf (rows_of fs) others v → (k : ℕ) (label : LabelName) → reaches u k label ≡ true → reaches v k label ≡ true
 visit_more es fs within_es within_fs more starts others among u v a b k label h =
-    grown_tables a.rows_tables b.rows_tables (rows_sound (rows_of es) a.rows_tables a.are_tables) (rows_sound (rows_of fs) b.rows_tables b.are_tables) everywhere
-    (has_more es fs a.rows_tables b.rows_tables a.are_tables b.are_tables within_es within_fs everywhere more) starts others among (λ x c. refl) u v a.is_visit b.is_visit k label h
+    grown_tables a.rows_tables b.rows_tables (rows_sound (rows_of es) a.rows_tables a.are_tables) (rows_sound (rows_of fs) b.rows_tables b.are_tables) everywhere (λ k. k)
+    (has_more es fs a.rows_tables b.rows_tables a.are_tables b.are_tables within_es within_fs everywhere (λ k. k) more) starts others among (λ x c. refl) u v a.is_visit b.is_visit k label h
 
 pair_more : (n : ℕ) (u v : PairVisit) → u.count ≡ n → v.count ≡ n → ((k : ℕ) (label : LabelName) → reaches u.visit k label ≡ true → reaches v.visit k label ≡ true) → (second : Bool) (p : ℕ) (label : LabelName) → reaches_at u second p label ≡ true → reaches_at v second p label ≡ true
 pair_more n u v a b more second p label h =

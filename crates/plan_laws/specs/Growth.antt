@@ -11,33 +11,37 @@ use Rattle.plan_rows.specs.Steps.{SettingsText}
 use Rattle.cargo_plans.specs.plan_units.Units.{UnitText}
 use Rattle.cargo_plans.specs.plan_steps.Plans.{IsPlan, PlanText}
 use Rattle.cargo_plans.specs.Plans.{IsPlanOf, WordsText}
-use Rattle.plan_laws.specs.Laws.{AreAmong}
 
 -- Package `y` has each feature of `x`, with all its items.
 pub record IsMoreOf (x y : PackageTable) : Type 0 where
   pub features : (f : FeatureTable) → Contains x.features f → (g : FeatureTable) × Contains y.features g × (g.name ≡ f.name) × ((i : Text) → Contains f.items i → Contains g.items i)
 
--- The tables have a link of this pair and name, with all its declarations.
-pub record HasLink (s : Tables) (l : LinkTable) : Type 0 where
+-- The tables have the link of this pair and name, with all its declarations: `number` is the number of each package there.
+pub record HasLink (s : Tables) (number : ℕ → ℕ) (l : LinkTable) : Type 0 where
   pub place : ℕ
   pub link : LinkTable
   pub is_link : slice_get s.links place ≡ Some link
-  pub from : link.from ≡ l.from
-  pub to : link.to ≡ l.to
+  pub from : link.from ≡ number l.from
+  pub to : link.to ≡ number l.to
   pub name : link.name ≡ l.name
   pub declarations : (d : Declared) → Contains l.declarations d → Contains link.declarations d
 
--- All that `t` has of the packages in the set, `s` has too. In `t` no link leads out of the set.
-pub record HasMore (t s : Tables) (R : ℕ → Bool) : Type 0 where
-  pub packages : (p : ℕ) (x : PackageTable) → IsTrue (R p) → slice_get t.packages p ≡ Some x → (y : PackageTable) × (slice_get s.packages p ≡ Some y) × IsMoreOf x y
-  pub links : (k : ℕ) (l : LinkTable) → IsTrue (R l.from) → slice_get t.links k ≡ Some l → HasLink s l × IsTrue (R l.to)
+-- All that `t` has of the packages in the set, `s` has too, where `number` is the number of each of these packages in `s`. In `t` no link leads
+-- out of the set.
+pub record HasMore (t s : Tables) (R : ℕ → Bool) (number : ℕ → ℕ) : Type 0 where
+  pub packages : (p : ℕ) (x : PackageTable) → IsTrue (R p) → slice_get t.packages p ≡ Some x → (y : PackageTable) × (slice_get s.packages (number p) ≡ Some y) × IsMoreOf x y
+  pub links : (k : ℕ) (l : LinkTable) → IsTrue (R l.from) → slice_get t.links k ≡ Some l → HasLink s number l × IsTrue (R l.to)
+
+-- Each start is among the others, by its package's number there.
+abbrev pub AreAmongBy : (ℕ → ℕ) → List (ℕ × LabelName) → List (ℕ × LabelName) → Type 0
+AreAmongBy number starts more = (x : ℕ × LabelName) → Contains starts x → Contains more (number x.0, x.1)
 
 -- TABLES THAT GROW reach more: a visit that starts in the set has a label only if a visit of the larger tables has it, from these starts and
 -- more.
 abbrev pub GrownTablesReachMore : Type 0
-GrownTablesReachMore = (t s : Tables) → AreTables t → AreTables s → (R : ℕ → Bool) → HasMore t s R
-    → (starts more : List (ℕ × LabelName)) → AreAmong starts more → ((x : ℕ × LabelName) → Contains starts x → IsTrue (R x.0))
-    → (u v : Visit) → IsVisit t starts u → IsVisit s more v → (k : ℕ) (label : LabelName) → IsTrue (reaches u k label) → IsTrue (reaches v k label)
+GrownTablesReachMore = (t s : Tables) → AreTables t → AreTables s → (R : ℕ → Bool) (number : ℕ → ℕ) → HasMore t s R number
+    → (starts more : List (ℕ × LabelName)) → AreAmongBy number starts more → ((x : ℕ × LabelName) → Contains starts x → IsTrue (R x.0))
+    → (u v : Visit) → IsVisit t starts u → IsVisit s more v → (k : ℕ) (label : LabelName) → IsTrue (reaches u k label) → IsTrue (reaches v (number k) label)
 
 -- The settings with other command features.
 abbrev pub with_commands : SettingsText → List (Option FeatureText) → SettingsText

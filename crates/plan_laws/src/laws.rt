@@ -1,6 +1,7 @@
 //! Laws of visits and of plans. Each function does nothing: its contract is the law.
 ghost use Rattle.plan_laws.specs.Growth.{GrownTablesReachMore, MoreTurnsNothingOff, MoreWordsTurnNothingOff};
 ghost use Rattle.plan_laws.specs.Laws.{MoreStartsReachMore, MoreStartsVisitMore, OnePlan, OnePlanOfWords, PlanExcludesRefusal, PlanOfWordsExcludesRefusal, PlansFollowDeclarations, ResolversAgree};
+ghost use Rattle.plan_laws.specs.PartLaws.{PlansOfParts};
 ghost use Rattle.plan_laws.specs.Widening.{LargerTurnsNothingOff, NoSelectionTurnsOn, WidestTurnsAllOn};
 
 use feature_core::laws::least_monotone;
@@ -14,7 +15,8 @@ pub fn more_starts_reach_more()
     least_monotone();
 }
 
-/// States that larger tables reach more: a visit of them, from these starts and more, reaches all that a visit of the smaller ones does.
+/// States that larger tables reach more, also where packages have other numbers: a visit of them, from these starts and more, reaches all
+/// that a visit of the smaller ones does.
 pub fn grown_tables_reach_more()
     ensures { GrownTablesReachMore }
 {}
@@ -65,4 +67,10 @@ pub fn plan_excludes_refusal()
 /// the resolver.
 pub fn resolvers_agree()
     ensures { ResolversAgree }
+{}
+
+/// States that a plan of a part of a workspace is one of the whole workspace: it has the same units, by their packages' numbers there. So
+/// a plan depends only on the packages that declarations lead to from what it starts from.
+pub fn plans_of_parts()
+    ensures { PlansOfParts }
 {}

@@ -1,8 +1,8 @@
-use Rattle.std.proofs.Common.{◌∙◌, ◌++◌, ◌&&◌, ◌∷◌, [], ℕ, List, Bool, ap, cond, map}
+use Rattle.std.proofs.Common.{◌∙◌, ◌++◌, ◌&&◌, ◌∷◌, [], ℕ, ap, cond, map}
 use Rattle.std.specs.Prelude.{if◌then◌else◌}
 use Rattle.std.specs.Str.{bytes_eq}
 use Rattle.cargo_workspaces.specs.Views.{package_text}
-use Rattle.cargo_workspaces.specs.Workspaces.{Text, PackageText}
+use Rattle.cargo_workspaces.specs.Workspaces.{PackageText}
 use Rattle.cargo_plans.specs.plan_units.UnitViews.{unit_text}
 use Rattle.plan_duplicates.specs.Built.{is_built}
 use Rattle.plan_duplicates.specs.inner.Groups.{named}

@@ -1,0 +1,2 @@
+mod Chosen
+mod Lists
