@@ -300,18 +300,20 @@ class Run:
         """Returns what the program reads: the calls of a section follow its part and files."""
         return section(self.case.program, self.words, self.stdin) if self.case.has_calls() else self.stdin
 
-    def outcome(self, room, environment=None):
-        """Runs the program, and returns its standard output, its standard error and its exit status."""
+    def outcome(self, room, environment=None, seconds=SECONDS):
+        """Runs the program for at most so many seconds, over files. Returns its standard output, its standard error and its exit status."""
         given = self.case.given
         closes = {'closed stdin': 0, 'closed stdout': 1}.get(given)
-        with tempfile.TemporaryFile() as source, open('/dev/full', 'wb') as full:
+        with tempfile.TemporaryFile() as source, tempfile.TemporaryFile() as printed, tempfile.TemporaryFile() as said, open('/dev/full', 'wb') as full:
             source.write(self.read() if given != 'empty stdin' else b'')
             source.seek(0)
             ran = subprocess.run(
                 [program_of(self.case.program), *([] if self.case.has_calls() else self.words)], stdin=source,
-                stdout=full if given == 'full stdout' else subprocess.PIPE, stderr=subprocess.PIPE, timeout=SECONDS,
+                stdout=full if given == 'full stdout' else printed, stderr=said, timeout=seconds,
                 cwd=room, env=environment, preexec_fn=None if closes is None else lambda: os.close(closes))
-        return ran.stdout or b'', ran.stderr, ran.returncode
+            printed.seek(0)
+            said.seek(0)
+            return printed.read(), said.read(), ran.returncode
 
     def fault(self, printed, said, status):
         """Returns why this isn't the wanted outcome, or None."""

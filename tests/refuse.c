@@ -1,12 +1,20 @@
-/* Loaded before the C library (LD_PRELOAD): the program's allocation number REFUSE, from 1, fails, and a line `refused` is written
-   to standard error. The C library's own allocations aren't counted, and neither is a block that is made smaller, since that
-   frees memory. */
+/* Loaded before the C library (LD_PRELOAD): each of the program's allocations fails in a copy of the program, which runs from there to
+   its end, while the program itself waits and then goes on as if nothing had failed. The C library's own allocations aren't counted,
+   and neither is a block that is made smaller, since that frees memory.
+
+   The standard output and standard error of the Nth copy, with what the program had written before, are the files N.out and N.err in
+   the folder REFUSED of the environment. The file `statuses` there has the wait status of each copy, on a line each. Standard input,
+   output and error of the program must be files, since a copy and the program share their offsets. */
 #define _GNU_SOURCE
-#include <dlfcn.h>
 #include <errno.h>
+#include <fcntl.h>
 #include <link.h>
+#include <signal.h>
 #include <stdint.h>
+#include <stdio.h>
 #include <stdlib.h>
+#include <sys/prctl.h>
+#include <sys/wait.h>
 #include <unistd.h>
 
 extern void *__libc_malloc(size_t size);
@@ -48,14 +56,60 @@ static int see(struct dl_phdr_info *info, size_t size, void *unused) {
   return 1;
 }
 
-/* Returns whether the allocation that the code at `from` requests is the one that must fail. */
+/* Ends the program where the copies can't be made. The status is one that no program has. */
+static void give_up(void) {
+  _exit(99);
+}
+
+/* Has the copy write to the file NUMBER.SUFFIX in `folder` in place of `descriptor`, after what was written there before. */
+static void write_apart(const char *folder, int descriptor, const char *suffix) {
+  char path[4096], block[4096];
+  snprintf(path, sizeof path, "/proc/self/fd/%d", descriptor);
+  int from = open(path, O_RDONLY);
+  snprintf(path, sizeof path, "%s/%lu.%s", folder, asked, suffix);
+  int to = open(path, O_WRONLY | O_CREAT | O_TRUNC, 0600);
+  if (from < 0 || to < 0) give_up();
+  for (ssize_t got; (got = read(from, block, sizeof block)) != 0;)
+    if (got < 0 || write(to, block, got) != got) give_up();
+  if (dup2(to, descriptor) < 0 || close(from) != 0 || close(to) != 0) give_up();
+}
+
+/* The greatest number of a file that the program may have open, and one more. */
+#define OPEN 64
+
+/* Waits for a copy, notes its status, and sets the offsets of open files back to those before it. */
+static void wait_for(const char *folder, pid_t copy, const off_t *offsets) {
+  char path[4096];
+  int status;
+  if (waitpid(copy, &status, 0) != copy) give_up();
+  for (int k = 0; k < OPEN; k++)
+    if (offsets[k] >= 0) lseek(k, offsets[k], SEEK_SET);
+  snprintf(path, sizeof path, "%s/statuses", folder);
+  int to = open(path, O_WRONLY | O_CREAT | O_APPEND, 0600);
+  if (to < 0 || dprintf(to, "%d\n", status) < 0 || close(to) != 0) give_up();
+}
+
+/* Returns whether the allocation that the code at `from` requests must fail: in a copy that is made here. */
 static int refused(void *from) {
-  static const char told[] = "refused\n";
-  if (end == 0) dl_iterate_phdr(see, 0);
-  if ((uintptr_t)from < begin || (uintptr_t)from >= end) return 0;
-  const char *number = getenv("REFUSE");
-  if (number == 0 || ++asked != strtoul(number, 0, 10)) return 0;
-  if (write(2, told, sizeof told - 1) < 0) _exit(99);
+  static const char *folder;
+  if (end == 0) {
+    dl_iterate_phdr(see, 0);
+    folder = getenv("REFUSED");
+  }
+  if (folder == 0 || (uintptr_t)from < begin || (uintptr_t)from >= end) return 0;
+  off_t offsets[OPEN];
+  for (int k = 0; k < OPEN; k++) offsets[k] = lseek(k, 0, SEEK_CUR);
+  asked++;
+  pid_t copy = fork();
+  if (copy < 0) give_up();
+  if (copy != 0) {
+    wait_for(folder, copy, offsets);
+    return 0;
+  }
+  prctl(PR_SET_PDEATHSIG, SIGKILL);
+  write_apart(folder, 1, "out");
+  write_apart(folder, 2, "err");
+  folder = 0;
   errno = ENOMEM;
   return 1;
 }

@@ -281,14 +281,14 @@ module _ (t s : Tables) (ts : AreTables t) (ss : AreTables s) (R : ℕ → Bool)
         let in_n : IsTrue (B n.0) = arrives m.0 n.0 both.0 both.1 (sym (member_is m.0 (number p) k m.1) ∙ parts.1) in
         at_node w q l to ∙ two_true (R q) (member (number q) l) r (member_is n.0 (number q) l n.1 ∙ in_n)
 
-    -- an edge of smaller rank is no weak one
+    -- no edge of a rank below 6 is weak
     no_weak : (m n : ℕ) (e : Edge) → Candidate s m n e → rank_of e < 6 → Passes m n
     no_weak m n e c less k l edge link leads gate node = let least : 6 ≤ rank_of e = edge.least e c in absurd (omega (arith, less, least))
 
     reached_by : (m n : ℕ) (e : Edge) → Candidate s m n e → rank_of e < 6 → HasCandidate s m n × Passes m n
     reached_by m n e c less = (∣ (e, c) ∣₁, no_weak m n e c less)
 
-    -- a weak edge leaves the node over the link alone
+    -- a weak edge between two nodes leads over one link
     its_number : (m n j : ℕ) (link : LinkTable) → LeadsOver s m n true j link → (k : ℕ) (other : LinkTable) → LeadsOver s m n true k other → j ≡ k
     its_number m n j link x k other y =
         let from : link.from ≡ other.from = ap (λ (z : ℕ × LabelName). z.0) (one_place s m link.from other.from (named x.f) (named y.f) x.from_node y.from_node) in

@@ -31,7 +31,7 @@ true_or_false : (b : Bool) → (b ≡ true) ⊎ (b ≡ false)
 true_or_false true = inl refl
 true_or_false false = inr refl
 
--- a flag that is set only where another one is
+-- a flag is unset if it implies another flag, and that one is unset
 unset : (a b : Bool) → (a ≡ true → b ≡ true) → b ≡ false → a ≡ false
 unset true b f e = let h = f refl in absurd (cc)
 unset false b f e = refl
@@ -49,12 +49,12 @@ none_before : {X Y : Type 0} (f : X → Y) (o : Option X) → option_map f o ≡
 none_before f None h = refl
 none_before f (Some x) h = absurd (cc)
 
--- a value that is there if a test passes isn't there, if another one isn't
+-- if one test decides of two values whether they are there, neither is there without the other
 none_else : {X Y : Type 0} (b : Bool) (x : X) (y : Y) → ◌≡◌ {A = Option X} (if b then Some x else None) None → ◌≡◌ {A = Option Y} (if b then Some y else None) None
 none_else true x y h = absurd (cc)
 none_else false x y h = refl
 
--- no item with its number gives a value, if there is no first one
+-- if there is no first value, no item gives a value
 pub first_none : {X Y : Type 0} (f : ℕ → X → Option Y) (k : ℕ) (xs : List X) → first_from f k xs ≡ None → (m : ℕ) (x : X) → slice_get xs m ≡ Some x → f (k + m) x ≡ None
 first_none f k [] h m x there = absurd (cc)
 first_none f k (y ∷ xs) h zero x there =
@@ -71,14 +71,14 @@ no_some : {X Y : Type 0} (f : X → Option Y) (xs : List X) → ((x : X) → f x
 no_some f [] none = refl
 no_some f (x ∷ xs) none = both_none (f x) (first_some f xs) (none x) (no_some f xs none)
 
--- there is no first value, if there is none of the items to which these are moved
+-- if the moved items give no value, and none of the items does where its moved one doesn't, there is no first value
 no_some_moved : {X Y Z W : Type 0} (move : X → Y) (f : X → Option Z) (g : Y → Option W) (xs : List X) → ((x : X) → Contains xs x → g (move x) ≡ None → f x ≡ None) → first_some g (map move xs) ≡ None → first_some f xs ≡ None
 no_some_moved move f g [] back h = refl
 no_some_moved move f g (x ∷ xs) back h =
     let parts = neither (g (move x)) (first_some g (map move xs)) h in
     both_none (f x) (first_some f xs) (back x (Contains-first x xs) parts.0) (no_some_moved move f g xs (λ y c. back y (Contains-later x xs y c)) parts.1)
 
--- there is no first value in the whole, if there is none in the part, and none is of a package that isn't in the part
+-- there is no first value in the whole if there is none in the part, and packages outside the part give none
 part_first : {Y Z : Type 0} (flags : List Bool) (w : WorkspaceText) → IsPart flags w → (f : ℕ → PackageText → Option Y) (g : ℕ → PackageText → Option Z)
     → ((p : ℕ) (x : PackageText) → is_in flags p ≡ true → slice_get w.packages p ≡ Some x → g (rank flags p) (part_package flags x) ≡ None → f p x ≡ None)
     → ((p : ℕ) (x : PackageText) → is_in flags p ≡ false → slice_get w.packages p ≡ Some x → f p x ≡ None)
@@ -91,7 +91,7 @@ part_first flags w part f g inside outside h = no_first f 0 w.packages (λ p x t
 
 -- Numbers of packages of the part.
 
--- a number that passes is among those that pass, if it is among all
+-- a number that passes the test is among the numbers that pass exactly if it is among all
 filter_among : (t : ℕ → Bool) (numbers : List ℕ) (p : ℕ) → t p ≡ true → is_among (filter t numbers) p ≡ is_among numbers p
 filter_among t numbers p h = same_flags (is_among (filter t numbers) p) (is_among numbers p)
     (λ e. among_there numbers (from_filter t numbers p (among_is (filter t numbers) p e)).0)

@@ -245,7 +245,7 @@ module _ (flags : List Bool) (w : WorkspaceText) (part : IsPart flags w) (s : Se
   abbrev pub on_flags : List Bool
   on_flags = flags ++ host_flags
 
-  -- the side to which a declaration leads that leads to package `q`, and where it begins
+  -- the side that a declaration on package `q` leads to
   abbrev landing : Side → DeclarationText → ℕ → Side
   landing side d q = steps.lands s.split d (flag_at (steps.macros_of w.packages) q) side
 

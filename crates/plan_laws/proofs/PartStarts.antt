@@ -41,7 +41,7 @@ zero_plus n = omega arith
 abbrev pub part_starts : List Bool → Starts → Starts
 part_starts flags s = record { macros = part_of flags s.macros; others = part_of flags s.others; hosts = part_of flags s.hosts }
 
--- A visit of the part reaches what a visit of the whole reaches at packages of the part.
+-- At packages of the part, a visit of the part and one of the whole reach the same labels.
 abbrev pub VisitsMatch : List Bool → PairVisit → PairVisit → Type 0
 VisitsMatch flags part whole = (second : Bool) (p : ℕ) (label : LabelName) → is_in flags p ≡ true → reaches_at part second (rank flags p) label ≡ reaches_at whole second p label
 
@@ -109,7 +109,7 @@ one_is false y h = absurd (cc)
 abbrev pub places_from : {X : Type 0} → (ℕ → X → Bool) → (ℕ → ℕ) → LabelName → ℕ → List X → List (ℕ × LabelName)
 places_from test number label k xs = joined_from (λ p x. if test p x then (number p, label) ∷ [] else []) k xs
 
--- places of items all of which are kept, where item `p` has the flag of entry `number p`
+-- All items that pass the test are kept, and item `p` has the flag of entry `number p`.
 module _ {X : Type 0} (C B : List Bool) (xs : List X) (label : LabelName) (test other : ℕ → X → Bool) (number renumbered : ℕ → ℕ)
     (kept : (p : ℕ) (x : X) → slice_get xs p ≡ Some x → test p x ≡ true → is_in C p ≡ true) (same : (p : ℕ) (x : X) → is_in C p ≡ true → other (rank C p) x ≡ test p x)
     (flag : (p : ℕ) → is_in C p ≡ true → is_in B (number p) ≡ true) (moves : (p : ℕ) → is_in C p ≡ true → rank B (number p) ≡ renumbered (rank C p)) where

@@ -40,7 +40,7 @@ pub record StartsMatch (B : List Bool) (starts others : List (ℕ × LabelName))
   pub there : (x : ℕ × LabelName) → Contains starts x → Contains others (place_in B x)
   pub back : (y : ℕ × LabelName) → Contains others y → (x : ℕ × LabelName) × Contains starts x × (y ≡ place_in B x)
 
--- Entries of which no kept one has a dependency on one that isn't kept.
+-- Entries and their flags. No entry whose flag is set depends on one whose flag is unset.
 pub record IsClosedPart (B : List Bool) (es : List Entry) : Type 0 where
   pub long : length B ≡ length es
   pub closed : (m : ℕ) (e : Entry) (d : Dependency) → is_in B m ≡ true → slice_get es m ≡ Some e → Contains e.dependencies d → is_in B d.to ≡ true
