@@ -1,7 +1,8 @@
 //! A line and its kept fields.
-ghost use Rattle.std.specs.Prelude.{◌≡◌};
+ghost use Rattle.std.specs.Prelude.{◌≡◌, IfOk};
 
 use guppy_packages::DependencyKind;
+use std::alloc::AllocError;
 
 /// The form of a line. It says which fields are kept, and stores the others.
 #[derive(Clone, Copy)]
@@ -43,8 +44,34 @@ impl Form {
 /// A line that isn't skipped: its number, and the range of its kept fields in the list for all lines.
 #[derive(Clone, Copy)]
 pub struct Line {
-    pub(crate) number: usize,
-    pub(crate) start: usize,
-    pub(crate) end: usize,
+    pub(crate) number: u32,
+    pub(crate) start: u32,
+    pub(crate) end: u32,
     pub(crate) form: Form,
+}
+
+/// The greatest number that fits in 32 bits.
+const LAST: usize = 4294967295;
+
+impl Line {
+    /// Returns line `number`, whose kept fields are those from `start` to `end`. Returns `AllocError` if one of these numbers doesn't
+    /// fit in 32 bits.
+    pub(crate) fn new(
+        number: usize,
+        start: usize,
+        end: usize,
+        form: Form,
+    ) -> Result<Line, AllocError>
+        ensures { IfOk result (λ line. line ≡ record { number = number; start = start; end = end; form = form }) }
+    {
+        if number > LAST || start > LAST || end > LAST {
+            return Err(AllocError);
+        }
+        Ok(Line {
+            number: number as u32,
+            start: start as u32,
+            end: end as u32,
+            form,
+        })
+    }
 }

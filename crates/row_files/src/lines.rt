@@ -26,20 +26,15 @@ impl<'t> Lines<'t> {
     ghost use Rattle.row_files.specs.RowFile.{line_of, lines_of};
     ghost use Rattle.row_files.specs.inner.CutLines.{kept_line};
 
-    /// Appends a line, or returns `AllocError` if an allocation fails.
+    /// Appends a line. Returns `AllocError` if an allocation fails, or if the line's number or the number of all kept fields is over
+    /// 4294967295.
     fn push(&mut self, number: usize, fields: &[&'t str]) -> Result<(), AllocError>
         ensures { OnOk result (lines_of self.new ≡ lines_of self.old ++ (number, texts fields.now) ∷ []) }
     {
         let form = form_of(fields);
         let start = self.kept.len();
         keep(&mut self.kept, form, fields)?;
-        let end = self.kept.len();
-        let line = Line {
-            number,
-            start,
-            end,
-            form,
-        };
+        let line = Line::new(number, start, self.kept.len(), form)?;
         match self.lines.push(line) {
             Ok(()) => Ok(()),
             Err(_) => Err(AllocError),
@@ -123,6 +118,6 @@ impl<'t> Lines<'t> {
         requires { at < length (lines_of self.now) }
         ensures { result ≡ line_of (lines_of self.now) at }
     {
-        self.lines[at].number
+        self.lines[at].number as usize
     }
 }

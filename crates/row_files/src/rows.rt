@@ -100,7 +100,10 @@ fn row_at<'l>(lines: &'l Lines<'_>, at: usize) -> Row<'l>
     ensures { option_map (λ line. row_of line.1) (slice_get (lines_of lines.now) at) ≡ Some (Some (row_text result)) }
 {
     let line = lines.lines[at];
-    row(line.form, &lines.kept[line.start..line.end])
+    row(
+        line.form,
+        &lines.kept[line.start as usize..line.end as usize],
+    )
 }
 
 /// The rows of lines that are all well-formed. Each row is made when it is read.

@@ -15,8 +15,8 @@ returns-in-Ok c =
     let added = c.in_ok-keep.ensures.added in
     let longer_texts : length (texts c.keep.new.kept.items) ≡ length c.keep.new.kept.items = length-map _ _ in
     let starts : c.len-start.result ≡ length (texts kept) = omega (arith, c.len-start.ensures, c.args.self.now.kept.ok.0) in
-    let ends : c.len-end.result ≡ length (texts kept ++ more) = omega (arith, c.len-end.ensures, c.keep.new.kept.ok.0, ap length added) in
-    rw (c.in-Ok.ensures.items, added) (line_pushed (texts kept) more c.args.self.now.lines.items c.args.self.now.each_kept c.args.number _ _ c.form_of-form.result starts ends)
+    let ends : c.len.result ≡ length (texts kept ++ more) = omega (arith, c.len.ensures, c.keep.new.kept.ok.0, ap length added) in
+    rw (c.in-Ok.ensures.items, c.in_ok-line.ensures, added) (line_pushed (texts kept) more c.args.self.now.lines.items c.args.self.now.each_kept c.args.number _ _ c.form_of-form.result starts ends)
     ∙ ap (λ fs. lines_of c.args.self.now ++ (c.args.number, fs) ∷ []) c.form_of-form.ensures.fields
 
 pub invariant_of-self : goal.invariant_of-self
@@ -32,7 +32,7 @@ invariant_of-self-2 c =
     let added = c.in_ok-keep.ensures.added in
     let longer_texts : length (texts c.keep.new.kept.items) ≡ length c.keep.new.kept.items = length-map _ _ in
     let starts : c.len-start.result ≡ length (texts kept) = omega (arith, c.len-start.ensures, c.args.self.now.kept.ok.0) in
-    let ends : c.len-end.result ≡ length (texts kept ++ more) = omega (arith, c.len-end.ensures, c.keep.new.kept.ok.0, ap length added) in
+    let ends : c.len.result ≡ length (texts kept ++ more) = omega (arith, c.len.ensures, c.keep.new.kept.ok.0, ap length added) in
     let row = c.form_of-form.ensures.row ∙ ap row_of (sym c.form_of-form.ensures.fields) in
     let known = ap is_none c.form_of-form.ensures.row ∙ c.form_of-form.ensures.known in
-    rw (c.push.ensures.items, added) (record { each_kept = one_more_if (texts kept) more c.args.self.now.lines.items c.args.self.now.each_kept c.args.number _ _ c.form_of-form.result starts ends (is_ok c.push.result) row known })
+    rw (c.push.ensures.items, c.in_ok-line.ensures, added) (record { each_kept = one_more_if (texts kept) more c.args.self.now.lines.items c.args.self.now.each_kept c.args.number _ _ c.form_of-form.result starts ends (is_ok c.push.result) row known })
