@@ -70,7 +70,7 @@ pub fn resolvers_agree()
 {}
 
 /// States that a plan of a part of a workspace is one of the whole workspace: it has the same units, by their packages' numbers there. So
-/// a plan depends only on the packages that declarations lead to from what it starts from.
+/// a plan depends only on the packages that it starts, and those to which declarations lead from them.
 pub fn plans_of_parts()
     ensures { PlansOfParts }
 {}
