@@ -11,6 +11,8 @@ pub mod NotedLemmas
 pub mod PackageOrders
 pub mod PartLemmas
 pub mod Passes
+pub mod RowTextLemmas
+pub mod RunLemmas
 pub mod Sections
 pub mod Sound
 pub mod StoredLemmas

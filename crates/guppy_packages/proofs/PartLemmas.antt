@@ -1,12 +1,12 @@
--- Texts that were appended to one another are the parts of the resulting text.
+-- Texts that were appended to one another, and the parts of a text.
 use Rattle.std.proofs.Common.{◌≡◌, ℕ, zero, suc, ◌+◌, ◌-◌, ◌<◌, ◌≤◌, List, [], ◌∷◌, ◌++◌, Bool, true, false, Some, length, take, drop, get_or, refl, ap, ap₂, sym, ◌∙◌, subst, append_assoc, arith}
 use Rattle.std.specs.Prelude.{slice_get, slice_range}
 use Rattle.std.specs.List.{AllByRecursion}
 use Rattle.std.specs.Str.{IsCharBoundary, IsUtf8}
 use Rattle.std.proofs.Math.Seq.{take-append_seam, drop-append_seam}
-use Rattle.std.proofs.lemmas.List.{append-nil, get_or_append_left, length-append}
+use Rattle.std.proofs.lemmas.List.{append-nil, length-append}
 use Rattle.std.proofs.lemmas.Str.{IsCharBoundary-at_seam, IsCharBoundary-from_take, IsUtf8-append, IsUtf8-drop, IsUtf8-nil}
-use Rattle.guppy_packages.specs.Parts.{AreEnds, item_ends, parts}
+use Rattle.guppy_packages.specs.Parts.{AreEnds, parts}
 use Rattle.guppy_packages.specs.Rows.{Text}
 use Rattle.guppy_packages.specs.inner.Pushed.{IsPushed, ends_from, joined}
 
@@ -32,18 +32,18 @@ added_utf8 old x new e u v =
     let within : length old ≤ length new = omega (arith, ap length e, length-append old x) in
     subst IsUtf8 rest (IsUtf8-drop new (length old) v (IsCharBoundary-from_take new (length old) v within (subst IsUtf8 (sym cut) u)))
 
-pub pushed_none : (old : Text) → IsPushed old [] old []
-pushed_none old = record { text = sym (append-nil old); places = refl; utf8 = tt }
+pub pushed_none : IsPushed [] [] []
+pushed_none = record { text = refl; places = refl; utf8 = tt }
 
-pub pushed_more : (old : Text) (added : List Text) (mid : Text) (ends : List ℕ) (x new : Text) → IsPushed old added mid ends → new ≡ mid ++ x → IsUtf8 mid → IsUtf8 new
-    → IsPushed old (added ++ x ∷ []) new (ends ++ length new ∷ [])
-pushed_more old added mid ends x new p e u v =
-    let whole : new ≡ old ++ joined (added ++ x ∷ []) = e ∙ ap (λ t. t ++ x) p.text ∙ append_assoc old (joined added) x ∙ ap (λ t. old ++ t) (sym (joined-push added x)) in
-    let last : length new ≡ length old + length (joined added ++ x) = ap length (e ∙ ap (λ t. t ++ x) p.text ∙ append_assoc old (joined added) x) ∙ length-append old (joined added ++ x) in
+pub pushed_more : (texts : List Text) (text : Text) (ends : List ℕ) (x new : Text) → IsPushed texts text ends → new ≡ text ++ x → IsUtf8 text → IsUtf8 new
+    → IsPushed (texts ++ x ∷ []) new (ends ++ length new ∷ [])
+pushed_more texts text ends x new p e u v =
+    let whole : new ≡ joined texts ++ x = e ∙ ap (λ t. t ++ x) p.text in
+    let last : length new ≡ 0 + length (joined texts ++ x) = omega (arith, ap length whole) in
     record {
-      text = whole;
-      places = ap₂ (λ es n. es ++ n ∷ []) p.places last ∙ sym (ends_from-push (length old) added x);
-      utf8 = all-push IsUtf8 added x p.utf8 (added_utf8 mid x new e u v);
+      text = whole ∙ sym (joined-push texts x);
+      places = ap₂ (λ es n. es ++ n ∷ []) p.places last ∙ sym (ends_from-push 0 texts x);
+      utf8 = all-push IsUtf8 texts x p.utf8 (added_utf8 text x new e u v);
     }
 
 joined_utf8 : (xs : List Text) → AllByRecursion IsUtf8 xs → IsUtf8 (joined xs)
@@ -51,7 +51,7 @@ joined_utf8 [] all = IsUtf8-nil
 joined_utf8 (x ∷ xs) all = IsUtf8-append x (joined xs) all.0 (joined_utf8 xs all.1)
 
 -- the joined texts are the parts that end at their ends
-pub joined_parts : (old : Text) (xs : List Text) (new : Text) → new ≡ old ++ joined xs → AllByRecursion IsUtf8 xs
+joined_parts : (old : Text) (xs : List Text) (new : Text) → new ≡ old ++ joined xs → AllByRecursion IsUtf8 xs
     → AreEnds (length old) (ends_from (length old) xs) new × (parts (length old) (ends_from (length old) xs) new ≡ xs)
 joined_parts old [] new e all = (tt, refl)
 joined_parts old (x ∷ xs) new e all =
@@ -74,7 +74,7 @@ pub record IsPart (all : List Text) (text : Text) (ix start end : ℕ) : Type 0 
   pub start_cut : IsCharBoundary text start
   pub end_cut : IsCharBoundary text end
 
-part_at : (from : ℕ) (ends : List ℕ) (text : Text) (ix : ℕ) → ix < length ends → IsCharBoundary text from → AreEnds from ends text
+pub part_at : (from : ℕ) (ends : List ℕ) (text : Text) (ix : ℕ) → ix < length ends → IsCharBoundary text from → AreEnds from ends text
     → IsPart (parts from ends text) text ix (get_or (from ∷ ends) ix 0) (get_or ends ix 0)
 part_at from [] text ix h first cut = absurd (omega arith)
 part_at from (e ∷ ends) text zero h first cut = record { part = refl; ascends = cut.0; start_cut = first; end_cut = cut.1 }
@@ -84,33 +84,8 @@ pub length-parts : (from : ℕ) (ends : List ℕ) (text : Text) → length (part
 length-parts from [] text = refl
 length-parts from (end ∷ ends) text = ap suc (length-parts end ends text)
 
--- the items of a feature, by their ends
-module _ (has : Bool) (name : ℕ) (ends : List ℕ) (text : Text) (ix : ℕ) (within : ix < length (parts name (item_ends has ends text) text)) where
-  pub item_within : ix ≤ length ends
-  item_within = go has (subst (λ n. ix < n) (length-parts name (item_ends has ends text) text) within)
-    where
-      go : (has : Bool) → ix < length (item_ends has ends text) → ix ≤ length ends
-      go false h = absurd (omega arith)
-      go true h = omega (arith, h, length-append ends (length text ∷ []))
-
-  pub item_part : AreEnds 0 (name ∷ item_ends has ends text) text
-      → IsPart (parts name (item_ends has ends text) text) text ix (get_or (name ∷ ends) ix 0) (get_or (ends ++ length text ∷ []) ix 0)
-  item_part = go has (subst (λ n. ix < n) (length-parts name (item_ends has ends text) text) within)
-    where
-      go : (has : Bool) → ix < length (item_ends has ends text) → AreEnds 0 (name ∷ item_ends has ends text) text
-          → IsPart (parts name (item_ends has ends text) text) text ix (get_or (name ∷ ends) ix 0) (get_or (ends ++ length text ∷ []) ix 0)
-      go false h cut = absurd (omega arith)
-      go true h cut =
-          let start : get_or ((name ∷ ends) ++ length text ∷ []) ix 0 ≡ get_or (name ∷ ends) ix 0 = get_or_append_left (name ∷ ends) (length text ∷ []) 0 ix (omega (arith, item_within)) in
-          subst (λ n. IsPart (parts name (ends ++ length text ∷ []) text) text ix n (get_or (ends ++ length text ∷ []) ix 0)) start
-          (part_at name (ends ++ length text ∷ []) text ix h cut.1 cut.2)
-
--- a feature's text is its name and its items
-pub feature_parts : (name : Text) (items : List Text) (text : Text) (end : ℕ) (ends : List ℕ) → IsUtf8 name → end ≡ length name → IsPushed name items text ends
-    → AreEnds 0 (end ∷ ends) text × (take end text ≡ name) × (parts end ends text ≡ items)
-feature_parts name items text end ends u e p =
-    let rest = joined_parts name items text p.text p.utf8 in
-    let cut : IsCharBoundary text (length name) = IsCharBoundary-at_seam text name (joined items) p.text (joined_utf8 items p.utf8) in
-    let front : take (length name) text ≡ name = ap (take (length name)) p.text ∙ take-append_seam name (joined items) in
-    let start : 0 ≤ length name = omega arith in
-    rw (e, p.places) ((start, cut, rest.0), front, rest.1)
+-- texts that were appended to one another are the parts of the resulting text
+pub pushed_parts : (texts : List Text) (text : Text) (ends : List ℕ) → IsPushed texts text ends → AreEnds 0 ends text × (parts 0 ends text ≡ texts)
+pushed_parts texts text ends p =
+    let all = joined_parts [] texts text p.text p.utf8 in
+    rw p.places all

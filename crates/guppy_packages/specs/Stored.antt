@@ -5,13 +5,15 @@ use Rattle.indexmap.specs.IndexMap.{IndexMap}
 use Rattle.guppy_packages.specs.Rows.{Text, Declared}
 use Rattle.guppy_packages.specs.Tables.{PackageTable, LinkTable}
 use Rattle.guppy_packages.specs.NamedFeature.{feature_table}
+use Rattle.guppy_packages.specs.Parts.{first_text}
 use Rattle.guppy_packages.specs.Platform.{platform_text}
+use Rattle.guppy_packages.specs.inner.Declarations.{held_declarations}
 use Rattle.guppy_packages.specs.declared.declaration.Declaration.{Declaration}
 use Rattle.guppy_packages.specs.declared.contents.PackageData.{PackageData}
 use Rattle.guppy_packages.specs.declared.contents.LinkData.{LinkData}
 
 abbrev pub declared : Declaration → Declared
-declared d = record { kind = d.kind; optional = d.optional; platform = platform_text d.platform; default_features = d.default_features; features = map string_bytes d.features.items }
+declared d = record { kind = d.kind; optional = d.optional; platform = platform_text d.platform.value; default_features = d.default_features; features = map string_bytes d.features.items }
 
 abbrev pub package_table : Text × PackageData → PackageTable
 package_table e = record { id = e.0; in_workspace = e.1.in_workspace; features = map feature_table e.1.features; optional_names = map string_bytes e.1.optional_names }
@@ -20,7 +22,7 @@ abbrev pub package_tables : {S : Type 0} → IndexMap Text PackageData S → Lis
 package_tables m = map package_table m.entries
 
 abbrev pub link_table : (ℕ × ℕ) × LinkData → LinkTable
-link_table e = record { from = e.0.0; to = e.0.1; name = string_bytes e.1.name; declarations = map declared e.1.declarations.items }
+link_table e = record { from = e.0.0; to = e.0.1; name = first_text e.1.name; declarations = map declared (held_declarations e.1.declarations) }
 
 abbrev pub link_tables : List ((ℕ × ℕ) × LinkData) → List LinkTable
 link_tables links = map link_table links

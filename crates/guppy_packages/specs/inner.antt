@@ -1,7 +1,9 @@
 -- Definitions for private functions: the two passes, one row at a time; sets of names; the state of the second pass; the first
--- link of each package; and texts that are appended to one another.
+-- link of each package; texts that are appended to one another; and the texts of rows.
 pub mod Begins
+pub mod Declarations
 pub mod NameSets
 pub mod Noted
 pub mod Pushed
+pub mod RowTexts
 pub mod Steps

@@ -8,18 +8,19 @@ ghost use Rattle.guppy_packages.specs.Tables.{is_development};
 
 use crate::platform::PlatformStatusImpl;
 use crate::row::DependencyKind;
-use std::alloc::Global;
-use std::default::MadeWith;
+use std::fmt;
+use std::rc::Rc;
 
 /// The declaration in one Dep row: how the package depends on the row's target.
-#[derive(Debug, Drop)]
+#[derive(Drop)]
 pub struct Declaration {
     pub(crate) kind: DependencyKind,
     pub(crate) optional: bool,
     pub(crate) default_features: bool,
-    pub(crate) platform: PlatformStatusImpl,
+    // declarations for all platforms share it
+    pub(crate) platform: Rc<PlatformStatusImpl>,
     pub(crate) features: Vec<String>,
-    ghost of_a_row: { platform_specs platform ≡ option_map (λ spec. spec ∷ []) (platform_text platform) },
+    ghost of_a_row: { platform_specs platform.value ≡ option_map (λ spec. spec ∷ []) (platform_text platform.value) },
 }
 
 impl Declaration {
@@ -43,7 +44,7 @@ impl Declaration {
     pub fn platform(&self) -> &PlatformStatusImpl
         ensures { platform_specs result.now ≡ option_map (λ spec. spec ∷ []) (declared self.now).platform }
     {
-        &self.platform
+        self.platform.as_ref()
     }
 
     /// Returns whether the declaration requests the default feature.
@@ -61,16 +62,15 @@ impl Declaration {
     }
 }
 
-// A placeholder for a declaration that is pushed later; it allocates nothing.
-impl MadeWith<Global> for Declaration {
-    fn made_with(alloc: Global) -> Declaration {
-        Declaration {
-            kind: DependencyKind::Normal,
-            optional: false,
-            default_features: false,
-            platform: PlatformStatusImpl::Always,
-            features: Vec::new(alloc),
-        }
+impl fmt::Debug for Declaration {
+    fn fmt<W: fmt::Write>(&self, f: &mut fmt::Formatter<W>) -> fmt::Result {
+        f.debug_struct("Declaration")
+            .field("kind", &self.kind)
+            .field("optional", &self.optional)
+            .field("default_features", &self.default_features)
+            .field("platform", self.platform())
+            .field("features", &self.features())
+            .finish()
     }
 }
 

@@ -3,7 +3,9 @@
 
 mod contents;
 mod declaration;
+mod declarations;
 mod direction;
+mod first_pass;
 mod from_rows;
 pub mod laws;
 mod link_begins;
@@ -22,7 +24,11 @@ mod pushing;
 mod row;
 mod row_error;
 mod row_source;
+mod row_texts;
+mod second_pass;
+mod text_list;
 mod text_map;
+mod text_run;
 
 pub use declaration::Declaration;
 pub use direction::DependencyDirection;

@@ -28,7 +28,7 @@ pub(crate) fn link_begins(
     }
     let mut begins = Vec::with_capacity(alloc, count.saturating_add(1))?;
     for place in 0..end {
-        begin_up_to(&mut begins, links[place].0.0, place as u32)?;
+        begin_up_to(&mut begins, links[place].0.0 as usize, place as u32)?;
     }
     begin_up_to(&mut begins, count, end as u32)?;
     Ok(begins)

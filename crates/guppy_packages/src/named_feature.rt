@@ -1,119 +1,43 @@
-//! A named feature of a package, stored in one text.
-ghost use Rattle.std.specs.Prelude.{◌≡◌, ◌∷◌, ◌++◌, [], ◌<◌, ◌≤◌, ◌==◌, Some, IfOk, OnOk, length, not, slice_get, slice_index};
-ghost use Rattle.std.specs.String.{string_bytes};
-ghost use Rattle.guppy_packages.specs.Parts.{AreEnds, AreEnds-prop, item_ends};
-ghost use Rattle.guppy_packages.specs.Rows.{texts};
-ghost use Rattle.guppy_packages.specs.inner.Pushed.{IsPushed};
+//! A named feature of a package.
+ghost use Rattle.std.specs.Prelude.{◌≡◌, ◌<◌, Some, length, slice_get};
 
-use crate::pushing::push_to;
+use crate::text_run::TextRun;
 use indexmap::Equivalent;
-use std::alloc::{AllocError, Global};
 use std::fmt;
 use std::hash::{Hash, Hasher};
 
 /// A named feature with its items. Names are distinct within a package, so equality compares names only.
 ///
-/// One text contains the name, followed by the items: most features have at most one item and need no second allocation. The end
-/// of the name is a field, so comparing names of different lengths doesn't read the text.
+/// The name and the items are consecutive texts of a list, which all features of a graph share.
 #[derive(Drop)]
 pub struct NamedFeature {
-    text: String,
-    name_end: usize,
-    has_items: bool,
-    // the end of each item but the last, which ends with `text`
-    ends: Vec<usize>,
-    ghost cut: { AreEnds 0 (name_end ∷ item_ends has_items ends.items (string_bytes text)) (string_bytes text) } by { AreEnds-prop 0 (name_end ∷ item_ends has_items ends.items (string_bytes text)) (string_bytes text) },
-}
-
-/// Returns the length of `name` and `items` together, or `usize::MAX` if it doesn't fit.
-fn room_for(name: &str, items: &[&str]) -> usize {
-    let mut room = name.len();
-    for item in items {
-        room = room.saturating_add(item.len());
-    }
-    room
-}
-
-/// Appends each of `items` to `text`, and its end in `text` to `ends`.
-fn push_each(text: &mut String, ends: &mut Vec<usize>, items: &[&str]) -> Result<(), AllocError>
-    requires none { ends.old.items ≡ [] }
-    ensures { OnOk result (IsPushed (string_bytes text.old) (texts items.now) (string_bytes text.new) ends.new.items) }
-{
-    for item in items {
-        text.push_str(item)?;
-        push_to(ends, text.as_str().len())?;
-    }
-    Ok(())
-}
-
-/// Appends `items` to `text` and returns the end of each but the last.
-fn push_items(alloc: Global, text: &mut String, items: &[&str]) -> Result<Vec<usize>, AllocError>
-    ensures { IfOk result (λ ends. IsPushed (string_bytes text.old) (texts items.now) (string_bytes text.new) (item_ends (not (length items.now == 0)) ends.items (string_bytes text.new))) }
-{
-    let Some((last, before)) = items.split_last() else {
-        return Ok(Vec::new(alloc));
-    };
-    let mut ends = Vec::with_capacity(alloc, before.len())?;
-    push_each(text, &mut ends, before)?;
-    text.push_str(last)?;
-    Ok(ends)
+    texts: TextRun,
+    ghost named: { 0 < length texts },
 }
 
 impl NamedFeature {
-    ghost use Rattle.guppy_packages.specs.NamedFeature.{feature_table};
+    ghost use Rattle.guppy_packages.specs.NamedFeature.{feature_table, table_of_texts};
 
-    /// Returns the feature `name` with `items`, or `AllocError` if an allocation fails.
-    pub(crate) fn new(alloc: Global, name: &str, items: &[&str]) -> Result<NamedFeature, AllocError>
-        ensures { IfOk result (λ f. feature_table f ≡ record { name = name.now; items = texts items.now }) }
+    /// Returns the feature with these texts: its name, followed by its items.
+    pub(crate) fn new(texts: TextRun) -> NamedFeature
+        requires { 0 < length texts }
+        ensures { feature_table result ≡ table_of_texts texts }
     {
-        let mut text = String::with_capacity(alloc, room_for(name, items))?;
-        text.push_str(name)?;
-        let ends = push_items(alloc, &mut text, items)?;
-        Ok(NamedFeature {
-            text,
-            name_end: name.len(),
-            has_items: !items.is_empty(),
-            ends,
-        })
+        NamedFeature { texts }
     }
 
     /// Returns the feature's name.
     pub fn name(&self) -> &str
         ensures { result.now ≡ (feature_table self.now).name }
     {
-        &self.text[..self.name_end]
+        self.texts.first()
     }
 
     /// Returns the number of items.
     pub fn item_count(&self) -> usize
         ensures { result ≡ length (feature_table self.now).items }
     {
-        if self.has_items {
-            return self.ends.len() + 1;
-        }
-        0
-    }
-
-    /// Returns the start of item `ix` in the text.
-    fn item_start(&self, ix: usize) -> usize
-        requires { ix ≤ length self.now.ends.items }
-        ensures { result ≡ slice_index (self.now.name_end ∷ self.now.ends.items) ix }
-    {
-        if ix == 0 {
-            return self.name_end;
-        }
-        self.ends[ix - 1]
-    }
-
-    /// Returns the end of item `ix` in the text.
-    fn item_end(&self, ix: usize) -> usize
-        requires { ix ≤ length self.now.ends.items }
-        ensures { result ≡ slice_index (self.now.ends.items ++ length (string_bytes self.now.text) ∷ []) ix }
-    {
-        if ix < self.ends.len() {
-            return self.ends[ix];
-        }
-        self.text.as_str().len()
+        self.texts.len() - 1
     }
 
     /// Returns the text of item `ix`, in row order.
@@ -121,9 +45,7 @@ impl NamedFeature {
         requires { ix < length (feature_table self.now).items }
         ensures { slice_get (feature_table self.now).items ix ≡ Some result.now }
     {
-        let start = self.item_start(ix);
-        let end = self.item_end(ix);
-        &self.text[start..end]
+        self.texts.later(ix)
     }
 }
 

@@ -98,7 +98,7 @@ impl PackageGraph {
         ensures number { link_number_of result ≡ ix }
     {
         let (pair, data) = &self.links[ix];
-        PackageLink::new(self, ix, *pair, data)
+        PackageLink::new(self, ix, (pair.0 as usize, pair.1 as usize), data)
     }
 
     /// Returns the order of the packages, by their numbers: the order of the digraph of their links. A dev-only link doesn't

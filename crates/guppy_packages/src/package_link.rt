@@ -75,7 +75,7 @@ impl<'g> PackageLink<'g> {
     pub fn dep_name(self) -> &'g str
         ensures { result.now ≡ (link_table_of self.entry).name }
     {
-        self.contents.name.as_str()
+        self.contents.name()
     }
 
     /// Returns the link's declarations, in row order.

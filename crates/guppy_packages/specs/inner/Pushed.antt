@@ -13,8 +13,8 @@ abbrev pub ends_from : ℕ → List Text → List ℕ
 ends_from from [] = []
 ends_from from (x ∷ xs) = (from + length x) ∷ ends_from (from + length x) xs
 
--- The texts `added` were appended to `old`, and they end at `ends`.
-pub record IsPushed (old : Text) (added : List Text) (new : Text) (ends : List ℕ) : Type 0 where
-  pub text : new ≡ old ++ joined added
-  pub places : ends ≡ ends_from (length old) added
-  pub utf8 : AllByRecursion IsUtf8 added
+-- `texts` were appended to one another, and they end at `ends`.
+pub record IsPushed (texts : List Text) (whole : Text) (ends : List ℕ) : Type 0 where
+  pub text : whole ≡ joined texts
+  pub places : ends ≡ ends_from 0 texts
+  pub utf8 : AllByRecursion IsUtf8 texts

@@ -1,0 +1,30 @@
+use Rattle.std.proofs.Common.{ℕ, ◌<◌, length, rules}
+use Rattle.guppy_packages.specs.Graph.{packages_of}
+use Rattle.guppy_packages.specs.Stored.{package_tables}
+use Rattle.guppy_packages.proofs.Lists.{drop_at}
+use Rattle.guppy_packages.proofs.Passes.{first_answers, first_goes_on}
+use Rattle.guppy_packages.proofs.RowTextLemmas.{next_at, row_at}
+use Rattle.guppy_packages.proofs.first_pass.take_packages.Goals as goal
+
+pub take_row_at-requires : goal.take_row_at-requires
+take_row_at-requires g c =
+    let all = g.S.RowSource.rows c.args.source.now in
+    let i = c.loop-row.row in
+    rw c.loop-row.invariant.at (row_at all i _ (drop_at all i _ c.row.ensures) c.args.list.now.value c.requires)
+
+pub returns-in-Err-clause-tables : goal.returns-in-Err-clause-tables
+returns-in-Err-clause-tables g c =
+    let all = g.S.RowSource.rows c.args.source.now in
+    let i = c.loop-row.row in
+    let at = drop_at all i _ c.row.ensures in
+    let within : i < length all = search rules in
+    first_answers all i _ within at c.loop-row.invariant.none (package_tables c.loop-row.packages) c.loop-row.invariant.tables ℕ c.in-Err.fault c.new-in-Err.result (package_tables c.take_row_at.new.packages) (packages_of all) c.new-in-Err.ensures.fault c.new-in-Err.ensures.row c.in-Err.ensures.tables
+
+pub loop-row-preserved : goal.loop-row-preserved
+loop-row-preserved g c =
+    let all = g.S.RowSource.rows c.args.source.now in
+    let i = c.loop-row.row in
+    let at = drop_at all i _ c.row.ensures in
+    let within : i < length all = search rules in
+    let next = first_goes_on all i _ within at c.loop-row.invariant.none (package_tables c.loop-row.packages) c.loop-row.invariant.tables (package_tables c.take_row_at.new.packages) c.in-Ok.ensures.tables in
+    record { none = next.0; tables = next.1; at = next_at all i _ at within c.loop-row.at c.in-Ok.next c.loop-row.invariant.at c.in-Ok.ensures.next }

@@ -1,0 +1,9 @@
+use Rattle.std.proofs.Common.{take}
+use Rattle.std.specs.String.{string_bytes}
+use Rattle.guppy_packages.specs.inner.Pushed.{IsPushed}
+use Rattle.guppy_packages.specs.inner.RowTexts.{stored_texts}
+use Rattle.guppy_packages.proofs.row_texts.push_rows.Given as goal
+
+-- the texts so far are those of the rows so far
+abbrev pub invariant-loop-row : goal.invariant-loop-row
+invariant-loop-row g l = IsPushed (stored_texts (take l.row (g.S.RowSource.rows l.source))) (string_bytes l.text) l.ends.items

@@ -1,0 +1,41 @@
+use Rattle.std.proofs.Common.{◌<◌, ◌≤◌, ◌+◌, ◌∙◌, length, rules, arith}
+use Rattle.guppy_packages.specs.Graph.{dependencies_of, links_of}
+use Rattle.guppy_packages.specs.Stored.{link_tables, package_tables}
+use Rattle.guppy_packages.proofs.Lists.{drop_at}
+use Rattle.guppy_packages.proofs.Passes.{second_answers, second_goes_on}
+use Rattle.guppy_packages.proofs.RowTextLemmas.{next_at, row_at}
+use Rattle.guppy_packages.proofs.second_pass.take_links.Goals as goal
+
+pub take_link-requires-clause-texts : goal.take_link-requires-clause-texts
+take_link-requires-clause-texts g c =
+    let all = g.S.RowSource.rows c.args.source.now in
+    let i = c.loop-row.row in
+    rw c.loop-row.invariant.at (row_at all i _ (drop_at all i _ c.row.ensures) c.args.list.now.value c.requires)
+
+pub returns-in-Err-clause-tables : goal.returns-in-Err-clause-tables
+returns-in-Err-clause-tables g c =
+    let all = g.S.RowSource.rows c.args.source.now in
+    let packages = package_tables c.args.packages.now in
+    let i = c.loop-row.row in
+    let at = drop_at all i _ c.row.ensures in
+    let within : i < length all = search rules in
+    second_answers all i _ within at packages c.loop-row.invariant.none c.loop-row.noted.begun c.loop-row.invariant.counted (link_tables c.loop-row.links.items) c.loop-row.invariant.tables (Unit {0}) c.in-Err.fault c.new.result (link_tables c.take_link.new.links.items) (links_of (dependencies_of packages all)) c.new.ensures.fault c.new.ensures.row c.in-Err.ensures.tables
+
+pub loop-row-preserved : goal.loop-row-preserved
+loop-row-preserved g c =
+    let all = g.S.RowSource.rows c.args.source.now in
+    let packages = package_tables c.args.packages.now in
+    let i = c.loop-row.row in
+    let at = drop_at all i _ c.row.ensures in
+    let within : i < length all = search rules in
+    let next = second_goes_on all i _ within at packages c.loop-row.invariant.none c.loop-row.noted.begun c.loop-row.invariant.counted (link_tables c.loop-row.links.items) c.loop-row.invariant.tables (link_tables c.take_link.new.links.items) c.in_default.ensures.tables in
+    let few : c.take_link.new.noted.begun ≤ i + 1 = omega (arith, c.in_default.ensures.few) in
+    record {
+      few = few;
+      none = next.0;
+      counted = c.in_default.ensures.begun ∙ next.1;
+      at = next_at all i _ at within c.loop-row.noted.at c.take_link.new.noted.at c.loop-row.invariant.at c.in_default.ensures.at;
+      size = c.in_default.ensures.count;
+      noted = c.in_default.ensures.noted;
+      tables = next.2;
+    }

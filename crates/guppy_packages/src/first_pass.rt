@@ -1,0 +1,190 @@
+//! The first pass over the rows: packages, with their features and the names of their optional dependencies.
+ghost use Rattle.std.specs.Prelude.{◌≡◌, ◌+◌, ◌<◌, [], Ok, IfErr, IfOk, length, map};
+ghost use Rattle.std.specs.String.{string_bytes};
+ghost use Rattle.guppy_packages.specs.Graph.{NamesRow, Reads, first_or, faults_by, row_fault, packages_of};
+ghost use Rattle.guppy_packages.specs.NamedFeature.{feature_table, table_of_texts};
+ghost use Rattle.guppy_packages.specs.Rows.{row_text};
+ghost use Rattle.guppy_packages.specs.Stored.{package_tables};
+ghost use Rattle.guppy_packages.specs.inner.RowTexts.{AreAt, row_texts, stored_texts};
+ghost use Rattle.guppy_packages.specs.inner.Steps.{Takes, add_package, add_feature, add_name, change_last, first_step, with_feature, with_name};
+
+use crate::contents::PackageData;
+use crate::name_set::NameSet;
+use crate::named_feature::NamedFeature;
+use crate::package_id::PackageId;
+use crate::row::Row;
+use crate::row_error::{RowError, RowFault};
+use crate::row_source::RowSource;
+use crate::row_texts::next_text;
+use crate::text_list::TextList;
+use crate::text_map::TextMap;
+use crate::text_run::TextRun;
+use indexmap::IndexMap;
+use std::alloc::Global;
+use std::hash::BuildHasherDefault;
+use std::rc::Rc;
+
+/// Returns a package with no features and no optional names; it allocates nothing.
+#[inline]
+fn blank_package(alloc: Global, in_workspace: bool) -> PackageData
+    ensures { result ≡ record { in_workspace = in_workspace; features = []; optional_names = [] } }
+{
+    PackageData {
+        in_workspace,
+        features: NameSet::new(alloc),
+        optional_names: NameSet::new(alloc),
+    }
+}
+
+/// Reads a Package row: appends the package `id`, or returns `DuplicatePackage` if `packages` already has it.
+fn push_package(
+    alloc: Global,
+    packages: &mut TextMap<PackageId, PackageData>,
+    id: &str,
+    in_workspace: bool,
+) -> Result<(), RowFault>
+    ensures { Takes (package_tables packages.new) result (add_package id.now in_workspace (package_tables packages.old)) }
+{
+    let id = PackageId::new(alloc, id)?;
+    let before = packages.insert(id, blank_package(alloc, in_workspace))?;
+    if before.is_some() {
+        return Err(RowFault::DuplicatePackage);
+    }
+    Ok(())
+}
+
+/// Appends the feature with these texts to `features`, or returns `DuplicateFeature` if `features` already has its name.
+fn push_feature(
+    alloc: Global,
+    features: &mut NameSet<NamedFeature>,
+    texts: TextRun,
+) -> Result<(), RowFault>
+    requires { 0 < length texts }
+    ensures { Takes (map feature_table features.new) result (with_feature (table_of_texts texts).name (table_of_texts texts).items (map feature_table features.old)) }
+{
+    let added = features.insert(alloc, NamedFeature::new(texts))?;
+    if !added {
+        return Err(RowFault::DuplicateFeature);
+    }
+    Ok(())
+}
+
+/// Reads a Feature row with these texts into the last package. Returns `NoPackage` if there is none, `DuplicateFeature` if it has a
+/// feature of this name.
+fn push_feature_row(
+    alloc: Global,
+    packages: &mut TextMap<PackageId, PackageData>,
+    texts: TextRun,
+) -> Result<(), RowFault>
+    requires { 0 < length texts }
+    ensures { Takes (package_tables packages.new) result (change_last (add_feature (table_of_texts texts).name (table_of_texts texts).items) (package_tables packages.old)) }
+{
+    let Some(current) = packages.last_mut() else {
+        return Err(RowFault::NoPackage);
+    };
+    push_feature(alloc, &mut current.features, texts)
+}
+
+/// Inserts `name` into `names`, the optional names of a package.
+fn push_name(alloc: Global, names: &mut NameSet<String>, name: &str) -> Result<(), RowFault>
+    ensures { Takes (map string_bytes names.new) result (Ok (with_name name.now (map string_bytes names.old))) }
+{
+    names.insert(alloc, String::from_str(alloc, name)?)?;
+    Ok(())
+}
+
+/// Reads a Dep row in the first pass: inserts `name` into the last package's optional names if `optional` is true. Returns
+/// `NoPackage` if there is no package.
+fn push_dep_row(
+    alloc: Global,
+    packages: &mut TextMap<PackageId, PackageData>,
+    name: &str,
+    optional: bool,
+) -> Result<(), RowFault>
+    ensures { Takes (package_tables packages.new) result (change_last (λ p. Ok (add_name name.now optional p)) (package_tables packages.old)) }
+{
+    let Some(current) = packages.last_mut() else {
+        return Err(RowFault::NoPackage);
+    };
+    if optional {
+        return push_name(alloc, &mut current.optional_names, name);
+    }
+    Ok(())
+}
+
+/// Frees the spare capacity of the last package, whose rows are all read.
+fn end_package(packages: &mut TextMap<PackageId, PackageData>)
+    ensures { package_tables packages.new ≡ package_tables packages.old }
+{
+    if let Some(last) = packages.last_mut() {
+        last.features.shrink_to_fit();
+        last.optional_names.shrink_to_fit();
+    }
+}
+
+/// Reads a row in the first pass, or returns its fault. Its texts are those of `list` from `at` up to, not including, `next`.
+fn take_row(
+    alloc: Global,
+    packages: &mut TextMap<PackageId, PackageData>,
+    list: &Rc<TextList>,
+    at: usize,
+    next: usize,
+    row: Row,
+) -> Result<(), RowFault>
+    requires texts { AreAt list.now.value at (row_texts (row_text row)) }
+    requires next { next ≡ at + length (row_texts (row_text row)) }
+    ensures { Takes (package_tables packages.new) result (first_step (package_tables packages.old) (row_text row.entry)) }
+{
+    match row {
+        Row::Package { id, in_workspace } => {
+            end_package(packages);
+            push_package(alloc, packages, id, in_workspace)
+        }
+        Row::Feature { .. } => {
+            let texts = TextRun::new(list, at, next - at)?;
+            push_feature_row(alloc, packages, texts)
+        }
+        Row::Dep { name, optional, .. } => push_dep_row(alloc, packages, name, optional),
+    }
+}
+
+/// Reads a row in the first pass, or returns its fault. Its texts begin at `at` in `list`; returns where those of the next row begin.
+fn take_row_at(
+    alloc: Global,
+    packages: &mut TextMap<PackageId, PackageData>,
+    list: &Rc<TextList>,
+    at: usize,
+    row: Row,
+) -> Result<usize, RowFault>
+    requires { AreAt list.now.value at (row_texts (row_text row)) }
+    ensures tables { Takes (package_tables packages.new) result (first_step (package_tables packages.old) (row_text row.entry)) }
+    ensures next { IfOk result (λ next. next ≡ at + length (row_texts (row_text row.entry))) }
+{
+    let next = next_text(at, row)?;
+    take_row(alloc, packages, list, at, next, row)?;
+    Ok(next)
+}
+
+/// Runs the first pass and returns the packages, or the first fault of a row by itself. `list` has the texts of all rows. The map's
+/// spare capacity is freed.
+pub(crate) fn take_packages<S: RowSource>(
+    alloc: Global,
+    list: &Rc<TextList>,
+    source: &S,
+) -> Result<TextMap<PackageId, PackageData>, RowError>
+    requires { list.now.value ≡ stored_texts (S.rows source.now) }
+    ensures tables { Reads package_tables result (first_or (faults_by row_fault (S.rows source.now)) (packages_of (S.rows source.now))) }
+    ensures row { IfErr result (NamesRow (S.rows source.now)) }
+{
+    let mut packages = IndexMap::with_hasher(alloc, BuildHasherDefault::new());
+    let mut at = 0;
+    for row in 0..source.row_count() {
+        match take_row_at(alloc, &mut packages, list, at, source.row(row)) {
+            Ok(next) => at = next,
+            Err(fault) => return Err(RowError::new(row, fault)),
+        }
+    }
+    end_package(&mut packages);
+    packages.shrink_to_fit();
+    Ok(packages)
+}

@@ -1,0 +1,89 @@
+//! The texts of all rows, in one list.
+ghost use Rattle.std.specs.Prelude.{◌≡◌, ◌+◌, ◌++◌, ◌∷◌, [], List, IfOk, OnOk, length};
+ghost use Rattle.std.specs.String.{string_bytes};
+ghost use Rattle.guppy_packages.specs.Rows.{Text, row_text, texts};
+ghost use Rattle.guppy_packages.specs.inner.Pushed.{IsPushed};
+ghost use Rattle.guppy_packages.specs.inner.RowTexts.{row_texts, stored_texts};
+
+use crate::narrow::narrow;
+use crate::pushing::push_to;
+use crate::row::Row;
+use crate::row_source::RowSource;
+use crate::text_list::TextList;
+use std::alloc::{AllocError, Global};
+
+/// Appends `added` to `text`, and its end in `text` to `ends`. Returns `AllocError` if an allocation fails or the end doesn't fit in
+/// 32 bits.
+fn push_text(text: &mut String, ends: &mut Vec<u32>, added: &str) -> Result<(), AllocError>
+    ensures { OnOk result ((before : List Text) → IsPushed before (string_bytes text.old) ends.old.items → IsPushed (before ++ added.now ∷ []) (string_bytes text.new) ends.new.items) }
+{
+    text.push_str(added)?;
+    push_to(ends, narrow(text.as_str().len())?)?;
+    Ok(())
+}
+
+/// Appends each of `added`. The errors are those of `push_text`.
+fn push_texts(text: &mut String, ends: &mut Vec<u32>, added: &[&str]) -> Result<(), AllocError>
+    ensures { OnOk result ((before : List Text) → IsPushed before (string_bytes text.old) ends.old.items → IsPushed (before ++ texts added.now) (string_bytes text.new) ends.new.items) }
+{
+    for item in added {
+        push_text(text, ends, item)?;
+    }
+    Ok(())
+}
+
+/// Appends the texts of `row` that a graph stores. The errors are those of `push_text`.
+fn push_row(text: &mut String, ends: &mut Vec<u32>, row: Row) -> Result<(), AllocError>
+    ensures { OnOk result ((before : List Text) → IsPushed before (string_bytes text.old) ends.old.items → IsPushed (before ++ row_texts (row_text row.entry)) (string_bytes text.new) ends.new.items) }
+{
+    match row {
+        Row::Package { .. } => {}
+        Row::Feature { name, items } => {
+            push_text(text, ends, name)?;
+            push_texts(text, ends, items)?;
+        }
+        Row::Dep { name, .. } => push_text(text, ends, name)?,
+    }
+    Ok(())
+}
+
+/// Returns the number of the first text of the next row, if that of `row` is `at`. Returns `AllocError` if it doesn't fit in 32 bits.
+pub(crate) fn next_text(at: usize, row: Row) -> Result<usize, AllocError>
+    ensures { IfOk result (λ next. next ≡ at + length (row_texts (row_text row.entry))) }
+{
+    let count = match row {
+        Row::Package { .. } => 0,
+        Row::Feature { items, .. } => items.len().saturating_add(1),
+        Row::Dep { .. } => 1,
+    };
+    Ok(narrow(at.saturating_add(count))? as usize)
+}
+
+/// Appends the texts of all rows that a graph stores, in row order. The errors are those of `push_text`.
+fn push_rows<S: RowSource>(
+    text: &mut String,
+    ends: &mut Vec<u32>,
+    source: &S,
+) -> Result<(), AllocError>
+    requires text { string_bytes text.old ≡ [] }
+    requires ends { ends.old.items ≡ [] }
+    ensures { OnOk result (IsPushed (stored_texts (S.rows source.now)) (string_bytes text.new) ends.new.items) }
+{
+    for row in 0..source.row_count() {
+        push_row(text, ends, source.row(row))?;
+    }
+    Ok(())
+}
+
+/// Returns the texts of all rows that a graph stores, in row order. Returns `AllocError` if an allocation fails, or if the texts are
+/// longer than 4294967295 bytes.
+pub(crate) fn stored_texts<S: RowSource>(alloc: Global, source: &S) -> Result<TextList, AllocError>
+    ensures { IfOk result (λ list. list ≡ stored_texts (S.rows source.now)) }
+{
+    let mut text = String::new(alloc);
+    let mut ends = Vec::new(alloc);
+    push_rows(&mut text, &mut ends, source)?;
+    text.shrink_to_fit();
+    ends.shrink_to_fit();
+    Ok(TextList::new(text, ends))
+}
