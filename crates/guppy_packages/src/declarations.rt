@@ -5,8 +5,7 @@ ghost use Rattle.guppy_packages.specs.inner.Declarations.{held_declarations};
 use crate::declaration::Declaration;
 use crate::pushing::push_to;
 use std::alloc::{AllocError, Global};
-use std::mem;
-use std::slice;
+use std::{mem, slice};
 
 /// The declarations of a link, in row order. Most links have one, which needs no allocation.
 #[derive(Drop)]
@@ -47,11 +46,7 @@ impl Declarations {
     }
 
     /// Appends `declaration`. `AllocError` is the only error, and then declarations may be lost.
-    pub(crate) fn push(
-        &mut self,
-        alloc: Global,
-        declaration: Declaration,
-    ) -> Result<(), AllocError>
+    pub(crate) fn push(&mut self, alloc: Global, declaration: Declaration) -> Result<(), AllocError>
         ensures { OnOk result (held_declarations self.new ≡ held_declarations self.old ++ declaration ∷ []) }
     {
         let before = mem::replace(self, Declarations::More(Vec::new(alloc)));

@@ -1,4 +1,4 @@
-//! Reads rows into a package graph: their texts, and then the packages and the links, in two passes.
+//! The package graph of rows or of tables.
 ghost use Rattle.std.specs.Prelude.{◌≡◌, IfOk, IfErr, length, map};
 ghost use Rattle.order_views.specs.digraph_orders.Sequences.{IsOrderOf};
 ghost use Rattle.guppy_packages.specs.Graph.{NamesRow, Reads, tables_of};
@@ -7,46 +7,19 @@ ghost use Rattle.guppy_packages.specs.Rows.{row_text};
 ghost use Rattle.guppy_packages.specs.Stored.{link_tables, package_tables};
 ghost use Rattle.guppy_packages.specs.Tables.{AreTables};
 ghost use Rattle.guppy_packages.specs.inner.Begins.{AreAllBegun};
-ghost use Rattle.guppy_packages.specs.inner.RowTexts.{stored_texts};
 
 use crate::contents::{Link, PackageData};
-use crate::first_pass::take_packages;
 use crate::link_begins::link_begins;
 use crate::package_graph::PackageGraph;
 use crate::package_id::PackageId;
 use crate::package_order::package_order;
+use crate::package_tables::PackageTables;
 use crate::row::Row;
 use crate::row_error::RowError;
 use crate::row_source::{RowSlice, RowSource};
-use crate::row_texts::stored_texts;
-use crate::second_pass::take_links;
-use crate::text_list::TextList;
 use crate::text_map::TextMap;
 use order_views::Order;
 use std::alloc::{AllocError, Global};
-use std::rc::Rc;
-
-/// Returns the texts of all rows that a graph stores, in row order. The errors are those of [`stored_texts`].
-fn shared_texts<S: RowSource>(alloc: Global, source: &S) -> Result<Rc<TextList>, AllocError>
-    ensures { IfOk result (λ list. list.value ≡ stored_texts (S.rows source.now)) }
-{
-    Ok(Rc::new(alloc, stored_texts(alloc, source)?)?)
-}
-
-/// Runs both passes and returns the packages and the links.
-fn take_tables<S: RowSource>(
-    alloc: Global,
-    source: &S,
-) -> Result<(TextMap<PackageId, PackageData>, Vec<Link>), RowError>
-    ensures tables { Reads (λ both. record { packages = package_tables both.0; links = link_tables both.1.items }) result (tables_of (S.rows source.now)) }
-    ensures sound { IfOk result (λ both. AreTables (record { packages = package_tables both.0; links = link_tables both.1.items })) }
-    ensures row { IfErr result (NamesRow (S.rows source.now)) }
-{
-    let list = shared_texts(alloc, source)?;
-    let packages = take_packages(alloc, &list, source)?;
-    let links = take_links(alloc, &packages, &list, source)?;
-    Ok((packages, links))
-}
 
 /// Returns the number of each package's first link, and the order of the packages.
 fn begins_and_order(
@@ -65,7 +38,7 @@ fn begins_and_order(
 
 impl PackageGraph {
     /// Returns the graph of `rows`, or the first fault. Faults of rows by themselves precede those among all packages. `Memory`
-    /// is returned when an allocation fails.
+    /// is returned when an allocation fails, or if the texts of features and dependencies are longer than 4294967295 bytes.
     pub fn from_rows(alloc: Global, rows: &[Row]) -> Result<PackageGraph, RowError>
         ensures tables { Reads (λ graph. graph) result (tables_of (map row_text rows.now)) }
         ensures row { IfErr result (NamesRow rows.now) }
@@ -73,12 +46,20 @@ impl PackageGraph {
         PackageGraph::from_source(alloc, &RowSlice { rows })
     }
 
-    /// Returns the graph of the rows of `source`, or the first fault, as `from_rows` does. Each row is requested twice.
+    /// Returns the graph of the rows of `source`, or the first fault, as `from_rows` does. Each row is requested three times.
     pub fn from_source<S: RowSource>(alloc: Global, source: &S) -> Result<PackageGraph, RowError>
         ensures tables { Reads (λ graph. graph) result (tables_of (S.rows source.now)) }
         ensures row { IfErr result (NamesRow (S.rows source.now)) }
     {
-        let (packages, links) = take_tables(alloc, source)?;
+        let tables = PackageTables::from_source(alloc, source)?;
+        Ok(PackageGraph::from_tables(alloc, tables)?)
+    }
+
+    /// Returns the graph of `tables`, with the packages in order. `AllocError` is the only error.
+    pub fn from_tables(alloc: Global, tables: PackageTables) -> Result<PackageGraph, AllocError>
+        ensures { IfOk result (λ graph. graph ≡ tables) }
+    {
+        let PackageTables { packages, links } = tables;
         let (begins, order) = begins_and_order(alloc, &packages, &links)?;
         Ok(PackageGraph {
             packages,

@@ -238,8 +238,15 @@ fn link_row(
         return Err(RowFault::UnknownTarget);
     };
     let always = known.always;
-    let declaration =
-        declare(alloc, always, kind, optional, platform, default_features, features)?;
+    let declaration = declare(
+        alloc,
+        always,
+        kind,
+        optional,
+        platform,
+        default_features,
+        features,
+    )?;
     let name = TextRun::new(known.list, noted.at, 1)?;
     let from = begun.saturating_sub(1);
     push_link(alloc, links, noted, from, to, name, declaration)

@@ -13,8 +13,8 @@ use crate::package::{listed, warned};
 use crate::resolving::{resolved, visited};
 use crate::words::Command;
 use guppy_features::FeatureGraphData;
-use guppy_packages::PackageGraph;
-use row_files::graph_of;
+use guppy_packages::{PackageGraph, PackageTables};
+use row_files::tables_of;
 use std::alloc::Global;
 use std::mem::forget;
 
@@ -54,12 +54,12 @@ fn answer_graph(alloc: Global, command: &Command, graph: &PackageGraph) -> Resul
     }
 }
 
-/// Returns the package graph of a row file's bytes, or the first fault.
-fn graph_of_bytes(alloc: Global, bytes: &[u8]) -> Result<PackageGraph, Fault>
-    ensures { Gives (λ graph. graph) result (tables_in bytes.now) }
+/// Returns the tables of a row file's bytes, or the first fault.
+fn tables_of_bytes(alloc: Global, bytes: &[u8]) -> Result<PackageTables, Fault>
+    ensures { Gives (λ tables. tables) result (tables_in bytes.now) }
 {
-    match graph_of(alloc, bytes) {
-        Ok(graph) => Ok(graph),
+    match tables_of(alloc, bytes) {
+        Ok(tables) => Ok(tables),
         Err(error) => Err(Fault::from(error)),
     }
 }
@@ -69,8 +69,9 @@ fn graph_of_bytes(alloc: Global, bytes: &[u8]) -> Result<PackageGraph, Fault>
 pub fn answer(alloc: Global, command: &Command, bytes: Vec<u8>) -> Result<Vec<u8>, Fault>
     ensures { GivesAnswer (λ text. text.items) result (IsAnswer (command_text command.now) bytes.items) }
 {
-    let graph = graph_of_bytes(alloc, &bytes)?;
+    let tables = tables_of_bytes(alloc, &bytes)?;
     drop(bytes);
+    let graph = PackageGraph::from_tables(alloc, tables)?;
     let text = answer_graph(alloc, command, &graph);
     forget(graph);
     text

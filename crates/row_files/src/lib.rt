@@ -13,5 +13,5 @@ mod rows;
 
 pub use error::RowFileError;
 pub use lines::Lines;
-pub use row_file::{graph_of, graph_of_lines};
+pub use row_file::{graph_of, graph_of_lines, tables_of, tables_of_lines};
 pub use rows::LineRows;

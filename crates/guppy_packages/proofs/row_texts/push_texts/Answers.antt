@@ -16,6 +16,6 @@ loop-item-preserved c =
     let item = get_or items ix (record { ref_ptr = (0, 0); now = [] }) in
     let more : texts (take (ix + 1) items) ≡ texts (take ix items) ++ item.now ∷ [] = ap (λ n. texts (take n items)) (add-one ix) ∙ ap texts (take-suc items ix (record { ref_ptr = (0, 0); now = [] }) c.loop-item-test.true) ∙ map-append (λ t. t.now) (take ix items) (item ∷ []) in
     λ before p.
-      subst (λ ts. IsPushed ts (string_bytes c.push_text.new.text) c.push_text.new.ends.items)
-      (append_assoc before (texts (take ix items)) (item.now ∷ []) ∙ ap (λ ts. before ++ ts) (sym more))
-      (c.in_ok-push_text.ensures (before ++ texts (take ix items)) (c.loop-item.invariant before p))
+    subst (λ ts. IsPushed ts (string_bytes c.push_text.new.text) c.push_text.new.ends.items)
+    (append_assoc before (texts (take ix items)) (item.now ∷ []) ∙ ap (λ ts. before ++ ts) (sym more))
+    (c.in_ok-push_text.ensures (before ++ texts (take ix items)) (c.loop-item.invariant before p))

@@ -5,7 +5,7 @@ use Rattle.guppy_packages.specs.Stored.{link_tables, package_tables}
 use Rattle.guppy_packages.specs.Tables.{AreTables}
 use Rattle.guppy_packages.proofs.Passes.{MatchMemory-map, both_read, second_refused, tables_hold}
 use Rattle.guppy_packages.proofs.Sound.{tables_sound}
-use Rattle.guppy_packages.proofs.from_rows.take_tables.Goals as goal
+use Rattle.guppy_packages.proofs.package_tables.take_tables.Goals as goal
 
 pub returns-clause-tables : goal.returns-clause-tables
 returns-clause-tables g c = both_read (g.S.RowSource.rows c.args.source.now) (package_tables c.in_ok-packages.packages) c.in_ok-packages.ensures.tables (link_tables c.in_ok-links.links.items) c.in_ok-links.ensures.tables

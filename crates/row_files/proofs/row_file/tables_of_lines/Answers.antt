@@ -3,7 +3,7 @@ use Rattle.row_files.specs.RowFile.{lines_of}
 use Rattle.row_files.specs.WellFormed.{rows_in}
 use Rattle.row_files.proofs.RowLemmas.{as_many}
 use Rattle.row_files.proofs.TableLemmas.{named_row, not_memory, refused_there}
-use Rattle.row_files.proofs.row_file.graph_of_lines.Goals as goal
+use Rattle.row_files.proofs.row_file.tables_of_lines.Goals as goal
 
 pub line_number-requires : goal.line_number-requires
 line_number-requires c =
