@@ -17,9 +17,9 @@ pub struct Declaration {
     pub(crate) kind: DependencyKind,
     pub(crate) optional: bool,
     pub(crate) default_features: bool,
-    // declarations for all platforms share it
+    // equal values are shared
     pub(crate) platform: Rc<PlatformStatusImpl>,
-    pub(crate) features: Vec<String>,
+    pub(crate) features: Rc<Vec<String>>,
     ghost of_a_row: { platform_specs platform.value ≡ option_map (λ spec. spec ∷ []) (platform_text platform.value) },
 }
 

@@ -27,6 +27,7 @@ mod row_error;
 mod row_source;
 mod row_texts;
 mod second_pass;
+mod shared;
 mod text_list;
 mod text_map;
 mod text_run;

@@ -1,14 +1,11 @@
 //! The second pass over the rows: links, with their declarations.
-ghost use Rattle.std.specs.Prelude.{◌≡◌, ℕ, ◌+◌, ◌-◌, ◌<◌, ◌≤◌, ◌^◌, ◌∷◌, ◌++◌, [], IfOk, IfErr, OnOk, Some, false, length, map, slice_get, slice_set};
-ghost use Rattle.std.specs.Option.{option_map, option_map_or};
-ghost use Rattle.std.specs.String.{string_bytes};
+ghost use Rattle.std.specs.Prelude.{◌≡◌, ℕ, ◌+◌, ◌-◌, ◌<◌, ◌≤◌, ◌^◌, ◌∷◌, ◌++◌, [], IfOk, IfErr, OnOk, Some, false, length, slice_get, slice_set};
+ghost use Rattle.std.specs.Option.{option_map_or};
 ghost use Rattle.guppy_packages.specs.Graph.{NamesRow, Reads, first_or, faults_by, link_fault, links_of, dependencies_of};
 ghost use Rattle.guppy_packages.specs.Parts.{first_text};
-ghost use Rattle.guppy_packages.specs.Platform.{platform_specs, platform_text};
-ghost use Rattle.guppy_packages.specs.Rows.{row_text, texts};
+ghost use Rattle.guppy_packages.specs.Rows.{row_text};
 ghost use Rattle.guppy_packages.specs.Stored.{declared, link_table, link_tables, package_tables};
 ghost use Rattle.guppy_packages.specs.Tables.{LinkTable, package_place};
-ghost use Rattle.guppy_packages.specs.declared.platform.PlatformStatusImpl.TheVariants.{Always};
 ghost use Rattle.guppy_packages.specs.declared.row_error.RowFault.TheVariants.{Memory};
 ghost use Rattle.guppy_packages.specs.inner.Begins.{IsBegin};
 ghost use Rattle.guppy_packages.specs.inner.Noted.{AreNoted};
@@ -20,92 +17,17 @@ use crate::declaration::Declaration;
 use crate::declarations::Declarations;
 use crate::narrow::narrow;
 use crate::package_id::PackageId;
-use crate::platform::{PlatformStatusImpl, Spec};
 use crate::pushing::push_to;
-use crate::row::{DependencyKind, Row};
+use crate::row::Row;
 use crate::row_error::{RowError, RowFault};
 use crate::row_source::RowSource;
 use crate::row_texts::next_text;
+use crate::shared::Shared;
 use crate::text_list::TextList;
 use crate::text_map::TextMap;
 use crate::text_run::TextRun;
 use std::alloc::{AllocError, Global};
 use std::rc::Rc;
-
-/// Returns owned copies of `items`.
-fn owned(alloc: Global, items: &[&str]) -> Result<Vec<String>, AllocError>
-    ensures { IfOk result (λ v. map string_bytes v.items ≡ texts items.now) }
-{
-    let mut all = Vec::with_capacity(alloc, items.len())?;
-    for item in items {
-        push_to(&mut all, String::from_str(alloc, item)?)?;
-    }
-    Ok(all)
-}
-
-/// Returns the platforms of the spec `text`.
-fn one_spec(alloc: Global, text: &str) -> Result<PlatformStatusImpl, AllocError>
-    ensures { IfOk result (λ p. platform_specs p ≡ Some (text.now ∷ [])) }
-{
-    let mut specs = Vec::with_capacity(alloc, 1)?;
-    push_to(&mut specs, Spec::new(alloc, text)?)?;
-    Ok(PlatformStatusImpl::Specs(specs))
-}
-
-/// Returns the platforms of a Dep row: `always`, or those of the spec `platform`.
-fn platform_of(
-    alloc: Global,
-    always: &Rc<PlatformStatusImpl>,
-    platform: Option<&str>,
-) -> Result<Rc<PlatformStatusImpl>, AllocError>
-    requires { always.now.value ≡ Always }
-    ensures specs { IfOk result (λ p. platform_specs p.value ≡ option_map (λ spec. spec ∷ []) (platform_text p.value)) }
-    ensures text { IfOk result (λ p. platform_text p.value ≡ option_map (λ t. t.now) platform.entry) }
-{
-    match platform {
-        None => always.clone(),
-        Some(text) => Ok(Rc::new(alloc, one_spec(alloc, text)?)?),
-    }
-}
-
-/// Returns the declaration of a Dep row with these columns. `always` are all platforms.
-fn declare(
-    alloc: Global,
-    always: &Rc<PlatformStatusImpl>,
-    kind: DependencyKind,
-    optional: bool,
-    platform: Option<&str>,
-    default_features: bool,
-    features: &[&str],
-) -> Result<Declaration, AllocError>
-    requires { always.now.value ≡ Always }
-    ensures { IfOk result (λ d. declared d ≡ record {
-      kind = kind;
-      optional = optional;
-      platform = option_map (λ t. t.now) platform.entry;
-      default_features = default_features;
-      features = texts features.now;
-    }) }
-{
-    let platform = platform_of(alloc, always, platform)?;
-    let features = owned(alloc, features)?;
-    Ok(Declaration {
-        kind,
-        optional,
-        default_features,
-        platform,
-        features,
-    })
-}
-
-/// What the second pass reads: the packages, the texts of all rows, and the platforms of declarations for all platforms.
-#[derive(Clone, Copy)]
-struct Known<'p> {
-    packages: &'p TextMap<PackageId, PackageData>,
-    list: &'p Rc<TextList>,
-    always: &'p Rc<PlatformStatusImpl>,
-    ghost always_is: { always.now.value ≡ Always },
-}
 
 /// The state of the second pass.
 #[derive(Drop)]
@@ -118,6 +40,8 @@ struct Noted {
     begun: usize,
     /// The number of texts of the rows that are read.
     at: usize,
+    /// What declarations share.
+    shared: Shared,
 }
 
 /// Returns whether link `at` joins `from` to `to`. Links before `first` leave other packages and are not looked at.
@@ -209,16 +133,17 @@ fn place_of(packages: &TextMap<PackageId, PackageData>, id: &str) -> Option<usiz
 /// `OtherName` if the pair's link has another name.
 fn link_row(
     alloc: Global,
-    known: Known,
+    packages: &TextMap<PackageId, PackageData>,
+    list: &Rc<TextList>,
     links: &mut Vec<Link>,
     noted: &mut Noted,
     begun: usize,
     row: Row,
 ) -> Result<(), RowFault>
-    requires texts { AreAt known.list.now.value noted.old.at (row_texts (row_text row)) }
-    requires count { length noted.old.last.items ≡ length (package_tables known.packages.now) }
+    requires texts { AreAt list.now.value noted.old.at (row_texts (row_text row)) }
+    requires count { length noted.old.last.items ≡ length (package_tables packages.now) }
     requires noted { AreNoted (begun - 1) (link_tables links.old.items) noted.old.last.items noted.old.first }
-    ensures tables { Takes (link_tables links.new.items) result (second_step (package_tables known.entry.packages.now) begun (link_tables links.old.items) (row_text row.entry)) }
+    ensures tables { Takes (link_tables links.new.items) result (second_step (package_tables packages.now) begun (link_tables links.old.items) (row_text row.entry)) }
     ensures noted { OnOk result (AreNoted (begun - 1) (link_tables links.new.items) noted.new.last.items noted.new.first) }
     ensures count { OnOk result (length noted.new.last.items ≡ length noted.old.last.items) }
 {
@@ -234,20 +159,18 @@ fn link_row(
     else {
         return Ok(());
     };
-    let Some(to) = place_of(known.packages, target) else {
+    let Some(to) = place_of(packages, target) else {
         return Err(RowFault::UnknownTarget);
     };
-    let always = known.always;
-    let declaration = declare(
+    let declaration = noted.shared.declaration(
         alloc,
-        always,
         kind,
         optional,
         platform,
         default_features,
         features,
     )?;
-    let name = TextRun::new(known.list, noted.at, 1)?;
+    let name = TextRun::new(list, noted.at, 1)?;
     let from = begun.saturating_sub(1);
     push_link(alloc, links, noted, from, to, name, declaration)
 }
@@ -281,36 +204,30 @@ fn first_link(links: &[Link], first: usize, begun: usize, row: Row) -> usize
 /// Reads a row in the second pass and updates `noted`.
 fn take_link(
     alloc: Global,
-    known: Known,
+    packages: &TextMap<PackageId, PackageData>,
+    list: &Rc<TextList>,
     links: &mut Vec<Link>,
     noted: &mut Noted,
     row: Row,
 ) -> Result<(), RowFault>
     requires few { noted.old.begun + 1 < 2 ^ 64 }
-    requires texts { AreAt known.list.now.value noted.old.at (row_texts (row_text row)) }
-    requires count { length noted.old.last.items ≡ length (package_tables known.packages.now) }
+    requires texts { AreAt list.now.value noted.old.at (row_texts (row_text row)) }
+    requires count { length noted.old.last.items ≡ length (package_tables packages.now) }
     requires noted { AreNoted (noted.old.begun - 1) (link_tables links.old.items) noted.old.last.items noted.old.first }
-    ensures tables { Takes (link_tables links.new.items) result (second_step (package_tables known.entry.packages.now) noted.old.begun (link_tables links.old.items) (row_text row.entry)) }
+    ensures tables { Takes (link_tables links.new.items) result (second_step (package_tables packages.now) noted.old.begun (link_tables links.old.items) (row_text row.entry)) }
     ensures begun { OnOk result (noted.new.begun ≡ begun_after noted.old.begun (row_text row.entry)) }
     ensures few { OnOk result (noted.new.begun ≤ noted.old.begun + 1) }
     ensures at { OnOk result (noted.new.at ≡ noted.old.at + length (row_texts (row_text row.entry))) }
-    ensures count { OnOk result (length noted.new.last.items ≡ length (package_tables known.entry.packages.now)) }
+    ensures count { OnOk result (length noted.new.last.items ≡ length (package_tables packages.now)) }
     ensures noted { OnOk result (AreNoted (noted.new.begun - 1) (link_tables links.new.items) noted.new.last.items noted.new.first) }
 {
     let begun = noted.begun;
     let next = next_text(noted.at, row)?;
-    link_row(alloc, known, links, noted, begun, row)?;
+    link_row(alloc, packages, list, links, noted, begun, row)?;
     noted.first = first_link(links, noted.first, begun, row);
     noted.begun = count(begun, row);
     noted.at = next;
     Ok(())
-}
-
-/// Returns the platforms of a declaration for all of them. `AllocError` is the only error.
-fn all_platforms(alloc: Global) -> Result<Rc<PlatformStatusImpl>, AllocError>
-    ensures { IfOk result (λ p. p.value ≡ Always) }
-{
-    Ok(Rc::new(alloc, PlatformStatusImpl::Always)?)
 }
 
 /// Runs the second pass and returns the links, or the first fault of a row among all packages. `list` has the texts of all rows. A
@@ -326,21 +243,24 @@ pub(crate) fn take_links<S: RowSource>(
     ensures tables { Reads (λ links. link_tables links.items) result (first_or (faults_by (link_fault (package_tables packages.now)) (S.rows source.now)) (links_of (dependencies_of (package_tables packages.now) (S.rows source.now)))) }
     ensures row { IfErr result (NamesRow (S.rows source.now)) }
 {
-    let always = all_platforms(alloc)?;
-    let known = Known {
-        packages,
-        list,
-        always: &always,
-    };
+    let shared = Shared::new(alloc)?;
     let mut links = Vec::new(alloc);
     let mut noted = Noted {
         last: vec![in alloc; 0u32; packages.len()]?,
         first: 0,
         begun: 0,
         at: 0,
+        shared,
     };
     for row in 0..source.row_count() {
-        if let Err(fault) = take_link(alloc, known, &mut links, &mut noted, source.row(row)) {
+        if let Err(fault) = take_link(
+            alloc,
+            packages,
+            list,
+            &mut links,
+            &mut noted,
+            source.row(row),
+        ) {
             return Err(RowError::new(row, fault));
         }
     }

@@ -1,9 +1,6 @@
-use Rattle.std.proofs.Common.{◌<◌, ◌≡◌, ◌∙◌, ◌∷◌, ◌-◌, ◌+◌, ap, arith, drop, length, subst, sym, take}
-use Rattle.guppy_packages.specs.NamedFeature.{table_of_texts}
+use Rattle.std.proofs.Common.{◌<◌, ◌≡◌, ◌∙◌, ◌∷◌, ◌-◌, ◌+◌, ap, arith, drop, length, subst, take}
 use Rattle.guppy_packages.specs.Rows.{row_text, texts}
-use Rattle.guppy_packages.specs.Stored.{package_tables}
 use Rattle.guppy_packages.specs.inner.RowTexts.{AreAt, row_texts}
-use Rattle.guppy_packages.specs.inner.Steps.{Takes, add_feature, change_last}
 use Rattle.guppy_packages.proofs.first_pass.take_row.Goals as goal
 
 pub new-requires : goal.new-requires

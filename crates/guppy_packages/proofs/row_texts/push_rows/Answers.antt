@@ -1,8 +1,7 @@
-use Rattle.std.proofs.Common.{◌≡◌, ◌∙◌, ◌+◌, ◌<◌, ◌++◌, ap, length, rules, subst, sym, take}
+use Rattle.std.proofs.Common.{◌<◌, length, rules, subst, sym, take}
 use Rattle.std.specs.String.{string_bytes}
-use Rattle.guppy_packages.specs.Rows.{row_text}
 use Rattle.guppy_packages.specs.inner.Pushed.{IsPushed}
-use Rattle.guppy_packages.specs.inner.RowTexts.{row_texts, stored_texts}
+use Rattle.guppy_packages.specs.inner.RowTexts.{stored_texts}
 use Rattle.guppy_packages.proofs.Lists.{drop_at}
 use Rattle.guppy_packages.proofs.PartLemmas.{pushed_none}
 use Rattle.guppy_packages.proofs.RowTextLemmas.{stored-next}

@@ -1,5 +1,4 @@
-use Rattle.std.proofs.Common.{◌≡◌, ◌∙◌}
-use Rattle.std.specs.String.{string_bytes}
+use Rattle.std.proofs.Common.{◌∙◌}
 use Rattle.guppy_packages.proofs.PartLemmas.{pushed_parts}
 use Rattle.guppy_packages.proofs.row_texts.stored_texts.Goals as goal
 

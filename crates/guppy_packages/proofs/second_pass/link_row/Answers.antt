@@ -1,4 +1,4 @@
-use Rattle.std.proofs.Common.{◌≡◌, ◌∙◌, ◌∷◌, [], OnOk, ap, arith, length, subst, sym}
+use Rattle.std.proofs.Common.{◌≡◌, ◌∙◌, ◌∷◌, [], OnOk, ap, length, subst, sym}
 use Rattle.guppy_packages.specs.Stored.{link_tables}
 use Rattle.guppy_packages.specs.Parts.{first_text}
 use Rattle.guppy_packages.specs.Rows.{row_text}
@@ -14,16 +14,16 @@ returns-clause-noted c = subst (λ n. OnOk c.push_link.result (AreNoted n (link_
 
 pub returns-clause-tables : goal.returns-clause-tables
 returns-clause-tables c =
-    let texts : AreAt c.args.known.list.now.value c.args.noted.now.at (c.in-Dep.name.now ∷ []) = subst (λ r. AreAt c.args.known.list.now.value c.args.noted.now.at (row_texts (row_text r))) c.in-Dep.is c.requires.texts in
+    let texts : AreAt c.args.list.now.value c.args.noted.now.at (c.in-Dep.name.now ∷ []) = subst (λ r. AreAt c.args.list.now.value c.args.noted.now.at (row_texts (row_text r))) c.in-Dep.is c.requires.texts in
     let named : first_text c.in_ok-name.name ≡ c.in-Dep.name.now = ap first_text (c.in_ok-name.ensures ∙ texts.are) in
     rw (c.in-Dep.is, ← c.in-Some.ensures) (rw (named, c.saturating_sub-from.ensures, c.in_ok-declaration.ensures) at c.push_link.ensures.tables)
 
 pub new-requires : goal.new-requires
 new-requires c =
-    let texts : AreAt c.args.known.list.now.value c.args.noted.now.at (c.in-Dep.name.now ∷ []) = subst (λ r. AreAt c.args.known.list.now.value c.args.noted.now.at (row_texts (row_text r))) c.in-Dep.is c.requires.texts in
+    let texts : AreAt c.args.list.now.value c.args.noted.now.at (c.in-Dep.name.now ∷ []) = subst (λ r. AreAt c.args.list.now.value c.args.noted.now.at (row_texts (row_text r))) c.in-Dep.is c.requires.texts in
     texts.within
 
 pub push_link-requires-clause-name : goal.push_link-requires-clause-name
 push_link-requires-clause-name c =
-    let texts : AreAt c.args.known.list.now.value c.args.noted.now.at (c.in-Dep.name.now ∷ []) = subst (λ r. AreAt c.args.known.list.now.value c.args.noted.now.at (row_texts (row_text r))) c.in-Dep.is c.requires.texts in
+    let texts : AreAt c.args.list.now.value c.args.noted.now.at (c.in-Dep.name.now ∷ []) = subst (λ r. AreAt c.args.list.now.value c.args.noted.now.at (row_texts (row_text r))) c.in-Dep.is c.requires.texts in
     ap length (c.in_ok-name.ensures ∙ texts.are)

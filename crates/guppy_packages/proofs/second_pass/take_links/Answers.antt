@@ -19,7 +19,7 @@ returns-in-Err-clause-tables g c =
     let i = c.loop-row.row in
     let at = drop_at all i _ c.row.ensures in
     let within : i < length all = search rules in
-    second_answers all i _ within at packages c.loop-row.invariant.none c.loop-row.noted.begun c.loop-row.invariant.counted (link_tables c.loop-row.links.items) c.loop-row.invariant.tables (Unit {0}) c.in-Err.fault c.new.result (link_tables c.take_link.new.links.items) (links_of (dependencies_of packages all)) c.new.ensures.fault c.new.ensures.row c.in-Err.ensures.tables
+    second_answers all i _ within at packages c.loop-row.invariant.none c.loop-row.noted.begun c.loop-row.invariant.counted (link_tables c.loop-row.links.items) c.loop-row.invariant.tables (Unit {0}) c.in-Err.fault c.new-in-Err.result (link_tables c.take_link.new.links.items) (links_of (dependencies_of packages all)) c.new-in-Err.ensures.fault c.new-in-Err.ensures.row c.in-Err.ensures.tables
 
 pub loop-row-preserved : goal.loop-row-preserved
 loop-row-preserved g c =

@@ -1,7 +1,7 @@
-use Rattle.std.proofs.Common.{◌≡◌, ◌∙◌, ap, ap₂, length, arith, subst, sym, Some}
+use Rattle.std.proofs.Common.{◌∙◌, ap, ap₂, length, arith, sym}
 use Rattle.std.specs.Prelude.{slice_get}
 use Rattle.std.specs.String.{string_bytes}
-use Rattle.guppy_packages.specs.Parts.{AreEnds, parts}
+use Rattle.guppy_packages.specs.Parts.{parts}
 use Rattle.guppy_packages.proofs.PartLemmas.{length-parts}
 use Rattle.guppy_packages.proofs.text_list.TextList.text.Goals as goal
 
