@@ -449,7 +449,7 @@ module _ (t s : Tables) (ts : AreTables t) (ss : AreTables s) (R : ℕ → Bool)
     grown : (n m p : ℕ) (l : LabelName) → NodeAt t n p l → NodeAt s m (number p) l → IsReached t starts n → IsTrue (B m)
     grown n m p l x y r = sym (member_is m (number p) l y) ∙ (both_true (R p) (member (number p) l) (sym (at_node n p l x) ∙ r a is_a A A_closed)).1
 
-  -- what is reached is reached in the larger tables
+  -- the larger tables reach what the smaller ones reach
   pub reached_more : (starts others : List (ℕ × LabelName)) → AreAmongBy number starts others → ((x : ℕ × LabelName) → Contains starts x → IsTrue (R x.0)) → (n m p : ℕ) (l : LabelName) → NodeAt t n p l → NodeAt s m (number p) l → IsReached t starts n → IsReached s others m
   reached_more starts others among begins n m p l x y r b is_b B closed =
       stable (B m) (λ none. built_exists t ts (λ a. none (grown a.0 b a.1 is_b starts others among begins B closed n m p l x y r)))

@@ -1,4 +1,4 @@
--- What is checked of a part of a workspace: if nothing is missing there, nothing is missing in the whole.
+-- The checks of a plan: if they find nothing missing in the part, they find nothing missing in the whole.
 use Rattle.std.proofs.Common.{◌≡◌, ◌⊎◌, inl, inr, ⊎_elim, ℕ, zero, suc, ◌+◌, List, [], ◌∷◌, Bool, true, false, not, Option, None, Some, map, refl, ap, ap₂, sym, ◌∙◌, arith, eq-eqb, if◌then◌else◌}
 use Rattle.std.specs.Prelude.{◌&&◌, ◌||◌, ◌==◌, Contains, filter, option_and_then, option_map, slice_get}
 use Rattle.std.specs.List.{list_any}

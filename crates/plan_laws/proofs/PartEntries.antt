@@ -65,7 +65,7 @@ to_as : (plain : Bool) (d : DeclarationText) (t : ℕ) → (steps.dependency_as 
 to_as true d t = refl
 to_as false d t = refl
 
--- Where a side of step `on` begins: the host side does so only if sides are told apart.
+-- The entries of a side in step `on`. There are entries of the host side only if `split` is true.
 
 side_stands : (flags : List Bool) (n : ℕ) → length flags ≡ n → (split : Bool) (side : Side) → (split ≡ false → side ≡ Target) → StandAt (flags ++ (if split then flags else [])) flags (steps.side_base n side) (steps.side_base (counted flags) side)
 side_stands flags n e split Target h = let hosts = if split then flags else [] in stand_left (flags ++ hosts) flags hosts 0 0 (stand_all (flags ++ hosts))

@@ -184,7 +184,7 @@ module _ (w : WorkspaceText) (s : SettingsText) (flags : List Bool) (selected : 
     names = λ m e h. (resolved_more w is s s.commands (same_growth s.commands)).names m e refl h;
   }
 
-  -- A visit of a step of the whole, of which the part has one.
+  -- A visit of a step of the whole, and `part`, the visit of the same step of the part.
   record IsFound (es : List Entry) (B : List Bool) (from : List (ℕ × LabelName)) (part : Visit) : Type 0 where
     visit : Visit
     is_visit : IsVisitOf (rows_of es) from visit

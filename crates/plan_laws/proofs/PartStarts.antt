@@ -166,7 +166,7 @@ inside_times : (n : ℕ) (a c : List Bool) → length c ≡ length a → ((p : �
 inside_times zero a c long f p h = h
 inside_times (suc n) a c long f p h = inside_append a (times n a) c (times n c) long f (inside_times n a c long f) p h
 
--- the bases at which entries start, of which only those of the part start
+-- the bases of the flagged packages, which are all in the part
 bases_match : (B flags : List Bool) → ((p : ℕ) → is_in flags p ≡ true → is_in B p ≡ true) → StartsMatch B (bases_of flags) (bases_of (part_of B flags))
 bases_match B flags inside = places_match B B flags base (λ p flag. flag) (λ p flag. flag) (λ p. p) (λ p. p)
     (λ p flag there h. inside p (ap (λ o. unwrap_or o false) there ∙ h)) (λ p flag h. refl) (λ p h. h) (λ p h. refl)

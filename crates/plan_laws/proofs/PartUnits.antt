@@ -1,4 +1,4 @@
--- What is built of a part is what is built of the whole.
+-- The part and the whole build the same units.
 use Rattle.std.proofs.Common.{◌≡◌, ℕ, zero, suc, ◌+◌, ◌<◌, List, [], ◌∷◌, ◌++◌, Bool, true, false, length, map, refl, ap, ap₂, sym, ◌∙◌, subst, arith, append_assoc, length-append, if◌then◌else◌}
 use Rattle.std.specs.Prelude.{◌&&◌, filter, slice_get, Some}
 use Rattle.std.proofs.lemmas.List.{length-map, map-append}

@@ -27,8 +27,8 @@ pub record Fits (w : WorkspaceText) (s : SettingsText) : Type 0 where
   pub sides : 2 * length w.packages < 2 ^ 64
   pub places : length w.packages + length s.targets * length w.packages < 2 ^ 64
 
--- A PLAN OF A PART is one of the whole workspace: it has the same units, renumbered. So a plan depends only on the packages that declarations
--- lead to from what it starts from.
+-- A PLAN OF A PART is one of the whole workspace: it has the same units, renumbered. So a plan depends only on the packages that it starts,
+-- and those to which declarations lead from them.
 abbrev pub PlansOfParts : Type 0
 PlansOfParts = (w : WorkspaceText) (s : SettingsText) (flags : List Bool) (selected : List ℕ) (q : PlanText) → IsWorkspace w → Fits w s → IsPart flags w → StartsIn flags s selected
     → IsPlan (part_workspace flags w) (part_settings flags s) (map (rank flags) selected) q
