@@ -290,7 +290,7 @@ impl FeatureGraphData {
         requires { ix < length self.now.packages }
         ensures { slice_get self.now.packages ix ≡ Some result }
     {
-        self.table.packages[ix]
+        self.table.packages[ix] as usize
     }
 
     /// Returns the first node of package `package_ix`.
@@ -298,7 +298,7 @@ impl FeatureGraphData {
         requires { package_ix < length self.now.firsts }
         ensures { slice_get self.now.firsts package_ix ≡ Some result }
     {
-        self.table.firsts[package_ix]
+        self.table.firsts[package_ix] as usize
     }
 
     /// Returns whether node `ix` is on by default: reachable from its package's default feature over edges to the base and edges

@@ -141,7 +141,7 @@ fn same_ends(a: Edge, b: Edge) -> bool
 }
 
 /// Returns whether `a` and `b` are equal lists of numbers.
-pub(crate) fn same_numbers(a: &[usize], b: &[usize]) -> bool
+pub(crate) fn same_numbers(a: &[u32], b: &[u32]) -> bool
     ensures { IsTrue result ↔ (a.now ≡ b.now) }
 {
     a == b

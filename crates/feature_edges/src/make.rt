@@ -27,7 +27,7 @@ use std::alloc::{AllocError, Global};
 #[derive(Clone, Copy)]
 pub(crate) struct Material<'a, 'g> {
     pub(crate) numbers: Numbers<'g>,
-    pub(crate) packages: &'a [usize],
+    pub(crate) packages: &'a [u32],
     pub(crate) groups: &'a LinkGroups<'g>,
 }
 
@@ -60,7 +60,7 @@ fn link_to(
     ensures { IfOk result (λ l. (p : ℕ) (d : Text) → NodeAt material.entry.numbers.graph.now ix p (optional d) ⊎ NodeAt material.entry.numbers.graph.now ix p (named d) → link_facts l ≡ by_name material.entry.numbers.graph.now p which d) }
 {
     let name = name_at(material, ix);
-    let package_ix = material.packages[ix];
+    let package_ix = material.packages[ix] as usize;
     named_link(
         alloc,
         material.numbers.graph,

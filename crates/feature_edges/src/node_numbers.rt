@@ -14,17 +14,17 @@ use guppy_packages::{PackageGraph, PackageMetadata};
 #[derive(Clone, Copy)]
 pub struct Numbers<'g> {
     pub graph: &'g PackageGraph,
-    pub(crate) firsts: &'g [usize],
+    pub(crate) firsts: &'g [u32],
     pub ghost all_firsts: { firsts.now ≡ first_nodes graph.now },
     pub ghost few_nodes: { length (node_places graph.now) < 2 ^ 64 },
 }
 
 /// Returns the first node of package `ix`.
-fn first_of(firsts: &[usize], ix: usize) -> usize
+fn first_of(firsts: &[u32], ix: usize) -> usize
     requires { ix < length firsts.now }
     ensures { result ≡ slice_index firsts.now ix }
 {
-    firsts[ix]
+    firsts[ix] as usize
 }
 
 /// Returns label `place` of a package.
@@ -46,8 +46,8 @@ fn label<'g>(metadata: PackageMetadata<'g>, place: usize) -> FeatureLabel<'g>
 /// Returns the label of node `ix`, by the first node of each package and the package of each node.
 pub fn label_at<'g>(
     graph: &'g PackageGraph,
-    firsts: &[usize],
-    packages: &[usize],
+    firsts: &[u32],
+    packages: &[u32],
     ix: usize,
 ) -> FeatureLabel<'g>
     requires firsts { firsts.now ≡ first_nodes graph.now }
@@ -55,7 +55,7 @@ pub fn label_at<'g>(
     requires node { ix < length packages.now }
     ensures { NodeAt graph.now ix (slice_index packages.now ix) (label_of result) }
 {
-    let package_ix = packages[ix];
+    let package_ix = packages[ix] as usize;
     let place = ix - first_of(firsts, package_ix);
     label(graph.package(package_ix), place)
 }

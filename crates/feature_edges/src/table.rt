@@ -187,7 +187,7 @@ impl MadeEdges {
         &mut self,
         alloc: Global,
         numbers: Numbers<'_>,
-        packages: &[usize],
+        packages: &[u32],
         groups: &LinkGroups<'_>,
         room: &mut Room,
         ix: usize,
@@ -217,7 +217,7 @@ impl MadeEdges {
         &mut self,
         alloc: Global,
         numbers: Numbers<'_>,
-        packages: &[usize],
+        packages: &[u32],
         groups: &LinkGroups<'_>,
         room: &mut Room,
     ) -> Result<(), AllocError>
@@ -241,7 +241,7 @@ impl MadeEdges {
         &mut self,
         alloc: Global,
         numbers: Numbers<'_>,
-        packages: &[usize],
+        packages: &[u32],
         groups: &LinkGroups<'_>,
     ) -> Result<Vec<FeatureGraphWarning>, AllocError>
         requires packages { packages.now ≡ node_packages numbers.graph.now }
@@ -294,7 +294,7 @@ fn no_edges(alloc: Global, nodes: usize, links: usize) -> Result<MadeEdges, Allo
 fn made_edges(
     alloc: Global,
     numbers: Numbers<'_>,
-    packages: &[usize],
+    packages: &[u32],
     groups: &LinkGroups<'_>,
 ) -> Result<(MadeEdges, Vec<FeatureGraphWarning>), AllocError>
     requires packages { packages.now ≡ node_packages numbers.graph.now }

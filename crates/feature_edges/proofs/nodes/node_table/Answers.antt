@@ -9,9 +9,9 @@ pub loop-ix-preserved : goal.loop-ix-preserved
 loop-ix-preserved c =
     let t = c.args.graph.now in
     let before : length c.loop-ix.packages.items ≡ first_node t c.loop-ix.ix = count_before t c.loop-ix.ix c.loop-ix.packages.items c.loop-ix.invariant.packages in
-    let count : c.len.result ≡ first_node t c.loop-ix.ix = omega (arith, before, c.len.ensures) in
+    let count : c.in_ok-narrow.field-0 ≡ first_node t c.loop-ix.ix = omega (arith, before, c.len.ensures, c.in_ok-narrow.ensures) in
     record {
-      firsts = firsts_next t c.loop-ix.ix c.len.result c.loop-ix.firsts.items c.push.new.self.items c.loop-ix.invariant.firsts c.in_ok-push.ensures.items count;
+      firsts = firsts_next t c.loop-ix.ix c.in_ok-narrow.field-0 c.loop-ix.firsts.items c.push.new.self.items c.loop-ix.invariant.firsts c.in_ok-push.ensures.items count;
       packages = packages_pushed t c.loop-ix.ix c.package.result.package_ix (package_table_of c.package.result) c.loop-ix.packages.items c.push_nodes.new.packages.items c.loop-ix.invariant.packages c.in_ok-push_nodes.ensures c.package.ensures.number c.package.ensures.package;
     }
 
