@@ -3,6 +3,7 @@ pub mod Ascending
 pub mod EachAfter
 pub mod Firsts
 pub mod ItemLemmas
+pub mod HashLemmas
 pub mod Joined
 pub mod LinkEdges
 pub mod LinkRanges
@@ -14,6 +15,7 @@ pub mod Passes
 pub mod RowTextLemmas
 pub mod RunLemmas
 pub mod Sections
+pub mod SharedLemmas
 pub mod Sound
 pub mod StoredLemmas
 pub mod TakenLemmas

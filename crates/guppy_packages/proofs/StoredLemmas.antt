@@ -1,23 +1,21 @@
--- The tables that the maps store.
+-- The tables that are stored.
 use Rattle.std.proofs.Common.{ℕ, zero, suc, [], ◌∷◌, Some, ap, get_or, refl}
 use Rattle.std.proofs.lemmas.List.Quantifiers.{position-Some}
 use Rattle.std.specs.Prelude.{slice_get}
 use Rattle.std.specs.Cmp.Lexicographic.{bytes_decides}
 use Rattle.guppy_packages.specs.Tables.{PackageTable}
 use Rattle.std.proofs.Common.{◌≡◌, List, map, sym, ◌∙◌}
-use Rattle.std.specs.Prelude.{position, nat_eq}
-use Rattle.std.specs.Map.{keys_of}
+use Rattle.std.specs.Prelude.{position}
 use Rattle.std.specs.Str.{bytes_eq}
-use Rattle.std.specs.Cmp.Lexicographic.{pointwise}
 use Rattle.guppy_packages.specs.Rows.{Text}
 use Rattle.guppy_packages.specs.Tables.{package_place}
 use Rattle.guppy_packages.specs.Stored.{package_table}
 use Rattle.guppy_packages.specs.declared.contents.PackageData.{PackageData}
 use Rattle.guppy_packages.proofs.Lists.{position-map}
 
--- the map's index of an id is its index in the tables
-pub place_of_key : (id : Text) (es : List (Text × PackageData)) → package_place id (map package_table es) ≡ position (pointwise nat_eq id) (keys_of es)
-place_of_key id es = position-map package_table (λ p. bytes_eq id p.id) es ∙ sym (position-map (λ x. x.0) (bytes_eq id) es)
+-- the place of an id in the list is its place in the tables
+pub place_of_key : (id : Text) (es : List (Text × PackageData)) → package_place id (map package_table es) ≡ position (λ e. bytes_eq id e.0) es
+place_of_key id es = position-map package_table (λ p. bytes_eq id p.id) es
 
 get_or-slice_get : {X : Type 0} (xs : List X) (i : ℕ) (x : X) → slice_get xs i ≡ Some x → get_or xs i x ≡ x
 get_or-slice_get [] i x h = refl

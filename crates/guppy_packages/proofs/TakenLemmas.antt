@@ -1,11 +1,10 @@
--- The effect of the maps' calls on the tables.
-use Rattle.std.proofs.Common.{◌≡◌, ℕ, zero, suc, ◌+◌, ◌-◌, List, [], ◌∷◌, ◌++◌, Bool, true, false, cond, ◌||◌, not, Option, None, Some, Result, Ok, Err, IfErr, OnOk, map, length, refl, ap, sym, ◌∙◌, subst, arith, is_some}
+-- The effect of calls on the tables.
+use Rattle.std.proofs.Common.{◌≡◌, ℕ, zero, suc, ◌+◌, ◌-◌, ◌<◌, List, [], ◌∷◌, ◌++◌, Bool, true, false, cond, ◌||◌, not, Option, None, Some, Result, Ok, Err, IfErr, OnOk, map, length, set, get_or, refl, ap, sym, ◌∙◌, subst, arith}
 use Rattle.std.specs.Prelude.{slice_get, slice_set}
 use Rattle.std.specs.List.{list_any, position_or_len}
-use Rattle.std.specs.Map.{lookup, values_of}
 use Rattle.std.specs.String.{string_bytes}
-use Rattle.std.proofs.lemmas.List.{length-map}
-use Rattle.indexmap.specs.Layout.{set_value_at}
+use Rattle.std.proofs.lemmas.List.{length-map, map-set}
+use Rattle.std.proofs.lemmas.Option.{slice_get-get_or}
 use Rattle.guppy_packages.specs.Rows.{Text, Declared}
 use Rattle.guppy_packages.specs.Tables.{LinkTable, PackageTable}
 use Rattle.guppy_packages.specs.inner.Steps.{Outcome, Takes, add_link, add_name, change_last, joined_link, joins, result_map, with_name}
@@ -13,43 +12,6 @@ use Rattle.guppy_packages.specs.Stored.{package_table}
 use Rattle.guppy_packages.specs.declared.row_error.RowFault.TheVariants.{NoPackage, DuplicatePackage, DuplicateFeature, UnknownTarget, OtherName, Memory}
 use Rattle.guppy_packages.specs.declared.contents.PackageData.{PackageData}
 use Rattle.guppy_packages.proofs.Lists.{slice_get-map}
-
--- a map has a key if and only if the list of its tables has an entry that passes
-pub lookup_any : {K V T : Type 0} (f : K × V → T) (test : K → Bool) (p : T → Bool) → ((e : K × V) → p (f e) ≡ test e.0) → (es : List (K × V)) → list_any p (map f es) ≡ is_some (lookup test es)
-lookup_any f test p same [] = refl
-lookup_any f test p same (e ∷ es) = go (test e.0) refl (lookup_any f test p same es)
-  where
-    go : (b : Bool) → test e.0 ≡ b → list_any p (map f es) ≡ is_some (lookup test es) → p (f e) || list_any p (map f es) ≡ is_some (cond b (Some e.1) (lookup test es))
-    go true t more = rw (same e, t)
-    go false t more = rw (same e, t) more
-
-pub none_of : {X : Type 0} (o : Option X) → is_some o ≡ false → o ≡ None
-none_of None h = refl
-none_of (Some x) h = cc
-
--- a write by index to a map is a write to the list of its tables
-pub set_value_at-map : {K V T : Type 0} (f : K × V → T) (es : List (K × V)) (i : ℕ) (k : K) (v w : V) → slice_get es i ≡ Some (k, v) → map f (set_value_at es i w) ≡ slice_set (map f es) i (f (k, w))
-set_value_at-map f [] i k v w h = cc
-set_value_at-map f (e ∷ es) zero k v w h =
-    let same : e ≡ (k, v) = cc in
-    ap (λ x. f (x.0, w) ∷ map f es) same
-set_value_at-map f (e ∷ es) (suc i) k v w h = ap (λ l. f e ∷ l) (set_value_at-map f es i k v w h)
-
--- a write of a value of the same table changes no table
-pub set_value_at-same : {K V T : Type 0} (f : K × V → T) (es : List (K × V)) (i : ℕ) (v w : V) → slice_get (values_of es) i ≡ Some v → ((k : K) → f (k, w) ≡ f (k, v)) → map f (set_value_at es i w) ≡ map f es
-set_value_at-same f [] i v w h alike = cc
-set_value_at-same f (e ∷ es) zero v w h alike =
-    let same : v ≡ e.1 = cc in
-    ap (λ x. x ∷ map f es) (alike e.0 ∙ ap (λ u. f (e.0, u)) same)
-set_value_at-same f (e ∷ es) (suc i) v w h alike = ap (λ l. f e ∷ l) (set_value_at-same f es i v w h alike)
-
--- a value of a map has a key
-pub entry_of : {K V : Type 0} (es : List (K × V)) (i : ℕ) (v : V) → slice_get (values_of es) i ≡ Some v → (k : K) × (slice_get es i ≡ Some (k, v))
-entry_of [] i v h = cc
-entry_of (e ∷ es) zero v h =
-    let same : e.1 ≡ v = cc in
-    (e.0, ap (λ x. Some (e.0, x)) same)
-entry_of (e ∷ es) (suc i) v h = entry_of es i v h
 
 -- the effect of a call on a part, for the whole
 pub Takes-map : {A B C : Type 0} (f : A → B) (new : A) (result : Outcome C) (given : Outcome A) → Takes new result given → Takes (f new) result (result_map f given)
@@ -61,31 +23,35 @@ Takes-map f new (Err UnknownTarget) given h = ap (result_map f) h
 Takes-map f new (Err OtherName) given h = ap (result_map f) h
 Takes-map f new (Err Memory) given h = tt
 
+-- the last package
+pub last_at : (es : List (Text × PackageData)) (n : ℕ) (e : Text × PackageData) → n ≡ length es → 0 < n → e ≡ get_or es (n - 1) e → slice_get es (length es - 1) ≡ Some e
+last_at es n e long some is =
+    let last : n - 1 ≡ length es - 1 = omega arith in
+    slice_get-get_or es (length es - 1) e (omega arith) ∙ ap Some (ap (λ k. get_or es k e) (sym last) ∙ sym is)
+
 -- a write to the last package
-pub last_changed : {C : Type 0} (es : List (Text × PackageData)) (v w : PackageData) (change : PackageTable → Outcome PackageTable) (result : Outcome C)
-    → slice_get (values_of es) (length es - 1) ≡ Some v
-    → ((id : Text) → Takes (package_table (id, w)) result (change (package_table (id, v))))
-    → Takes (map package_table (set_value_at es (length es - 1) w)) result (change_last change (map package_table es))
-last_changed es v w change result at taken =
-    let e = entry_of es (length es - 1) v at in
-    let written = set_value_at-map package_table es (length es - 1) e.0 v w e.1 in
-    rw (written, length-map es package_table, slice_get-map package_table es (length es - 1) (e.0, v) e.1) (Takes-map (slice_set (map package_table es) (length es - 1)) _ result _ (taken e.0))
+pub last_changed : {C : Type 0} (es : List (Text × PackageData)) (e new : Text × PackageData) (change : PackageTable → Outcome PackageTable) (result : Outcome C)
+    → slice_get es (length es - 1) ≡ Some e
+    → Takes (package_table new) result (change (package_table e))
+    → Takes (map package_table (set es (length es - 1) new)) result (change_last change (map package_table es))
+last_changed es e new change result at taken =
+    rw (map-set package_table es (length es - 1) new, length-map es package_table, slice_get-map package_table es (length es - 1) e at) (Takes-map (slice_set (map package_table es) (length es - 1)) _ result _ taken)
 
 -- a Dep row in the first pass: the last package's optional names, if it is optional
-pub name_noted : {C : Type 0} (es : List (Text × PackageData)) (v w : PackageData) (name : Text) (names : List Text) (optional : Bool) (result : Outcome C)
-    → slice_get (values_of es) (length es - 1) ≡ Some v → optional ≡ true
-    → ((id : Text) → package_table (id, w) ≡ record (package_table (id, v)) { optional_names = names })
-    → Takes names result (Ok (with_name name (map string_bytes v.optional_names)))
-    → Takes (map package_table (set_value_at es (length es - 1) w)) result (change_last (λ p. Ok (add_name name optional p)) (map package_table es))
-name_noted es v w name names false result at o same taken = cc
-name_noted es v w name names true result at o same taken =
-    last_changed es v w (λ p. Ok (add_name name true p)) result at (λ id. rw (same id) (Takes-map (λ ns. record (package_table (id, v)) { optional_names = ns }) names result _ taken))
+pub name_noted : {C : Type 0} (es : List (Text × PackageData)) (e new : Text × PackageData) (name : Text) (names : List Text) (optional : Bool) (result : Outcome C)
+    → slice_get es (length es - 1) ≡ Some e → optional ≡ true
+    → package_table new ≡ record (package_table e) { optional_names = names }
+    → Takes names result (Ok (with_name name (map string_bytes e.1.optional_names)))
+    → Takes (map package_table (set es (length es - 1) new)) result (change_last (λ p. Ok (add_name name optional p)) (map package_table es))
+name_noted es e new name names false result at o same taken = cc
+name_noted es e new name names true result at o same taken =
+    last_changed es e new (λ p. Ok (add_name name true p)) result at (rw same (Takes-map (λ ns. record (package_table e) { optional_names = ns }) names result _ taken))
 
-pub not_noted : (es : List (Text × PackageData)) (v : PackageData) (name : Text) (optional : Bool)
-    → slice_get (values_of es) (length es - 1) ≡ Some v → optional ≡ false
-    → change_last (λ p. Ok (add_name name optional p)) (map package_table es) ≡ Ok (map package_table (set_value_at es (length es - 1) v))
-not_noted es v name true at o = cc
-not_noted es v name false at o = last_changed {C = ℕ} es v v (λ p. Ok p) (Ok 0) at (λ id. refl)
+pub not_noted : (es : List (Text × PackageData)) (e : Text × PackageData) (name : Text) (optional : Bool)
+    → slice_get es (length es - 1) ≡ Some e → optional ≡ false
+    → change_last (λ p. Ok (add_name name optional p)) (map package_table es) ≡ Ok (map package_table (set es (length es - 1) e))
+not_noted es e name true at o = cc
+not_noted es e name false at o = last_changed {C = ℕ} es e e (λ p. Ok p) (Ok 0) at refl
 
 result_map-twice : {A B C E : Type 0} (f : B → C) (g : A → B) (r : Result A E) → result_map f (result_map g r) ≡ result_map (λ x. f (g x)) r
 result_map-twice f g (Ok x) = refl

@@ -1,7 +1,6 @@
 -- The tables that a package graph stores.
 use Rattle.std.specs.Prelude.{ℕ, List, map}
 use Rattle.std.specs.String.{string_bytes}
-use Rattle.indexmap.specs.IndexMap.{IndexMap}
 use Rattle.guppy_packages.specs.Rows.{Text, Declared}
 use Rattle.guppy_packages.specs.Tables.{PackageTable, LinkTable}
 use Rattle.guppy_packages.specs.NamedFeature.{feature_table}
@@ -18,8 +17,8 @@ declared d = record { kind = d.kind; optional = d.optional; platform = platform_
 abbrev pub package_table : Text × PackageData → PackageTable
 package_table e = record { id = e.0; in_workspace = e.1.in_workspace; features = map feature_table e.1.features; optional_names = map string_bytes e.1.optional_names }
 
-abbrev pub package_tables : {S : Type 0} → IndexMap Text PackageData S → List PackageTable
-package_tables m = map package_table m.entries
+abbrev pub package_tables : List (Text × PackageData) → List PackageTable
+package_tables packages = map package_table packages
 
 abbrev pub link_table : (ℕ × ℕ) × LinkData → LinkTable
 link_table e = record { from = e.0.0; to = e.0.1; name = first_text e.1.name; declarations = map declared (held_declarations e.1.declarations) }

@@ -12,16 +12,14 @@ use crate::contents::PackageData;
 use crate::name_set::NameSet;
 use crate::named_feature::NamedFeature;
 use crate::package_id::PackageId;
+use crate::package_list::PackageList;
 use crate::row::Row;
 use crate::row_error::{RowError, RowFault};
 use crate::row_source::RowSource;
 use crate::row_texts::next_text;
 use crate::text_list::TextList;
-use crate::text_map::TextMap;
 use crate::text_run::TextRun;
-use indexmap::IndexMap;
 use std::alloc::Global;
-use std::hash::BuildHasherDefault;
 use std::rc::Rc;
 
 /// Returns a package with no features and no optional names; it allocates nothing.
@@ -39,17 +37,17 @@ fn blank_package(alloc: Global, in_workspace: bool) -> PackageData
 /// Reads a Package row: appends the package `id`, or returns `DuplicatePackage` if `packages` already has it.
 fn push_package(
     alloc: Global,
-    packages: &mut TextMap<PackageId, PackageData>,
+    packages: &mut PackageList,
     id: &str,
     in_workspace: bool,
 ) -> Result<(), RowFault>
     ensures { Takes (package_tables packages.new) result (add_package id.now in_workspace (package_tables packages.old)) }
 {
-    let id = PackageId::new(alloc, id)?;
-    let before = packages.insert(id, blank_package(alloc, in_workspace))?;
-    if before.is_some() {
+    if packages.place_of(id).is_some() {
         return Err(RowFault::DuplicatePackage);
     }
+    let id = PackageId::new(alloc, id)?;
+    packages.push(alloc, (id, blank_package(alloc, in_workspace)))?;
     Ok(())
 }
 
@@ -73,16 +71,16 @@ fn push_feature(
 /// feature of this name.
 fn push_feature_row(
     alloc: Global,
-    packages: &mut TextMap<PackageId, PackageData>,
+    packages: &mut PackageList,
     texts: TextRun,
 ) -> Result<(), RowFault>
     requires { 0 < length texts }
     ensures { Takes (package_tables packages.new) result (change_last (add_feature (table_of_texts texts).name (table_of_texts texts).items) (package_tables packages.old)) }
 {
-    let Some(current) = packages.last_mut() else {
+    let Some(current) = packages.items.last_mut() else {
         return Err(RowFault::NoPackage);
     };
-    push_feature(alloc, &mut current.features, texts)
+    push_feature(alloc, &mut current.1.features, texts)
 }
 
 /// Inserts `name` into `names`, the optional names of a package.
@@ -97,35 +95,36 @@ fn push_name(alloc: Global, names: &mut NameSet<String>, name: &str) -> Result<(
 /// `NoPackage` if there is no package.
 fn push_dep_row(
     alloc: Global,
-    packages: &mut TextMap<PackageId, PackageData>,
+    packages: &mut PackageList,
     name: &str,
     optional: bool,
 ) -> Result<(), RowFault>
     ensures { Takes (package_tables packages.new) result (change_last (λ p. Ok (add_name name.now optional p)) (package_tables packages.old)) }
 {
-    let Some(current) = packages.last_mut() else {
+    let Some(current) = packages.items.last_mut() else {
         return Err(RowFault::NoPackage);
     };
     if optional {
-        return push_name(alloc, &mut current.optional_names, name);
+        return push_name(alloc, &mut current.1.optional_names, name);
     }
     Ok(())
 }
 
 /// Frees the spare capacity of the last package, whose rows are all read.
-fn end_package(packages: &mut TextMap<PackageId, PackageData>)
+fn end_package(packages: &mut PackageList)
     ensures { package_tables packages.new ≡ package_tables packages.old }
 {
-    if let Some(last) = packages.last_mut() {
-        last.features.shrink_to_fit();
-        last.optional_names.shrink_to_fit();
-    }
+    let Some(last) = packages.items.last_mut() else {
+        return;
+    };
+    last.1.features.shrink_to_fit();
+    last.1.optional_names.shrink_to_fit();
 }
 
 /// Reads a row in the first pass, or returns its fault. Its texts are those of `list` from `at` up to, not including, `next`.
 fn take_row(
     alloc: Global,
-    packages: &mut TextMap<PackageId, PackageData>,
+    packages: &mut PackageList,
     list: &Rc<TextList>,
     at: usize,
     next: usize,
@@ -151,7 +150,7 @@ fn take_row(
 /// Reads a row in the first pass, or returns its fault. Its texts begin at `at` in `list`; returns where those of the next row begin.
 fn take_row_at(
     alloc: Global,
-    packages: &mut TextMap<PackageId, PackageData>,
+    packages: &mut PackageList,
     list: &Rc<TextList>,
     at: usize,
     row: Row,
@@ -165,18 +164,18 @@ fn take_row_at(
     Ok(next)
 }
 
-/// Runs the first pass and returns the packages, or the first fault of a row by itself. `list` has the texts of all rows. The map's
+/// Runs the first pass and returns the packages, or the first fault of a row by itself. `list` has the texts of all rows. The list's
 /// spare capacity is freed.
 pub(crate) fn take_packages<S: RowSource>(
     alloc: Global,
     list: &Rc<TextList>,
     source: &S,
-) -> Result<TextMap<PackageId, PackageData>, RowError>
+) -> Result<PackageList, RowError>
     requires { list.now.value ≡ stored_texts (S.rows source.now) }
     ensures tables { Reads package_tables result (first_or (faults_by row_fault (S.rows source.now)) (packages_of (S.rows source.now))) }
     ensures row { IfErr result (NamesRow (S.rows source.now)) }
 {
-    let mut packages = IndexMap::with_hasher(alloc, BuildHasherDefault::new());
+    let mut packages = PackageList::new(alloc);
     let mut at = 0;
     for row in 0..source.row_count() {
         match take_row_at(alloc, &mut packages, list, at, source.row(row)) {

@@ -12,19 +12,19 @@ use crate::contents::{Link, PackageData};
 use crate::link_begins::link_begins;
 use crate::package_graph::PackageGraph;
 use crate::package_id::PackageId;
+use crate::package_list::PackageList;
 use crate::package_order::package_order;
 use crate::package_tables::PackageTables;
 use crate::row::Row;
 use crate::row_error::RowError;
 use crate::row_source::{RowSlice, RowSource};
-use crate::text_map::TextMap;
 use order_views::Order;
 use std::alloc::{AllocError, Global};
 
 /// Returns the number of each package's first link, and the order of the packages.
 fn begins_and_order(
     alloc: Global,
-    packages: &TextMap<PackageId, PackageData>,
+    packages: &PackageList,
     links: &[Link],
 ) -> Result<(Vec<u32>, Order), AllocError>
     requires { AreTables (record { packages = package_tables packages.now; links = link_tables links.now }) }
@@ -38,7 +38,8 @@ fn begins_and_order(
 
 impl PackageGraph {
     /// Returns the graph of `rows`, or the first fault. Faults of rows by themselves precede those among all packages. `Memory`
-    /// is returned when an allocation fails, or if the texts of features and dependencies are longer than 4294967295 bytes.
+    /// is returned when an allocation fails, or if the texts of features and dependencies are more than 4294967295, or longer
+    /// than as many bytes.
     pub fn from_rows(alloc: Global, rows: &[Row]) -> Result<PackageGraph, RowError>
         ensures tables { Reads (λ graph. graph) result (tables_of (map row_text rows.now)) }
         ensures row { IfErr result (NamesRow rows.now) }

@@ -7,7 +7,7 @@ ghost use Rattle.guppy_packages.specs.Tables.{AreTables};
 use crate::contents::{Link, PackageData};
 use crate::narrow::LAST_PLACE;
 use crate::package_id::PackageId;
-use crate::text_map::TextMap;
+use crate::package_list::PackageList;
 use order_views::begin_up_to;
 use std::alloc::{AllocError, Global};
 
@@ -15,7 +15,7 @@ use std::alloc::{AllocError, Global};
 /// fit in 32 bits.
 pub(crate) fn link_begins(
     alloc: Global,
-    packages: &TextMap<PackageId, PackageData>,
+    packages: &PackageList,
     links: &[Link],
 ) -> Result<Vec<u32>, AllocError>
     requires { AreTables (record { packages = package_tables packages.now; links = link_tables links.now }) }

@@ -4,79 +4,66 @@
 //! those are hashed.
 ghost use Rattle.std.specs.Prelude.{◌≡◌, ◌<◌, ◌∷◌, ◌++◌, [], IfOk, OnErr, if◌then◌else◌, is_ok, length, not, position};
 ghost use Rattle.std.specs.List.{list_any};
-ghost use Rattle.indexmap.specs.IndexSet.{insert_all, insert_key};
-ghost use Rattle.guppy_packages.specs.inner.NameSets.{held_items, IsSet};
+ghost use Rattle.std.specs.Str.{bytes_eq};
+ghost use Rattle.guppy_packages.specs.inner.NameSets.{held_items, inserted};
 
+use crate::named::Named;
+use crate::named_list::NamedList;
 use crate::pushing::push_to;
-use crate::text_map::TextSet;
-use indexmap::{Equivalent, IndexSet};
 use std::alloc::{AllocError, Global};
-use std::hash::{BuildHasherDefault, Hash};
 use std::marker::Model;
 use std::mem;
 
-/// The most items that a set scans: a larger one hashes them. The first insert reserves this many, and `shrink_to_fit` frees the
-/// rest.
+/// The most items that a set scans: a larger one hashes their names. The first insert reserves this many, and `shrink_to_fit` frees
+/// the rest.
 const FEW: usize = 16;
 
 /// The items of a set, in insertion order.
 #[derive(Drop)]
-pub(crate) enum Held<T: Eq + Hash> {
+pub(crate) enum Held<T: Named> {
     Few(Vec<T>),
-    Many(Box<TextSet<T>>),
+    Many(Box<NamedList<T>>),
 }
 
-/// A set in insertion order. A contract sees it as the list of its items, which are pairwise different.
+/// A set in insertion order. A contract sees it as the list of its items, whose names are pairwise different.
 #[derive(Drop)]
-pub(crate) struct NameSet<T: Eq + Hash> {
+pub(crate) struct NameSet<T: Named> {
     held: Held<T>,
 }
 
-impl<T: Eq + Hash> Model for NameSet<T> {
+impl<T: Named> Model for NameSet<T> {
     ghost use Rattle.std.specs.Prelude.{List};
 
     ghost Value = { List T };
 
-    ghost use Rattle.guppy_packages.specs.inner.NameSets.{held_items, IsSet};
+    ghost use Rattle.guppy_packages.specs.inner.NameSets.{held_items};
 
     ghost view = { λ s. held_items s.held };
-
-    ghost invariant = { λ s. IsSet T.eq (held_items s.held) };
 }
 
-/// Returns whether an item of `items` is equal to `item`.
-fn has<T: Eq + Hash>(items: &[T], item: &T) -> bool
-    ensures { result ≡ list_any (T.eq item.now) items.now }
+/// Returns whether an item of `items` has the name `name`.
+fn has<T: Named>(items: &[T], name: &str) -> bool
+    ensures { result ≡ list_any (λ t. bytes_eq name.now (T.name t)) items.now }
 {
-    items.iter().any(|held| item == held)
-}
-
-/// Returns the hashed set of `items`.
-fn hashed<T: Eq + Hash + Drop>(alloc: Global, items: Vec<T>) -> Result<TextSet<T>, AllocError>
-    ensures { IfOk result (λ set. set.keys ≡ insert_all T.eq [] items.items) }
-{
-    let mut set = IndexSet::with_capacity_and_hasher(alloc, 2 * FEW, BuildHasherDefault::new())?;
-    set.extend(items)?;
-    Ok(set)
+    items.iter().any(|held| name == held.name())
 }
 
 /// Returns the hashed set of `items` and `item`.
-fn grown<T: Eq + Hash + Drop>(alloc: Global, items: Vec<T>, item: T) -> Result<Held<T>, AllocError>
-    ensures { IfOk result (λ held. held_items held ≡ insert_key T.eq (insert_all T.eq [] items.items) item) }
+fn grown<T: Named + Drop>(alloc: Global, items: Vec<T>, item: T) -> Result<Held<T>, AllocError>
+    ensures { IfOk result (λ held. held_items held ≡ items.items ++ item ∷ []) }
 {
-    let mut many = Box::new(alloc, hashed(alloc, items)?)?;
-    many.insert(item)?;
-    Ok(Held::Many(many))
+    let mut many = NamedList::of(alloc, items)?;
+    many.push(alloc, item)?;
+    Ok(Held::Many(Box::new(alloc, many)?))
 }
 
-/// Appends `item` unless an equal one is there, and returns whether it did. If an allocation fails, `items` is unchanged.
+/// Appends `item` unless one of its name is there, and returns whether it did. If an allocation fails, `items` is unchanged.
 #[inline]
-fn insert_few<T: Eq + Hash + Drop>(items: &mut Vec<T>, item: T) -> Result<bool, AllocError>
-    ensures added { IfOk result (λ added. added ≡ not (list_any (T.eq item) items.old.items)) }
-    ensures items { IfOk result (λ _. items.new.items ≡ insert_key T.eq items.old.items item) }
-    ensures kept { OnErr result (items.new.items ≡ items.old.items) }
+fn insert_few<T: Named + Drop>(items: &mut Vec<T>, item: T) -> Result<bool, AllocError>
+    ensures added { IfOk result (λ added. added ≡ not (list_any (λ t. bytes_eq (T.name item) (T.name t)) items.old.items)) }
+    ensures items { IfOk result (λ _. items.new.items ≡ inserted T.name items.old.items item) }
 {
-    if has(items, &item) {
+    if has(items, item.name()) {
         return Ok(false);
     }
     items.reserve_exact(FEW.saturating_sub(items.len()))?;
@@ -84,25 +71,39 @@ fn insert_few<T: Eq + Hash + Drop>(items: &mut Vec<T>, item: T) -> Result<bool, 
     Ok(true)
 }
 
-/// Appends `item` unless an equal one is there, and returns whether it did. If an allocation fails, items may be lost.
+/// Appends `item` unless one of its name is there, and returns whether it did. `AllocError` is the only error.
+fn insert_many<T: Named + Drop>(
+    alloc: Global,
+    items: &mut NamedList<T>,
+    item: T,
+) -> Result<bool, AllocError>
+    ensures added { IfOk result (λ added. added ≡ not (list_any (λ t. bytes_eq (T.name item) (T.name t)) items.old)) }
+    ensures items { IfOk result (λ _. items.new ≡ inserted T.name items.old item) }
+{
+    if items.place_of(item.name()).is_some() {
+        return Ok(false);
+    }
+    items.push(alloc, item)?;
+    Ok(true)
+}
+
+/// Appends `item` unless one of its name is there, and returns whether it did. If an allocation fails, items may be lost.
 #[inline]
-fn insert_into<T: Eq + Hash + Drop>(
+fn insert_into<T: Named + Drop>(
     alloc: Global,
     held: &mut Held<T>,
     item: T,
 ) -> Result<bool, AllocError>
-    requires { IsSet T.eq (held_items held.old) }
-    ensures added { IfOk result (λ added. added ≡ not (list_any (T.eq item) (held_items held.old))) }
-    ensures items { IfOk result (λ _. held_items held.new ≡ insert_key T.eq (held_items held.old) item) }
-    ensures lost { OnErr result (IsSet T.eq (held_items held.new)) }
+    ensures added { IfOk result (λ added. added ≡ not (list_any (λ t. bytes_eq (T.name item) (T.name t)) (held_items held.old))) }
+    ensures items { IfOk result (λ _. held_items held.new ≡ inserted T.name (held_items held.old) item) }
 {
     match held {
-        Held::Many(items) => Ok(items.insert(item)?),
+        Held::Many(items) => insert_many(alloc, items, item),
         Held::Few(items) => {
             if items.len() < FEW {
                 return insert_few(items, item);
             }
-            if has(items, &item) {
+            if has(items, item.name()) {
                 return Ok(false);
             }
             let all = mem::replace(items, Vec::new(alloc));
@@ -112,7 +113,7 @@ fn insert_into<T: Eq + Hash + Drop>(
     }
 }
 
-impl<T: Eq + Hash + Drop> NameSet<T> {
+impl<T: Named + Drop> NameSet<T> {
     /// Returns the empty set, which allocates nothing.
     pub(crate) fn new(alloc: Global) -> NameSet<T>
         ensures { result ≡ [] }
@@ -132,20 +133,20 @@ impl<T: Eq + Hash + Drop> NameSet<T> {
         }
     }
 
-    /// Returns the index of the item that is equivalent to `name`.
-    pub(crate) fn place_of<Q: Equivalent<T>>(&self, name: Q) -> Option<usize>
-        ensures { result ≡ position (Q.equivalent name) self.now }
+    /// Returns the index of the item with the name `name`.
+    pub(crate) fn place_of(&self, name: &str) -> Option<usize>
+        ensures { result ≡ position (λ t. bytes_eq name.now (T.name t)) self.now }
     {
         match &self.held {
-            Held::Few(items) => items.iter().position(|item| name.equivalent(item)),
-            Held::Many(items) => items.get_index_of(name),
+            Held::Few(items) => items.iter().position(|item| name == item.name()),
+            Held::Many(items) => items.place_of(name),
         }
     }
 
-    /// Appends `item` unless an equal one is there, and returns whether it did. If an allocation fails, items may be lost.
+    /// Appends `item` unless one of its name is there, and returns whether it did. If an allocation fails, items may be lost.
     pub(crate) fn insert(&mut self, alloc: Global, item: T) -> Result<bool, AllocError>
-        ensures added { IfOk result (λ added. added ≡ not (list_any (T.eq item) self.old)) }
-        ensures items { IfOk result (λ _. self.new ≡ insert_key T.eq self.old item) }
+        ensures added { IfOk result (λ added. added ≡ not (list_any (λ t. bytes_eq (T.name item) (T.name t)) self.old)) }
+        ensures items { IfOk result (λ _. self.new ≡ inserted T.name self.old item) }
     {
         insert_into(alloc, &mut self.held, item)
     }

@@ -1,8 +1,8 @@
 //! A named feature of a package.
 ghost use Rattle.std.specs.Prelude.{◌≡◌, ◌<◌, Some, length, slice_get};
 
+use crate::named::Named;
 use crate::text_run::TextRun;
-use indexmap::Equivalent;
 use std::fmt;
 use std::hash::{Hash, Hasher};
 
@@ -87,19 +87,14 @@ impl Hash for NamedFeature {
     }
 }
 
-// A feature is looked up by its name, without a copy of the text.
-impl Equivalent<NamedFeature> for &str {
-    ghost use Rattle.std.specs.Str.{bytes_eq};
-    ghost use Rattle.guppy_packages.specs.NamedFeature.{name_text, text_Alike, text_congr};
+impl Named for NamedFeature {
+    ghost use Rattle.guppy_packages.specs.NamedFeature.{name_text};
 
-    ghost equivalent = { λ q k. bytes_eq q.now (name_text k) };
+    ghost name = { name_text };
 
-    ghost respects_hash = { λ q k h. text_Alike q.now k h };
-
-    ghost respects_eq = { λ q x y. text_congr q.now x y };
-
-    fn equivalent(&self, key: &NamedFeature) -> bool {
-        *self == key.name()
+    #[inline]
+    fn name(&self) -> &str {
+        self.texts.first()
     }
 }
 

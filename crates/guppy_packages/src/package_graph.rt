@@ -7,15 +7,15 @@ ghost use Rattle.guppy_packages.specs.Tables.{package_place, AreLinksFrom, AreTa
 use crate::contents::{Link, PackageData};
 use crate::package_id::PackageId;
 use crate::package_link::PackageLink;
+use crate::package_list::PackageList;
 use crate::package_metadata::{PackageMetadata, UnknownPackageId};
-use crate::text_map::TextMap;
 use order_views::Order;
 use std::marker::Model;
 use std::ops::Range;
 
 /// Packages with their features, and the links between them. A contract sees it as its tables.
 pub struct PackageGraph {
-    pub(crate) packages: TextMap<PackageId, PackageData>,
+    pub(crate) packages: PackageList,
     pub(crate) links: Vec<Link>,
     // the number of each package's first link, and the number of links at the end
     pub(crate) begins: Vec<u32>,
@@ -84,10 +84,8 @@ impl PackageGraph {
         ensures package { slice_get self.now.packages ix ≡ Some (package_table_of result) }
         ensures number { package_number_of result ≡ ix }
     {
-        match self.packages.get_index(ix) {
-            Some((id, data)) => PackageMetadata::new(self, ix, id, data),
-            None => unreachable!(),
-        }
+        let (id, data) = self.packages.get(ix);
+        PackageMetadata::new(self, ix, id, data)
     }
 
     /// Returns link `ix`.
@@ -127,7 +125,7 @@ impl PackageGraph {
             (λ _. package_place id.now self.now.packages ≡ None) }
         ensures id { IfOk result (λ m. package_id_of m ≡ id.now) }
     {
-        match self.packages.get_index_of(id) {
+        match self.packages.place_of(id.repr()) {
             Some(ix) => Ok(self.package(ix)),
             None => Err(UnknownPackageId),
         }

@@ -8,12 +8,12 @@ ghost use Rattle.guppy_packages.specs.inner.RowTexts.{stored_texts};
 use crate::contents::{Link, PackageData};
 use crate::first_pass::take_packages;
 use crate::package_id::PackageId;
+use crate::package_list::PackageList;
 use crate::row_error::RowError;
 use crate::row_source::RowSource;
 use crate::row_texts::stored_texts;
 use crate::second_pass::take_links;
 use crate::text_list::TextList;
-use crate::text_map::TextMap;
 use std::alloc::{AllocError, Global};
 use std::marker::Model;
 use std::rc::Rc;
@@ -22,7 +22,7 @@ use std::rc::Rc;
 /// graph is made of them. A contract sees them as plain tables.
 #[derive(Drop)]
 pub struct PackageTables {
-    pub(crate) packages: TextMap<PackageId, PackageData>,
+    pub(crate) packages: PackageList,
     pub(crate) links: Vec<Link>,
 }
 
@@ -48,7 +48,7 @@ fn shared_texts<S: RowSource>(alloc: Global, source: &S) -> Result<Rc<TextList>,
 fn take_tables<S: RowSource>(
     alloc: Global,
     source: &S,
-) -> Result<(TextMap<PackageId, PackageData>, Vec<Link>), RowError>
+) -> Result<(PackageList, Vec<Link>), RowError>
     ensures tables { Reads (λ both. record { packages = package_tables both.0; links = link_tables both.1.items }) result (tables_of (S.rows source.now)) }
     ensures sound { IfOk result (λ both. AreTables (record { packages = package_tables both.0; links = link_tables both.1.items })) }
     ensures row { IfErr result (NamesRow (S.rows source.now)) }
@@ -61,8 +61,8 @@ fn take_tables<S: RowSource>(
 
 impl PackageTables {
     /// Returns the tables of the rows of `source`, or the first fault. Faults of rows by themselves precede those among all packages.
-    /// `Memory` is returned when an allocation fails, or if the texts of features and dependencies are longer than 4294967295 bytes.
-    /// Each row is requested three times.
+    /// `Memory` is returned when an allocation fails, or if the texts of features and dependencies are more than 4294967295, or longer
+    /// than as many bytes. Each row is requested three times.
     pub fn from_source<S: RowSource>(alloc: Global, source: &S) -> Result<PackageTables, RowError>
         ensures tables { Reads (λ tables. tables) result (tables_of (S.rows source.now)) }
         ensures row { IfErr result (NamesRow (S.rows source.now)) }

@@ -17,6 +17,7 @@ use crate::declaration::Declaration;
 use crate::declarations::Declarations;
 use crate::narrow::narrow;
 use crate::package_id::PackageId;
+use crate::package_list::PackageList;
 use crate::pushing::push_to;
 use crate::row::Row;
 use crate::row_error::{RowError, RowFault};
@@ -24,7 +25,6 @@ use crate::row_source::RowSource;
 use crate::row_texts::next_text;
 use crate::shared::Shared;
 use crate::text_list::TextList;
-use crate::text_map::TextMap;
 use crate::text_run::TextRun;
 use std::alloc::{AllocError, Global};
 use std::rc::Rc;
@@ -123,17 +123,17 @@ fn push_link(
 }
 
 /// Returns the number of the package whose id is `id`.
-fn place_of(packages: &TextMap<PackageId, PackageData>, id: &str) -> Option<usize>
+fn place_of(packages: &PackageList, id: &str) -> Option<usize>
     ensures { result ≡ package_place id.now (package_tables packages.now) }
 {
-    packages.get_index_of(id)
+    packages.place_of(id)
 }
 
 /// Reads a row in the second pass, with `begun` Package rows read. Returns `UnknownTarget` if the target is no package,
 /// `OtherName` if the pair's link has another name.
 fn link_row(
     alloc: Global,
-    packages: &TextMap<PackageId, PackageData>,
+    packages: &PackageList,
     list: &Rc<TextList>,
     links: &mut Vec<Link>,
     noted: &mut Noted,
@@ -204,7 +204,7 @@ fn first_link(links: &[Link], first: usize, begun: usize, row: Row) -> usize
 /// Reads a row in the second pass and updates `noted`.
 fn take_link(
     alloc: Global,
-    packages: &TextMap<PackageId, PackageData>,
+    packages: &PackageList,
     list: &Rc<TextList>,
     links: &mut Vec<Link>,
     noted: &mut Noted,
@@ -235,7 +235,7 @@ fn take_link(
 /// freed.
 pub(crate) fn take_links<S: RowSource>(
     alloc: Global,
-    packages: &TextMap<PackageId, PackageData>,
+    packages: &PackageList,
     list: &Rc<TextList>,
     source: &S,
 ) -> Result<Vec<Link>, RowError>

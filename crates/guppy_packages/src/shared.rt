@@ -1,18 +1,20 @@
 //! What declarations share: platforms, and lists of the features that they request.
-ghost use Rattle.std.specs.Prelude.{◌≡◌, ◌∷◌, [], IfOk, Some, map, true};
+ghost use Rattle.std.specs.Prelude.{◌≡◌, ◌∷◌, [], IfOk, Some, map};
 ghost use Rattle.std.specs.Option.{option_map};
 ghost use Rattle.std.specs.String.{string_bytes};
 ghost use Rattle.guppy_packages.specs.Platform.{platform_specs, platform_text};
 ghost use Rattle.guppy_packages.specs.Rows.{texts};
 ghost use Rattle.guppy_packages.specs.Stored.{declared};
 ghost use Rattle.guppy_packages.specs.declared.platform.PlatformStatusImpl.TheVariants.{Always};
+ghost use Rattle.guppy_packages.specs.inner.SpecPlatforms.{AreOfSpecs};
 
 use crate::declaration::Declaration;
+use crate::listed_names::ListedNames;
 use crate::platform::{PlatformStatusImpl, Spec};
 use crate::pushing::push_to;
 use crate::row::DependencyKind;
-use crate::text_map::TextSet;
-use indexmap::IndexSet;
+use crate::text_map::{TextMap, TextSet};
+use indexmap::{IndexMap, IndexSet};
 use std::alloc::{AllocError, Global};
 use std::hash::BuildHasherDefault;
 use std::rc::Rc;
@@ -28,19 +30,20 @@ fn owned(alloc: Global, items: &[&str]) -> Result<Vec<String>, AllocError>
     Ok(all)
 }
 
-/// Returns the list of `lists` that is equal to `list`, which is inserted if there is none.
-fn one_list(
+/// Returns the list of `lists` with the names `features`, which is inserted if there is none.
+fn shared_list(
     alloc: Global,
     lists: &mut TextSet<Rc<Vec<String>>>,
-    list: Vec<String>,
+    features: &[&str],
 ) -> Result<Rc<Vec<String>>, AllocError>
-    ensures { IfOk result (λ one. map string_bytes one.value.items ≡ map string_bytes list.items) }
+    ensures { IfOk result (λ one. map string_bytes one.value.items ≡ texts features.now) }
 {
-    let (ix, _) = lists.insert_full(Rc::new(alloc, list)?)?;
-    match lists.get_index(ix) {
-        Some(one) => one.clone(),
-        None => unreachable!(),
+    if let Some(one) = lists.get(ListedNames { names: features }) {
+        return one.clone();
     }
+    let one = Rc::new(alloc, owned(alloc, features)?)?;
+    lists.insert(one.clone()?)?;
+    Ok(one)
 }
 
 /// Returns the platforms of the spec `text`.
@@ -52,21 +55,43 @@ fn one_spec(alloc: Global, text: &str) -> Result<PlatformStatusImpl, AllocError>
     Ok(PlatformStatusImpl::Specs(specs))
 }
 
-/// What declarations share. Equal lists of features are stored once.
+/// Returns the platforms of the spec `text` in `specs`, where they are inserted if there are none.
+fn shared_spec(
+    alloc: Global,
+    specs: &mut TextMap<String, Rc<PlatformStatusImpl>>,
+    text: &str,
+) -> Result<Rc<PlatformStatusImpl>, AllocError>
+    requires { AreOfSpecs specs.old.entries }
+    ensures specs { AreOfSpecs specs.new.entries }
+    ensures platform { IfOk result (λ p. platform_specs p.value ≡ Some (text.now ∷ [])) }
+{
+    if let Some(one) = specs.get(text) {
+        return one.clone();
+    }
+    let one = Rc::new(alloc, one_spec(alloc, text)?)?;
+    let key = String::from_str(alloc, text)?;
+    specs.insert(key, one.clone()?)?;
+    Ok(one)
+}
+
+/// What declarations share. Equal platforms are stored once, and so are equal lists of features.
 #[derive(Drop)]
 pub(crate) struct Shared {
     always: Rc<PlatformStatusImpl>,
+    specs: TextMap<String, Rc<PlatformStatusImpl>>,
     none: Rc<Vec<String>>,
     lists: TextSet<Rc<Vec<String>>>,
     ghost always_is: { always.value ≡ Always },
+    ghost specs_are: { AreOfSpecs specs.entries },
     ghost none_is: { none.value.items ≡ [] },
 }
 
 impl Shared {
-    /// Returns the platforms of all declarations for all platforms, the empty list, and no other list. `AllocError` is the only error.
+    /// Returns the platforms of all declarations for all platforms, the empty list, and nothing else. `AllocError` is the only error.
     pub(crate) fn new(alloc: Global) -> Result<Shared, AllocError> {
         Ok(Shared {
             always: Rc::new(alloc, PlatformStatusImpl::Always)?,
+            specs: IndexMap::with_hasher(alloc, BuildHasherDefault::new()),
             none: Rc::new(alloc, Vec::new(alloc))?,
             lists: IndexSet::with_hasher(alloc, BuildHasherDefault::new()),
         })
@@ -74,7 +99,7 @@ impl Shared {
 
     /// Returns the platforms of a Dep row: all, or those of the spec `platform`.
     fn platform(
-        &self,
+        &mut self,
         alloc: Global,
         platform: Option<&str>,
     ) -> Result<Rc<PlatformStatusImpl>, AllocError>
@@ -83,7 +108,7 @@ impl Shared {
     {
         match platform {
             None => self.always.clone(),
-            Some(text) => Ok(Rc::new(alloc, one_spec(alloc, text)?)?),
+            Some(text) => shared_spec(alloc, &mut self.specs, text),
         }
     }
 
@@ -94,7 +119,7 @@ impl Shared {
         if features.is_empty() {
             return self.none.clone();
         }
-        one_list(alloc, &mut self.lists, owned(alloc, features)?)
+        shared_list(alloc, &mut self.lists, features)
     }
 
     /// Returns the declaration of a Dep row with these columns.

@@ -65,13 +65,6 @@ impl TextList {
         TextList { text, ends }
     }
 
-    /// Returns the number of texts.
-    pub(crate) fn len(&self) -> usize
-        ensures { result ≡ length self.now }
-    {
-        self.ends.len()
-    }
-
     /// Returns text `at`.
     pub(crate) fn text(&self, at: usize) -> &str
         requires { at < length self.now }

@@ -18,7 +18,7 @@ returns-in-Err-clause-tables g c =
     let i = c.loop-row.row in
     let at = drop_at all i _ c.row.ensures in
     let within : i < length all = search rules in
-    first_answers all i _ within at c.loop-row.invariant.none (package_tables c.loop-row.packages) c.loop-row.invariant.tables ℕ c.in-Err.fault c.new-in-Err.result (package_tables c.take_row_at.new.packages) (packages_of all) c.new-in-Err.ensures.fault c.new-in-Err.ensures.row c.in-Err.ensures.tables
+    first_answers all i _ within at c.loop-row.invariant.none (package_tables c.loop-row.packages) c.loop-row.invariant.tables ℕ c.in-Err.fault c.new.result (package_tables c.take_row_at.new.packages) (packages_of all) c.new.ensures.fault c.new.ensures.row c.in-Err.ensures.tables
 
 pub loop-row-preserved : goal.loop-row-preserved
 loop-row-preserved g c =

@@ -18,7 +18,7 @@ loop-place-preserved c =
     let inside : k < length es = omega (arith, c.loop-place-test.true) in
     let link = get_or es k c.index-links-place.result in
     let read : slice_get t.links k ≡ Some (link_table link) = slice_get-map link_table es k link (slice_get-get_or es k c.index-links-place.result inside) in
-    let count : c.len-count.result ≡ length t.packages = c.len-count.ensures.len ∙ sym (length-map c.args.packages.now.entries package_table) in
+    let count : c.len-count.result ≡ length t.packages = c.len-count.ensures ∙ sym (length-map c.args.packages.now package_table) in
     let leaves = (c.requires.ends k (link_table link) read).0 in
     record {
       begun = begun_up t.links c.loop-place.begins.items c.begin_up_to.new.begins.items link.0.0 k i.begun (omega (arith, links, inside)) i.before (leaves_behind t c.requires k (link_table link) read) e.long e.kept e.added;
@@ -33,7 +33,7 @@ returns c =
     let i = c.loop-place.invariant in
     let e = c.in_ok-begin_up_to-2.ensures in
     let links = length-map es link_table in
-    let count : c.len-count.result ≡ length t.packages = c.len-count.ensures.len ∙ sym (length-map c.args.packages.now.entries package_table) in
+    let count : c.len-count.result ≡ length t.packages = c.len-count.ensures ∙ sym (length-map c.args.packages.now package_table) in
     record {
       long = omega (arith, e.long, i.few, count);
       begun = begun_up t.links c.loop-place.begins.items c.begin_up_to-2.new.begins.items c.len-count.result (length es) i.begun (omega (arith, links))

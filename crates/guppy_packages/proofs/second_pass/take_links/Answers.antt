@@ -1,5 +1,6 @@
-use Rattle.std.proofs.Common.{◌<◌, ◌≤◌, ◌+◌, ◌∙◌, length, rules, arith}
-use Rattle.guppy_packages.specs.Graph.{dependencies_of, links_of}
+use Rattle.std.proofs.Common.{◌≡◌, ◌<◌, ◌≤◌, ◌+◌, ◌∙◌, [], ap, arith, length, rules, subst, sym, take}
+use Rattle.std.proofs.lemmas.List.{take_all}
+use Rattle.guppy_packages.specs.Graph.{dependencies_of, faults_by, link_fault, links_of}
 use Rattle.guppy_packages.specs.Stored.{link_tables, package_tables}
 use Rattle.guppy_packages.proofs.Lists.{drop_at}
 use Rattle.guppy_packages.proofs.Passes.{second_answers, second_goes_on}
@@ -39,3 +40,13 @@ loop-row-preserved g c =
       noted = c.in_default.ensures.noted;
       tables = next.2;
     }
+
+pub returns-clause-tables : goal.returns-clause-tables
+returns-clause-tables g c =
+    let all = g.S.RowSource.rows c.args.source.now in
+    let packages = package_tables c.args.packages.now in
+    let end : length all ≤ c.loop-row.row = search rules in
+    let whole : take c.loop-row.row all ≡ all = take_all c.loop-row.row all end in
+    let none : faults_by (link_fault packages) all ≡ [] = subst (λ rows. faults_by (link_fault packages) rows ≡ []) whole c.loop-row.invariant.none in
+    let tables : link_tables c.loop-row.links.items ≡ links_of (dependencies_of packages all) = subst (λ rows. link_tables c.loop-row.links.items ≡ links_of (dependencies_of packages rows)) whole c.loop-row.invariant.tables in
+    rw (none, sym tables, c.shrink_to_fit.ensures.items)

@@ -1,0 +1,24 @@
+//! Things with names.
+ghost use Rattle.std.specs.Prelude.{◌≡◌};
+
+/// A thing with a name.
+pub(crate) trait Named {
+    ghost use Rattle.guppy_packages.specs.Rows.{Text};
+
+    ghost name: { Self → Text };
+
+    /// Returns the name.
+    fn name(&self) -> &str
+        ensures { result.now ≡ name self.now };
+}
+
+impl Named for String {
+    ghost use Rattle.std.specs.String.{string_bytes};
+
+    ghost name = { λ s. string_bytes s };
+
+    #[inline]
+    fn name(&self) -> &str {
+        self.as_str()
+    }
+}

@@ -1,0 +1,111 @@
+//! Named items by number, found by name.
+ghost use Rattle.std.specs.Prelude.{◌≡◌, ◌<◌, ◌++◌, ◌∷◌, [], IfOk, OnErr, OnOk, Some, length, map, position, slice_get};
+ghost use Rattle.std.specs.Str.{bytes_eq};
+ghost use Rattle.guppy_packages.specs.inner.HashPlaces.{name_hash};
+
+use crate::hash_places::HashPlaces;
+use crate::named::Named;
+use crate::pushing::push_to;
+use std::alloc::{AllocError, Global};
+use std::marker::Model;
+
+/// Named items by number. A contract sees it as the list of the items.
+#[derive(Drop)]
+pub(crate) struct NamedList<T: Named> {
+    pub(crate) items: Vec<T>,
+    // the hashes of the items' names
+    pub(crate) places: HashPlaces,
+}
+
+impl<T: Named> Model for NamedList<T> {
+    ghost use Rattle.std.specs.Prelude.{◌≡◌, List, map};
+    ghost use Rattle.guppy_packages.specs.inner.HashPlaces.{name_hash};
+
+    ghost Value = { List T };
+
+    ghost view = { λ l. l.items.items };
+
+    ghost invariant = { λ l. l.places ≡ map (λ t. name_hash (T.name t)) l.items.items };
+}
+
+/// Returns the hashes of the names of `items`.
+fn hashed<T: Named>(alloc: Global, items: &[T]) -> Result<HashPlaces, AllocError>
+    ensures { IfOk result (λ places. places ≡ map (λ t. name_hash (T.name t)) items.now) }
+{
+    let mut places = HashPlaces::new(alloc);
+    for item in items {
+        places.push(alloc, item.name())?;
+    }
+    Ok(places)
+}
+
+impl<T: Named + Drop> NamedList<T> {
+    /// Returns the list of no items, which allocates nothing.
+    pub(crate) fn new(alloc: Global) -> NamedList<T>
+        ensures { result ≡ [] }
+    {
+        NamedList {
+            items: Vec::new(alloc),
+            places: HashPlaces::new(alloc),
+        }
+    }
+
+    /// Returns the list of `items`.
+    pub(crate) fn of(alloc: Global, items: Vec<T>) -> Result<NamedList<T>, AllocError>
+        ensures { IfOk result (λ list. list ≡ items.items) }
+    {
+        let places = hashed(alloc, &items)?;
+        Ok(NamedList { items, places })
+    }
+
+    /// Returns the number of items.
+    pub(crate) fn len(&self) -> usize
+        ensures { result ≡ length self.now }
+    {
+        self.items.len()
+    }
+
+    /// Returns item `ix`.
+    pub(crate) fn get(&self, ix: usize) -> &T
+        requires { ix < length self.now }
+        ensures { slice_get self.now ix ≡ Some result.now }
+    {
+        &self.items[ix]
+    }
+
+    /// Returns the items.
+    pub(crate) fn as_slice(&self) -> &[T]
+        ensures { result.now ≡ self.now }
+    {
+        self.items.as_slice()
+    }
+
+    /// Returns the number of the first item whose name is `name`.
+    pub(crate) fn place_of(&self, name: &str) -> Option<usize>
+        ensures { result ≡ position (λ t. bytes_eq name.now (T.name t)) self.now }
+    {
+        self.places.find(self.items.as_slice(), name)
+    }
+
+    /// Appends `item`. `AllocError` is the only error, and then the list is unchanged.
+    pub(crate) fn push(&mut self, alloc: Global, item: T) -> Result<(), AllocError>
+        ensures pushed { OnOk result (self.new ≡ self.old ++ item ∷ []) }
+        ensures kept { OnErr result (self.new ≡ self.old) }
+    {
+        let at = self.items.len();
+        push_to(&mut self.items, item)?;
+        if self.places.push(alloc, self.items[at].name()).is_err() {
+            self.items.truncate(at);
+            return Err(AllocError);
+        }
+        Ok(())
+    }
+
+    /// Frees the spare capacity.
+    pub(crate) fn shrink_to_fit(&mut self)
+        ensures { self.new ≡ self.old }
+    {
+        self.items.shrink_to_fit();
+        self.places.shrink_to_fit();
+    }
+}
