@@ -33,13 +33,13 @@ tied_ordered (Offers weak released) g fs tied = tied.releases.ascends
 tied_ordered (Chosen which) g fs tied = tt
 
 gate_there : (asking : Asking) (g : Graph) (fs : List EdgeFacts) (f : EdgeFacts) → 0 < g.nodes → IsTied asking g fs → gate_in asking f < g.nodes
-gate_there (Offers weak released) g fs f some tied = gate_within weak.now.entries g.nodes f some tied.gates
+gate_there (Offers weak released) g fs f some tied = gate_within weak.now g.nodes f some tied.gates
 gate_there (Chosen which) g fs f some tied = some
 
 -- the edge at a place among those that wait for the gate
 pub release_held : (asking : Asking) (direction : DependencyDirection) (g : Graph) (fs : List EdgeFacts) (gate place : ℕ) (found : Option ℕ) → IsTied asking g fs → found ≡ released_place asking direction gate place → slice_get (releasing (held asking direction g.nodes (built_edges g.edges fs)) gate) place ≡ found
-release_held (Offers weak released) Forward g fs gate place found tied is = ap (λ (xs : List ℕ). slice_get xs place) (sym (releases_same g.nodes gate g fs weak.now.entries released.now tied)) ∙ sym is
-release_held (Offers weak released) Reverse g fs gate place found tied is = ap (λ (xs : List ℕ). slice_get xs place) (none_waits weak.now.entries gate 0 g.edges fs) ∙ sym is
+release_held (Offers weak released) Forward g fs gate place found tied is = ap (λ (xs : List ℕ). slice_get xs place) (sym (releases_same g.nodes gate g fs weak.now released.now tied)) ∙ sym is
+release_held (Offers weak released) Reverse g fs gate place found tied is = ap (λ (xs : List ℕ). slice_get xs place) (none_waits weak.now gate 0 g.edges fs) ∙ sym is
 release_held (Chosen which) direction g fs gate place found tied is = ap (λ (xs : List ℕ). slice_get xs place) (none_gated which direction gate 0 (built_edges g.edges fs)) ∙ sym is
 
 module _ (asking : Asking) where

@@ -50,7 +50,7 @@ pub(crate) fn default_marks(
 ) -> Result<IxBitSet, AllocError>
     requires nodes { table.now.digraph.nodes ≡ length (node_packages numbers.graph.now) }
     requires long { length table.now.edges ≡ length table.now.digraph.edges }
-    requires edges { AreBuilt numbers.graph.now (built_edges table.now.digraph.edges table.now.edges) table.now.weak.entries }
+    requires edges { AreBuilt numbers.graph.now (built_edges table.now.digraph.edges table.now.edges) table.now.weak.items }
     ensures { IfOk result (λ marks. AreDefaults numbers.entry.graph.now marks) }
 {
     let initials = default_features(alloc, numbers, table.digraph.node_count())?;

@@ -17,7 +17,6 @@ use crate::engine::{Ask, EdgeSource, Taken};
 use crate::gates::{gate_of, released_at};
 use feature_edges::{DependencyDirection, EdgeChoice, EdgeList, FeatureEdge, SlashForm};
 use guppy_support::{Digraph, Edge};
-use indexmap::IndexMap;
 use std::marker::Model;
 use walk_checks::{EdgeTable, TableEdge};
 
@@ -26,7 +25,7 @@ use walk_checks::{EdgeTable, TableEdge};
 pub(crate) enum Asking<'a> {
     /// The offers of each conditional edge. Forward, optional halves wait for their gates.
     Offers {
-        weak: &'a IndexMap<usize, usize>,
+        weak: &'a [(usize, usize)],
         released: &'a [(usize, usize)],
     },
     /// No condition for the chosen edges, and the full link for each other one.
@@ -131,12 +130,12 @@ impl<'a> Packed<'a> {
     pub(crate) fn over(
         digraph: &'a Digraph,
         edges: &'a EdgeList,
-        weak: &'a IndexMap<usize, usize>,
+        weak: &'a [(usize, usize)],
         released: &'a [(usize, usize)],
         direction: DependencyDirection,
     ) -> Self
-        requires { AreTied digraph.now edges.now weak.now.entries released.now }
-        ensures { result ≡ record { holds = content direction digraph.now.nodes (built_edges digraph.now.edges edges.now) weak.now.entries; reads = 0 } }
+        requires { AreTied digraph.now edges.now weak.now released.now }
+        ensures { result ≡ record { holds = content direction digraph.now.nodes (built_edges digraph.now.edges edges.now) weak.now; reads = 0 } }
     {
         Packed {
             digraph,

@@ -1,6 +1,5 @@
 //! Comparing feature graph data with a build of a package graph.
-ghost use Rattle.std.specs.Prelude.{◌≡◌, ◌<◌, ◌↔◌, ℕ, Some, IfOk, IfErr, IsTrue, map, slice_get};
-ghost use Rattle.indexmap.specs.IndexMap.{index_map_len};
+ghost use Rattle.std.specs.Prelude.{◌≡◌, ◌↔◌, ℕ, IfOk, IfErr, IsTrue, map};
 ghost use Rattle.feature_core.specs.Built.{IsBuilt, pairs_of};
 ghost use Rattle.feature_edges.specs.feature_links.Values.{link_facts, half_facts, weak_facts_of, slash_facts, edge_facts};
 ghost use Rattle.feature_edges.specs.Warnings.{warning_of};
@@ -14,7 +13,6 @@ use feature_edges::{
     PlatformStatus, SlashForm, Spec, WeakSlashImpl,
 };
 use guppy_support::{Digraph, Edge};
-use indexmap::IndexMap;
 use std::alloc::Global;
 
 /// Returns whether `a` and `b` have the same text.
@@ -179,39 +177,11 @@ pub(crate) fn same_warnings(a: &[FeatureGraphWarning], b: &[FeatureGraphWarning]
     true
 }
 
-/// Returns weak link `ix` and its gate.
-fn gate_at(weak: &IndexMap<usize, usize>, ix: usize) -> (usize, usize)
-    requires { ix < index_map_len weak.now }
-    ensures { slice_get weak.now.entries ix ≡ Some result }
-{
-    match weak.get_index(ix) {
-        Some((link, gate)) => (*link, *gate),
-        None => unreachable!(),
-    }
-}
-
-/// Returns whether `a` and `b` are the same weak link with the same gate.
-fn same_gate(a: (usize, usize), b: (usize, usize)) -> bool
-    ensures { IsTrue result ↔ (a ≡ b) }
-{
-    a.0 == b.0 && a.1 == b.1
-}
-
 /// Returns whether `a` and `b` are the same weak links with the same gates, in the same order.
-pub(crate) fn same_gates(a: &IndexMap<usize, usize>, b: &IndexMap<usize, usize>) -> bool
-    ensures { IsTrue result ↔ (a.now.entries ≡ b.now.entries) }
+pub(crate) fn same_gates(a: &[(usize, usize)], b: &[(usize, usize)]) -> bool
+    ensures { IsTrue result ↔ (a.now ≡ b.now) }
 {
-    if a.len() != b.len() {
-        return false;
-    }
-    for ix in 0..a.len() {
-        let one = gate_at(a, ix);
-        let other = gate_at(b, ix);
-        if !same_gate(one, other) {
-            return false;
-        }
-    }
-    true
+    a == b
 }
 
 impl FeatureGraphData {

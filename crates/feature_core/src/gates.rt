@@ -7,12 +7,11 @@ ghost use Rattle.feature_core.specs.inner.Releases.{AreReleases, releases_from, 
 ghost use Rattle.feature_edges.specs.feature_links.Values.{edge_facts};
 
 use feature_edges::{EdgeList, FeatureEdge, SlashForm};
-use indexmap::IndexMap;
 use std::alloc::{AllocError, Global};
 
 /// Returns the gate of a weak edge's optional half; `None` for another edge.
-pub(crate) fn gate_of(weak: &IndexMap<usize, usize>, edge: &FeatureEdge) -> Option<usize>
-    ensures { result ≡ gate_of weak.now.entries (edge_facts edge.now) }
+pub(crate) fn gate_of(weak: &[(usize, usize)], edge: &FeatureEdge) -> Option<usize>
+    ensures { result ≡ gate_of weak.now (edge_facts edge.now) }
 {
     match edge {
         FeatureEdge::NamedFeatureWithSlash {
@@ -24,10 +23,10 @@ pub(crate) fn gate_of(weak: &IndexMap<usize, usize>, edge: &FeatureEdge) -> Opti
 }
 
 /// Returns the gate of weak link `index`, or 0 if there is none.
-fn gate_at(weak: &IndexMap<usize, usize>, index: usize) -> usize
-    ensures { result ≡ gate_at weak.now.entries index }
+fn gate_at(weak: &[(usize, usize)], index: usize) -> usize
+    ensures { result ≡ gate_at weak.now index }
 {
-    match weak.get_index(index) {
+    match weak.get(index) {
         Some((_, gate)) => *gate,
         None => 0,
     }
@@ -51,9 +50,9 @@ fn push_release(
 fn releases(
     alloc: Global,
     edges: &EdgeList,
-    weak: &IndexMap<usize, usize>,
+    weak: &[(usize, usize)],
 ) -> Result<Vec<(usize, usize)>, AllocError>
-    ensures { IfOk result (λ released. released.items ≡ releases_from weak.now.entries 0 edges.now) }
+    ensures { IfOk result (λ released. released.items ≡ releases_from weak.now 0 edges.now) }
 {
     let mut released = Vec::new(alloc);
     for number in 0..edges.len() {
@@ -67,9 +66,9 @@ fn releases(
 pub(crate) fn release_table(
     alloc: Global,
     edges: &EdgeList,
-    weak: &IndexMap<usize, usize>,
+    weak: &[(usize, usize)],
 ) -> Result<Vec<(usize, usize)>, AllocError>
-    ensures { IfOk result (λ released. AreReleases edges.now weak.now.entries released.items) }
+    ensures { IfOk result (λ released. AreReleases edges.now weak.now released.items) }
 {
     let mut released = releases(alloc, edges, weak)?;
     sort_releases(&mut released);

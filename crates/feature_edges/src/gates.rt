@@ -1,5 +1,5 @@
 //! The weak links of keys, with their gates.
-ghost use Rattle.std.specs.Prelude.{◌≡◌, ◌++◌, ◌∷◌, [], ℕ, List, Contains, OnOk, map};
+ghost use Rattle.std.specs.Prelude.{◌≡◌, ◌++◌, ◌∷◌, [], ℕ, List, Contains, IfOk, OnOk, map};
 ghost use Rattle.feature_edges.specs.declared.candidate.Key.{Key as KeyValue};
 ghost use Rattle.feature_edges.specs.Edges.{IsGate, first_ones};
 ghost use Rattle.feature_edges.specs.inner.Parts.{IsOfTables};
@@ -7,8 +7,9 @@ ghost use Rattle.feature_edges.specs.inner.Weak.{IsOptionalLink, AreGates, weak_
 
 use crate::candidate::{CandidateKind, Key};
 use crate::node_numbers::Numbers;
+use guppy_support::collect_exactly;
 use indexmap::IndexMap;
-use std::alloc::AllocError;
+use std::alloc::{AllocError, Global};
 
 /// Returns the gate of weak link `ix`: the node of its name among the optional dependencies of its source.
 fn gate_of(numbers: Numbers<'_>, ix: usize) -> usize
@@ -41,4 +42,14 @@ pub(crate) fn note_gate(
     let gate = gate_of(numbers, key.source as usize);
     table.insert(key.source as usize, gate)?;
     Ok(())
+}
+
+/// Returns the weak links of `table` with their gates, by index.
+pub(crate) fn entries_of(
+    alloc: Global,
+    table: IndexMap<usize, usize>,
+) -> Result<Vec<(usize, usize)>, AllocError>
+    ensures { IfOk result (λ entries. entries.items ≡ table.entries) }
+{
+    collect_exactly(table.into_iter(), alloc)
 }

@@ -20,7 +20,6 @@ use feature_links::{
     link_of, named_link, section_link,
 };
 use indexmap::IndexMap;
-use smallvec::SmallVec;
 use std::alloc::{AllocError, Global};
 
 /// The input for edges: the numbers of nodes, the package of each node, and the links by package and name.
@@ -72,10 +71,10 @@ fn link_to(
 }
 
 /// Returns the `place` of each key.
-fn places_of(alloc: Global, keys: &[Key]) -> Result<SmallVec<usize, 2>, AllocError>
+fn places_of(alloc: Global, keys: &[Key]) -> Result<Vec<usize>, AllocError>
     ensures { IfOk result (λ places. places.items ≡ map (λ y. y.place) keys.now) }
 {
-    let mut places = SmallVec::new(alloc);
+    let mut places = Vec::with_capacity(alloc, keys.len())?;
     for key in keys {
         places.push(key.place as usize)?;
     }
@@ -83,7 +82,7 @@ fn places_of(alloc: Global, keys: &[Key]) -> Result<SmallVec<usize, 2>, AllocErr
 }
 
 /// Returns the places of the declarations in a run of keys of one pair, ascending.
-fn places_in(alloc: Global, run: &[Key]) -> Result<SmallVec<usize, 2>, AllocError>
+fn places_in(alloc: Global, run: &[Key]) -> Result<Vec<usize>, AllocError>
     ensures { IfOk result (λ places. places.items ≡ dedup eqb (map (λ y. y.place) run.now)) }
 {
     let mut places = places_of(alloc, run)?;

@@ -19,7 +19,7 @@ ghost use Rattle.guppy_packages.specs.Tables.{Tables};
 
 use crate::candidate::{CandidateKind, Key, split_run};
 use crate::collect::{Collected, collect_package};
-use crate::gates::note_gate;
+use crate::gates::{entries_of, note_gate};
 use crate::make::{Material, edge_of};
 use crate::near_keys::NearKeys;
 use crate::node_numbers::Numbers;
@@ -31,12 +31,12 @@ use guppy_support::{Digraph, Edge, EdgeColumns};
 use indexmap::IndexMap;
 use std::alloc::{AllocError, Global};
 
-/// The edges, sorted by source and then by target, and the gate of each weak link.
+/// The edges, sorted by source and then by target, and the weak links: each has its package link and its gate.
 #[derive(Drop)]
 pub struct EdgeTable {
     pub digraph: Digraph,
     pub edges: EdgeList,
-    pub weak: IndexMap<usize, usize>,
+    pub weak: Vec<(usize, usize)>,
 }
 
 /// Returns the digraph's edge of `key`, whose built edge is `edge`.
@@ -321,12 +321,13 @@ pub fn edge_table(
     ensures pairs { IfOk result (λ e. IsPairList numbers.entry.graph.now (pairs_of e.0.digraph.edges)) }
     ensures long { IfOk result (λ e. length e.0.edges ≡ length e.0.digraph.edges) }
     ensures ends { IfOk result (λ e. e.0.digraph.edges ≡ map end_of (built_edges e.0.digraph.edges e.0.edges)) }
-    ensures edges { IfOk result (λ e. AreBuilt numbers.entry.graph.now (built_edges e.0.digraph.edges e.0.edges) e.0.weak.entries) }
+    ensures edges { IfOk result (λ e. AreBuilt numbers.entry.graph.now (built_edges e.0.digraph.edges e.0.edges) e.0.weak.items) }
     ensures warnings { IfOk result (λ e. warnings_in e.1 ≡ warnings numbers.entry.graph.now) }
 {
     numbers.graph.facts();
     let (made, warnings) = made_edges(alloc, numbers, table.packages.as_slice(), groups)?;
     let MadeEdges { edges, ends, weak } = made;
+    let weak = entries_of(alloc, weak)?;
     let digraph = Digraph::from_columns(alloc, table.packages.len(), ends)?;
     let edge_table = EdgeTable {
         digraph,

@@ -22,7 +22,7 @@ ask_in (Chosen which) direction f = ask_where (is_chosen which f)
 
 -- The gate of an edge, if its optional half waits.
 abbrev pub gate_in : Asking → EdgeFacts → ℕ
-gate_in (Offers weak released) f = option_map_or (λ gate. gate) (gate_of weak.now.entries f) 0
+gate_in (Offers weak released) f = option_map_or (λ gate. gate) (gate_of weak.now f) 0
 gate_in (Chosen which) f = 0
 
 -- An edge as a way in this direction.
@@ -40,7 +40,7 @@ held asking direction nodes edges = record { nodes = nodes; ways = map (way_in a
 
 -- Each edge has a value, and the tables are those of the edges.
 abbrev pub IsTied : Asking → Graph → List EdgeFacts → Type 0
-IsTied (Offers weak released) g facts = AreTied g facts weak.now.entries released.now
+IsTied (Offers weak released) g facts = AreTied g facts weak.now released.now
 IsTied (Chosen which) g facts = length facts ≡ length g.edges
 
 -- The table of releases is ascending.

@@ -17,7 +17,6 @@ use crate::link::{ConditionalLinkImpl, EnabledLink};
 use crate::link_groups::{LinkGroups, numbers_of};
 use feature_labels::LinkDeclarations;
 use guppy_packages::{Declaration, DependencyKind, PackageGraph, PackageLink, PlatformStatusImpl};
-use smallvec::SmallVec;
 use std::alloc::{AllocError, Global};
 use std::slice::from_ref;
 
@@ -25,7 +24,7 @@ use std::slice::from_ref;
 #[derive(Drop)]
 struct LinkParts<'g> {
     statuses: KindCollectors<'g>,
-    links: SmallVec<usize, 2>,
+    links: Vec<usize>,
 }
 
 /// Returns whether `which` covers `declaration`.
@@ -124,7 +123,7 @@ impl<'g> LinkParts<'g> {
     {
         LinkParts {
             statuses: KindCollectors::new(alloc),
-            links: SmallVec::new(alloc),
+            links: Vec::new(alloc),
         }
     }
 
@@ -171,7 +170,7 @@ impl<'g> LinkParts<'g> {
             normal,
             build,
             dev,
-            package_link_ixs: SmallVec::from_slice(alloc, self.links.as_slice())?,
+            package_link_ixs: Vec::from_slice(alloc, &self.links)?,
         };
         let held = HeldLink::new(alloc, full)?;
         Ok(ConditionalLinkImpl { held })
@@ -280,7 +279,7 @@ fn link_over_one(
         normal,
         build,
         dev,
-        package_link_ixs: SmallVec::from_slice(alloc, from_ref(&link_ix))?,
+        package_link_ixs: Vec::from_slice(alloc, from_ref(&link_ix))?,
     };
     let held = HeldLink::new(alloc, full)?;
     Ok(ConditionalLinkImpl { held })

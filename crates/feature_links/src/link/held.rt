@@ -5,7 +5,6 @@ ghost use Rattle.feature_links.specs.Values.{full_facts, held_facts, plain_statu
 
 use feature_labels::LinkDeclarations;
 use guppy_packages::{PlatformStatus, PlatformStatusImpl};
-use smallvec::SmallVec;
 use std::alloc::{AllocError, Global};
 
 /// A link: the declarations that it covers, its status for each kind, and its package links.
@@ -30,7 +29,7 @@ pub(crate) struct FullLink {
     pub(crate) normal: PlatformStatusImpl,
     pub(crate) build: PlatformStatusImpl,
     pub(crate) dev: PlatformStatusImpl,
-    pub(crate) package_link_ixs: SmallVec<usize, 2>,
+    pub(crate) package_link_ixs: Vec<usize>,
 }
 
 /// Returns the status on all platforms if `always` is true, and otherwise on none.
@@ -82,7 +81,7 @@ impl FullLink {
         let normal = self.normal.try_clone(alloc)?;
         let build = self.build.try_clone(alloc)?;
         let dev = self.dev.try_clone(alloc)?;
-        let package_link_ixs = SmallVec::from_slice(alloc, self.package_link_ixs.as_slice())?;
+        let package_link_ixs = Vec::from_slice(alloc, &self.package_link_ixs)?;
         Ok(FullLink {
             declarations: self.declarations,
             normal,

@@ -1,14 +1,23 @@
-use Rattle.std.proofs.Common.{arith}
-use Rattle.feature_edges.proofs.SameLists.{yes, no, is_so, is_not, same_next, plain_all, plain_apart}
+use Rattle.std.proofs.Common.{◌≡◌, ◌∙◌, ◌&&◌, ℕ, Bool, true, false, ap, refl, eqb}
+use Rattle.std.specs.Bool.{Decides}
+use Rattle.std.proofs.lemmas.Bool.Decides.{Decides-eqb}
+use Rattle.std.proofs.lemmas.Slice.Eq.{slice_eq-Decides}
 use Rattle.feature_core.proofs.equality.same_gates.Goals as goal
 
-pub returns-then-not-same_gate : goal.returns-then-not-same_gate
-returns-then-not-same_gate c = no _ (plain_apart c.args.a.now.entries c.args.b.now.entries c.loop-ix.ix c.gate_at-one.result c.gate_at-other.result
-    c.gate_at-one.ensures c.gate_at-other.ensures (is_not c.same_gate.result _ c.same_gate.ensures c.if-not-same_gate.true))
+both : (a b : Bool) → a ≡ true → b ≡ true → (a && b) ≡ true
+both a b h i = rw (h, i) refl
 
-pub loop-ix-preserved : goal.loop-ix-preserved
-loop-ix-preserved c = same_next (λ z. z) c.args.a.now.entries c.args.b.now.entries c.loop-ix.ix c.gate_at-one.result c.gate_at-other.result
-    c.gate_at-one.ensures c.gate_at-other.ensures (is_so c.same_gate.result _ c.same_gate.ensures c.if-not-same_gate.false) c.loop-ix.invariant
+firsts : (a b : Bool) → (a && b) ≡ true → (a ≡ true) × (b ≡ true)
+firsts true true h = (refl, refl)
+firsts true false h = cc
+firsts false b h = cc
+
+-- `==` of pairs of numbers decides whether they are equal
+pairs : (p q : ℕ × ℕ) → Decides (eqb p.0 q.0 && eqb p.1 q.1) (p ≡ q)
+pairs p q = (
+  (λ h. let s = firsts (eqb p.0 q.0) (eqb p.1 q.1) h in let a : p.0 ≡ q.0 = (Decides-eqb p.0 q.0).0 s.0 in let b : p.1 ≡ q.1 = (Decides-eqb p.1 q.1).0 s.1 in ap (λ x. (x, p.1)) a ∙ ap (λ y. (q.0, y)) b),
+  λ e. both (eqb p.0 q.0) (eqb p.1 q.1) ((Decides-eqb p.0 q.0).1 (ap (λ z. z.0) e)) ((Decides-eqb p.1 q.1).1 (ap (λ z. z.1) e)),
+)
 
 pub returns : goal.returns
-returns c = yes _ (plain_all c.args.a.now.entries c.args.b.now.entries c.loop-ix.ix (omega arith) (omega arith) c.loop-ix.invariant)
+returns c = slice_eq-Decides {E = λ p q. eqb p.0 q.0 && eqb p.1 q.1} pairs c.args.a.now c.args.b.now c.eq.result c.eq.ensures
