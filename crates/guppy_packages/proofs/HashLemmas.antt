@@ -1,6 +1,6 @@
 -- Chains of hashes, and the first place of a name.
 use Rattle.std.proofs.Common.{◌≡◌, ◌≢◌, ◌∙◌, ℕ, ◌+◌, ◌-◌, ◌%◌, ◌<◌, ◌≤◌, ◌⊎◌, inl, inr, List, [], ◌∷◌, ◌++◌, Bool, true, false, Option, Some, None, get_or, length, map, set, ap, refl, sym, subst, arith, ⊎_elim, MatchOption}
-use Rattle.std.specs.Prelude.{if◌then◌else◌, nat_lt, position}
+use Rattle.std.specs.Prelude.{if◌then◌else◌, position}
 use Rattle.std.specs.Cmp.Lexicographic.{bytes_decides}
 use Rattle.std.specs.List.{position_or_len}
 use Rattle.std.specs.Str.{bytes_eq}
@@ -83,7 +83,7 @@ chained_push heads chained c h =
     record {
       begun = λ b lt. rw hashes (head_kept (length heads) (hashes_in chained) (c.hash ∷ []) (length chained) b _ (omega arith) (h.begun b lt));
       each = λ i lt. rw (hashes, befores, get_or_append_left (hashes_in chained) (c.hash ∷ []) 0 i (omega arith), get_or_append_left (befores_in chained) (c.before ∷ []) 0 i (omega arith))
-        (head_kept (length heads) (hashes_in chained) (c.hash ∷ []) i _ _ (omega arith) (h.each i lt));
+          (head_kept (length heads) (hashes_in chained) (c.hash ∷ []) i _ _ (omega arith) (h.each i lt));
     }
 
 -- an end of a chain of bucket `b`
@@ -137,11 +137,15 @@ module _ (m : ℕ) (name : Text) (names : List Text) (hashes : List ℕ) (are : 
       (cases_eq j (at - 1))
   back_found at before (Some p) pos le bucket h first false e =
       let w = h.within in
-      let from = first.0 in
-      (omega arith, first.1, first.2, λ j low lt.
-        ⊎_elim (λ (here : j ≡ at - 1). subst (λ k. bytes_eq name (get_or names k []) ≡ false) (sym here) (sym e))
-          (λ (apart : j ≢ at - 1). ⊎_elim (λ (less : j < at - 1). other_bucket j (let f = first.1 in omega arith) (λ s. h.last j low less (s ∙ sym bucket))) (λ (more : at - 1 < j). first.3 j (omega arith) lt) (apart_side j (at - 1) apart))
-          (cases_eq j (at - 1)))
+      let from = first.0 in (
+        omega arith,
+        first.1,
+        first.2,
+        λ j low lt.
+            ⊎_elim (λ (here : j ≡ at - 1). subst (λ k. bytes_eq name (get_or names k []) ≡ false) (sym here) (sym e))
+            (λ (apart : j ≢ at - 1). ⊎_elim (λ (less : j < at - 1). other_bucket j (let f = first.1 in omega arith) (λ s. h.last j low less (s ∙ sym bucket))) (λ (more : at - 1 < j). first.3 j (omega arith) lt) (apart_side j (at - 1) apart))
+            (cases_eq j (at - 1)),
+      )
 
 -- a write of a hash's `before` leaves the hashes
 pub same_hashes : (xs : List Chained) (at : ℕ) (c : Chained) (before : ℕ) → at < length xs → c ≡ get_or xs at c → hashes_in (set xs at (record { hash = c.hash; before = before })) ≡ hashes_in xs
@@ -170,6 +174,7 @@ module _ (name : Text) (names : List Text) (heads : List ℕ) (chained : List Ch
       let inside : at - 1 < length chained = omega (arith, long) in
       let before : here.before ≡ get_or (befores_in chained) (at - 1) 0 = ap (λ (c : Chained). c.before) read ∙ sym (get_or-map (λ (c : Chained). c.before) chained (at - 1) here 0 inside) in
       let h : IsHead (length heads) (hashes_in chained) (at - 1) (get_or (hashes_in chained) (at - 1) 0 % length heads) here.before = rw before (whole.each (at - 1) inside) in
-      let w = h.within in
-      (record { within = omega arith; there = λ p. h.there p ∙ on.there pos },
-        back_found (length heads) name names (hashes_in chained) are at here.before found pos le (on.there pos ∙ ap (λ k. k % length heads) is) h first b passes)
+      let w = h.within in (
+        record { within = omega arith; there = λ p. h.there p ∙ on.there pos },
+        back_found (length heads) name names (hashes_in chained) are at here.before found pos le (on.there pos ∙ ap (λ k. k % length heads) is) h first b passes,
+      )

@@ -1,5 +1,5 @@
 -- Hashes of names, in buckets.
-use Rattle.std.specs.Prelude.{◌≡◌, ◌≢◌, ℕ, ◌+◌, ◌-◌, ◌%◌, ◌^◌, ◌<◌, ◌≤◌, List, length, map, slice_index}
+use Rattle.std.specs.Prelude.{◌≡◌, ◌≢◌, ℕ, ◌-◌, ◌%◌, ◌^◌, ◌<◌, ◌≤◌, List, length, map, slice_index}
 use Rattle.std.specs.Hash.DefaultHasher as sip
 use Rattle.guppy_packages.specs.Rows.{Text}
 use Rattle.guppy_packages.specs.declared.hash_places.Chained.{Chained}

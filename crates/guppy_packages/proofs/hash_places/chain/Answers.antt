@@ -1,4 +1,4 @@
-use Rattle.std.proofs.Common.{◌≡◌, ◌∙◌, ◌<◌, ◌%◌, get_or, length, map, rules, set, ap, sym, vec_len}
+use Rattle.std.proofs.Common.{◌≡◌, ◌∙◌, ◌<◌, ◌%◌, get_or, length, rules, set, ap, sym, vec_len}
 use Rattle.std.proofs.lemmas.List.{get_or-map, get_or_default, length-map, map-set}
 use Rattle.guppy_packages.specs.declared.hash_places.Chained.{Chained}
 use Rattle.guppy_packages.specs.inner.HashPlaces.{befores_in, hashes_in}
@@ -20,4 +20,4 @@ returns-clause-chained c =
     let read : c.index-2.result.now ≡ get_or heads bucket 0 = c.index-2.ensures ∙ get_or_default heads bucket c.index-2.result.now 0 within in
     let inside : c.args.at < length (befores_in xs) = rw (length-map xs (λ (x : Chained). x.before)) c.requires.within in
     chained_more heads xs _ c.args.at bucket within inside is (same_hashes xs c.args.at c.index_mut.result.now c.index-2.result.now c.requires.within c.index_mut.ensures.value)
-      (map-set (λ (x : Chained). x.before) xs c.args.at _ ∙ ap (set (befores_in xs) c.args.at) read) c.requires.below
+    (map-set (λ (x : Chained). x.before) xs c.args.at _ ∙ ap (set (befores_in xs) c.args.at) read) c.requires.below

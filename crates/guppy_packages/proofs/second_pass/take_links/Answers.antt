@@ -1,4 +1,4 @@
-use Rattle.std.proofs.Common.{◌≡◌, ◌<◌, ◌≤◌, ◌+◌, ◌∙◌, [], ap, arith, length, rules, subst, sym, take}
+use Rattle.std.proofs.Common.{◌≡◌, ◌<◌, ◌≤◌, ◌+◌, ◌∙◌, [], arith, length, rules, subst, sym, take}
 use Rattle.std.proofs.lemmas.List.{take_all}
 use Rattle.guppy_packages.specs.Graph.{dependencies_of, faults_by, link_fault, links_of}
 use Rattle.guppy_packages.specs.Stored.{link_tables, package_tables}

@@ -1,5 +1,5 @@
-use Rattle.std.proofs.Common.{◌≡◌, ◌∙◌, Some, Result, Ok, Err, ap, map, sym}
-use Rattle.std.specs.Prelude.{IfOk, MatchResult, find}
+use Rattle.std.proofs.Common.{◌≡◌, ◌∙◌, Some, ap, map, sym}
+use Rattle.std.specs.Prelude.{find}
 use Rattle.std.specs.Cmp.Lexicographic.{bytes_decides, pointwise_decides}
 use Rattle.std.specs.String.{string_bytes}
 use Rattle.guppy_packages.specs.Rows.{texts}

@@ -1,4 +1,4 @@
-use Rattle.std.proofs.Common.{◌≡◌, ◌∙◌, ◌<◌, ◌-◌, Bool, true, false, [], ap, get_or, length, map, rules, subst, sym, vec_len, arith}
+use Rattle.std.proofs.Common.{◌≡◌, ◌∙◌, ◌<◌, ◌-◌, true, false, [], ap, get_or, length, map, rules, subst, sym, vec_len, arith}
 use Rattle.std.specs.Str.{bytes_eq}
 use Rattle.std.proofs.lemmas.List.{get_or-map, get_or_default, length-map}
 use Rattle.guppy_packages.specs.inner.HashPlaces.{hashes_in, name_hash}
@@ -15,7 +15,7 @@ loop-at-init g c =
     let within : c.bucket_of.result < length heads = rw (sym n, sym c.len.ensures) c.bucket_of.ensures.within in
     let value = c.bucket_of.ensures.value in
     let both = find_begins c.args.name.now names heads c.self.inside.chained.items c.self.invariant.0 are c.hash_of-hash.result c.hash_of-hash.ensures c.bucket_of.result c.index-at.result.now within
-        (rw (sym n, sym c.len.ensures) value) (c.index-at.ensures ∙ get_or_default heads c.bucket_of.result c.index-at.result.now 0 within) in
+    (rw (sym n, sym c.len.ensures) value) (c.index-at.ensures ∙ get_or_default heads c.bucket_of.result c.index-at.result.now 0 within) in
     record { on = both.0; found = both.1 }
 
 pub loop-at-preserved-then-has_name : goal.loop-at-preserved-then-has_name
