@@ -52,6 +52,7 @@ fn hash_of(name: &str) -> u32
 }
 
 /// Returns the bucket of `hash`.
+#[inline]
 fn bucket_of(hash: u32, buckets: usize) -> usize
     requires { 0 < buckets }
     ensures value { result ≡ hash % buckets }
@@ -123,6 +124,7 @@ fn make_room(
 }
 
 /// Returns whether `item` has the name `name`, whose hash is `hash`. The item's hash is `here`, which is compared first.
+#[inline]
 fn has_name<T: Named>(item: &T, here: u32, name: &str, hash: u32) -> bool
     requires here { here ≡ name_hash (T.name item.now) }
     requires hash { hash ≡ name_hash name.now }

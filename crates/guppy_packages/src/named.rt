@@ -17,7 +17,7 @@ impl Named for String {
 
     ghost name = { λ s. string_bytes s };
 
-    #[inline]
+    #[inline(always)]
     fn name(&self) -> &str {
         self.as_str()
     }

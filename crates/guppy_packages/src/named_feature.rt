@@ -92,7 +92,7 @@ impl Named for NamedFeature {
 
     ghost name = { name_text };
 
-    #[inline]
+    #[inline(always)]
     fn name(&self) -> &str {
         self.texts.first()
     }

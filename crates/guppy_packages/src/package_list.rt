@@ -10,7 +10,7 @@ pub(crate) type PackageList = NamedList<(PackageId, PackageData)>;
 impl Named for (PackageId, PackageData) {
     ghost name = { λ e. e.0 };
 
-    #[inline]
+    #[inline(always)]
     fn name(&self) -> &str {
         self.0.repr()
     }

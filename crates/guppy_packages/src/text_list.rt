@@ -27,6 +27,7 @@ impl Model for TextList {
 }
 
 /// Returns the start of text `at`.
+#[inline(always)]
 fn start(ends: &[u32], at: usize) -> usize
     requires { at ≤ length ends.now }
     ensures { result ≡ slice_index (0 ∷ ends.now) at }
@@ -38,6 +39,7 @@ fn start(ends: &[u32], at: usize) -> usize
 }
 
 /// Returns the end of text `at`.
+#[inline(always)]
 fn end(ends: &[u32], at: usize) -> usize
     requires { at < length ends.now }
     ensures { result ≡ slice_index ends.now at }
@@ -46,6 +48,7 @@ fn end(ends: &[u32], at: usize) -> usize
 }
 
 /// Returns text `at` of those that end at `ends`, one after the other in `text`.
+#[inline(always)]
 fn part<'t>(text: &'t str, ends: &[u32], at: usize) -> &'t str
     requires within { at < length ends.now }
     requires cut { AreEnds 0 ends.now text.now }
@@ -66,6 +69,7 @@ impl TextList {
     }
 
     /// Returns text `at`.
+    #[inline(always)]
     pub(crate) fn text(&self, at: usize) -> &str
         requires { at < length self.now }
         ensures { slice_get self.now at ≡ Some result.now }

@@ -54,6 +54,7 @@ impl TextRun {
     }
 
     /// Returns the first text.
+    #[inline(always)]
     pub(crate) fn first(&self) -> &str
         requires { 0 < length self.now }
         ensures { result.now ≡ first_text self.now }
