@@ -100,7 +100,7 @@ run_proved() {
   if [ -z "$why" ]; then
     exec "$top/crates/$name/out/$name" "$@"
   fi
-  echo "$name: $why: this answer comes from a build that is checked while it runs and is not proved; ./build proves it, in some 140 processor minutes" >&2
+  echo "$name: $why: this answer comes from a build that is checked while it runs and is not proved; ./build proves it, in some 115 processor minutes" >&2
 }
 
 # Exits as a program does that can't write, in `launch_feats` as `feats` does. The arguments are the exit status of cat, and that of the
