@@ -8,7 +8,7 @@ mod texts;
 mod words;
 
 pub use failure::Failure;
-pub use files::{bytes_of, package_graph, script};
+pub use files::{bytes_of, package_graph, package_graph_by_lines, script};
 pub use given::{Given, Words, ids_of, next_id};
 pub use numbers::insert;
 pub use out::Out;

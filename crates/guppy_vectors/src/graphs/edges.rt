@@ -3,7 +3,7 @@ ghost use Rattle.std.specs.Prelude.{◌<◌, length};
 ghost use Rattle.feature_core.specs.Built.{IsBuilt};
 
 use crate::graphs::edge::{copied, tell_edge};
-use crate::shared::{Failure, Out, label_of, package_graph, parts, tell_warning};
+use crate::shared::{Failure, Out, label_of, package_graph_by_lines, parts, tell_warning};
 use feature_core::laws::warning_equality;
 use feature_core::{FeatureGraphData, FeatureGraphWarning};
 use feature_labels::FeatureId;
@@ -42,7 +42,7 @@ pub fn built_from(
     built: &FeatureGraphData,
     path: &str,
 ) -> Result<(), Failure> {
-    let other = package_graph(rt, path)?;
+    let other = package_graph_by_lines(rt, path)?;
     let told = tell_built(out, rt.alloc(), built, &other);
     drop(other);
     told

@@ -2,7 +2,7 @@
 use crate::shared::failure::Failure;
 use byte_devices::{FromReader, read_all};
 use guppy_packages::PackageGraph;
-use row_files::graph_of;
+use row_files::{Lines, graph_of, graph_of_lines};
 use std::fs::File;
 
 /// Returns all bytes of the file at `path`; no bytes for an empty path. `Words` if the file can't be read, `Memory` if an
@@ -22,6 +22,16 @@ pub fn bytes_of(rt: &HostRuntime, path: &str) -> Result<Vec<u8>, Failure> {
 pub fn package_graph(rt: &HostRuntime, path: &str) -> Result<PackageGraph, Failure> {
     let bytes = bytes_of(rt, path)?;
     Ok(graph_of(rt.alloc(), &bytes)?)
+}
+
+/// Returns the same graph as [`package_graph`], made of the file's lines, or the same failure.
+pub fn package_graph_by_lines(rt: &HostRuntime, path: &str) -> Result<PackageGraph, Failure> {
+    let bytes = bytes_of(rt, path)?;
+    let Ok(text) = str::from_utf8(&bytes) else {
+        return Err(Failure::Words);
+    };
+    let lines = Lines::of(rt.alloc(), text)?;
+    Ok(graph_of_lines(rt.alloc(), &lines)?)
 }
 
 /// Returns standard input as a string. `Words` if it can't be read or isn't UTF-8, `Memory` if an allocation fails.
