@@ -15,7 +15,7 @@ ghost use Rattle.walk_checks.specs.Tables.{Tells};
 use crate::data::FeatureGraphData;
 use crate::engine::{Ask, EdgeSource, Taken};
 use crate::gates::{gate_of, released_at};
-use feature_edges::{DependencyDirection, EdgeChoice, EdgeList, FeatureEdge, SlashForm};
+use feature_edges::{DependencyDirection, EdgeChoice, EdgeList, FeatureEdge};
 use guppy_support::{Digraph, Edge};
 use std::marker::Model;
 use walk_checks::{EdgeTable, TableEdge};
@@ -75,13 +75,12 @@ fn offers_of(direction: DependencyDirection, edge: &FeatureEdge) -> Ask
 {
     match edge {
         FeatureEdge::FeatureToBase | FeatureEdge::NamedFeature => Ask::Nobody,
-        FeatureEdge::DependenciesSection(_) | FeatureEdge::NamedFeatureDepColon(_) => Ask::Full,
-        FeatureEdge::NamedFeatureWithSlash { link: _, slash } => match slash {
-            SlashForm::Strong => Ask::Full,
-            SlashForm::Weak(weak) => Ask::Weak {
-                required: weak.required().get().is_some(),
-                gated: waits(direction),
-            },
+        FeatureEdge::DependenciesSection(_)
+        | FeatureEdge::NamedFeatureDepColon(_)
+        | FeatureEdge::NamedFeatureWithSlash(_) => Ask::Full,
+        FeatureEdge::NamedFeatureWithWeakSlash(weak) => Ask::Weak {
+            required: weak.required().get().is_some(),
+            gated: waits(direction),
         },
     }
 }

@@ -1,7 +1,7 @@
 //! Comparing feature graph data with a build of a package graph.
 ghost use Rattle.std.specs.Prelude.{◌≡◌, ◌↔◌, ℕ, IfOk, IfErr, IsTrue, map};
 ghost use Rattle.feature_core.specs.Built.{IsBuilt, pairs_of};
-ghost use Rattle.feature_edges.specs.feature_links.Values.{link_facts, half_facts, weak_facts_of, slash_facts, edge_facts};
+ghost use Rattle.feature_edges.specs.feature_links.Values.{link_facts, half_facts, weak_facts_of, weak_link_of, edge_facts};
 ghost use Rattle.feature_edges.specs.Warnings.{warning_of};
 ghost use Rattle.feature_edges.specs.guppy_packages.Platform.{spec_text, status_of};
 
@@ -10,7 +10,7 @@ use crate::error::Error;
 use crate::laws::warning_equality;
 use feature_edges::{
     ConditionalLinkImpl, EdgeList, EnabledLink, FeatureEdge, FeatureGraphWarning, PackageGraph,
-    PlatformStatus, SlashForm, Spec, WeakSlashImpl,
+    PlatformStatus, Spec, WeakSlashImpl,
 };
 use guppy_support::{Digraph, Edge};
 use std::alloc::Global;
@@ -73,8 +73,8 @@ fn same_half(a: &EnabledLink, b: &EnabledLink) -> bool
     }
 }
 
-/// Returns whether `a` and `b` are equal weak edges.
-fn same_weak(a: &WeakSlashImpl, b: &WeakSlashImpl) -> bool
+/// Returns whether `a` and `b` have equal halves and indices.
+fn same_halves(a: &WeakSlashImpl, b: &WeakSlashImpl) -> bool
     ensures { IsTrue result ↔ (weak_facts_of a.now ≡ weak_facts_of b.now) }
 {
     a.index() == b.index()
@@ -82,15 +82,11 @@ fn same_weak(a: &WeakSlashImpl, b: &WeakSlashImpl) -> bool
         && same_half(a.optional(), b.optional())
 }
 
-/// Returns whether `a` and `b` are equal forms.
-fn same_slash(a: &SlashForm, b: &SlashForm) -> bool
-    ensures { IsTrue result ↔ (slash_facts a.now ≡ slash_facts b.now) }
+/// Returns whether `a` and `b` are equal weak edges.
+fn same_weak(a: &WeakSlashImpl, b: &WeakSlashImpl) -> bool
+    ensures { IsTrue result ↔ ((weak_link_of a.now ≡ weak_link_of b.now) × (weak_facts_of a.now ≡ weak_facts_of b.now)) }
 {
-    match (a, b) {
-        (SlashForm::Strong, SlashForm::Strong) => true,
-        (SlashForm::Weak(a), SlashForm::Weak(b)) => same_weak(a, b),
-        _ => false,
-    }
+    same_link(a.link(), b.link()) && same_halves(a, b)
 }
 
 /// Returns whether `a` and `b` are equal edges.
@@ -106,10 +102,11 @@ pub(crate) fn same_edge(a: &FeatureEdge, b: &FeatureEdge) -> bool
         (FeatureEdge::NamedFeatureDepColon(a), FeatureEdge::NamedFeatureDepColon(b)) => {
             same_link(a, b)
         }
-        (
-            FeatureEdge::NamedFeatureWithSlash { link: a, slash: c },
-            FeatureEdge::NamedFeatureWithSlash { link: b, slash: d },
-        ) => same_link(a, b) && same_slash(c, d),
+        (FeatureEdge::NamedFeatureWithSlash(a), FeatureEdge::NamedFeatureWithSlash(b)) => {
+            same_link(a, b)
+        }
+        (FeatureEdge::NamedFeatureWithWeakSlash(a), FeatureEdge::NamedFeatureWithWeakSlash(b)) =>
+            same_weak(a, b),
         _ => false,
     }
 }

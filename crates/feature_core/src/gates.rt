@@ -6,7 +6,7 @@ ghost use Rattle.feature_core.specs.Ways.{gate_at, gate_of};
 ghost use Rattle.feature_core.specs.inner.Releases.{AreReleases, releases_from, released_by, Begins, IsUpTo};
 ghost use Rattle.feature_edges.specs.feature_links.Values.{edge_facts};
 
-use feature_edges::{EdgeList, FeatureEdge, SlashForm};
+use feature_edges::{EdgeList, FeatureEdge};
 use std::alloc::{AllocError, Global};
 
 /// Returns the gate of a weak edge's optional half; `None` for another edge.
@@ -14,10 +14,9 @@ pub(crate) fn gate_of(weak: &[(usize, usize)], edge: &FeatureEdge) -> Option<usi
     ensures { result ≡ gate_of weak.now (edge_facts edge.now) }
 {
     match edge {
-        FeatureEdge::NamedFeatureWithSlash {
-            link: _,
-            slash: SlashForm::Weak(halves),
-        } => Some(gate_at(weak, halves.index().index())),
+        FeatureEdge::NamedFeatureWithWeakSlash(halves) => {
+            Some(gate_at(weak, halves.index().index()))
+        }
         _ => None,
     }
 }

@@ -19,7 +19,7 @@ pub use data::FeatureGraphData;
 pub use directed_edges::Packed;
 pub use error::Error;
 pub use feature_edges::{
-    ConditionalLinkImpl, EdgeChoice, EnabledLink, FeatureEdge, FeatureGraphWarning, SlashForm,
-    WeakIndex, WeakSlashImpl,
+    ConditionalLinkImpl, EdgeChoice, EnabledLink, FeatureEdge, FeatureGraphWarning, WeakIndex,
+    WeakSlashImpl,
 };
 pub use walks::{walk, walk_all};

@@ -249,7 +249,7 @@ module _ (t : Tables) (tables : AreTables t) (m : MadeEdges) (below : AreMadeBel
   all_made = record { long = (below.made.values []).long; ends = is ∙ below.made.ends }
 
   all_kept : IsKept t below.kept
-  all_kept = kept_all t tables below.kept below.is_kept
+  all_kept = kept_all t below.kept below.is_kept
 
   pub all_long : length m.edges ≡ length digraph
   all_long = made_long below.kept m.edges digraph all_made

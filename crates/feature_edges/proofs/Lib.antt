@@ -13,6 +13,8 @@ pub mod RequestLemmas
 pub mod Ranks
 pub mod EdgeLemmas
 pub mod SourceLemmas
+pub mod NodeKeys
+pub mod SplitKeys
 pub mod SectionPlaces
 pub mod KeyEdges
 pub mod MaterialLemmas

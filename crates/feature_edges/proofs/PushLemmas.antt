@@ -1,6 +1,6 @@
 -- The keys that the builder's steps add.
 use Rattle.std.proofs.Common.{◌≡◌, ◌≢◌, ℕ, zero, suc, ◌+◌, ◌<◌, ◌≤◌, ◌⊎◌, inl, inr, ⊎_elim, List, ◌∷◌, [], length, map, Bool, true, false, cond, Option, Some, None, refl, ap, sym, ◌∙◌, subst, arith, not, true≢false}
-use Rattle.std.specs.Prelude.{slice_get, Contains, ◌↔◌, ◌&&◌, ◌==◌, filter}
+use Rattle.std.specs.Prelude.{slice_get, Contains, IsPermutation, ◌↔◌, ◌&&◌, ◌==◌, filter}
 use Rattle.std.specs.Str.{bytes_eq}
 use Rattle.std.specs.List.{list_any}
 use Rattle.std.specs.Cmp.Lexicographic.{bytes_decides}
@@ -13,13 +13,13 @@ use Rattle.feature_labels.specs.Names.LabelName.{named, optional}
 use Rattle.feature_edges.specs.declared.candidate.CandidateKind.{CandidateKind}
 use Rattle.feature_edges.specs.declared.candidate.CandidateKind.TheVariants.{FeatureToBase, NamedFeature, SlashOptional}
 use Rattle.feature_edges.specs.inner.Adds.{Adds, Below}
-use Rattle.feature_links.specs.Links.{IsPackage, IsLink, numbered}
+use Rattle.feature_links.specs.Links.{IsLink, numbered}
 use Rattle.feature_links.specs.NamedLinks.{link_numbers}
 use Rattle.feature_edges.specs.Nodes.{NodeAt, first_node, labels_of}
 use Rattle.feature_edges.specs.declared.candidate.Key.{Key}
-use Rattle.feature_edges.specs.inner.Parts.{key, over_kind, IsToFirst, IsTo, IsOver, IsOverLink, IsBeside, IsOfItem, IsOfItemAt, IsOfFeatureAt, IsOfPackageAt, IsOfLinkAt, IsLinkFrom, IsOfSource}
+use Rattle.feature_edges.specs.inner.Parts.{key, over_kind, IsToFirstFrom, IsTo, IsOver, IsOverLink, IsBeside, IsOfItem, IsOfItemAt, IsOfFeature, IsOfOptional, IsAround, IsOfPackageAt, IsOfLinkAt, IsLinkFrom}
 use Rattle.feature_edges.proofs.NodeLabels.{element_within}
-use Rattle.feature_edges.proofs.AddsLemmas.{Adds-nothing, Adds-then, Adds-as, place_of_element, element_at_place, place_below, Contains-first, Contains-later, Contains-cases, Contains-none}
+use Rattle.feature_edges.proofs.AddsLemmas.{Adds-nothing, Adds-then, Adds-as, Adds-permuted, place_of_element, element_at_place, place_below, Contains-first, Contains-later, Contains-cases, Contains-none}
 
 -- a key to the node of a label, whose number is known
 pub pushed_to : (t : Tables) (u p : ℕ) (kind : CandidateKind) (source place : ℕ) (label : LabelName) (to : Option ℕ) (a b : List Key) → ((n : ℕ) → (to ≡ Some n) ↔ NodeAt t n p label)
@@ -29,23 +29,26 @@ pushed_to t u p kind source place label to a b told h = Adds-as (λ x. (w : ℕ)
     (λ x i. (i.0, (told i.0).1 i.1, i.2))
     h
 
--- the same elements, for an equal number
-pub Adds-for : {X : Type 0} (P : ℕ → X → Type 0) (m n : ℕ) (a b : List X) → m ≡ n → Adds (P m) a b → Adds (P n) a b
-Adds-for P m n a b e h = subst (λ z. Adds (P z) a b) e h
-
--- a key from node `k` to the first
-pub first_pushed : (first k : ℕ) (a b : List Key) → 0 < k → Adds (λ x. (w : ℕ) × (◌≡◌ {A = Option ℕ} (Some first) (Some w)) × (x ≡ key (first + k) w FeatureToBase 0 0)) a b → Adds (IsToFirst first k) a b
-first_pushed first k a b l h = Adds-as (λ x. (w : ℕ) × (◌≡◌ {A = Option ℕ} (Some first) (Some w)) × (x ≡ key (first + k) w FeatureToBase 0 0)) (IsToFirst first k) a b
-    (λ x i. let e : first ≡ i.0 = cc in (l, i.2 ∙ ap (λ z. key (first + k) z FeatureToBase 0 0) (sym e)))
-    (λ x i. (first, refl, i.1))
+-- a key to the first node
+pub first_pushed : (first from : ℕ) (a b : List Key) → Adds (λ x. (w : ℕ) × (◌≡◌ {A = Option ℕ} (Some first) (Some w)) × (x ≡ key from w FeatureToBase 0 0)) a b → Adds (λ x. x ≡ key from first FeatureToBase 0 0) a b
+first_pushed first from a b h = Adds-as (λ x. (w : ℕ) × (◌≡◌ {A = Option ℕ} (Some first) (Some w)) × (x ≡ key from w FeatureToBase 0 0)) (λ x. x ≡ key from first FeatureToBase 0 0) a b
+    (λ x i. let e : first ≡ i.0 = cc in i.2 ∙ ap (λ z. key from z FeatureToBase 0 0) (sym e))
+    (λ x i. (first, refl, i))
     h
 
-pub first_none : (first n : ℕ) (a : List Key) → n ≤ 1 → Adds (Below n (IsToFirst first)) a a
-first_none first n a l = Adds-nothing (Below n (IsToFirst first)) a (λ x h. omega (arith, h.1, h.2.0))
+-- a key from node `k` to the first
+pub first_next : (start first k : ℕ) (a b : List Key) → start ≤ k → 0 < k → Adds (λ x. x ≡ key (first + k) first FeatureToBase 0 0) a b → Adds (IsToFirstFrom start first k) a b
+first_next start first k a b s l h = Adds-as (λ x. x ≡ key (first + k) first FeatureToBase 0 0) (IsToFirstFrom start first k) a b
+    (λ x i. (s, (l, i)))
+    (λ x i. i.1.1)
+    h
+
+pub first_none : (start first n : ℕ) (a : List Key) → n ≤ start → Adds (Below n (IsToFirstFrom start first)) a a
+first_none start first n a l = Adds-nothing (Below n (IsToFirstFrom start first)) a (λ x h. omega (arith, l, h.1, h.2.0))
 
 -- no further keys past the end
-pub first_end : (first n count : ℕ) (a b : List Key) → count ≤ n → n ≤ 1 ⊎ (n ≡ count) → Adds (Below n (IsToFirst first)) a b → Adds (Below count (IsToFirst first)) a b
-first_end first n count a b l e h = Adds-as (Below n (IsToFirst first)) (Below count (IsToFirst first)) a b
+pub first_end : (start first n count : ℕ) (a b : List Key) → count ≤ n → n ≤ start ⊎ (n ≡ count) → Adds (Below n (IsToFirstFrom start first)) a b → Adds (Below count (IsToFirstFrom start first)) a b
+first_end start first n count a b l e h = Adds-as (Below n (IsToFirstFrom start first)) (Below count (IsToFirstFrom start first)) a b
     (λ x i. (i.0, ⊎_elim (λ s. absurd (omega (arith, i.1, i.2.0, s))) (λ s. omega (arith, i.1, s)) e, i.2))
     (λ x i. (i.0, omega (arith, i.1, l), i.2))
     h
@@ -282,36 +285,13 @@ item_at t u p k feature text name a b at e h = Adds-as (IsOfItem t u p name (ite
 pub items_within : (t : Tables) (u p : ℕ) (feature : FeatureTable) (k : ℕ) (x : Key) → IsOfItemAt t u p feature k x → k < length feature.items
 items_within t u p feature k x h = place_below feature.items k h.0 h.1
 
--- the keys of the feature at a place
-pub feature_at : (t : Tables) (p k u : ℕ) (table : PackageTable) (feature : FeatureTable) (a b : List Key) → slice_get table.features k ≡ Some feature → u ≡ first_node t p + 1 + k → Adds (λ x. (j : ℕ) × IsOfItemAt t u p feature j x) a b → Adds (IsOfFeatureAt t p table k) a b
-feature_at t p k u table feature a b at e h = Adds-as (λ x. (j : ℕ) × IsOfItemAt t u p feature j x) (IsOfFeatureAt t p table k) a b
-    (λ x i. (feature, at, subst (λ z. (j : ℕ) × IsOfItemAt t z p feature j x) e i))
-    (λ x i.
-    let same : i.0 ≡ feature = same_feature_table i.0 (sym i.1 ∙ at) in
-    subst (λ z. (j : ℕ) × IsOfItemAt t u p z j x) same (subst (λ z. (j : ℕ) × IsOfItemAt t z p i.0 j x) (sym e) i.2))
-    h
-  where
-    same_feature_table : (other : FeatureTable) → ◌≡◌ {A = Option FeatureTable} (Some other) (Some feature) → other ≡ feature
-    same_feature_table other q = cc
+-- the keys of a feature: to the base, then of its items
+pub of_feature : (t : Tables) (u p first : ℕ) (feature : FeatureTable) (a b c : List Key) → first ≡ first_node t p → Adds (λ x. x ≡ key u first FeatureToBase 0 0) a b → Adds (λ x. (j : ℕ) × IsOfItemAt t u p feature j x) b c → Adds (IsOfFeature t u p feature) a c
+of_feature t u p first feature a b c e h i = Adds-then (λ x. x ≡ key u (first_node t p) FeatureToBase 0 0) (λ x. (j : ℕ) × IsOfItemAt t u p feature j x) a b c (subst (λ z. Adds (λ x. x ≡ key u z FeatureToBase 0 0) a b) e h) i
 
-pub features_within : (t : Tables) (p : ℕ) (table : PackageTable) (k : ℕ) (x : Key) → IsOfFeatureAt t p table k x → k < length table.features
-features_within t p table k x h = place_below table.features k h.0 h.1
-
--- the keys of a package: of its nodes, then of its items
-pub package_at : (t : Tables) (p first count : ℕ) (table : PackageTable) (a b c : List Key) → IsPackage t p table → first ≡ first_node t p → count ≡ length (labels_of table)
-    → Adds (Below count (IsToFirst first)) a b → Adds (λ x. (k : ℕ) × IsOfFeatureAt t p table k x) b c → Adds (IsOfPackageAt t p) a c
-package_at t p first count table a b c is e n h i =
-    let firsts : Adds (Below (length (labels_of table)) (IsToFirst (first_node t p))) a b = subst (λ z. Adds (Below z (IsToFirst (first_node t p))) a b) n (subst (λ z. Adds (Below count (IsToFirst z)) a b) e h) in
-    Adds-as (λ x. Below (length (labels_of table)) (IsToFirst (first_node t p)) x ⊎ ((k : ℕ) × IsOfFeatureAt t p table k x)) (IsOfPackageAt t p) a c
-    (λ x j. (table, is, ⊎_elim (λ z. inl (z.0, z.1, z.2)) (λ z. inr z) j))
-    (λ x j.
-    let same : j.0 ≡ table = same_table j.0 (sym j.1 ∙ is) in
-    let moved : ((k : ℕ) × (k < length (labels_of table)) × IsToFirst (first_node t p) k x) ⊎ ((k : ℕ) × IsOfFeatureAt t p table k x) = subst (λ z. ((k : ℕ) × (k < length (labels_of z)) × IsToFirst (first_node t p) k x) ⊎ ((k : ℕ) × IsOfFeatureAt t p z k x)) same j.2 in
-    ⊎_elim (λ z. inl (z.0, z.1, z.2)) (λ z. inr z) moved)
-    (Adds-then (Below (length (labels_of table)) (IsToFirst (first_node t p))) (λ x. (k : ℕ) × IsOfFeatureAt t p table k x) a b c firsts i)
-  where
-    same_table : (other : PackageTable) → ◌≡◌ {A = Option PackageTable} (Some other) (Some table) → other ≡ table
-    same_table other q = cc
+-- the keys of the optional dependencies of a package to its base
+pub of_optional : (t : Tables) (p start first count : ℕ) (table : PackageTable) (a b : List Key) → start ≡ 1 + length table.features → first ≡ first_node t p → count ≡ length (labels_of table) → Adds (Below count (IsToFirstFrom start first)) a b → Adds (IsOfOptional t p table) a b
+of_optional t p start first count table a b s e n h = subst (λ z. Adds (Below (length (labels_of table)) (IsToFirstFrom z (first_node t p))) a b) s (subst (λ z. Adds (Below (length (labels_of table)) (IsToFirstFrom start z)) a b) e (subst (λ z. Adds (Below z (IsToFirstFrom start first)) a b) n h))
 
 pub packages_within : (t : Tables) (p : ℕ) (x : Key) → IsOfPackageAt t p x → p < length t.packages
 packages_within t p x h = place_below t.packages p h.0 h.1
@@ -341,10 +321,6 @@ module _ (t : Tables) (p first end : ℕ) (are : AreLinksFrom t.links p first en
       (λ x i. (i.0, (i.1, i.2)))
       (Adds-all (IsOfLinkFrom t p) n a b (λ k x i. let w = leaves_within k i.0 in omega (arith, w.1, l)) h)
 
--- the keys of the links that leave a package, then those of the package, appended to an empty list
-pub all_of_source : (t : Tables) (p : ℕ) (a b c : List Key) → a ≡ [] → Adds (λ x. (k : ℕ) × IsLinkFrom t p k × IsOfLinkAt t k x) a b → Adds (IsOfPackageAt t p) b c → (x : Key) → Contains c x ↔ IsOfSource t p x
-all_of_source t p a b c e f g x =
-    let all : Adds (λ x. ((k : ℕ) × IsLinkFrom t p k × IsOfLinkAt t k x) ⊎ IsOfPackageAt t p x) a c = Adds-then (λ x. (k : ℕ) × IsLinkFrom t p k × IsOfLinkAt t k x) (IsOfPackageAt t p) a b c f g in (
-      (λ h. ⊎_elim (λ i. absurd (Contains-none x (subst (λ z. Contains z x) e i))) (λ i. ⊎_elim (λ l. inr l) (λ q. inl q) i) (all.nothing_else x h)),
-      (λ h. all.added x (⊎_elim (λ q. inr q) (λ l. inl l) h)),
-    )
+-- the keys of the links that leave a package and of its optional dependencies, in any order
+pub around : (t : Tables) (p : ℕ) (table : PackageTable) (a b c d : List Key) → a ≡ [] → Adds (λ x. (k : ℕ) × IsLinkFrom t p k × IsOfLinkAt t k x) a b → Adds (IsOfOptional t p table) b c → IsPermutation c d → Adds (IsAround t p table) [] d
+around t p table a b c d e f g moved = subst (λ z. Adds (IsAround t p table) z d) e (Adds-permuted (IsAround t p table) a c d (Adds-then (λ x. (k : ℕ) × IsLinkFrom t p k × IsOfLinkAt t k x) (IsOfOptional t p table) a b c f g) moved)

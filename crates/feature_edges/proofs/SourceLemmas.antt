@@ -1,26 +1,24 @@
 -- The package that a key starts at, and the least keys of the packages in turn.
-use Rattle.std.proofs.Common.{◌≡◌, ℕ, zero, suc, ◌+◌, ◌<◌, ◌⊎◌, inl, inr, ⊎_elim, List, [], ◌∷◌, ◌++◌, length, take, get_or, refl, ap, sym, ◌∙◌, subst, arith, length-append, Some}
-use Rattle.std.specs.Prelude.{slice_get, flat_map, Contains, AllPairs, ◌↔◌}
+use Rattle.std.proofs.Common.{◌≡◌, ℕ, zero, suc, ◌+◌, ◌<◌, ◌≤◌, ◌⊎◌, inl, inr, ⊎_elim, List, [], ◌∷◌, ◌++◌, length, take, get_or, refl, ap, sym, ◌∙◌, subst, arith, length-append, Some}
+use Rattle.std.specs.Prelude.{slice_get, flat_map, Contains, AllPairs}
 use Rattle.std.proofs.lemmas.List.Elements.{All-append, Contains-get_or, Contains-append_left, Contains-append_right, Contains-append_cases}
 use Rattle.std.proofs.lemmas.List.Kept.{AllPairs-cons}
 use Rattle.guppy_packages.specs.Rows.{Text}
-use Rattle.guppy_packages.specs.Tables.{FeatureTable, Tables, AreTables}
+use Rattle.guppy_packages.specs.Tables.{FeatureTable, Tables}
 use Rattle.guppy_packages.specs.Items.{Item, feature_item, optional_item, slash_item, item_of}
 use Rattle.feature_labels.specs.Names.{LabelName}
 use Rattle.feature_labels.specs.Names.LabelName.{named}
 use Rattle.feature_edges.specs.declared.candidate.CandidateKind.{CandidateKind}
 use Rattle.feature_edges.specs.Nodes.{NodeAt, labels_of, first_node}
 use Rattle.feature_edges.specs.declared.candidate.Key.{Key}
-use Rattle.feature_edges.specs.inner.Keys.{IsBefore, AreLeast}
-use Rattle.feature_edges.specs.inner.Made.{IsKept, IsKeptBelow}
+use Rattle.feature_edges.specs.inner.Keys.{IsBefore, IsNoLater, AreLeast}
+use Rattle.feature_edges.specs.inner.Made.{AreFrom, AreWholeKeys, IsKept, IsKeptBefore}
 use Rattle.feature_edges.specs.inner.Parts.{key, start_of, IsOfItem, IsOfPackageAt, IsOfLinkAt, IsLinkFrom, IsOfSource, IsOfTables}
 use Rattle.feature_edges.proofs.AddsLemmas.{Contains-first, Contains-later, Contains-none, place_below}
 use Rattle.feature_edges.proofs.LeastKeys.{AllPairs-first, AllPairs-later}
 use Rattle.feature_edges.proofs.NodeLabels.{element_within}
 use Rattle.feature_edges.proofs.PartLemmas.{feature_node}
 use Rattle.feature_edges.proofs.Places.{got_same, node_there, node_back}
-use Rattle.feature_edges.proofs.PushLemmas.{packages_within}
-use Rattle.feature_edges.proofs.Ranks.{same_home}
 
 -- an element of a row precedes those of each later row
 spread_before : {A B : Type 0} (f : A → List B) (p q place : ℕ) (xs : List A) (row : A) → slice_get xs p ≡ Some row → p < q → place < length (f row)
@@ -46,7 +44,7 @@ node_order t n m p q k l a b h =
 from_is : (x : Key) (u w : ℕ) (kind : CandidateKind) (source place : ℕ) → x ≡ key u w kind source place → x.from ≡ u
 from_is x u w kind source place is = ap (λ z. z.from) is
 
-item_from : (t : Tables) (u p : ℕ) (f : Text) (item : Item) (x : Key) → IsOfItem t u p f item x → x.from ≡ u
+pub item_from : (t : Tables) (u p : ℕ) (f : Text) (item : Item) (x : Key) → IsOfItem t u p f item x → x.from ≡ u
 item_from t u p f (feature_item g) x h = from_is x _ _ _ _ _ h.1.2
 item_from t u p f (optional_item d) x h = from_is x _ _ _ _ _ h.2
 item_from t u p f (slash_item d g weak) x h = ⊎_elim
@@ -54,7 +52,7 @@ item_from t u p f (slash_item d g weak) x h = ⊎_elim
     (λ o. ⊎_elim (λ i. from_is x _ _ _ _ _ i.2) (λ i. from_is x _ _ _ _ _ i.2.2) o.1)
     h
 
-abbrev HasHome : Tables → ℕ → Key → Type 0
+abbrev pub HasHome : Tables → ℕ → Key → Type 0
 HasHome t p x = (l : LabelName) × NodeAt t x.from p l
 
 package_home : (t : Tables) (p : ℕ) (x : Key) → IsOfPackageAt t p x → HasHome t p x
@@ -78,30 +76,13 @@ link_home t p k x leaves h =
     (label, subst (λ z. NodeAt t z p label) (sym (from_is x _ _ _ _ _ d.2.2.2.2)) (subst (λ z. NodeAt t d.2.0 z label) from d.2.1))
 
 -- a key starts at a node of its package
-home : (t : Tables) (p : ℕ) (x : Key) → IsOfSource t p x → HasHome t p x
+pub home : (t : Tables) (p : ℕ) (x : Key) → IsOfSource t p x → HasHome t p x
 home t p x (inl h) = package_home t p x h
 home t p x (inr h) = link_home t p h.0 x h.1 h.2
 
-pub source_of_tables : (t : Tables) (p : ℕ) (x : Key) → IsOfSource t p x → IsOfTables t x
-source_of_tables t p x (inl h) = inl (p, h)
-source_of_tables t p x (inr h) = inr (h.0, h.2)
-
-tables_of_source : (t : Tables) (x : Key) → IsOfTables t x → (p : ℕ) × IsOfSource t p x
+pub tables_of_source : (t : Tables) (x : Key) → IsOfTables t x → (p : ℕ) × IsOfSource t p x
 tables_of_source t x (inl h) = (h.0, inl h.1)
 tables_of_source t x (inr h) = (h.1.0.from, inr (h.0, (h.1.0, h.1.1, refl), h.1))
-
-source_within : (t : Tables) → AreTables t → (p : ℕ) (x : Key) → IsOfSource t p x → p < length t.packages
-source_within t tables p x (inl h) = packages_within t p x h
-source_within t tables p x (inr h) = subst (λ z. z < length t.packages) h.1.2 (tables.ends h.0 h.1.0 h.1.1).0
-
--- a key from a source node of a package's keys is a key of the package
-pub same_source : (t : Tables) (p : ℕ) (x y : Key) → IsOfSource t p x → IsOfTables t y → y.from ≡ x.from → IsOfSource t p y
-same_source t p x y h i e =
-    let q = tables_of_source t y i in
-    let a = home t p x h in
-    let b = home t q.0 y q.1 in
-    let there : NodeAt t x.from q.0 b.0 = subst (λ z. NodeAt t z q.0 b.0) e b.1 in
-    subst (λ z. IsOfSource t z y) (same_home t x.from q.0 p b.0 a.0 there a.1) q.1
 
 pairs_append : {X : Type 0} (R : X → X → Type 0) (xs ys : List X) → AllPairs R xs → AllPairs R ys → ((x y : X) → Contains xs x → Contains ys y → R x y) → AllPairs R (xs ++ ys)
 pairs_append R [] ys a b c = b
@@ -120,44 +101,60 @@ least_joined a b kept more h i apart = record {
       (Contains-append_cases a b x c);
 }
 
-pub kept_none : (t : Tables) → IsKeptBelow t 0 []
+pub kept_none : (t : Tables) → IsKeptBefore t 0 []
 kept_none t = record {
   keys = [];
-  of_sources = λ x. ((λ c. absurd (Contains-none x c)), (λ s. absurd (omega (arith, s.1))));
+  of_nodes = λ x. ((λ c. absurd (Contains-none x c)), (λ s. absurd (omega (arith, s.2))));
   least = record { ascends = λ i j d l m. absurd (omega (arith, m)); from_keys = λ x c. c; each = λ x c. absurd (Contains-none x c) };
 }
 
--- the least keys of one more package
-pub kept_next : (t : Tables) (p : ℕ) (kept keys more : List Key) → IsKeptBelow t p kept → ((x : Key) → Contains keys x ↔ IsOfSource t p x) → AreLeast keys more → IsKeptBelow t (p + 1) (kept ++ more)
-kept_next t p kept keys more h of least = record {
+-- the least keys of more nodes
+pub kept_next : (t : Tables) (n m : ℕ) (kept keys more : List Key) → n ≤ m → IsKeptBefore t n kept → AreFrom t n m keys → AreLeast keys more → IsKeptBefore t m (kept ++ more)
+kept_next t n m kept keys more l h of least = record {
   keys = h.keys ++ keys;
-  of_sources = λ x. (
+  of_nodes = λ x. (
     (λ c. ⊎_elim
-        (λ u. let s = (h.of_sources x).0 u in (s.0, omega (arith, s.1), s.2))
-        (λ u. (p, omega arith, (of x).0 u))
+        (λ u. let s = (h.of_nodes x).0 u in (s.0, omega arith, omega (arith, s.2, l)))
+        (λ u. let s = (of x).0 u in (s.0, omega arith, s.2))
         (Contains-append_cases h.keys keys x c)),
     (λ s. ⊎_elim
-        (λ l. Contains-append_left h.keys keys x ((h.of_sources x).1 (s.0, l, s.2)))
-        (λ e. Contains-append_right h.keys keys x ((of x).1 (subst (λ z. IsOfSource t z x) e s.2)))
-        (split s.0 p s.1)),
+        (λ b. Contains-append_left h.keys keys x ((h.of_nodes x).1 (s.0, omega arith, b)))
+        (λ b. Contains-append_right h.keys keys x ((of x).1 (s.0, b, s.2)))
+        (split x.from n)),
   );
   least = least_joined h.keys keys kept more h.least least (λ x y u v.
-      let s = (h.of_sources x).0 u in
-      let a = home t s.0 x s.2 in
-      let b = home t p y ((of y).0 v) in
-      inl (node_order t x.from y.from s.0 p a.0 b.0 a.1 b.1 s.1));
+      let s = (h.of_nodes x).0 u in
+      let r = (of y).0 v in
+      inl (omega (arith, s.2, r.1)));
 }
   where
-    split : (k m : ℕ) → k < m + 1 → (k < m) ⊎ (k ≡ m)
-    split k m l = grind arith
+    split : (k m : ℕ) → (k < m) ⊎ (m ≤ k)
+    split k m = grind arith
 
--- the least keys of all packages are those of the tables
-pub kept_all : (t : Tables) → AreTables t → (kept : List Key) → IsKeptBelow t (length t.packages) kept → IsKept t kept
-kept_all t tables kept h = record {
+-- sorted keys of some nodes are all keys of these
+pub whole_keys : (t : Tables) (n m : ℕ) (keys : List Key) → AllPairs IsNoLater keys → AreFrom t n m keys → AreWholeKeys t keys
+whole_keys t n m keys ordered of = record {
+  ordered = ordered;
+  of_tables = λ y h. ((of y).0 h).0;
+  whole = λ x y a b e. let r = (of x).0 a in (of y).1 (b, omega (arith, r.1, e), omega (arith, r.2, e));
+}
+
+-- a key starts at a node of some package
+from_below : (t : Tables) (x : Key) → IsOfTables t x → x.from < first_node t (length t.packages)
+from_below t x i =
+    let q = tables_of_source t x i in
+    let a = home t q.0 x q.1 in
+    let y = node_back t x.from q.0 a.0 a.1 in
+    let before = spread_before labels_of q.0 (length t.packages) y.place t.packages y.row y.is_row (place_below t.packages q.0 y.row y.is_row) (place_below (labels_of y.row) y.place a.0 y.is_place) in
+    omega (arith, before, y.is)
+
+-- the least keys of all nodes are those of the tables
+pub kept_all : (t : Tables) (kept : List Key) → IsKeptBefore t (first_node t (length t.packages)) kept → IsKept t kept
+kept_all t kept h = record {
   keys = h.keys;
   of_tables = λ x. (
-    (λ c. let s = (h.of_sources x).0 c in source_of_tables t s.0 x s.2),
-    (λ i. let s = tables_of_source t x i in (h.of_sources x).1 (s.0, source_within t tables s.0 x s.1, s.1)),
+    (λ c. ((h.of_nodes x).0 c).0),
+    (λ i. (h.of_nodes x).1 (i, omega arith, from_below t x i)),
   );
   least = h.least;
 }

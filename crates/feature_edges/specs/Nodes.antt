@@ -1,6 +1,7 @@
 -- The nodes, package by package: the base, then the named features, then the names of optional declarations.
 use Rattle.std.specs.Prelude.{◌≡◌, ℕ, ◌+◌, List, [], ◌∷◌, ◌++◌, Some, map, slice_get, flat_map, length, take}
 use Rattle.std.specs.List.{range_with_len}
+use Rattle.std.specs.Option.{option_map_or}
 use Rattle.guppy_packages.specs.Rows.{Text}
 use Rattle.guppy_packages.specs.Tables.{PackageTable, Tables}
 use Rattle.feature_labels.specs.Names.{LabelName}
@@ -30,6 +31,10 @@ NodeAt t n p label = slice_get (node_places t) n ≡ Some (p, label)
 -- The number of nodes of the packages before `p`, which is the node of the base of `p`.
 abbrev pub first_node : Tables → ℕ → ℕ
 first_node t p = length (flat_map labels_of (take p t.packages))
+
+-- The number of named features of package `p`.
+abbrev pub features_in : Tables → ℕ → ℕ
+features_in t p = option_map_or (λ table. length table.features) (slice_get t.packages p) 0
 
 -- The first node of each package.
 abbrev pub first_nodes : Tables → List ℕ

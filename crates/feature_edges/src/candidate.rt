@@ -1,9 +1,9 @@
 //! Candidates for edges as small keys, and the runs of keys of one pair.
-ghost use Rattle.std.specs.Prelude.{◌≡◌, ◌≤◌, ◌↔◌, All, IsTrue, IsPermutation, AllPairs, OnOk, Some, length, slice_get, take};
+ghost use Rattle.std.specs.Prelude.{◌≡◌, ◌≤◌, ◌↔◌, ◌<◌, ◌++◌, All, Contains, nat_lt, IsTrue, IsPermutation, AllPairs, OnOk, Some, drop, length, slice_get, take};
 ghost use Rattle.feature_edges.specs.declared.candidate.Key.{Key as KeyValue};
 ghost use Rattle.feature_edges.specs.inner.Keys.{IsNoLater, IsPair, IsSplitRun};
 
-use std::alloc::{AllocError, Global};
+use std::alloc::AllocError;
 
 /// The kinds of candidates, by rank: of the candidates of a pair of nodes, the one of the first kind is the edge.
 #[derive(Clone, Copy, PartialEq, Eq, PartialOrd, Ord)]
@@ -53,34 +53,46 @@ pub(crate) struct Key {
     pub(crate) place: u32,
 }
 
-/// Sorts `keys` by pair, kind, source and place. They contain long sorted runs, which a merge sort uses.
-pub(crate) fn sort_keys(keys: &mut Vec<Key>) -> Result<(), AllocError>
+/// Sorts `keys` by pair, kind, source and place, in place.
+pub(crate) fn sort_keys(keys: &mut Vec<Key>)
     ensures permutation { IsPermutation keys.old.items keys.new.items }
-    ensures sorted { OnOk result (AllPairs IsNoLater keys.new.items) }
+    ensures sorted { AllPairs IsNoLater keys.new.items }
 {
-    keys.sort()?;
-    Ok(())
+    keys.sort_unstable();
 }
 
-/// Sorts `keys` from index `start` on.
-fn sort_end(alloc: Global, keys: &mut [Key], start: usize) -> Result<(), AllocError>
-    requires { start ≤ length keys.old }
-    ensures { IsPermutation keys.old keys.new }
+/// Returns the place of the first of the sorted keys `keys` that starts at node `end` or after it, or the number of keys.
+fn place_from(keys: &[Key], end: usize) -> usize
+    requires { AllPairs IsNoLater keys.now }
+    ensures within { result ≤ length keys.now }
+    ensures front { (x : KeyValue) → Contains (take result keys.now) x → x.from < end }
+    ensures back { (x : KeyValue) → Contains (drop result keys.now) x → end ≤ x.from }
 {
-    let (_, end) = keys.split_at_mut(start);
-    end.sort(alloc)
+    keys.partition_point(
+        |key: &Key| -> bool
+            ensures { result ≡ nat_lt key.now.from end }
+        { (key.from as usize) < end },
+    )
 }
 
-/// Sorts `keys` from index `start` on. Sorting each part when it is complete leaves the whole mostly sorted.
-pub(crate) fn sort_keys_from(
-    alloc: Global,
+/// Sets `later` to the keys of the sorted list `keys` that start at node `end` or after it, and removes them from `keys`.
+pub(crate) fn set_aside(
     keys: &mut Vec<Key>,
-    start: usize,
+    later: &mut Vec<Key>,
+    end: usize,
 ) -> Result<(), AllocError>
-    ensures { OnOk result (IsPermutation keys.old.items keys.new.items) }
+    requires { AllPairs IsNoLater keys.old.items }
+    ensures whole { OnOk result (keys.old.items ≡ keys.new.items ++ later.new.items) }
+    ensures ordered { OnOk result (AllPairs IsNoLater keys.new.items) }
+    ensures later_ordered { OnOk result (AllPairs IsNoLater later.new.items) }
+    ensures front { OnOk result ((x : KeyValue) → Contains keys.new.items x → x.from < end) }
+    ensures back { OnOk result ((x : KeyValue) → Contains later.new.items x → end ≤ x.from) }
 {
-    let start = start.min(keys.len());
-    sort_end(alloc, keys.as_mut_slice(), start)
+    let count = place_from(keys.as_slice(), end);
+    later.clear();
+    later.extend_from_slice(&keys[count..])?;
+    keys.truncate(count);
+    Ok(())
 }
 
 /// Returns whether two keys are of one pair.

@@ -10,7 +10,7 @@ mod package_input;
 
 use crate::candidate::Key;
 use crate::warnings::FeatureGraphWarning;
-pub(crate) use features::collect_package;
+pub(crate) use features::{collect_around, collect_feature};
 use std::alloc::{AllocError, Global};
 
 /// The keys of one package, and the warnings of the packages so far: those of items, and those of the names that declarations

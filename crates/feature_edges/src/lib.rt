@@ -15,7 +15,7 @@ mod warnings;
 
 pub use feature_labels::{FeatureId, FeatureLabel};
 pub use feature_links::{
-    ConditionalLinkImpl, EdgeChoice, EnabledLink, FeatureEdge, SlashForm, WeakIndex, WeakSlashImpl,
+    ConditionalLinkImpl, EdgeChoice, EnabledLink, FeatureEdge, WeakIndex, WeakSlashImpl,
     named_links,
 };
 pub use guppy_packages::{

@@ -16,8 +16,8 @@ use crate::candidate::{CandidateKind, Key};
 use crate::node_numbers::{Numbers, label_at};
 use feature_labels::{FeatureLabel, LinkDeclarations};
 use feature_links::{
-    ConditionalLinkImpl, FeatureEdge, LinkGroups, SlashForm, WeakIndex, WeakSlashImpl, half_of,
-    link_of, named_link, section_link,
+    ConditionalLinkImpl, FeatureEdge, LinkGroups, WeakIndex, WeakSlashImpl, half_of, link_of,
+    named_link, section_link,
 };
 use indexmap::IndexMap;
 use std::alloc::{AllocError, Global};
@@ -148,10 +148,7 @@ fn beside_edge(
 {
     material.numbers.graph.facts();
     let link = link_to(alloc, material, key.to as usize, LinkDeclarations::Optional)?;
-    Ok(FeatureEdge::NamedFeatureWithSlash {
-        link,
-        slash: SlashForm::Strong,
-    })
+    Ok(FeatureEdge::NamedFeatureWithSlash(link))
 }
 
 /// Returns the edge of an item over a package link, without halves.
@@ -168,10 +165,7 @@ fn full_edge(alloc: Global, material: Material<'_, '_>, key: Key) -> Result<Feat
         key.source as usize,
         LinkDeclarations::Unsplit,
     )?;
-    Ok(FeatureEdge::NamedFeatureWithSlash {
-        link,
-        slash: SlashForm::Strong,
-    })
+    Ok(FeatureEdge::NamedFeatureWithSlash(link))
 }
 
 /// Returns the edge of a weak item over a package link.
@@ -207,14 +201,41 @@ fn weak_edge(
         LinkDeclarations::Optional,
     )?;
     let index = index_in(table, key.source as usize);
-    let weak = Box::new(alloc, WeakSlashImpl::new(required, optional, index))?;
-    Ok(FeatureEdge::NamedFeatureWithSlash {
-        link,
-        slash: SlashForm::Weak(weak),
-    })
+    let held = WeakSlashImpl::new(link, required, optional, index);
+    let weak = Box::new(alloc, held)?;
+    Ok(FeatureEdge::NamedFeatureWithWeakSlash(weak))
 }
 
-/// Returns the edge of the declarations that request a pair of nodes, whose keys are `run`.
+/// Returns the edge of the declarations that request a pair of nodes, whose keys are `run`. `places` are those of the declarations,
+/// ascending.
+fn section_edge_at(
+    alloc: Global,
+    material: Material<'_, '_>,
+    key: Key,
+    run: &[Key],
+    places: &[usize],
+) -> Result<FeatureEdge, AllocError>
+    requires places { places.now ≡ dedup eqb (map (λ y. y.place) run.now) }
+    requires material { IsMaterial material }
+    requires of_tables { IsOfTables material.numbers.graph.now key }
+    requires kind { key.kind ≡ CandidateKind.Section }
+    requires run { IsRun material.numbers.graph.now key run.now }
+    ensures { IfOk result (λ edge. (weak : List ℕ) → IsValueOf material.entry.numbers.graph.now weak key (edge_facts edge)) }
+{
+    material.numbers.graph.facts();
+    let which = half_from(material, key.from as usize);
+    let _keys = run.len();
+    let link = section_link(
+        alloc,
+        material.numbers.graph,
+        key.source as usize,
+        which,
+        places,
+    )?;
+    Ok(FeatureEdge::DependenciesSection(link))
+}
+
+/// Returns the edge of the declarations that request a pair of nodes, whose keys are `run`. A single declaration is not collected.
 fn section_edge(
     alloc: Global,
     material: Material<'_, '_>,
@@ -227,17 +248,12 @@ fn section_edge(
     requires run { IsRun material.numbers.graph.now key run.now }
     ensures { IfOk result (λ edge. (weak : List ℕ) → IsValueOf material.entry.numbers.graph.now weak key (edge_facts edge)) }
 {
-    material.numbers.graph.facts();
-    let which = half_from(material, key.from as usize);
+    if let [only] = run {
+        let places = [only.place as usize];
+        return section_edge_at(alloc, material, key, run, &places);
+    }
     let places = places_in(alloc, run)?;
-    let link = section_link(
-        alloc,
-        material.numbers.graph,
-        key.source as usize,
-        which,
-        places.as_slice(),
-    )?;
-    Ok(FeatureEdge::DependenciesSection(link))
+    section_edge_at(alloc, material, key, run, places.as_slice())
 }
 
 /// Returns the edge of `key`, the first of the keys of its pair, `run`. If it is weak, its weak link is noted in `table`.

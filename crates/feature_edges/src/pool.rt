@@ -50,7 +50,8 @@ fn fixed_place(edge: &FeatureEdge) -> Option<u32>
         FeatureEdge::NamedFeature => Some(1),
         FeatureEdge::DependenciesSection(_)
         | FeatureEdge::NamedFeatureDepColon(_)
-        | FeatureEdge::NamedFeatureWithSlash { .. } => None,
+        | FeatureEdge::NamedFeatureWithSlash(_)
+        | FeatureEdge::NamedFeatureWithWeakSlash(_) => None,
     }
 }
 

@@ -7,10 +7,10 @@ ghost use Rattle.feature_edges.specs.Edges.{AreBuilt};
 ghost use Rattle.feature_links.specs.Facts.{EdgeFacts};
 ghost use Rattle.feature_edges.specs.inner.Alike.{AreNear, IsAdded, IsAppended};
 ghost use Rattle.feature_edges.specs.inner.Keys.{AreLeast};
-ghost use Rattle.feature_edges.specs.inner.Made.{IsMaterial, IsRun, AreMade, AreMadeBelow, AreWholeKeys, edge_end};
+ghost use Rattle.feature_edges.specs.inner.Made.{IsMaterial, IsRun, AreMade, AreMadeBefore, AreMadeBelow, AreWholeKeys, edge_end};
 ghost use Rattle.feature_links.specs.NamedLinks.{AreNamedLinks};
-ghost use Rattle.feature_edges.specs.inner.Collects.{AreWarningsBelow};
-ghost use Rattle.feature_edges.specs.Nodes.{first_nodes, node_packages};
+ghost use Rattle.feature_edges.specs.inner.Collects.{AreWarningsBelow, of_features};
+ghost use Rattle.feature_edges.specs.Nodes.{features_in, first_node, first_nodes, node_packages};
 ghost use Rattle.feature_edges.specs.Pairs.{IsPairList};
 ghost use Rattle.feature_edges.specs.inner.Parts.{IsOfTables};
 ghost use Rattle.feature_edges.specs.Warnings.{warnings, warnings_in};
@@ -18,7 +18,7 @@ ghost use Rattle.feature_links.specs.Values.{edge_facts};
 ghost use Rattle.guppy_packages.specs.Tables.{Tables};
 
 use crate::candidate::{CandidateKind, Key, split_run};
-use crate::collect::{Collected, collect_package};
+use crate::collect::{Collected, collect_around, collect_feature};
 use crate::gates::{entries_of, note_gate};
 use crate::make::{Material, edge_of};
 use crate::near_keys::NearKeys;
@@ -58,10 +58,11 @@ pub(crate) struct MadeEdges {
     weak: IndexMap<usize, usize>,
 }
 
-/// Buffers that packages share: a package's keys beside the warnings so far, and recent keys.
+/// Buffers that packages share: a package's keys beside the warnings so far, keys that wait for those of features, and recent keys.
 #[derive(Drop)]
 struct Room {
     collected: Collected,
+    later: Vec<Key>,
     near: NearKeys,
 }
 
@@ -74,6 +75,7 @@ impl Room {
         let near = NearKeys::new(alloc)?;
         Ok(Room {
             collected: Collected::new(alloc),
+            later: Vec::new(alloc),
             near,
         })
     }
@@ -182,33 +184,68 @@ impl MadeEdges {
         Ok(())
     }
 
-    /// Appends the edges of the nodes of package `ix`, and its warnings.
-    fn add_package(
+    /// Appends the edges of the named features of package `ix`, and the warnings of their items.
+    fn add_features(
         &mut self,
         alloc: Global,
-        numbers: Numbers<'_>,
-        packages: &[u32],
-        groups: &LinkGroups<'_>,
+        material: Material<'_, '_>,
         room: &mut Room,
         ix: usize,
     ) -> Result<(), AllocError>
-        requires packages { packages.now ≡ node_packages numbers.graph.now }
-        requires links { AreNamedLinks numbers.graph.now groups.now }
-        requires package { ix < length numbers.graph.now.packages }
-        requires made { AreMadeBelow numbers.graph.now ix self.old }
-        requires warnings { AreWarningsBelow numbers.graph.now ix room.old.collected }
-        requires near { AreNear numbers.graph.now self.now room.now.near }
-        ensures made { OnOk result (AreMadeBelow numbers.entry.graph.now (ix + 1) self.new) }
-        ensures warnings { OnOk result (AreWarningsBelow numbers.entry.graph.now (ix + 1) room.new.collected) }
-        ensures near { OnOk result (AreNear numbers.entry.graph.now self.new room.new.near) }
+        requires material { IsMaterial material }
+        requires package { ix < length material.numbers.graph.now.packages }
+        requires made { AreMadeBefore material.numbers.graph.now (first_node material.numbers.graph.now ix + 1) self.old }
+        requires near { AreNear material.numbers.graph.now self.now room.now.near }
+        ensures made { OnOk result (AreMadeBefore material.entry.numbers.graph.now (first_node material.entry.numbers.graph.now ix + 1 + features_in material.entry.numbers.graph.now ix) self.new) }
+        ensures items { OnOk result (warnings_in room.new.collected.item_warnings ≡ warnings_in room.old.collected.item_warnings ++ of_features material.entry.numbers.graph.now ix) }
+        ensures names { OnOk result (warnings_in room.new.collected.name_warnings ≡ warnings_in room.old.collected.name_warnings) }
+        ensures later { room.new.later ≡ room.old.later }
+        ensures near { OnOk result (AreNear material.entry.numbers.graph.now self.new room.new.near) }
     {
-        collect_package(&mut room.collected, alloc, numbers, groups, ix)?;
-        let material = Material {
-            numbers,
-            packages,
-            groups,
-        };
+        let features = material.numbers.graph.package(ix).named_features();
+        for place in 0..features.len() {
+            collect_feature(
+                &mut room.collected,
+                alloc,
+                material.numbers,
+                material.groups,
+                ix,
+                place,
+            )?;
+            self.add_all(alloc, material, &mut room.near, &room.collected.keys)?;
+        }
+        Ok(())
+    }
+
+    /// Appends the edges of the nodes of package `ix`, in the order of the nodes, and its warnings.
+    fn add_package(
+        &mut self,
+        alloc: Global,
+        material: Material<'_, '_>,
+        room: &mut Room,
+        ix: usize,
+    ) -> Result<(), AllocError>
+        requires material { IsMaterial material }
+        requires package { ix < length material.numbers.graph.now.packages }
+        requires made { AreMadeBelow material.numbers.graph.now ix self.old }
+        requires warnings { AreWarningsBelow material.numbers.graph.now ix room.old.collected }
+        requires near { AreNear material.numbers.graph.now self.now room.now.near }
+        ensures made { OnOk result (AreMadeBelow material.entry.numbers.graph.now (ix + 1) self.new) }
+        ensures warnings { OnOk result (AreWarningsBelow material.entry.numbers.graph.now (ix + 1) room.new.collected) }
+        ensures near { OnOk result (AreNear material.entry.numbers.graph.now self.new room.new.near) }
+    {
+        material.numbers.graph.facts();
+        collect_around(
+            &mut room.collected,
+            &mut room.later,
+            alloc,
+            material.numbers,
+            material.groups,
+            ix,
+        )?;
         self.add_all(alloc, material, &mut room.near, &room.collected.keys)?;
+        self.add_features(alloc, material, room, ix)?;
+        self.add_all(alloc, material, &mut room.near, &room.later)?;
         Ok(())
     }
 
@@ -216,22 +253,19 @@ impl MadeEdges {
     fn add_packages(
         &mut self,
         alloc: Global,
-        numbers: Numbers<'_>,
-        packages: &[u32],
-        groups: &LinkGroups<'_>,
+        material: Material<'_, '_>,
         room: &mut Room,
     ) -> Result<(), AllocError>
-        requires packages { packages.now ≡ node_packages numbers.graph.now }
-        requires links { AreNamedLinks numbers.graph.now groups.now }
-        requires made { AreMadeBelow numbers.graph.now 0 self.old }
-        requires warnings { AreWarningsBelow numbers.graph.now 0 room.old.collected }
-        requires near { AreNear numbers.graph.now self.now room.now.near }
-        ensures made { OnOk result (AreMadeBelow numbers.entry.graph.now (length numbers.entry.graph.now.packages) self.new) }
-        ensures warnings { OnOk result (AreWarningsBelow numbers.entry.graph.now (length numbers.entry.graph.now.packages) room.new.collected) }
-        ensures near { OnOk result (AreNear numbers.entry.graph.now self.new room.new.near) }
+        requires material { IsMaterial material }
+        requires made { AreMadeBelow material.numbers.graph.now 0 self.old }
+        requires warnings { AreWarningsBelow material.numbers.graph.now 0 room.old.collected }
+        requires near { AreNear material.numbers.graph.now self.now room.now.near }
+        ensures made { OnOk result (AreMadeBelow material.entry.numbers.graph.now (length material.entry.numbers.graph.now.packages) self.new) }
+        ensures warnings { OnOk result (AreWarningsBelow material.entry.numbers.graph.now (length material.entry.numbers.graph.now.packages) room.new.collected) }
+        ensures near { OnOk result (AreNear material.entry.numbers.graph.now self.new room.new.near) }
     {
-        for ix in 0..numbers.graph.package_count() {
-            self.add_package(alloc, numbers, packages, groups, room, ix)?;
+        for ix in 0..material.numbers.graph.package_count() {
+            self.add_package(alloc, material, room, ix)?;
         }
         Ok(())
     }
@@ -252,7 +286,12 @@ impl MadeEdges {
     {
         numbers.graph.facts();
         let mut room = Room::new(alloc)?;
-        self.add_packages(alloc, numbers, packages, groups, &mut room)?;
+        let material = Material {
+            numbers,
+            packages,
+            groups,
+        };
+        self.add_packages(alloc, material, &mut room)?;
         room.collected.into_warnings()
     }
 }
@@ -275,15 +314,15 @@ fn edges_with_capacity(alloc: Global, room: usize, own: usize) -> Result<MadeEdg
 /// The capacity up to which a refused request means that memory ran out.
 const LITTLE_ROOM: usize = 1_024;
 
-/// Returns no edges, with capacity for one edge per node and four per link, and for two distinct edges per link. Most graphs need
+/// Returns no edges, with capacity for one edge per node and four per link, and for three distinct edges per link. Most graphs need
 /// no more, and unused capacity is never touched. If that much is refused, the capacity is small.
 fn no_edges(alloc: Global, nodes: usize, links: usize) -> Result<MadeEdges, AllocError>
     ensures edges { IfOk result (λ made. made.edges ≡ []) }
     ensures ends { IfOk result (λ made. made.ends ≡ []) }
     ensures weak { IfOk result (λ made. made.weak.entries ≡ []) }
 {
-    let own = links.saturating_mul(2);
-    let room = nodes.saturating_add(own.saturating_mul(2));
+    let own = links.saturating_mul(3);
+    let room = nodes.saturating_add(links.saturating_mul(4));
     match edges_with_capacity(alloc, room, own) {
         Err(_) if room > LITTLE_ROOM => edges_with_capacity(alloc, 0, 0),
         made => made,

@@ -15,7 +15,7 @@ pub use explain::Explained;
 pub use explain::reason::Reason;
 pub use feature_core::{
     ConditionalLinkImpl, EdgeChoice, EnabledLink, Error, FeatureEdge, FeatureGraphData,
-    FeatureGraphWarning, SlashForm, WeakIndex, WeakSlashImpl,
+    FeatureGraphWarning, WeakIndex, WeakSlashImpl,
 };
 pub use feature_labels::{
     DisplayFeatures, FeatureId, FeatureKind, FeatureLabel, FeatureList, LinkDeclarations,

@@ -1,7 +1,7 @@
 pub mod ElementLemmas
 pub mod LinkLemmas
 pub mod GroupedLinks
-pub mod NamedEntryLemmas
-pub mod RowLemmas
+pub mod NameLemmas
+pub mod LinkOrderLemmas
 pub mod StatusLemmas
 pub mod SectionLemmas

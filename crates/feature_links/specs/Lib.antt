@@ -1,6 +1,5 @@
 pub mod Links
 pub mod Facts
 pub mod Values
-pub mod NumbersInRow
 pub mod NamedLinks
 pub mod inner

@@ -9,10 +9,8 @@ use Rattle.feature_links.specs.declared.link.ConditionalLinkImpl.{ConditionalLin
 use Rattle.feature_links.specs.declared.link.EnabledLink.{EnabledLink}
 use Rattle.feature_links.specs.declared.edge.WeakIndex.{WeakIndex}
 use Rattle.feature_links.specs.declared.edge.WeakSlashImpl.{WeakSlashImpl}
-use Rattle.feature_links.specs.declared.edge.SlashForm.{SlashForm}
-use Rattle.feature_links.specs.declared.edge.SlashForm.TheVariants.{Strong, Weak}
 use Rattle.feature_links.specs.declared.edge.FeatureEdge.{FeatureEdge}
-use Rattle.feature_links.specs.declared.edge.FeatureEdge.TheVariants.{FeatureToBase, DependenciesSection, NamedFeature, NamedFeatureDepColon, NamedFeatureWithSlash}
+use Rattle.feature_links.specs.declared.edge.FeatureEdge.TheVariants.{FeatureToBase, DependenciesSection, NamedFeature, NamedFeatureDepColon, NamedFeatureWithSlash, NamedFeatureWithWeakSlash}
 use Rattle.feature_links.specs.Links.{LinkFacts}
 use Rattle.feature_links.specs.Facts.{WeakFacts, EdgeFacts, base_edge, feature_edge, colon_edge, strong_edge, weak_edge, section_edge}
 
@@ -50,22 +48,17 @@ half_facts half = option_map link_facts half.link
 abbrev pub weak_number : WeakIndex → ℕ
 weak_number index = index.0
 
+-- The full link of a weak edge.
+abbrev pub weak_link_of : WeakSlashImpl → LinkFacts
+weak_link_of weak = link_facts weak.link
+
 abbrev pub weak_facts_of : WeakSlashImpl → WeakFacts
 weak_facts_of weak = record { index = weak_number weak.index; required = half_facts weak.required; optional = half_facts weak.optional }
-
--- The halves, if the form is weak.
-abbrev pub slash_facts : SlashForm → Option WeakFacts
-slash_facts Strong = None
-slash_facts (Weak weak) = Some (weak_facts_of weak.value)
-
--- An edge with a `/`: strong if it has no halves.
-abbrev pub slash_edge : LinkFacts → Option WeakFacts → EdgeFacts
-slash_edge link None = strong_edge link
-slash_edge link (Some weak) = weak_edge link weak
 
 abbrev pub edge_facts : FeatureEdge → EdgeFacts
 edge_facts FeatureToBase = base_edge
 edge_facts (DependenciesSection link) = section_edge (link_facts link)
 edge_facts NamedFeature = feature_edge
 edge_facts (NamedFeatureDepColon link) = colon_edge (link_facts link)
-edge_facts (NamedFeatureWithSlash link slash) = slash_edge (link_facts link) (slash_facts slash)
+edge_facts (NamedFeatureWithSlash link) = strong_edge (link_facts link)
+edge_facts (NamedFeatureWithWeakSlash weak) = weak_edge (weak_link_of weak.value) (weak_facts_of weak.value)

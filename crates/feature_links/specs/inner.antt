@@ -1,2 +1,2 @@
 pub mod Collected
-pub mod NamedEntries
+pub mod LinkOrder

@@ -2,7 +2,7 @@
 ghost use Rattle.std.specs.Prelude.{◌≡◌, IfOk, option_copied};
 ghost use Rattle.std.specs.Option.{option_map};
 ghost use Rattle.feature_links.specs.Facts.{full_link, is_dev_edge, halves_of, link_at, has_present_link};
-ghost use Rattle.feature_links.specs.Values.{link_facts, half_facts, weak_facts_of, weak_number, slash_facts, edge_facts};
+ghost use Rattle.feature_links.specs.Values.{link_facts, half_facts, weak_facts_of, weak_number, weak_link_of, edge_facts};
 
 use crate::link::{ConditionalLinkImpl, EnabledLink};
 use std::alloc::{AllocError, Global};
@@ -28,26 +28,41 @@ impl WeakIndex {
     }
 }
 
-/// The two halves of a weak edge: over the required and over the optional declarations of its package link.
+/// The link of a weak edge, and its two halves: over the required and over the optional declarations of its package link.
 #[derive(Debug, Drop)]
 pub struct WeakSlashImpl {
+    link: ConditionalLinkImpl,
     required: EnabledLink,
     optional: EnabledLink,
     index: WeakIndex,
 }
 
 impl WeakSlashImpl {
-    /// Returns the weak edge with these halves and the weak link `index`.
-    pub fn new(required: EnabledLink, optional: EnabledLink, index: WeakIndex) -> Self
+    /// Returns the weak edge with the link `link`, these halves and the weak link `index`.
+    pub fn new(
+        link: ConditionalLinkImpl,
+        required: EnabledLink,
+        optional: EnabledLink,
+        index: WeakIndex,
+    ) -> Self
+        ensures link { weak_link_of result ≡ link_facts link }
         ensures required { (weak_facts_of result).required ≡ half_facts required }
         ensures optional { (weak_facts_of result).optional ≡ half_facts optional }
         ensures index { (weak_facts_of result).index ≡ weak_number index }
     {
         WeakSlashImpl {
+            link,
             required,
             optional,
             index,
         }
+    }
+
+    /// Returns the edge's link, over all declarations of its package link.
+    pub fn link(&self) -> &ConditionalLinkImpl
+        ensures { link_facts result.now ≡ weak_link_of self.now }
+    {
+        &self.link
     }
 
     /// Returns the half over the required declarations.
@@ -73,39 +88,18 @@ impl WeakSlashImpl {
 
     /// Returns an equal weak edge. `AllocError` is the only error.
     pub fn try_clone(&self, alloc: Global) -> Result<WeakSlashImpl, AllocError>
-        ensures { IfOk result (λ weak. weak_facts_of weak ≡ weak_facts_of self.now) }
+        ensures link { IfOk result (λ weak. weak_link_of weak ≡ weak_link_of self.now) }
+        ensures halves { IfOk result (λ weak. weak_facts_of weak ≡ weak_facts_of self.now) }
     {
+        let link = self.link.try_clone(alloc)?;
         let required = self.required.try_clone(alloc)?;
         let optional = self.optional.try_clone(alloc)?;
         Ok(WeakSlashImpl {
+            link,
             required,
             optional,
             index: self.index,
         })
-    }
-}
-
-/// The form of an item with a `/`: strong or weak.
-#[derive(Debug, Drop)]
-pub enum SlashForm {
-    /// The item requests the dependency.
-    Strong,
-    /// The item's optional half waits until its optional dependency is reached.
-    Weak(Box<WeakSlashImpl>),
-}
-
-impl SlashForm {
-    /// Returns an equal form. `AllocError` is the only error.
-    pub fn try_clone(&self, alloc: Global) -> Result<SlashForm, AllocError>
-        ensures { IfOk result (λ form. slash_facts form ≡ slash_facts self.now) }
-    {
-        match self {
-            SlashForm::Strong => Ok(SlashForm::Strong),
-            SlashForm::Weak(weak) => {
-                let weak = weak.try_clone(alloc)?;
-                Ok(SlashForm::Weak(Box::new(alloc, weak)?))
-            }
-        }
     }
 }
 
@@ -120,11 +114,10 @@ pub enum FeatureEdge {
     NamedFeature,
     /// From a named feature with an item `dep:d` to the optional dependency `d`.
     NamedFeatureDepColon(ConditionalLinkImpl),
-    /// From a named feature with an item `d/g` or `d?/g`.
-    NamedFeatureWithSlash {
-        link: ConditionalLinkImpl,
-        slash: SlashForm,
-    },
+    /// From a named feature with an item `d/g`, or with an item `d?/g` over a link without optional declarations.
+    NamedFeatureWithSlash(ConditionalLinkImpl),
+    /// From a named feature with an item `d?/g`. The edge's optional half waits until its optional dependency is reached.
+    NamedFeatureWithWeakSlash(Box<WeakSlashImpl>),
 }
 
 /// The edges to follow.
@@ -145,7 +138,8 @@ impl FeatureEdge {
             FeatureEdge::FeatureToBase | FeatureEdge::NamedFeature => None,
             FeatureEdge::DependenciesSection(link)
             | FeatureEdge::NamedFeatureDepColon(link)
-            | FeatureEdge::NamedFeatureWithSlash { link, slash: _ } => Some(link),
+            | FeatureEdge::NamedFeatureWithSlash(link) => Some(link),
+            FeatureEdge::NamedFeatureWithWeakSlash(weak) => Some(weak.link()),
         }
     }
 
@@ -154,10 +148,7 @@ impl FeatureEdge {
         ensures { option_map weak_facts_of (option_copied result) ≡ halves_of (edge_facts self.now) }
     {
         match self {
-            FeatureEdge::NamedFeatureWithSlash {
-                link: _,
-                slash: SlashForm::Weak(weak),
-            } => Some(weak),
+            FeatureEdge::NamedFeatureWithWeakSlash(weak) => Some(weak),
             _ => None,
         }
     }
@@ -215,10 +206,14 @@ impl FeatureEdge {
                 let link = link.try_clone(alloc)?;
                 Ok(FeatureEdge::NamedFeatureDepColon(link))
             }
-            FeatureEdge::NamedFeatureWithSlash { link, slash } => {
+            FeatureEdge::NamedFeatureWithSlash(link) => {
                 let link = link.try_clone(alloc)?;
-                let slash = slash.try_clone(alloc)?;
-                Ok(FeatureEdge::NamedFeatureWithSlash { link, slash })
+                Ok(FeatureEdge::NamedFeatureWithSlash(link))
+            }
+            FeatureEdge::NamedFeatureWithWeakSlash(weak) => {
+                let weak = weak.try_clone(alloc)?;
+                let weak = Box::new(alloc, weak)?;
+                Ok(FeatureEdge::NamedFeatureWithWeakSlash(weak))
             }
         }
     }

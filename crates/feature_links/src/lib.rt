@@ -4,9 +4,10 @@
 mod edge;
 mod link;
 mod link_groups;
-mod named_row;
+mod links_by_name;
 
-pub use edge::{EdgeChoice, FeatureEdge, SlashForm, WeakIndex, WeakSlashImpl};
+pub use edge::{EdgeChoice, FeatureEdge, WeakIndex, WeakSlashImpl};
 pub use link::from_declarations::{half_of, is_any_included, link_of, named_link, section_link};
 pub use link::{ConditionalLinkImpl, EnabledLink};
-pub use link_groups::{LinkGroups, named_links, numbers_of};
+pub use link_groups::LinkGroups;
+pub use links_by_name::{named_links, numbers_of};

@@ -1,74 +1,98 @@
-//! The links of each package under each name.
-ghost use Rattle.std.specs.Prelude.{◌≡◌, IfOk, OnOk};
-ghost use Rattle.std.specs.List.Sorted.{IsSortedByKey};
+//! Numbers of links in the order of their packages and names.
+ghost use Rattle.std.specs.Prelude.{◌≡◌, ◌<◌, ◌≤◌, ℕ, filter, get_or, true, false, length, IfOk, OnOk};
 ghost use Rattle.std.specs.Cmp.Lexicographic.{slice_cmp};
-ghost use Rattle.std.specs.Ordering.{nat_cmp};
-ghost use Rattle.guppy_packages.specs.Metadata.{package_graph_of, package_number_of};
-ghost use Rattle.guppy_packages.specs.Rows.{Text};
-ghost use Rattle.feature_links.specs.NumbersInRow.{numbers_named};
-ghost use Rattle.feature_links.specs.NamedLinks.{AreNamedLinks, link_numbers, numbers_under};
+ghost use Rattle.std.specs.List.{range_with_len};
+ghost use Rattle.std.specs.Ordering.{is_lt, nat_cmp};
+ghost use Rattle.std.specs.Str.{bytes_eq};
+ghost use Rattle.feature_links.specs.inner.LinkOrder.{AreByName, AreOrdered, IsPartSorted, link_name};
 
-use crate::named_row::{NamedRows, OrderedRows};
-use guppy_packages::{PackageGraph, PackageMetadata};
+use guppy_packages::PackageGraph;
 use std::alloc::{AllocError, Global};
+use std::cmp::Ordering;
+use std::ops::Range;
 
-/// The links of each package by name: for each package a row of names in byte order, with the number of a link beside each name.
-/// Links of one name ascend.
-pub type LinkGroups<'g> = OrderedRows<'g>;
+/// The links of each package by name. At the places `direct_links()` of a package, `numbers` contains the numbers of these links, by
+/// name in byte order. Links of one name ascend.
+#[derive(Drop)]
+pub struct LinkGroups<'g> {
+    pub(crate) graph: &'g PackageGraph,
+    pub(crate) numbers: Vec<usize>,
+    pub(crate) ghost by_name: { AreByName graph.now (length graph.now.packages) numbers.items },
+}
 
-/// Sets `entries` to the names and numbers of the package's links, by number.
-fn fill_entries<'g>(
-    entries: &mut Vec<(&'g str, usize)>,
-    package: PackageMetadata<'g>,
-) -> Result<(), AllocError>
-    ensures { OnOk result ((name : Text) → numbers_named name entries.new.items ≡ link_numbers (package_graph_of «package».entry) (package_number_of «package».entry) name) }
+/// Returns the name of link `ix`, or an empty name if there is no such link.
+fn dep_name_at(graph: &PackageGraph, ix: usize) -> &str
+    ensures { result.now ≡ link_name graph.now ix }
 {
-    let graph = package.graph();
-    let links = package.direct_links();
-    entries.clear();
-    for ix in links.start..links.end {
-        entries.push((graph.link(ix).dep_name(), ix))?;
+    if ix < graph.link_count() {
+        graph.link(ix).dep_name()
+    } else {
+        ""
     }
-    Ok(())
 }
 
-/// Sorts `entries` by name; entries of one name keep their order.
-fn sort_entries<'g>(entries: &mut Vec<(&'g str, usize)>) -> Result<(), AllocError>
-    ensures sorted { OnOk result (IsSortedByKey (λ e. e.0.now) (slice_cmp nat_cmp) entries.new.items) }
-    ensures same { (name : Text) → numbers_named name entries.new.items ≡ numbers_named name entries.old.items }
+/// Returns the numbers below `count`, ascending.
+pub(crate) fn numbers_below(alloc: Global, count: usize) -> Result<Vec<usize>, AllocError>
+    ensures { IfOk result (λ made. made.items ≡ range_with_len 0 count) }
 {
-    entries.sort_by_key(|entry| entry.0)
-}
-
-/// Sets `entries` to the names and numbers of the package's links, by name.
-fn fill_in_order<'g>(
-    entries: &mut Vec<(&'g str, usize)>,
-    package: PackageMetadata<'g>,
-) -> Result<(), AllocError>
-    ensures sorted { OnOk result (IsSortedByKey (λ e. e.0.now) (slice_cmp nat_cmp) entries.new.items) }
-    ensures links { OnOk result ((name : Text) → numbers_named name entries.new.items ≡ link_numbers (package_graph_of «package».entry) (package_number_of «package».entry) name) }
-{
-    fill_entries(entries, package)?;
-    sort_entries(entries)
-}
-
-/// Returns the links of `graph`, grouped by the package that they leave and by name. `AllocError` is the only error.
-pub fn named_links(alloc: Global, graph: &PackageGraph) -> Result<LinkGroups<'_>, AllocError>
-    ensures { IfOk result (λ groups. AreNamedLinks graph.now groups) }
-{
-    graph.facts();
-    let mut rows = NamedRows::with_room(alloc, graph.package_count(), graph.link_count())?;
-    let mut entries = Vec::new(alloc);
-    for ix in 0..graph.package_count() {
-        fill_in_order(&mut entries, graph.package(ix))?;
-        rows.push(entries.as_slice())?;
+    let mut numbers = Vec::with_capacity(alloc, count)?;
+    for ix in 0..count {
+        numbers.push(ix)?;
     }
-    Ok(OrderedRows { rows })
+    Ok(numbers)
 }
 
-/// Returns the numbers of the links that leave package `from` under `name`, ascending.
-pub fn numbers_of<'a>(groups: &'a LinkGroups<'_>, from: usize, name: &str) -> &'a [usize]
-    ensures { result.now ≡ numbers_under groups.now from name.now }
+/// Sorts the links in `range` of `numbers` by name; links of one name keep their order.
+pub(crate) fn sort_part(
+    alloc: Global,
+    graph: &PackageGraph,
+    numbers: &mut [usize],
+    range: Range<usize>,
+) -> Result<(), AllocError>
+    requires ascends { range.start ≤ range.end }
+    requires within { range.end ≤ length numbers.old }
+    ensures { OnOk result (IsPartSorted graph.now range.start range.end numbers.old numbers.new) }
 {
-    groups.rows.under(from, name)
+    let (_, rest) = numbers.split_at_mut(range.start);
+    let (part, _) = rest.split_at_mut(range.end - range.start);
+    part.sort_by(
+        alloc,
+        |x: &usize, y: &usize| -> Ordering
+            ensures { result ≡ slice_cmp nat_cmp (link_name graph.entry.now x.now) (link_name graph.entry.now y.now) }
+        { dep_name_at(graph, *x).cmp(dep_name_at(graph, *y)) },
+    )
+}
+
+/// Returns the first place from `start` on of a link with a name other than `name`, or the number of places.
+fn end_place(graph: &PackageGraph, numbers: &[usize], start: usize, name: &str) -> usize
+    requires { start ≤ length numbers.now }
+    ensures from { start ≤ result }
+    ensures within { result ≤ length numbers.now }
+    ensures inside { (k : ℕ) (d : ℕ) → start ≤ k → k < result → bytes_eq name.now (link_name graph.now (get_or numbers.now k d)) ≡ true }
+    ensures ended { (d : ℕ) → result < length numbers.now → bytes_eq name.now (link_name graph.now (get_or numbers.now result d)) ≡ false }
+{
+    for place in start..numbers.len() {
+        if name != dep_name_at(graph, numbers[place]) {
+            return place;
+        }
+    }
+    numbers.len()
+}
+
+/// Returns those of `numbers` whose links have the name `name`; the links are ordered by name.
+pub(crate) fn numbers_named<'a>(
+    graph: &PackageGraph,
+    numbers: &'a [usize],
+    name: &str,
+) -> &'a [usize]
+    requires { AreOrdered graph.now numbers.now }
+    ensures { result.now ≡ filter (λ k. bytes_eq name.now (link_name graph.now k)) numbers.now }
+{
+    let first = numbers.partition_point(
+        |ix: &usize| -> bool
+            ensures { result ≡ is_lt (slice_cmp nat_cmp (link_name graph.entry.now ix.now) name.entry.now) }
+        { dep_name_at(graph, *ix).cmp(name).is_lt() },
+    );
+    let end = end_place(graph, numbers, first, name);
+    &numbers[first..end]
 }

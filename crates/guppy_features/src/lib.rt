@@ -16,7 +16,7 @@ pub use feature_graph::{
     FeatureMetadata, FeatureQuery, FeatureSet, Features, IdsByNode, InitialPackages,
     LinkDeclarations, Links, NamedFeature, NamedFeatureDep, PackageGraph, PackageId, PackageLink,
     PackageLinks, PackageMetadata, PackageSet, PackagesWithFeatures, PlatformStatus,
-    PlatformStatusImpl, Reason, RootFeatures, RootIds, Row, RowError, RowFault, SlashForm, Spec,
+    PlatformStatusImpl, Reason, RootFeatures, RootIds, Row, RowError, RowFault, Spec,
     StandardFeatures, UnknownPackageId, WeakIndex, WeakSlashImpl, feature_list, laws,
 };
 pub use feature_labels::feature_list::{IntoIter, Iter, NamedFeatures, OptionalDeps};

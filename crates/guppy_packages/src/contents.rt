@@ -4,6 +4,7 @@ ghost use Rattle.std.specs.Prelude.{◌≡◌, length};
 use crate::declarations::Declarations;
 use crate::name_set::NameSet;
 use crate::named_feature::NamedFeature;
+use crate::optional_names::OptionalNames;
 use crate::text_run::TextRun;
 use std::fmt;
 
@@ -12,7 +13,7 @@ use std::fmt;
 pub struct PackageData {
     pub(crate) in_workspace: bool,
     pub(crate) features: NameSet<NamedFeature>,
-    pub(crate) optional_names: NameSet<String>,
+    pub(crate) optional_names: OptionalNames,
 }
 
 /// A link: the numbers of the packages that it leaves and leads to, and its data.

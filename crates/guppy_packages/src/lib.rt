@@ -17,6 +17,7 @@ mod named_feature;
 mod named_feature_dep;
 mod named_list;
 mod narrow;
+mod optional_names;
 mod package_graph;
 mod package_id;
 mod package_link;

@@ -3,8 +3,9 @@ use Rattle.std.specs.Prelude.{◌≡◌, ℕ, List, [], ◌++◌, ◌==◌, nat_
 use Rattle.std.specs.List.{enumerate_from}
 use Rattle.std.specs.Option.{option_map_or}
 use Rattle.guppy_packages.specs.Rows.{Text}
-use Rattle.guppy_packages.specs.Tables.{LinkTable, Tables}
-use Rattle.feature_edges.specs.Warnings.{Warning, lack_over, of_package, of_link, warnings_in}
+use Rattle.guppy_packages.specs.Items.{item_of}
+use Rattle.guppy_packages.specs.Tables.{FeatureTable, LinkTable, PackageTable, Tables}
+use Rattle.feature_edges.specs.Warnings.{Warning, lack_over, of_item, of_package, of_link, warnings_in}
 use Rattle.feature_edges.specs.inner.Adds.{Adds}
 use Rattle.feature_edges.specs.declared.candidate.Key.{Key}
 use Rattle.feature_edges.specs.declared.collect.Collected.{Collected}
@@ -25,6 +26,18 @@ links_from t p = filter (λ link. link.from == p) t.links
 
 abbrev pub links_below : Tables → ℕ → List LinkTable
 links_below t p = filter (λ link. nat_lt link.from p) t.links
+
+-- The warnings of the items of feature `f` of package `p`.
+abbrev pub of_feature : Tables → ℕ → PackageTable → FeatureTable → List Warning
+of_feature t p table f = flat_map (λ text. of_item t p table f.name (item_of text)) f.items
+
+-- The warnings of the items of named feature `k` of package `p`.
+abbrev pub of_feature_at : Tables → ℕ → ℕ → List Warning
+of_feature_at t p k = option_map_or (λ table. option_map_or (of_feature t p table) (slice_get table.features k) []) (slice_get t.packages p) []
+
+-- The warnings of the items of all features of package `p`.
+abbrev pub of_features : Tables → ℕ → List Warning
+of_features t p = option_map_or (λ table. of_package t (p, table)) (slice_get t.packages p) []
 
 -- The warnings are those of the items of the packages before `p`, and of the names that declarations of their links list.
 pub record AreWarningsBelow (t : Tables) (p : ℕ) (collected : Collected) : Type 0 where

@@ -1,15 +1,15 @@
 -- The edges of keys, as they are built.
-use Rattle.std.specs.Prelude.{◌≡◌, ℕ, ◌<◌, ◌↔◌, List, ◌++◌, Contains, AllPairs, Some, slice_get, length, map, not}
+use Rattle.std.specs.Prelude.{◌≡◌, ℕ, ◌<◌, ◌≤◌, ◌↔◌, List, ◌++◌, Contains, AllPairs, Some, slice_get, length, map, not}
 use Rattle.std.specs.List.{zip}
 use Rattle.guppy_support.specs.declared.digraph.Edge.{Edge as End}
 use Rattle.guppy_packages.specs.Tables.{Tables}
-use Rattle.feature_edges.specs.Nodes.{node_packages}
+use Rattle.feature_edges.specs.Nodes.{first_node, node_packages}
 use Rattle.feature_edges.specs.Candidates.{Edge, Candidate}
 use Rattle.feature_links.specs.Facts.{EdgeFacts, is_dev_edge}
 use Rattle.feature_edges.specs.Edges.{facts_of, first_ones}
 use Rattle.feature_edges.specs.inner.Keys.{kind_of, IsNoLater, IsPair, IsBefore, AreLeast}
 use Rattle.feature_links.specs.NamedLinks.{AreNamedLinks}
-use Rattle.feature_edges.specs.inner.Parts.{IsOfSource, IsOfTables}
+use Rattle.feature_edges.specs.inner.Parts.{IsOfTables}
 use Rattle.feature_edges.specs.declared.candidate.Key.{Key}
 use Rattle.feature_edges.specs.inner.Weak.{AreGates, weak_sources}
 use Rattle.feature_edges.specs.declared.make.Material.{Material}
@@ -54,10 +54,14 @@ pub record IsKept (t : Tables) (kept : List Key) : Type 0 where
 abbrev pub edge_end : Key → EdgeFacts → End
 edge_end k f = record { from = k.from; to = k.to; non_dev = not (is_dev_edge f) }
 
--- `kept` are the least keys of the packages before `p`.
-pub record IsKeptBelow (t : Tables) (p : ℕ) (kept : List Key) : Type 0 where
+-- The keys that start at the nodes from `n` up to, not including, `m`.
+abbrev pub AreFrom : Tables → ℕ → ℕ → List Key → Type 0
+AreFrom t n m keys = (x : Key) → Contains keys x ↔ (IsOfTables t x × (n ≤ x.from) × (x.from < m))
+
+-- `kept` are the least keys of the nodes before `n`.
+pub record IsKeptBefore (t : Tables) (n : ℕ) (kept : List Key) : Type 0 where
   pub keys : List Key
-  pub of_sources : (x : Key) → Contains keys x ↔ ((q : ℕ) × (q < p) × IsOfSource t q x)
+  pub of_nodes : AreFrom t 0 n keys
   pub least : AreLeast keys kept
 
 -- `m` is built from these keys, for any weak links that follow.
@@ -77,8 +81,12 @@ pub record AreWalked (t : Tables) (keys rest : List Key) (old new : MadeEdges) :
   pub apart : (a b : Key) → Contains front a → Contains rest b → IsBefore a b
   pub made : (done : List Key) → AreMade t done old → AreMade t (done ++ kept) new
 
--- `m` is built from the least keys of the packages before `p`.
-pub record AreMadeBelow (t : Tables) (p : ℕ) (m : MadeEdges) : Type 0 where
+-- `m` is built from the least keys of the nodes before `n`.
+pub record AreMadeBefore (t : Tables) (n : ℕ) (m : MadeEdges) : Type 0 where
   pub kept : List Key
-  pub is_kept : IsKeptBelow t p kept
+  pub is_kept : IsKeptBefore t n kept
   pub made : AreMade t kept m
+
+-- `m` is built from the least keys of the packages before `p`.
+abbrev pub AreMadeBelow : Tables → ℕ → MadeEdges → Type 0
+AreMadeBelow t p m = AreMadeBefore t (first_node t p) m

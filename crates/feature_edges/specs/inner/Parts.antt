@@ -1,5 +1,5 @@
 -- The keys that each part of the tables contributes.
-use Rattle.std.specs.Prelude.{◌≡◌, ◌≢◌, ℕ, ◌+◌, ◌<◌, ◌⊎◌, Bool, IsTrue, IsFalse, slice_get, Some, length, ◌&&◌, if◌then◌else◌}
+use Rattle.std.specs.Prelude.{◌≡◌, ◌≢◌, ℕ, ◌+◌, ◌<◌, ◌≤◌, ◌⊎◌, Bool, IsTrue, IsFalse, slice_get, Some, length, ◌&&◌, if◌then◌else◌}
 use Rattle.guppy_packages.specs.Rows.{Text, Declared}
 use Rattle.guppy_packages.specs.Tables.{FeatureTable, PackageTable, LinkTable, Tables}
 use Rattle.guppy_packages.specs.Items.{Item, feature_item, optional_item, slash_item, item_of}
@@ -50,6 +50,18 @@ IsOfItemAt t u p feature k x = (text : Text) × (slice_get feature.items k ≡ S
 abbrev pub IsOfFeatureAt : Tables → ℕ → PackageTable → ℕ → Key → Type 0
 IsOfFeatureAt t p table k x = (feature : FeatureTable) × (slice_get table.features k ≡ Some feature) × ((j : ℕ) × IsOfItemAt t (first_node t p + 1 + k) p feature j x)
 
+-- A key from a node of a package, whose place is at least `start`, to its first node.
+abbrev pub IsToFirstFrom : ℕ → ℕ → ℕ → Key → Type 0
+IsToFirstFrom start first k x = (start ≤ k) × IsToFirst first k x
+
+-- A key from node `u`, which is the feature, to the base of package `p`, or of an item of the feature.
+abbrev pub IsOfFeature : Tables → ℕ → ℕ → FeatureTable → Key → Type 0
+IsOfFeature t u p feature x = (x ≡ key u (first_node t p) FeatureToBase 0 0) ⊎ ((j : ℕ) × IsOfItemAt t u p feature j x)
+
+-- A key from an optional dependency of package `p` to its base.
+abbrev pub IsOfOptional : Tables → ℕ → PackageTable → Key → Type 0
+IsOfOptional t p table x = (k : ℕ) × (k < length (labels_of table)) × IsToFirstFrom (1 + length table.features) (first_node t p) k x
+
 -- A key of the nodes or the items of package `p`.
 abbrev pub IsOfPackageAt : Tables → ℕ → Key → Type 0
 IsOfPackageAt t p x = (table : PackageTable) × IsPackage t p table × (((k : ℕ) × (k < length (labels_of table)) × IsToFirst (first_node t p) k x) ⊎ ((k : ℕ) × IsOfFeatureAt t p table k x))
@@ -73,6 +85,10 @@ IsOfLinkAt t k x = (link : LinkTable) × IsLink t k link × ((j : ℕ) × IsOfDe
 -- Link `k` leaves package `p`.
 abbrev pub IsLinkFrom : Tables → ℕ → ℕ → Type 0
 IsLinkFrom t p k = (link : LinkTable) × IsLink t k link × (link.from ≡ p)
+
+-- A key of the links that leave package `p`, or from an optional dependency of `p` to its base.
+abbrev pub IsAround : Tables → ℕ → PackageTable → Key → Type 0
+IsAround t p table x = ((k : ℕ) × IsLinkFrom t p k × IsOfLinkAt t k x) ⊎ IsOfOptional t p table x
 
 -- A key of package `p`, or of a link that leaves it.
 abbrev pub IsOfSource : Tables → ℕ → Key → Type 0

@@ -1,21 +1,22 @@
 //! The candidates for the edges of a package's nodes, as keys, and the warnings of items, one part of the tables at a time.
-ghost use Rattle.std.specs.Prelude.{◌≡◌, ◌+◌, ◌<◌, ◌^◌, ◌↔◌, ◌&&◌, if◌then◌else◌, ℕ, AllPairs, Contains, OnOk, IsFalse, Some, [], flat_map, length};
+ghost use Rattle.std.specs.Prelude.{◌≡◌, ◌+◌, ◌++◌, ◌<◌, ◌≤◌, ◌^◌, ◌↔◌, ◌&&◌, if◌then◌else◌, ℕ, AllPairs, Contains, OnOk, IsFalse, Some, [], flat_map, length};
 ghost use Rattle.feature_labels.specs.declared.link_declarations.LinkDeclarations.TheVariants.{Optional};
 ghost use Rattle.guppy_packages.specs.Items.{feature_item, optional_item, item_of};
 ghost use Rattle.guppy_packages.specs.Metadata.{package_graph_of, package_table_of, link_table_of};
 ghost use Rattle.guppy_packages.specs.NamedFeature.{feature_table};
 ghost use Rattle.feature_labels.specs.Names.LabelName.{base, named, optional};
 ghost use Rattle.guppy_packages.specs.Rows.{Text};
-ghost use Rattle.feature_edges.specs.declared.candidate.Key.{Key as KeyValue};
 ghost use Rattle.feature_edges.specs.inner.Adds.{Adds, Below};
-ghost use Rattle.feature_edges.specs.inner.Collects.{Collects, AreWarningsBelow, lack_by};
+ghost use Rattle.feature_edges.specs.inner.Collects.{Collects, lack_by, links_from, of_feature_at};
 ghost use Rattle.feature_edges.specs.inner.Keys.{IsNoLater};
 ghost use Rattle.feature_links.specs.Links.{links_named};
 ghost use Rattle.feature_links.specs.NamedLinks.{AreNamedLinks};
-ghost use Rattle.feature_edges.specs.inner.Parts.{key, over_kind, IsToFirst, IsOver, IsOverLink, IsBeside, IsOfItem, IsOfItemAt, IsOfFeatureAt, IsOfPackageAt, IsOfSource};
-ghost use Rattle.feature_edges.specs.Warnings.{lacks_over, of_item, of_package};
+ghost use Rattle.feature_edges.specs.inner.Parts.{key, over_kind, IsToFirstFrom, IsOver, IsOverLink, IsBeside, IsOfItem, IsOfItemAt, IsOfFeature, IsOfOptional, IsAround};
+ghost use Rattle.feature_edges.specs.inner.Made.{AreFrom};
+ghost use Rattle.feature_edges.specs.Nodes.{first_node, features_in};
+ghost use Rattle.feature_edges.specs.Warnings.{lacks_over, of_item, of_link, warnings_in};
 
-use crate::candidate::{CandidateKind, Key, sort_keys, sort_keys_from};
+use crate::candidate::{CandidateKind, Key, set_aside, sort_keys};
 use crate::collect::Collected;
 use crate::collect::declarations::push_links;
 use crate::collect::package_input::PackageInput;
@@ -61,13 +62,19 @@ pub(crate) fn push_to(
     Ok(())
 }
 
-/// Appends a key to `first`, a package's base, from each of its other nodes.
-fn push_to_first(keys: &mut Vec<Key>, first: usize, count: usize) -> Result<(), AllocError>
-    requires some { 0 < count }
+/// Appends a key to `first`, a package's base, from each of its nodes from number `start` up to, not including, `count`.
+fn push_to_first(
+    keys: &mut Vec<Key>,
+    first: usize,
+    start: usize,
+    count: usize,
+) -> Result<(), AllocError>
+    requires some { 0 < start }
+    requires ascends { start ≤ count }
     requires fits { first + count < 2 ^ 64 }
-    ensures { OnOk result (Adds (Below count (IsToFirst first)) keys.old.items keys.new.items) }
+    ensures { OnOk result (Adds (Below count (IsToFirstFrom start first)) keys.old.items keys.new.items) }
 {
-    for place in 1..count {
+    for place in start..count {
         let from = first + place;
         push_to(keys, from, Some(first), CandidateKind::FeatureToBase, 0, 0)?;
     }
@@ -258,51 +265,59 @@ fn push_feature(
     Ok(())
 }
 
-/// Appends the keys of a feature's items, sorted, and the items' warnings.
-fn push_in_order(
+/// Appends the keys of a feature: that to the base of its package, and those of its items. Appends the items' warnings.
+fn push_node(
     collected: &mut Collected,
     input: PackageInput<'_, '_>,
     from: usize,
     feature: &NamedFeature,
 ) -> Result<(), AllocError>
-    ensures { OnOk result (Collects (λ x. (j : ℕ) × IsOfItemAt input.entry.numbers.graph.now from input.entry.metadata.package_ix (feature_table feature.now) j x) (flat_map (λ text. of_item input.entry.numbers.graph.now input.entry.metadata.package_ix (package_table_of input.entry.metadata) (feature_table feature.now).name (item_of text)) (feature_table feature.now).items) [] collected.old collected.new) }
+    ensures { OnOk result (Collects (IsOfFeature input.entry.numbers.graph.now from input.entry.metadata.package_ix (feature_table feature.now)) (flat_map (λ text. of_item input.entry.numbers.graph.now input.entry.metadata.package_ix (package_table_of input.entry.metadata) (feature_table feature.now).name (item_of text)) (feature_table feature.now).items) [] collected.old collected.new) }
 {
-    let start = collected.keys.len();
-    push_feature(collected, input, from, feature)?;
-    sort_keys_from(input.alloc, &mut collected.keys, start)
+    let base = input.numbers.base(input.metadata);
+    let kind = CandidateKind::FeatureToBase;
+    push_to(&mut collected.keys, from, Some(base), kind, 0, 0)?;
+    push_feature(collected, input, from, feature)
 }
 
-/// Appends the keys and warnings of the items of a package's features.
-fn push_features(collected: &mut Collected, input: PackageInput<'_, '_>) -> Result<(), AllocError>
-    ensures { OnOk result (Collects (λ x. (k : ℕ) × IsOfFeatureAt input.entry.numbers.graph.now input.entry.metadata.package_ix (package_table_of input.entry.metadata) k x) (of_package input.entry.numbers.graph.now (input.entry.metadata.package_ix, package_table_of input.entry.metadata)) [] collected.old collected.new) }
-{
-    let features = input.metadata.named_features();
-    for ix in 0..features.len() {
-        let from = input.numbers.feature(input.metadata, ix);
-        push_in_order(collected, input, from, &features[ix])?;
-    }
-    Ok(())
-}
-
-/// Appends the keys of a package's nodes to its base, and the keys and warnings of its features' items.
-fn push_package(collected: &mut Collected, input: PackageInput<'_, '_>) -> Result<(), AllocError>
-    ensures { OnOk result (Collects (IsOfPackageAt input.entry.numbers.graph.now input.entry.metadata.package_ix) (of_package input.entry.numbers.graph.now (input.entry.metadata.package_ix, package_table_of input.entry.metadata)) [] collected.old collected.new) }
+/// Appends a key to the base of a package from each of its optional dependencies.
+fn push_optional(keys: &mut Vec<Key>, input: PackageInput<'_, '_>) -> Result<(), AllocError>
+    ensures { OnOk result (Adds (IsOfOptional input.entry.numbers.graph.now input.entry.metadata.package_ix (package_table_of input.entry.metadata)) keys.old.items keys.new.items) }
 {
     let PackageInput {
         numbers,
         metadata,
         ..
     } = input;
-    let _ix = metadata.package_ix();
-    let keys = &mut collected.keys;
-    push_to_first(keys, numbers.base(metadata), numbers.node_count(metadata))?;
-    push_features(collected, input)
+    let start = 1 + metadata.named_features().len();
+    push_to_first(
+        keys,
+        numbers.base(metadata),
+        start,
+        numbers.node_count(metadata),
+    )
 }
 
-/// Sets the keys of `collected` to those of package `ix`, sorted: those of its nodes, of its features' items, and of the
-/// declarations of its links. Appends the package's warnings.
-pub(crate) fn collect_package(
+/// Sets the keys of `collected` to those of the links that leave a package and of its optional dependencies, sorted. Appends the
+/// warnings of the names that declarations list.
+fn push_around(collected: &mut Collected, input: PackageInput<'_, '_>) -> Result<(), AllocError>
+    ensures ordered { OnOk result (AllPairs IsNoLater collected.new.keys.items) }
+    ensures keys { OnOk result (Adds (IsAround input.entry.numbers.graph.now input.entry.metadata.package_ix (package_table_of input.entry.metadata)) [] collected.new.keys.items) }
+    ensures items { OnOk result (warnings_in collected.new.item_warnings ≡ warnings_in collected.old.item_warnings) }
+    ensures names { OnOk result (warnings_in collected.new.name_warnings ≡ warnings_in collected.old.name_warnings ++ flat_map (of_link input.entry.numbers.graph.now) (links_from input.entry.numbers.graph.now input.entry.metadata.package_ix)) }
+{
+    collected.keys.clear();
+    push_links(collected, input)?;
+    push_optional(&mut collected.keys, input)?;
+    sort_keys(&mut collected.keys);
+    Ok(())
+}
+
+/// Sets the keys of `collected` to those of the base of package `ix`, and `later` to those of its optional dependencies; both are
+/// sorted. Appends the warnings of the names that declarations list.
+pub(crate) fn collect_around(
     collected: &mut Collected,
+    later: &mut Vec<Key>,
     alloc: Global,
     numbers: Numbers<'_>,
     groups: &LinkGroups<'_>,
@@ -310,22 +325,53 @@ pub(crate) fn collect_package(
 ) -> Result<(), AllocError>
     requires links { AreNamedLinks numbers.graph.now groups.now }
     requires package { ix < length numbers.graph.now.packages }
-    requires warnings { AreWarningsBelow numbers.graph.now ix collected.old }
-    ensures ordered { OnOk result (AllPairs IsNoLater collected.new.keys.items) }
-    ensures keys { OnOk result ((x : KeyValue) → Contains collected.new.keys.items x ↔ IsOfSource numbers.entry.graph.now ix x) }
-    ensures warnings { OnOk result (AreWarningsBelow numbers.entry.graph.now (ix + 1) collected.new) }
+    ensures base_ordered { OnOk result (AllPairs IsNoLater collected.new.keys.items) }
+    ensures base { OnOk result (AreFrom numbers.entry.graph.now (first_node numbers.entry.graph.now ix) (first_node numbers.entry.graph.now ix + 1) collected.new.keys.items) }
+    ensures later_ordered { OnOk result (AllPairs IsNoLater later.new.items) }
+    ensures later { OnOk result (AreFrom numbers.entry.graph.now (first_node numbers.entry.graph.now ix + 1 + features_in numbers.entry.graph.now ix) (first_node numbers.entry.graph.now (ix + 1)) later.new.items) }
+    ensures items { OnOk result (warnings_in collected.new.item_warnings ≡ warnings_in collected.old.item_warnings) }
+    ensures names { OnOk result (warnings_in collected.new.name_warnings ≡ warnings_in collected.old.name_warnings ++ flat_map (of_link numbers.entry.graph.now) (links_from numbers.entry.graph.now ix)) }
 {
-    numbers.graph.facts();
     let input = PackageInput {
         alloc,
         numbers,
         groups,
         metadata: numbers.graph.package(ix),
     };
+    push_around(collected, input)?;
+    let base = numbers.base(input.metadata);
+    let _nodes = numbers.node_count(input.metadata);
+    set_aside(&mut collected.keys, later, base + 1)?;
+    Ok(())
+}
+
+/// Sets the keys of `collected` to those of named feature `place` of package `ix`, sorted. Appends the warnings of its items.
+pub(crate) fn collect_feature(
+    collected: &mut Collected,
+    alloc: Global,
+    numbers: Numbers<'_>,
+    groups: &LinkGroups<'_>,
+    ix: usize,
+    place: usize,
+) -> Result<(), AllocError>
+    requires links { AreNamedLinks numbers.graph.now groups.now }
+    requires package { ix < length numbers.graph.now.packages }
+    requires place { place < features_in numbers.graph.now ix }
+    ensures ordered { OnOk result (AllPairs IsNoLater collected.new.keys.items) }
+    ensures keys { OnOk result (AreFrom numbers.entry.graph.now (first_node numbers.entry.graph.now ix + 1 + place) (first_node numbers.entry.graph.now ix + 1 + (place + 1)) collected.new.keys.items) }
+    ensures items { OnOk result (warnings_in collected.new.item_warnings ≡ warnings_in collected.old.item_warnings ++ of_feature_at numbers.entry.graph.now ix place) }
+    ensures names { OnOk result (warnings_in collected.new.name_warnings ≡ warnings_in collected.old.name_warnings) }
+{
+    let input = PackageInput {
+        alloc,
+        numbers,
+        groups,
+        metadata: numbers.graph.package(ix),
+    };
+    let features = input.metadata.named_features();
     collected.keys.clear();
-    // sorting is faster with the links first: most keys from the base are of links, and the base is the least node
-    push_links(collected, input)?;
-    push_package(collected, input)?;
-    sort_keys(&mut collected.keys)?;
+    let from = numbers.feature(input.metadata, place);
+    push_node(collected, input, from, &features[place])?;
+    sort_keys(&mut collected.keys);
     Ok(())
 }

@@ -18,8 +18,8 @@ ghost use Rattle.feature_graph.specs.inner.Numbered.{AreNumbered, IsNumberedOffe
 
 use crate::explain::reason::Reason;
 use crate::graph::FeatureGraph;
+use feature_core::FeatureEdge;
 use feature_core::graph_laws::{edges_say, link_names_offer};
-use feature_core::{FeatureEdge, SlashForm};
 use feature_labels::{FeatureId, LinkDeclarations};
 use std::alloc::{AllocError, Global};
 use walk_engine::{Half, Step, StepReason};
@@ -41,16 +41,13 @@ fn is_offered(edge: &FeatureEdge, half: Half) -> bool
 {
     match edge {
         FeatureEdge::FeatureToBase | FeatureEdge::NamedFeature => false,
-        FeatureEdge::DependenciesSection(_) | FeatureEdge::NamedFeatureDepColon(_) => {
-            is_full(half)
-        }
-        FeatureEdge::NamedFeatureWithSlash { link: _, slash } => match slash {
-            SlashForm::Strong => is_full(half),
-            SlashForm::Weak(weak) => match half {
-                Half::Full => false,
-                Half::Required => weak.required().get().is_some(),
-                Half::Optional => true,
-            },
+        FeatureEdge::DependenciesSection(_)
+        | FeatureEdge::NamedFeatureDepColon(_)
+        | FeatureEdge::NamedFeatureWithSlash(_) => is_full(half),
+        FeatureEdge::NamedFeatureWithWeakSlash(weak) => match half {
+            Half::Full => false,
+            Half::Required => weak.required().get().is_some(),
+            Half::Optional => true,
         },
     }
 }

@@ -1,6 +1,6 @@
 //! Edges as text, and copies of edges.
 use crate::shared::{Out, name_of, tell_status};
-use feature_core::{ConditionalLinkImpl, EnabledLink, FeatureEdge, SlashForm, WeakSlashImpl};
+use feature_core::{ConditionalLinkImpl, EnabledLink, FeatureEdge, WeakSlashImpl};
 use std::alloc::{AllocError, Global};
 
 /// Writes `before`, the declarations that `link` covers, its status for each kind, and the numbers of its package links.
@@ -32,43 +32,38 @@ pub fn tell_edge(out: &Out, edge: &FeatureEdge) {
         FeatureEdge::NamedFeature => out.part("feature"),
         FeatureEdge::DependenciesSection(link) => tell_link(out, "section ", link),
         FeatureEdge::NamedFeatureDepColon(link) => tell_link(out, "dep-colon ", link),
-        FeatureEdge::NamedFeatureWithSlash { link, slash } => match slash {
-            SlashForm::Strong => tell_link(out, "strong ", link),
-            SlashForm::Weak(weak) => {
-                out.number("weak(", weak.index().index());
-                tell_link(out, ") ", link);
-                tell_half(out, weak.required());
-                tell_half(out, weak.optional());
-            }
-        },
-    }
-}
-
-/// Returns a weak slash with copies of both halves and the same index; `AllocError` if an allocation fails.
-fn copied_weak(alloc: Global, weak: &WeakSlashImpl) -> Result<WeakSlashImpl, AllocError> {
-    let required = weak.required().try_clone(alloc)?;
-    let optional = weak.optional().try_clone(alloc)?;
-    Ok(WeakSlashImpl::new(required, optional, weak.index()))
-}
-
-/// Returns a copy of `slash`; a weak form is copied as a whole and then by its halves. `AllocError` if an allocation fails.
-fn copied_form(alloc: Global, slash: &SlashForm) -> Result<SlashForm, AllocError> {
-    match slash.try_clone(alloc)? {
-        SlashForm::Strong => Ok(SlashForm::Strong),
-        SlashForm::Weak(weak) => {
-            let weak = copied_weak(alloc, &weak.try_clone(alloc)?)?;
-            Ok(SlashForm::Weak(Box::new(alloc, weak)?))
+        FeatureEdge::NamedFeatureWithSlash(link) => tell_link(out, "strong ", link),
+        FeatureEdge::NamedFeatureWithWeakSlash(weak) => {
+            out.number("weak(", weak.index().index());
+            tell_link(out, ") ", weak.link());
+            tell_half(out, weak.required());
+            tell_half(out, weak.optional());
         }
     }
 }
 
-/// Returns a copy of `edge`; for a slash edge, link and form are copied once more. `AllocError` if an allocation fails.
+/// Returns a weak slash with copies of the link and both halves, and the same index; `AllocError` if an allocation fails.
+fn copied_weak(alloc: Global, weak: &WeakSlashImpl) -> Result<WeakSlashImpl, AllocError> {
+    let link = weak.link().try_clone(alloc)?;
+    let required = weak.required().try_clone(alloc)?;
+    let optional = weak.optional().try_clone(alloc)?;
+    Ok(WeakSlashImpl::new(link, required, optional, weak.index()))
+}
+
+/// Returns a copy of `edge`; that of a slash edge is copied once more, a weak one as a whole and then by its parts. `AllocError` if
+/// an allocation fails.
 pub fn copied(alloc: Global, edge: &FeatureEdge) -> Result<FeatureEdge, AllocError> {
     let copy = edge.try_clone(alloc)?;
-    if let FeatureEdge::NamedFeatureWithSlash { link, slash } = &copy {
-        let link = link.try_clone(alloc)?;
-        let slash = copied_form(alloc, slash)?;
-        return Ok(FeatureEdge::NamedFeatureWithSlash { link, slash });
+    match &copy {
+        FeatureEdge::NamedFeatureWithSlash(link) => {
+            let link = link.try_clone(alloc)?;
+            Ok(FeatureEdge::NamedFeatureWithSlash(link))
+        }
+        FeatureEdge::NamedFeatureWithWeakSlash(weak) => {
+            let weak = copied_weak(alloc, &weak.try_clone(alloc)?)?;
+            let weak = Box::new(alloc, weak)?;
+            Ok(FeatureEdge::NamedFeatureWithWeakSlash(weak))
+        }
+        _ => Ok(copy),
     }
-    Ok(copy)
 }

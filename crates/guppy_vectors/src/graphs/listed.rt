@@ -4,7 +4,7 @@ ghost use Rattle.walk_engine.specs.Walks.{is_gated};
 ghost use Rattle.guppy_vectors.specs.ListedWays.{way_of, AreWithin};
 
 use feature_core::engine::{Ask, EdgeSource, Taken};
-use feature_core::{FeatureEdge, FeatureGraphData, SlashForm};
+use feature_core::{FeatureEdge, FeatureGraphData};
 use guppy_packages::DependencyDirection;
 use std::alloc::{AllocError, Global};
 
@@ -43,10 +43,7 @@ fn are_within(nodes: usize, ways: &[ListedWay]) -> bool
 fn ask_of(built: &FeatureGraphData, edge: &FeatureEdge, forward: bool) -> (Ask, usize) {
     match edge {
         FeatureEdge::FeatureToBase | FeatureEdge::NamedFeature => (Ask::Nobody, 0),
-        FeatureEdge::NamedFeatureWithSlash {
-            link: _,
-            slash: SlashForm::Weak(weak),
-        } => {
+        FeatureEdge::NamedFeatureWithWeakSlash(weak) => {
             let required = weak.required().get().is_some();
             let ask = Ask::Weak {
                 required,

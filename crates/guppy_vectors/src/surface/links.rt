@@ -1,8 +1,6 @@
 //! Links and edges as text.
 use crate::shared::{Out, name_of, tell_status};
-use guppy_features::{
-    ConditionalLink, FeatureEdge, FeatureId, LinkDeclarations, PackageLink, SlashForm,
-};
+use guppy_features::{ConditionalLink, FeatureEdge, FeatureId, LinkDeclarations, PackageLink};
 
 /// Writes the ends `from` and `to` of a link, and the declarations that it covers.
 pub fn tell_ends(
@@ -51,9 +49,7 @@ pub fn tell_edge(out: &Out, from: FeatureId<'_>, to: FeatureId<'_>, edge: &Featu
         FeatureEdge::DependenciesSection(_) => " section",
         FeatureEdge::NamedFeature => " named",
         FeatureEdge::NamedFeatureDepColon(_) => " dep-colon",
-        FeatureEdge::NamedFeatureWithSlash { slash, .. } => match slash {
-            SlashForm::Strong => " strong",
-            SlashForm::Weak(_) => " weak",
-        },
+        FeatureEdge::NamedFeatureWithSlash(_) => " strong",
+        FeatureEdge::NamedFeatureWithWeakSlash(_) => " weak",
     });
 }

@@ -77,4 +77,4 @@ all_up : (keys : List Key) → IsSorted (cmp-value).it keys → AllPairs IsNoLat
 all_up keys s i j d l m = up_from (slice_index_or keys i d) (slice_index_or keys j d) (sorted_far (λ x y. is_lt ((cmp-value).it x y)) (ranks_by total-law (λ x. x)) keys s i j d (omega arith) m)
 
 pub returns-clause-sorted : goal.returns-clause-sorted
-returns-clause-sorted c = all_up _ c.in_ok-sort.ensures.sorted
+returns-clause-sorted c = all_up _ c.sort_unstable.ensures.sorted

@@ -11,10 +11,10 @@ loop-ix-preserved c = (c.in_ok-add_package.ensures.made, c.in_ok-add_package.ens
 
 pub returns-clause-made : goal.returns-clause-made
 returns-clause-made c =
-    let end : c.loop-ix.ix ≡ length c.args.numbers.graph.now.packages = omega arith in
-    subst (λ z. AreMadeBelow c.args.numbers.graph.now z c.loop-ix.self) end c.loop-ix.invariant.0
+    let end : c.loop-ix.ix ≡ length c.args.material.numbers.graph.now.packages = omega arith in
+    subst (λ z. AreMadeBelow c.args.material.numbers.graph.now z c.loop-ix.self) end c.loop-ix.invariant.0
 
 pub returns-clause-warnings : goal.returns-clause-warnings
 returns-clause-warnings c =
-    let end : c.loop-ix.ix ≡ length c.args.numbers.graph.now.packages = omega arith in
-    subst (λ z. AreWarningsBelow c.args.numbers.graph.now z c.loop-ix.room.collected) end c.loop-ix.invariant.1
+    let end : c.loop-ix.ix ≡ length c.args.material.numbers.graph.now.packages = omega arith in
+    subst (λ z. AreWarningsBelow c.args.material.numbers.graph.now z c.loop-ix.room.collected) end c.loop-ix.invariant.1
