@@ -54,16 +54,22 @@ module _ (g : Graph) (ok : IsDigraph g) (ranks : List ℕ) (r : IsRanking g rank
   rank : ℕ → ℕ
   rank v = get_or ranks v 0
 
-  pub rank_path : {a b : ℕ} → Path g.edges a b → get_or ranks a 0 ≤ get_or ranks b 0
-  rank_path nowhere = omega arith
-  rank_path (onward {a = a} {b = b} e p) = omega (arith, r.ascends a b e, rank_path p)
-
-  pub rank_same : {a b : ℕ} → SameComponent g.edges a b → get_or ranks a 0 ≡ get_or ranks b 0
-  rank_same s = omega (arith, rank_path s.there, rank_path s.back)
+  pub level_path : {a b : ℕ} → Path g.edges a b → get_or r.levels a 0 ≤ get_or r.levels b 0
+  level_path nowhere = omega arith
+  level_path (onward {a = a} {b = b} e p) = omega (arith, r.are.ascends a b e, level_path p)
 
   pub path_node : {a b : ℕ} → Path g.edges a b → a < g.nodes → b < g.nodes
   path_node nowhere h = h
   path_node (onward e p) h = path_node p (nodes_of_edge g ok e).1
+
+  rank_there : {a b : ℕ} → Path g.edges a b → get_or r.levels b 0 ≤ get_or r.levels a 0 → get_or ranks a 0 ≡ get_or ranks b 0
+  rank_there nowhere back = refl
+  rank_there (onward {a = a} {c = c} e p) back =
+      let ends = nodes_of_edge g ok e in
+      r.one a c ends.0 (path_node p ends.1) (omega (arith, back, level_path (onward e p)))
+
+  pub rank_same : {a b : ℕ} → SameComponent g.edges a b → get_or ranks a 0 ≡ get_or ranks b 0
+  rank_same s = rank_there s.there (level_path s.back)
 
 no_edge : Edge
 no_edge = record { from = 0; to = 0; non_dev = true }
@@ -181,14 +187,14 @@ module _ (g : Graph) (ok : IsDigraph g) (ranks : List ℕ) (r : IsRanking g rank
         )
       ]
 
-  -- Some unlisted node has the least rank of all that are unlisted.
-  least_rank : (bound u : ℕ) → get_or ranks u 0 < bound → u < g.nodes → ¬ Contains listed u → (v : ℕ) × (v < g.nodes) × (¬ Contains listed v) × ((w : ℕ) → w < g.nodes → ¬ Contains listed w → get_or ranks v 0 ≤ get_or ranks w 0)
-  least_rank zero u h lu fresh = absurd (omega arith)
-  least_rank (suc bound) u h lu fresh =
-      elim (search_below (λ w. (get_or ranks w 0 < get_or ranks u 0) × (¬ Contains listed w))
-      (λ w. and_cases _ _ (lt_cases (get_or ranks w 0) (get_or ranks u 0)) (not_cases _ (contains_cases listed w))) g.nodes) [
-        | inl f ↦ least_rank bound f.0 (omega (arith, f.2.0)) f.1 f.2.1
-        | inr none ↦ (u, lu, fresh, λ w lw fresh_w. elim (cases_lt (get_or ranks w 0) (get_or ranks u 0)) [ inl less ↦ absurd (none w lw (less, fresh_w)) | inr more ↦ more ])
+  -- Some unlisted node has the least level of all that are unlisted.
+  least_level : (bound u : ℕ) → get_or r.levels u 0 < bound → u < g.nodes → ¬ Contains listed u → (v : ℕ) × (v < g.nodes) × (¬ Contains listed v) × ((w : ℕ) → w < g.nodes → ¬ Contains listed w → get_or r.levels v 0 ≤ get_or r.levels w 0)
+  least_level zero u h lu fresh = absurd (omega arith)
+  least_level (suc bound) u h lu fresh =
+      elim (search_below (λ w. (get_or r.levels w 0 < get_or r.levels u 0) × (¬ Contains listed w))
+      (λ w. and_cases _ _ (lt_cases (get_or r.levels w 0) (get_or r.levels u 0)) (not_cases _ (contains_cases listed w))) g.nodes) [
+        | inl f ↦ least_level bound f.0 (omega (arith, f.2.0)) f.1 f.2.1
+        | inr none ↦ (u, lu, fresh, λ w lw fresh_w. elim (cases_lt (get_or r.levels w 0) (get_or r.levels u 0)) [ inl less ↦ absurd (none w lw (less, fresh_w)) | inr more ↦ more ])
       ]
 
   -- If some node isn't listed, some node is available.
@@ -207,7 +213,7 @@ module _ (g : Graph) (ok : IsDigraph g) (ranks : List ℕ) (r : IsRanking g rank
             ])
             (λ a b edge e diff. f.entered a b begun.0 edge (λ same. diff (same ∙ e)) begun.2.0 (begun.2.1 ∙ sym e))
         | inr none ↦
-            let low = least_rank (suc (get_or ranks u 0)) u (omega arith) lu fresh in
+            let low = least_level (suc (get_or r.levels u 0)) u (omega arith) lu fresh in
             available_in low.0 low.1 low.2
             (λ a b ha lb e diff.
             elim (contains_cases listed b) [
@@ -219,9 +225,11 @@ module _ (g : Graph) (ok : IsDigraph g) (ranks : List ℕ) (r : IsRanking g rank
               | inl y ↦ y
               | inr lacks ↦
                   absurd (diff (
-                  let least = low.3 a (nodes_of_edge g ok edge).0 lacks in
-                  let up = r.ascends a b edge in
-                  let same : get_or ranks a 0 ≡ get_or ranks low.0 0 = omega arith in same))
+                  let ends = nodes_of_edge g ok edge in
+                  let least = low.3 a ends.0 lacks in
+                  let up = r.are.ascends a b edge in
+                  let here = level_path g ok ranks r (r.same b low.0 ends.1 low.1 e).there in
+                  r.one a low.0 ends.0 low.1 (omega (arith, least, up, here))))
             ])
       ]
 

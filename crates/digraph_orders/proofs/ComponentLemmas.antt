@@ -12,7 +12,7 @@ use Rattle.digraph_orders.proofs.PlaceLemmas.{edge_found}
 use Rattle.std.proofs.lemmas.List.{get_or-replicate, get_or_past, length-replicate, length-take, get_or-take}
 use Rattle.std.specs.List.{range_with_len}
 use Rattle.std.proofs.lemmas.List.FromFn.{length-range_with_len}
-use Rattle.digraph_orders.specs.inner.Ranks.{IsRanking}
+use Rattle.digraph_orders.specs.inner.Ranks.{AreLevels, AreRanked, IsRanking}
 use Rattle.guppy_support.proofs.FaultLemmas.{nodes_of_edge}
 use Rattle.digraph_orders.proofs.OutEdgeLemmas.{at_left, at_last, length_push, out_number}
 use Rattle.digraph_orders.proofs.FirstLemmas.{count_le}
@@ -22,7 +22,7 @@ use Rattle.digraph_orders.proofs.CountLemmas.{count_fewer, count_same}
 pub more : (old : List ℕ) (x : ℕ) → IsMore old (old ++ x ∷ []) x
 more old x = record { long = length_push old x; kept = λ i h. at_left old x i h; last = at_last old x (length old) refl }
 
-module _ (g : Graph) (m ps bs os ls : List ℕ) (rank : ℕ) (w : IsWalking g m ps bs os ls rank) where
+module _ (g : Graph) (m ps bs os ls : List ℕ) (level : ℕ) (w : IsWalking g m ps bs os ls level) where
   pub few : length ps ≤ g.nodes
   few = apart_short ps g.nodes (λ i j l h e. omega (arith, l, (w.placed i (omega arith)).1, (w.placed j h).1, ap (λ (v : ℕ). get_or m v 0) e)) (λ i h. (w.placed i h).0)
 
@@ -58,7 +58,7 @@ module _ (g : Graph) (m ps bs os ls : List ℕ) (rank : ℕ) (w : IsWalking g m 
         (ne_eqb _ _ (λ e. omega (arith, e, at_node))) (λ i ne. ap (λ (x : ℕ). eqb x 0) (sym (other i ne)))
 
     pub entered : ((j : ℕ) → j < length ps → Path g.edges (get_or ps j 0) node) → (ps' bs' os' ls' : List ℕ) → IsMore ps ps' node → IsMore bs bs' (length ps) → IsMore os os' node
-        → IsMore ls ls' (length (places node (sources g.edges))) → IsWalking g (set m node (length ps + 1)) ps' bs' os' ls' rank
+        → IsMore ls ls' (length (places node (sources g.edges))) → IsWalking g (set m node (length ps + 1)) ps' bs' os' ls' level
     entered led ps' bs' os' ls' p b o l =
         let room = few_more node inside new in
         let last_left : get_or ls' (length os) 0 ≡ length (places node (sources g.edges)) = rw w.left_long at l.last in
@@ -70,7 +70,7 @@ module _ (g : Graph) (m ps bs os ls : List ℕ) (rank : ℕ) (w : IsWalking g m 
           marks_long = length-set m node (length ps + 1) ∙ w.marks_long;
           left_long = omega (arith, l.long, o.long, w.left_long);
           room = omega (arith, w.room, p.long, entered_fewer);
-          rank_high = w.rank_high;
+          level_high = w.level_high;
           placed = λ i h.
               elim (cases_lt i (length ps)) [
                 | inl li ↦
@@ -230,7 +230,7 @@ module _ (g : Graph) (m ps bs os ls : List ℕ) (rank : ℕ) (w : IsWalking g m 
               ];
         }
 
-  pub unentered_given : (m' : List ℕ) (s : ℕ) → AreGiven m m' s (length ps) rank → unentered g.nodes m' ≡ unentered g.nodes m
+  pub unentered_given : (m' : List ℕ) (s : ℕ) → AreGiven m m' s (length ps) level → unentered g.nodes m' ≡ unentered g.nodes m
   unentered_given m' s given =
       count_same (λ v. eqb (get_or m' v 0) 0) (λ v. eqb (get_or m v 0) 0) g.nodes
       (λ v h. elim (cases_lt s (get_or m v 0)) [
@@ -280,13 +280,13 @@ module _ (g : Graph) (m ps bs os ls : List ℕ) (rank : ℕ) (w : IsWalking g m 
 
     -- Removing the bounds from the target of an edge on keeps the invariant.
     pub joined : (x : ℕ) → HasEdge g.edges top x → 0 < get_or m x 0 → (bs' : List ℕ) → IsFrontOf bs bs' → 0 < length bs' → ((i : ℕ) → length bs' ≤ i → i < length bs → get_or m x 0 ≤ get_or bs i 0)
-        → IsWalking g m ps bs' os ls rank
+        → IsWalking g m ps bs' os ls level
     joined x edge pos bs' f some' dropped =
         record {
           marks_long = w.marks_long;
           left_long = w.left_long;
           room = w.room;
-          rank_high = w.rank_high;
+          level_high = w.level_high;
           placed = w.placed;
           known = w.known;
           opened_pending = w.opened_pending;
@@ -323,7 +323,7 @@ module _ (g : Graph) (m ps bs os ls : List ℕ) (rank : ℕ) (w : IsWalking g m 
     -- Passing one edge of the last open node keeps the invariant.
     pub stepped : (r : ℕ) → get_or ls last 0 ≡ r + 1
         → ((b : ℕ) → b < length bs → get_or bs b 0 < get_or m (target_at g.edges top (length (places top (sources g.edges)) - get_or ls last 0)) 0)
-        → IsWalking g m ps bs os (set ls last r) rank
+        → IsWalking g m ps bs os (set ls last r) level
     stepped r is all =
         let inside : last < length ls = omega (arith, some, w.left_long) in
         let now = get_or-set_same ls last r 0 inside in
@@ -331,7 +331,7 @@ module _ (g : Graph) (m ps bs os ls : List ℕ) (rank : ℕ) (w : IsWalking g m 
           marks_long = w.marks_long;
           left_long = length-set ls last r ∙ w.left_long;
           room = w.room;
-          rank_high = w.rank_high;
+          level_high = w.level_high;
           placed = w.placed;
           known = w.known;
           opened_pending = w.opened_pending;
@@ -391,13 +391,13 @@ module _ (g : Graph) (m ps bs os ls : List ℕ) (rank : ℕ) (w : IsWalking g m 
             ]
 
         -- Case 1: the node doesn't begin a component, so it stays pending.
-        pub closed_inner : ((b : ℕ) → b < length bs → get_or bs b 0 + 1 ≢ get_or m top 0) → IsWalking g m ps bs os' ls' rank
+        pub closed_inner : ((b : ℕ) → b < length bs → get_or bs b 0 + 1 ≢ get_or m top 0) → IsWalking g m ps bs os' ls' level
         closed_inner apart =
             record {
               marks_long = w.marks_long;
               left_long = omega (arith, l.long, o.long, w.left_long);
               room = w.room;
-              rank_high = w.rank_high;
+              level_high = w.level_high;
               placed = w.placed;
               known = w.known;
               opened_pending = λ i h. rw (o.kept i h) at (w.opened_pending i (omega (arith, h, o.long)));
@@ -432,11 +432,11 @@ module _ (g : Graph) (m ps bs os ls : List ℕ) (rank : ℕ) (w : IsWalking g m 
             }
 
         module _ (bs' ps' m' : List ℕ) (s r : ℕ) (b : IsMore bs' bs s) (top_at : get_or m top 0 ≡ s + 1) (p : IsFrontOf ps ps') (long : length ps' ≡ s)
-            (given : AreGiven m m' s (length ps) rank) (m_long : length m' ≡ length m) (less : r + 1 ≡ rank) where
-          rank_big : g.nodes + length ps ≤ rank
-          rank_big = omega (arith, w.room)
+            (given : AreGiven m m' s (length ps) level) (m_long : length m' ≡ length m) (less : r + 1 ≡ level) where
+          level_big : g.nodes + length ps ≤ level
+          level_big = omega (arith, w.room)
 
-          changed : (v : ℕ) → ((s < get_or m v 0) × (get_or m v 0 ≤ length ps) × (get_or m' v 0 ≡ rank)) ⊎ (((get_or m v 0 ≤ s) ⊎ (length ps < get_or m v 0)) × (get_or m' v 0 ≡ get_or m v 0))
+          changed : (v : ℕ) → ((s < get_or m v 0) × (get_or m v 0 ≤ length ps) × (get_or m' v 0 ≡ level)) ⊎ (((get_or m v 0 ≤ s) ⊎ (length ps < get_or m v 0)) × (get_or m' v 0 ≡ get_or m v 0))
           changed v =
               elim (cases_lt s (get_or m v 0)) [
                 | inr low ↦ inr (inl low, given.low v low)
@@ -449,7 +449,7 @@ module _ (g : Graph) (m ps bs os ls : List ℕ) (rank : ℕ) (w : IsWalking g m 
 
           -- A mark above a pending place stays above it.
           stays_above : (v y : ℕ) → y < length ps → y < get_or m v 0 → y < get_or m' v 0
-          stays_above v y small h = elim (changed v) [ inl q ↦ omega (arith, q.2, rank_big, small) | inr q ↦ omega (arith, q.1, h) ]
+          stays_above v y small h = elim (changed v) [ inl q ↦ omega (arith, q.2, level_big, small) | inr q ↦ omega (arith, q.1, h) ]
 
           bound_last : get_or bs (length bs') 0 ≡ s
           bound_last = b.last
@@ -465,7 +465,7 @@ module _ (g : Graph) (m ps bs os ls : List ℕ) (rank : ℕ) (w : IsWalking g m 
               let low : get_or m (get_or os' i 0) 0 ≤ s = omega (arith, up, top_at) in
               (pos, low, given.low _ low)
 
-          -- An edge from the component leads into it, or to a component of higher rank.
+          -- An edge from the component leads into it, or to a component of higher level.
           out_of : (a x : ℕ) → s < get_or m a 0 → get_or m a 0 ≤ length ps → HasEdge g.edges a x → s < get_or m x 0
           out_of a x more_than within edge =
               let last_bound : length bs' < length bs = omega (arith, b.long) in
@@ -491,7 +491,7 @@ module _ (g : Graph) (m ps bs os ls : List ℕ) (rank : ℕ) (w : IsWalking g m 
               let q = w.ahead (length bs') (get_or m a 0 - 1) (omega (arith, b.long)) le (omega (arith, within, more_than)) in
               rw (k.1, bound_last) at q
 
-          -- A mark past the remaining pending nodes is a rank.
+          -- A mark past the remaining pending nodes is a level.
           was_ranked : (v : ℕ) → length ps < get_or m v 0 → g.nodes < get_or m v 0
           was_ranked v far = elim (cases_lt g.nodes (get_or m v 0)) [ inl l ↦ l | inr ge ↦ absurd (omega (arith, far, (w.known v (omega (arith, far)) ge).0)) ]
 
@@ -501,13 +501,13 @@ module _ (g : Graph) (m ps bs os ls : List ℕ) (rank : ℕ) (w : IsWalking g m 
                 marks_long = m_long ∙ w.marks_long;
                 left_long = omega (arith, l.long, o.long, w.left_long);
                 room = omega (arith, w.room, unentered_given m' s given, long, inside_last, less);
-                rank_high = omega (arith, w.rank_high, less);
+                level_high = omega (arith, w.level_high, less);
                 placed = λ i h.
                     let old = w.placed i (omega (arith, h, p.shorter)) in
                     rw (p.kept i h) (old.0, given.low (get_or ps i 0) (omega (arith, old.1, h, long)) ∙ old.1);
                 known = λ v pos le.
                     elim (changed v) [
-                      | inl q ↦ absurd (omega (arith, q.2, le, rank_big, inside_last))
+                      | inl q ↦ absurd (omega (arith, q.2, le, level_big, inside_last))
                       | inr q ↦
                           let k = w.known v (omega (arith, pos, q.1)) (omega (arith, le, q.1)) in
                           let low : get_or m v 0 ≤ s = elim q.0 [ inl y ↦ y | inr y ↦ absurd (omega (arith, y, k.0)) ] in
@@ -564,7 +564,7 @@ module _ (g : Graph) (m ps bs os ls : List ℕ) (rank : ℕ) (w : IsWalking g m 
                     rw (sym (b.kept c hc)) (stays_above _ _ low old);
                 closed = λ v x c pos le shut edge hc lt.
                     elim (changed v) [
-                      | inl q ↦ absurd (omega (arith, q.2, le, rank_big, inside_last))
+                      | inl q ↦ absurd (omega (arith, q.2, le, level_big, inside_last))
                       | inr q ↦
                           let pos' : 0 < get_or m v 0 = omega (arith, pos, q.1) in
                           let le' : get_or m v 0 ≤ g.nodes = omega (arith, le, q.1) in
@@ -580,7 +580,7 @@ module _ (g : Graph) (m ps bs os ls : List ℕ) (rank : ℕ) (w : IsWalking g m 
                       | inl q ↦ omega (arith, q.2, less)
                       | inr q ↦ omega (arith, q.1, less, w.below v (omega (arith, big, q.1)))
                     ];
-                high = λ v. elim (changed v) [ inl q ↦ omega (arith, q.2, w.rank_high) | inr q ↦ omega (arith, q.1, w.high v) ];
+                high = λ v. elim (changed v) [ inl q ↦ omega (arith, q.2, w.level_high) | inr q ↦ omega (arith, q.1, w.high v) ];
                 ascends = λ a x big edge.
                     elim (changed a) [
                       | inl q ↦
@@ -602,7 +602,7 @@ module _ (g : Graph) (m ps bs os ls : List ℕ) (rank : ℕ) (w : IsWalking g m 
                       | inl q ↦
                           elim (changed x) [
                             | inl t ↦ record { there = join (to_root a q.0 q.1) (from_root x t.0 t.1); back = join (to_root x t.0 t.1) (from_root a q.0 q.1) }
-                            | inr t ↦ absurd (omega (arith, q.2, e, t.1, rank_big, inside_last, w.below x (omega (arith, q.2, e, t.1, rank_big, inside_last))))
+                            | inr t ↦ absurd (omega (arith, q.2, e, t.1, level_big, inside_last, w.below x (omega (arith, q.2, e, t.1, level_big, inside_last))))
                           ]
                       | inr q ↦
                           let big' : g.nodes < get_or m a 0 = omega (arith, big, q.1) in
@@ -613,9 +613,9 @@ module _ (g : Graph) (m ps bs os ls : List ℕ) (rank : ℕ) (w : IsWalking g m 
                     ];
               }
 
--- If no node is open, each entered node has a rank.
-pub finished : (g : Graph) (m ps bs os ls : List ℕ) (rank : ℕ) → IsWalking g m ps bs os ls rank → length os ≡ 0 → (v : ℕ) → get_or m v 0 ≢ 0 → g.nodes < get_or m v 0
-finished g m ps bs os ls rank w none v some =
+-- If no node is open, each entered node has a level.
+pub finished : (g : Graph) (m ps bs os ls : List ℕ) (level : ℕ) → IsWalking g m ps bs os ls level → length os ≡ 0 → (v : ℕ) → get_or m v 0 ≢ 0 → g.nodes < get_or m v 0
+finished g m ps bs os ls level w none v some =
     elim (cases_lt g.nodes (get_or m v 0)) [
       | inl l ↦ l
       | inr ge ↦
@@ -631,7 +631,7 @@ started g m long z =
       marks_long = long;
       left_long = refl;
       room = omega (arith, count_le (λ v. eqb (get_or m v 0) 0) g.nodes);
-      rank_high = omega arith;
+      level_high = omega arith;
       placed = λ i h. absurd (omega (arith, h));
       known = λ v pos le. absurd (omega (arith, pos, z v));
       opened_pending = λ i h. absurd (omega (arith, h));
@@ -657,16 +657,30 @@ zero_at n v xs e =
       | inr p ↦ let long : length xs ≡ n = ap length e ∙ length-replicate n 0 in get_or_past xs v 0 (omega (arith, p, long))
     ]
 
--- The marks minus a base are a ranking.
-pub ranked : (g : Graph) (m ps bs os ls : List ℕ) (rank : ℕ) (ranks : List ℕ) → IsDigraph g → IsWalking g m ps bs os ls rank → ((v : ℕ) → v < g.nodes → g.nodes < get_or m v 0)
-    → length ranks ≡ length m → ((v : ℕ) → v < length m → get_or ranks v 0 + (g.nodes + 1) ≡ get_or m v 0) → IsRanking g ranks
-ranked g m ps bs os ls rank ranks ok w whole long each =
+-- The marks minus a base are levels.
+pub levelled : (g : Graph) (m ps bs os ls : List ℕ) (level : ℕ) (levels : List ℕ) → IsDigraph g → IsWalking g m ps bs os ls level → ((v : ℕ) → v < g.nodes → g.nodes < get_or m v 0)
+    → length levels ≡ length m → ((v : ℕ) → v < length m → get_or levels v 0 + (g.nodes + 1) ≡ get_or m v 0) → AreLevels g levels
+levelled g m ps bs os ls level levels ok w whole long each =
     record {
       long = long ∙ w.marks_long;
       ascends = λ a b e.
           let ends = nodes_of_edge g ok e in
           omega (arith, each a (omega (arith, ends.0, w.marks_long)), each b (omega (arith, ends.1, w.marks_long)), w.ascends a b (whole a ends.0) e);
       same = λ a b la lb e. w.same a b (whole a la) (omega (arith, e, each a (omega (arith, la, w.marks_long)), each b (omega (arith, lb, w.marks_long))));
+    }
+
+-- The least nodes of levels are ranks.
+pub ranked : (g : Graph) (levels ranks : List ℕ) → AreLevels g levels → AreRanked levels ranks → IsRanking g ranks
+ranked g levels ranks l r =
+    record {
+      long = r.long ∙ l.long;
+      levels = levels;
+      are = l;
+      one = λ a b la lb e. r.one a b (omega (arith, la, l.long)) (omega (arith, lb, l.long)) e;
+      same = λ a b la lb e.
+          let ka = r.kept a (omega (arith, la, l.long)) in
+          let kb = r.kept b (omega (arith, lb, l.long)) in
+          l.same a b la lb (sym ka ∙ ap (λ (x : ℕ). get_or levels x 0) e ∙ kb);
     }
 
 pub more_from : (old new : List ℕ) (x : ℕ) → new ≡ old ++ x ∷ [] → IsMore old new x

@@ -2,10 +2,13 @@
 use Rattle.std.proofs.Common.{◌≡◌, ℕ, zero, suc, ◌<◌, ◌≤◌, inl, inr, Bool, true, false, List, [], ◌∷◌, length, get_or, refl, sym, ◌∙◌, arith}
 use Rattle.std.proofs.lemmas.Bool.{cases_eq, cases_lt}
 use Rattle.std.proofs.lemmas.Bool.Decides.{eqb_tells}
+use Rattle.std.proofs.lemmas.List.{get_or_past}
 use Rattle.guppy_support.specs.Rows.{places_from, places}
 use Rattle.digraph_orders.proofs.PlaceLemmas.{places_within}
+use Rattle.guppy_support.specs.Bits.{has}
+use Rattle.digraph_orders.specs.inner.Groups.{HaveOthers, IsAlone}
 use Rattle.digraph_orders.specs.inner.Heads.{IsDone, IsHead}
-use Rattle.digraph_orders.specs.inner.Plans.{is_in, IsFirst}
+use Rattle.digraph_orders.specs.inner.Plans.{is_in, IsFirst, IsBegun, RowWaits}
 use Rattle.digraph_orders.proofs.RowLemmas.{has_place}
 
 at_least : (v s : ℕ) (xs : List ℕ) (k : ℕ) → k < length (places_from v s xs) → s ≤ get_or (places_from v s xs) k 0
@@ -80,3 +83,73 @@ first_head n ranks held done c x long fresh f =
         ];
       },
     )
+
+-- A node that isn't among the others is alone.
+pub others_alone : (ranks : List ℕ) (set : List Bool) → HaveOthers ranks (length ranks) set → (v : ℕ) → v < length ranks → has set v ≡ false → IsAlone ranks v
+others_alone ranks set h v inside off =
+    let own : get_or ranks v 0 ≡ v = elim (cases_eq (get_or ranks v 0) v) [
+      | inl e ↦ e
+      | inr ne ↦ absurd (let c : true ≡ false = sym ((h v inside ne).0) ∙ off in cc)
+    ] in
+    let only : (j : ℕ) → j < length (places v ranks) → get_or (places v ranks) j 0 ≡ v =
+    λ j l.
+    let w = places_within v ranks j l in
+    elim (cases_eq (get_or ranks (get_or (places v ranks) j 0) 0) (get_or (places v ranks) j 0)) [
+      | inl e ↦ sym e ∙ w.1
+      | inr ne ↦ absurd (let other : has set v ≡ true = rw w.1 at (h (get_or (places v ranks) j 0) w.0 ne).1 in let c : true ≡ false = sym other ∙ off in cc)
+    ]
+    in
+    record {
+      rank = own;
+      few = elim (cases_lt 1 (length (places v ranks))) [
+        | inr le ↦ omega arith
+        | inl more ↦ absurd (omega (arith, rising v 0 ranks 0 1 (omega arith) more, only 0 (omega (arith, more)), only 1 more))
+      ];
+    }
+
+-- A component of one node.
+module _ (ranks : List ℕ) (u : ℕ) (inside : u < length ranks) (a : IsAlone ranks u) where
+  alone_at : (0 < length (places (get_or ranks u 0) ranks)) × (get_or (places (get_or ranks u 0) ranks) 0 0 ≡ u)
+  alone_at =
+      let q = row_complete ranks u u inside a.rank in
+      let z : q.0 ≡ 0 = omega (arith, q.1, a.few) in
+      rw a.rank (omega (arith, q.1), rw z at q.2)
+
+  pub alone_first : (held : List ℕ) → IsFirst (places (get_or ranks u 0) ranks) held u
+  alone_first held =
+      record {
+        place = 0;
+        within = alone_at.0;
+        is = alone_at.1;
+        first = elim (cases_eq (get_or held u 0) 0) [
+          | inl e ↦ inl (e, λ j l. absurd (omega (arith, l)))
+          | inr ne ↦ inr (
+            refl,
+            λ j l z.
+                let l' : j < length (places u ranks) = rw a.rank at l in
+                let zj : j ≡ 0 = omega (arith, l', a.few) in
+                ne (rw (zj, alone_at.1) at z),
+          )
+        ];
+      }
+
+  pub alone_waits : (held : List ℕ) → RowWaits (places (get_or ranks u 0) ranks) held u []
+  alone_waits held =
+      record {
+        ready_all = λ j l z ne.
+            let l' : j < length (places u ranks) = rw a.rank at l in
+            absurd (let zj : j ≡ 0 = omega (arith, l', a.few) in ne (rw zj alone_at.1));
+        ready_only = λ y h. absurd (omega (arith, h.1));
+      }
+
+-- If a component of one node has begun, that node is done.
+pub alone_done : (ranks : List ℕ) (done : List Bool) (c : ℕ) → length ranks ≡ length done → IsAlone ranks c → IsBegun ranks done c → (j : ℕ) → j < length (places c ranks) → IsDone done (get_or (places c ranks) j 0)
+alone_done ranks done c long a b j l =
+    let inside : b.by < length done = elim (cases_lt b.by (length done)) [
+      | inl h ↦ h
+      | inr ge ↦ absurd (let past = get_or_past done b.by false ge in let t = b.marked in let x : true ≡ false = sym t ∙ past in cc)
+    ] in
+    let q = row_complete ranks c b.by (omega (arith, inside, long)) b.same in
+    let same : q.0 ≡ j = omega (arith, q.1, l, a.few) in
+    let at : get_or (places c ranks) j 0 ≡ b.by = rw same at q.2 in
+    rw at b.marked

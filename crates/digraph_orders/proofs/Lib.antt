@@ -16,6 +16,7 @@ pub mod PathLemmas
 pub mod PlaceLemmas
 pub mod PlanLemmas
 pub mod QueueLemmas
+pub mod RankLemmas
 pub mod RowLemmas
 pub mod SequenceLemmas
 pub mod StepLemmas

@@ -251,9 +251,15 @@ module _ (g : Graph) (ok : IsDigraph g) where
   is_ranking =
       record {
         long = length-map-range_with_len rank 0 g.nodes;
-        ascends = λ a b e.
-            let ends = nodes_of_edge g ok e in
-            rw (rank_at a ends.0, rank_at b ends.1) (rank_ascends a b e);
+        levels = map rank (range_with_len 0 g.nodes);
+        are = record {
+          long = length-map-range_with_len rank 0 g.nodes;
+          ascends = λ a b e.
+              let ends = nodes_of_edge g ok e in
+              rw (rank_at a ends.0, rank_at b ends.1) (rank_ascends a b e);
+          same = λ a b ha hb e. rank_same a b ha hb (sym (rank_at a ha) ∙ e ∙ rank_at b hb);
+        };
+        one = λ a b ha hb e. e;
         same = λ a b ha hb e. rank_same a b ha hb (sym (rank_at a ha) ∙ e ∙ rank_at b hb);
       }
 

@@ -12,13 +12,13 @@ abbrev pub unentered : ℕ → List ℕ → ℕ
 unentered n marks = count_below (λ v. slice_index marks v == 0) n
 
 -- The invariant of the walk. A mark is 0 before its node is entered, then one plus its place in `pending`, and
--- then the rank of its component. Ranks are above the number of nodes. Pending nodes from one bound up to the
+-- then the level of its component. Levels are above the number of nodes. Pending nodes from one bound up to the
 -- next are in one component, and lead to all later ones.
-pub record IsWalking (g : Graph) (marks pending bounds opened left : List ℕ) (rank : ℕ) : Type 0 where
+pub record IsWalking (g : Graph) (marks pending bounds opened left : List ℕ) (level : ℕ) : Type 0 where
   pub marks_long : length marks ≡ g.nodes
   pub left_long : length left ≡ length opened
-  pub room : g.nodes + length pending + unentered g.nodes marks ≤ rank
-  pub rank_high : rank ≤ 2 * g.nodes
+  pub room : g.nodes + length pending + unentered g.nodes marks ≤ level
+  pub level_high : level ≤ 2 * g.nodes
   pub placed : (i : ℕ) → i < length pending → (slice_index pending i < g.nodes) × (slice_index marks (slice_index pending i) ≡ i + 1)
   pub known : (v : ℕ) → 0 < slice_index marks v → slice_index marks v ≤ g.nodes
       → (slice_index marks v ≤ length pending) × (slice_index pending (slice_index marks v - 1) ≡ v)
@@ -39,21 +39,21 @@ pub record IsWalking (g : Graph) (marks pending bounds opened left : List ℕ) (
       → slice_index bounds b < slice_index marks (target_at g.edges (slice_index opened i) k)
   pub closed : (v x b : ℕ) → 0 < slice_index marks v → slice_index marks v ≤ g.nodes → ((i : ℕ) → i < length opened → slice_index opened i ≢ v)
       → HasEdge g.edges v x → b < length bounds → slice_index bounds b < slice_index marks v → slice_index bounds b < slice_index marks x
-  pub below : (v : ℕ) → g.nodes < slice_index marks v → rank < slice_index marks v
+  pub below : (v : ℕ) → g.nodes < slice_index marks v → level < slice_index marks v
   pub high : (v : ℕ) → slice_index marks v ≤ 2 * g.nodes
   pub ascends : (a b : ℕ) → g.nodes < slice_index marks a → HasEdge g.edges a b → slice_index marks a ≤ slice_index marks b
   pub same : (a b : ℕ) → g.nodes < slice_index marks a → slice_index marks a ≡ slice_index marks b → SameComponent g.edges a b
 
 abbrev pub IsWalk : Graph → Walk → Type 0
-IsWalk g w = IsWalking g w.marks.items w.pending.items w.bounds.items w.opened.items w.left.items w.rank
+IsWalk g w = IsWalking g w.marks.items w.pending.items w.bounds.items w.opened.items w.left.items w.level
 
 -- A bound on the number of steps left.
 abbrev pub steps_left : Graph → Walk → ℕ
 steps_left g w = unentered g.nodes w.marks.items * (length g.edges + 2) + (sum_by (λ k. k) w.left.items + length w.opened.items)
 
--- The marks of the pending nodes from a place on are now `rank`, and the other marks are unchanged.
-pub record AreGiven (old new : List ℕ) (from to rank : ℕ) : Type 0 where
-  pub given : (v : ℕ) → from < slice_index old v → slice_index old v ≤ to → slice_index new v ≡ rank
+-- The marks of the pending nodes from a place on are now `level`, and the other marks are unchanged.
+pub record AreGiven (old new : List ℕ) (from to level : ℕ) : Type 0 where
+  pub given : (v : ℕ) → from < slice_index old v → slice_index old v ≤ to → slice_index new v ≡ level
   pub low : (v : ℕ) → slice_index old v ≤ from → slice_index new v ≡ slice_index old v
   pub high : (v : ℕ) → to < slice_index old v → slice_index new v ≡ slice_index old v
 

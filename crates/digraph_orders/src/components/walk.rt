@@ -12,7 +12,7 @@ use std::alloc::{AllocError, Global};
 /// The state of the walk. It keeps its own stack, so deep graphs don't overflow the call stack.
 #[derive(Drop)]
 pub(crate) struct Walk {
-    /// Per node: 0 before it is entered, then one plus its place in `pending`, then its component's rank.
+    /// Per node: 0 before it is entered, then one plus its place in `pending`, then its component's level.
     pub(crate) marks: Vec<u32>,
     /// The entered nodes whose component isn't known yet, in the order of entry.
     pub(crate) pending: Vec<u32>,
@@ -22,20 +22,20 @@ pub(crate) struct Walk {
     pub(crate) opened: Vec<u32>,
     /// The number of edges left to look at, for each open node.
     pub(crate) left: Vec<u32>,
-    /// The rank of the next component. Ranks are assigned downwards.
-    pub(crate) rank: u32,
+    /// The level of the next component. Levels are assigned downwards.
+    pub(crate) level: u32,
 }
 
-/// Sets the mark of each pending node from place `from` on to `rank`.
-fn give(marks: &mut Vec<u32>, pending: &[u32], from: usize, rank: u32)
+/// Sets the mark of each pending node from place `from` on to `level`.
+fn give(marks: &mut Vec<u32>, pending: &[u32], from: usize, level: u32)
     requires from { from ≤ length pending.now }
     requires placed { (i : ℕ) → i < length pending.now → (slice_index pending.now i < length marks.old.items) × (slice_index marks.old.items (slice_index pending.now i) ≡ i + 1) }
     requires known { (v : ℕ) → 0 < slice_index marks.old.items v → slice_index marks.old.items v ≤ length pending.now → slice_index pending.now (slice_index marks.old.items v - 1) ≡ v }
     ensures long { length marks.new.items ≡ length marks.old.items }
-    ensures given { AreGiven marks.old.items marks.new.items from (length pending.now) rank }
+    ensures given { AreGiven marks.old.items marks.new.items from (length pending.now) level }
 {
     for place in from..pending.len() {
-        marks[pending[place] as usize] = rank;
+        marks[pending[place] as usize] = level;
     }
 }
 
@@ -79,7 +79,7 @@ impl Walk {
     }
 
     /// Closes the last open node `top`, which has no edges left. If a component begins with it, the component
-    /// gets its rank.
+    /// gets its level.
     fn close(&mut self, graph: &Digraph, top: usize)
         requires walk { IsWalk graph.now self.old }
         requires opened { 0 < length self.old.opened.items }
@@ -98,9 +98,9 @@ impl Walk {
             return;
         }
         let _ = self.bounds.pop();
-        give(&mut self.marks, &self.pending, place as usize, self.rank);
+        give(&mut self.marks, &self.pending, place as usize, self.level);
         self.pending.truncate(place as usize);
-        self.rank -= 1;
+        self.level -= 1;
     }
 
     /// Passes an edge of `top` that leads to `node`, which was entered earlier.
@@ -204,23 +204,32 @@ fn fresh(alloc: Global, graph: &Digraph) -> Result<Walk, AllocError>
     graph.bounds();
     let nodes = graph.node_count();
     let marks = zeroes(alloc, nodes)?;
+    let pending = Vec::with_capacity(alloc, nodes)?;
+    let bounds = Vec::with_capacity(alloc, nodes)?;
+    let opened = Vec::with_capacity(alloc, nodes)?;
+    let left = Vec::with_capacity(alloc, nodes)?;
     Ok(Walk {
         marks,
-        pending: Vec::new(alloc),
-        bounds: Vec::new(alloc),
-        opened: Vec::new(alloc),
-        left: Vec::new(alloc),
-        rank: (2 * nodes) as u32,
+        pending,
+        bounds,
+        opened,
+        left,
+        level: (2 * nodes) as u32,
     })
 }
 
-/// Returns the finished walk from every node: each mark is a rank. An allocation failure is the only error.
+/// Returns the finished walk from every node: each mark is a level. An allocation failure is the only error.
+///
+/// The last node is visited first. Where most edges lead to higher numbers, their targets then have a level already,
+/// and neighbours in the list of nodes get neighbouring levels.
 pub(crate) fn walked(alloc: Global, graph: &Digraph) -> Result<Walk, AllocError>
     ensures walk { IfOk result (λ w. IsWalk graph.now w) }
     ensures whole { IfOk result (λ w. (v : ℕ) → v < graph.now.nodes → graph.now.nodes < slice_index w.marks.items v) }
 {
     let mut walk = fresh(alloc, graph)?;
-    for root in 0..graph.node_count() {
+    let mut root = graph.node_count();
+    while root > 0 {
+        root -= 1;
         walk.visit(graph, root)?;
     }
     Ok(walk)

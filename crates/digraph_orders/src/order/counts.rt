@@ -28,9 +28,11 @@ fn count_edge(
     held: &mut Vec<u32>,
     graph: &Digraph,
     ranks: &[u32],
+    groups: &Groups,
     number: usize,
 )
     requires setup { IsSetup graph.now ranks.now }
+    requires groups { AreGroups graph.now.nodes ranks.now groups.now }
     requires number { number < length graph.now.edges }
     requires entering { AreEntering graph.now ranks.now number outside.old.items }
     requires holding { AreHolding graph.now ranks.now number held.old.items }
@@ -39,9 +41,9 @@ fn count_edge(
 {
     graph.bounds();
     let edge = edge_at(graph, number);
-    let rank = ranks[edge.to];
-    if ranks[edge.from] != rank {
-        outside[rank as usize] += 1;
+    let rank = groups.rank(ranks, edge.to, graph.node_count());
+    if ranks[edge.from] as usize != rank {
+        outside[rank] += 1;
         return;
     }
     if !edge.non_dev {
@@ -85,15 +87,17 @@ fn count_edges(
     alloc: Global,
     graph: &Digraph,
     ranks: &[u32],
+    groups: &Groups,
 ) -> Result<(Vec<u32>, Vec<u32>), AllocError>
     requires setup { IsSetup graph.now ranks.now }
+    requires groups { AreGroups graph.now.nodes ranks.now groups.now }
     ensures entering { IfOk result (λ counts. AreEntering graph.now ranks.now (length graph.now.edges) counts.0.items) }
     ensures holding { IfOk result (λ counts. AreHolding graph.now ranks.now (length graph.now.edges) counts.1.items) }
 {
     let mut outside = zeroes(alloc, graph.node_count())?;
     let mut held = zeroes(alloc, graph.node_count())?;
     for number in 0..graph.edge_count() {
-        count_edge(&mut outside, &mut held, graph, ranks, number);
+        count_edge(&mut outside, &mut held, graph, ranks, groups, number);
     }
     Ok((outside, held))
 }
@@ -145,7 +149,7 @@ pub(crate) fn first_plan(
     ensures room { IfOk result (λ plan. HasRoom plan) }
 {
     let nodes = graph.node_count();
-    let counts = count_edges(alloc, graph, ranks)?;
+    let counts = count_edges(alloc, graph, ranks, groups)?;
     let starts = first_starts(alloc, nodes, ranks, groups, &counts.0, &counts.1)?;
     let ready = Queue::empty(alloc, nodes)?;
     let (listed, done) = nothing_listed(alloc, nodes)?;

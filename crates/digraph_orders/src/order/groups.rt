@@ -1,9 +1,9 @@
 //! The nodes of each component, by its rank.
-ghost use Rattle.std.specs.Prelude.{◌≡◌, ℕ, ◌<◌, length, slice_index, IfOk};
+ghost use Rattle.std.specs.Prelude.{◌≡◌, ℕ, ◌<◌, length, slice_index, IfOk, IsTrue};
 ghost use Rattle.guppy_support.specs.Rows.{places};
-ghost use Rattle.digraph_orders.specs.inner.Groups.{AreGroups};
+ghost use Rattle.digraph_orders.specs.inner.Groups.{AreGroups, HaveOthers, IsAlone};
 
-use guppy_support::{Rows, pack_rows};
+use guppy_support::{IxBitSet, Rows, pack_rows};
 use std::alloc::{AllocError, Global};
 
 /// The nodes of each component.
@@ -11,16 +11,59 @@ use std::alloc::{AllocError, Global};
 pub(crate) struct Groups {
     /// The nodes of each component: row `r` is the component of rank `r`.
     pub(crate) rows: Rows,
+    /// The nodes of the components of several nodes. A node that isn't in this set is its component's rank. The
+    /// set is read in place of the ranks and rows, because it is small enough for a processor's cache.
+    pub(crate) several: IxBitSet,
+}
+
+/// Returns the set of the nodes whose rank is another node, and of those other nodes.
+fn several_nodes(alloc: Global, ranks: &[u32]) -> Result<IxBitSet, AllocError>
+    requires { (v : ℕ) → v < length ranks.now → slice_index ranks.now v < length ranks.now }
+    ensures long { IfOk result (λ set. length set ≡ length ranks.now) }
+    ensures others { IfOk result (HaveOthers ranks.now (length ranks.now)) }
+{
+    let mut several = IxBitSet::empty(alloc, ranks.len())?;
+    for node in 0..ranks.len() {
+        let rank = ranks[node] as usize;
+        if rank != node {
+            several.insert(node);
+            several.insert(rank);
+        }
+    }
+    Ok(several)
 }
 
 impl Groups {
     /// Groups the nodes by the rank of their component.
     pub(crate) fn new(alloc: Global, ranks: &[u32], nodes: usize) -> Result<Groups, AllocError>
-        requires { (v : ℕ) → v < length ranks.now → slice_index ranks.now v < nodes }
+        requires long { length ranks.now ≡ nodes }
+        requires small { (v : ℕ) → v < length ranks.now → slice_index ranks.now v < nodes }
         ensures { IfOk result (AreGroups nodes ranks.now) }
     {
         let rows = pack_rows(alloc, nodes, &ranks)?;
-        Ok(Groups { rows })
+        let several = several_nodes(alloc, ranks)?;
+        Ok(Groups { rows, several })
+    }
+
+    /// Returns true only if `node` is the only node of its component, and so its rank.
+    pub(crate) fn is_alone(&self, ranks: &[u32], node: usize, nodes: usize) -> bool
+        requires node { node < nodes }
+        requires groups { AreGroups nodes ranks.now self.now }
+        ensures { IsTrue result → IsAlone ranks.now node }
+    {
+        !self.several.contains(node)
+    }
+
+    /// Returns the rank of `node`'s component.
+    pub(crate) fn rank(&self, ranks: &[u32], node: usize, nodes: usize) -> usize
+        requires node { node < nodes }
+        requires groups { AreGroups nodes ranks.now self.now }
+        ensures { slice_index ranks.now node ≡ result }
+    {
+        if self.is_alone(ranks, node, nodes) {
+            return node;
+        }
+        ranks[node] as usize
     }
 
     /// Returns the nodes of component `rank`, ascending.

@@ -85,6 +85,9 @@ fn head_of(groups: &Groups, ranks: &[u32], held: &[u32], node: usize, nodes: usi
     requires nodes { (j : ℕ) → j < length (places (slice_index ranks.now node) ranks.now) → slice_index (places (slice_index ranks.now node) ranks.now) j < length held.now }
     ensures { IsFirst (places (slice_index ranks.now node) ranks.now) held.now result }
 {
+    if groups.is_alone(ranks, node, nodes) {
+        return node;
+    }
     let rank = ranks[node] as usize;
     first_of(groups.row(ranks, rank, nodes), held)
 }
@@ -111,7 +114,7 @@ fn leave_outside(
     ensures starts { StartsGrow (places (slice_index ranks.now node) ranks.now) held.now (slice_index outside.old.items (slice_index ranks.now node) - 1) (members starts.old) (members starts.new) }
     ensures room { length starts.new ≡ length starts.old }
 {
-    let rank = ranks[node] as usize;
+    let rank = groups.rank(ranks, node, nodes);
     let left = outside[rank] - 1;
     outside[rank] = left;
     if left == 0 {
@@ -167,6 +170,9 @@ impl Plan {
     {
         if let Some(node) = pop_fresh(&mut self.ready, &self.done) {
             return Some(node);
+        }
+        if groups.is_alone(ranks, rank, graph.node_count()) {
+            return None;
         }
         let members = groups.row(ranks, rank, graph.node_count());
         let Some(place) = fresh_from(members, self.next, &self.done) else {
@@ -241,7 +247,7 @@ impl Plan {
         ensures room { HasRoom self.new }
     {
         let edge = out_edge(graph, node, place);
-        if ranks[edge.to] != ranks[node] {
+        if groups.rank(ranks, edge.to, graph.node_count()) != ranks[node] as usize {
             self.pass_apart(graph, ranks, groups, node, place, edge);
             return;
         }
@@ -406,6 +412,9 @@ fn make_ready(
     ensures waits { RowWaits (places (slice_index ranks.now start) ranks.now) held.now start (members ready.new) }
     ensures room { length ready.new ≡ length ready.old }
 {
+    if groups.is_alone(ranks, start, nodes) {
+        return;
+    }
     let rank = ranks[start] as usize;
     let row = groups.row(ranks, rank, nodes);
     add_ready(ready, row, held, start);

@@ -1,16 +1,18 @@
 //! The first edge of each source, found in one pass because edges ascend by source.
-ghost use Rattle.std.specs.Prelude.{◌≡◌, ℕ, ◌+◌, ◌^◌, ◌<◌, ◌≤◌, length, slice_index, max, IfOk, OnOk};
+ghost use Rattle.std.specs.Prelude.{◌≡◌, ℕ, ◌+◌, ◌^◌, ◌<◌, ◌≤◌, length, slice_index, max, IfOk, OnOk, OnErr};
 ghost use Rattle.guppy_support.specs.Graph.{IsDigraph, sources};
 ghost use Rattle.guppy_support.specs.PackedRows.{AreAllBegun};
 
 use crate::digraph::columns::EdgeColumns;
 use std::alloc::{AllocError, Global};
 
-/// Sets the begins of all rows up to `node` that have none to `place`. An allocation's failure is the only error.
+/// Sets the begins of all rows up to `node` that have none to `place`. An allocation's failure is the only error;
+/// some rows may then have no begin yet.
 pub fn begin_up_to(begins: &mut Vec<u32>, node: usize, place: u32) -> Result<(), AllocError>
     ensures long { OnOk result (length begins.new.items ≡ max (length begins.old.items) (node + 1)) }
     ensures kept { OnOk result ((v : ℕ) → v < length begins.old.items → slice_index begins.new.items v ≡ slice_index begins.old.items v) }
     ensures added { OnOk result ((v : ℕ) → length begins.old.items ≤ v → v < length begins.new.items → slice_index begins.new.items v ≡ place) }
+    ensures front { OnErr result ((v : ℕ) → v < length begins.old.items → slice_index begins.new.items v ≡ slice_index begins.old.items v) }
 {
     while begins.len() <= node {
         begins.push(place)?;

@@ -7,5 +7,5 @@ invariant-loop-place l =
     record {
       long : length l.marks.items ≡ length l.initial.marks.items;
       within : l.place ≤ length l.pending;
-      given : AreGiven l.initial.marks.items l.marks.items l.from l.place l.rank;
+      given : AreGiven l.initial.marks.items l.marks.items l.from l.place l.level;
     }

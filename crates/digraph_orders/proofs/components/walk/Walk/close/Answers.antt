@@ -27,10 +27,10 @@ returns-then-index-place-clause-walk c =
     let none : get_or s.left.items last 0 ≡ 0 = rw left_last at c.requires.none in
     let mark : c.index.result.now ≡ get_or s.marks.items c.args.top 0 = get_or_read s.marks.items c.args.top c.index.result.now (search rules) c.index.ensures 0 in
     let long : c.len.result ≡ length s.bounds.items = search rules in
-    let bounds_some = bounded g s.marks.items s.pending.items s.bounds.items s.opened.items s.left.items s.rank w c.args.top last some c.requires.top in
+    let bounds_some = bounded g s.marks.items s.pending.items s.bounds.items s.opened.items s.left.items s.level w c.args.top last some c.requires.top in
     let bound = get_or_read s.bounds.items (c.len.result - 1) c.index-2.result.now (omega (arith, long, bounds_some)) c.index-2.ensures 0 in
     let bound' : c.index-2.result.now ≡ get_or s.bounds.items (length s.bounds.items - 1) 0 = rw long at bound in
-    closed_inner g s.marks.items s.pending.items s.bounds.items s.opened.items s.left.items s.rank w c.args.top last some c.requires.top none _ _ opened left
+    closed_inner g s.marks.items s.pending.items s.bounds.items s.opened.items s.left.items s.level w c.args.top last some c.requires.top none _ _ opened left
     (λ b h e.
     elim (cases_eq b (length s.bounds.items - 1)) [
       | inl q ↦ let e' : get_or s.bounds.items (length s.bounds.items - 1) 0 + 1 ≡ get_or s.marks.items c.args.top 0 = rw q at e in omega (arith, e', bound', mark, c.if-index-place.true)
@@ -56,10 +56,10 @@ returns-clause-walk c =
     let none : get_or s.left.items last 0 ≡ 0 = rw left_last at c.requires.none in
     let mark : c.index.result.now ≡ get_or s.marks.items c.args.top 0 = get_or_read s.marks.items c.args.top c.index.result.now (search rules) c.index.ensures 0 in
     let long : c.len.result ≡ length s.bounds.items = search rules in
-    let bounds_some = bounded g s.marks.items s.pending.items s.bounds.items s.opened.items s.left.items s.rank w c.args.top last some c.requires.top in
+    let bounds_some = bounded g s.marks.items s.pending.items s.bounds.items s.opened.items s.left.items s.level w c.args.top last some c.requires.top in
     let bound = get_or_read s.bounds.items (c.len.result - 1) c.index-2.result.now (omega (arith, long, bounds_some)) c.index-2.ensures 0 in
     let bound' : c.index-2.result.now ≡ get_or s.bounds.items (length s.bounds.items - 1) 0 = rw long at bound in
-    let low = bound_low g s.marks.items s.pending.items s.bounds.items s.opened.items s.left.items s.rank w c.args.top last some c.requires.top (length s.bounds.items - 1) (omega (arith, bounds_some)) in
+    let low = bound_low g s.marks.items s.pending.items s.bounds.items s.opened.items s.left.items s.level w c.args.top last some c.requires.top (length s.bounds.items - 1) (omega (arith, bounds_some)) in
     let place = c.index.result.now - 1 in
     let n3 : vec_len s.bounds ≡ length s.bounds.items = search rules in
     let at3 : get_or s.bounds.items (vec_len s.bounds - 1) 0 ≡ place = rw n3 (omega (arith, bound', mark, low, c.if-index-place.false)) in
@@ -68,11 +68,11 @@ returns-clause-walk c =
     let top_at : get_or s.marks.items c.args.top 0 ≡ place + 1 = omega (arith, mark, low) in
     let within : place ≤ length s.pending.items = omega (arith, mark, (rw c.requires.top at (w.opened_pending last (omega (arith, some)))).1) in
     let marked : 0 < length s.pending.items = omega (arith, top_at, (rw c.requires.top at (w.opened_pending last (omega (arith, some)))).1) in
-    let given : AreGiven s.marks.items c.give.new.marks.items place (length s.pending.items) s.rank = rw c.deref.ensures.value at c.give.ensures.given in
+    let given : AreGiven s.marks.items c.give.new.marks.items place (length s.pending.items) s.level = rw c.deref.ensures.value at c.give.ensures.given in
     let front : IsFrontOf s.pending.items c.truncate.new.self.items = rw c.truncate.ensures.items (front_take place s.pending.items) in
     let short : length c.truncate.new.self.items ≡ place = rw c.truncate.ensures.items (omega (arith, length-take place s.pending.items, within)) in
-    closed_root g s.marks.items s.pending.items s.bounds.items s.opened.items s.left.items s.rank w c.args.top last some c.requires.top none _ _ opened left
-    c.pop-3.new.self.items c.truncate.new.self.items c.give.new.marks.items place (s.rank - 1) bounds top_at front short given c.give.ensures.long (omega (arith, w.room, marked))
+    closed_root g s.marks.items s.pending.items s.bounds.items s.opened.items s.left.items s.level w c.args.top last some c.requires.top none _ _ opened left
+    c.pop-3.new.self.items c.truncate.new.self.items c.give.new.marks.items place (s.level - 1) bounds top_at front short given c.give.ensures.long (omega (arith, w.room, marked))
 
 pub returns-clause-steps : goal.returns-clause-steps
 returns-clause-steps c =
@@ -93,14 +93,14 @@ returns-clause-steps c =
     let none : get_or s.left.items last 0 ≡ 0 = rw left_last at c.requires.none in
     let mark : c.index.result.now ≡ get_or s.marks.items c.args.top 0 = get_or_read s.marks.items c.args.top c.index.result.now (search rules) c.index.ensures 0 in
     let long : c.len.result ≡ length s.bounds.items = search rules in
-    let bounds_some = bounded g s.marks.items s.pending.items s.bounds.items s.opened.items s.left.items s.rank w c.args.top last some c.requires.top in
+    let bounds_some = bounded g s.marks.items s.pending.items s.bounds.items s.opened.items s.left.items s.level w c.args.top last some c.requires.top in
     let bound = get_or_read s.bounds.items (c.len.result - 1) c.index-2.result.now (omega (arith, long, bounds_some)) c.index-2.ensures 0 in
     let bound' : c.index-2.result.now ≡ get_or s.bounds.items (length s.bounds.items - 1) 0 = rw long at bound in
-    let low = bound_low g s.marks.items s.pending.items s.bounds.items s.opened.items s.left.items s.rank w c.args.top last some c.requires.top (length s.bounds.items - 1) (omega (arith, bounds_some)) in
+    let low = bound_low g s.marks.items s.pending.items s.bounds.items s.opened.items s.left.items s.level w c.args.top last some c.requires.top (length s.bounds.items - 1) (omega (arith, bounds_some)) in
     let place = c.index.result.now - 1 in
-    let given : AreGiven s.marks.items c.give.new.marks.items place (length s.pending.items) s.rank = rw c.deref.ensures.value at c.give.ensures.given in
+    let given : AreGiven s.marks.items c.give.new.marks.items place (length s.pending.items) s.level = rw c.deref.ensures.value at c.give.ensures.given in
     let same : unentered g.nodes c.give.new.marks.items ≡ unentered g.nodes s.marks.items =
-    unentered_given g s.marks.items s.pending.items s.bounds.items s.opened.items s.left.items s.rank w c.give.new.marks.items place given
+    unentered_given g s.marks.items s.pending.items s.bounds.items s.opened.items s.left.items s.level w c.give.new.marks.items place given
     in
     let sums : sum_by (λ k. k) s.left.items ≡ sum_by (λ k. k) c.pop-2.new.self.items = rw left_items (omega (arith, sum_by-append (λ k. k) c.pop-2.new.self.items (0 ∷ []))) in
     let shorter : length s.opened.items ≡ length c.pop.new.self.items + 1 = rw opened_items (length_push c.pop.new.self.items c.args.top) in

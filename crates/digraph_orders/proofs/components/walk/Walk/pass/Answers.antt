@@ -26,8 +26,8 @@ returns-clause-walk c =
     let positive : 0 < get_or s.left.items last 0 = rw left_last at c.requires.some in
     let mark : c.index.result.now ≡ get_or s.marks.items c.args.node 0 = get_or_read s.marks.items c.args.node c.index.result.now (omega (arith, c.requires.node, w.marks_long)) c.index.ensures 0 in
     let next : c.args.node ≡ target_at g.edges c.args.top (length (places c.args.top (sources g.edges)) - get_or s.left.items last 0) = rw left_last at c.requires.next in
-    let j : IsWalking g s.marks.items s.pending.items bounds s.opened.items s.left.items s.rank =
-    joined g s.marks.items s.pending.items s.bounds.items s.opened.items s.left.items s.rank w c.args.top last some c.requires.top
+    let j : IsWalking g s.marks.items s.pending.items bounds s.opened.items s.left.items s.level =
+    joined g s.marks.items s.pending.items s.bounds.items s.opened.items s.left.items s.level w c.args.top last some c.requires.top
     c.args.node c.requires.edge c.requires.entered bounds f.front f.some (λ i a b. omega (arith, mark, f.dropped i a b))
     in
     let low : (b : ℕ) → b < length bounds → get_or bounds b 0 < get_or s.marks.items c.args.node 0 =
@@ -38,5 +38,5 @@ returns-clause-walk c =
     ]
     in
     rw at
-    (stepped g s.marks.items s.pending.items bounds s.opened.items s.left.items s.rank j c.args.top last some c.requires.top (c.index_mut.result.now - 1)
+    (stepped g s.marks.items s.pending.items bounds s.opened.items s.left.items s.level j c.args.top last some c.requires.top (c.index_mut.result.now - 1)
     (omega (arith, read', positive)) (λ b h. rw (sym next) (low b h)))

@@ -8,6 +8,6 @@ enter-requires-clause-led c =
     λ j h.
     let s = c.args.self.now in
     join
-    (all_to_top c.args.graph.now s.marks.items s.pending.items s.bounds.items s.opened.items s.left.items s.rank c.requires.walk
+    (all_to_top c.args.graph.now s.marks.items s.pending.items s.bounds.items s.opened.items s.left.items s.level c.requires.walk
     c.last-top.result (length s.opened.items - 1) (omega (arith, c.requires.opened)) c.last-top.ensures.value j h)
     (one_edge c.next-node.ensures.edge)
