@@ -1,180 +1,265 @@
--- Chains of hashes, and the first place of a name.
-use Rattle.std.proofs.Common.{◌≡◌, ◌≢◌, ◌∙◌, ℕ, ◌+◌, ◌-◌, ◌%◌, ◌<◌, ◌≤◌, ◌⊎◌, inl, inr, List, [], ◌∷◌, ◌++◌, Bool, true, false, Option, Some, None, get_or, length, map, set, ap, refl, sym, subst, arith, ⊎_elim, MatchOption}
-use Rattle.std.specs.Prelude.{if◌then◌else◌, position}
+-- Slots of hashes, and the first place of a name.
+use Rattle.std.proofs.Common.{◌≡◌, ◌≢◌, ◌∙◌, ℕ, zero, suc, ◌+◌, ◌-◌, ◌*◌, ◌/◌, ◌%◌, ◌^◌, ◌<◌, ◌≤◌, List, [], ◌∷◌, ◌++◌, Bool, true, false, cond, Some, None, get_or, length, map, set, replicate, ap, refl, sym, subst, arith, ⊎_elim}
+use Rattle.std.specs.Prelude.{position, count_by, nat_eq}
 use Rattle.std.specs.Cmp.Lexicographic.{bytes_decides}
 use Rattle.std.specs.List.{position_or_len}
 use Rattle.std.specs.Str.{bytes_eq}
-use Rattle.std.proofs.lemmas.Bool.{cases_eq, cases_lt}
-use Rattle.std.proofs.lemmas.List.{get_or-map, get_or-set_other, get_or-set_same, get_or_append_left, length-map, length-set, map-append}
-use lib.Seq.{map-set_same}
-use Rattle.std.proofs.lemmas.List.Sums.{position_or_len_is}
+use Rattle.std.proofs.lemmas.Bool.{cases_eq, cases_lt, false≢true}
+use Rattle.std.proofs.lemmas.Bool.Decides.{nat_tests}
+use Rattle.std.proofs.lemmas.Nat.{mod-mul-add, mod_below, rows}
+use Rattle.std.proofs.lemmas.List.{get_or_default, get_or-map, get_or-set_other, get_or-set_same, get_or_append_left, length-map, length-replicate, length-set}
+use Rattle.std.proofs.lemmas.List.Sums.{position_or_len_is, sum_by-cons, sum_by-set}
+use Rattle.guppy_packages.proofs.Lists.{position-map}
 use Rattle.guppy_packages.specs.Rows.{Text}
-use Rattle.guppy_packages.specs.declared.hash_places.Chained.{Chained}
-use Rattle.guppy_packages.specs.inner.HashPlaces.{AreChained, IsHead, befores_in, hashes_in, name_hash}
+use Rattle.guppy_packages.specs.inner.HashPlaces.{AreIn, IsFirstEmpty, IsIn, name_hash, slot_of}
 
--- a head is one over one more hash, which is in another bucket
-head_more : (m : ℕ) (hashes : List ℕ) (n b head : ℕ) → IsHead m hashes n b head → get_or hashes n 0 % m ≢ b → IsHead m hashes (n + 1) b head
-head_more m hashes n b head h other = record {
-  within = let w = h.within in omega arith;
-  there = h.there;
-  last = λ j low high same. ⊎_elim (λ (e : j ≡ n). other (subst (λ k. get_or hashes k 0 % m ≡ b) e same)) (λ (apart : j ≢ n). h.last j low (omega arith) same) (cases_eq j n);
-}
+-- ---- a hash's slots
 
--- the last hash is the head of its bucket
-head_last : (m : ℕ) (hashes : List ℕ) (n b : ℕ) → get_or hashes n 0 % m ≡ b → IsHead m hashes (n + 1) b (n + 1)
-head_last m hashes n b is = record {
-  within = omega arith;
-  there = λ _. let back : n ≡ n + 1 - 1 = omega arith in subst (λ k. get_or hashes k 0 % m ≡ b) back is;
-  last = λ j low high same. absurd (omega arith);
-}
+-- a number below `m`, or `m` above such a number
+mod_same : (m x y : ℕ) → y < m → x ≡ y → x % m ≡ y
+mod_same m x y lt is =
+    let e : 0 * m + y ≡ x = omega arith in
+    subst (λ k. k % m ≡ y) e (mod-mul-add 0 m y lt)
 
-module _ (heads : List ℕ) (chained new : List Chained) (at bucket : ℕ) (within : bucket < length heads) (inside : at < length (befores_in chained))
-    (is : get_or (hashes_in chained) at 0 % length heads ≡ bucket) (same : hashes_in new ≡ hashes_in chained)
-    (written : befores_in new ≡ set (befores_in chained) at (get_or heads bucket 0)) (below : AreChained at heads chained) where
-  begun : (b : ℕ) → b < length heads → IsHead (length heads) (hashes_in chained) (at + 1) b (get_or (set heads bucket (at + 1)) b 0)
-  begun b lt = ⊎_elim
-      (λ (e : b ≡ bucket). subst (λ k. IsHead (length heads) (hashes_in chained) (at + 1) k (get_or (set heads bucket (at + 1)) k 0)) (sym e)
-      (rw (get_or-set_same heads bucket (at + 1) 0 within) (head_last (length heads) (hashes_in chained) at bucket is)))
-      (λ (apart : b ≢ bucket). rw (get_or-set_other heads bucket b (at + 1) 0 apart) (head_more (length heads) (hashes_in chained) at b _ (below.begun b lt) (λ s. apart (sym s ∙ is))))
-      (cases_eq b bucket)
+mod_over : (m x y : ℕ) → y < m → x ≡ m + y → x % m ≡ y
+mod_over m x y lt is =
+    let e : 1 * m + y ≡ x = omega arith in
+    subst (λ k. k % m ≡ y) e (mod-mul-add 1 m y lt)
 
-  each : (i : ℕ) → i < at + 1 → IsHead (length heads) (hashes_in chained) i (get_or (hashes_in chained) i 0 % length heads) (get_or (set (befores_in chained) at (get_or heads bucket 0)) i 0)
-  each i lt = ⊎_elim
-      (λ (e : i ≡ at). subst (λ k. IsHead (length heads) (hashes_in chained) k (get_or (hashes_in chained) k 0 % length heads) (get_or (set (befores_in chained) at (get_or heads bucket 0)) k 0)) (sym e)
-      (rw (is, get_or-set_same (befores_in chained) at (get_or heads bucket 0) 0 inside) (below.begun bucket within)))
-      (λ (apart : i ≢ at). rw (get_or-set_other (befores_in chained) at i (get_or heads bucket 0) 0 apart) (below.each i (omega arith)))
-      (cases_eq i at)
+first_within : (m hash : ℕ) → 0 < m → hash < 2 ^ 32 → hash * m / 2 ^ 32 < m
+first_within m hash some small = grind (arith, rows)
 
-  -- one more hash is chained
-  pub chained_more : AreChained (at + 1) (set heads bucket (at + 1)) new
-  chained_more =
-      let long : length (set heads bucket (at + 1)) ≡ length heads = length-set heads bucket (at + 1) in
-      record {
-        begun = λ b lt. rw (long, same) (begun b (rw long at lt));
-        each = λ i lt. rw (long, same, written) (each i lt);
-      }
+-- no slot comes after the last
+pub slot_near : (m hash d : ℕ) → hash * m / 2 ^ 32 + d < m → hash * m / 2 ^ 32 + d ≡ slot_of m hash d
+unfolding slot_of
+slot_near m hash d lt = sym (mod_same m (hash * m / 2 ^ 32 + d) _ lt refl)
 
--- empty buckets, and nothing in chains
-pub none_chained : (heads : List ℕ) (chained : List Chained) → ((b : ℕ) → get_or heads b 0 ≡ 0) → AreChained 0 heads chained
-none_chained heads chained empty = record {
-  begun = λ b lt. rw (empty b) (record { within = omega arith; there = λ h. absurd (omega arith); last = λ j low high same. absurd (omega arith) });
-  each = λ i lt. absurd (omega arith);
-}
+-- slot 0 comes after the last
+pub slot_far : (m hash d : ℕ) → hash < 2 ^ 32 → d < m → m ≤ hash * m / 2 ^ 32 + d → hash * m / 2 ^ 32 + d - m ≡ slot_of m hash d
+unfolding slot_of
+slot_far m hash d small lt le =
+    let first = first_within m hash (omega arith) small in
+    sym (mod_over m (hash * m / 2 ^ 32 + d) _ (omega arith) (omega arith))
 
--- of two different numbers, one is less
-apart_side : (a b : ℕ) → a ≢ b → (a < b) ⊎ (b < a)
-apart_side a b apart = elim (cases_lt a b) [ inl less ↦ inl less | inr more ↦ inr (omega arith) ]
+slot_within : (m hash d : ℕ) → d < m → slot_of m hash d < m
+unfolding slot_of
+slot_within m hash d lt = mod_below (hash * m / 2 ^ 32 + d) m (omega arith)
 
--- a head stays one when hashes are appended
-head_kept : (m : ℕ) (hashes more : List ℕ) (n b head : ℕ) → n ≤ length hashes → IsHead m hashes n b head → IsHead m (hashes ++ more) n b head
-head_kept m hashes more n b head le h = let w = h.within in record {
-  within = w;
-  there = λ pos. rw (get_or_append_left hashes more 0 (head - 1) (omega arith)) (h.there pos);
-  last = λ j low high. rw (get_or_append_left hashes more 0 j (omega arith)) (h.last j low high);
-}
+-- each slot is one of them
+slot_reached : (m hash s : ℕ) → s < m → hash < 2 ^ 32 → (d : ℕ) × (d < m) × (slot_of m hash d ≡ s)
+unfolding slot_of
+slot_reached m hash s lt small =
+    let first : hash * m / 2 ^ 32 < m = first_within m hash (omega arith) small in
+    ⊎_elim
+    (λ (low : s < hash * m / 2 ^ 32). (s + m - hash * m / 2 ^ 32, omega arith, mod_over m (hash * m / 2 ^ 32 + (s + m - hash * m / 2 ^ 32)) s lt (omega arith)))
+    (λ (high : hash * m / 2 ^ 32 ≤ s). (s - hash * m / 2 ^ 32, omega arith, mod_same m (hash * m / 2 ^ 32 + (s - hash * m / 2 ^ 32)) s lt (omega arith)))
+    (cases_lt s (hash * m / 2 ^ 32))
 
--- and so do the chains
-pub chained_push : (heads : List ℕ) (chained : List Chained) (c : Chained) → AreChained (length chained) heads chained → AreChained (length chained) heads (chained ++ c ∷ [])
-chained_push heads chained c h =
-    let hashes : hashes_in (chained ++ c ∷ []) ≡ hashes_in chained ++ c.hash ∷ [] = map-append (λ (x : Chained). x.hash) chained (c ∷ []) in
-    let befores : befores_in (chained ++ c ∷ []) ≡ befores_in chained ++ c.before ∷ [] = map-append (λ (x : Chained). x.before) chained (c ∷ []) in
-    let long : length (hashes_in chained) ≡ length chained = length-map chained (λ (x : Chained). x.hash) in
-    let long_too : length (befores_in chained) ≡ length chained = length-map chained (λ (x : Chained). x.before) in
+-- ---- empty slots
+
+used_not_empty : (x : ℕ) → 0 < x → cond {A = ℕ} (nat_eq 0 x) 1 0 ≡ 0
+used_not_empty x pos = grind (arith, nat_tests)
+
+-- if no slot is empty, none is counted
+none_empty : (slots : List ℕ) → ((s : ℕ) → s < length slots → 0 < get_or slots s 0) → count_by (nat_eq 0) slots ≡ 0
+none_empty [] each = refl
+none_empty (x ∷ xs) each =
+    let here : cond {A = ℕ} (nat_eq 0 x) 1 0 ≡ 0 = used_not_empty x (each 0 (omega arith)) in
+    let rest : count_by (nat_eq 0) xs ≡ 0 = none_empty xs (λ s lt. each (suc s) (omega arith)) in
+    let all = sum_by-cons (λ (y : ℕ). cond {A = ℕ} (nat_eq 0 y) 1 0) x xs in
+    omega (arith, all, here, rest)
+
+-- so among the slots of a hash is an empty one
+pub empty_reached : (slots : List ℕ) (hash : ℕ) → hash < 2 ^ 32 → 0 < count_by (nat_eq 0) slots → ((d : ℕ) → d < length slots → 0 < get_or slots (slot_of (length slots) hash d) 0) → ⊥
+empty_reached slots hash small some each =
+    let none : count_by (nat_eq 0) slots ≡ 0 = none_empty slots (λ s lt. let at = slot_reached (length slots) hash s lt small in subst (λ k. 0 < get_or slots k 0) at.2 (each at.0 at.1)) in
+    omega arith
+
+-- only empty slots
+replicate_empty : (m : ℕ) → count_by (nat_eq 0) (replicate m 0) ≡ m
+replicate_empty zero = refl
+replicate_empty (suc m) =
+    let rest = replicate_empty m in
+    let all = sum_by-cons (λ (y : ℕ). cond {A = ℕ} (nat_eq 0 y) 1 0) 0 (replicate m 0) in
+    omega (arith, all, rest)
+
+replicate_zero : (m s : ℕ) → get_or (replicate {A = ℕ} m 0) s 0 ≡ 0
+replicate_zero zero s = refl
+replicate_zero (suc m) zero = refl
+replicate_zero (suc m) (suc s) = replicate_zero m s
+
+-- ---- places in slots
+
+pub none_in : (m : ℕ) (hashes : List ℕ) → m < 2 ^ 32 → AreIn 0 (replicate m 0) hashes
+none_in m hashes few =
+    let long : length (replicate {A = ℕ} m 0) ≡ m = length-replicate m 0 in
+    let all = replicate_empty m in
     record {
-      begun = λ b lt. rw hashes (head_kept (length heads) (hashes_in chained) (c.hash ∷ []) (length chained) b _ (omega arith) (h.begun b lt));
-      each = λ i lt. rw (hashes, befores, get_or_append_left (hashes_in chained) (c.hash ∷ []) 0 i (omega arith), get_or_append_left (befores_in chained) (c.before ∷ []) 0 i (omega arith))
-          (head_kept (length heads) (hashes_in chained) (c.hash ∷ []) i _ _ (omega arith) (h.each i lt));
+      few = omega arith;
+      below = λ s. let is = replicate_zero m s in omega arith;
+      each = λ i lt. absurd (omega arith);
+      empty = omega arith;
     }
 
--- an end of a chain of bucket `b`
-pub record IsOn (m : ℕ) (hashes : List ℕ) (b at : ℕ) : Type 0 where
-  pub within : at ≤ length hashes
-  pub there : 0 < at → get_or hashes (at - 1) 0 % m ≡ b
+-- a write to an empty slot leaves the others
+used_kept : (slots : List ℕ) (slot v s : ℕ) → get_or slots slot 0 ≡ 0 → 0 < get_or slots s 0 → get_or (set slots slot v) s 0 ≡ get_or slots s 0
+used_kept slots slot v s empty used = get_or-set_other slots slot s v 0 (λ (e : s ≡ slot). let is : get_or slots s 0 ≡ 0 = subst (λ k. get_or slots k 0 ≡ 0) (sym e) empty in omega arith)
 
--- the first place of `name` from `low` on
-abbrev pub IsFirstFrom : Text → List Text → ℕ → Option ℕ → Type 0
-IsFirstFrom name names low found = MatchOption found ((j : ℕ) → low ≤ j → j < length names → bytes_eq name (get_or names j []) ≡ false)
-    (λ p. (low ≤ p) × (p < length names) × (bytes_eq name (get_or names p []) ≡ true) × ((j : ℕ) → low ≤ j → j < p → bytes_eq name (get_or names j []) ≡ false))
+in_kept : (slots : List ℕ) (hash i d slot v : ℕ) → get_or slots slot 0 ≡ 0 → IsIn slots hash i d → IsIn (set slots slot v) hash i d
+in_kept slots hash i d slot v empty h =
+    let there = h.there in
+    let long : length (set slots slot v) ≡ length slots = length-set slots slot v in
+    record {
+      within = rw long h.within;
+      there = rw long (used_kept slots slot v _ empty (omega arith) ∙ there);
+      used = λ e lt. rw (long, used_kept slots slot v _ empty (h.used e lt)) (h.used e lt);
+      lower = λ e lt. rw (long, used_kept slots slot v _ empty (h.used e lt)) (h.lower e lt);
+    }
 
--- from the start of the list, that is its first place
-pub first_found : (name : Text) (names : List Text) (found : Option ℕ) → IsFirstFrom name names 0 found → found ≡ position (bytes_eq name) names
-first_found name names None none =
-    let at : position_or_len (bytes_eq name) names ≡ length names = position_or_len_is (bytes_eq name) names (length names) [] (omega arith) (λ k lt. none k (omega arith) lt) (λ lt. absurd (omega arith)) in
+-- one more place is in a slot
+pub in_more : (n : ℕ) (slots hashes : List ℕ) (slot : ℕ) → AreIn n slots hashes → IsFirstEmpty slots (get_or hashes n 0) slot → AreIn (n + 1) (set slots slot (n + 1)) hashes
+in_more n slots hashes slot h first =
+    let long : length (set slots slot (n + 1)) ≡ length slots = length-set slots slot (n + 1) in
+    let within : slot < length slots = rw first.is (slot_within (length slots) (get_or hashes n 0) first.offset first.within) in
+    record {
+      few = rw long h.few;
+      below = λ s. ⊎_elim (λ (e : s ≡ slot). rw (e, get_or-set_same slots slot (n + 1) 0 within) (omega arith)) (λ (apart : s ≢ slot). rw (get_or-set_other slots slot s (n + 1) 0 apart) (let b = h.below s in omega arith)) (cases_eq s slot);
+      each = λ i lt. ⊎_elim (λ (e : i ≡ n). subst (λ k. (d : ℕ) × IsIn (set slots slot (n + 1)) (get_or hashes k 0) k d) (sym e) (first.offset, here))
+          (λ (apart : i ≢ n). let old = h.each i (omega arith) in (old.0, in_kept slots (get_or hashes i 0) i old.0 slot (n + 1) first.empty old.1)) (cases_eq i n);
+      empty =
+          let count = sum_by-set (λ (y : ℕ). cond {A = ℕ} (nat_eq 0 y) 1 0) slots slot (n + 1) 0 within in
+          let before : cond {A = ℕ} (nat_eq 0 (get_or slots slot 0)) 1 0 ≡ 1 = rw first.empty in
+          let after = used_not_empty (n + 1) (omega arith) in
+          let old = h.empty in
+          omega (arith, count, before, after, old, long);
+    }
+  where
+    here : IsIn (set slots slot (n + 1)) (get_or hashes n 0) n first.offset
+    here =
+        let within : slot < length slots = rw first.is (slot_within (length slots) (get_or hashes n 0) first.offset first.within) in
+        let long : length (set slots slot (n + 1)) ≡ length slots = length-set slots slot (n + 1) in
+        record {
+          within = rw long first.within;
+          there = rw (long, ← first.is) (get_or-set_same slots slot (n + 1) 0 within);
+          used = λ e lt. rw (long, used_kept slots slot (n + 1) _ first.empty (first.used e lt)) (first.used e lt);
+          lower = λ e lt. rw (long, used_kept slots slot (n + 1) _ first.empty (first.used e lt)) (h.below _);
+        }
+
+-- places stay in their slots when hashes are appended
+pub in_push : (slots hashes : List ℕ) (hash : ℕ) → AreIn (length hashes) slots hashes → AreIn (length hashes) slots (hashes ++ hash ∷ [])
+in_push slots hashes hash h = record {
+  few = h.few;
+  below = h.below;
+  each = λ i lt. rw (get_or_append_left hashes (hash ∷ []) 0 i lt) (h.each i lt);
+  empty = h.empty;
+}
+
+-- ---- the first place of a name
+
+-- what is read at a hash's slot
+pub read_slot : (slots : List ℕ) (m hash o at x : ℕ) → m ≡ length slots → at ≡ slot_of m hash o → at < length slots → x ≡ get_or slots at x → x ≡ get_or slots (slot_of (length slots) hash o) 0
+read_slot slots m hash o at x long is within read = read ∙ get_or_default slots at x 0 within ∙ ap (λ k. get_or slots k 0) (is ∙ ap (λ k. slot_of k hash o) long)
+
+-- the places in the first `o` slots of a hash have other names
+pub record AreOthers (name : Text) (names : List Text) (slots : List ℕ) (hash o : ℕ) : Type 0 where
+  pub others : (d i : ℕ) → d < o → get_or slots (slot_of (length slots) hash d) 0 ≡ i + 1 → bytes_eq name (get_or names i []) ≡ false
+
+pub no_others : (name : Text) (names : List Text) (slots : List ℕ) (hash : ℕ) → AreOthers name names slots hash 0
+no_others name names slots hash = record { others = λ d i lt is. absurd (omega arith) }
+
+others_more : (name : Text) (names : List Text) (slots : List ℕ) (hash o i : ℕ) → AreOthers name names slots hash o → get_or slots (slot_of (length slots) hash o) 0 ≡ i + 1 → bytes_eq name (get_or names i []) ≡ false
+    → AreOthers name names slots hash (o + 1)
+others_more name names slots hash o i h there other = record {
+  others = λ d j lt is.
+      ⊎_elim (λ (e : d ≡ o). let here : get_or slots (slot_of (length slots) hash o) 0 ≡ j + 1 = subst (λ k. get_or slots (slot_of (length slots) hash k) 0 ≡ j + 1) e is in
+      let same : i ≡ j = omega arith in
+      subst (λ k. bytes_eq name (get_or names k []) ≡ false) same other)
+      (λ (apart : d ≢ o). h.others d j (omega arith) is)
+      (cases_eq d o);
+}
+
+false_unless : (b : Bool) → (b ≡ true → ⊥) → b ≡ false
+false_unless false h = refl
+false_unless true h = absurd (h refl)
+
+-- no name passes
+none_passes : (p : Text → Bool) (names : List Text) → ((j : ℕ) → j < length names → p (get_or names j []) ≡ true → ⊥) → None ≡ position p names
+none_passes p names none =
+    let at : position_or_len p names ≡ length names = position_or_len_is p names (length names) [] (omega arith) (λ j lt. false_unless _ (none j lt)) (λ lt. absurd (omega arith)) in
     rw at (sym (grind arith))
-first_found name names (Some p) h =
-    let at : position_or_len (bytes_eq name) names ≡ p = position_or_len_is (bytes_eq name) names p [] (let lt = h.1 in omega arith) (λ k lt. h.3 k (omega arith) lt) (λ _. h.2) in
-    rw at (let lt = h.1 in sym (grind arith))
 
-module _ (m : ℕ) (name : Text) (names : List Text) (hashes : List ℕ) (are : hashes ≡ map name_hash names) where
-  hash_at : (j : ℕ) → j < length names → get_or hashes j 0 ≡ name_hash (get_or names j [])
-  hash_at j lt = ap (λ l. get_or l j 0) are ∙ get_or-map name_hash names j [] 0 lt
-
-  -- a name in another bucket is another name
-  other_bucket : (j : ℕ) → j < length names → get_or hashes j 0 % m ≢ name_hash name % m → bytes_eq name (get_or names j []) ≡ false
-  other_bucket j lt other = go (bytes_eq name (get_or names j [])) refl
-    where
-      go : (b : Bool) → bytes_eq name (get_or names j []) ≡ b → b ≡ false
-      go false e = refl
-      go true e = absurd (other (ap (λ h. h % m) (hash_at j lt ∙ ap name_hash (sym ((bytes_decides name (get_or names j [])).0 e)))))
-
-  -- at the head of its bucket, nothing is found
-  pub start_found : (b head : ℕ) → b ≡ name_hash name % m → IsHead m hashes (length hashes) b head → IsFirstFrom name names head None
-  start_found b head is h = λ j low lt.
-      let long : length hashes ≡ length names = ap length are ∙ length-map names name_hash in
-      other_bucket j lt (λ s. h.last j low (omega arith) (s ∙ sym is))
-
-  -- one place back in the chain
-  pub back_found : (at before : ℕ) (found : Option ℕ) → 0 < at → at ≤ length hashes → get_or hashes (at - 1) 0 % m ≡ name_hash name % m → IsHead m hashes (at - 1) (get_or hashes (at - 1) 0 % m) before
-      → IsFirstFrom name names at found → (b : Bool) → b ≡ bytes_eq name (get_or names (at - 1) []) → IsFirstFrom name names before (if b then Some (at - 1) else found)
-  back_found at before found pos le bucket h first true e =
-      let long : length hashes ≡ length names = ap length are ∙ length-map names name_hash in
-      let w = h.within in
-      (w, omega arith, sym e, λ j low lt. other_bucket j (omega arith) (λ s. h.last j low lt (s ∙ sym bucket)))
-  back_found at before None pos le bucket h first false e = λ j low lt.
-      let long : length hashes ≡ length names = ap length are ∙ length-map names name_hash in
-      ⊎_elim (λ (here : j ≡ at - 1). subst (λ k. bytes_eq name (get_or names k []) ≡ false) (sym here) (sym e))
-      (λ (apart : j ≢ at - 1). ⊎_elim (λ (less : j < at - 1). other_bucket j lt (λ s. h.last j low less (s ∙ sym bucket))) (λ (more : at - 1 < j). first j (omega arith) lt) (apart_side j (at - 1) apart))
-      (cases_eq j (at - 1))
-  back_found at before (Some p) pos le bucket h first false e =
-      let w = h.within in
-      let from = first.0 in (
-        omega arith,
-        first.1,
-        first.2,
-        λ j low lt.
-            ⊎_elim (λ (here : j ≡ at - 1). subst (λ k. bytes_eq name (get_or names k []) ≡ false) (sym here) (sym e))
-            (λ (apart : j ≢ at - 1). ⊎_elim (λ (less : j < at - 1). other_bucket j (let f = first.1 in omega arith) (λ s. h.last j low less (s ∙ sym bucket))) (λ (more : at - 1 < j). first.3 j (omega arith) lt) (apart_side j (at - 1) apart))
-            (cases_eq j (at - 1)),
-      )
-
--- a write of a hash's `before` leaves the hashes
-pub same_hashes : (xs : List Chained) (at : ℕ) (c : Chained) (before : ℕ) → at < length xs → c ≡ get_or xs at c → hashes_in (set xs at (record { hash = c.hash; before = before })) ≡ hashes_in xs
-same_hashes xs at c before within is = map-set_same (λ (x : Chained). x.hash) xs at (record { hash = c.hash; before = before }) c (ap (λ (x : Chained). x.hash) is)
+-- name `i` passes, and none before it
+first_passes : (p : Text → Bool) (names : List Text) (i : ℕ) → i < length names → p (get_or names i []) ≡ true → ((j : ℕ) → j < i → p (get_or names j []) ≡ true → ⊥) → Some i ≡ position p names
+first_passes p names i lt is none =
+    let at : position_or_len p names ≡ i = position_or_len_is p names i [] (omega arith) (λ j less. false_unless _ (none j less)) (λ _. is) in
+    rw at (sym (grind arith))
 
 -- the hashes of named items
-pub hashes_named : {X : Type 0} (name_of : X → Text) (items : List X) → map (λ t. name_hash (name_of t)) items ≡ map name_hash (map name_of items)
+hashes_named : {X : Type 0} (name_of : X → Text) (items : List X) → map (λ t. name_hash (name_of t)) items ≡ map name_hash (map name_of items)
 hashes_named name_of [] = refl
 hashes_named name_of (x ∷ xs) = ap (λ l. name_hash (name_of x) ∷ l) (hashes_named name_of xs)
 
-module _ (name : Text) (names : List Text) (heads : List ℕ) (chained : List Chained) (whole : AreChained (length chained) heads chained) (are : hashes_in chained ≡ map name_hash names) (hash : ℕ) (is : hash ≡ name_hash name) where
-  long : length (hashes_in chained) ≡ length chained
-  long = length-map chained (λ (c : Chained). c.hash)
+module _ {X : Type 0} (name_of : X → Text) (items : List X) (slots hashes : List ℕ) (whole : AreIn (length hashes) slots hashes) (are : hashes ≡ map (λ t. name_hash (name_of t)) items) where
+  long : length hashes ≡ length items
+  long = ap length are ∙ length-map items (λ t. name_hash (name_of t))
 
-  -- the search begins
-  pub find_begins : (bucket head : ℕ) → bucket < length heads → bucket ≡ hash % length heads → head ≡ get_or heads bucket 0 → IsOn (length heads) (hashes_in chained) (hash % length heads) head × IsFirstFrom name names head None
-  find_begins bucket head within value read =
-      let h : IsHead (length heads) (hashes_in chained) (length (hashes_in chained)) bucket head = rw (long, read) (whole.begun bucket within) in
-      (record { within = h.within; there = λ pos. h.there pos ∙ value }, start_found (length heads) name names (hashes_in chained) are bucket head (value ∙ ap (λ k. k % length heads) is) h)
+  -- what a slot has is a place
+  pub place_within : (s x : ℕ) → x ≡ get_or slots s 0 → x ≢ 0 → x - 1 < length items
+  place_within s x read some = let le = whole.below s in omega (arith, long)
 
-  -- the search goes on
-  pub find_goes : (at : ℕ) (here : Chained) (found : Option ℕ) → 0 < at → here ≡ get_or chained (at - 1) here → IsOn (length heads) (hashes_in chained) (hash % length heads) at → IsFirstFrom name names at found
-      → (b : Bool) → b ≡ bytes_eq name (get_or names (at - 1) []) → IsOn (length heads) (hashes_in chained) (hash % length heads) here.before × IsFirstFrom name names here.before (if b then Some (at - 1) else found)
-  find_goes at here found pos read on first b passes =
-      let le = on.within in
-      let inside : at - 1 < length chained = omega (arith, long) in
-      let before : here.before ≡ get_or (befores_in chained) (at - 1) 0 = ap (λ (c : Chained). c.before) read ∙ sym (get_or-map (λ (c : Chained). c.before) chained (at - 1) here 0 inside) in
-      let h : IsHead (length heads) (hashes_in chained) (at - 1) (get_or (hashes_in chained) (at - 1) 0 % length heads) here.before = rw before (whole.each (at - 1) inside) in
-      let w = h.within in (
-        record { within = omega arith; there = λ p. h.there p ∙ on.there pos },
-        back_found (length heads) name names (hashes_in chained) are at here.before found pos le (on.there pos ∙ ap (λ k. k % length heads) is) h first b passes,
-      )
+  -- with the hash of its item's name
+  pub hash_there : (i hash : ℕ) (item : X) → i < length items → hash ≡ get_or hashes i hash → item ≡ get_or items i item → hash ≡ name_hash (name_of item)
+  hash_there i hash item lt read is = read ∙ ap (λ l. get_or l i hash) are ∙ get_or-map (λ t. name_hash (name_of t)) items i item hash lt ∙ ap (λ t. name_hash (name_of t)) (sym is)
+
+  module _ (name : Text) (hash : ℕ) (is : hash ≡ name_hash name) where
+    there : (i : ℕ) → i < length items → bytes_eq name (get_or (map name_of items) i []) ≡ true → get_or hashes i 0 ≡ hash
+    there i lt same =
+        ap (λ l. get_or l i 0) (are ∙ hashes_named name_of items) ∙ get_or-map name_hash (map name_of items) i [] 0 (rw (length-map items name_of) lt)
+        ∙ ap name_hash (sym ((bytes_decides name (get_or (map name_of items) i [])).0 same)) ∙ sym is
+
+    -- a place with the name is in a later slot of its hash
+    not_before : (o : ℕ) → AreOthers name (map name_of items) slots hash o → (i : ℕ) → i < length items → bytes_eq name (get_or (map name_of items) i []) ≡ true → (d : ℕ) × (o ≤ d) × IsIn slots hash i d
+    not_before o h i lt same =
+        let at = whole.each i (omega (arith, long)) in
+        let here : IsIn slots hash i at.0 = subst (λ k. IsIn slots k i at.0) (there i lt same) at.1 in
+        (at.0, ⊎_elim (λ (low : at.0 < o). absurd (false≢true (sym (h.others at.0 i low here.there) ∙ same))) (λ (high : o ≤ at.0). high) (cases_lt at.0 o), here)
+
+    -- a place that is not in the next slot is in one after it
+    after : (o i d x : ℕ) → o ≤ d → IsIn slots hash i d → x ≡ get_or slots (slot_of (length slots) hash o) 0 → x ≢ i + 1 → (0 < x) × (x ≤ i)
+    after o i d x le h read other =
+        ⊎_elim (λ (low : o < d). (rw read (h.used o low), rw read (h.lower o low)))
+        (λ (high : d ≤ o). let e : d ≡ o = omega arith in absurd (other (read ∙ subst (λ k. get_or slots (slot_of (length slots) hash k) 0 ≡ i + 1) e h.there)))
+        (cases_lt o d)
+
+    passes_at : (i : ℕ) (item : X) (b : Bool) → i < length items → item ≡ get_or items i item → bytes_eq name (name_of item) ≡ b → bytes_eq name (get_or (map name_of items) i []) ≡ b
+    passes_at i item b lt read passes = ap (bytes_eq name) (get_or-map name_of items i item [] lt ∙ ap name_of (sym read)) ∙ passes
+
+    -- the search ends at the name
+    pub found_item : (o x : ℕ) (item : X) → AreOthers name (map name_of items) slots hash o → x ≡ get_or slots (slot_of (length slots) hash o) 0 → x ≢ 0 → item ≡ get_or items (x - 1) item → bytes_eq name (name_of item) ≡ true
+        → Some (x - 1) ≡ position (λ t. bytes_eq name (name_of t)) items
+    found_item o x item h read some here same =
+        let lt = place_within _ x read some in
+        first_passes (bytes_eq name) (map name_of items) (x - 1) (rw (length-map items name_of) lt) (passes_at (x - 1) item true lt here same)
+        (λ j less t. let met = not_before o h j (omega arith) t in let next = after o j met.0 x met.1 met.2 read (λ (e : x ≡ j + 1). omega arith) in omega arith)
+        ∙ position-map name_of (bytes_eq name) items
+
+    -- or at an empty slot
+    pub none_found : (o x : ℕ) → AreOthers name (map name_of items) slots hash o → x ≡ get_or slots (slot_of (length slots) hash o) 0 → x ≡ 0 → None ≡ position (λ t. bytes_eq name (name_of t)) items
+    none_found o x h read none =
+        none_passes (bytes_eq name) (map name_of items)
+        (λ j lt t. let met = not_before o h j (rw (← length-map items name_of) lt) t in let next = after o j met.0 x met.1 met.2 read (λ (e : x ≡ j + 1). omega arith) in omega arith)
+        ∙ position-map name_of (bytes_eq name) items
+
+    -- or after all slots
+    pub none_left : (o : ℕ) → length slots ≤ o → AreOthers name (map name_of items) slots hash o → None ≡ position (λ t. bytes_eq name (name_of t)) items
+    none_left o end h =
+        none_passes (bytes_eq name) (map name_of items)
+        (λ j lt t. let met = not_before o h j (rw (← length-map items name_of) lt) t in let le = met.1 in let within = met.2.within in omega arith)
+        ∙ position-map name_of (bytes_eq name) items
+
+    -- or goes on
+    pub others_after : (o x : ℕ) (item : X) → AreOthers name (map name_of items) slots hash o → x ≡ get_or slots (slot_of (length slots) hash o) 0 → x ≢ 0 → item ≡ get_or items (x - 1) item → bytes_eq name (name_of item) ≡ false
+        → AreOthers name (map name_of items) slots hash (o + 1)
+    others_after o x item h read some here other =
+        let lt = place_within _ x read some in
+        others_more name (map name_of items) slots hash o (x - 1) h (omega arith) (passes_at (x - 1) item false lt here other)

@@ -1,4 +1,4 @@
--- What is found among the things that declarations share.
+-- Look-ups among the platforms and the lists that declarations share.
 use Rattle.std.proofs.Common.{◌≡◌, ◌∙◌, ◌<◌, ◌+◌, ℕ, zero, suc, List, [], ◌∷◌, Bool, true, false, cond, not, ◌&&◌, Bor, Some, Result, Ok, Err, Global, String, ap, drop, get_or, length, map, refl, subst, sym, arith}
 use Rattle.std.specs.Prelude.{All, IfOk, MatchResult, find, if◌then◌else◌, slice_get}
 use Rattle.std.specs.Cmp.Lexicographic.{bytes_decides, pointwise}
@@ -43,7 +43,7 @@ found_value P test (e ∷ es) v all h = go (test (string_bytes e.0)) refl h (all
         (string_bytes e.0, p, subst (P (string_bytes e.0)) same first)
     go false p h first more = more h
 
--- and it still does of each when a pair of which it holds is inserted
+-- if it holds of each pair, and of one that is inserted, then it holds of each pair afterwards
 pub inserted_value : {V : Type 0} (P : Text → V → Type 0) (k : String Global) (v : V) → P (string_bytes k) v → (es : List (String Global × V)) → All (λ e. P (string_bytes e.0) e.1) es → All (λ e. P (string_bytes e.0) e.1) (insert_entry string_eq es k v)
 inserted_value P k v new [] all = all_of (λ x. P (string_bytes x.0) x.1) (k, v) [] new all
 inserted_value P k v new (e ∷ es) all = go (string_eq k e.0) refl (inserted_value P k v new es (all_later (λ x. P (string_bytes x.0) x.1) e es all))

@@ -9,6 +9,7 @@ ghost use Rattle.guppy_packages.specs.inner.RowTexts.{AreAt, row_texts, stored_t
 ghost use Rattle.guppy_packages.specs.inner.Steps.{Takes, add_package, add_feature, add_name, change_last, first_step, with_feature, with_name};
 
 use crate::contents::PackageData;
+use crate::hash_places::hash_of;
 use crate::name_set::NameSet;
 use crate::named_feature::NamedFeature;
 use crate::optional_names::OptionalNames;
@@ -20,35 +21,39 @@ use crate::row_source::RowSource;
 use crate::row_texts::next_text;
 use crate::text_list::TextList;
 use crate::text_run::TextRun;
-use std::alloc::Global;
+use std::alloc::{AllocError, Global};
 use std::rc::Rc;
 
-/// Returns a package with no features and no optional names; it allocates nothing.
+/// Returns a package with no features and no optional names, with room for `room` features. `AllocError` is the only error.
 #[inline]
-fn blank_package(alloc: Global, in_workspace: bool) -> PackageData
-    ensures { result ≡ record { in_workspace = in_workspace; features = []; optional_names = [] } }
+fn blank_package(alloc: Global, in_workspace: bool, room: usize) -> Result<PackageData, AllocError>
+    ensures { IfOk result (λ blank. blank ≡ record { in_workspace = in_workspace; features = []; optional_names = [] }) }
 {
-    PackageData {
+    Ok(PackageData {
         in_workspace,
-        features: NameSet::new(alloc),
+        features: NameSet::with_capacity(alloc, room)?,
         optional_names: OptionalNames::new(),
-    }
+    })
 }
 
-/// Reads a Package row: appends the package `id`, or returns `DuplicatePackage` if `packages` already has it.
+/// Reads a Package row: appends the package `id`, with room for `room` features, or returns `DuplicatePackage` if `packages` already
+/// has it.
 fn push_package(
     alloc: Global,
     packages: &mut PackageList,
     id: &str,
     in_workspace: bool,
+    room: usize,
 ) -> Result<(), RowFault>
     ensures { Takes (package_tables packages.new) result (add_package id.now in_workspace (package_tables packages.old)) }
 {
-    if packages.place_of(id).is_some() {
+    let hash = hash_of(id);
+    if packages.place_hashed(id, hash).is_some() {
         return Err(RowFault::DuplicatePackage);
     }
     let id = PackageId::new(alloc, id)?;
-    packages.push(alloc, (id, blank_package(alloc, in_workspace)))?;
+    let data = blank_package(alloc, in_workspace, room)?;
+    packages.push_hashed(alloc, (id, data), hash)?;
     Ok(())
 }
 
@@ -122,7 +127,8 @@ fn end_package(packages: &mut PackageList)
     last.1.optional_names.shrink_to_fit();
 }
 
-/// Reads a row in the first pass, or returns its fault. Its texts are those of `list` from `at` up to, not including, `next`.
+/// Reads a row in the first pass, or returns its fault. Its texts are those of `list` from `at` up to, not including, `next`. A new
+/// package has room for `room` features.
 fn take_row(
     alloc: Global,
     packages: &mut PackageList,
@@ -130,6 +136,7 @@ fn take_row(
     at: usize,
     next: usize,
     row: Row,
+    room: usize,
 ) -> Result<(), RowFault>
     requires texts { AreAt list.now.value at (row_texts (row_text row)) }
     requires next { next ≡ at + length (row_texts (row_text row)) }
@@ -138,7 +145,7 @@ fn take_row(
     match row {
         Row::Package { id, in_workspace } => {
             end_package(packages);
-            push_package(alloc, packages, id, in_workspace)
+            push_package(alloc, packages, id, in_workspace, room)
         }
         Row::Feature { .. } => {
             let texts = TextRun::new(list, at, next - at)?;
@@ -149,20 +156,44 @@ fn take_row(
 }
 
 /// Reads a row in the first pass, or returns its fault. Its texts begin at `at` in `list`; returns where those of the next row begin.
+/// A new package has room for `room` features.
 fn take_row_at(
     alloc: Global,
     packages: &mut PackageList,
     list: &Rc<TextList>,
     at: usize,
     row: Row,
+    room: usize,
 ) -> Result<usize, RowFault>
     requires { AreAt list.now.value at (row_texts (row_text row)) }
     ensures tables { Takes (package_tables packages.new) result (first_step (package_tables packages.old) (row_text row.entry)) }
     ensures next { IfOk result (λ next. next ≡ at + length (row_texts (row_text row.entry))) }
 {
     let next = next_text(at, row)?;
-    take_row(alloc, packages, list, at, next, row)?;
+    take_row(alloc, packages, list, at, next, row, room)?;
     Ok(next)
+}
+
+/// Returns the number of Feature rows from row `start` up to the next Package row, or up to the end.
+fn features_from<S: RowSource>(source: &S, start: usize) -> usize {
+    let mut count: usize = 0;
+    for ix in start..source.row_count() {
+        match source.row(ix) {
+            Row::Package { .. } => return count,
+            Row::Feature { .. } => count = count.saturating_add(1),
+            Row::Dep { .. } => {}
+        }
+    }
+    count
+}
+
+/// Returns the number of features for which a package needs room, if `row` is its Package row and row `next` is the one after it. For
+/// any other row it is 0.
+fn room_for<S: RowSource>(source: &S, row: Row, next: usize) -> usize {
+    match row {
+        Row::Package { .. } => features_from(source, next),
+        Row::Feature { .. } | Row::Dep { .. } => 0,
+    }
 }
 
 /// Runs the first pass and returns the packages, or the first fault of a row by itself. `list` has the texts of all rows. The list's
@@ -178,10 +209,12 @@ pub(crate) fn take_packages<S: RowSource>(
 {
     let mut packages = PackageList::new(alloc);
     let mut at = 0;
-    for row in 0..source.row_count() {
-        match take_row_at(alloc, &mut packages, list, at, source.row(row)) {
+    for ix in 0..source.row_count() {
+        let row = source.row(ix);
+        let room = room_for(source, row, ix + 1);
+        match take_row_at(alloc, &mut packages, list, at, row, room) {
             Ok(next) => at = next,
-            Err(fault) => return Err(RowError::new(row, fault)),
+            Err(fault) => return Err(RowError::new(ix, fault)),
         }
     }
     end_package(&mut packages);

@@ -8,10 +8,9 @@ ghost use Rattle.guppy_packages.specs.Stored.{link_tables, package_tables};
 ghost use Rattle.guppy_packages.specs.Tables.{AreTables};
 ghost use Rattle.guppy_packages.specs.inner.Begins.{AreAllBegun};
 
-use crate::contents::{Link, PackageData};
+use crate::contents::Link;
 use crate::link_begins::link_begins;
 use crate::package_graph::PackageGraph;
-use crate::package_id::PackageId;
 use crate::package_list::PackageList;
 use crate::package_order::package_order;
 use crate::package_tables::PackageTables;
@@ -47,7 +46,7 @@ impl PackageGraph {
         PackageGraph::from_source(alloc, &RowSlice { rows })
     }
 
-    /// Returns the graph of the rows of `source`, or the first fault, as `from_rows` does. Each row is requested three times.
+    /// Returns the graph of the rows of `source`, or the first fault, as `from_rows` does. Each row is requested at most four times.
     pub fn from_source<S: RowSource>(alloc: Global, source: &S) -> Result<PackageGraph, RowError>
         ensures tables { Reads (λ graph. graph) result (tables_of (S.rows source.now)) }
         ensures row { IfErr result (NamesRow (S.rows source.now)) }

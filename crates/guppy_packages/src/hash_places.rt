@@ -1,7 +1,7 @@
 //! Places in a list, found by the hashes of names.
-ghost use Rattle.std.specs.Prelude.{◌≡◌, ◌+◌, ◌%◌, ◌^◌, ◌<◌, ◌++◌, ◌∷◌, [], ℕ, IfOk, OnOk, OnErr, length, map, position, slice_index};
+ghost use Rattle.std.specs.Prelude.{◌≡◌, ◌+◌, ◌^◌, ◌<◌, ◌++◌, ◌∷◌, [], ℕ, IfOk, OnOk, OnErr, length, map, position, slice_index, count_by, nat_eq, replicate};
 ghost use Rattle.std.specs.Str.{bytes_eq};
-ghost use Rattle.guppy_packages.specs.inner.HashPlaces.{AreChained, hashes_in, name_hash};
+ghost use Rattle.guppy_packages.specs.inner.HashPlaces.{AreIn, IsFirstEmpty, name_hash, slot_of};
 
 use crate::named::Named;
 use crate::narrow::LAST_PLACE;
@@ -9,41 +9,33 @@ use std::alloc::{AllocError, Global};
 use std::hash::{DefaultHasher, Hasher};
 use std::marker::Model;
 
-/// A hash. It is chained to the hash before it in its bucket.
-#[derive(Clone, Copy, Drop)]
-pub(crate) struct Chained {
-    hash: u32,
-    /// One plus the place of the hash before it in its bucket, or 0.
-    before: u32,
-}
-
 /// A list of hashes, whose places are found without a search through the list. A contract sees it as this list.
+///
+/// Each place is in the first slot that was empty when it came, from its hash's first slot on. At most three quarters of the slots
+/// are used.
 ///
 /// Hashes of names are those of SipHash with a fixed key. An author of the names can search for collisions, but no simple pattern
 /// collides, as it would with a multiplying hash.
 #[derive(Drop)]
 pub(crate) struct HashPlaces {
-    /// For each bucket, one plus the place of the last hash in it, or 0. A hash is in the bucket of its remainder.
-    heads: Vec<u32>,
-    chained: Vec<Chained>,
+    /// For each slot, one plus a place, or 0.
+    slots: Vec<u32>,
+    hashes: Vec<u32>,
 }
 
 impl Model for HashPlaces {
-    ghost use Rattle.std.specs.Prelude.{◌<◌, ◌^◌, ℕ, List, length};
-    ghost use Rattle.guppy_packages.specs.inner.HashPlaces.{AreChained, hashes_in};
+    ghost use Rattle.std.specs.Prelude.{ℕ, List, length};
+    ghost use Rattle.guppy_packages.specs.inner.HashPlaces.{AreIn};
 
     ghost Value = { List ℕ };
 
-    ghost view = { λ p. hashes_in p.chained.items };
+    ghost view = { λ p. p.hashes.items };
 
-    ghost invariant = { λ p.
-        AreChained (length p.chained.items) p.heads.items p.chained.items
-        × (length p.chained.items < 2 ^ 32)
-        × (0 < length p.chained.items → 0 < length p.heads.items) };
+    ghost invariant = { λ p. AreIn (length p.hashes.items) p.slots.items p.hashes.items };
 }
 
 /// Returns the hash of `name`.
-fn hash_of(name: &str) -> u32
+pub(crate) fn hash_of(name: &str) -> u32
     ensures { result ≡ name_hash name.now }
 {
     let mut state = DefaultHasher::new();
@@ -51,74 +43,79 @@ fn hash_of(name: &str) -> u32
     (state.finish() % 4_294_967_296) as u32
 }
 
-/// Returns the bucket of `hash`.
+/// Returns slot `offset` of `hash` among `slots` slots. Its first slot is in proportion to the hash.
 #[inline]
-fn bucket_of(hash: u32, buckets: usize) -> usize
-    requires { 0 < buckets }
-    ensures value { result ≡ hash % buckets }
-    ensures within { result < buckets }
+fn probe(hash: u32, slots: usize, offset: usize) -> usize
+    requires few { slots < 2 ^ 32 }
+    requires within { offset < slots }
+    ensures value { result ≡ slot_of slots hash offset }
+    ensures within { result < slots }
 {
-    hash as usize % buckets
+    let slot = hash as usize * slots / 4_294_967_296 + offset;
+    if slot < slots { slot } else { slot - slots }
 }
 
-/// Chains the hash at place `at` to those before it.
-fn chain(heads: &mut Vec<u32>, chained: &mut Vec<Chained>, at: usize)
-    requires some { 0 < length heads.old.items }
-    requires within { at < length chained.old.items }
-    requires fits { at + 1 < 2 ^ 32 }
-    requires below { AreChained at heads.old.items chained.old.items }
-    ensures chained { AreChained (at + 1) heads.new.items chained.new.items }
-    ensures buckets { length heads.new.items ≡ length heads.old.items }
-    ensures hashes { hashes_in chained.new.items ≡ hashes_in chained.old.items }
+/// Returns the first empty slot of `hash`.
+fn first_empty(slots: &[u32], hash: u32) -> usize
+    requires few { length slots.now < 2 ^ 32 }
+    requires some { 0 < count_by (nat_eq 0) slots.now }
+    ensures first { IsFirstEmpty slots.now hash result }
+    ensures within { result < length slots.now }
 {
-    let bucket = bucket_of(chained[at].hash, heads.len());
-    chained[at].before = heads[bucket];
-    heads[bucket] = at as u32 + 1;
-}
-
-/// Chains all hashes anew. `heads` has only empty buckets.
-fn chain_all(heads: &mut Vec<u32>, chained: &mut Vec<Chained>)
-    requires some { 0 < length heads.old.items }
-    requires empty { (b : ℕ) → slice_index heads.old.items b ≡ 0 }
-    requires few { length chained.old.items < 2 ^ 32 }
-    ensures chained { AreChained (length chained.new.items) heads.new.items chained.new.items }
-    ensures buckets { length heads.new.items ≡ length heads.old.items }
-    ensures hashes { hashes_in chained.new.items ≡ hashes_in chained.old.items }
-{
-    for at in 0..chained.len() {
-        chain(heads, chained, at);
+    for offset in 0..slots.len() {
+        let slot = probe(hash, slots.len(), offset);
+        if slots[slot] == 0 {
+            return slot;
+        }
     }
+    unreachable!()
 }
 
-/// Chains all hashes anew, and returns the heads of twice as many buckets, and some more. `AllocError` is the only error, and then
-/// `chained` is unchanged.
-fn rechained(alloc: Global, chained: &mut Vec<Chained>) -> Result<Vec<u32>, AllocError>
-    requires { length chained.old.items < 2 ^ 32 }
-    ensures chained { IfOk result (λ heads. AreChained (length chained.new.items) heads.items chained.new.items) }
-    ensures some { IfOk result (λ heads. 0 < length heads.items) }
-    ensures hashes { IfOk result (λ _. hashes_in chained.new.items ≡ hashes_in chained.old.items) }
-    ensures kept { OnErr result (chained.new.items ≡ chained.old.items) }
+/// Puts place `at` into a slot.
+fn put(slots: &mut Vec<u32>, hashes: &[u32], at: usize)
+    requires within { at < length hashes.now }
+    requires room { at < length slots.old.items }
+    requires below { AreIn at slots.old.items hashes.now }
+    ensures put { AreIn (at + 1) slots.new.items hashes.now }
+    ensures slots { length slots.new.items ≡ length slots.old.items }
 {
-    let mut heads = vec![in alloc; 0u32; 2 * chained.len() + 32]?;
-    chain_all(&mut heads, chained);
-    Ok(heads)
+    let slot = first_empty(slots, hashes[at]);
+    slots[slot] = at as u32 + 1;
 }
 
-/// Chains all hashes anew if there are as many as buckets. `AllocError` is the only error.
-fn make_room(
-    alloc: Global,
-    heads: &mut Vec<u32>,
-    chained: &mut Vec<Chained>,
-) -> Result<(), AllocError>
-    requires few { length chained.old.items < 2 ^ 32 }
-    requires chained { AreChained (length chained.old.items) heads.old.items chained.old.items }
-    ensures chained { AreChained (length chained.new.items) heads.new.items chained.new.items }
-    ensures some { OnOk result (0 < length heads.new.items) }
-    ensures hashes { hashes_in chained.new.items ≡ hashes_in chained.old.items }
-    ensures kept { OnErr result (heads.new.items ≡ heads.old.items) }
+/// Returns `count` empty slots.
+fn empty_slots(alloc: Global, count: usize) -> Result<Vec<u32>, AllocError>
+    ensures { IfOk result (λ slots. slots.items ≡ replicate count 0) }
 {
-    if chained.len() >= heads.len() {
-        *heads = rechained(alloc, chained)?;
+    vec![in alloc; 0u32; count]
+}
+
+/// Returns slots with all places: twice as many as hashes, and some more. Returns `AllocError` if the allocation fails or the number
+/// of slots doesn't fit in 32 bits.
+fn slots_of(alloc: Global, hashes: &[u32]) -> Result<Vec<u32>, AllocError>
+    ensures put { IfOk result (λ slots. AreIn (length hashes.now) slots.items hashes.now) }
+    ensures room { IfOk result (λ slots. length hashes.now < length slots.items) }
+{
+    let count = 2 * hashes.len() + 32;
+    if count > LAST_PLACE {
+        return Err(AllocError);
+    }
+    let mut slots = empty_slots(alloc, count)?;
+    for at in 0..hashes.len() {
+        put(&mut slots, hashes, at);
+    }
+    Ok(slots)
+}
+
+/// Makes new slots if three quarters are used. The errors are those of `slots_of`, and then nothing changes.
+fn make_room(alloc: Global, slots: &mut Vec<u32>, hashes: &[u32]) -> Result<(), AllocError>
+    requires put { AreIn (length hashes.now) slots.old.items hashes.now }
+    ensures put { AreIn (length hashes.now) slots.new.items hashes.now }
+    ensures room { OnOk result (length hashes.now < length slots.new.items) }
+    ensures kept { OnErr result (slots.new.items ≡ slots.old.items) }
+{
+    if hashes.len() + hashes.len() / 3 >= slots.len() {
+        *slots = slots_of(alloc, hashes)?;
     }
     Ok(())
 }
@@ -139,54 +136,50 @@ impl HashPlaces {
         ensures { result ≡ [] }
     {
         HashPlaces {
-            heads: Vec::new(alloc),
-            chained: Vec::new(alloc),
+            slots: Vec::new(alloc),
+            hashes: Vec::new(alloc),
         }
     }
 
-    /// Appends the hash of `name`. Returns `AllocError` if an allocation fails or a place doesn't fit in 32 bits; then the list is
+    /// Appends `hash`. Returns `AllocError` if an allocation fails or the number of slots doesn't fit in 32 bits; then the list is
     /// unchanged.
-    pub(crate) fn push(&mut self, alloc: Global, name: &str) -> Result<(), AllocError>
-        ensures added { OnOk result (self.new ≡ self.old ++ name_hash name.now ∷ []) }
+    pub(crate) fn push(&mut self, alloc: Global, hash: u32) -> Result<(), AllocError>
+        ensures added { OnOk result (self.new ≡ self.old ++ hash ∷ []) }
         ensures kept { OnErr result (self.new ≡ self.old) }
     {
-        let at = self.chained.len();
-        if at + 1 >= LAST_PLACE {
-            return Err(AllocError);
-        }
-        make_room(alloc, &mut self.heads, &mut self.chained)?;
-        let hash = hash_of(name);
-        self.chained.push(Chained { hash, before: 0 })?;
-        chain(&mut self.heads, &mut self.chained, at);
+        let at = self.hashes.len();
+        make_room(alloc, &mut self.slots, &self.hashes)?;
+        self.hashes.push(hash)?;
+        put(&mut self.slots, &self.hashes, at);
         Ok(())
     }
 
-    /// Returns the place of the first of `items` whose name is `name`. This is the list of the hashes of their names.
-    pub(crate) fn find<T: Named>(&self, items: &[T], name: &str) -> Option<usize>
-        requires { self.now ≡ map (λ t. name_hash (T.name t)) items.now }
+    /// Returns the place of the first of `items` whose name is `name`, with this hash. This is the list of the hashes of their names.
+    pub(crate) fn find<T: Named>(&self, items: &[T], name: &str, hash: u32) -> Option<usize>
+        requires items { self.now ≡ map (λ t. name_hash (T.name t)) items.now }
+        requires hash { hash ≡ name_hash name.now }
         ensures { result ≡ position (λ t. bytes_eq name.now (T.name t)) items.now }
     {
-        if self.heads.is_empty() {
+        if self.slots.is_empty() {
             return None;
         }
-        let hash = hash_of(name);
-        let mut at = self.heads[bucket_of(hash, self.heads.len())];
-        let mut found = None;
-        while at > 0 {
-            let place = at as usize - 1;
-            let here = self.chained[place];
-            if has_name(&items[place], here.hash, name, hash) {
-                found = Some(place);
+        for offset in 0..self.slots.len() {
+            let slot = self.slots[probe(hash, self.slots.len(), offset)];
+            if slot == 0 {
+                return None;
             }
-            at = here.before;
+            let place = slot as usize - 1;
+            if has_name(&items[place], self.hashes[place], name, hash) {
+                return Some(place);
+            }
         }
-        found
+        None
     }
 
     /// Frees the spare capacity.
     pub(crate) fn shrink_to_fit(&mut self)
         ensures { self.new ≡ self.old }
     {
-        self.chained.shrink_to_fit();
+        self.hashes.shrink_to_fit();
     }
 }

@@ -4,9 +4,8 @@ ghost use Rattle.guppy_packages.specs.inner.Begins.{AreAllBegun};
 ghost use Rattle.guppy_packages.specs.Stored.{link_tables, package_tables};
 ghost use Rattle.guppy_packages.specs.Tables.{AreTables};
 
-use crate::contents::{Link, PackageData};
+use crate::contents::Link;
 use crate::narrow::LAST_PLACE;
-use crate::package_id::PackageId;
 use crate::package_list::PackageList;
 use order_views::begin_up_to;
 use std::alloc::{AllocError, Global};

@@ -7,6 +7,7 @@ ghost use Rattle.std.specs.List.{list_any};
 ghost use Rattle.std.specs.Str.{bytes_eq};
 ghost use Rattle.guppy_packages.specs.inner.NameSets.{held_items, inserted};
 
+use crate::hash_places::hash_of;
 use crate::named::Named;
 use crate::named_list::NamedList;
 use crate::pushing::push_to;
@@ -14,8 +15,8 @@ use std::alloc::{AllocError, Global};
 use std::marker::Model;
 use std::mem;
 
-/// The most items that a set scans: a larger one hashes their names. The first insert reserves this many, and `shrink_to_fit` frees
-/// the rest.
+/// The most items that a set scans: a larger one hashes their names. The first insert without room reserves this many, and
+/// `shrink_to_fit` frees the rest.
 const FEW: usize = 16;
 
 /// The items of a set, in insertion order.
@@ -25,7 +26,7 @@ pub(crate) enum Held<T: Named> {
     Many(Box<NamedList<T>>),
 }
 
-/// A set in insertion order. A contract sees it as the list of its items, whose names are pairwise different.
+/// A set in insertion order. A contract sees it as the list of its items.
 #[derive(Drop)]
 pub(crate) struct NameSet<T: Named> {
     held: Held<T>,
@@ -53,7 +54,8 @@ fn grown<T: Named + Drop>(alloc: Global, items: Vec<T>, item: T) -> Result<Held<
     ensures { IfOk result (λ held. held_items held ≡ items.items ++ item ∷ []) }
 {
     let mut many = NamedList::of(alloc, items)?;
-    many.push(alloc, item)?;
+    let hash = hash_of(item.name());
+    many.push_hashed(alloc, item, hash)?;
     Ok(Held::Many(Box::new(alloc, many)?))
 }
 
@@ -66,7 +68,9 @@ fn insert_few<T: Named + Drop>(items: &mut Vec<T>, item: T) -> Result<bool, Allo
     if has(items, item.name()) {
         return Ok(false);
     }
-    items.reserve_exact(FEW.saturating_sub(items.len()))?;
+    if items.len() == items.capacity() {
+        items.reserve_exact(FEW.saturating_sub(items.len()))?;
+    }
     push_to(items, item)?;
     Ok(true)
 }
@@ -80,10 +84,11 @@ fn insert_many<T: Named + Drop>(
     ensures added { IfOk result (λ added. added ≡ not (list_any (λ t. bytes_eq (T.name item) (T.name t)) items.old)) }
     ensures items { IfOk result (λ _. items.new ≡ inserted T.name items.old item) }
 {
-    if items.place_of(item.name()).is_some() {
+    let hash = hash_of(item.name());
+    if items.place_hashed(item.name(), hash).is_some() {
         return Ok(false);
     }
-    items.push(alloc, item)?;
+    items.push_hashed(alloc, item, hash)?;
     Ok(true)
 }
 
@@ -121,6 +126,15 @@ impl<T: Named + Drop> NameSet<T> {
         NameSet {
             held: Held::Few(Vec::new(alloc)),
         }
+    }
+
+    /// Returns the empty set, with room for `room` items. `AllocError` is the only error.
+    pub(crate) fn with_capacity(alloc: Global, room: usize) -> Result<NameSet<T>, AllocError>
+        ensures { IfOk result (λ set. set ≡ []) }
+    {
+        Ok(NameSet {
+            held: Held::Few(Vec::with_capacity(alloc, room)?),
+        })
     }
 
     /// Returns the items, in insertion order.

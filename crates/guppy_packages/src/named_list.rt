@@ -3,7 +3,7 @@ ghost use Rattle.std.specs.Prelude.{◌≡◌, ◌<◌, ◌++◌, ◌∷◌, [],
 ghost use Rattle.std.specs.Str.{bytes_eq};
 ghost use Rattle.guppy_packages.specs.inner.HashPlaces.{name_hash};
 
-use crate::hash_places::HashPlaces;
+use crate::hash_places::{HashPlaces, hash_of};
 use crate::named::Named;
 use crate::pushing::push_to;
 use std::alloc::{AllocError, Global};
@@ -34,7 +34,7 @@ fn hashed<T: Named>(alloc: Global, items: &[T]) -> Result<HashPlaces, AllocError
 {
     let mut places = HashPlaces::new(alloc);
     for item in items {
-        places.push(alloc, item.name())?;
+        places.push(alloc, hash_of(item.name()))?;
     }
     Ok(places)
 }
@@ -84,17 +84,31 @@ impl<T: Named + Drop> NamedList<T> {
     pub(crate) fn place_of(&self, name: &str) -> Option<usize>
         ensures { result ≡ position (λ t. bytes_eq name.now (T.name t)) self.now }
     {
-        self.places.find(self.items.as_slice(), name)
+        self.place_hashed(name, hash_of(name))
     }
 
-    /// Appends `item`. `AllocError` is the only error, and then the list is unchanged.
-    pub(crate) fn push(&mut self, alloc: Global, item: T) -> Result<(), AllocError>
+    /// Returns the number of the first item whose name is `name`, with this hash.
+    pub(crate) fn place_hashed(&self, name: &str, hash: u32) -> Option<usize>
+        requires { hash ≡ name_hash name.now }
+        ensures { result ≡ position (λ t. bytes_eq name.now (T.name t)) self.now }
+    {
+        self.places.find(self.items.as_slice(), name, hash)
+    }
+
+    /// Appends `item`, whose name has this hash. `AllocError` is the only error, and then the list is unchanged.
+    pub(crate) fn push_hashed(
+        &mut self,
+        alloc: Global,
+        item: T,
+        hash: u32,
+    ) -> Result<(), AllocError>
+        requires { hash ≡ name_hash (T.name item) }
         ensures pushed { OnOk result (self.new ≡ self.old ++ item ∷ []) }
         ensures kept { OnErr result (self.new ≡ self.old) }
     {
         let at = self.items.len();
         push_to(&mut self.items, item)?;
-        if self.places.push(alloc, self.items[at].name()).is_err() {
+        if self.places.push(alloc, hash).is_err() {
             self.items.truncate(at);
             return Err(AllocError);
         }

@@ -4,7 +4,7 @@ ghost use Rattle.order_views.specs.digraph_orders.Sequences.{IsOrderOf};
 ghost use Rattle.guppy_packages.specs.PackageOrder.{digraph_of_packages};
 ghost use Rattle.guppy_packages.specs.Tables.{package_place, AreLinksFrom, AreTables};
 
-use crate::contents::{Link, PackageData};
+use crate::contents::Link;
 use crate::package_id::PackageId;
 use crate::package_link::PackageLink;
 use crate::package_list::PackageList;

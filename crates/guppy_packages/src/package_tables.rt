@@ -5,9 +5,8 @@ ghost use Rattle.guppy_packages.specs.Stored.{link_tables, package_tables};
 ghost use Rattle.guppy_packages.specs.Tables.{AreTables};
 ghost use Rattle.guppy_packages.specs.inner.RowTexts.{stored_texts};
 
-use crate::contents::{Link, PackageData};
+use crate::contents::Link;
 use crate::first_pass::take_packages;
-use crate::package_id::PackageId;
 use crate::package_list::PackageList;
 use crate::row_error::RowError;
 use crate::row_source::RowSource;
@@ -62,7 +61,7 @@ fn take_tables<S: RowSource>(
 impl PackageTables {
     /// Returns the tables of the rows of `source`, or the first fault. Faults of rows by themselves precede those among all packages.
     /// `Memory` is returned when an allocation fails, or if the texts of features and dependencies are more than 4294967295, or longer
-    /// than as many bytes. Each row is requested three times.
+    /// than as many bytes. Each row is requested at most four times.
     pub fn from_source<S: RowSource>(alloc: Global, source: &S) -> Result<PackageTables, RowError>
         ensures tables { Reads (λ tables. tables) result (tables_of (S.rows source.now)) }
         ensures row { IfErr result (NamesRow (S.rows source.now)) }

@@ -12,11 +12,10 @@ ghost use Rattle.guppy_packages.specs.inner.Noted.{AreNoted};
 ghost use Rattle.guppy_packages.specs.inner.RowTexts.{AreAt, row_texts, stored_texts};
 ghost use Rattle.guppy_packages.specs.inner.Steps.{Takes, add_link, begun_after, joined_link, joins, second_step};
 
-use crate::contents::{Link, LinkData, PackageData};
+use crate::contents::{Link, LinkData};
 use crate::declaration::Declaration;
 use crate::declarations::Declarations;
 use crate::narrow::narrow;
-use crate::package_id::PackageId;
 use crate::package_list::PackageList;
 use crate::pushing::push_to;
 use crate::row::Row;

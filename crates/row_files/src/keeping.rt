@@ -15,7 +15,8 @@ fn keep_dep<'t>(kept: &mut Vec<&'t str>, fields: &[&'t str]) -> Result<(), Alloc
     let [_, name, target, _, _, _, _, features @ ..] = fields else {
         return Ok(());
     };
-    kept.extend_from_slice(&[*name, *target])?;
+    kept.push(*name)?;
+    kept.push(*target)?;
     if features.is_empty() {
         return Ok(());
     }
@@ -31,7 +32,9 @@ fn keep_platform_dep<'t>(kept: &mut Vec<&'t str>, fields: &[&'t str]) -> Result<
     let [_, name, target, _, _, platform, _, features @ ..] = fields else {
         return Ok(());
     };
-    kept.extend_from_slice(&[*name, *target, *platform])?;
+    kept.push(*name)?;
+    kept.push(*target)?;
+    kept.push(*platform)?;
     if features.is_empty() {
         return Ok(());
     }
@@ -50,7 +53,7 @@ pub(crate) fn keep<'t>(
     match form {
         Form::Malformed => kept.extend_from_slice(fields),
         Form::Package { .. } => match fields {
-            [_, id, _] => kept.extend_from_slice(&[*id]),
+            [_, id, _] => Ok(kept.push(*id)?),
             _ => Ok(()),
         },
         Form::Feature => match fields {

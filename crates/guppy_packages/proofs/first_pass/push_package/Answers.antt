@@ -10,7 +10,7 @@ use Rattle.guppy_packages.proofs.first_pass.push_package.Goals as goal
 pub returns-then-is_some : goal.returns-then-is_some
 returns-then-is_some c =
     let m = c.args.packages.now in
-    let found : c.place_of.result ≡ position (λ e. bytes_eq c.args.id.now e.0) m = c.place_of.ensures in
+    let found : c.place_hashed.result ≡ position (λ e. bytes_eq c.args.id.now e.0) m = c.place_hashed.ensures in
     let known : list_any (λ p. bytes_eq c.args.id.now p.id) (package_tables m) ≡ true =
     list_any-map package_table (λ p. bytes_eq c.args.id.now p.id) m ∙ sym (is_some-position (λ e. bytes_eq c.args.id.now e.0) m) ∙ ap is_some (sym found) ∙ sym c.if-is_some.ensures in
     rw known
@@ -18,7 +18,7 @@ returns-then-is_some c =
 pub returns : goal.returns
 returns c =
     let m = c.args.packages.now in
-    let found : c.place_of.result ≡ position (λ e. bytes_eq c.args.id.now e.0) m = c.place_of.ensures in
+    let found : c.place_hashed.result ≡ position (λ e. bytes_eq c.args.id.now e.0) m = c.place_hashed.ensures in
     let fresh : list_any (λ p. bytes_eq c.args.id.now p.id) (package_tables m) ≡ false =
     list_any-map package_table (λ p. bytes_eq c.args.id.now p.id) m ∙ sym (is_some-position (λ e. bytes_eq c.args.id.now e.0) m) ∙ ap is_some (sym found) ∙ sym c.if-is_some.ensures in
-    rw (fresh, c.in_ok-push.ensures.pushed, map-append package_table m _, c.in_ok-id.ensures, c.blank_package.ensures)
+    rw (fresh, c.in_ok-push_hashed.ensures.pushed, map-append package_table m _, c.in_ok-id.ensures, c.in_ok-data.ensures)

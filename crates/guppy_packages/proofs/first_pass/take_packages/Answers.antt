@@ -9,22 +9,22 @@ use Rattle.guppy_packages.proofs.first_pass.take_packages.Goals as goal
 pub take_row_at-requires : goal.take_row_at-requires
 take_row_at-requires g c =
     let all = g.S.RowSource.rows c.args.source.now in
-    let i = c.loop-row.row in
-    rw c.loop-row.invariant.at (row_at all i _ (drop_at all i _ c.row.ensures) c.args.list.now.value c.requires)
+    let i = c.loop-ix.ix in
+    rw c.loop-ix.invariant.at (row_at all i _ (drop_at all i _ c.row-row.ensures) c.args.list.now.value c.requires)
 
 pub returns-in-Err-clause-tables : goal.returns-in-Err-clause-tables
 returns-in-Err-clause-tables g c =
     let all = g.S.RowSource.rows c.args.source.now in
-    let i = c.loop-row.row in
-    let at = drop_at all i _ c.row.ensures in
+    let i = c.loop-ix.ix in
+    let at = drop_at all i _ c.row-row.ensures in
     let within : i < length all = search rules in
-    first_answers all i _ within at c.loop-row.invariant.none (package_tables c.loop-row.packages) c.loop-row.invariant.tables ℕ c.in-Err.fault c.new.result (package_tables c.take_row_at.new.packages) (packages_of all) c.new.ensures.fault c.new.ensures.row c.in-Err.ensures.tables
+    first_answers all i _ within at c.loop-ix.invariant.none (package_tables c.loop-ix.packages) c.loop-ix.invariant.tables ℕ c.in-Err.fault c.new.result (package_tables c.take_row_at.new.packages) (packages_of all) c.new.ensures.fault c.new.ensures.row c.in-Err.ensures.tables
 
-pub loop-row-preserved : goal.loop-row-preserved
-loop-row-preserved g c =
+pub loop-ix-preserved : goal.loop-ix-preserved
+loop-ix-preserved g c =
     let all = g.S.RowSource.rows c.args.source.now in
-    let i = c.loop-row.row in
-    let at = drop_at all i _ c.row.ensures in
+    let i = c.loop-ix.ix in
+    let at = drop_at all i _ c.row-row.ensures in
     let within : i < length all = search rules in
-    let next = first_goes_on all i _ within at c.loop-row.invariant.none (package_tables c.loop-row.packages) c.loop-row.invariant.tables (package_tables c.take_row_at.new.packages) c.in-Ok.ensures.tables in
-    record { none = next.0; tables = next.1; at = next_at all i _ at within c.loop-row.at c.in-Ok.next c.loop-row.invariant.at c.in-Ok.ensures.next }
+    let next = first_goes_on all i _ within at c.loop-ix.invariant.none (package_tables c.loop-ix.packages) c.loop-ix.invariant.tables (package_tables c.take_row_at.new.packages) c.in-Ok.ensures.tables in
+    record { none = next.0; tables = next.1; at = next_at all i _ at within c.loop-ix.at c.in-Ok.next c.loop-ix.invariant.at c.in-Ok.ensures.next }
