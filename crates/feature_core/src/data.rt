@@ -11,6 +11,7 @@ ghost use Rattle.order_views.specs.Cycles.{cyclic_components};
 ghost use Rattle.feature_core.specs.Built.{AreAlike, IsBuilt, NodeNamed, built_edges, digraph_of, end_of, pairs_of};
 ghost use Rattle.feature_edges.specs.Choices.{chosen_pairs};
 ghost use Rattle.feature_core.specs.Defaults.{AreDefaults, IsDefault};
+ghost use Rattle.feature_edges.specs.DefaultNodes.{AreDefaultNodes};
 ghost use Rattle.feature_edges.specs.Edges.{AreBuilt};
 ghost use Rattle.feature_edges.specs.feature_links.Facts.{has_present_link};
 ghost use Rattle.feature_edges.specs.feature_links.Values.{edge_facts};
@@ -132,6 +133,7 @@ fn found_with(alloc: Global, numbers: Numbers<'_>, table: &EdgeTable) -> Result<
     requires nodes { table.now.digraph.nodes ≡ length (node_packages numbers.graph.now) }
     requires long { length table.now.edges ≡ length table.now.digraph.edges }
     requires edges { AreBuilt numbers.graph.now (built_edges table.now.digraph.edges table.now.edges) table.now.weak.items }
+    requires defaults { AreDefaultNodes numbers.graph.now table.now.defaults.items }
     ensures defaults { IfOk result (λ f. AreDefaults numbers.entry.graph.now f.defaults) }
     ensures released { IfOk result (λ f. AreReleases table.now.edges table.now.weak.items f.released.items) }
     ensures order { IfOk result (λ f. IsOrderOf table.now.digraph f.order) }
@@ -161,6 +163,7 @@ fn made(
     ensures long { IfOk result (λ m. length m.0.edges ≡ length m.0.digraph.edges) }
     ensures ends { IfOk result (λ m. m.0.digraph.edges ≡ map end_of (built_edges m.0.digraph.edges m.0.edges)) }
     ensures edges { IfOk result (λ m. AreBuilt numbers.entry.graph.now (built_edges m.0.digraph.edges m.0.edges) m.0.weak.items) }
+    ensures defaults { IfOk result (λ m. AreDefaultNodes numbers.entry.graph.now m.0.defaults.items) }
     ensures warnings { IfOk result (λ m. warnings_in m.1 ≡ warnings numbers.entry.graph.now) }
 {
     let groups = named_links(alloc, numbers.graph)?;

@@ -95,7 +95,7 @@ optional_label table k name h =
     ∙ slice_get-map (λ d. optional d) table.optional_names k ∙ ap (option_map (λ d. optional d)) h
 
 -- the feature at a label's place
-named_back : (table : PackageTable) (k : ℕ) (name : Text) → slice_get (labels_of table) k ≡ Some (named name) → (j : ℕ) × (k ≡ suc j) × ((feature : FeatureTable) × (slice_get table.features j ≡ Some feature) × (feature.name ≡ name))
+pub named_back : (table : PackageTable) (k : ℕ) (name : Text) → slice_get (labels_of table) k ≡ Some (named name) → (j : ℕ) × (k ≡ suc j) × ((feature : FeatureTable) × (slice_get table.features j ≡ Some feature) × (feature.name ≡ name))
 named_back table zero name h = absurd (base_apart (named name) (named_base name) h)
 named_back table (suc k) name h = ⊎_elim
     (λ e. let m = got_map (λ f. named f.name) (slice_get table.features k) (named name) (sym (slice_get-map (λ f. named f.name) table.features k) ∙ e) in (k, refl, (m.0, m.1, named_same m.0.name name m.2)))

@@ -21,6 +21,7 @@ pub mod MaterialLemmas
 pub mod ValueLemmas
 pub mod AlikeLemmas
 pub mod NodeLabels
+pub mod DefaultLemmas
 pub mod WarningLemmas
 pub mod CollectLemmas
 pub mod LeavingLinks

@@ -1,4 +1,5 @@
 pub mod Nodes
+pub mod DefaultNodes
 pub mod Candidates
 pub mod Edges
 pub mod EdgeEnds

@@ -1,5 +1,5 @@
 //! Candidates for edges as small keys, and the runs of keys of one pair.
-ghost use Rattle.std.specs.Prelude.{◌≡◌, ◌≤◌, ◌↔◌, ◌<◌, ◌++◌, All, Contains, nat_lt, IsTrue, IsPermutation, AllPairs, OnOk, Some, drop, length, slice_get, take};
+ghost use Rattle.std.specs.Prelude.{◌≡◌, ◌≤◌, ◌↔◌, ◌⊎◌, ◌<◌, ◌++◌, All, Contains, nat_lt, IsTrue, IsPermutation, AllPairs, OnOk, Some, drop, length, slice_get, take};
 ghost use Rattle.feature_edges.specs.declared.candidate.Key.{Key as KeyValue};
 ghost use Rattle.feature_edges.specs.inner.Keys.{IsNoLater, IsPair, IsSplitRun};
 
@@ -37,13 +37,23 @@ impl CandidateKind {
     {
         matches!(self, CandidateKind::SlashWeak)
     }
+
+    /// Returns whether the edge of a candidate of this kind is unconditional, so that there is nothing to it but its ends.
+    pub(crate) fn is_unconditional(self) -> bool
+        ensures { IsTrue result ↔ ((self ≡ CandidateKind.FeatureToBase) ⊎ (self ≡ CandidateKind.NamedFeature)) }
+    {
+        matches!(
+            self,
+            CandidateKind::FeatureToBase | CandidateKind::NamedFeature
+        )
+    }
 }
 
 /// A candidate for the edge of a pair of nodes.
 ///
 /// Keys are ordered by the pair, then by `kind`. `source` is the number of the candidate's package link, and `place` the index of
 /// its declaration there; both are 0 if the pair determines the candidate. The fields have 32 bits each or fewer, because a
-/// package with 100,000 features has hundreds of thousands of keys.
+/// node with 100,000 items has as many keys.
 #[derive(Clone, Copy, PartialEq, Eq, PartialOrd, Ord)]
 pub(crate) struct Key {
     pub(crate) from: u32,

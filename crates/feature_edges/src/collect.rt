@@ -13,7 +13,7 @@ use crate::warnings::FeatureGraphWarning;
 pub(crate) use features::{collect_around, collect_feature};
 use std::alloc::{AllocError, Global};
 
-/// The keys of one package, and the warnings of the packages so far: those of items, and those of the names that declarations
+/// The keys of one node, and the warnings of the packages so far: those of items, and those of the names that declarations
 /// list.
 #[derive(Drop)]
 pub(crate) struct Collected {

@@ -4,6 +4,7 @@
 
 mod candidate;
 mod collect;
+mod default_nodes;
 mod gates;
 mod make;
 mod near_keys;
@@ -13,6 +14,7 @@ mod pool;
 pub mod table;
 mod warnings;
 
+pub use default_nodes::default_at;
 pub use feature_labels::{FeatureId, FeatureLabel};
 pub use feature_links::{
     ConditionalLinkImpl, EdgeChoice, EnabledLink, FeatureEdge, WeakIndex, WeakSlashImpl,

@@ -22,12 +22,14 @@ use feature_links::{
 use indexmap::IndexMap;
 use std::alloc::{AllocError, Global};
 
-/// The input for edges: the numbers of nodes, the package of each node, and the links by package and name.
+/// The input for edges: the numbers of nodes, the package of each node, the links by package and name, and the node of each
+/// package's feature `default`.
 #[derive(Clone, Copy)]
 pub(crate) struct Material<'a, 'g> {
     pub(crate) numbers: Numbers<'g>,
     pub(crate) packages: &'a [u32],
     pub(crate) groups: &'a LinkGroups<'g>,
+    pub(crate) defaults: &'a [u32],
 }
 
 /// Returns the name of node `ix`, which is no base.

@@ -14,7 +14,7 @@ pub struct NodeTable {
 }
 
 /// Returns `number` in 32 bits, or `AllocError` if it doesn't fit.
-fn narrow(number: usize) -> Result<u32, AllocError>
+pub(crate) fn narrow(number: usize) -> Result<u32, AllocError>
     ensures { IfOk result (λ narrow. narrow ≡ number) }
 {
     if number > u32::MAX as usize {

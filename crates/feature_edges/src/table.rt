@@ -10,6 +10,7 @@ ghost use Rattle.feature_edges.specs.inner.Keys.{AreLeast};
 ghost use Rattle.feature_edges.specs.inner.Made.{IsMaterial, IsRun, AreMade, AreMadeBefore, AreMadeBelow, AreWholeKeys, edge_end};
 ghost use Rattle.feature_links.specs.NamedLinks.{AreNamedLinks};
 ghost use Rattle.feature_edges.specs.inner.Collects.{AreWarningsBelow, of_features};
+ghost use Rattle.feature_edges.specs.DefaultNodes.{AreDefaultNodes};
 ghost use Rattle.feature_edges.specs.Nodes.{features_in, first_node, first_nodes, node_packages};
 ghost use Rattle.feature_edges.specs.Pairs.{IsPairList};
 ghost use Rattle.feature_edges.specs.inner.Parts.{IsOfTables};
@@ -19,6 +20,7 @@ ghost use Rattle.guppy_packages.specs.Tables.{Tables};
 
 use crate::candidate::{CandidateKind, Key, split_run};
 use crate::collect::{Collected, collect_around, collect_feature};
+use crate::default_nodes::default_nodes;
 use crate::gates::{entries_of, note_gate};
 use crate::make::{Material, edge_of};
 use crate::near_keys::NearKeys;
@@ -31,12 +33,14 @@ use guppy_support::{Digraph, Edge, EdgeColumns};
 use indexmap::IndexMap;
 use std::alloc::{AllocError, Global};
 
-/// The edges, sorted by source and then by target, and the weak links: each has its package link and its gate.
+/// The edges, sorted by source and then by target, the weak links, each with its package link and its gate, and the node of each
+/// package's feature `default`, or 0 if it has none.
 #[derive(Drop)]
 pub struct EdgeTable {
     pub digraph: Digraph,
     pub edges: EdgeList,
     pub weak: Vec<(usize, usize)>,
+    pub defaults: Vec<u32>,
 }
 
 /// Returns the digraph's edge of `key`, whose built edge is `edge`.
@@ -58,7 +62,7 @@ pub(crate) struct MadeEdges {
     weak: IndexMap<usize, usize>,
 }
 
-/// Buffers that packages share: a package's keys beside the warnings so far, keys that wait for those of features, and recent keys.
+/// Buffers that packages share: one node's keys beside the warnings so far, keys that wait for those of features, and recent keys.
 #[derive(Drop)]
 struct Room {
     collected: Collected,
@@ -209,6 +213,7 @@ impl MadeEdges {
                 alloc,
                 material.numbers,
                 material.groups,
+                material.defaults,
                 ix,
                 place,
             )?;
@@ -241,6 +246,7 @@ impl MadeEdges {
             alloc,
             material.numbers,
             material.groups,
+            material.defaults,
             ix,
         )?;
         self.add_all(alloc, material, &mut room.near, &room.collected.keys)?;
@@ -277,9 +283,11 @@ impl MadeEdges {
         numbers: Numbers<'_>,
         packages: &[u32],
         groups: &LinkGroups<'_>,
+        defaults: &[u32],
     ) -> Result<Vec<FeatureGraphWarning>, AllocError>
         requires packages { packages.now ≡ node_packages numbers.graph.now }
         requires links { AreNamedLinks numbers.graph.now groups.now }
+        requires defaults { AreDefaultNodes numbers.graph.now defaults.now }
         requires made { AreMadeBelow numbers.graph.now 0 self.old }
         ensures made { OnOk result (AreMadeBelow numbers.entry.graph.now (length numbers.entry.graph.now.packages) self.new) }
         ensures warnings { IfOk result (λ found. warnings_in found ≡ warnings numbers.entry.graph.now) }
@@ -290,6 +298,7 @@ impl MadeEdges {
             numbers,
             packages,
             groups,
+            defaults,
         };
         self.add_packages(alloc, material, &mut room)?;
         room.collected.into_warnings()
@@ -335,14 +344,16 @@ fn made_edges(
     numbers: Numbers<'_>,
     packages: &[u32],
     groups: &LinkGroups<'_>,
+    defaults: &[u32],
 ) -> Result<(MadeEdges, Vec<FeatureGraphWarning>), AllocError>
     requires packages { packages.now ≡ node_packages numbers.graph.now }
     requires links { AreNamedLinks numbers.graph.now groups.now }
+    requires defaults { AreDefaultNodes numbers.graph.now defaults.now }
     ensures made { IfOk result (λ m. AreMadeBelow numbers.entry.graph.now (length numbers.entry.graph.now.packages) m.0) }
     ensures warnings { IfOk result (λ m. warnings_in m.1 ≡ warnings numbers.entry.graph.now) }
 {
     let mut made = no_edges(alloc, packages.len(), numbers.graph.link_count())?;
-    let warnings = made.fill(alloc, numbers, packages, groups)?;
+    let warnings = made.fill(alloc, numbers, packages, groups, defaults)?;
     Ok((made, warnings))
 }
 
@@ -361,10 +372,13 @@ pub fn edge_table(
     ensures long { IfOk result (λ e. length e.0.edges ≡ length e.0.digraph.edges) }
     ensures ends { IfOk result (λ e. e.0.digraph.edges ≡ map end_of (built_edges e.0.digraph.edges e.0.edges)) }
     ensures edges { IfOk result (λ e. AreBuilt numbers.entry.graph.now (built_edges e.0.digraph.edges e.0.edges) e.0.weak.items) }
+    ensures defaults { IfOk result (λ e. AreDefaultNodes numbers.entry.graph.now e.0.defaults.items) }
     ensures warnings { IfOk result (λ e. warnings_in e.1 ≡ warnings numbers.entry.graph.now) }
 {
     numbers.graph.facts();
-    let (made, warnings) = made_edges(alloc, numbers, table.packages.as_slice(), groups)?;
+    let defaults = default_nodes(alloc, numbers)?;
+    let packages = table.packages.as_slice();
+    let (made, warnings) = made_edges(alloc, numbers, packages, groups, &defaults)?;
     let MadeEdges { edges, ends, weak } = made;
     let weak = entries_of(alloc, weak)?;
     let digraph = Digraph::from_columns(alloc, table.packages.len(), ends)?;
@@ -372,6 +386,7 @@ pub fn edge_table(
         digraph,
         edges,
         weak,
+        defaults,
     };
     Ok((edge_table, warnings))
 }

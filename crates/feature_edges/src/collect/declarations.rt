@@ -13,6 +13,7 @@ use crate::candidate::CandidateKind;
 use crate::collect::Collected;
 use crate::collect::features::push_to;
 use crate::collect::package_input::PackageInput;
+use crate::default_nodes::default_at;
 use crate::node_numbers::Numbers;
 use crate::warnings::push_lack;
 use guppy_packages::{Declaration, PackageLink};
@@ -38,7 +39,8 @@ fn push_requests(
     let keys = &mut collected.keys;
     push_to(keys, from, Some(numbers.base(target)), kind, link_ix, place)?;
     if declaration.default_features() {
-        push_to(keys, from, numbers.default_of(target), kind, link_ix, place)?;
+        let to = default_at(numbers, input.defaults, target);
+        push_to(keys, from, to, kind, link_ix, place)?;
     }
     let names = declaration.features();
     for ix in 0..names.len() {

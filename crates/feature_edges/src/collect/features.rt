@@ -8,6 +8,7 @@ ghost use Rattle.feature_labels.specs.Names.LabelName.{base, named, optional};
 ghost use Rattle.guppy_packages.specs.Rows.{Text};
 ghost use Rattle.feature_edges.specs.inner.Adds.{Adds, Below};
 ghost use Rattle.feature_edges.specs.inner.Collects.{Collects, lack_by, links_from, of_feature_at};
+ghost use Rattle.feature_edges.specs.DefaultNodes.{AreDefaultNodes};
 ghost use Rattle.feature_edges.specs.inner.Keys.{IsNoLater};
 ghost use Rattle.feature_links.specs.Links.{links_named};
 ghost use Rattle.feature_links.specs.NamedLinks.{AreNamedLinks};
@@ -29,7 +30,7 @@ use std::alloc::{AllocError, Global};
 
 /// Returns whether `number` needs more than 32 bits.
 fn is_wide(number: usize) -> bool
-    ensures { IsFalse result → number < 2 ^ 32 }
+    ensures { IsFalse result ↔ (number < 2 ^ 32) }
 {
     number > u32::MAX as usize
 }
@@ -321,9 +322,11 @@ pub(crate) fn collect_around(
     alloc: Global,
     numbers: Numbers<'_>,
     groups: &LinkGroups<'_>,
+    defaults: &[u32],
     ix: usize,
 ) -> Result<(), AllocError>
     requires links { AreNamedLinks numbers.graph.now groups.now }
+    requires defaults { AreDefaultNodes numbers.graph.now defaults.now }
     requires package { ix < length numbers.graph.now.packages }
     ensures base_ordered { OnOk result (AllPairs IsNoLater collected.new.keys.items) }
     ensures base { OnOk result (AreFrom numbers.entry.graph.now (first_node numbers.entry.graph.now ix) (first_node numbers.entry.graph.now ix + 1) collected.new.keys.items) }
@@ -336,6 +339,7 @@ pub(crate) fn collect_around(
         alloc,
         numbers,
         groups,
+        defaults,
         metadata: numbers.graph.package(ix),
     };
     push_around(collected, input)?;
@@ -351,10 +355,12 @@ pub(crate) fn collect_feature(
     alloc: Global,
     numbers: Numbers<'_>,
     groups: &LinkGroups<'_>,
+    defaults: &[u32],
     ix: usize,
     place: usize,
 ) -> Result<(), AllocError>
     requires links { AreNamedLinks numbers.graph.now groups.now }
+    requires defaults { AreDefaultNodes numbers.graph.now defaults.now }
     requires package { ix < length numbers.graph.now.packages }
     requires place { place < features_in numbers.graph.now ix }
     ensures ordered { OnOk result (AllPairs IsNoLater collected.new.keys.items) }
@@ -366,6 +372,7 @@ pub(crate) fn collect_feature(
         alloc,
         numbers,
         groups,
+        defaults,
         metadata: numbers.graph.package(ix),
     };
     let features = input.metadata.named_features();

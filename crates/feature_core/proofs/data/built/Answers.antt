@@ -56,4 +56,5 @@ found_with-requires c =
       nodes = c.in_ok-edge_table.ensures.nodes ∙ ap length c.in_ok-table.ensures.packages ∙ ap (λ z. length (node_packages z)) (sym graph);
       long = c.in_ok-edge_table.ensures.long;
       edges = c.in_ok-edge_table.ensures.edges;
+      defaults = c.in_ok-edge_table.ensures.defaults;
     }

@@ -5,6 +5,6 @@ use Rattle.feature_core.proofs.defaults.default_features.Given as goal
 
 abbrev pub invariant-loop-ix : goal.invariant-loop-ix
 invariant-loop-ix l = record {
-  size : length l.set ≡ l.nodes;
+  size : length l.set ≡ l.count;
   starts : (n : ℕ) → IsTrue (has l.set n) ↔ Starts l.numbers.graph.now l.ix n;
 }

@@ -60,9 +60,9 @@ returns c =
     let to_base : IsFound t link.to base (Some c.base.result) = subst (λ z. IsFound t z base (Some c.base.result)) to (base_found t c.to-target.result.package_ix c.base.result c.base.ensures.number c.base.ensures.node) in
     let by_default : Collects (IsByDefault t u link.to k j d) [] [] first second = elim c.if-default_features.branch [
       | then-default_features+in_ok-push_to-2 w ↦ subst (λ z. Collects (IsByDefault t u link.to k j d) [] [] first z) (sym w.collected-is) (record {
-        keys = with_default t u link.to k j d w.default_of.result first.keys.items w.push_to-then-default_features.new.keys.items (sym w.if-default_features.ensures)
-            (subst (λ z. IsFound t z (named (codes "default")) w.default_of.result) to w.default_of.ensures)
-            (subst (λ z. Adds (IsToFound u w.default_of.result Section z j) first.keys.items w.push_to-then-default_features.new.keys.items) number w.in_ok-push_to-2.ensures);
+        keys = with_default t u link.to k j d w.default_at-to.result first.keys.items w.push_to-then-default_features.new.keys.items (sym w.if-default_features.ensures)
+            (subst (λ z. IsFound t z (named (codes "default")) w.default_at-to.result) to w.default_at-to.ensures)
+            (subst (λ z. Adds (IsToFound u w.default_at-to.result Section z j) first.keys.items w.push_to-then-default_features.new.keys.items) number w.in_ok-push_to-2.ensures);
         of_items = nothing (warnings_in start.item_warnings);
         of_names = nothing (warnings_in start.name_warnings);
       })
