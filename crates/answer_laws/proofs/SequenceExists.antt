@@ -1,6 +1,6 @@
 -- A digraph has an order with its components.
 use Rattle.std.proofs.Common.{◌≡◌, ℕ, zero, suc, ◌+◌, ◌-◌, ◌<◌, ◌≤◌, ⊎_elim, List, [], ◌∷◌, ◌++◌, length, get_or, refl, ap, sym, ◌∙◌, subst, arith}
-use Rattle.std.specs.Prelude.{Contains, take}
+use Rattle.std.specs.Prelude.{Contains, slice_index, take}
 use Rattle.std.proofs.lemmas.Bool.{cases_eq, cases_lt}
 use Rattle.std.proofs.lemmas.List.{get_or-take, get_or_default, length-append, length-take}
 use Rattle.std.proofs.lemmas.Option.{slice_get-get_or}
@@ -69,23 +69,31 @@ module _ (g : Graph) (ok : IsDigraph g) (list : List ℕ) (o : IsOrder g.edges g
       (λ up. omega (arith, up, within))
       (cases_lt place.0 k)
 
+  ascends : (c : Chosen g.nodes IsFirstOf) (a b : ℕ) → HasEdge g.edges a b → slice_index c.items a ≤ slice_index c.items b
+  ascends c a b edge =
+      let within = nodes_of_edge g ok edge in
+      let one : IsFirstOf a (get_or c.items a 0) = at_number c a 0 within.0 in
+      let other : IsFirstOf b (get_or c.items b 0) = at_number c b 0 within.1 in
+      ⊎_elim
+      (λ less. absurd (ranks_ascend a b (get_or c.items a 0) (get_or c.items b 0) edge one other (first_within b (get_or c.items b 0) within.1 other) less))
+      (λ up. up)
+      (cases_lt (get_or c.items b 0) (get_or c.items a 0))
+
+  same_rank : (c : Chosen g.nodes IsFirstOf) (a b : ℕ) → a < g.nodes → b < g.nodes → slice_index c.items a ≡ slice_index c.items b → SameComponent g.edges a b
+  same_rank c a b la lb e =
+      let one : IsFirstOf a (get_or c.items a 0) = at_number c a 0 la in
+      let other : IsFirstOf b (get_or c.items b 0) = at_number c b 0 lb in
+      same_joined (same_turned one.is) (subst (λ z. SameComponent g.edges (get_or list z 0) b) (sym e) other.is)
+
   ranking : Chosen g.nodes IsFirstOf → (ranks : List ℕ) × IsRanking g ranks
   ranking c = (
     c.items,
     record {
       long = c.long;
-      ascends = λ a b edge.
-          let within = nodes_of_edge g ok edge in
-          let one : IsFirstOf a (get_or c.items a 0) = at_number c a 0 within.0 in
-          let other : IsFirstOf b (get_or c.items b 0) = at_number c b 0 within.1 in
-          ⊎_elim
-          (λ less. absurd (ranks_ascend a b (get_or c.items a 0) (get_or c.items b 0) edge one other (first_within b (get_or c.items b 0) within.1 other) less))
-          (λ up. up)
-          (cases_lt (get_or c.items b 0) (get_or c.items a 0));
-      same = λ a b la lb e.
-          let one : IsFirstOf a (get_or c.items a 0) = at_number c a 0 la in
-          let other : IsFirstOf b (get_or c.items b 0) = at_number c b 0 lb in
-          same_joined (same_turned one.is) (subst (λ z. SameComponent g.edges (get_or list z 0) b) (sym e) other.is);
+      levels = c.items;
+      are = record { long = c.long; ascends = ascends c; same = same_rank c };
+      one = λ a b la lb e. e;
+      same = same_rank c;
     },
   )
 
