@@ -17,7 +17,7 @@ pub record IsRanking (g : Graph) (ranks : List ℕ) : Type 0 where
   pub one : (a b : ℕ) → a < g.nodes → b < g.nodes → slice_index levels a ≡ slice_index levels b → slice_index ranks a ≡ slice_index ranks b
   pub same : (a b : ℕ) → a < g.nodes → b < g.nodes → slice_index ranks a ≡ slice_index ranks b → SameComponent g.edges a b
 
--- Each node's rank is the least node of its level.
+-- Each node's rank is a node of its level, the same for all nodes of that level.
 pub record AreRanked (levels ranks : List ℕ) : Type 0 where
   pub long : length ranks ≡ length levels
   pub node : (v : ℕ) → v < length levels → slice_index ranks v < length levels
