@@ -156,7 +156,7 @@ in_push slots hashes hash h = record {
 
 -- ---- the first place of a name
 
--- what is read at a hash's slot
+-- the content of a hash's slot
 pub read_slot : (slots : List ℕ) (m hash o at x : ℕ) → m ≡ length slots → at ≡ slot_of m hash o → at < length slots → x ≡ get_or slots at x → x ≡ get_or slots (slot_of (length slots) hash o) 0
 read_slot slots m hash o at x long is within read = read ∙ get_or_default slots at x 0 within ∙ ap (λ k. get_or slots k 0) (is ∙ ap (λ k. slot_of k hash o) long)
 
