@@ -193,7 +193,7 @@ module _ (g : Graph) (ranks : List ℕ) (s : IsSetup g ranks) (i a b : ℕ) (fir
             ]) (λ j ne. lt_other j i ne) c.tally;
       }
 
-none_done : (n v : ℕ) → ¬ IsDone (replicate n false) v
+pub none_done : (n v : ℕ) → ¬ IsDone (replicate n false) v
 none_done n v d =
     elim (cases_lt v n) [
       | inl l ↦ absurd (let c : false ≡ true = sym (get_or-replicate n v false false l) ∙ d in cc)

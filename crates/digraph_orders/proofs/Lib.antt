@@ -20,3 +20,4 @@ pub mod RankLemmas
 pub mod RowLemmas
 pub mod SequenceLemmas
 pub mod StepLemmas
+pub mod WalkLemmas

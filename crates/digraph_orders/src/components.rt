@@ -8,7 +8,7 @@ use guppy_support::{Digraph, zeroes};
 use std::alloc::{AllocError, Global};
 use walk::{lowered, walked};
 
-/// The components as ranks. The rank of a component is its least node.
+/// The components as ranks. The rank of a component is one of its nodes.
 #[derive(Drop)]
 pub(crate) struct Ranked {
     pub(crate) ranks: Vec<u32>,
@@ -32,7 +32,8 @@ fn first_of_level(firsts: &mut Vec<u32>, level: usize, node: usize) -> u32
     firsts[level] - 1
 }
 
-/// Returns the least node of each node's component, from the level of each node's component.
+/// Returns the rank of each node's component, from its level. The rank is a node of the component, the same for all
+/// its nodes.
 fn ranks_of(alloc: Global, levels: Vec<u32>) -> Result<Vec<u32>, AllocError>
     requires narrow { length levels.items < 2 ^ 32 }
     requires small { (v : ℕ) → v < length levels.items → slice_index levels.items v < length levels.items }

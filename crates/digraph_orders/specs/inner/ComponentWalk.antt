@@ -1,8 +1,9 @@
 -- The state of the walk that finds components.
-use Rattle.std.specs.Prelude.{◌≡◌, ◌≢◌, ℕ, ◌+◌, ◌-◌, ◌*◌, ◌<◌, ◌≤◌, ◌==◌, List, length, sum_by, slice_index}
+use Rattle.std.specs.Prelude.{◌≡◌, ◌≢◌, ℕ, ◌+◌, ◌-◌, ◌*◌, ◌<◌, ◌≤◌, ◌==◌, Bool, true, List, length, sum_by, slice_index}
 use Rattle.guppy_support.specs.Paths.{HasEdge, Path, SameComponent}
 use Rattle.guppy_support.specs.Graph.{Graph, sources}
 use Rattle.guppy_support.specs.Rows.{places}
+use Rattle.guppy_support.specs.Bits.{has}
 use Rattle.digraph_orders.specs.inner.Counts.{count_below}
 use Rattle.digraph_orders.specs.inner.NodeEdges.{target_at}
 use Rattle.digraph_orders.specs.declared.components.walk.Walk.{Walk}
@@ -44,8 +45,18 @@ pub record IsWalking (g : Graph) (marks pending bounds opened left : List ℕ) (
   pub ascends : (a b : ℕ) → g.nodes < slice_index marks a → HasEdge g.edges a b → slice_index marks a ≤ slice_index marks b
   pub same : (a b : ℕ) → g.nodes < slice_index marks a → slice_index marks a ≡ slice_index marks b → SameComponent g.edges a b
 
+-- Each node in the set has a level.
+pub record AreFinished (n : ℕ) (marks : List ℕ) (set : List Bool) : Type 0 where
+  pub long : length set ≡ n
+  pub levels : (v : ℕ) → has set v ≡ true → n < slice_index marks v
+
 abbrev pub IsWalk : Graph → Walk → Type 0
-IsWalk g w = IsWalking g w.marks.items w.pending.items w.bounds.items w.opened.items w.left.items w.level
+IsWalk g w = IsWalking g w.marks.items w.pending.items w.bounds.items w.opened.items w.left.items w.level × AreFinished g.nodes w.marks.items w.finished
+
+-- `v` is in the set, or in the list from a place on.
+pub data IsFinishedOrFrom (set : List Bool) (list : List ℕ) (from v : ℕ) : Type 0 where
+  was : has set v ≡ true → IsFinishedOrFrom set list from v
+  at_place : (i : ℕ) → from ≤ i → i < length list → slice_index list i ≡ v → IsFinishedOrFrom set list from v
 
 -- A bound on the number of steps left.
 abbrev pub steps_left : Graph → Walk → ℕ

@@ -1,12 +1,13 @@
 //! The depth-first walk that finds components.
-ghost use Rattle.std.specs.Prelude.{◌≡◌, ◌≢◌, ℕ, ◌+◌, ◌-◌, ◌*◌, ◌^◌, ◌<◌, ◌≤◌, length, IfOk, OnOk, slice_index};
+ghost use Rattle.std.specs.Prelude.{◌≡◌, ◌≢◌, ℕ, ◌+◌, ◌-◌, ◌*◌, ◌^◌, ◌<◌, ◌≤◌, length, IfOk, OnOk, slice_index, true};
+ghost use Rattle.guppy_support.specs.Bits.{has};
 ghost use Rattle.guppy_support.specs.Graph.{sources};
 ghost use Rattle.guppy_support.specs.Paths.{HasEdge, Path};
 ghost use Rattle.guppy_support.specs.Rows.{places};
 ghost use Rattle.digraph_orders.specs.inner.NodeEdges.{target_at};
-ghost use Rattle.digraph_orders.specs.inner.ComponentWalk.{IsWalk, IsFrontOf, AreGiven, steps_left};
+ghost use Rattle.digraph_orders.specs.inner.ComponentWalk.{IsWalk, IsFinishedOrFrom, IsFrontOf, AreGiven, steps_left};
 
-use guppy_support::{Digraph, zeroes};
+use guppy_support::{Digraph, IxBitSet, zeroes};
 use std::alloc::{AllocError, Global};
 
 /// The state of the walk. It keeps its own stack, so deep graphs don't overflow the call stack.
@@ -24,6 +25,9 @@ pub(crate) struct Walk {
     pub(crate) left: Vec<u32>,
     /// The level of the next component. Levels are assigned downwards.
     pub(crate) level: u32,
+    /// The nodes whose component is known. The set is read in place of the marks, because it is small enough for a
+    /// processor's cache.
+    pub(crate) finished: IxBitSet,
 }
 
 /// Sets the mark of each pending node from place `from` on to `level`.
@@ -36,6 +40,17 @@ fn give(marks: &mut Vec<u32>, pending: &[u32], from: usize, level: u32)
 {
     for place in from..pending.len() {
         marks[pending[place] as usize] = level;
+    }
+}
+
+/// Inserts each pending node from place `from` on into `finished`.
+fn finish(finished: &mut IxBitSet, pending: &[u32], from: usize)
+    requires { (i : ℕ) → i < length pending.now → slice_index pending.now i < length finished.old }
+    ensures long { length finished.new ≡ length finished.old }
+    ensures only { (v : ℕ) → has finished.new v ≡ true → IsFinishedOrFrom finished.old pending.now from v }
+{
+    for place in from..pending.len() {
+        finished.insert(pending[place] as usize);
     }
 }
 
@@ -99,6 +114,7 @@ impl Walk {
         }
         let _ = self.bounds.pop();
         give(&mut self.marks, &self.pending, place as usize, self.level);
+        finish(&mut self.finished, &self.pending, place as usize);
         self.pending.truncate(place as usize);
         self.level -= 1;
     }
@@ -141,6 +157,38 @@ impl Walk {
             .to
     }
 
+    /// Returns true if the last open node `top` has an edge left, and the next one leads to a finished node.
+    fn is_next_finished(&self, graph: &Digraph, top: usize) -> bool
+        requires walk { IsWalk graph.now self.now }
+        requires opened { 0 < length self.now.opened.items }
+        requires top { slice_index self.now.opened.items (length self.now.opened.items - 1) ≡ top }
+        requires node { top < graph.now.nodes }
+        ensures some { result ≡ true → 0 < slice_index self.now.left.items (length self.now.left.items - 1) }
+        ensures finished { result ≡ true → has self.now.finished (target_at graph.now.edges top (length (places top (sources graph.now.edges)) - slice_index self.now.left.items (length self.now.left.items - 1))) ≡ true }
+    {
+        if self.left[self.left.len() - 1] == 0 {
+            return false;
+        }
+        self.finished.contains(self.next(graph, top))
+    }
+
+    /// Passes the next edges of the last open node `top` that lead to finished nodes.
+    fn skip(&mut self, graph: &Digraph, top: usize)
+        requires walk { IsWalk graph.now self.old }
+        requires opened { 0 < length self.old.opened.items }
+        requires top { slice_index self.old.opened.items (length self.old.opened.items - 1) ≡ top }
+        requires node { top < graph.now.nodes }
+        ensures walk { IsWalk graph.now self.new }
+        ensures opened { self.new.opened.items ≡ self.old.opened.items }
+        ensures steps { steps_left graph.now self.new ≤ steps_left graph.now self.old }
+        ensures kept { self.new.marks.items ≡ self.old.marks.items }
+    {
+        while self.is_next_finished(graph, top) {
+            let last = self.left.len() - 1;
+            self.left[last] -= 1;
+        }
+    }
+
     /// Returns the node that was opened last.
     fn last(&self, graph: &Digraph) -> usize
         requires walk { IsWalk graph.now self.now }
@@ -152,8 +200,8 @@ impl Walk {
         self.opened[self.opened.len() - 1] as usize
     }
 
-    /// Looks at the next edge of the last open node: enters its target, or passes the edge if the target was
-    /// entered. If no edge is left, closes the node. An allocation failure is the only error.
+    /// Looks at the next edge of the last open node that leads to no finished node: enters its target, or passes the
+    /// edge if the target was entered. If no edge is left, closes the node. An allocation failure is the only error.
     fn step(&mut self, graph: &Digraph) -> Result<(), AllocError>
         requires walk { IsWalk graph.now self.old }
         requires opened { 0 < length self.old.opened.items }
@@ -162,6 +210,7 @@ impl Walk {
         ensures kept { OnOk result ((v : ℕ) → slice_index self.old.marks.items v ≢ 0 → slice_index self.new.marks.items v ≢ 0) }
     {
         let top = self.last(graph);
+        self.skip(graph, top);
         if self.left[self.left.len() - 1] == 0 {
             self.close(graph, top);
             return Ok(());
@@ -208,6 +257,7 @@ fn fresh(alloc: Global, graph: &Digraph) -> Result<Walk, AllocError>
     let bounds = Vec::with_capacity(alloc, nodes)?;
     let opened = Vec::with_capacity(alloc, nodes)?;
     let left = Vec::with_capacity(alloc, nodes)?;
+    let finished = IxBitSet::empty(alloc, nodes)?;
     Ok(Walk {
         marks,
         pending,
@@ -215,6 +265,7 @@ fn fresh(alloc: Global, graph: &Digraph) -> Result<Walk, AllocError>
         opened,
         left,
         level: (2 * nodes) as u32,
+        finished,
     })
 }
 

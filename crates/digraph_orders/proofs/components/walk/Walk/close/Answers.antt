@@ -6,13 +6,14 @@ use Rattle.std.proofs.lemmas.List.Sums.{sum_by-append}
 use Rattle.digraph_orders.specs.inner.ComponentWalk.{IsMore, IsFrontOf, AreGiven, unentered}
 use Rattle.digraph_orders.proofs.OutEdgeLemmas.{length_push}
 use Rattle.digraph_orders.proofs.ComponentLemmas.{more_from, front_take, bound_low, bounded, closed_inner, closed_root, unentered_given}
+use Rattle.digraph_orders.proofs.WalkLemmas.{finished_given}
 use Rattle.digraph_orders.proofs.components.walk.Walk.close.Goals as goal
 
 pub returns-then-index-place-clause-walk : goal.returns-then-index-place-clause-walk
 returns-then-index-place-clause-walk c =
     let g = c.args.graph.now in
     let s = c.args.self.now in
-    let w = c.requires.walk in
+    let w = c.requires.walk.0 in
     let last = length s.opened.items - 1 in
     let some : last + 1 ≡ length s.opened.items = omega (arith, c.requires.opened) in
     let left_last : length s.left.items - 1 ≡ last = omega (arith, w.left_long) in
@@ -29,19 +30,21 @@ returns-then-index-place-clause-walk c =
     let long : c.len.result ≡ length s.bounds.items = search rules in
     let bounds_some = bounded g s.marks.items s.pending.items s.bounds.items s.opened.items s.left.items s.level w c.args.top last some c.requires.top in
     let bound = get_or_read s.bounds.items (c.len.result - 1) c.index-2.result.now (omega (arith, long, bounds_some)) c.index-2.ensures 0 in
-    let bound' : c.index-2.result.now ≡ get_or s.bounds.items (length s.bounds.items - 1) 0 = rw long at bound in
-    closed_inner g s.marks.items s.pending.items s.bounds.items s.opened.items s.left.items s.level w c.args.top last some c.requires.top none _ _ opened left
-    (λ b h e.
-    elim (cases_eq b (length s.bounds.items - 1)) [
-      | inl q ↦ let e' : get_or s.bounds.items (length s.bounds.items - 1) 0 + 1 ≡ get_or s.marks.items c.args.top 0 = rw q at e in omega (arith, e', bound', mark, c.if-index-place.true)
-      | inr ne ↦ omega (arith, e, bound', mark, c.if-index-place.true, w.bounds_rise b (length s.bounds.items - 1) (omega (arith, h, ne)) (omega (arith, h)))
-    ])
+    let bound' : c.index-2.result.now ≡ get_or s.bounds.items (length s.bounds.items - 1) 0 = rw long at bound in (
+      closed_inner g s.marks.items s.pending.items s.bounds.items s.opened.items s.left.items s.level w c.args.top last some c.requires.top none _ _ opened left
+          (λ b h e.
+          elim (cases_eq b (length s.bounds.items - 1)) [
+            | inl q ↦ let e' : get_or s.bounds.items (length s.bounds.items - 1) 0 + 1 ≡ get_or s.marks.items c.args.top 0 = rw q at e in omega (arith, e', bound', mark, c.if-index-place.true)
+            | inr ne ↦ omega (arith, e, bound', mark, c.if-index-place.true, w.bounds_rise b (length s.bounds.items - 1) (omega (arith, h, ne)) (omega (arith, h)))
+          ]),
+      c.requires.walk.1,
+    )
 
 pub returns-clause-walk : goal.returns-clause-walk
 returns-clause-walk c =
     let g = c.args.graph.now in
     let s = c.args.self.now in
-    let w = c.requires.walk in
+    let w = c.requires.walk.0 in
     let last = length s.opened.items - 1 in
     let some : last + 1 ≡ length s.opened.items = omega (arith, c.requires.opened) in
     let left_last : length s.left.items - 1 ≡ last = omega (arith, w.left_long) in
@@ -70,15 +73,18 @@ returns-clause-walk c =
     let marked : 0 < length s.pending.items = omega (arith, top_at, (rw c.requires.top at (w.opened_pending last (omega (arith, some)))).1) in
     let given : AreGiven s.marks.items c.give.new.marks.items place (length s.pending.items) s.level = rw c.deref.ensures.value at c.give.ensures.given in
     let front : IsFrontOf s.pending.items c.truncate.new.self.items = rw c.truncate.ensures.items (front_take place s.pending.items) in
-    let short : length c.truncate.new.self.items ≡ place = rw c.truncate.ensures.items (omega (arith, length-take place s.pending.items, within)) in
-    closed_root g s.marks.items s.pending.items s.bounds.items s.opened.items s.left.items s.level w c.args.top last some c.requires.top none _ _ opened left
-    c.pop-3.new.self.items c.truncate.new.self.items c.give.new.marks.items place (s.level - 1) bounds top_at front short given c.give.ensures.long (omega (arith, w.room, marked))
+    let short : length c.truncate.new.self.items ≡ place = rw c.truncate.ensures.items (omega (arith, length-take place s.pending.items, within)) in (
+      closed_root g s.marks.items s.pending.items s.bounds.items s.opened.items s.left.items s.level w c.args.top last some c.requires.top none _ _ opened left
+          c.pop-3.new.self.items c.truncate.new.self.items c.give.new.marks.items place (s.level - 1) bounds top_at front short given c.give.ensures.long (omega (arith, w.room, marked)),
+      finished_given g.nodes s.marks.items c.give.new.marks.items s.pending.items place s.level s.finished c.finish.new.finished c.requires.walk.1 given (λ i h. (w.placed i h).1)
+          (omega (arith, w.room, w.level_high)) (omega (arith, w.room, marked)) c.finish.ensures.long (rw c.deref-2.ensures.value at c.finish.ensures.only),
+    )
 
 pub returns-clause-steps : goal.returns-clause-steps
 returns-clause-steps c =
     let g = c.args.graph.now in
     let s = c.args.self.now in
-    let w = c.requires.walk in
+    let w = c.requires.walk.0 in
     let last = length s.opened.items - 1 in
     let some : last + 1 ≡ length s.opened.items = omega (arith, c.requires.opened) in
     let left_last : length s.left.items - 1 ≡ last = omega (arith, w.left_long) in

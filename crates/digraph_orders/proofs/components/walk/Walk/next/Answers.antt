@@ -9,7 +9,7 @@ use Rattle.digraph_orders.proofs.components.walk.Walk.next.Goals as goal
 pub overflow_sub-edges : goal.overflow_sub-edges
 overflow_sub-edges c =
     let s = c.args.self.now in
-    let w = c.requires.walk in
+    let w = c.requires.walk.0 in
     let n : c.len.result ≡ length s.left.items = search rules in
     let is = get_or_read s.left.items (c.len.result - 1) c.index.result.now (omega (arith, n, w.left_long, c.requires.opened)) c.index.ensures 0 in
     let at : c.len.result - 1 ≡ length s.opened.items - 1 = omega (arith, n, w.left_long) in
@@ -22,7 +22,7 @@ pub returns : goal.returns
 returns c =
     let g = c.args.graph.now in
     let s = c.args.self.now in
-    let w = c.requires.walk in
+    let w = c.requires.walk.0 in
     let n : c.len.result ≡ length s.left.items = search rules in
     let is = get_or_read s.left.items (c.len.result - 1) c.index.result.now (omega (arith, n, w.left_long, c.requires.opened)) c.index.ensures 0 in
     let is' : c.index.result.now ≡ get_or s.left.items (length s.left.items - 1) 0 = rw n at is in

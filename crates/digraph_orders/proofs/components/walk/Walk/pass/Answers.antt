@@ -12,7 +12,7 @@ pub returns-clause-walk : goal.returns-clause-walk
 returns-clause-walk c =
     let g = c.args.graph.now in
     let s = c.args.self.now in
-    let w = c.requires.walk in
+    let w = c.requires.walk.0 in
     let f = c.fold.ensures in
     let bounds = c.fold.new.bounds.items in
     let last = length s.opened.items - 1 in
@@ -36,7 +36,9 @@ returns-clause-walk c =
       | inl e ↦ rw e (omega (arith, mark, f.low))
       | inr ne ↦ omega (arith, mark, f.low, j.bounds_rise b (length bounds - 1) (omega (arith, h, ne)) (omega (arith, h)))
     ]
-    in
-    rw at
-    (stepped g s.marks.items s.pending.items bounds s.opened.items s.left.items s.level j c.args.top last some c.requires.top (c.index_mut.result.now - 1)
-    (omega (arith, read', positive)) (λ b h. rw (sym next) (low b h)))
+    in (
+      rw at
+          (stepped g s.marks.items s.pending.items bounds s.opened.items s.left.items s.level j c.args.top last some c.requires.top (c.index_mut.result.now - 1)
+          (omega (arith, read', positive)) (λ b h. rw (sym next) (low b h))),
+      c.requires.walk.1,
+    )
