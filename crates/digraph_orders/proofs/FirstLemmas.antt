@@ -16,14 +16,14 @@ use Rattle.digraph_orders.proofs.GroupLemmas.{first_head, row_complete}
 use Rattle.digraph_orders.proofs.CountLemmas.{count_zero, tally_skip, tally_add, tally_same, count_full}
 use Rattle.digraph_orders.proofs.PlanLemmas.{eqb_false, edge_of_number}
 
-lt_other : (i p : ℕ) → i ≢ p → nat_lt i (p + 1) ≡ nat_lt i p
+pub lt_other : (i p : ℕ) → i ≢ p → nat_lt i (p + 1) ≡ nat_lt i p
 lt_other i p ne =
     elim (cases_lt i p) [
       | inl l ↦ lt-ltb i (p + 1) (omega arith) ∙ sym (lt-ltb i p l)
       | inr ge ↦ le-ltb i (p + 1) (omega arith) ∙ sym (le-ltb i p ge)
     ]
 
-and_off : (x : Bool) → (x && false) ≡ false
+pub and_off : (x : Bool) → (x && false) ≡ false
 and_off true = refl
 and_off false = refl
 
@@ -40,40 +40,6 @@ count_lt t (suc n) p h e =
       | inr ne ↦ let rest = count_lt t n p (omega arith) e in elim (cases_Bool (t n)) [ inl q ↦ rw q (omega (arith, rest)) | inr q ↦ rw q (omega (arith, rest)) ]
     ]
 
-module _ (g : Graph) (ranks : List ℕ) (s : IsSetup g ranks) (i a b : ℕ) (firm : Bool) (e : IsEdge g i a b firm) (counts : List ℕ) (c : AreEntering g ranks i counts) where
-  small : get_or ranks b 0 < length counts
-  small = omega (arith, s.small b e.node_to, c.long)
-
-  pub room : get_or counts (get_or ranks b 0) 0 < length g.edges
-  room =
-      let z = c.tally (get_or ranks b 0) small in
-      let f = count_lt (λ j. nat_lt j i && enters g.edges ranks (get_or ranks b 0) j) (length g.edges) i e.within (rw (le-ltb i i (omega arith)) refl) in
-      omega (arith, z, f)
-
-  pub entering_add : get_or ranks a 0 ≢ get_or ranks b 0 → AreEntering g ranks (i + 1) (set counts (get_or ranks b 0) (get_or counts (get_or ranks b 0) 0 + 1))
-  entering_add ne =
-      let d = get_or ranks b 0 in
-      let e1 : eqb (get_or ranks (get_or (targets g.edges) i 0) 0) d ≡ true = eq-eqb _ _ (ap (λ x. get_or ranks x 0) e.to_is) in
-      let e2 : eqb (get_or ranks (get_or (sources g.edges) i 0) 0) d ≡ false = eqb_false _ _ (λ q. ne (sym (ap (λ x. get_or ranks x 0) e.from_is) ∙ q)) in
-      record {
-        long = length-set counts d (get_or counts d 0 + 1) ∙ c.long;
-        tally = tally_add counts (length g.edges) (λ j. nat_lt j i) (λ j. nat_lt j (i + 1)) (enters g.edges ranks) i d e.within small (le-ltb i i (omega arith)) (lt-ltb i (i + 1) (omega arith)) (rw (e1, e2) refl)
-            (λ x nx. rw (e.to_is, eqb_false d x (λ q. nx (sym q))) refl) (λ j ne. lt_other j i ne) c.tally;
-      }
-
-  pub entering_skip : get_or ranks a 0 ≡ get_or ranks b 0 → AreEntering g ranks (i + 1) counts
-  entering_skip same =
-      record {
-        long = c.long;
-        tally = tally_skip counts (length g.edges) (λ j. nat_lt j i) (λ j. nat_lt j (i + 1)) (enters g.edges ranks) i
-            (λ x lx. elim (cases_eq x (get_or ranks b 0)) [
-              | inr nx ↦ rw (e.to_is, eqb_false (get_or ranks b 0) x (λ q. nx (sym q))) refl
-              | inl is ↦
-                  let yes_from : eqb (get_or ranks (get_or (sources g.edges) i 0) 0) x ≡ true = eq-eqb _ _ (ap (λ x. get_or ranks x 0) e.from_is ∙ same ∙ sym is) in
-                  rw yes_from (and_off _)
-            ]) (λ j ne. lt_other j i ne) c.tally;
-      }
-
 pub edge_is : (g : Graph) (i : ℕ) (e : Edge) → IsDigraph g → i < length g.edges → slice_get g.edges i ≡ Some e → IsEdge g i e.from e.to e.non_dev
 edge_is g i e ok inside got =
     let read : slice_get g.edges i ≡ Some (get_or g.edges i e) = slice_get-get_or g.edges i e inside in
@@ -88,13 +54,6 @@ edge_is g i e ok inside got =
       firm_is = get_or-map (λ (d : Edge). d.non_dev) g.edges i e false inside ∙ ap (λ (d : Edge). d.non_dev) same;
       node_from = rw from at ends.0;
       node_to = rw to at ends.1;
-    }
-
-pub entering_none : (g : Graph) (ranks counts : List ℕ) → length counts ≡ g.nodes → ((v : ℕ) → v < length counts → get_or counts v 0 ≡ 0) → AreEntering g ranks 0 counts
-entering_none g ranks counts long z =
-    record {
-      long = long;
-      tally = λ c h. z c h ∙ sym (count_zero (λ i. nat_lt i 0 && enters g.edges ranks c i) (length g.edges) (λ i l. rw (le-ltb i 0 (omega arith)) refl));
     }
 
 pub holding_none : (g : Graph) (ranks counts : List ℕ) → length counts ≡ g.nodes → ((v : ℕ) → v < length counts → get_or counts v 0 ≡ 0) → AreHolding g ranks 0 counts

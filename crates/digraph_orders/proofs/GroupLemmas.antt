@@ -115,6 +115,15 @@ module _ (ranks : List ℕ) (u : ℕ) (inside : u < length ranks) (a : IsAlone r
       let z : q.0 ≡ 0 = omega (arith, q.1, a.few) in
       rw a.rank (omega (arith, q.1), rw z at q.2)
 
+  -- No other node has its rank.
+  pub alone_only : (v : ℕ) → v < length ranks → get_or ranks v 0 ≡ u → v ≡ u
+  alone_only v h e =
+      let q = row_complete ranks u v h e in
+      let z : q.0 ≡ 0 = omega (arith, q.1, a.few) in
+      let at : get_or (places u ranks) 0 0 ≡ v = rw z at q.2 in
+      let own : get_or (places u ranks) 0 0 ≡ u = rw a.rank at alone_at.1 in
+      sym at ∙ own
+
   pub alone_first : (held : List ℕ) → IsFirst (places (get_or ranks u 0) ranks) held u
   alone_first held =
       record {

@@ -5,6 +5,7 @@ pub mod ChoiceLemmas
 pub mod ComponentLemmas
 pub mod ContainsLemmas
 pub mod CountLemmas
+pub mod DegreeLemmas
 pub mod FirstLemmas
 pub mod GroupLemmas
 pub mod HeadLemmas

@@ -199,6 +199,14 @@ impl Digraph {
         self.begins[node] as usize..self.begins[node + 1] as usize
     }
 
+    /// Returns the number of edges that enter `node`.
+    pub fn in_degree(&self, node: usize) -> usize
+        requires { node < self.now.nodes }
+        ensures { result ≡ length (places node (targets self.now.edges)) }
+    {
+        self.in_numbers(node).len()
+    }
+
     /// Returns edge `place`, from 0, of those that enter `node`, by their numbers; `None` if there are fewer.
     pub fn in_edge(&self, node: usize, place: usize) -> Option<usize>
         requires { node < self.now.nodes }

@@ -1,8 +1,8 @@
 -- The state between two nodes of the order.
-use Rattle.std.specs.Prelude.{◌≡◌, ◌≢◌, ℕ, ◌+◌, ◌<◌, ◌≤◌, ◌⊎◌, Bool, true, false, ◌||◌, ◌==◌, not, List, [], ◌∷◌, length, map, nat_lt, set, take, drop, slice_index, slice_index_or, Contains}
+use Rattle.std.specs.Prelude.{◌≡◌, ◌≢◌, ℕ, ◌+◌, ◌<◌, ◌≤◌, ◌⊎◌, Bool, true, false, ◌||◌, ◌&&◌, ◌==◌, cond, not, List, [], ◌∷◌, length, map, nat_lt, set, take, drop, slice_index, slice_index_or, Contains}
 use Rattle.guppy_support.specs.declared.digraph.Edge.{Edge}
 use Rattle.guppy_support.specs.Graph.{Graph, IsDigraph, sources, targets}
-use Rattle.guppy_support.specs.Bits.{members}
+use Rattle.guppy_support.specs.Bits.{has, members}
 use Rattle.guppy_support.specs.Rows.{places}
 use Rattle.digraph_orders.specs.inner.Ranks.{IsRanking}
 use Rattle.digraph_orders.specs.Orders.{IsNext}
@@ -198,6 +198,23 @@ pub record IsEdge (g : Graph) (number from to : ℕ) (firm : Bool) : Type 0 wher
 pub record AreEntering (g : Graph) (ranks : List ℕ) (number : ℕ) (counts : List ℕ) : Type 0 where
   pub long : length counts ≡ g.nodes
   pub tally : IsTally counts (length g.edges) (λ i. nat_lt i number) (enters g.edges ranks)
+
+-- The number of edges that enter each of the first `k` nodes that isn't in `several`, and 0 for each other node.
+pub record AreDegrees (g : Graph) (several : List Bool) (k : ℕ) (counts : List ℕ) : Type 0 where
+  pub long : length counts ≡ g.nodes
+  pub lone : (v : ℕ) → v < k → has several v ≡ false → slice_index counts v ≡ length (places v (targets g.edges))
+  pub several_none : (v : ℕ) → has several v ≡ true → slice_index counts v ≡ 0
+  pub later_none : (v : ℕ) → k ≤ v → slice_index counts v ≡ 0
+
+-- Edge `i` counts for component `c`, after the edges below `number`. If `c` is in `several`, it is one of these and
+-- enters `c`. Otherwise it leads to the node `c`, and isn't one of these that leads from `c` itself.
+abbrev pub counted : List Edge → List ℕ → List Bool → ℕ → ℕ → ℕ → Bool
+counted es ranks several number c i =
+    cond (has several c) (nat_lt i number && enters es ranks c i) ((slice_index (targets es) i == c) && not (nat_lt i number && (slice_index (sources es) i == c)))
+
+pub record AreCounted (g : Graph) (ranks : List ℕ) (several : List Bool) (number : ℕ) (counts : List ℕ) : Type 0 where
+  pub long : length counts ≡ g.nodes
+  pub each : (c : ℕ) → c < g.nodes → slice_index counts c ≡ count_below (counted g.edges ranks several number c) (length g.edges)
 
 -- The starts are the first node of each component below `k` that no edge enters.
 pub record AreFirsts (ranks outside held : List ℕ) (k : ℕ) (starts : List ℕ) : Type 0 where

@@ -1,11 +1,11 @@
 //! Counts made before the first node is listed: the edges that enter each component, and those that hold each
 //! node.
-ghost use Rattle.std.specs.Prelude.{◌≡◌, ◌≢◌, ℕ, [], ◌+◌, ◌<◌, ◌≤◌, length, slice_index, IfOk, false, replicate};
+ghost use Rattle.std.specs.Prelude.{◌≡◌, ◌≢◌, ℕ, [], ◌+◌, ◌-◌, ◌<◌, ◌≤◌, length, slice_index, IfOk, false, replicate, set};
 ghost use Rattle.guppy_support.specs.Bits.{members};
 ghost use Rattle.guppy_support.specs.Graph.{IsDigraph};
 ghost use Rattle.guppy_support.specs.Rows.{places};
 ghost use Rattle.digraph_orders.specs.inner.Groups.{AreGroups};
-ghost use Rattle.digraph_orders.specs.inner.Plans.{IsSetup, IsPauseIn, IsEdge, AreEntering, AreHolding, AreFirsts, HasRoom};
+ghost use Rattle.digraph_orders.specs.inner.Plans.{IsSetup, IsPauseIn, IsEdge, AreEntering, AreDegrees, AreCounted, AreHolding, AreFirsts, HasRoom};
 
 use crate::order::groups::Groups;
 use crate::order::listing::{Plan, first_of};
@@ -22,7 +22,20 @@ fn edge_at(graph: &Digraph, number: usize) -> Edge
     graph.edge(number)
 }
 
-/// Counts edge `number` in `outside` if it enters another component, or in `held` if it holds its target.
+/// Subtracts 1 from the count of `to` if the edge leads from a node to itself.
+fn leave_loop(counts: &mut Vec<u32>, from: usize, to: usize)
+    requires node { to < length counts.old.items }
+    requires positive { from ≡ to → 0 < slice_index counts.old.items to }
+    ensures is { from ≡ to → counts.new.items ≡ set counts.old.items to (slice_index counts.old.items to - 1) }
+    ensures other { from ≢ to → counts.new.items ≡ counts.old.items }
+{
+    if from == to {
+        counts[to] -= 1;
+    }
+}
+
+/// Counts edge `number` in `outside` if it enters another component, or in `held` if it holds its target. The edges
+/// that enter a node that is alone are counted already, even those from itself.
 fn count_edge(
     outside: &mut Vec<u32>,
     held: &mut Vec<u32>,
@@ -34,14 +47,18 @@ fn count_edge(
     requires setup { IsSetup graph.now ranks.now }
     requires groups { AreGroups graph.now.nodes ranks.now groups.now }
     requires number { number < length graph.now.edges }
-    requires entering { AreEntering graph.now ranks.now number outside.old.items }
+    requires counted { AreCounted graph.now ranks.now groups.now.several number outside.old.items }
     requires holding { AreHolding graph.now ranks.now number held.old.items }
-    ensures entering { AreEntering graph.now ranks.now (number + 1) outside.new.items }
+    ensures counted { AreCounted graph.now ranks.now groups.now.several (number + 1) outside.new.items }
     ensures holding { AreHolding graph.now ranks.now (number + 1) held.new.items }
 {
     graph.bounds();
     let edge = edge_at(graph, number);
-    let rank = groups.rank(ranks, edge.to, graph.node_count());
+    if groups.is_alone(ranks, edge.to, graph.node_count()) {
+        leave_loop(outside, edge.from, edge.to);
+        return;
+    }
+    let rank = ranks[edge.to] as usize;
     if ranks[edge.from] as usize != rank {
         outside[rank] += 1;
         return;
@@ -82,6 +99,26 @@ fn add_start(
     starts.push(first_of(row, held));
 }
 
+/// Returns the number of edges that enter each node that is alone in its component, and 0 for the other nodes.
+fn lone_degrees(
+    alloc: Global,
+    graph: &Digraph,
+    ranks: &[u32],
+    groups: &Groups,
+) -> Result<Vec<u32>, AllocError>
+    requires { AreGroups graph.now.nodes ranks.now groups.now }
+    ensures { IfOk result (λ degrees. AreDegrees graph.now groups.now.several graph.now.nodes degrees.items) }
+{
+    graph.bounds();
+    let mut degrees = zeroes(alloc, graph.node_count())?;
+    for node in 0..graph.node_count() {
+        if groups.is_alone(ranks, node, graph.node_count()) {
+            degrees[node] = graph.in_degree(node) as u32;
+        }
+    }
+    Ok(degrees)
+}
+
 /// Returns the number of edges that enter each component, and the number that hold each node.
 fn count_edges(
     alloc: Global,
@@ -94,7 +131,7 @@ fn count_edges(
     ensures entering { IfOk result (λ counts. AreEntering graph.now ranks.now (length graph.now.edges) counts.0.items) }
     ensures holding { IfOk result (λ counts. AreHolding graph.now ranks.now (length graph.now.edges) counts.1.items) }
 {
-    let mut outside = zeroes(alloc, graph.node_count())?;
+    let mut outside = lone_degrees(alloc, graph, ranks, groups)?;
     let mut held = zeroes(alloc, graph.node_count())?;
     for number in 0..graph.edge_count() {
         count_edge(&mut outside, &mut held, graph, ranks, groups, number);

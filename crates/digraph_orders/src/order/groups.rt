@@ -1,5 +1,6 @@
 //! The nodes of each component, by its rank.
-ghost use Rattle.std.specs.Prelude.{◌≡◌, ℕ, ◌<◌, length, slice_index, IfOk, IsTrue};
+ghost use Rattle.std.specs.Prelude.{◌≡◌, ℕ, ◌<◌, length, slice_index, IfOk, IsTrue, true, false};
+ghost use Rattle.guppy_support.specs.Bits.{has};
 ghost use Rattle.guppy_support.specs.Rows.{places};
 ghost use Rattle.digraph_orders.specs.inner.Groups.{AreGroups, HaveOthers, IsAlone};
 
@@ -49,7 +50,9 @@ impl Groups {
     pub(crate) fn is_alone(&self, ranks: &[u32], node: usize, nodes: usize) -> bool
         requires node { node < nodes }
         requires groups { AreGroups nodes ranks.now self.now }
-        ensures { IsTrue result → IsAlone ranks.now node }
+        ensures alone { IsTrue result → IsAlone ranks.now node }
+        ensures off { IsTrue result → has self.now.several node ≡ false }
+        ensures on { result ≡ false → has self.now.several node ≡ true }
     {
         !self.several.contains(node)
     }

@@ -14,4 +14,4 @@ pub returns : goal.returns
 returns c = rw c.row.ensures at c.first_of.ensures
 
 pub returns-then-is_alone : goal.returns-then-is_alone
-returns-then-is_alone c = alone_first c.args.ranks.now c.args.node c.requires.node (c.is_alone.ensures c.if-is_alone.true) c.args.held.now
+returns-then-is_alone c = alone_first c.args.ranks.now c.args.node c.requires.node (c.is_alone.ensures.alone c.if-is_alone.true) c.args.held.now

@@ -28,7 +28,7 @@ returns-then-is_alone-clause-none c =
       within_end c.args.graph.now c.args.ranks.now c.requires.setup p.listed.items p.done p.outside.items p.held.items (members p.starts)
           c.args.rank (members p.ready) (rest_of c.args.ranks.now c.args.rank p) w
           (row_done (places c.args.rank c.args.ranks.now) p.done p.next
-          (λ j from l. alone_done c.args.ranks.now p.done c.args.rank (omega (arith, w.plan.done_long, c.requires.setup.ranking.long)) (c.is_alone.ensures c.if-is_alone.true) w.run.begun j l)),
+          (λ j from l. alone_done c.args.ranks.now p.done c.args.rank (omega (arith, w.plan.done_long, c.requires.setup.ranking.long)) (c.is_alone.ensures.alone c.if-is_alone.true) w.run.begun j l)),
       c.in_default.ensures.empty,
     )
 
