@@ -1,10 +1,12 @@
 //! Components of a digraph, found in one depth-first walk.
-ghost use Rattle.std.specs.Prelude.{◌≡◌, ◌≢◌, ℕ, ◌+◌, ◌^◌, ◌<◌, length, set, IfOk, slice_index};
+ghost use Rattle.std.specs.Prelude.{◌≡◌, ◌≢◌, ℕ, ◌+◌, ◌^◌, ◌<◌, length, set, IfOk, slice_index, true, false};
+ghost use Rattle.guppy_support.specs.Bits.{has};
+ghost use Rattle.digraph_orders.specs.inner.Groups.{HaveOthers};
 ghost use Rattle.digraph_orders.specs.inner.Ranks.{AreRanked, IsRanking};
 
 mod walk;
 
-use guppy_support::{Digraph, zeroes};
+use guppy_support::{Digraph, IxBitSet, zeroes};
 use std::alloc::{AllocError, Global};
 use walk::{lowered, walked};
 
@@ -12,20 +14,28 @@ use walk::{lowered, walked};
 #[derive(Drop)]
 pub(crate) struct Ranked {
     pub(crate) ranks: Vec<u32>,
+    /// The nodes of the components of several nodes. Each other node is the rank of its component.
+    pub(crate) several: IxBitSet,
     /// The number of components.
     pub(crate) count: usize,
 }
 
-/// Returns the first node of `level`. If `firsts` has none, that is `node`, which is added. `firsts` has one plus the
-/// first node of each level, or 0.
-fn first_of_level(firsts: &mut Vec<u32>, level: usize, node: usize) -> u32
+/// Returns the rank of `node`: the node itself if it isn't in `several`, otherwise the first node of `level`. If
+/// `firsts` has none, that is `node`, which is added. `firsts` has one plus the first node of each level, or 0.
+fn rank_of(firsts: &mut Vec<u32>, several: &IxBitSet, level: usize, node: usize) -> u32
     requires level { level < length firsts.old.items }
+    requires several { node < length several.now }
     requires node { node + 1 < 2 ^ 32 }
     ensures long { length firsts.new.items ≡ length firsts.old.items }
-    ensures found { result + 1 ≡ slice_index firsts.new.items level }
-    ensures known { slice_index firsts.old.items level ≢ 0 → firsts.new.items ≡ firsts.old.items }
-    ensures added { slice_index firsts.old.items level ≡ 0 → firsts.new.items ≡ set firsts.old.items level (node + 1) }
+    ensures lone { has several.now node ≡ false → result ≡ node }
+    ensures same { has several.now node ≡ false → firsts.new.items ≡ firsts.old.items }
+    ensures found { has several.now node ≡ true → result + 1 ≡ slice_index firsts.new.items level }
+    ensures known { has several.now node ≡ true → slice_index firsts.old.items level ≢ 0 → firsts.new.items ≡ firsts.old.items }
+    ensures added { has several.now node ≡ true → slice_index firsts.old.items level ≡ 0 → firsts.new.items ≡ set firsts.old.items level (node + 1) }
 {
+    if !several.contains(node) {
+        return node as u32;
+    }
     if firsts[level] == 0 {
         firsts[level] = (node + 1) as u32;
     }
@@ -33,17 +43,20 @@ fn first_of_level(firsts: &mut Vec<u32>, level: usize, node: usize) -> u32
 }
 
 /// Returns the rank of each node's component, from its level. The rank is a node of the component, the same for all
-/// its nodes.
-fn ranks_of(alloc: Global, levels: Vec<u32>) -> Result<Vec<u32>, AllocError>
+/// its nodes. `several` has each node that isn't the only one of its level.
+fn ranks_of(alloc: Global, levels: Vec<u32>, several: &IxBitSet) -> Result<Vec<u32>, AllocError>
     requires narrow { length levels.items < 2 ^ 32 }
     requires small { (v : ℕ) → v < length levels.items → slice_index levels.items v < length levels.items }
-    ensures { IfOk result (λ ranks. AreRanked levels.items ranks.items) }
+    requires several { length several.now ≡ length levels.items }
+    requires alone { (v u : ℕ) → v < length levels.items → u < length levels.items → slice_index levels.items v ≡ slice_index levels.items u → has several.now v ≡ false → u ≡ v }
+    ensures ranked { IfOk result (λ ranks. AreRanked levels.items ranks.items) }
+    ensures others { IfOk result (λ ranks. HaveOthers ranks.items (length levels.items) several.now) }
 {
     let mut firsts = zeroes(alloc, levels.len())?;
     let mut ranks = levels;
     for node in 0..ranks.len() {
         let level = ranks[node] as usize;
-        ranks[node] = first_of_level(&mut firsts, level, node);
+        ranks[node] = rank_of(&mut firsts, several, level, node);
     }
     Ok(ranks)
 }
@@ -52,6 +65,8 @@ fn ranks_of(alloc: Global, levels: Vec<u32>) -> Result<Vec<u32>, AllocError>
 pub(crate) fn component_ranks(alloc: Global, graph: &Digraph) -> Result<Ranked, AllocError>
     ensures ranking { IfOk result (λ r. IsRanking graph.now r.ranks.items) }
     ensures small { IfOk result (λ r. (v : ℕ) → v < graph.now.nodes → slice_index r.ranks.items v < graph.now.nodes) }
+    ensures several { IfOk result (λ r. length r.several ≡ graph.now.nodes) }
+    ensures others { IfOk result (λ r. HaveOthers r.ranks.items graph.now.nodes r.several) }
 {
     graph.facts();
     graph.bounds();
@@ -59,6 +74,10 @@ pub(crate) fn component_ranks(alloc: Global, graph: &Digraph) -> Result<Ranked, 
     let walk = walked(alloc, graph)?;
     let count = 2 * nodes - walk.level as usize;
     let levels = lowered(walk.marks, nodes as u32 + 1);
-    let ranks = ranks_of(alloc, levels)?;
-    Ok(Ranked { ranks, count })
+    let ranks = ranks_of(alloc, levels, &walk.several)?;
+    Ok(Ranked {
+        ranks,
+        several: walk.several,
+        count,
+    })
 }

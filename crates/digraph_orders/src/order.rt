@@ -5,6 +5,7 @@ ghost use Rattle.guppy_support.specs.Paths.{SameComponent};
 ghost use Rattle.digraph_orders.specs.Orders.{IsOrder};
 ghost use Rattle.digraph_orders.specs.inner.Plans.{IsSetup};
 ghost use Rattle.digraph_orders.specs.inner.Apart.{AreApart};
+ghost use Rattle.digraph_orders.specs.inner.Groups.{HaveOthers};
 ghost use Rattle.guppy_support.specs.PackedRows.{AreBegun};
 ghost use Rattle.digraph_orders.specs.Sequences.{IsOrderOf, IsSequence, component_of};
 ghost use Rattle.digraph_orders.specs.inner.Numbering.{AreNumbered, rank_at};
@@ -18,7 +19,7 @@ mod queue;
 use crate::components::component_ranks;
 use counts::first_plan;
 use groups::Groups;
-use guppy_support::Digraph;
+use guppy_support::{Digraph, IxBitSet};
 use listing::order_from;
 use numbering::{numbered, placed, scattered};
 use std::alloc::{AllocError, Global};
@@ -72,7 +73,7 @@ impl Order {
         graph.bounds();
         let ranked = component_ranks(alloc, graph)?;
         let ranks = ranked.ranks;
-        let list = listed(alloc, graph, &ranks)?;
+        let list = listed(alloc, graph, &ranks, ranked.several)?;
         let (numbers, begins) = numbered(alloc, &list, &ranks, ranked.count)?;
         let components = scattered(ranks, &list, &numbers);
         let places = placed(numbers, &list);
@@ -142,12 +143,19 @@ impl Order {
     }
 }
 
-// Returns the list of the order, from the ranks of the nodes' components.
-fn listed(alloc: Global, graph: &Digraph, ranks: &[u32]) -> Result<Vec<usize>, AllocError>
+// Returns the list of the order, from the ranks of the nodes' components and the nodes of those of several nodes.
+fn listed(
+    alloc: Global,
+    graph: &Digraph,
+    ranks: &[u32],
+    several: IxBitSet,
+) -> Result<Vec<usize>, AllocError>
     requires setup { IsSetup graph.now ranks.now }
+    requires several { length several ≡ graph.now.nodes }
+    requires others { HaveOthers ranks.now graph.now.nodes several }
     ensures { IfOk result (λ list. IsOrder graph.now.edges graph.now.nodes list.items) }
 {
-    let groups = Groups::new(alloc, ranks, graph.node_count())?;
+    let groups = Groups::new(alloc, ranks, several, graph.node_count())?;
     let plan = first_plan(alloc, graph, ranks, &groups)?;
     order_from(graph, ranks, &groups, plan)
 }

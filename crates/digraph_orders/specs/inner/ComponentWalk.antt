@@ -1,5 +1,5 @@
 -- The state of the walk that finds components.
-use Rattle.std.specs.Prelude.{◌≡◌, ◌≢◌, ℕ, ◌+◌, ◌-◌, ◌*◌, ◌<◌, ◌≤◌, ◌==◌, Bool, true, List, length, sum_by, slice_index}
+use Rattle.std.specs.Prelude.{◌≡◌, ◌≢◌, ℕ, ◌+◌, ◌-◌, ◌*◌, ◌<◌, ◌≤◌, ◌==◌, Bool, true, false, List, length, sum_by, slice_index}
 use Rattle.guppy_support.specs.Paths.{HasEdge, Path, SameComponent}
 use Rattle.guppy_support.specs.Graph.{Graph, sources}
 use Rattle.guppy_support.specs.Rows.{places}
@@ -45,18 +45,20 @@ pub record IsWalking (g : Graph) (marks pending bounds opened left : List ℕ) (
   pub ascends : (a b : ℕ) → g.nodes < slice_index marks a → HasEdge g.edges a b → slice_index marks a ≤ slice_index marks b
   pub same : (a b : ℕ) → g.nodes < slice_index marks a → slice_index marks a ≡ slice_index marks b → SameComponent g.edges a b
 
--- Each node in the set has a level.
-pub record AreFinished (n : ℕ) (marks : List ℕ) (set : List Bool) : Type 0 where
-  pub long : length set ≡ n
-  pub levels : (v : ℕ) → has set v ≡ true → n < slice_index marks v
+-- Each node in `finished` has a level. A node that has one and isn't in `several` is the only node of its level.
+pub record AreFinished (n : ℕ) (marks : List ℕ) (finished several : List Bool) : Type 0 where
+  pub long : length finished ≡ n
+  pub several_long : length several ≡ n
+  pub levels : (v : ℕ) → has finished v ≡ true → n < slice_index marks v
+  pub alone : (v u : ℕ) → n < slice_index marks v → slice_index marks v ≡ slice_index marks u → has several v ≡ false → u ≡ v
 
 abbrev pub IsWalk : Graph → Walk → Type 0
-IsWalk g w = IsWalking g w.marks.items w.pending.items w.bounds.items w.opened.items w.left.items w.level × AreFinished g.nodes w.marks.items w.finished
+IsWalk g w = IsWalking g w.marks.items w.pending.items w.bounds.items w.opened.items w.left.items w.level × AreFinished g.nodes w.marks.items w.finished w.several
 
 -- `v` is in the set, or in the list from a place on.
-pub data IsFinishedOrFrom (set : List Bool) (list : List ℕ) (from v : ℕ) : Type 0 where
-  was : has set v ≡ true → IsFinishedOrFrom set list from v
-  at_place : (i : ℕ) → from ≤ i → i < length list → slice_index list i ≡ v → IsFinishedOrFrom set list from v
+pub data IsInOrFrom (set : List Bool) (list : List ℕ) (from v : ℕ) : Type 0 where
+  was : has set v ≡ true → IsInOrFrom set list from v
+  at_place : (i : ℕ) → from ≤ i → i < length list → slice_index list i ≡ v → IsInOrFrom set list from v
 
 -- A bound on the number of steps left.
 abbrev pub steps_left : Graph → Walk → ℕ

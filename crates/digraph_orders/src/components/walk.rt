@@ -5,7 +5,7 @@ ghost use Rattle.guppy_support.specs.Graph.{sources};
 ghost use Rattle.guppy_support.specs.Paths.{HasEdge, Path};
 ghost use Rattle.guppy_support.specs.Rows.{places};
 ghost use Rattle.digraph_orders.specs.inner.NodeEdges.{target_at};
-ghost use Rattle.digraph_orders.specs.inner.ComponentWalk.{IsWalk, IsFinishedOrFrom, IsFrontOf, AreGiven, steps_left};
+ghost use Rattle.digraph_orders.specs.inner.ComponentWalk.{IsWalk, IsInOrFrom, IsFrontOf, AreGiven, steps_left};
 
 use guppy_support::{Digraph, IxBitSet, zeroes};
 use std::alloc::{AllocError, Global};
@@ -28,6 +28,8 @@ pub(crate) struct Walk {
     /// The nodes whose component is known. The set is read in place of the marks, because it is small enough for a
     /// processor's cache.
     pub(crate) finished: IxBitSet,
+    /// The nodes of the finished components that have several nodes.
+    pub(crate) several: IxBitSet,
 }
 
 /// Sets the mark of each pending node from place `from` on to `level`.
@@ -43,15 +45,30 @@ fn give(marks: &mut Vec<u32>, pending: &[u32], from: usize, level: u32)
     }
 }
 
-/// Inserts each pending node from place `from` on into `finished`.
-fn finish(finished: &mut IxBitSet, pending: &[u32], from: usize)
-    requires { (i : ℕ) → i < length pending.now → slice_index pending.now i < length finished.old }
-    ensures long { length finished.new ≡ length finished.old }
-    ensures only { (v : ℕ) → has finished.new v ≡ true → IsFinishedOrFrom finished.old pending.now from v }
+/// Inserts each pending node from place `from` on into `set`.
+fn insert_from(set: &mut IxBitSet, pending: &[u32], from: usize)
+    requires { (i : ℕ) → i < length pending.now → slice_index pending.now i < length set.old }
+    ensures long { length set.new ≡ length set.old }
+    ensures only { (v : ℕ) → has set.new v ≡ true → IsInOrFrom set.old pending.now from v }
+    ensures all { (v : ℕ) → IsInOrFrom set.old pending.now from v → has set.new v ≡ true }
 {
     for place in from..pending.len() {
-        finished.insert(pending[place] as usize);
+        set.insert(pending[place] as usize);
     }
+}
+
+/// Inserts each pending node from place `from` on into `several`, if there are two or more.
+fn note_several(several: &mut IxBitSet, pending: &[u32], from: usize)
+    requires from { from ≤ length pending.now }
+    requires nodes { (i : ℕ) → i < length pending.now → slice_index pending.now i < length several.old }
+    ensures long { length several.new ≡ length several.old }
+    ensures kept { (v : ℕ) → has several.old v ≡ true → has several.new v ≡ true }
+    ensures all { from + 1 < length pending.now → (i : ℕ) → from ≤ i → i < length pending.now → has several.new (slice_index pending.now i) ≡ true }
+{
+    if pending.len() - from < 2 {
+        return;
+    }
+    insert_from(several, pending, from);
 }
 
 /// Removes the last bounds while they are at least `mark`.
@@ -114,7 +131,8 @@ impl Walk {
         }
         let _ = self.bounds.pop();
         give(&mut self.marks, &self.pending, place as usize, self.level);
-        finish(&mut self.finished, &self.pending, place as usize);
+        insert_from(&mut self.finished, &self.pending, place as usize);
+        note_several(&mut self.several, &self.pending, place as usize);
         self.pending.truncate(place as usize);
         self.level -= 1;
     }
@@ -258,6 +276,7 @@ fn fresh(alloc: Global, graph: &Digraph) -> Result<Walk, AllocError>
     let opened = Vec::with_capacity(alloc, nodes)?;
     let left = Vec::with_capacity(alloc, nodes)?;
     let finished = IxBitSet::empty(alloc, nodes)?;
+    let several = IxBitSet::empty(alloc, nodes)?;
     Ok(Walk {
         marks,
         pending,
@@ -266,6 +285,7 @@ fn fresh(alloc: Global, graph: &Digraph) -> Result<Walk, AllocError>
         left,
         level: (2 * nodes) as u32,
         finished,
+        several,
     })
 }
 

@@ -17,32 +17,22 @@ pub(crate) struct Groups {
     pub(crate) several: IxBitSet,
 }
 
-/// Returns the set of the nodes whose rank is another node, and of those other nodes.
-fn several_nodes(alloc: Global, ranks: &[u32]) -> Result<IxBitSet, AllocError>
-    requires { (v : ℕ) → v < length ranks.now → slice_index ranks.now v < length ranks.now }
-    ensures long { IfOk result (λ set. length set ≡ length ranks.now) }
-    ensures others { IfOk result (HaveOthers ranks.now (length ranks.now)) }
-{
-    let mut several = IxBitSet::empty(alloc, ranks.len())?;
-    for node in 0..ranks.len() {
-        let rank = ranks[node] as usize;
-        if rank != node {
-            several.insert(node);
-            several.insert(rank);
-        }
-    }
-    Ok(several)
-}
-
 impl Groups {
-    /// Groups the nodes by the rank of their component.
-    pub(crate) fn new(alloc: Global, ranks: &[u32], nodes: usize) -> Result<Groups, AllocError>
+    /// Groups the nodes by the rank of their component. `several` has the nodes whose rank is another node, and those
+    /// other nodes.
+    pub(crate) fn new(
+        alloc: Global,
+        ranks: &[u32],
+        several: IxBitSet,
+        nodes: usize,
+    ) -> Result<Groups, AllocError>
         requires long { length ranks.now ≡ nodes }
         requires small { (v : ℕ) → v < length ranks.now → slice_index ranks.now v < nodes }
+        requires several { length several ≡ nodes }
+        requires others { HaveOthers ranks.now nodes several }
         ensures { IfOk result (AreGroups nodes ranks.now) }
     {
         let rows = pack_rows(alloc, nodes, &ranks)?;
-        let several = several_nodes(alloc, ranks)?;
         Ok(Groups { rows, several })
     }
 

@@ -2,7 +2,7 @@ use Rattle.std.proofs.Common.{rules, ◌≡◌, ◌+◌, ◌-◌, ◌++◌, ◌�
 use Rattle.std.specs.Prelude.{sum_by}
 use Rattle.std.proofs.lemmas.List.Sums.{sum_by-append}
 use Rattle.digraph_orders.proofs.OutEdgeLemmas.{out_length, length_push}
-use Rattle.digraph_orders.proofs.ComponentLemmas.{entered, entered_fewer, more, fewer_steps}
+use Rattle.digraph_orders.proofs.ComponentLemmas.{entered, entered_fewer, few_more, more, fewer_steps}
 use Rattle.digraph_orders.proofs.WalkLemmas.{finished_entered}
 use Rattle.digraph_orders.proofs.components.walk.Walk.enter.Goals as goal
 
@@ -16,7 +16,8 @@ returns-clause-walk c =
     rw (c.in_ok-push.ensures.items, c.in_ok-push-2.ensures.items, c.in_ok-push-3.ensures.items, c.in_ok-push-4.ensures.items, n) (
       entered g s.marks.items s.pending.items s.bounds.items s.opened.items s.left.items s.level c.requires.walk.0 c.args.node c.requires.node c.requires.new c.requires.led _ _ _ _
           (more s.pending.items c.args.node) (more s.bounds.items (length s.pending.items)) (more s.opened.items c.args.node) (rw l (more s.left.items d)),
-      finished_entered g.nodes s.marks.items s.finished c.args.node (length s.pending.items + 1) c.requires.new c.requires.walk.1,
+      finished_entered g.nodes s.marks.items s.finished s.several c.args.node (length s.pending.items + 1) (omega (arith, c.requires.node, c.requires.walk.0.marks_long))
+          (few_more g s.marks.items s.pending.items s.bounds.items s.opened.items s.left.items s.level c.requires.walk.0 c.args.node c.requires.node c.requires.new) c.requires.new c.requires.walk.1,
     )
 
 pub returns-clause-steps : goal.returns-clause-steps
