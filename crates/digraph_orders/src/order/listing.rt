@@ -247,7 +247,8 @@ impl Plan {
         ensures room { HasRoom self.new }
     {
         let edge = out_edge(graph, node, place);
-        if groups.rank(ranks, edge.to, graph.node_count()) != ranks[node] as usize {
+        let rank = groups.rank(ranks, node, graph.node_count());
+        if groups.rank(ranks, edge.to, graph.node_count()) != rank {
             self.pass_apart(graph, ranks, groups, node, place, edge);
             return;
         }
@@ -363,7 +364,8 @@ impl Plan {
     {
         while let Some(start) = self.begin(graph, ranks, groups) {
             self.list(graph, ranks, groups, start)?;
-            self.finish(graph, ranks, groups, ranks[start] as usize)?;
+            let rank = groups.rank(ranks, start, graph.node_count());
+            self.finish(graph, ranks, groups, rank)?;
         }
         Ok(())
     }
