@@ -315,15 +315,32 @@ numbering_more list ranks numbers begins begins' place n first stays steps =
           },
         )
 
--- Writing the number of one more node.
-pub scattered_more : (list numbers numbered : List ℕ) (k x y : ℕ) → k < length list → get_or list k 0 ≡ x → x < length numbered → get_or numbers k 0 ≡ y → AreApart list
-    → ((i : ℕ) → i < k → get_or numbered (get_or list i 0) 0 ≡ get_or numbers i 0)
-    → (i : ℕ) → i < k + 1 → get_or (set numbered x y) (get_or list i 0) 0 ≡ get_or numbers i 0
-scattered_more list numbers numbered k x y h lx inside ny apart before i l =
-    elim (cases_eq i k) [
-      | inl e ↦ rw (e, lx, get_or-set_same numbered x y 0 inside) (sym ny)
-      | inr ne ↦ rw (get_or-set_other numbered x (get_or list i 0) y 0 (λ e. apart i k (omega arith) h (e ∙ sym lx))) (before i (omega arith))
-    ]
+-- Writing for the node at place `k` leaves what is written for the others.
+module _ (list xs : List ℕ) (k y : ℕ) (h : k < length list) (long : length xs ≡ length list) (nodes : (i : ℕ) → i < length list → get_or list i 0 < length list) (apart : AreApart list) where
+  pub written : get_or (set xs (get_or list k 0) y) (get_or list k 0) 0 ≡ y
+  written = get_or-set_same xs (get_or list k 0) y 0 (omega (arith, nodes k h, long))
+
+  pub unwritten : (i : ℕ) → i < length list → i ≢ k → get_or (set xs (get_or list k 0) y) (get_or list i 0) 0 ≡ get_or xs (get_or list i 0) 0
+  unwritten i l ne =
+      get_or-set_other xs (get_or list k 0) (get_or list i 0) y 0
+      (λ e. elim (cases_lt i k) [ inl less ↦ apart i k less h e | inr ge ↦ apart k i (omega (arith, ge, ne)) l (sym e) ])
+
+-- If `last` is the rank of the place before, a begin that compares `last` with the rank compares the two ranks.
+pub ranks_compared : (list ranks begins begins' : List ℕ) (place last rank : ℕ) → ((i : ℕ) → i + 1 ≡ place → rank_at list ranks i ≡ last) → rank ≡ rank_at list ranks place
+    → (0 < place → last ≡ rank → begins' ≡ begins) → (last ≢ rank → begins' ≡ begins ++ place ∷ [])
+    → ((i : ℕ) → i + 1 ≡ place → rank_at list ranks i ≡ rank_at list ranks place → begins' ≡ begins)
+    × ((i : ℕ) → i + 1 ≡ place → rank_at list ranks i ≢ rank_at list ranks place → begins' ≡ begins ++ place ∷ [])
+ranks_compared list ranks begins begins' place last rank before here stays steps = (
+  λ i e same. stays (omega (arith, e)) (sym (before i e) ∙ same ∙ sym here),
+  λ i e ne. steps (λ q. ne (before i e ∙ q ∙ here)),
+)
+
+-- The last of some numbers and one more.
+pub more_last : (numbers : List ℕ) (x k : ℕ) → length numbers ≡ k → get_or (numbers ++ x ∷ []) k 0 ≡ x
+more_last numbers x k long = get_or_at numbers x [] 0 k long
+
+pub more_kept : (numbers : List ℕ) (x i : ℕ) → i < length numbers → get_or (numbers ++ x ∷ []) i 0 ≡ get_or numbers i 0
+more_kept numbers x i h = get_or_append_left numbers (x ∷ []) 0 i h
 
 -- ---- the nodes of one component
 

@@ -21,7 +21,7 @@ use counts::first_plan;
 use groups::Groups;
 use guppy_support::{Digraph, IxBitSet};
 use listing::order_from;
-use numbering::{numbered, placed, scattered};
+use numbering::numbered;
 use std::alloc::{AllocError, Global};
 use std::marker::Model;
 
@@ -74,9 +74,7 @@ impl Order {
         let ranked = component_ranks(alloc, graph)?;
         let ranks = ranked.ranks;
         let list = listed(alloc, graph, &ranks, ranked.several)?;
-        let (numbers, begins) = numbered(alloc, &list, &ranks, ranked.count)?;
-        let components = scattered(ranks, &list, &numbers);
-        let places = placed(numbers, &list);
+        let (components, begins, places) = numbered(alloc, &list, ranks, ranked.count)?;
         let count = begins.len() - 1;
         Ok(Order {
             list,

@@ -1,5 +1,6 @@
 -- How an order stores its places, and its components by number.
-use Rattle.std.specs.Prelude.{◌≡◌, ◌≢◌, ℕ, ◌+◌, ◌<◌, ◌≤◌, ◌==◌, List, length, map, filter, slice_index, slice_range}
+use Rattle.std.specs.Prelude.{◌≡◌, ◌≢◌, ℕ, ◌+◌, ◌-◌, ◌<◌, ◌≤◌, ◌==◌, List, length, map, filter, slice_index, slice_range}
+use Rattle.guppy_support.specs.PackedRows.{AreBegun}
 
 -- `places` has the place of each node in `list`.
 pub record ArePlaces (list places : List ℕ) : Type 0 where
@@ -29,3 +30,11 @@ pub record AreNumbered (list ranks numbers : List ℕ) (count : ℕ) : Type 0 wh
   pub last : (i : ℕ) → i + 1 ≡ length numbers → slice_index numbers i + 1 ≡ count
   pub stays : (i : ℕ) → i + 1 < length numbers → rank_at list ranks i ≡ rank_at list ranks (i + 1) → slice_index numbers (i + 1) ≡ slice_index numbers i
   pub steps : (i : ℕ) → i + 1 < length numbers → rank_at list ranks i ≢ rank_at list ranks (i + 1) → slice_index numbers (i + 1) ≡ slice_index numbers i + 1
+
+-- Each node has the number of its place, and `begins` has the first place of each component, and the end.
+pub record AreAllNumbered (list ranks components begins : List ℕ) : Type 0 where
+  pub numbers : List ℕ
+  pub long : length numbers ≡ length list
+  pub are : AreNumbered list ranks numbers (length begins - 1)
+  pub begun : AreBegun numbers begins
+  pub put : (i : ℕ) → i < length list → slice_index components (slice_index list i) ≡ slice_index numbers i

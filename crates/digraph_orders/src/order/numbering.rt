@@ -1,86 +1,56 @@
 //! Numbers of components along the list of an order, and places of nodes.
-ghost use Rattle.std.specs.Prelude.{◌≡◌, ◌≢◌, ℕ, [], ◌∷◌, ◌++◌, ◌+◌, ◌-◌, ◌^◌, ◌<◌, ◌≤◌, length, slice_index, IfOk, OnOk};
+ghost use Rattle.std.specs.Prelude.{◌≡◌, ◌≢◌, ℕ, ◌∷◌, [], ◌++◌, ◌+◌, ◌^◌, ◌<◌, ◌≤◌, length, slice_index, IfOk, OnOk};
 ghost use Rattle.digraph_orders.specs.inner.Apart.{AreApart};
-ghost use Rattle.guppy_support.specs.PackedRows.{AreBegun};
-ghost use Rattle.digraph_orders.specs.inner.Numbering.{AreNumbered, rank_at};
+ghost use Rattle.digraph_orders.specs.inner.Numbering.{ArePlaces, AreAllNumbered};
 
+use guppy_support::zeroes;
 use std::alloc::{AllocError, Global};
 
-/// Appends `place` to `begins` if the node there is in another component than the node before it.
-fn begin_at(
-    begins: &mut Vec<u32>,
-    list: &[usize],
-    ranks: &[u32],
-    place: usize,
-) -> Result<(), AllocError>
-    requires place { place < length list.now }
-    requires narrow { length list.now < 2 ^ 32 }
-    requires nodes { (i : ℕ) → i < length list.now → slice_index list.now i < length ranks.now }
+/// Appends `place` to `begins` if the node there is in another component than the node before it: `rank` and `last`
+/// are their ranks.
+fn begin_at(begins: &mut Vec<u32>, last: u32, rank: u32, place: usize) -> Result<(), AllocError>
+    requires narrow { place < 2 ^ 32 }
     ensures few { OnOk result (length begins.new.items ≤ length begins.old.items + 1) }
     ensures first { OnOk result (place ≡ 0 → begins.new.items ≡ begins.old.items ++ place ∷ []) }
-    ensures stays { OnOk result ((i : ℕ) → i + 1 ≡ place → rank_at list.now ranks.now i ≡ rank_at list.now ranks.now place → begins.new.items ≡ begins.old.items) }
-    ensures steps { OnOk result ((i : ℕ) → i + 1 ≡ place → rank_at list.now ranks.now i ≢ rank_at list.now ranks.now place → begins.new.items ≡ begins.old.items ++ place ∷ []) }
+    ensures stays { OnOk result (0 < place → last ≡ rank → begins.new.items ≡ begins.old.items) }
+    ensures steps { OnOk result (last ≢ rank → begins.new.items ≡ begins.old.items ++ place ∷ []) }
 {
-    if place > 0 && ranks[list[place - 1]] == ranks[list[place]] {
+    if place > 0 && last == rank {
         return Ok(());
     }
     begins.push(place as u32)?;
     Ok(())
 }
 
-/// Returns the component number at each place, and the place at which each component begins, followed by the
-/// length of the list.
+/// Returns the component number of each node, the place at which each component begins, followed by the length of the
+/// list, and the place of each node. The component numbers replace the ranks.
 pub(crate) fn numbered(
     alloc: Global,
     list: &[usize],
-    ranks: &[u32],
-    components: usize,
-) -> Result<(Vec<u32>, Vec<u32>), AllocError>
+    ranks: Vec<u32>,
+    count: usize,
+) -> Result<(Vec<u32>, Vec<u32>, Vec<u32>), AllocError>
     requires narrow { length list.now < 2 ^ 32 }
-    requires nodes { (i : ℕ) → i < length list.now → slice_index list.now i < length ranks.now }
+    requires room { length ranks.items ≡ length list.now }
+    requires nodes { (i : ℕ) → i < length list.now → slice_index list.now i < length list.now }
+    requires apart { AreApart list.now }
     ensures long { IfOk result (λ r. length r.0.items ≡ length list.now) }
     ensures some { IfOk result (λ r. 0 < length r.1.items) }
-    ensures numbers { IfOk result (λ r. AreNumbered list.now ranks.now r.0.items (length r.1.items - 1)) }
-    ensures begun { IfOk result (λ r. AreBegun r.0.items r.1.items) }
+    ensures numbers { IfOk result (λ r. AreAllNumbered list.now ranks.items r.0.items r.1.items) }
+    ensures places { IfOk result (λ r. ArePlaces list.now r.2.items) }
 {
-    let mut numbers = Vec::with_capacity(alloc, list.len())?;
-    let mut begins = Vec::with_capacity(alloc, components.saturating_add(1))?;
+    let mut begins = Vec::with_capacity(alloc, count.saturating_add(1))?;
+    let mut places = zeroes(alloc, list.len())?;
+    let mut components = ranks;
+    let mut last = 0;
     for place in 0..list.len() {
-        begin_at(&mut begins, list, ranks, place)?;
-        numbers.push((begins.len() - 1) as u32)?;
+        let node = list[place];
+        let rank = components[node];
+        begin_at(&mut begins, last, rank, place)?;
+        components[node] = (begins.len() - 1) as u32;
+        places[node] = place as u32;
+        last = rank;
     }
     begins.push(list.len() as u32)?;
-    Ok((numbers, begins))
-}
-
-/// Returns the number for each node, from the numbers by place. The result reuses the memory of `memory`.
-pub(crate) fn scattered(memory: Vec<u32>, list: &[usize], numbers: &[u32]) -> Vec<u32>
-    requires room { length memory.items ≡ length list.now }
-    requires long { length numbers.now ≡ length list.now }
-    requires nodes { (i : ℕ) → i < length list.now → slice_index list.now i < length list.now }
-    requires apart { AreApart list.now }
-    ensures long { length result.items ≡ length list.now }
-    ensures each { (i : ℕ) → i < length list.now → slice_index result.items (slice_index list.now i) ≡ slice_index numbers.now i }
-{
-    let mut numbered = memory;
-    for place in 0..list.len() {
-        numbered[list[place]] = numbers[place];
-    }
-    numbered
-}
-
-/// Returns the place of each node in the list. The result reuses the memory of `memory`.
-pub(crate) fn placed(memory: Vec<u32>, list: &[usize]) -> Vec<u32>
-    requires narrow { length list.now < 2 ^ 32 }
-    requires room { length memory.items ≡ length list.now }
-    requires nodes { (i : ℕ) → i < length list.now → slice_index list.now i < length list.now }
-    requires apart { AreApart list.now }
-    ensures long { length result.items ≡ length list.now }
-    ensures each { (i : ℕ) → i < length list.now → slice_index result.items (slice_index list.now i) ≡ i }
-{
-    let mut places = memory;
-    for place in 0..list.len() {
-        places[list[place]] = place as u32;
-    }
-    places
+    Ok((components, begins, places))
 }
