@@ -11,7 +11,7 @@ mod statuses;
 
 use crate::link::held::{HeldLink, status_where};
 use feature_labels::LinkDeclarations;
-use guppy_packages::PlatformStatus;
+use guppy_packages::{DependencyKind, PlatformStatus};
 use std::alloc::{AllocError, Global};
 use std::fmt;
 use std::slice::from_ref;
@@ -36,6 +36,7 @@ impl ConditionalLinkImpl {
     {
         match &self.held {
             HeldLink::Plain { declarations, .. } => *declarations,
+            HeldLink::Platform(link) => link.declarations,
             HeldLink::Full(full) => full.declarations,
         }
     }
@@ -46,6 +47,7 @@ impl ConditionalLinkImpl {
     {
         match &self.held {
             HeldLink::Plain { normal, .. } => status_where(*normal),
+            HeldLink::Platform(link) => link.status(DependencyKind::Normal),
             HeldLink::Full(full) => PlatformStatus::new(&full.normal),
         }
     }
@@ -56,6 +58,7 @@ impl ConditionalLinkImpl {
     {
         match &self.held {
             HeldLink::Plain { build, .. } => status_where(*build),
+            HeldLink::Platform(link) => link.status(DependencyKind::Build),
             HeldLink::Full(full) => PlatformStatus::new(&full.build),
         }
     }
@@ -66,6 +69,7 @@ impl ConditionalLinkImpl {
     {
         match &self.held {
             HeldLink::Plain { dev, .. } => status_where(*dev),
+            HeldLink::Platform(link) => link.status(DependencyKind::Development),
             HeldLink::Full(full) => PlatformStatus::new(&full.dev),
         }
     }
@@ -79,6 +83,7 @@ impl ConditionalLinkImpl {
                 package_link_ix,
                 ..
             } => from_ref(package_link_ix),
+            HeldLink::Platform(link) => from_ref(&link.package_link_ix),
             HeldLink::Full(full) => full.package_link_ixs.as_slice(),
         }
     }

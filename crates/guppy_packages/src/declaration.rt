@@ -1,5 +1,5 @@
 //! The declaration in a Dep row.
-ghost use Rattle.std.specs.Prelude.{◌≡◌, ◌∷◌, [], map};
+ghost use Rattle.std.specs.Prelude.{◌≡◌, ◌∷◌, [], IfOk, map};
 ghost use Rattle.std.specs.List.{list_all};
 ghost use Rattle.std.specs.Option.{option_map};
 ghost use Rattle.std.specs.String.{string_bytes};
@@ -8,6 +8,7 @@ ghost use Rattle.guppy_packages.specs.Tables.{is_development};
 
 use crate::platform::PlatformStatusImpl;
 use crate::row::DependencyKind;
+use std::alloc::AllocError;
 use std::fmt;
 use std::rc::Rc;
 
@@ -45,6 +46,14 @@ impl Declaration {
         ensures { platform_specs result.now ≡ option_map (λ spec. spec ∷ []) (declared self.now).platform }
     {
         self.platform.as_ref()
+    }
+
+    /// Returns the platforms as `platform` does, shared and not copied. `AllocError` is the only error, and means that they have as many
+    /// owners as fit.
+    pub fn shared_platform(&self) -> Result<Rc<PlatformStatusImpl>, AllocError>
+        ensures { IfOk result (λ p. platform_specs p.value ≡ option_map (λ spec. spec ∷ []) (declared self.now).platform) }
+    {
+        self.platform.clone()
     }
 
     /// Returns whether the declaration requests the default feature.

@@ -11,7 +11,7 @@ ghost use Rattle.feature_links.specs.inner.Collected.{HasKinds, HasParts, wanted
 ghost use Rattle.feature_links.specs.NamedLinks.{AreNamedLinks};
 ghost use Rattle.feature_links.specs.Values.{link_facts, half_facts};
 
-use crate::link::held::{FullLink, HeldLink};
+use crate::link::held::{FullLink, HeldLink, PlatformLink};
 use crate::link::statuses::KindCollectors;
 use crate::link::{ConditionalLinkImpl, EnabledLink};
 use crate::link_groups::LinkGroups;
@@ -226,21 +226,6 @@ fn collected(
     parts.over(alloc, graph, links, which, places)
 }
 
-/// Returns the status of `kind` over one declaration: its platforms if its kind is `kind`, and otherwise never.
-fn status_of_one(
-    alloc: Global,
-    declaration: &Declaration,
-    kind: DependencyKind,
-) -> Result<PlatformStatusImpl, AllocError>
-    ensures { IfOk result (λ status. impl_status status ≡ platforms_status (platforms_of kind (declared declaration.now ∷ []))) }
-{
-    if declaration.kind() == kind {
-        let status = declaration.platform().try_clone(alloc)?;
-        return Ok(status);
-    }
-    Ok(PlatformStatusImpl::Specs(Vec::new(alloc)))
-}
-
 /// Returns the link over one declaration of package link `link_ix`, with the kind `kind`, that applies on all platforms.
 fn link_everywhere(
     link_ix: usize,
@@ -272,17 +257,13 @@ fn link_over_one(
     if let PlatformStatusImpl::Always = declaration.platform() {
         return Ok(link_everywhere(link_ix, which, declaration.kind()));
     }
-    let normal = status_of_one(alloc, declaration, DependencyKind::Normal)?;
-    let build = status_of_one(alloc, declaration, DependencyKind::Build)?;
-    let dev = status_of_one(alloc, declaration, DependencyKind::Development)?;
-    let full = FullLink {
+    let link = PlatformLink {
         declarations: which,
-        normal,
-        build,
-        dev,
-        package_link_ixs: Vec::from_slice(alloc, from_ref(&link_ix))?,
+        kind: declaration.kind(),
+        platform: declaration.shared_platform()?,
+        package_link_ix: link_ix,
     };
-    let held = HeldLink::new(alloc, full)?;
+    let held = HeldLink::Platform(Box::new(alloc, link)?);
     Ok(ConditionalLinkImpl { held })
 }
 

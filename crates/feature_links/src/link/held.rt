@@ -1,11 +1,12 @@
 //! The compact storage of a link.
 ghost use Rattle.std.specs.Prelude.{◌≡◌, IfOk, IfSome};
 ghost use Rattle.guppy_packages.specs.Platform.{impl_status, status_of};
-ghost use Rattle.feature_links.specs.Values.{full_facts, held_facts, plain_status};
+ghost use Rattle.feature_links.specs.Values.{full_facts, held_facts, kind_status, plain_status, platform_facts};
 
 use feature_labels::LinkDeclarations;
-use guppy_packages::{PlatformStatus, PlatformStatusImpl};
+use guppy_packages::{DependencyKind, PlatformStatus, PlatformStatusImpl};
 use std::alloc::{AllocError, Global};
+use std::rc::Rc;
 
 /// A link: the declarations that it covers, its status for each kind, and its package links.
 #[derive(Drop)]
@@ -18,8 +19,19 @@ pub(crate) enum HeldLink {
         dev: bool,
         package_link_ix: usize,
     },
+    /// A link over one declaration that applies on some platforms.
+    Platform(Box<PlatformLink>),
     /// Any link.
     Full(Box<FullLink>),
+}
+
+/// A link over one declaration of one package link, with the declaration's kind and platforms. The platforms are shared with it.
+#[derive(Drop)]
+pub(crate) struct PlatformLink {
+    pub(crate) declarations: LinkDeclarations,
+    pub(crate) kind: DependencyKind,
+    pub(crate) platform: Rc<PlatformStatusImpl>,
+    pub(crate) package_link_ix: usize,
 }
 
 /// A link with one status for each kind and its package links.
@@ -51,6 +63,31 @@ fn plain_of(status: &PlatformStatusImpl) -> Option<bool>
         PlatformStatus::Never => Some(false),
         PlatformStatus::PlatformDependent(_) => None,
         PlatformStatus::Always => Some(true),
+    }
+}
+
+impl PlatformLink {
+    /// Returns the status of `kind`: the platforms if it is the declaration's kind, and otherwise never.
+    pub(crate) fn status(&self, kind: DependencyKind) -> PlatformStatus<'_>
+        ensures { status_of result ≡ kind_status kind self.now }
+    {
+        if self.kind == kind {
+            PlatformStatus::new(self.platform.as_ref())
+        } else {
+            PlatformStatus::Never
+        }
+    }
+
+    /// Returns an equal link. `AllocError` is the only error.
+    fn try_clone(&self) -> Result<PlatformLink, AllocError>
+        ensures { IfOk result (λ link. platform_facts link ≡ platform_facts self.now) }
+    {
+        Ok(PlatformLink {
+            declarations: self.declarations,
+            kind: self.kind,
+            platform: self.platform.clone()?,
+            package_link_ix: self.package_link_ix,
+        })
     }
 }
 
@@ -121,6 +158,10 @@ impl HeldLink {
                 dev: *dev,
                 package_link_ix: *package_link_ix,
             }),
+            HeldLink::Platform(link) => {
+                let link = link.try_clone()?;
+                Ok(HeldLink::Platform(Box::new(alloc, link)?))
+            }
             HeldLink::Full(full) => {
                 let full = full.try_clone(alloc)?;
                 Ok(HeldLink::Full(Box::new(alloc, full)?))
