@@ -1,4 +1,4 @@
--- Look-ups among the platforms and the lists that declarations share.
+-- Look-ups among the platforms that declarations share.
 use Rattle.std.proofs.Common.{◌≡◌, ◌∙◌, ◌<◌, ◌+◌, ℕ, zero, suc, List, [], ◌∷◌, Bool, true, false, cond, not, ◌&&◌, Bor, Some, Result, Ok, Err, Global, String, ap, drop, get_or, length, map, refl, subst, sym, arith}
 use Rattle.std.specs.Prelude.{All, IfOk, MatchResult, find, if◌then◌else◌, slice_get}
 use Rattle.std.specs.Cmp.Lexicographic.{bytes_decides, pointwise}
@@ -9,17 +9,6 @@ use Rattle.std.specs.String.{string_bytes, string_eq}
 use Rattle.indexmap.specs.IndexMap.{insert_entry}
 use Rattle.guppy_packages.specs.Rows.{Text, texts}
 use Rattle.guppy_packages.proofs.Lists.{drop_at, slice_get-map}
-
--- an item that a search finds passes its test
-pub found_passes : {X : Type 0} (test : X → Bool) (xs : List X) (x : X) → find test xs ≡ Some x → test x ≡ true
-found_passes test [] x h = cc
-found_passes test (y ∷ ys) x h = go (test y) refl h (λ k. found_passes test ys x k)
-  where
-    go : (b : Bool) → test y ≡ b → cond b (Some y) (find test ys) ≡ Some x → (find test ys ≡ Some x → test x ≡ true) → test x ≡ true
-    go true p h more =
-        let same : y ≡ x = cc in
-        ap test (sym same) ∙ p
-    go false p h more = more h
 
 all_first : {X : Type 0} (P : X → Type 0) (x : X) (xs : List X) → All P (x ∷ xs) → P x
 all_first P x xs all = all 0 x (omega arith)
@@ -55,19 +44,3 @@ inserted_value P k v new (e ∷ es) all = go (string_eq k e.0) refl (inserted_va
 pub if_ok : {A E : Type 0} (r : Result A E) (P R : A → Type 0) (Q : E → Type 0) → ((x : A) → P x → R x) → MatchResult r P Q → IfOk r R
 if_ok (Ok x) P R Q f h = f x h
 if_ok (Err e) P R Q f h = tt
-
--- a list of names and a stored list, compared from a place on
-pub compared_at : (names : List (Bor Text)) (stored : List (String Global)) (i : ℕ) (n : Bor Text) (s : String Global) → i < length names → length names ≡ length stored → n ≡ get_or names i n → s ≡ get_or stored i s
-    → pointwise bytes_eq (drop i (texts names)) (drop i (map string_bytes stored)) ≡ (bytes_eq n.now (string_bytes s) && pointwise bytes_eq (drop (i + 1) (texts names)) (drop (i + 1) (map string_bytes stored)))
-compared_at names stored i n s lt long name store =
-    let at : slice_get names i ≡ Some n = slice_get-get_or names i n lt ∙ ap Some (sym name) in
-    let at_too : slice_get stored i ≡ Some s = slice_get-get_or stored i s (omega (arith, lt, long)) ∙ ap Some (sym store) in
-    rw (drop_at (texts names) i n.now (slice_get-map (λ t. t.now) names i n at), drop_at (map string_bytes stored) i (string_bytes s) (slice_get-map string_bytes stored i s at_too))
-
-pub not_true : (b : Bool) → not b ≡ true → b ≡ false
-not_true true h = cc
-not_true false h = refl
-
-pub not_false : (b : Bool) → not b ≡ false → b ≡ true
-not_false true h = refl
-not_false false h = cc

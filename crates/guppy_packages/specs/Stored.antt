@@ -12,7 +12,7 @@ use Rattle.guppy_packages.specs.declared.contents.PackageData.{PackageData}
 use Rattle.guppy_packages.specs.declared.contents.LinkData.{LinkData}
 
 abbrev pub declared : Declaration → Declared
-declared d = record { kind = d.kind; optional = d.optional; platform = platform_text d.platform.value; default_features = d.default_features; features = map string_bytes d.features.value.items }
+declared d = record { kind = d.kind; optional = d.optional; platform = platform_text d.platform.value; default_features = d.default_features; features = d.features }
 
 abbrev pub package_table : Text × PackageData → PackageTable
 package_table e = record { id = e.0; in_workspace = e.1.in_workspace; features = map feature_table e.1.features; optional_names = map string_bytes e.1.optional_names }

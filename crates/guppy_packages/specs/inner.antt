@@ -3,7 +3,6 @@
 pub mod Begins
 pub mod Declarations
 pub mod HashPlaces
-pub mod ListedNames
 pub mod NameSets
 pub mod Noted
 pub mod Pushed

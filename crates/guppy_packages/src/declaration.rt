@@ -1,13 +1,13 @@
 //! The declaration in a Dep row.
-ghost use Rattle.std.specs.Prelude.{◌≡◌, ◌∷◌, [], IfOk, map};
+ghost use Rattle.std.specs.Prelude.{◌≡◌, ◌<◌, ◌∷◌, [], IfOk, Some, length, map, slice_get};
 ghost use Rattle.std.specs.List.{list_all};
 ghost use Rattle.std.specs.Option.{option_map};
-ghost use Rattle.std.specs.String.{string_bytes};
 ghost use Rattle.guppy_packages.specs.Platform.{platform_text, platform_specs};
 ghost use Rattle.guppy_packages.specs.Tables.{is_development};
 
 use crate::platform::PlatformStatusImpl;
 use crate::row::DependencyKind;
+use crate::text_run::TextRun;
 use std::alloc::AllocError;
 use std::fmt;
 use std::rc::Rc;
@@ -18,9 +18,9 @@ pub struct Declaration {
     pub(crate) kind: DependencyKind,
     pub(crate) optional: bool,
     pub(crate) default_features: bool,
-    // equal values are shared
+    // equal platforms are shared
     pub(crate) platform: Rc<PlatformStatusImpl>,
-    pub(crate) features: Rc<Vec<String>>,
+    pub(crate) features: TextRun,
     ghost of_a_row: { platform_specs platform.value ≡ option_map (λ spec. spec ∷ []) (platform_text platform.value) },
 }
 
@@ -63,11 +63,19 @@ impl Declaration {
         self.default_features
     }
 
-    /// Returns the names of the features that the declaration requests, in row order.
-    pub fn features(&self) -> &[String]
-        ensures { map string_bytes result.now ≡ (declared self.now).features }
+    /// Returns the number of features that the declaration lists.
+    pub fn feature_count(&self) -> usize
+        ensures { result ≡ length (declared self.now).features }
     {
-        self.features.as_slice()
+        self.features.len()
+    }
+
+    /// Returns the name of listed feature `ix`, in row order.
+    pub fn feature(&self, ix: usize) -> &str
+        requires { ix < length (declared self.now).features }
+        ensures { slice_get (declared self.now).features ix ≡ Some result.now }
+    {
+        self.features.text(ix)
     }
 }
 
@@ -78,7 +86,7 @@ impl fmt::Debug for Declaration {
             .field("optional", &self.optional)
             .field("default_features", &self.default_features)
             .field("platform", self.platform())
-            .field("features", &self.features())
+            .field("features", &self.features)
             .finish()
     }
 }

@@ -10,7 +10,6 @@ mod from_rows;
 mod hash_places;
 pub mod laws;
 mod link_begins;
-mod listed_names;
 mod name_set;
 mod named;
 mod named_feature;

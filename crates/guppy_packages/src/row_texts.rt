@@ -42,7 +42,10 @@ fn push_row(text: &mut String, ends: &mut Vec<u32>, row: Row) -> Result<(), Allo
             push_text(text, ends, name)?;
             push_texts(text, ends, items)?;
         }
-        Row::Dep { name, .. } => push_text(text, ends, name)?,
+        Row::Dep { name, features, .. } => {
+            push_text(text, ends, name)?;
+            push_texts(text, ends, features)?;
+        }
     }
     Ok(())
 }
@@ -54,7 +57,7 @@ pub(crate) fn next_text(at: usize, row: Row) -> Result<usize, AllocError>
     let count = match row {
         Row::Package { .. } => 0,
         Row::Feature { items, .. } => items.len().saturating_add(1),
-        Row::Dep { .. } => 1,
+        Row::Dep { features, .. } => features.len().saturating_add(1),
     };
     Ok(narrow(at.saturating_add(count))? as usize)
 }

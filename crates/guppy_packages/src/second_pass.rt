@@ -1,5 +1,5 @@
 //! The second pass over the rows: links, with their declarations.
-ghost use Rattle.std.specs.Prelude.{◌≡◌, ℕ, ◌+◌, ◌-◌, ◌<◌, ◌≤◌, ◌^◌, ◌∷◌, ◌++◌, [], IfOk, IfErr, OnOk, Some, false, length, slice_get, slice_set};
+ghost use Rattle.std.specs.Prelude.{◌≡◌, ℕ, ◌+◌, ◌-◌, ◌<◌, ◌≤◌, ◌^◌, ◌∷◌, ◌++◌, [], IfOk, IfErr, OnOk, Some, drop, false, length, slice_get, slice_set, take};
 ghost use Rattle.std.specs.Option.{option_map_or};
 ghost use Rattle.guppy_packages.specs.Graph.{NamesRow, Reads, first_or, faults_by, link_fault, links_of, dependencies_of};
 ghost use Rattle.guppy_packages.specs.Parts.{first_text};
@@ -128,6 +128,19 @@ fn place_of(packages: &PackageList, id: &str) -> Option<usize>
     packages.place_of(id)
 }
 
+/// Returns the name in a Dep row and the `count` features that it lists, whose texts begin at `at` in `list`. Returns `AllocError` if
+/// one of these numbers doesn't fit in 32 bits.
+fn dep_texts(list: &Rc<TextList>, at: usize, count: usize) -> Result<(TextRun, TextRun), AllocError>
+    requires { at + (1 + count) ≤ length list.now.value }
+    ensures name { IfOk result (λ both. both.0 ≡ take 1 (drop at list.now.value)) }
+    ensures features { IfOk result (λ both. both.1 ≡ take count (drop (at + 1) list.now.value)) }
+{
+    let next = narrow(at)? as usize + 1;
+    let name = TextRun::new(list, at, 1)?;
+    let features = TextRun::new(list, next, count)?;
+    Ok((name, features))
+}
+
 /// Reads a row in the second pass, with `begun` Package rows read. Returns `UnknownTarget` if the target is no package,
 /// `OtherName` if the pair's link has another name.
 fn link_row(
@@ -161,6 +174,7 @@ fn link_row(
     let Some(to) = place_of(packages, target) else {
         return Err(RowFault::UnknownTarget);
     };
+    let (name, features) = dep_texts(list, noted.at, features.len())?;
     let declaration = noted.shared.declaration(
         alloc,
         kind,
@@ -169,7 +183,6 @@ fn link_row(
         default_features,
         features,
     )?;
-    let name = TextRun::new(list, noted.at, 1)?;
     let from = begun.saturating_sub(1);
     push_link(alloc, links, noted, from, to, name, declaration)
 }

@@ -1,4 +1,4 @@
-//! What declarations share: platforms, and lists of the features that they request.
+//! What declarations share: platforms.
 ghost use Rattle.std.specs.Prelude.{◌≡◌, ◌∷◌, [], IfOk, Some, map};
 ghost use Rattle.std.specs.Option.{option_map};
 ghost use Rattle.std.specs.String.{string_bytes};
@@ -9,42 +9,15 @@ ghost use Rattle.guppy_packages.specs.declared.platform.PlatformStatusImpl.TheVa
 ghost use Rattle.guppy_packages.specs.inner.SpecPlatforms.{AreOfSpecs};
 
 use crate::declaration::Declaration;
-use crate::listed_names::ListedNames;
 use crate::platform::{PlatformStatusImpl, Spec};
 use crate::pushing::push_to;
 use crate::row::DependencyKind;
-use crate::text_map::{TextMap, TextSet};
-use indexmap::{IndexMap, IndexSet};
+use crate::text_map::TextMap;
+use crate::text_run::TextRun;
+use indexmap::IndexMap;
 use std::alloc::{AllocError, Global};
 use std::hash::BuildHasherDefault;
 use std::rc::Rc;
-
-/// Returns owned copies of `items`.
-fn owned(alloc: Global, items: &[&str]) -> Result<Vec<String>, AllocError>
-    ensures { IfOk result (λ v. map string_bytes v.items ≡ texts items.now) }
-{
-    let mut all = Vec::with_capacity(alloc, items.len())?;
-    for item in items {
-        push_to(&mut all, String::from_str(alloc, item)?)?;
-    }
-    Ok(all)
-}
-
-/// Returns the list of `lists` with the names `features`, which is inserted if there is none.
-fn shared_list(
-    alloc: Global,
-    lists: &mut TextSet<Rc<Vec<String>>>,
-    features: &[&str],
-) -> Result<Rc<Vec<String>>, AllocError>
-    ensures { IfOk result (λ one. map string_bytes one.value.items ≡ texts features.now) }
-{
-    if let Some(one) = lists.get(ListedNames { names: features }) {
-        return one.clone();
-    }
-    let one = Rc::new(alloc, owned(alloc, features)?)?;
-    lists.insert(one.clone()?)?;
-    Ok(one)
-}
 
 /// Returns the platforms of the spec `text`.
 fn one_spec(alloc: Global, text: &str) -> Result<PlatformStatusImpl, AllocError>
@@ -74,26 +47,21 @@ fn shared_spec(
     Ok(one)
 }
 
-/// What declarations share. Equal platforms are stored once, and so are equal lists of features.
+/// What declarations share. Equal platforms are stored once.
 #[derive(Drop)]
 pub(crate) struct Shared {
     always: Rc<PlatformStatusImpl>,
     specs: TextMap<String, Rc<PlatformStatusImpl>>,
-    none: Rc<Vec<String>>,
-    lists: TextSet<Rc<Vec<String>>>,
     ghost always_is: { always.value ≡ Always },
     ghost specs_are: { AreOfSpecs specs.entries },
-    ghost none_is: { none.value.items ≡ [] },
 }
 
 impl Shared {
-    /// Returns the platforms of all declarations for all platforms, the empty list, and nothing else. `AllocError` is the only error.
+    /// Returns the platforms of all declarations for all platforms, and nothing else. `AllocError` is the only error.
     pub(crate) fn new(alloc: Global) -> Result<Shared, AllocError> {
         Ok(Shared {
             always: Rc::new(alloc, PlatformStatusImpl::Always)?,
             specs: IndexMap::with_hasher(alloc, BuildHasherDefault::new()),
-            none: Rc::new(alloc, Vec::new(alloc))?,
-            lists: IndexSet::with_hasher(alloc, BuildHasherDefault::new()),
         })
     }
 
@@ -112,17 +80,7 @@ impl Shared {
         }
     }
 
-    /// Returns the list of these features.
-    fn features(&mut self, alloc: Global, features: &[&str]) -> Result<Rc<Vec<String>>, AllocError>
-        ensures { IfOk result (λ list. map string_bytes list.value.items ≡ texts features.now) }
-    {
-        if features.is_empty() {
-            return self.none.clone();
-        }
-        shared_list(alloc, &mut self.lists, features)
-    }
-
-    /// Returns the declaration of a Dep row with these columns.
+    /// Returns the declaration of a Dep row with these columns, which lists `features`.
     pub(crate) fn declaration(
         &mut self,
         alloc: Global,
@@ -130,18 +88,17 @@ impl Shared {
         optional: bool,
         platform: Option<&str>,
         default_features: bool,
-        features: &[&str],
+        features: TextRun,
     ) -> Result<Declaration, AllocError>
         ensures { IfOk result (λ d. declared d ≡ record {
           kind = kind;
           optional = optional;
           platform = option_map (λ t. t.now) platform.entry;
           default_features = default_features;
-          features = texts features.now;
+          features = features;
         }) }
     {
         let platform = self.platform(alloc, platform)?;
-        let features = self.features(alloc, features)?;
         Ok(Declaration {
             kind,
             optional,
