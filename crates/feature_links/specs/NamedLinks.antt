@@ -17,7 +17,7 @@ is_link_under t p name k = option_map_or (λ l. (l.from == p) && bytes_eq l.name
 
 -- The numbers that `groups` has for package `p` and `name`.
 abbrev pub numbers_under : LinkGroups → ℕ → Text → List ℕ
-numbers_under groups p name = filter (is_link_under groups.graph.now p name) groups.numbers.items
+numbers_under groups p name = filter (is_link_under groups.names.graph.now p name) groups.numbers.items
 
 -- `groups` has the numbers of the tables' links, for each package and name.
 abbrev pub AreNamedLinks : Tables → LinkGroups → Type 0

@@ -4,6 +4,7 @@
 mod edge;
 mod link;
 mod link_groups;
+mod link_names;
 mod links_by_name;
 
 pub use edge::{EdgeChoice, FeatureEdge, WeakIndex, WeakSlashImpl};

@@ -6,7 +6,7 @@ ghost use Rattle.std.specs.Ordering.{is_lt, nat_cmp};
 ghost use Rattle.std.specs.Str.{bytes_eq};
 ghost use Rattle.feature_links.specs.inner.LinkOrder.{AreByName, AreOrdered, IsPartSorted, link_name};
 
-use guppy_packages::PackageGraph;
+use crate::link_names::{LinkNames, Name};
 use std::alloc::{AllocError, Global};
 use std::cmp::Ordering;
 use std::ops::Range;
@@ -15,20 +15,9 @@ use std::ops::Range;
 /// name in byte order. Links of one name ascend.
 #[derive(Drop)]
 pub struct LinkGroups<'g> {
-    pub(crate) graph: &'g PackageGraph,
+    pub(crate) names: LinkNames<'g>,
     pub(crate) numbers: Vec<usize>,
-    pub(crate) ghost by_name: { AreByName graph.now (length graph.now.packages) numbers.items },
-}
-
-/// Returns the name of link `ix`, or an empty name if there is no such link.
-fn dep_name_at(graph: &PackageGraph, ix: usize) -> &str
-    ensures { result.now ≡ link_name graph.now ix }
-{
-    if ix < graph.link_count() {
-        graph.link(ix).dep_name()
-    } else {
-        ""
-    }
+    pub(crate) ghost by_name: { AreByName names.graph.now (length names.graph.now.packages) numbers.items },
 }
 
 /// Returns the numbers below `count`, ascending.
@@ -45,34 +34,34 @@ pub(crate) fn numbers_below(alloc: Global, count: usize) -> Result<Vec<usize>, A
 /// Sorts the links in `range` of `numbers` by name; links of one name keep their order.
 pub(crate) fn sort_part(
     alloc: Global,
-    graph: &PackageGraph,
+    names: &LinkNames<'_>,
     numbers: &mut [usize],
     range: Range<usize>,
 ) -> Result<(), AllocError>
     requires ascends { range.start ≤ range.end }
     requires within { range.end ≤ length numbers.old }
-    ensures { OnOk result (IsPartSorted graph.now range.start range.end numbers.old numbers.new) }
+    ensures { OnOk result (IsPartSorted names.now.graph.now range.start range.end numbers.old numbers.new) }
 {
     let (_, rest) = numbers.split_at_mut(range.start);
     let (part, _) = rest.split_at_mut(range.end - range.start);
     part.sort_by(
         alloc,
         |x: &usize, y: &usize| -> Ordering
-            ensures { result ≡ slice_cmp nat_cmp (link_name graph.entry.now x.now) (link_name graph.entry.now y.now) }
-        { dep_name_at(graph, *x).cmp(dep_name_at(graph, *y)) },
+            ensures { result ≡ slice_cmp nat_cmp (link_name names.entry.now.graph.now x.now) (link_name names.entry.now.graph.now y.now) }
+        { names.cmp_links(*x, *y) },
     )
 }
 
 /// Returns the first place from `start` on of a link with a name other than `name`, or the number of places.
-fn end_place(graph: &PackageGraph, numbers: &[usize], start: usize, name: &str) -> usize
+fn end_place(names: &LinkNames<'_>, numbers: &[usize], start: usize, name: Name<'_>) -> usize
     requires { start ≤ length numbers.now }
     ensures from { start ≤ result }
     ensures within { result ≤ length numbers.now }
-    ensures inside { (k : ℕ) (d : ℕ) → start ≤ k → k < result → bytes_eq name.now (link_name graph.now (get_or numbers.now k d)) ≡ true }
-    ensures ended { (d : ℕ) → result < length numbers.now → bytes_eq name.now (link_name graph.now (get_or numbers.now result d)) ≡ false }
+    ensures inside { (k : ℕ) (d : ℕ) → start ≤ k → k < result → bytes_eq name.entry.text.now (link_name names.now.graph.now (get_or numbers.now k d)) ≡ true }
+    ensures ended { (d : ℕ) → result < length numbers.now → bytes_eq name.entry.text.now (link_name names.now.graph.now (get_or numbers.now result d)) ≡ false }
 {
     for place in start..numbers.len() {
-        if name != dep_name_at(graph, numbers[place]) {
+        if !names.has_name(numbers[place], name) {
             return place;
         }
     }
@@ -81,18 +70,19 @@ fn end_place(graph: &PackageGraph, numbers: &[usize], start: usize, name: &str) 
 
 /// Returns those of `numbers` whose links have the name `name`; the links are ordered by name.
 pub(crate) fn numbers_named<'a>(
-    graph: &PackageGraph,
+    names: &LinkNames<'_>,
     numbers: &'a [usize],
     name: &str,
 ) -> &'a [usize]
-    requires { AreOrdered graph.now numbers.now }
-    ensures { result.now ≡ filter (λ k. bytes_eq name.now (link_name graph.now k)) numbers.now }
+    requires { AreOrdered names.now.graph.now numbers.now }
+    ensures { result.now ≡ filter (λ k. bytes_eq name.now (link_name names.now.graph.now k)) numbers.now }
 {
+    let name = Name::new(name);
     let first = numbers.partition_point(
         |ix: &usize| -> bool
-            ensures { result ≡ is_lt (slice_cmp nat_cmp (link_name graph.entry.now ix.now) name.entry.now) }
-        { dep_name_at(graph, *ix).cmp(name).is_lt() },
+            ensures { result ≡ is_lt (slice_cmp nat_cmp (link_name names.entry.now.graph.now ix.now) name.entry.text.now) }
+        { names.cmp_name(*ix, name).is_lt() },
     );
-    let end = end_place(graph, numbers, first, name);
+    let end = end_place(names, numbers, first, name);
     &numbers[first..end]
 }

@@ -9,7 +9,7 @@ pub returns : goal.returns
 returns c =
     let front = c.split_at_mut-rest.result.0.now in
     let part = c.split_at_mut-part.result.0.now in
-    let name = link_name c.args.graph.now in
+    let name = link_name c.args.names.now.graph.now in
     on_ok_weaker c.sort_by.result (λ sorted. record {
       front = front;
       part = part;

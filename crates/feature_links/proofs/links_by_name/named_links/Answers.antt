@@ -26,6 +26,8 @@ loop-ix-preserved c =
     let from : AreLinksFrom t.links n start end =
     subst (λ z. AreLinksFrom t.links z start end) c.package.ensures.number
     (subst (λ g. AreLinksFrom g.links (package_number_of c.package.result) start end) c.package.ensures.graph c.direct_links-links.ensures) in
-    let sorted : IsPartSorted t start end old new = subst (λ z. IsPartSorted t start end z new) c.as_mut_slice.ensures.value c.in_ok-sort_part.ensures in
+    let sorted : IsPartSorted t start end old new =
+    subst (λ g. IsPartSorted g start end old new) c.in_ok-names.ensures
+    (subst (λ z. IsPartSorted c.in_ok-names.names.graph.now start end z new) c.as_mut_slice.ensures.value c.in_ok-sort_part.ensures) in
     let is = written_over new old c.loop-ix.numbers.len (long t start end old new sorted) c.loop-ix.numbers.ok.0 in
     (subst (AreByName t (n + 1)) (sym is) (next_sorted t start end old new sorted n from c.loop-ix.invariant.0), λ p name. ap (filter (is_link_under t p name)) is ∙ same_under t start end old new sorted p name ∙ c.loop-ix.invariant.1 p name)

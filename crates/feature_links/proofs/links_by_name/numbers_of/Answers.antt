@@ -8,12 +8,12 @@ use Rattle.feature_links.proofs.LinkOrderLemmas.{none_under, part_ordered, part_
 use Rattle.feature_links.proofs.links_by_name.numbers_of.Goals as goal
 
 pub returns-then-from-package_count : goal.returns-then-from-package_count
-returns-then-from-package_count c = sym (none_under c.args.groups.now.graph.now c.facts.ensures c.args.from c.args.name.now c.args.groups.now.numbers.items (omega (arith, c.if-from-package_count.true, c.package_count.ensures)))
+returns-then-from-package_count c = sym (none_under c.args.groups.now.names.graph.now c.facts.ensures c.args.from c.args.name.now c.args.groups.now.numbers.items (omega (arith, c.if-from-package_count.true, c.package_count.ensures)))
 
 pub numbers_named-requires : goal.numbers_named-requires
 numbers_named-requires c =
     let groups = c.args.groups.now in
-    let t = groups.graph.now in
+    let t = groups.names.graph.now in
     let start = c.direct_links-links.result.start in
     let end = c.direct_links-links.result.end in
     let from : AreLinksFrom t.links c.args.from start end =
@@ -25,7 +25,7 @@ numbers_named-requires c =
 pub returns : goal.returns
 returns c =
     let groups = c.args.groups.now in
-    let t = groups.graph.now in
+    let t = groups.names.graph.now in
     let name = c.args.name.now in
     let start = c.direct_links-links.result.start in
     let end = c.direct_links-links.result.end in
