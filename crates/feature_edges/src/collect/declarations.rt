@@ -42,9 +42,8 @@ fn push_requests(
         let to = default_at(numbers, input.defaults, target);
         push_to(keys, from, to, kind, link_ix, place)?;
     }
-    let names = declaration.features();
-    for ix in 0..names.len() {
-        let name = names[ix].as_str();
+    for ix in 0..declaration.feature_count() {
+        let name = declaration.feature(ix);
         let to = numbers.named(target, name);
         push_to(&mut collected.keys, from, to, kind, link_ix, place)?;
         let warnings = &mut collected.name_warnings;

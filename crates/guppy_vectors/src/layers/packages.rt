@@ -73,8 +73,8 @@ fn tell_declaration(out: &Out, declaration: &Declaration) {
     });
     tell_status(out, PlatformStatus::new(declaration.platform()));
     out.part_if(declaration.default_features(), ", with defaults");
-    for name in declaration.features() {
-        out.text(", ", name.as_str());
+    for ix in 0..declaration.feature_count() {
+        out.text(", ", declaration.feature(ix));
     }
     out.line("");
 }

@@ -1,6 +1,5 @@
 use Rattle.std.proofs.Common.{◌≡◌, ◌∙◌, ◌++◌, [], ap, sym, subst, arith, take, Some}
 use Rattle.std.specs.Prelude.{slice_get, flat_map, codes}
-use Rattle.std.specs.String.{string_bytes}
 use Rattle.guppy_packages.specs.Metadata.{link_number_of, link_table_of, package_table_of}
 use Rattle.guppy_packages.specs.Stored.{declared}
 use Rattle.feature_labels.specs.Names.LabelName.{base, named}
@@ -11,7 +10,7 @@ use Rattle.feature_edges.specs.inner.Adds.{Adds}
 use Rattle.feature_edges.specs.inner.Collects.{Collects}
 use Rattle.feature_edges.proofs.CollectLemmas.{nothing, collects-start, names-turn}
 use Rattle.feature_edges.proofs.NodeLemmas.{append-none}
-use Rattle.feature_edges.proofs.RequestLemmas.{mapped_at, mapped_length, listed, requested, found_adds, base_found, with_default, without_default, IsByDefault, IsFound, IsListed, IsToFound}
+use Rattle.feature_edges.proofs.RequestLemmas.{listed, requested, found_adds, base_found, with_default, without_default, IsByDefault, IsFound, IsListed, IsToFound}
 use Rattle.feature_edges.proofs.WarningLemmas.{added-all, lack_of_target}
 use Rattle.feature_edges.proofs.collect.declarations.push_requests.Goals.{then-default_features+in_ok-push_to-2, else-default_features}
 use Rattle.feature_edges.proofs.collect.declarations.push_requests.Goals as goal
@@ -28,10 +27,10 @@ loop-ix-preserved c =
     let k = link_number_of c.args.link in
     let j = c.args.place in
     let ix = c.loop-ix.ix in
-    let g = c.as_str-name.result.now in
+    let g = c.feature-name.result.now in
     let table = package_table_of c.to-target.result in
     let before = c.loop-ix.collected in
-    let at = subst (λ z. slice_get d.features ix ≡ Some z) (sym c.as_str-name.ensures.value) (mapped_at string_bytes c.features-names.result.now d.features ix c.index-names-ix.result c.features-names.ensures (omega arith) c.index-names-ix.is) in
+    let at = c.feature-name.ensures in
     let target : slice_get t.packages link.to ≡ Some table = subst (λ z. slice_get z.packages link.to ≡ Some table) c.requires c.to-target.ensures.package in
     let found : IsFound t link.to (named g) c.named-to.result = subst (λ z. IsFound t z (named g) c.named-to.result) c.to-target.ensures.number c.named-to.ensures.node in
     names-turn (IsListed t u link.to k j d) (lack_over t link) d.features ix g c.if-default_features.collected before _ at c.loop-ix.invariant
@@ -56,7 +55,7 @@ returns c =
     let all = c.loop-ix.invariant in
     let number = c.link_ix-link_ix.ensures.number in
     let to = c.to-target.ensures.number in
-    let long = mapped_length string_bytes c.features-names.result.now d.features c.features-names.ensures in
+    let long = c.feature_count-ix-end.ensures in
     let to_base : IsFound t link.to base (Some c.base.result) = subst (λ z. IsFound t z base (Some c.base.result)) to (base_found t c.to-target.result.package_ix c.base.result c.base.ensures.number c.base.ensures.node) in
     let by_default : Collects (IsByDefault t u link.to k j d) [] [] first second = elim c.if-default_features.branch [
       | then-default_features+in_ok-push_to-2 w ↦ subst (λ z. Collects (IsByDefault t u link.to k j d) [] [] first z) (sym w.collected-is) (record {
