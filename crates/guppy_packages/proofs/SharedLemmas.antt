@@ -1,14 +1,11 @@
 -- Look-ups among the platforms that declarations share.
-use Rattle.std.proofs.Common.{◌≡◌, ◌∙◌, ◌<◌, ◌+◌, ℕ, zero, suc, List, [], ◌∷◌, Bool, true, false, cond, not, ◌&&◌, Bor, Some, Result, Ok, Err, Global, String, ap, drop, get_or, length, map, refl, subst, sym, arith}
-use Rattle.std.specs.Prelude.{All, IfOk, MatchResult, find, if◌then◌else◌, slice_get}
-use Rattle.std.specs.Cmp.Lexicographic.{bytes_decides, pointwise}
-use Rattle.std.specs.Str.{bytes_eq}
-use Rattle.std.proofs.lemmas.Option.{slice_get-get_or}
+use Rattle.std.proofs.Common.{◌≡◌, zero, suc, List, [], ◌∷◌, Bool, true, false, cond, Some, Result, Ok, Err, Global, String, refl, subst, arith}
+use Rattle.std.specs.Prelude.{All, IfOk, MatchResult, if◌then◌else◌}
+use Rattle.std.specs.Cmp.Lexicographic.{bytes_decides}
 use Rattle.std.specs.Map.{lookup}
 use Rattle.std.specs.String.{string_bytes, string_eq}
 use Rattle.indexmap.specs.IndexMap.{insert_entry}
-use Rattle.guppy_packages.specs.Rows.{Text, texts}
-use Rattle.guppy_packages.proofs.Lists.{drop_at, slice_get-map}
+use Rattle.guppy_packages.specs.Rows.{Text}
 
 all_first : {X : Type 0} (P : X → Type 0) (x : X) (xs : List X) → All P (x ∷ xs) → P x
 all_first P x xs all = all 0 x (omega arith)

@@ -127,7 +127,7 @@ fn has_name<T: Named>(item: &T, here: u32, name: &str, hash: u32) -> bool
     requires hash { hash ≡ name_hash name.now }
     ensures { result ≡ bytes_eq name.now (T.name item.now) }
 {
-    here == hash && name == item.name()
+    here == hash && item.is_named(name)
 }
 
 impl HashPlaces {

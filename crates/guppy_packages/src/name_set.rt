@@ -46,7 +46,7 @@ impl<T: Named> Model for NameSet<T> {
 fn has<T: Named>(items: &[T], name: &str) -> bool
     ensures { result ≡ list_any (λ t. bytes_eq name.now (T.name t)) items.now }
 {
-    items.iter().any(|held| name == held.name())
+    items.iter().any(|held| held.is_named(name))
 }
 
 /// Returns the hashed set of `items` and `item`.
@@ -152,7 +152,7 @@ impl<T: Named + Drop> NameSet<T> {
         ensures { result ≡ position (λ t. bytes_eq name.now (T.name t)) self.now }
     {
         match &self.held {
-            Held::Few(items) => items.iter().position(|item| name == item.name()),
+            Held::Few(items) => items.iter().position(|item| item.is_named(name)),
             Held::Many(items) => items.place_of(name),
         }
     }

@@ -3,6 +3,7 @@ ghost use Rattle.std.specs.Prelude.{◌≡◌};
 
 /// A thing with a name.
 pub(crate) trait Named {
+    ghost use Rattle.std.specs.Str.{bytes_eq};
     ghost use Rattle.guppy_packages.specs.Rows.{Text};
 
     ghost name: { Self → Text };
@@ -10,6 +11,10 @@ pub(crate) trait Named {
     /// Returns the name.
     fn name(&self) -> &str
         ensures { result.now ≡ name self.now };
+
+    /// Returns whether the name is `other`.
+    fn is_named(&self, other: &str) -> bool
+        ensures { result ≡ bytes_eq other.now (name self.now) };
 }
 
 impl Named for String {
@@ -20,5 +25,10 @@ impl Named for String {
     #[inline(always)]
     fn name(&self) -> &str {
         self.as_str()
+    }
+
+    #[inline(always)]
+    fn is_named(&self, other: &str) -> bool {
+        other == self.as_str()
     }
 }

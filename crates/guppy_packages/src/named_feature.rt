@@ -1,4 +1,6 @@
 //! A named feature of a package.
+ghost use Rattle.guppy_packages.specs.Parts.{first_text};
+ghost use Rattle.guppy_packages.specs.inner.Heads.{IsHead};
 ghost use Rattle.std.specs.Prelude.{◌≡◌, ◌<◌, Some, length, slice_get};
 
 use crate::named::Named;
@@ -8,11 +10,33 @@ use std::hash::{Hash, Hasher};
 
 /// A named feature with its items. Names are distinct within a package, so equality compares names only.
 ///
-/// The name and the items are consecutive texts of a list, which all features of a graph share.
+/// The name and the items are consecutive texts of a list, which all features of a graph share. A short name is also in the feature
+/// itself: it is compared without the list, whose texts may be anywhere in memory.
 #[derive(Drop)]
 pub struct NamedFeature {
     texts: TextRun,
+    head: [u8; 7],
+    size: u8,
     ghost named: { 0 < length texts },
+    ghost headed: { IsHead (first_text texts) head size },
+}
+
+/// The greatest length of a short name, in bytes.
+const SHORT: usize = 7;
+
+/// Returns the bytes of a short name, followed by zeroes, and its length. For a longer name, the length is 8.
+fn head_of(name: &str) -> ([u8; 7], u8)
+    ensures { IsHead name.now result.0 result.1 }
+{
+    let bytes = name.as_bytes();
+    let mut head = [0u8; 7];
+    if bytes.len() > SHORT {
+        return (head, 8);
+    }
+    for ix in 0..bytes.len() {
+        head[ix] = bytes[ix];
+    }
+    (head, bytes.len() as u8)
 }
 
 impl NamedFeature {
@@ -23,7 +47,8 @@ impl NamedFeature {
         requires { 0 < length texts }
         ensures { feature_table result ≡ table_of_texts texts }
     {
-        NamedFeature { texts }
+        let (head, size) = head_of(texts.first());
+        NamedFeature { texts, head, size }
     }
 
     /// Returns the feature's name.
@@ -95,6 +120,15 @@ impl Named for NamedFeature {
     #[inline(always)]
     fn name(&self) -> &str {
         self.texts.first()
+    }
+
+    #[inline]
+    fn is_named(&self, other: &str) -> bool {
+        let bytes = other.as_bytes();
+        if bytes.len() > SHORT {
+            return self.size > 7 && other == self.texts.first();
+        }
+        self.size as usize == bytes.len() && bytes == &self.head[..bytes.len()]
     }
 }
 

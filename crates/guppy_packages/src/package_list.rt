@@ -14,4 +14,9 @@ impl Named for (PackageId, PackageData) {
     fn name(&self) -> &str {
         self.0.repr()
     }
+
+    #[inline(always)]
+    fn is_named(&self, other: &str) -> bool {
+        other == self.0.repr()
+    }
 }
