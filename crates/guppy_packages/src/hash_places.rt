@@ -11,8 +11,7 @@ use std::marker::Model;
 
 /// A list of hashes, whose places are found without a search through the list. A contract sees it as this list.
 ///
-/// Each place is in the first slot that was empty when it came, from its hash's first slot on. At most three quarters of the slots
-/// are used.
+/// Each place is in the first slot that was empty when it came, from its hash's first slot on. At most half of the slots are used.
 ///
 /// Hashes of names are those of SipHash with a fixed key. An author of the names can search for collisions, but no simple pattern
 /// collides, as it would with a multiplying hash.
@@ -90,13 +89,13 @@ fn empty_slots(alloc: Global, count: usize) -> Result<Vec<u32>, AllocError>
     vec![in alloc; 0u32; count]
 }
 
-/// Returns slots with all places: twice as many as hashes, and some more. Returns `AllocError` if the allocation fails or the number
+/// Returns slots with all places: four times as many as hashes, and some more. Returns `AllocError` if the allocation fails or the number
 /// of slots doesn't fit in 32 bits.
 fn slots_of(alloc: Global, hashes: &[u32]) -> Result<Vec<u32>, AllocError>
     ensures put { IfOk result (λ slots. AreIn (length hashes.now) slots.items hashes.now) }
     ensures room { IfOk result (λ slots. length hashes.now < length slots.items) }
 {
-    let count = 2 * hashes.len() + 32;
+    let count = 4 * hashes.len() + 32;
     if count > LAST_PLACE {
         return Err(AllocError);
     }
@@ -107,14 +106,14 @@ fn slots_of(alloc: Global, hashes: &[u32]) -> Result<Vec<u32>, AllocError>
     Ok(slots)
 }
 
-/// Makes new slots if three quarters are used. The errors are those of `slots_of`, and then nothing changes.
+/// Makes new slots if half are used. The errors are those of `slots_of`, and then nothing changes.
 fn make_room(alloc: Global, slots: &mut Vec<u32>, hashes: &[u32]) -> Result<(), AllocError>
     requires put { AreIn (length hashes.now) slots.old.items hashes.now }
     ensures put { AreIn (length hashes.now) slots.new.items hashes.now }
     ensures room { OnOk result (length hashes.now < length slots.new.items) }
     ensures kept { OnErr result (slots.new.items ≡ slots.old.items) }
 {
-    if hashes.len() + hashes.len() / 3 >= slots.len() {
+    if 2 * hashes.len() >= slots.len() {
         *slots = slots_of(alloc, hashes)?;
     }
     Ok(())
