@@ -36,18 +36,13 @@ fn push_texts(text: &mut String, ends: &mut Vec<u32>, added: &[&str]) -> Result<
 fn push_row(text: &mut String, ends: &mut Vec<u32>, row: Row) -> Result<(), AllocError>
     ensures { OnOk result ((before : List Text) → IsPushed before (string_bytes text.old) ends.old.items → IsPushed (before ++ row_texts (row_text row.entry)) (string_bytes text.new) ends.new.items) }
 {
-    match row {
-        Row::Package { .. } => {}
-        Row::Feature { name, items } => {
-            push_text(text, ends, name)?;
-            push_texts(text, ends, items)?;
-        }
-        Row::Dep { name, features, .. } => {
-            push_text(text, ends, name)?;
-            push_texts(text, ends, features)?;
-        }
-    }
-    Ok(())
+    let (name, others) = match row {
+        Row::Package { .. } => return Ok(()),
+        Row::Feature { name, items } => (name, items),
+        Row::Dep { name, features, .. } => (name, features),
+    };
+    push_text(text, ends, name)?;
+    push_texts(text, ends, others)
 }
 
 /// Returns the number of the first text of the next row, if that of `row` is `at`. Returns `AllocError` if it doesn't fit in 32 bits.
