@@ -1,8 +1,8 @@
 -- The texts of rows, in one list.
-use Rattle.std.proofs.Common.{◌≡◌, ℕ, suc, ◌+◌, ◌<◌, List, [], ◌∷◌, ◌++◌, length, take, drop, ap, sym, ◌∙◌, arith}
+use Rattle.std.proofs.Common.{◌≡◌, ℕ, ◌+◌, ◌<◌, List, [], ◌∷◌, ◌++◌, length, take, drop, ap, sym, ◌∙◌, arith}
 use Rattle.std.proofs.Math.Seq.{take-append_seam, drop-append_seam}
 use Rattle.std.proofs.lemmas.Grind.{flat_map-append}
-use Rattle.std.proofs.lemmas.List.{append-nil, drop-drop, length-append, take-append-drop}
+use Rattle.std.proofs.lemmas.List.{append-nil, length-append, take-append-drop}
 use Rattle.guppy_packages.specs.Rows.{RowText, Text}
 use Rattle.guppy_packages.specs.inner.RowTexts.{AreAt, row_texts, stored_texts}
 use Rattle.guppy_packages.proofs.Passes.{take-next}
@@ -33,16 +33,3 @@ module _ (all : List RowText) (i : ℕ) (row : RowText) (at : drop i all ≡ row
         within = omega (arith, long, ap length e);
         are = ap (take (length (row_texts row))) left ∙ take-append_seam (row_texts row) (stored_texts (drop (i + 1) all));
       }
-
--- the texts of a dependency: its name, and then the features that it lists
-name_and_rest : (ys : List Text) (name : Text) (features : List Text) → take (suc (length features)) ys ≡ name ∷ features → (take 1 ys ≡ name ∷ []) × (take (length features) (drop 1 ys) ≡ features)
-name_and_rest [] name features e = (cc, cc)
-name_and_rest (y ∷ ys) name features e =
-    let first : y ≡ name = cc in
-    let rest : take (length features) ys ≡ features = cc in
-    (ap (λ x. x ∷ []) first, rest)
-
-pub dep_at : (all : List Text) (at : ℕ) (name : Text) (features : List Text) → AreAt all at (name ∷ features) → (take 1 (drop at all) ≡ name ∷ []) × (take (length features) (drop (at + 1) all) ≡ features)
-dep_at all at name features h =
-    let both = name_and_rest (drop at all) name features h.are in
-    (both.0, ap (take (length features)) (sym (drop-drop 1 at all)) ∙ both.1)

@@ -21,14 +21,6 @@ module _ (texts : List Text) (first count : ℕ) (within : first + count ≤ len
       go zero h = absurd (omega arith)
       go (suc n) h = sym (ap (λ ts. first_text (take (suc n) ts)) (drop_at texts first x at))
 
-  pub text_within : (ix : ℕ) → ix < length (take count (drop first texts)) → ix < count
-  text_within ix some = omega (arith, run_long, some)
-
-  pub run_text : (ix : ℕ) → ix < length (take count (drop first texts)) → (x : Text) → slice_get texts (first + ix) ≡ Some x → slice_get (take count (drop first texts)) ix ≡ Some x
-  run_text ix some x at =
-      slice_get-get_or (take count (drop first texts)) ix x some
-      ∙ ap Some (get_or-take count (drop first texts) ix x (text_within ix some) ∙ get_or-drop first texts ix x ∙ get_or_from_slice_get texts (first + ix) x x at)
-
   module _ (ix : ℕ) (some : ix < length (drop 1 (take count (drop first texts)))) where
     pub later_within : ix + 1 < count
     later_within = omega (arith, length-drop 1 (take count (drop first texts)), run_long, some)

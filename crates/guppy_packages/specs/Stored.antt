@@ -1,5 +1,5 @@
 -- The tables that a package graph stores.
-use Rattle.std.specs.Prelude.{ℕ, List, map}
+use Rattle.std.specs.Prelude.{ℕ, List, [], ◌∷◌, drop, map}
 use Rattle.std.specs.String.{string_bytes}
 use Rattle.guppy_packages.specs.Rows.{Text, Declared}
 use Rattle.guppy_packages.specs.Tables.{PackageTable, LinkTable}
@@ -12,7 +12,12 @@ use Rattle.guppy_packages.specs.declared.contents.PackageData.{PackageData}
 use Rattle.guppy_packages.specs.declared.contents.LinkData.{LinkData}
 
 abbrev pub declared : Declaration → Declared
-declared d = record { kind = d.kind; optional = d.optional; platform = platform_text d.platform.value; default_features = d.default_features; features = d.features }
+declared d = record { kind = d.kind; optional = d.optional; platform = platform_text d.platform.value; default_features = d.default_features; features = drop 1 d.texts }
+
+-- The name in the rows of these declarations: that in the first.
+abbrev pub declared_name : List Declaration → Text
+declared_name [] = []
+declared_name (d ∷ ds) = first_text d.texts
 
 abbrev pub package_table : Text × PackageData → PackageTable
 package_table e = record { id = e.0; in_workspace = e.1.in_workspace; features = map feature_table e.1.features; optional_names = map string_bytes e.1.optional_names }
@@ -21,7 +26,7 @@ abbrev pub package_tables : List (Text × PackageData) → List PackageTable
 package_tables packages = map package_table packages
 
 abbrev pub link_table : (ℕ × ℕ) × LinkData → LinkTable
-link_table e = record { from = e.0.0; to = e.0.1; name = first_text e.1.name; declarations = map declared (held_declarations e.1.declarations) }
+link_table e = record { from = e.0.0; to = e.0.1; name = declared_name (held_declarations e.1.declarations); declarations = map declared (held_declarations e.1.declarations) }
 
 abbrev pub link_tables : List ((ℕ × ℕ) × LinkData) → List LinkTable
 link_tables links = map link_table links

@@ -1,11 +1,10 @@
 //! The data that a package graph stores for a package and for a link.
-ghost use Rattle.std.specs.Prelude.{◌≡◌, length};
+ghost use Rattle.std.specs.Prelude.{◌≡◌};
 
 use crate::declarations::Declarations;
 use crate::name_set::NameSet;
 use crate::named_feature::NamedFeature;
 use crate::optional_names::OptionalNames;
-use crate::text_run::TextRun;
 use std::fmt;
 
 /// A package's data, without its id.
@@ -19,22 +18,24 @@ pub struct PackageData {
 /// A link: the numbers of the packages that it leaves and leads to, and its data.
 pub(crate) type Link = ((u32, u32), LinkData);
 
-/// A link's name, which is the only text of its run, and its declarations.
+/// A link's declarations. All have the link's name, so it isn't stored beside them.
 #[derive(Drop)]
 pub struct LinkData {
-    pub(crate) name: TextRun,
     pub(crate) declarations: Declarations,
-    ghost named: { length name ≡ 1 },
 }
 
 impl LinkData {
-    ghost use Rattle.guppy_packages.specs.Parts.{first_text};
+    ghost use Rattle.guppy_packages.specs.Stored.{declared_name};
+    ghost use Rattle.guppy_packages.specs.inner.Declarations.{held_declarations};
 
-    /// Returns the link's name.
+    /// Returns the link's name, that of its first declaration.
     pub(crate) fn name(&self) -> &str
-        ensures { result.now ≡ first_text self.now.name }
+        ensures { result.now ≡ declared_name (held_declarations self.now.declarations) }
     {
-        self.name.first()
+        match self.declarations.as_slice() {
+            [first, ..] => first.name(),
+            [] => "",
+        }
     }
 }
 

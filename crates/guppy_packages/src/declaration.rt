@@ -2,6 +2,7 @@
 ghost use Rattle.std.specs.Prelude.{◌≡◌, ◌<◌, ◌∷◌, [], IfOk, Some, length, map, slice_get};
 ghost use Rattle.std.specs.List.{list_all};
 ghost use Rattle.std.specs.Option.{option_map};
+ghost use Rattle.guppy_packages.specs.Parts.{first_text};
 ghost use Rattle.guppy_packages.specs.Platform.{platform_text, platform_specs};
 ghost use Rattle.guppy_packages.specs.Tables.{is_development};
 
@@ -20,12 +21,21 @@ pub struct Declaration {
     pub(crate) default_features: bool,
     // equal platforms are shared
     pub(crate) platform: Rc<PlatformStatusImpl>,
-    pub(crate) features: TextRun,
+    // the name in the row, followed by the features that it lists
+    pub(crate) texts: TextRun,
     ghost of_a_row: { platform_specs platform.value ≡ option_map (λ spec. spec ∷ []) (platform_text platform.value) },
+    ghost named: { 0 < length texts },
 }
 
 impl Declaration {
     ghost use Rattle.guppy_packages.specs.Stored.{declared};
+
+    /// Returns the name of the dependency in the package that has the row.
+    pub(crate) fn name(&self) -> &str
+        ensures { result.now ≡ first_text self.now.texts }
+    {
+        self.texts.first()
+    }
 
     /// Returns the kind of the dependency.
     pub fn kind(&self) -> DependencyKind
@@ -67,7 +77,7 @@ impl Declaration {
     pub fn feature_count(&self) -> usize
         ensures { result ≡ length (declared self.now).features }
     {
-        self.features.len()
+        self.texts.len() - 1
     }
 
     /// Returns the name of listed feature `ix`, in row order.
@@ -75,7 +85,23 @@ impl Declaration {
         requires { ix < length (declared self.now).features }
         ensures { slice_get (declared self.now).features ix ≡ Some result.now }
     {
-        self.features.text(ix)
+        self.texts.later(ix)
+    }
+}
+
+/// The features that a declaration lists, as they are printed.
+#[derive(Drop)]
+struct ListedFeatures<'d> {
+    declaration: &'d Declaration,
+}
+
+impl fmt::Debug for ListedFeatures<'_> {
+    fn fmt<W: fmt::Write>(&self, f: &mut fmt::Formatter<W>) -> fmt::Result {
+        let mut list = f.debug_list();
+        for ix in 0..self.declaration.feature_count() {
+            list.entry(&self.declaration.feature(ix));
+        }
+        list.finish()
     }
 }
 
@@ -86,7 +112,7 @@ impl fmt::Debug for Declaration {
             .field("optional", &self.optional)
             .field("default_features", &self.default_features)
             .field("platform", self.platform())
-            .field("features", &self.features)
+            .field("features", &ListedFeatures { declaration: self })
             .finish()
     }
 }

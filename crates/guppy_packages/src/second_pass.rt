@@ -1,5 +1,5 @@
 //! The second pass over the rows: links, with their declarations.
-ghost use Rattle.std.specs.Prelude.{◌≡◌, ℕ, ◌+◌, ◌-◌, ◌<◌, ◌≤◌, ◌^◌, ◌∷◌, ◌++◌, [], IfOk, IfErr, OnOk, Some, drop, false, length, slice_get, slice_set, take};
+ghost use Rattle.std.specs.Prelude.{◌≡◌, ℕ, ◌+◌, ◌-◌, ◌<◌, ◌≤◌, ◌^◌, ◌∷◌, ◌++◌, [], IfOk, IfErr, OnOk, Some, false, length, slice_get, slice_set};
 ghost use Rattle.std.specs.Option.{option_map_or};
 ghost use Rattle.guppy_packages.specs.Graph.{NamesRow, Reads, first_or, faults_by, link_fault, links_of, dependencies_of};
 ghost use Rattle.guppy_packages.specs.Parts.{first_text};
@@ -57,16 +57,11 @@ fn joins_pair(links: &[Link], first: usize, at: usize, from: usize, to: usize) -
     }
 }
 
-/// Appends `declaration` to `link`, or returns `OtherName` if the link's name is not `name`.
-fn join_link(
-    alloc: Global,
-    link: &mut LinkData,
-    name: &str,
-    declaration: Declaration,
-) -> Result<(), RowFault>
-    ensures { (pair : ℕ × ℕ) → Takes (link_table (pair, link.new)) result (joined_link name.now (declared declaration) (link_table (pair, link.old))) }
+/// Appends `declaration` to `link`, or returns `OtherName` if it has another name than the link.
+fn join_link(alloc: Global, link: &mut LinkData, declaration: Declaration) -> Result<(), RowFault>
+    ensures { (pair : ℕ × ℕ) → Takes (link_table (pair, link.new)) result (joined_link (first_text declaration.texts) (declared declaration) (link_table (pair, link.old))) }
 {
-    if name != link.name() {
+    if declaration.name() != link.name() {
         return Err(RowFault::OtherName);
     }
     link.declarations.push(alloc, declaration)?;
@@ -79,19 +74,17 @@ fn begin_link(
     links: &mut Vec<Link>,
     last: &mut Vec<u32>,
     pair: (usize, usize),
-    name: TextRun,
     declaration: Declaration,
 ) -> Result<(), RowFault>
     requires within { pair.1 < length last.old.items }
-    requires name { length name ≡ 1 }
-    ensures links { OnOk result (link_tables links.new.items ≡ link_tables links.old.items ++ record { from = pair.0; to = pair.1; name = first_text name; declarations = declared declaration ∷ [] } ∷ []) }
+    ensures links { OnOk result (link_tables links.new.items ≡ link_tables links.old.items ++ record { from = pair.0; to = pair.1; name = first_text declaration.texts; declarations = declared declaration ∷ [] } ∷ []) }
     ensures last { OnOk result (last.new.items ≡ slice_set last.old.items pair.1 (length (link_tables links.old.items))) }
     ensures fault { IfErr result (λ fault. fault ≡ Memory) }
 {
     let at = narrow(links.len())?;
     let ends = (narrow(pair.0)?, narrow(pair.1)?);
     let declarations = Declarations::One(declaration);
-    push_to(links, (ends, LinkData { name, declarations }))?;
+    push_to(links, (ends, LinkData { declarations }))?;
     last[pair.1] = at;
     Ok(())
 }
@@ -104,21 +97,19 @@ fn push_link(
     noted: &mut Noted,
     from: usize,
     to: usize,
-    name: TextRun,
     declaration: Declaration,
 ) -> Result<(), RowFault>
-    requires name { length name ≡ 1 }
     requires within { to < length noted.old.last.items }
     requires noted { AreNoted from (link_tables links.old.items) noted.old.last.items noted.old.first }
-    ensures tables { Takes (link_tables links.new.items) result (add_link from to (first_text name) (declared declaration) (link_tables links.old.items)) }
+    ensures tables { Takes (link_tables links.new.items) result (add_link from to (first_text declaration.texts) (declared declaration) (link_tables links.old.items)) }
     ensures noted { OnOk result (AreNoted from (link_tables links.new.items) noted.new.last.items noted.new.first) }
     ensures count { OnOk result (length noted.new.last.items ≡ length noted.old.last.items) }
 {
     let at = noted.last[to] as usize;
     if joins_pair(links, noted.first, at, from, to) {
-        return join_link(alloc, &mut links[at].1, name.first(), declaration);
+        return join_link(alloc, &mut links[at].1, declaration);
     }
-    begin_link(links, &mut noted.last, (from, to), name, declaration)
+    begin_link(links, &mut noted.last, (from, to), declaration)
 }
 
 /// Returns the number of the package whose id is `id`.
@@ -126,19 +117,6 @@ fn place_of(packages: &PackageList, id: &str) -> Option<usize>
     ensures { result ≡ package_place id.now (package_tables packages.now) }
 {
     packages.place_of(id)
-}
-
-/// Returns the name in a Dep row and the `count` features that it lists, whose texts begin at `at` in `list`. Returns `AllocError` if
-/// one of these numbers doesn't fit in 32 bits.
-fn dep_texts(list: &Rc<TextList>, at: usize, count: usize) -> Result<(TextRun, TextRun), AllocError>
-    requires { at + (1 + count) ≤ length list.now.value }
-    ensures name { IfOk result (λ both. both.0 ≡ take 1 (drop at list.now.value)) }
-    ensures features { IfOk result (λ both. both.1 ≡ take count (drop (at + 1) list.now.value)) }
-{
-    let next = narrow(at)? as usize + 1;
-    let name = TextRun::new(list, at, 1)?;
-    let features = TextRun::new(list, next, count)?;
-    Ok((name, features))
 }
 
 /// Reads a row in the second pass, with `begun` Package rows read. Returns `UnknownTarget` if the target is no package,
@@ -174,17 +152,13 @@ fn link_row(
     let Some(to) = place_of(packages, target) else {
         return Err(RowFault::UnknownTarget);
     };
-    let (name, features) = dep_texts(list, noted.at, features.len())?;
-    let declaration = noted.shared.declaration(
-        alloc,
-        kind,
-        optional,
-        platform,
-        default_features,
-        features,
-    )?;
+    let count = narrow(features.len())? as usize + 1;
+    let texts = TextRun::new(list, noted.at, count)?;
+    let declaration = noted
+        .shared
+        .declaration(alloc, kind, optional, platform, default_features, texts)?;
     let from = begun.saturating_sub(1);
-    push_link(alloc, links, noted, from, to, name, declaration)
+    push_link(alloc, links, noted, from, to, declaration)
 }
 
 /// Returns the number of Package rows read, with `row` included.

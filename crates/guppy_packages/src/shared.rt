@@ -1,5 +1,5 @@
 //! What declarations share: platforms.
-ghost use Rattle.std.specs.Prelude.{◌≡◌, ◌∷◌, [], IfOk, Some, map};
+ghost use Rattle.std.specs.Prelude.{◌≡◌, ◌<◌, ◌∷◌, [], IfOk, Some, drop, length, map};
 ghost use Rattle.std.specs.Option.{option_map};
 ghost use Rattle.std.specs.String.{string_bytes};
 ghost use Rattle.guppy_packages.specs.Platform.{platform_specs, platform_text};
@@ -80,7 +80,7 @@ impl Shared {
         }
     }
 
-    /// Returns the declaration of a Dep row with these columns, which lists `features`.
+    /// Returns the declaration of a Dep row with these columns. `texts` has the row's name, followed by the features that it lists.
     pub(crate) fn declaration(
         &mut self,
         alloc: Global,
@@ -88,14 +88,16 @@ impl Shared {
         optional: bool,
         platform: Option<&str>,
         default_features: bool,
-        features: TextRun,
+        texts: TextRun,
     ) -> Result<Declaration, AllocError>
-        ensures { IfOk result (λ d. declared d ≡ record {
+        requires { 0 < length texts }
+        ensures texts { IfOk result (λ d. d.texts ≡ texts) }
+        ensures declared { IfOk result (λ d. declared d ≡ record {
           kind = kind;
           optional = optional;
           platform = option_map (λ t. t.now) platform.entry;
           default_features = default_features;
-          features = features;
+          features = drop 1 texts;
         }) }
     {
         let platform = self.platform(alloc, platform)?;
@@ -104,7 +106,7 @@ impl Shared {
             optional,
             default_features,
             platform,
-            features,
+            texts,
         })
     }
 }

@@ -5,7 +5,6 @@ ghost use Rattle.guppy_packages.specs.Parts.{first_text};
 use crate::narrow::narrow;
 use crate::text_list::TextList;
 use std::alloc::AllocError;
-use std::fmt;
 use std::marker::Model;
 use std::rc::Rc;
 
@@ -63,31 +62,11 @@ impl TextRun {
         self.list.text(self.first as usize)
     }
 
-    /// Returns text `ix`.
-    #[inline(always)]
-    pub(crate) fn text(&self, ix: usize) -> &str
-        requires { ix < length self.now }
-        ensures { slice_get self.now ix ≡ Some result.now }
-    {
-        self.list.text(self.first as usize + ix)
-    }
-
     /// Returns text `ix` of those after the first.
     pub(crate) fn later(&self, ix: usize) -> &str
         requires { ix < length (drop 1 self.now) }
         ensures { slice_get (drop 1 self.now) ix ≡ Some result.now }
     {
         self.list.text(self.first as usize + 1 + ix)
-    }
-}
-
-// A run prints as the list of its texts.
-impl fmt::Debug for TextRun {
-    fn fmt<W: fmt::Write>(&self, f: &mut fmt::Formatter<W>) -> fmt::Result {
-        let mut list = f.debug_list();
-        for ix in 0..self.len() {
-            list.entry(&self.text(ix));
-        }
-        list.finish()
     }
 }

@@ -8,5 +8,5 @@ use Rattle.guppy_packages.proofs.second_pass.begin_link.Goals as goal
 pub returns-clause-links : goal.returns-clause-links
 returns-clause-links c =
     let es = c.args.links.now.items in
-    let link : ℕ → ℕ → LinkTable = λ from to. record { from = from; to = to; name = first_text c.args.name; declarations = declared c.args.declaration ∷ [] } in
+    let link : ℕ → ℕ → LinkTable = λ from to. record { from = from; to = to; name = first_text c.args.declaration.texts; declarations = declared c.args.declaration ∷ [] } in
     ap link_tables c.in_ok-push_to.ensures ∙ map-append link_table es (_ ∷ []) ∙ ap₂ (λ from to. link_tables es ++ link from to ∷ []) c.in_ok-narrow.ensures c.in_ok-narrow-2.ensures

@@ -6,7 +6,7 @@ use Rattle.std.proofs.lemmas.Option.{slice_get_read}
 use Rattle.guppy_packages.specs.Parts.{first_text}
 use Rattle.guppy_packages.specs.Stored.{declared, link_table, link_tables}
 use Rattle.guppy_packages.specs.inner.Noted.{AreNoted}
-use Rattle.guppy_packages.specs.inner.Steps.{Takes, joined_link, joins}
+use Rattle.guppy_packages.specs.inner.Steps.{joins}
 use Rattle.guppy_packages.proofs.NotedLemmas.{link_there, missing_link, noted_given, noted_joined, noted_link, noted_new, on_ok}
 use Rattle.guppy_packages.proofs.TakenLemmas.{link_begun, link_joined}
 use Rattle.guppy_packages.proofs.second_pass.push_link.Goals as goal
@@ -22,7 +22,7 @@ returns-then-joins_pair-clause-tables c =
     let passes : option_map_or (joins from to) (slice_get (link_tables es) at) false ≡ true = ap (λ ls. option_map_or (joins from to) (slice_get (link_tables ls) at) false) (sym c.deref.ensures.value) ∙ sym c.joins_pair.ensures ∙ c.if-joins_pair.true in
     let there = link_there (joins from to) es at entry passes c.index_mut.ensures.value in
     let place = noted_link from to (link_tables es) c.args.noted.now.last.items c.args.noted.now.first c.requires.noted at is (link_table entry) there.0 there.1 in
-    rw (map-set link_table es at (entry.0, c.join_link.new.link)) (link_joined from to (first_text c.args.name) (declared c.args.declaration) (link_tables es) at (link_table entry) (link_table (entry.0, c.join_link.new.link)) c.join_link.result place there.0 (subst (λ n. Takes (link_table (entry.0, c.join_link.new.link)) c.join_link.result (joined_link n (declared c.args.declaration) (link_table entry))) c.first.ensures (c.join_link.ensures entry.0)))
+    rw (map-set link_table es at (entry.0, c.join_link.new.link)) (link_joined from to (first_text c.args.declaration.texts) (declared c.args.declaration) (link_tables es) at (link_table entry) (link_table (entry.0, c.join_link.new.link)) c.join_link.result place there.0 (c.join_link.ensures entry.0))
 
 pub returns-then-joins_pair-clause-noted : goal.returns-then-joins_pair-clause-noted
 returns-then-joins_pair-clause-noted c =
@@ -45,7 +45,7 @@ returns-clause-tables c =
     let is : slice_get c.args.noted.now.last.items to ≡ Some at = slice_get_read c.args.noted.now.last.items (length c.args.noted.now.last.items) to at refl c.requires.within c.index.ensures in
     let missing : option_map_or (joins from to) (slice_get (link_tables es) at) false ≡ false = ap (λ ls. option_map_or (joins from to) (slice_get (link_tables ls) at) false) (sym c.deref.ensures.value) ∙ sym c.joins_pair.ensures ∙ c.if-joins_pair.false in
     let none = missing_link from to (link_tables es) c.args.noted.now.last.items c.args.noted.now.first c.requires.noted at is missing in
-    link_begun from to (first_text c.args.name) (declared c.args.declaration) (link_tables es) (link_tables c.begin_link.new.links.items) c.begin_link.result none c.begin_link.ensures.links c.begin_link.ensures.fault
+    link_begun from to (first_text c.args.declaration.texts) (declared c.args.declaration) (link_tables es) (link_tables c.begin_link.new.links.items) c.begin_link.result none c.begin_link.ensures.links c.begin_link.ensures.fault
 
 pub returns-clause-noted : goal.returns-clause-noted
 returns-clause-noted c =
