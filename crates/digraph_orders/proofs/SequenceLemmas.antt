@@ -315,7 +315,7 @@ numbering_more list ranks numbers begins begins' place n first stays steps =
           },
         )
 
--- Writing for the node at place `k` leaves what is written for the others.
+-- After a number is set for the node at place `k`, the list contains it there, and the same numbers as before for all other nodes.
 module _ (list xs : List ℕ) (k y : ℕ) (h : k < length list) (long : length xs ≡ length list) (nodes : (i : ℕ) → i < length list → get_or list i 0 < length list) (apart : AreApart list) where
   pub written : get_or (set xs (get_or list k 0) y) (get_or list k 0) 0 ≡ y
   written = get_or-set_same xs (get_or list k 0) y 0 (omega (arith, nodes k h, long))

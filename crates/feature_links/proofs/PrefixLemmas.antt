@@ -123,7 +123,7 @@ one_more t n prefixes prefix some last = record { count = length-append prefixes
     at k e = subst (λ z. IsPrefix (link_name t z) (slice_index (prefixes ++ prefix ∷ []) z)) (sym e)
         (subst (IsPrefix (link_name t n)) (sym (ap (slice_index (prefixes ++ prefix ∷ [])) (sym some.count) ∙ last_of prefixes prefix)) last)
 
--- what is no link has an empty name and the prefix 0
+-- if `prefixes` contains the prefix of each link, it also gives that of a number without a link: the name is empty, and the prefix 0
 pub all_prefixes : (t : Tables) (n : ℕ) (prefixes : List ℕ) → n ≡ length t.links → HasPrefixes t n prefixes → ArePrefixes t prefixes
 all_prefixes t n prefixes all some k = ⊎_elim (λ l. some.prefixed k l) (λ l. none l) (cases_lt k n)
   where

@@ -28,7 +28,7 @@ impl LinkData {
     ghost use Rattle.guppy_packages.specs.Stored.{declared_name};
     ghost use Rattle.guppy_packages.specs.inner.Declarations.{held_declarations};
 
-    /// Returns the link's name, that of its first declaration.
+    /// Returns the link's name, which is that of its first declaration. It would be empty if there were no declaration.
     pub(crate) fn name(&self) -> &str
         ensures { result.now ≡ declared_name (held_declarations self.now.declarations) }
     {
