@@ -3,6 +3,7 @@ ghost use Rattle.std.specs.Prelude.{◌≡◌, ◌+◌, ◌<◌, [], Ok, IfErr, 
 ghost use Rattle.std.specs.String.{string_bytes};
 ghost use Rattle.guppy_packages.specs.Graph.{NamesRow, Reads, first_or, faults_by, row_fault, packages_of};
 ghost use Rattle.guppy_packages.specs.NamedFeature.{feature_table, table_of_texts};
+ghost use Rattle.guppy_packages.specs.Parts.{first_text};
 ghost use Rattle.guppy_packages.specs.Rows.{row_text};
 ghost use Rattle.guppy_packages.specs.Stored.{package_tables};
 ghost use Rattle.guppy_packages.specs.inner.RowTexts.{AreAt, row_texts, stored_texts};
@@ -37,23 +38,25 @@ fn blank_package(alloc: Global, in_workspace: bool, room: usize) -> Result<Packa
 }
 
 /// Reads a Package row: appends the package `id`, with room for `room` features, or returns `DuplicatePackage` if `packages` already
-/// has it.
+/// has it. The id is the first of `texts`.
 fn push_package(
     alloc: Global,
     packages: &mut PackageList,
     id: &str,
+    texts: TextRun,
     in_workspace: bool,
     room: usize,
 ) -> Result<(), RowFault>
+    requires some { 0 < length texts }
+    requires id { first_text texts ≡ id.now }
     ensures { Takes (package_tables packages.new) result (add_package id.now in_workspace (package_tables packages.old)) }
 {
     let hash = hash_of(id);
     if packages.place_hashed(id, hash).is_some() {
         return Err(RowFault::DuplicatePackage);
     }
-    let id = PackageId::new(alloc, id)?;
     let data = blank_package(alloc, in_workspace, room)?;
-    packages.push_hashed(alloc, (id, data), hash)?;
+    packages.push_hashed(alloc, (PackageId::of_texts(texts), data), hash)?;
     Ok(())
 }
 
@@ -145,7 +148,8 @@ fn take_row(
     match row {
         Row::Package { id, in_workspace } => {
             end_package(packages);
-            push_package(alloc, packages, id, in_workspace, room)
+            let texts = TextRun::new(list, at, next - at)?;
+            push_package(alloc, packages, id, texts, in_workspace, room)
         }
         Row::Feature { .. } => {
             let texts = TextRun::new(list, at, next - at)?;

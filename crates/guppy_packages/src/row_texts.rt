@@ -36,12 +36,12 @@ fn push_texts(text: &mut String, ends: &mut Vec<u32>, added: &[&str]) -> Result<
 fn push_row(text: &mut String, ends: &mut Vec<u32>, row: Row) -> Result<(), AllocError>
     ensures { OnOk result ((before : List Text) → IsPushed before (string_bytes text.old) ends.old.items → IsPushed (before ++ row_texts (row_text row.entry)) (string_bytes text.new) ends.new.items) }
 {
-    let (name, others) = match row {
-        Row::Package { .. } => return Ok(()),
+    let (first, others) = match row {
+        Row::Package { id, .. } => (id, [].as_slice()),
         Row::Feature { name, items } => (name, items),
         Row::Dep { name, features, .. } => (name, features),
     };
-    push_text(text, ends, name)?;
+    push_text(text, ends, first)?;
     push_texts(text, ends, others)
 }
 
@@ -50,7 +50,7 @@ pub(crate) fn next_text(at: usize, row: Row) -> Result<usize, AllocError>
     ensures { IfOk result (λ next. next ≡ at + length (row_texts (row_text row.entry))) }
 {
     let count = match row {
-        Row::Package { .. } => 0,
+        Row::Package { .. } => 1,
         Row::Feature { items, .. } => items.len().saturating_add(1),
         Row::Dep { features, .. } => features.len().saturating_add(1),
     };
@@ -71,6 +71,16 @@ fn push_rows<S: RowSource>(
         push_row(text, ends, source.row(row))?;
     }
     Ok(())
+}
+
+/// Returns the list of `text` alone. The errors are those of `push_text`.
+pub(crate) fn one_text(alloc: Global, text: &str) -> Result<TextList, AllocError>
+    ensures { IfOk result (λ list. list ≡ text.now ∷ []) }
+{
+    let mut whole = String::new(alloc);
+    let mut ends = Vec::new(alloc);
+    push_text(&mut whole, &mut ends, text)?;
+    Ok(TextList::new(whole, ends))
 }
 
 /// Returns the texts of all rows that a graph stores, in row order. Returns `AllocError` if an allocation fails, or if the texts are

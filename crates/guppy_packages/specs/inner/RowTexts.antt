@@ -3,9 +3,9 @@ use Rattle.std.specs.Prelude.{◌≡◌, ℕ, ◌≤◌, ◌+◌, List, [], ◌�
 use Rattle.std.specs.List.{flat_map}
 use Rattle.guppy_packages.specs.Rows.{Text, RowText, a_package, a_feature, a_dep}
 
--- A feature's name and its items; a dependency's name and the features that it lists.
+-- A package's id; a feature's name and its items; a dependency's name and the features that it lists.
 abbrev pub row_texts : RowText → List Text
-row_texts (a_package id in_workspace) = []
+row_texts (a_package id in_workspace) = id ∷ []
 row_texts (a_feature name items) = name ∷ items
 row_texts (a_dep name target d) = name ∷ d.features
 

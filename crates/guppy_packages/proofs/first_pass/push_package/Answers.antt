@@ -21,4 +21,4 @@ returns c =
     let found : c.place_hashed.result ≡ position (λ e. bytes_eq c.args.id.now e.0) m = c.place_hashed.ensures in
     let fresh : list_any (λ p. bytes_eq c.args.id.now p.id) (package_tables m) ≡ false =
     list_any-map package_table (λ p. bytes_eq c.args.id.now p.id) m ∙ sym (is_some-position (λ e. bytes_eq c.args.id.now e.0) m) ∙ ap is_some (sym found) ∙ sym c.if-is_some.ensures in
-    rw (fresh, c.in_ok-push_hashed.ensures.pushed, map-append package_table m _, c.in_ok-id.ensures, c.in_ok-data.ensures)
+    rw (fresh, c.in_ok-push_hashed.ensures.pushed, map-append package_table m _, c.of_texts.ensures, c.requires.id, c.in_ok-data.ensures)

@@ -6,6 +6,9 @@ use Rattle.guppy_packages.proofs.first_pass.take_row.Goals as goal
 pub new-requires : goal.new-requires
 new-requires c = omega (arith, c.requires.next, c.requires.texts.within)
 
+pub new-requires-in-Feature : goal.new-requires-in-Feature
+new-requires-in-Feature c = omega (arith, c.requires.next, c.requires.texts.within)
+
 pub push_feature_row-requires : goal.push_feature_row-requires
 push_feature_row-requires c =
     let row = c.in-Feature.name.now ∷ texts c.in-Feature.items.now in
