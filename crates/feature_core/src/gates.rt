@@ -1,9 +1,10 @@
 //! The edges that wait for a gate, by their gates.
-ghost use Rattle.std.specs.Prelude.{◌≡◌, ◌≤◌, ◌++◌, ◌∷◌, [], IfOk, OnOk, AllPairs, IsPermutation, drop, length, slice_get};
+ghost use Rattle.std.specs.Prelude.{◌≡◌, ◌<◌, ◌≤◌, ◌++◌, ◌∷◌, [], IfOk, OnOk, AllPairs, IsPermutation, Some, drop, length, slice_get};
 ghost use Rattle.std.specs.Option.{option_map_or};
 ghost use Rattle.feature_edges.specs.Pairs.{IsBefore};
 ghost use Rattle.feature_core.specs.Ways.{gate_at, gate_of};
 ghost use Rattle.feature_core.specs.inner.Releases.{AreReleases, releases_from, released_by, Begins, IsUpTo};
+ghost use Rattle.feature_edges.specs.feature_links.Facts.{EdgeFacts};
 ghost use Rattle.feature_edges.specs.feature_links.Values.{edge_facts};
 
 use feature_edges::{EdgeList, FeatureEdge};
@@ -31,6 +32,17 @@ fn gate_at(weak: &[(usize, usize)], index: usize) -> usize
     }
 }
 
+/// Returns the gate of edge `number` if it is weak. An unconditional edge isn't read.
+fn edge_gate(weak: &[(usize, usize)], edges: &EdgeList, number: usize) -> Option<usize>
+    requires { number < length edges.now }
+    ensures { (f : EdgeFacts) → slice_get edges.now number ≡ Some f → result ≡ gate_of weak.now f }
+{
+    if edges.is_unconditional(number) {
+        return None;
+    }
+    gate_of(weak, edges.get(number))
+}
+
 /// Appends `number` with its gate, if `gate` is `Some`.
 fn push_release(
     released: &mut Vec<(usize, usize)>,
@@ -55,7 +67,7 @@ fn releases(
 {
     let mut released = Vec::new(alloc);
     for number in 0..edges.len() {
-        let gate = gate_of(weak, edges.get(number));
+        let gate = edge_gate(weak, edges, number);
         push_release(&mut released, gate, number)?;
     }
     Ok(released)
