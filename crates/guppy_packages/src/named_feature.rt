@@ -1,7 +1,7 @@
 //! A named feature of a package.
 ghost use Rattle.guppy_packages.specs.Parts.{first_text};
 ghost use Rattle.guppy_packages.specs.inner.Heads.{IsHead};
-ghost use Rattle.std.specs.Prelude.{◌≡◌, ◌<◌, Some, length, slice_get};
+ghost use Rattle.std.specs.Prelude.{◌≡◌, ◌<◌, ◌≤◌, Some, length, slice_get, take};
 
 use crate::named::Named;
 use crate::text_run::TextRun;
@@ -11,7 +11,7 @@ use std::hash::{Hash, Hasher};
 /// A named feature with its items. Names are distinct within a package, so equality compares names only.
 ///
 /// The name and the items are consecutive texts of a list, which all features of a graph share. A short name is also in the feature
-/// itself: it is compared without the list, whose texts may be anywhere in memory.
+/// itself, as is the beginning of a longer one: names are compared there first, because the list's texts may be anywhere in memory.
 #[derive(Drop)]
 pub struct NamedFeature {
     texts: TextRun,
@@ -24,19 +24,29 @@ pub struct NamedFeature {
 /// The greatest length of a short name, in bytes.
 const SHORT: usize = 7;
 
-/// Returns the bytes of a short name, followed by zeroes, and its length. For a longer name, the length is 8.
+/// Returns the first `count` bytes of `bytes`, followed by zeroes.
+fn beginning(bytes: &[u8], count: usize) -> [u8; 7]
+    requires room { count ≤ 7 }
+    requires within { count ≤ length bytes.now }
+    ensures long { length result ≡ 7 }
+    ensures bytes { take count result ≡ take count bytes.now }
+{
+    let mut head = [0u8; 7];
+    for ix in 0..count {
+        head[ix] = bytes[ix];
+    }
+    head
+}
+
+/// Returns the bytes of a short name, followed by zeroes, and its length. For a longer name, returns its first bytes, and 8.
 fn head_of(name: &str) -> ([u8; 7], u8)
     ensures { IsHead name.now result.0 result.1 }
 {
     let bytes = name.as_bytes();
-    let mut head = [0u8; 7];
     if bytes.len() > SHORT {
-        return (head, 8);
+        return (beginning(bytes, SHORT), 8);
     }
-    for ix in 0..bytes.len() {
-        head[ix] = bytes[ix];
-    }
-    (head, bytes.len() as u8)
+    (beginning(bytes, bytes.len()), bytes.len() as u8)
 }
 
 impl NamedFeature {
@@ -126,7 +136,7 @@ impl Named for NamedFeature {
     fn is_named(&self, other: &str) -> bool {
         let bytes = other.as_bytes();
         if bytes.len() > SHORT {
-            return self.size > 7 && other == self.texts.first();
+            return self.size > 7 && bytes[..SHORT] == self.head[..] && other == self.texts.first();
         }
         self.size as usize == bytes.len() && bytes == &self.head[..bytes.len()]
     }

@@ -1,5 +1,5 @@
 use Rattle.std.proofs.Common.{◌≡◌, length, take}
-use Rattle.guppy_packages.proofs.named_feature.head_of.Given as goal
+use Rattle.guppy_packages.proofs.named_feature.beginning.Given as goal
 
 -- the bytes so far are in place
 abbrev pub invariant-loop-ix : goal.invariant-loop-ix
