@@ -17,5 +17,6 @@ pub mod RunLemmas
 pub mod Sections
 pub mod SharedLemmas
 pub mod Sound
+pub mod StepCounts
 pub mod StoredLemmas
 pub mod TakenLemmas

@@ -19,7 +19,7 @@ use crate::package_list::PackageList;
 use crate::row::Row;
 use crate::row_error::{RowError, RowFault};
 use crate::row_source::RowSource;
-use crate::row_texts::next_text;
+use crate::row_texts::{TextKind, next_name};
 use crate::text_list::TextList;
 use crate::text_run::TextRun;
 use std::alloc::{AllocError, Global};
@@ -130,51 +130,60 @@ fn end_package(packages: &mut PackageList)
     last.1.optional_names.shrink_to_fit();
 }
 
-/// Reads a row in the first pass, or returns its fault. Its texts are those of `list` from `at` up to, not including, `next`. A new
-/// package has room for `room` features.
+/// The lists of the texts of all rows.
+#[derive(Clone, Copy)]
+pub(crate) struct RowTexts<'l> {
+    pub(crate) ids: &'l Rc<TextList>,
+    pub(crate) names: &'l Rc<TextList>,
+}
+
+/// Reads a row in the first pass, or returns its fault. Its names are those of `texts` from `at` up to, not including, `next`; its id is
+/// that of the next package. A new package has room for `room` features.
 fn take_row(
     alloc: Global,
     packages: &mut PackageList,
-    list: &Rc<TextList>,
+    texts: RowTexts<'_>,
     at: usize,
     next: usize,
     row: Row,
     room: usize,
 ) -> Result<(), RowFault>
-    requires texts { AreAt list.now.value at (row_texts (row_text row)) }
-    requires next { next ≡ at + length (row_texts (row_text row)) }
+    requires ids { AreAt texts.ids.now.value (length (package_tables packages.old)) (row_texts TextKind.Id (row_text row)) }
+    requires names { AreAt texts.names.now.value at (row_texts TextKind.Name (row_text row)) }
+    requires next { next ≡ at + length (row_texts TextKind.Name (row_text row)) }
     ensures { Takes (package_tables packages.new) result (first_step (package_tables packages.old) (row_text row.entry)) }
 {
     match row {
         Row::Package { id, in_workspace } => {
+            let text = TextRun::new(texts.ids, packages.len(), 1)?;
             end_package(packages);
-            let texts = TextRun::new(list, at, next - at)?;
-            push_package(alloc, packages, id, texts, in_workspace, room)
+            push_package(alloc, packages, id, text, in_workspace, room)
         }
         Row::Feature { .. } => {
-            let texts = TextRun::new(list, at, next - at)?;
-            push_feature_row(alloc, packages, texts)
+            let text = TextRun::new(texts.names, at, next - at)?;
+            push_feature_row(alloc, packages, text)
         }
         Row::Dep { name, optional, .. } => push_dep_row(alloc, packages, name, optional),
     }
 }
 
-/// Reads a row in the first pass, or returns its fault. Its texts begin at `at` in `list`; returns where those of the next row begin.
+/// Reads a row in the first pass, or returns its fault. Its names begin at `at` in `texts`; returns where those of the next row begin.
 /// A new package has room for `room` features.
 fn take_row_at(
     alloc: Global,
     packages: &mut PackageList,
-    list: &Rc<TextList>,
+    texts: RowTexts<'_>,
     at: usize,
     row: Row,
     room: usize,
 ) -> Result<usize, RowFault>
-    requires { AreAt list.now.value at (row_texts (row_text row)) }
+    requires ids { AreAt texts.ids.now.value (length (package_tables packages.old)) (row_texts TextKind.Id (row_text row)) }
+    requires names { AreAt texts.names.now.value at (row_texts TextKind.Name (row_text row)) }
     ensures tables { Takes (package_tables packages.new) result (first_step (package_tables packages.old) (row_text row.entry)) }
-    ensures next { IfOk result (λ next. next ≡ at + length (row_texts (row_text row.entry))) }
+    ensures next { IfOk result (λ next. next ≡ at + length (row_texts TextKind.Name (row_text row.entry))) }
 {
-    let next = next_text(at, row)?;
-    take_row(alloc, packages, list, at, next, row, room)?;
+    let next = next_name(at, row)?;
+    take_row(alloc, packages, texts, at, next, row, room)?;
     Ok(next)
 }
 
@@ -200,14 +209,15 @@ fn room_for<S: RowSource>(source: &S, row: Row, next: usize) -> usize {
     }
 }
 
-/// Runs the first pass and returns the packages, or the first fault of a row by itself. `list` has the texts of all rows. The list's
+/// Runs the first pass and returns the packages, or the first fault of a row by itself. `texts` has the texts of all rows. The list's
 /// spare capacity is freed.
 pub(crate) fn take_packages<S: RowSource>(
     alloc: Global,
-    list: &Rc<TextList>,
+    texts: RowTexts<'_>,
     source: &S,
 ) -> Result<PackageList, RowError>
-    requires { list.now.value ≡ stored_texts (S.rows source.now) }
+    requires ids { texts.ids.now.value ≡ stored_texts TextKind.Id (S.rows source.now) }
+    requires names { texts.names.now.value ≡ stored_texts TextKind.Name (S.rows source.now) }
     ensures tables { Reads package_tables result (first_or (faults_by row_fault (S.rows source.now)) (packages_of (S.rows source.now))) }
     ensures row { IfErr result (NamesRow (S.rows source.now)) }
 {
@@ -216,7 +226,7 @@ pub(crate) fn take_packages<S: RowSource>(
     for ix in 0..source.row_count() {
         let row = source.row(ix);
         let room = room_for(source, row, ix + 1);
-        match take_row_at(alloc, &mut packages, list, at, row, room) {
+        match take_row_at(alloc, &mut packages, texts, at, row, room) {
             Ok(next) => at = next,
             Err(fault) => return Err(RowError::new(ix, fault)),
         }

@@ -6,11 +6,11 @@ ghost use Rattle.guppy_packages.specs.Tables.{AreTables};
 ghost use Rattle.guppy_packages.specs.inner.RowTexts.{stored_texts};
 
 use crate::contents::Link;
-use crate::first_pass::take_packages;
+use crate::first_pass::{RowTexts, take_packages};
 use crate::package_list::PackageList;
 use crate::row_error::RowError;
 use crate::row_source::RowSource;
-use crate::row_texts::stored_texts;
+use crate::row_texts::{TextKind, stored_texts};
 use crate::second_pass::take_links;
 use crate::text_list::TextList;
 use std::alloc::{AllocError, Global};
@@ -36,11 +36,15 @@ impl Model for PackageTables {
     ghost invariant = { λ t. AreTables (record { packages = package_tables t.packages; links = link_tables t.links.items }) };
 }
 
-/// Returns the texts of all rows that are stored, in row order. The errors are those of [`stored_texts`].
-fn shared_texts<S: RowSource>(alloc: Global, source: &S) -> Result<Rc<TextList>, AllocError>
-    ensures { IfOk result (λ list. list.value ≡ stored_texts (S.rows source.now)) }
+/// Returns the texts of all rows that are of this kind, in row order. The errors are those of [`stored_texts`].
+fn shared_texts<S: RowSource>(
+    alloc: Global,
+    kind: TextKind,
+    source: &S,
+) -> Result<Rc<TextList>, AllocError>
+    ensures { IfOk result (λ list. list.value ≡ stored_texts kind (S.rows source.now)) }
 {
-    Ok(Rc::new(alloc, stored_texts(alloc, source)?)?)
+    Ok(Rc::new(alloc, stored_texts(alloc, kind, source)?)?)
 }
 
 /// Runs both passes and returns the packages and the links.
@@ -52,9 +56,10 @@ fn take_tables<S: RowSource>(
     ensures sound { IfOk result (λ both. AreTables (record { packages = package_tables both.0; links = link_tables both.1.items })) }
     ensures row { IfErr result (NamesRow (S.rows source.now)) }
 {
-    let list = shared_texts(alloc, source)?;
-    let packages = take_packages(alloc, &list, source)?;
-    let links = take_links(alloc, &packages, &list, source)?;
+    let ids = shared_texts(alloc, TextKind::Id, source)?;
+    let names = shared_texts(alloc, TextKind::Name, source)?;
+    let packages = take_packages(alloc, RowTexts { ids: &ids, names: &names }, source)?;
+    let links = take_links(alloc, &packages, &names, source)?;
     Ok((packages, links))
 }
 

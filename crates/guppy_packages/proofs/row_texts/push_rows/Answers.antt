@@ -16,4 +16,4 @@ loop-row-preserved g c =
     let i = c.loop-row.row in
     let at = drop_at all i _ c.row.ensures in
     let within : i < length all = search rules in
-    subst (λ ts. IsPushed ts (string_bytes c.push_row.new.text) c.push_row.new.ends.items) (sym (stored-next all i _ at within)) (c.in_ok-push_row.ensures (stored_texts (take i all)) c.loop-row.invariant)
+    subst (λ ts. IsPushed ts (string_bytes c.push_row.new.text) c.push_row.new.ends.items) (sym (stored-next c.args.kind all i _ at within)) (c.in_ok-push_row.ensures (stored_texts c.args.kind (take i all)) c.loop-row.invariant)

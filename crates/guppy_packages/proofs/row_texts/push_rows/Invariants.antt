@@ -6,4 +6,4 @@ use Rattle.guppy_packages.proofs.row_texts.push_rows.Given as goal
 
 -- the texts so far are those of the rows so far
 abbrev pub invariant-loop-row : goal.invariant-loop-row
-invariant-loop-row g l = IsPushed (stored_texts (take l.row (g.S.RowSource.rows l.source))) (string_bytes l.text) l.ends.items
+invariant-loop-row g l = IsPushed (stored_texts l.kind (take l.row (g.S.RowSource.rows l.source))) (string_bytes l.text) l.ends.items
