@@ -10,6 +10,7 @@ pub mod LinkRanges
 pub mod Lists
 pub mod NotedLemmas
 pub mod PackageOrders
+pub mod PairLemmas
 pub mod PartLemmas
 pub mod Passes
 pub mod RowTextLemmas

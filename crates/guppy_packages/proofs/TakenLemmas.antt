@@ -1,10 +1,11 @@
 -- The effect of calls on the tables.
 use Rattle.std.proofs.Common.{◌≡◌, ℕ, zero, suc, ◌+◌, ◌-◌, ◌<◌, List, [], ◌∷◌, ◌++◌, Bool, true, false, cond, ◌||◌, not, Some, Result, Ok, Err, IfErr, OnOk, map, length, set, get_or, refl, ap, sym, ◌∙◌, subst, arith}
 use Rattle.std.specs.Prelude.{slice_get, slice_set}
-use Rattle.std.specs.List.{list_any, position_or_len}
+use Rattle.std.specs.List.{list_any, position_or_len, zip}
 use Rattle.std.specs.String.{string_bytes}
 use Rattle.std.proofs.lemmas.List.{length-map, map-set}
 use Rattle.std.proofs.lemmas.Option.{slice_get-get_or}
+use Rattle.std.proofs.lemmas.Slice.Zip.{length-zip}
 use Rattle.guppy_packages.specs.Rows.{Text, Declared}
 use Rattle.guppy_packages.specs.Tables.{LinkTable, PackageTable}
 use Rattle.guppy_packages.specs.inner.Steps.{Outcome, Takes, add_link, add_name, change_last, joined_link, joins, result_map, with_name}
@@ -12,6 +13,7 @@ use Rattle.guppy_packages.specs.Stored.{package_table}
 use Rattle.guppy_packages.specs.declared.row_error.RowFault.TheVariants.{NoPackage, DuplicatePackage, DuplicateFeature, UnknownTarget, OtherName, Memory}
 use Rattle.guppy_packages.specs.declared.contents.PackageData.{PackageData}
 use Rattle.guppy_packages.proofs.Lists.{slice_get-map}
+use Rattle.guppy_packages.proofs.PairLemmas.{zip_at, zip_changed}
 
 -- the effect of a call on a part, for the whole
 pub Takes-map : {A B C : Type 0} (f : A → B) (new : A) (result : Outcome C) (given : Outcome A) → Takes new result given → Takes (f new) result (result_map f given)
@@ -23,11 +25,22 @@ Takes-map f new (Err UnknownTarget) given h = ap (result_map f) h
 Takes-map f new (Err OtherName) given h = ap (result_map f) h
 Takes-map f new (Err Memory) given h = tt
 
--- the last package
-pub last_at : (es : List (Text × PackageData)) (n : ℕ) (e : Text × PackageData) → n ≡ length es → 0 < n → e ≡ get_or es (n - 1) e → slice_get es (length es - 1) ≡ Some e
-last_at es n e long some is =
-    let last : n - 1 ≡ length es - 1 = omega arith in
-    slice_get-get_or es (length es - 1) e (omega arith) ∙ ap Some (ap (λ k. get_or es k e) (sym last) ∙ sym is)
+-- the last package, where ids and data are apart
+module _ (ids : List Text) (ds : List PackageData) (even : length ds ≡ length ids) (n : ℕ) (long : n ≡ length ds) (some : 0 < n) (d : PackageData) where
+  pub last_at : d ≡ get_or ds (n - 1) d → (id : Text) × (slice_get (zip ids ds) (length (zip ids ds) - 1) ≡ Some (id, d))
+  last_at is =
+      let k = length ds - 1 in
+      let place : length (zip ids ds) - 1 ≡ k = omega (arith, length-zip ids ds) in
+      let back : n - 1 ≡ k = omega arith in
+      let id = slice_get-get_or ids k [] (omega arith) in
+      let datum = slice_get-get_or ds k d (omega arith) ∙ ap Some (ap (λ j. get_or ds j d) (sym back) ∙ sym is) in
+      (get_or ids k [], ap (slice_get (zip ids ds)) place ∙ zip_at ids ds k (get_or ids k []) d id datum)
+
+  -- other data in its place
+  pub last_put : (id : Text) (new : PackageData) → slice_get (zip ids ds) (length (zip ids ds) - 1) ≡ Some (id, d) → zip ids (set ds (n - 1) new) ≡ set (zip ids ds) (length (zip ids ds) - 1) (id, new)
+  last_put id new at =
+      let place : n - 1 ≡ length (zip ids ds) - 1 = omega (arith, length-zip ids ds) in
+      ap (λ j. zip ids (set ds j new)) place ∙ zip_changed ids ds (length (zip ids ds) - 1) id d new at
 
 -- a write to the last package
 pub last_changed : {C : Type 0} (es : List (Text × PackageData)) (e new : Text × PackageData) (change : PackageTable → Outcome PackageTable) (result : Outcome C)

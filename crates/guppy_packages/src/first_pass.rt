@@ -56,7 +56,7 @@ fn push_package(
         return Err(RowFault::DuplicatePackage);
     }
     let data = blank_package(alloc, in_workspace, room)?;
-    packages.push_hashed(alloc, (PackageId::of_texts(texts), data), hash)?;
+    packages.push_hashed(alloc, PackageId::of_texts(texts), data, hash)?;
     Ok(())
 }
 
@@ -86,10 +86,10 @@ fn push_feature_row(
     requires { 0 < length texts }
     ensures { Takes (package_tables packages.new) result (change_last (add_feature (table_of_texts texts).name (table_of_texts texts).items) (package_tables packages.old)) }
 {
-    let Some(current) = packages.items.last_mut() else {
+    let Some(current) = packages.contents.last_mut() else {
         return Err(RowFault::NoPackage);
     };
-    push_feature(alloc, &mut current.1.features, texts)
+    push_feature(alloc, &mut current.features, texts)
 }
 
 /// Inserts `name` into `names`, the optional names of a package.
@@ -110,11 +110,11 @@ fn push_dep_row(
 ) -> Result<(), RowFault>
     ensures { Takes (package_tables packages.new) result (change_last (λ p. Ok (add_name name.now optional p)) (package_tables packages.old)) }
 {
-    let Some(current) = packages.items.last_mut() else {
+    let Some(current) = packages.contents.last_mut() else {
         return Err(RowFault::NoPackage);
     };
     if optional {
-        return push_name(alloc, &mut current.1.optional_names, name);
+        return push_name(alloc, &mut current.optional_names, name);
     }
     Ok(())
 }
@@ -123,11 +123,11 @@ fn push_dep_row(
 fn end_package(packages: &mut PackageList)
     ensures { package_tables packages.new ≡ package_tables packages.old }
 {
-    let Some(last) = packages.items.last_mut() else {
+    let Some(last) = packages.contents.last_mut() else {
         return;
     };
-    last.1.features.shrink_to_fit();
-    last.1.optional_names.shrink_to_fit();
+    last.features.shrink_to_fit();
+    last.optional_names.shrink_to_fit();
 }
 
 /// The lists of the texts of all rows.

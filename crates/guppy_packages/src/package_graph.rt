@@ -84,8 +84,8 @@ impl PackageGraph {
         ensures package { slice_get self.now.packages ix ≡ Some (package_table_of result) }
         ensures number { package_number_of result ≡ ix }
     {
-        let (id, data) = self.packages.get(ix);
-        PackageMetadata::new(self, ix, id, data)
+        let (id, contents) = self.packages.get(ix);
+        PackageMetadata::new(self, ix, id, contents)
     }
 
     /// Returns link `ix`.

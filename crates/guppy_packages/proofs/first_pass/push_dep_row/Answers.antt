@@ -1,32 +1,28 @@
-use Rattle.std.proofs.Common.{◌≡◌, ◌∙◌, ◌<◌, ◌-◌, Some, ap, length, map, refl, rules, sym, vec_len}
-use lib.Seq.{map-set_same}
-use Rattle.std.specs.Prelude.{slice_get}
-use Rattle.guppy_packages.specs.inner.HashPlaces.{name_hash}
+use Rattle.std.proofs.Common.{◌≡◌, ◌<◌, length, map, refl, rules, sym, vec_len}
+use Rattle.std.specs.List.{zip}
 use Rattle.std.specs.String.{string_bytes}
-use Rattle.guppy_packages.proofs.TakenLemmas.{last_at, name_noted, not_noted}
+use Rattle.guppy_packages.proofs.TakenLemmas.{last_at, last_put, name_noted, not_noted}
 use Rattle.guppy_packages.proofs.first_pass.push_dep_row.Goals as goal
-
-pub invariant_of-packages-then-optional : goal.invariant_of-packages-then-optional
-invariant_of-packages-then-optional c =
-    let es = c.packages.inside.items.items in
-    let e = c.in-Some.current.now in
-    let hashes : c.packages.inside.places ≡ map (λ x. name_hash x.0) es = c.packages.invariant in
-    hashes ∙ sym (map-set_same (λ x. name_hash x.0) es (vec_len c.packages.inside.items - 1) (e.0, record e.1 { optional_names = c.push_name.new.names }) e (ap (λ x. name_hash x.0) c.in-Some.ensures.value))
 
 pub returns-then-optional : goal.returns-then-optional
 returns-then-optional c =
-    let es = c.packages.inside.items.items in
-    let e = c.in-Some.current.now in
-    let n : vec_len c.packages.inside.items ≡ length es = search rules in
-    let some : 0 < vec_len c.packages.inside.items = search rules in
-    let at : slice_get es (length es - 1) ≡ Some e = last_at es (vec_len c.packages.inside.items) e n some c.in-Some.ensures.value in
-    rw (n, sym c.packages.view_is) (name_noted es e (e.0, record e.1 { optional_names = c.push_name.new.names }) c.args.name.now (map string_bytes c.push_name.new.names) c.args.optional c.push_name.result at c.if-optional.true refl c.push_name.ensures)
+    let ids = c.packages.inside.ids in
+    let ds = c.packages.inside.contents.items in
+    let d = c.in-Some.current.now in
+    let new = record d { optional_names = c.push_name.new.names } in
+    let n : vec_len c.packages.inside.contents ≡ length ds = search rules in
+    let some : 0 < vec_len c.packages.inside.contents = search rules in
+    let last = last_at ids ds c.packages.invariant (vec_len c.packages.inside.contents) n some d c.in-Some.ensures.value in
+    rw (last_put ids ds c.packages.invariant (vec_len c.packages.inside.contents) n some d last.0 new last.1, sym c.packages.view_is)
+    (name_noted (zip ids ds) (last.0, d) (last.0, new) c.args.name.now (map string_bytes c.push_name.new.names) c.args.optional c.push_name.result last.1 c.if-optional.true refl c.push_name.ensures)
 
 pub returns : goal.returns
 returns c =
-    let es = c.packages.inside.items.items in
-    let e = c.in-Some.current.now in
-    let n : vec_len c.packages.inside.items ≡ length es = search rules in
-    let some : 0 < vec_len c.packages.inside.items = search rules in
-    let at : slice_get es (length es - 1) ≡ Some e = last_at es (vec_len c.packages.inside.items) e n some c.in-Some.ensures.value in
-    rw (n, sym c.packages.view_is) (not_noted es e c.args.name.now c.args.optional at c.if-optional.false)
+    let ids = c.packages.inside.ids in
+    let ds = c.packages.inside.contents.items in
+    let d = c.in-Some.current.now in
+    let n : vec_len c.packages.inside.contents ≡ length ds = search rules in
+    let some : 0 < vec_len c.packages.inside.contents = search rules in
+    let last = last_at ids ds c.packages.invariant (vec_len c.packages.inside.contents) n some d c.in-Some.ensures.value in
+    rw (last_put ids ds c.packages.invariant (vec_len c.packages.inside.contents) n some d last.0 d last.1, sym c.packages.view_is)
+    (not_noted (zip ids ds) (last.0, d) c.args.name.now c.args.optional last.1 c.if-optional.false)

@@ -1,23 +1,17 @@
-use Rattle.std.proofs.Common.{◌≡◌, ◌∙◌, ◌<◌, ◌-◌, Some, ap, length, map, rules, sym, vec_len}
-use lib.Seq.{map-set_same}
-use Rattle.std.specs.Prelude.{slice_get}
-use Rattle.guppy_packages.specs.inner.HashPlaces.{name_hash}
+use Rattle.std.proofs.Common.{◌≡◌, ◌<◌, length, rules, sym, vec_len}
+use Rattle.std.specs.List.{zip}
 use Rattle.guppy_packages.specs.Stored.{package_table}
-use Rattle.guppy_packages.proofs.TakenLemmas.{last_at, last_changed, Takes-map}
+use Rattle.guppy_packages.proofs.TakenLemmas.{last_at, last_changed, last_put, Takes-map}
 use Rattle.guppy_packages.proofs.first_pass.push_feature_row.Goals as goal
-
-pub invariant_of-packages-2 : goal.invariant_of-packages-2
-invariant_of-packages-2 c =
-    let es = c.packages.inside.items.items in
-    let e = c.in-Some.current.now in
-    let hashes : c.packages.inside.places ≡ map (λ x. name_hash x.0) es = c.packages.invariant in
-    hashes ∙ sym (map-set_same (λ x. name_hash x.0) es (vec_len c.packages.inside.items - 1) (e.0, record e.1 { features = c.push_feature.new.features }) e (ap (λ x. name_hash x.0) c.in-Some.ensures.value))
 
 pub returns : goal.returns
 returns c =
-    let es = c.packages.inside.items.items in
-    let e = c.in-Some.current.now in
-    let n : vec_len c.packages.inside.items ≡ length es = search rules in
-    let some : 0 < vec_len c.packages.inside.items = search rules in
-    let at : slice_get es (length es - 1) ≡ Some e = last_at es (vec_len c.packages.inside.items) e n some c.in-Some.ensures.value in
-    rw (n, sym c.packages.view_is) (last_changed es e (e.0, record e.1 { features = c.push_feature.new.features }) _ c.push_feature.result at (Takes-map (λ fs. record (package_table e) { features = fs }) _ c.push_feature.result _ c.push_feature.ensures))
+    let ids = c.packages.inside.ids in
+    let ds = c.packages.inside.contents.items in
+    let d = c.in-Some.current.now in
+    let new = record d { features = c.push_feature.new.features } in
+    let n : vec_len c.packages.inside.contents ≡ length ds = search rules in
+    let some : 0 < vec_len c.packages.inside.contents = search rules in
+    let last = last_at ids ds c.packages.invariant (vec_len c.packages.inside.contents) n some d c.in-Some.ensures.value in
+    rw (last_put ids ds c.packages.invariant (vec_len c.packages.inside.contents) n some d last.0 new last.1, sym c.packages.view_is)
+    (last_changed (zip ids ds) (last.0, d) (last.0, new) _ c.push_feature.result last.1 (Takes-map (λ fs. record (package_table (last.0, d)) { features = fs }) _ c.push_feature.result _ c.push_feature.ensures))

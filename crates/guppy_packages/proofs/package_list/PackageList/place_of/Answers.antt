@@ -1,0 +1,11 @@
+use Rattle.std.proofs.Common.{◌∙◌, ap}
+use Rattle.std.specs.Prelude.{position}
+use Rattle.std.specs.Str.{bytes_eq}
+use Rattle.guppy_packages.proofs.PairLemmas.{position-firsts}
+use Rattle.guppy_packages.proofs.package_list.PackageList.place_of.Goals as goal
+
+pub returns : goal.returns
+returns c =
+    c.place_of.ensures
+    ∙ position-firsts (bytes_eq c.args.id.now) c.self.inside.ids c.self.inside.contents.items c.self.invariant
+    ∙ ap (position (λ e. bytes_eq c.args.id.now e.0)) c.self.view_is
