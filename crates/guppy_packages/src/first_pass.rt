@@ -221,7 +221,7 @@ pub(crate) fn take_packages<S: RowSource>(
     ensures tables { Reads package_tables result (first_or (faults_by row_fault (S.rows source.now)) (packages_of (S.rows source.now))) }
     ensures row { IfErr result (NamesRow (S.rows source.now)) }
 {
-    let mut packages = PackageList::new(alloc);
+    let mut packages = PackageList::with_capacity(alloc, texts.ids.len())?;
     let mut at = 0;
     for ix in 0..source.row_count() {
         let row = source.row(ix);

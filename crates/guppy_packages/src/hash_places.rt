@@ -82,10 +82,14 @@ fn put(slots: &mut Vec<u32>, hashes: &[u32], at: usize)
     slots[slot] = at as u32 + 1;
 }
 
-/// Returns `count` empty slots.
+/// Returns `count` empty slots, or `AllocError` if the allocation fails or the number doesn't fit in 32 bits.
 fn empty_slots(alloc: Global, count: usize) -> Result<Vec<u32>, AllocError>
-    ensures { IfOk result (λ slots. slots.items ≡ replicate count 0) }
+    ensures slots { IfOk result (λ slots. slots.items ≡ replicate count 0) }
+    ensures few { IfOk result (λ slots. length slots.items < 2 ^ 32) }
 {
+    if count > LAST_PLACE {
+        return Err(AllocError);
+    }
     vec![in alloc; 0u32; count]
 }
 
@@ -96,9 +100,6 @@ fn slots_of(alloc: Global, hashes: &[u32]) -> Result<Vec<u32>, AllocError>
     ensures room { IfOk result (λ slots. length hashes.now < length slots.items) }
 {
     let count = 4 * hashes.len() + 32;
-    if count > LAST_PLACE {
-        return Err(AllocError);
-    }
     let mut slots = empty_slots(alloc, count)?;
     for at in 0..hashes.len() {
         put(&mut slots, hashes, at);
@@ -130,14 +131,14 @@ fn has_name<T: Named>(item: &T, here: u32, name: &str, hash: u32) -> bool
 }
 
 impl HashPlaces {
-    /// Returns the empty list, which allocates nothing.
-    pub(crate) fn new(alloc: Global) -> HashPlaces
-        ensures { result ≡ [] }
+    /// Returns the empty list, with room for `room` hashes. Returns `AllocError` if an allocation fails or the number of slots doesn't
+    /// fit in 32 bits.
+    pub(crate) fn with_capacity(alloc: Global, room: usize) -> Result<HashPlaces, AllocError>
+        ensures { IfOk result (λ places. places ≡ []) }
     {
-        HashPlaces {
-            slots: Vec::new(alloc),
-            hashes: Vec::new(alloc),
-        }
+        let slots = empty_slots(alloc, room.saturating_mul(3).saturating_add(32))?;
+        let hashes = Vec::with_capacity(alloc, room)?;
+        Ok(HashPlaces { slots, hashes })
     }
 
     /// Appends `hash`. Returns `AllocError` if an allocation fails or the number of slots doesn't fit in 32 bits; then the list is

@@ -28,11 +28,11 @@ impl<T: Named> Model for NamedList<T> {
     ghost invariant = { λ l. l.places ≡ map (λ t. name_hash (T.name t)) l.items.items };
 }
 
-/// Returns the hashes of the names of `items`.
-fn hashed<T: Named>(alloc: Global, items: &[T]) -> Result<HashPlaces, AllocError>
+/// Returns the hashes of the names of `items`, with room for `room` hashes.
+fn hashed<T: Named>(alloc: Global, items: &[T], room: usize) -> Result<HashPlaces, AllocError>
     ensures { IfOk result (λ places. places ≡ map (λ t. name_hash (T.name t)) items.now) }
 {
-    let mut places = HashPlaces::new(alloc);
+    let mut places = HashPlaces::with_capacity(alloc, room)?;
     for item in items {
         places.push(alloc, hash_of(item.name()))?;
     }
@@ -40,21 +40,20 @@ fn hashed<T: Named>(alloc: Global, items: &[T]) -> Result<HashPlaces, AllocError
 }
 
 impl<T: Named + Drop> NamedList<T> {
-    /// Returns the list of no items, which allocates nothing.
-    pub(crate) fn new(alloc: Global) -> NamedList<T>
-        ensures { result ≡ [] }
+    /// Returns the list of no items, with room for `room` items. `AllocError` is the only error.
+    pub(crate) fn with_capacity(alloc: Global, room: usize) -> Result<NamedList<T>, AllocError>
+        ensures { IfOk result (λ list. list ≡ []) }
     {
-        NamedList {
-            items: Vec::new(alloc),
-            places: HashPlaces::new(alloc),
-        }
+        let items = Vec::with_capacity(alloc, room)?;
+        let places = HashPlaces::with_capacity(alloc, room)?;
+        Ok(NamedList { items, places })
     }
 
-    /// Returns the list of `items`.
+    /// Returns the list of `items`, with the room that they have. `AllocError` is the only error.
     pub(crate) fn of(alloc: Global, items: Vec<T>) -> Result<NamedList<T>, AllocError>
         ensures { IfOk result (λ list. list ≡ items.items) }
     {
-        let places = hashed(alloc, &items)?;
+        let places = hashed(alloc, &items, items.capacity())?;
         Ok(NamedList { items, places })
     }
 

@@ -1,5 +1,5 @@
 //! Packages by number, found by id.
-ghost use Rattle.std.specs.Prelude.{◌≡◌, ◌<◌, ◌++◌, ◌∷◌, [], OnErr, OnOk, Some, length, position, slice_get};
+ghost use Rattle.std.specs.Prelude.{◌≡◌, ◌<◌, ◌++◌, ◌∷◌, [], IfOk, OnErr, OnOk, Some, length, position, slice_get};
 ghost use Rattle.std.specs.Str.{bytes_eq};
 ghost use Rattle.guppy_packages.specs.inner.HashPlaces.{name_hash};
 
@@ -48,14 +48,13 @@ impl Model for PackageList {
 }
 
 impl PackageList {
-    /// Returns the list of no packages, which allocates nothing.
-    pub(crate) fn new(alloc: Global) -> PackageList
-        ensures { result ≡ [] }
+    /// Returns the list of no packages, with room for `room` packages. `AllocError` is the only error.
+    pub(crate) fn with_capacity(alloc: Global, room: usize) -> Result<PackageList, AllocError>
+        ensures { IfOk result (λ list. list ≡ []) }
     {
-        PackageList {
-            ids: NamedList::new(alloc),
-            contents: Vec::new(alloc),
-        }
+        let ids = NamedList::with_capacity(alloc, room)?;
+        let contents = Vec::with_capacity(alloc, room)?;
+        Ok(PackageList { ids, contents })
     }
 
     /// Returns the number of packages.

@@ -58,7 +58,14 @@ fn take_tables<S: RowSource>(
 {
     let ids = shared_texts(alloc, TextKind::Id, source)?;
     let names = shared_texts(alloc, TextKind::Name, source)?;
-    let packages = take_packages(alloc, RowTexts { ids: &ids, names: &names }, source)?;
+    let packages = take_packages(
+        alloc,
+        RowTexts {
+            ids: &ids,
+            names: &names,
+        },
+        source,
+    )?;
     let links = take_links(alloc, &packages, &names, source)?;
     Ok((packages, links))
 }

@@ -68,6 +68,13 @@ impl TextList {
         TextList { text, ends }
     }
 
+    /// Returns the number of texts.
+    pub(crate) fn len(&self) -> usize
+        ensures { result ≡ length self.now }
+    {
+        self.ends.len()
+    }
+
     /// Returns text `at`.
     #[inline(always)]
     pub(crate) fn text(&self, at: usize) -> &str

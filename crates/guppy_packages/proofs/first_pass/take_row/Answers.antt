@@ -1,4 +1,4 @@
-use Rattle.std.proofs.Common.{◌<◌, ◌≤◌, ◌≡◌, ◌∙◌, ◌∷◌, [], ◌-◌, ◌+◌, ap, arith, drop, length, subst, take}
+use Rattle.std.proofs.Common.{◌<◌, ◌≡◌, ◌∙◌, ◌∷◌, [], ◌-◌, ◌+◌, ap, arith, drop, length, subst, take}
 use Rattle.std.proofs.lemmas.List.{length-map}
 use Rattle.guppy_packages.specs.Parts.{first_text}
 use Rattle.guppy_packages.specs.Rows.{row_text, texts}
