@@ -8,8 +8,7 @@ use Rattle.std.proofs.lemmas.List.{length-append, length-set}
 use Rattle.guppy_packages.specs.Rows.{RowText, a_package, a_feature, a_dep}
 use Rattle.guppy_packages.specs.Tables.{PackageTable}
 use Rattle.guppy_packages.specs.declared.row_error.RowFault.TheVariants.{NoPackage, DuplicatePackage}
-use Rattle.guppy_packages.specs.declared.row_texts.TextKind.TheVariants.{Id}
-use Rattle.guppy_packages.specs.inner.RowTexts.{row_texts}
+use Rattle.guppy_packages.specs.inner.RowTexts.{row_ids}
 use Rattle.guppy_packages.specs.inner.Steps.{Outcome, add_feature, add_name, change_last, first_step, result_map}
 
 added : (b : Bool) (ts new : List PackageTable) (p : PackageTable) (given : Outcome (List PackageTable)) → given ≡ (if b then Err DuplicatePackage else Ok (ts ++ p ∷ [])) → given ≡ Ok new → length new ≡ length ts + 1
@@ -32,7 +31,7 @@ changed f ts new h = at (slice_get ts (length ts - 1)) h
     at (Some p) h = put (f p) h
 
 -- a row adds as many packages as it has ids
-pub step_count : (ts new : List PackageTable) (row : RowText) → first_step ts row ≡ Ok new → length new ≡ length ts + length (row_texts Id row)
+pub step_count : (ts new : List PackageTable) (row : RowText) → first_step ts row ≡ Ok new → length new ≡ length ts + length (row_ids row)
 step_count ts new (a_package id in_workspace) h = added (list_any (λ p. bytes_eq id p.id) ts) ts new _ _ refl h
 step_count ts new (a_feature name items) h = omega (arith, changed (add_feature name items) ts new h)
 step_count ts new (a_dep name target d) h = omega (arith, changed (λ p. Ok (add_name name d.optional p)) ts new h)

@@ -6,7 +6,7 @@ ghost use Rattle.guppy_packages.specs.NamedFeature.{feature_table, table_of_text
 ghost use Rattle.guppy_packages.specs.Parts.{first_text};
 ghost use Rattle.guppy_packages.specs.Rows.{row_text};
 ghost use Rattle.guppy_packages.specs.Stored.{package_tables};
-ghost use Rattle.guppy_packages.specs.inner.RowTexts.{AreAt, row_texts, stored_texts};
+ghost use Rattle.guppy_packages.specs.inner.RowTexts.{AreAt, row_ids, row_texts, stored_ids, stored_texts};
 ghost use Rattle.guppy_packages.specs.inner.Steps.{Takes, add_package, add_feature, add_name, change_last, first_step, with_feature, with_name};
 
 use crate::contents::PackageData;
@@ -19,7 +19,7 @@ use crate::package_list::PackageList;
 use crate::row::Row;
 use crate::row_error::{RowError, RowFault};
 use crate::row_source::RowSource;
-use crate::row_texts::{TextKind, next_name};
+use crate::row_texts::next_name;
 use crate::text_list::TextList;
 use crate::text_run::TextRun;
 use std::alloc::{AllocError, Global};
@@ -148,9 +148,9 @@ fn take_row(
     row: Row,
     room: usize,
 ) -> Result<(), RowFault>
-    requires ids { AreAt texts.ids.now.value (length (package_tables packages.old)) (row_texts TextKind.Id (row_text row)) }
-    requires names { AreAt texts.names.now.value at (row_texts TextKind.Name (row_text row)) }
-    requires next { next ≡ at + length (row_texts TextKind.Name (row_text row)) }
+    requires ids { AreAt texts.ids.now.value (length (package_tables packages.old)) (row_ids (row_text row)) }
+    requires names { AreAt texts.names.now.value at (row_texts (row_text row)) }
+    requires next { next ≡ at + length (row_texts (row_text row)) }
     ensures { Takes (package_tables packages.new) result (first_step (package_tables packages.old) (row_text row.entry)) }
 {
     match row {
@@ -177,10 +177,10 @@ fn take_row_at(
     row: Row,
     room: usize,
 ) -> Result<usize, RowFault>
-    requires ids { AreAt texts.ids.now.value (length (package_tables packages.old)) (row_texts TextKind.Id (row_text row)) }
-    requires names { AreAt texts.names.now.value at (row_texts TextKind.Name (row_text row)) }
+    requires ids { AreAt texts.ids.now.value (length (package_tables packages.old)) (row_ids (row_text row)) }
+    requires names { AreAt texts.names.now.value at (row_texts (row_text row)) }
     ensures tables { Takes (package_tables packages.new) result (first_step (package_tables packages.old) (row_text row.entry)) }
-    ensures next { IfOk result (λ next. next ≡ at + length (row_texts TextKind.Name (row_text row.entry))) }
+    ensures next { IfOk result (λ next. next ≡ at + length (row_texts (row_text row.entry))) }
 {
     let next = next_name(at, row)?;
     take_row(alloc, packages, texts, at, next, row, room)?;
@@ -216,8 +216,8 @@ pub(crate) fn take_packages<S: RowSource>(
     texts: RowTexts<'_>,
     source: &S,
 ) -> Result<PackageList, RowError>
-    requires ids { texts.ids.now.value ≡ stored_texts TextKind.Id (S.rows source.now) }
-    requires names { texts.names.now.value ≡ stored_texts TextKind.Name (S.rows source.now) }
+    requires ids { texts.ids.now.value ≡ stored_ids (S.rows source.now) }
+    requires names { texts.names.now.value ≡ stored_texts (S.rows source.now) }
     ensures tables { Reads package_tables result (first_or (faults_by row_fault (S.rows source.now)) (packages_of (S.rows source.now))) }
     ensures row { IfErr result (NamesRow (S.rows source.now)) }
 {

@@ -3,14 +3,14 @@ ghost use Rattle.std.specs.Prelude.{◌≡◌, IfOk, IfErr};
 ghost use Rattle.guppy_packages.specs.Graph.{NamesRow, Reads, tables_of};
 ghost use Rattle.guppy_packages.specs.Stored.{link_tables, package_tables};
 ghost use Rattle.guppy_packages.specs.Tables.{AreTables};
-ghost use Rattle.guppy_packages.specs.inner.RowTexts.{stored_texts};
+ghost use Rattle.guppy_packages.specs.inner.RowTexts.{stored_ids, stored_texts};
 
 use crate::contents::Link;
 use crate::first_pass::{RowTexts, take_packages};
 use crate::package_list::PackageList;
 use crate::row_error::RowError;
 use crate::row_source::RowSource;
-use crate::row_texts::{TextKind, stored_texts};
+use crate::row_texts::stored_texts;
 use crate::second_pass::take_links;
 use crate::text_list::TextList;
 use std::alloc::{AllocError, Global};
@@ -36,15 +36,16 @@ impl Model for PackageTables {
     ghost invariant = { λ t. AreTables (record { packages = package_tables t.packages; links = link_tables t.links.items }) };
 }
 
-/// Returns the texts of all rows that are of this kind, in row order. The errors are those of [`stored_texts`].
+/// Returns the ids and the names of all rows, in row order. The errors are those of [`stored_texts`].
 fn shared_texts<S: RowSource>(
     alloc: Global,
-    kind: TextKind,
     source: &S,
-) -> Result<Rc<TextList>, AllocError>
-    ensures { IfOk result (λ list. list.value ≡ stored_texts kind (S.rows source.now)) }
+) -> Result<(Rc<TextList>, Rc<TextList>), AllocError>
+    ensures ids { IfOk result (λ lists. lists.0.value ≡ stored_ids (S.rows source.now)) }
+    ensures names { IfOk result (λ lists. lists.1.value ≡ stored_texts (S.rows source.now)) }
 {
-    Ok(Rc::new(alloc, stored_texts(alloc, kind, source)?)?)
+    let (ids, names) = stored_texts(alloc, source)?;
+    Ok((Rc::new(alloc, ids)?, Rc::new(alloc, names)?))
 }
 
 /// Runs both passes and returns the packages and the links.
@@ -56,24 +57,20 @@ fn take_tables<S: RowSource>(
     ensures sound { IfOk result (λ both. AreTables (record { packages = package_tables both.0; links = link_tables both.1.items })) }
     ensures row { IfErr result (NamesRow (S.rows source.now)) }
 {
-    let ids = shared_texts(alloc, TextKind::Id, source)?;
-    let names = shared_texts(alloc, TextKind::Name, source)?;
-    let packages = take_packages(
-        alloc,
-        RowTexts {
-            ids: &ids,
-            names: &names,
-        },
-        source,
-    )?;
+    let (ids, names) = shared_texts(alloc, source)?;
+    let texts = RowTexts {
+        ids: &ids,
+        names: &names,
+    };
+    let packages = take_packages(alloc, texts, source)?;
     let links = take_links(alloc, &packages, &names, source)?;
     Ok((packages, links))
 }
 
 impl PackageTables {
     /// Returns the tables of the rows of `source`, or the first fault. Faults of rows by themselves precede those among all packages.
-    /// `Memory` is returned when an allocation fails, or if the texts of features and dependencies are more than 4294967295, or longer
-    /// than as many bytes. Each row is requested at most four times.
+    /// `Memory` is returned when an allocation fails, or if the ids of packages, or the texts of features and dependencies, are more than
+    /// 4294967295 or longer than as many bytes. Each row is requested at most four times.
     pub fn from_source<S: RowSource>(alloc: Global, source: &S) -> Result<PackageTables, RowError>
         ensures tables { Reads (λ tables. tables) result (tables_of (S.rows source.now)) }
         ensures row { IfErr result (NamesRow (S.rows source.now)) }

@@ -1,9 +1,10 @@
 //! The texts of all rows, in one list.
 ghost use Rattle.std.specs.Prelude.{◌≡◌, ◌+◌, ◌++◌, ◌∷◌, [], List, IfOk, OnOk, length};
 ghost use Rattle.std.specs.String.{string_bytes};
+ghost use Rattle.guppy_packages.specs.Parts.{AreEnds, parts};
 ghost use Rattle.guppy_packages.specs.Rows.{Text, row_text, texts};
 ghost use Rattle.guppy_packages.specs.inner.Pushed.{IsPushed};
-ghost use Rattle.guppy_packages.specs.inner.RowTexts.{row_texts, stored_texts};
+ghost use Rattle.guppy_packages.specs.inner.RowTexts.{row_ids, row_texts, stored_ids, stored_texts};
 
 use crate::narrow::narrow;
 use crate::pushing::push_to;
@@ -11,15 +12,6 @@ use crate::row::Row;
 use crate::row_source::RowSource;
 use crate::text_list::TextList;
 use std::alloc::{AllocError, Global};
-
-/// The lists of texts that a graph stores: the kind of a list's texts.
-#[derive(Clone, Copy)]
-pub(crate) enum TextKind {
-    /// Ids of packages.
-    Id,
-    /// Names of features with their items, and names of dependencies with the features that they list.
-    Name,
-}
 
 /// Appends `added` to `text`, and its end in `text` to `ends`. Returns `AllocError` if an allocation fails or the end doesn't fit in
 /// 32 bits.
@@ -44,7 +36,7 @@ fn push_texts(text: &mut String, ends: &mut Vec<u32>, added: &[&str]) -> Result<
 
 /// Appends the id of `row`, if it is a Package row. The errors are those of `push_text`.
 fn push_id(text: &mut String, ends: &mut Vec<u32>, row: Row) -> Result<(), AllocError>
-    ensures { OnOk result ((before : List Text) → IsPushed before (string_bytes text.old) ends.old.items → IsPushed (before ++ row_texts TextKind.Id (row_text row.entry)) (string_bytes text.new) ends.new.items) }
+    ensures { OnOk result ((before : List Text) → IsPushed before (string_bytes text.old) ends.old.items → IsPushed (before ++ row_ids (row_text row.entry)) (string_bytes text.new) ends.new.items) }
 {
     match row {
         Row::Package { id, .. } => push_text(text, ends, id),
@@ -54,7 +46,7 @@ fn push_id(text: &mut String, ends: &mut Vec<u32>, row: Row) -> Result<(), Alloc
 
 /// Appends the name in `row` and the features or items that it lists. The errors are those of `push_text`.
 fn push_names(text: &mut String, ends: &mut Vec<u32>, row: Row) -> Result<(), AllocError>
-    ensures { OnOk result ((before : List Text) → IsPushed before (string_bytes text.old) ends.old.items → IsPushed (before ++ row_texts TextKind.Name (row_text row.entry)) (string_bytes text.new) ends.new.items) }
+    ensures { OnOk result ((before : List Text) → IsPushed before (string_bytes text.old) ends.old.items → IsPushed (before ++ row_texts (row_text row.entry)) (string_bytes text.new) ends.new.items) }
 {
     let (name, others) = match row {
         Row::Package { .. } => return Ok(()),
@@ -65,24 +57,9 @@ fn push_names(text: &mut String, ends: &mut Vec<u32>, row: Row) -> Result<(), Al
     push_texts(text, ends, others)
 }
 
-/// Appends the texts of `row` that are of this kind. The errors are those of `push_text`.
-fn push_row(
-    text: &mut String,
-    ends: &mut Vec<u32>,
-    kind: TextKind,
-    row: Row,
-) -> Result<(), AllocError>
-    ensures { OnOk result ((before : List Text) → IsPushed before (string_bytes text.old) ends.old.items → IsPushed (before ++ row_texts kind (row_text row.entry)) (string_bytes text.new) ends.new.items) }
-{
-    match kind {
-        TextKind::Id => push_id(text, ends, row),
-        TextKind::Name => push_names(text, ends, row),
-    }
-}
-
 /// Returns the number of the first name of the next row, if that of `row` is `at`. Returns `AllocError` if it doesn't fit in 32 bits.
 pub(crate) fn next_name(at: usize, row: Row) -> Result<usize, AllocError>
-    ensures { IfOk result (λ next. next ≡ at + length (row_texts TextKind.Name (row_text row.entry))) }
+    ensures { IfOk result (λ next. next ≡ at + length (row_texts (row_text row.entry))) }
 {
     let count = match row {
         Row::Package { .. } => 0,
@@ -92,19 +69,25 @@ pub(crate) fn next_name(at: usize, row: Row) -> Result<usize, AllocError>
     Ok(narrow(at.saturating_add(count))? as usize)
 }
 
-/// Appends the texts of all rows that are of this kind, in row order. The errors are those of `push_text`.
+/// Appends the ids and the names of all rows, in row order. The errors are those of `push_text`.
 fn push_rows<S: RowSource>(
-    text: &mut String,
-    ends: &mut Vec<u32>,
-    kind: TextKind,
+    id_text: &mut String,
+    id_ends: &mut Vec<u32>,
+    name_text: &mut String,
+    name_ends: &mut Vec<u32>,
     source: &S,
 ) -> Result<(), AllocError>
-    requires text { string_bytes text.old ≡ [] }
-    requires ends { ends.old.items ≡ [] }
-    ensures { OnOk result (IsPushed (stored_texts kind (S.rows source.now)) (string_bytes text.new) ends.new.items) }
+    requires id_text { string_bytes id_text.old ≡ [] }
+    requires id_ends { id_ends.old.items ≡ [] }
+    requires name_text { string_bytes name_text.old ≡ [] }
+    requires name_ends { name_ends.old.items ≡ [] }
+    ensures ids { OnOk result (IsPushed (stored_ids (S.rows source.now)) (string_bytes id_text.new) id_ends.new.items) }
+    ensures names { OnOk result (IsPushed (stored_texts (S.rows source.now)) (string_bytes name_text.new) name_ends.new.items) }
 {
-    for row in 0..source.row_count() {
-        push_row(text, ends, kind, source.row(row))?;
+    for ix in 0..source.row_count() {
+        let row = source.row(ix);
+        push_id(id_text, id_ends, row)?;
+        push_names(name_text, name_ends, row)?;
     }
     Ok(())
 }
@@ -119,19 +102,37 @@ pub(crate) fn one_text(alloc: Global, text: &str) -> Result<TextList, AllocError
     Ok(TextList::new(whole, ends))
 }
 
-/// Returns the texts of all rows that are of this kind, in row order. Returns `AllocError` if an allocation fails, or if the texts are
+/// Returns the list of the texts that end at `ends`, one after the other in `text`, without spare capacity.
+fn trimmed(text: String, ends: Vec<u32>) -> TextList
+    requires { AreEnds 0 ends.items (string_bytes text) }
+    ensures { result ≡ parts 0 ends.items (string_bytes text) }
+{
+    let mut text = text;
+    let mut ends = ends;
+    text.shrink_to_fit();
+    ends.shrink_to_fit();
+    TextList::new(text, ends)
+}
+
+/// Returns the ids and the names of all rows, in row order. Returns `AllocError` if an allocation fails, or if the texts of a list are
 /// longer than 4294967295 bytes.
 pub(crate) fn stored_texts<S: RowSource>(
     alloc: Global,
-    kind: TextKind,
     source: &S,
-) -> Result<TextList, AllocError>
-    ensures { IfOk result (λ list. list ≡ stored_texts kind (S.rows source.now)) }
+) -> Result<(TextList, TextList), AllocError>
+    ensures ids { IfOk result (λ lists. lists.0 ≡ stored_ids (S.rows source.now)) }
+    ensures names { IfOk result (λ lists. lists.1 ≡ stored_texts (S.rows source.now)) }
 {
-    let mut text = String::new(alloc);
-    let mut ends = Vec::new(alloc);
-    push_rows(&mut text, &mut ends, kind, source)?;
-    text.shrink_to_fit();
-    ends.shrink_to_fit();
-    Ok(TextList::new(text, ends))
+    let mut id_text = String::new(alloc);
+    let mut id_ends = Vec::new(alloc);
+    let mut name_text = String::new(alloc);
+    let mut name_ends = Vec::new(alloc);
+    push_rows(
+        &mut id_text,
+        &mut id_ends,
+        &mut name_text,
+        &mut name_ends,
+        source,
+    )?;
+    Ok((trimmed(id_text, id_ends), trimmed(name_text, name_ends)))
 }

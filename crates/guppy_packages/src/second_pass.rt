@@ -21,7 +21,7 @@ use crate::pushing::push_to;
 use crate::row::Row;
 use crate::row_error::{RowError, RowFault};
 use crate::row_source::RowSource;
-use crate::row_texts::{TextKind, next_name};
+use crate::row_texts::next_name;
 use crate::shared::Shared;
 use crate::text_list::TextList;
 use crate::text_run::TextRun;
@@ -130,7 +130,7 @@ fn link_row(
     begun: usize,
     row: Row,
 ) -> Result<(), RowFault>
-    requires texts { AreAt list.now.value noted.old.at (row_texts TextKind.Name (row_text row)) }
+    requires texts { AreAt list.now.value noted.old.at (row_texts (row_text row)) }
     requires count { length noted.old.last.items ≡ length (package_tables packages.now) }
     requires noted { AreNoted (begun - 1) (link_tables links.old.items) noted.old.last.items noted.old.first }
     ensures tables { Takes (link_tables links.new.items) result (second_step (package_tables packages.now) begun (link_tables links.old.items) (row_text row.entry)) }
@@ -197,13 +197,13 @@ fn take_link(
     row: Row,
 ) -> Result<(), RowFault>
     requires few { noted.old.begun + 1 < 2 ^ 64 }
-    requires texts { AreAt list.now.value noted.old.at (row_texts TextKind.Name (row_text row)) }
+    requires texts { AreAt list.now.value noted.old.at (row_texts (row_text row)) }
     requires count { length noted.old.last.items ≡ length (package_tables packages.now) }
     requires noted { AreNoted (noted.old.begun - 1) (link_tables links.old.items) noted.old.last.items noted.old.first }
     ensures tables { Takes (link_tables links.new.items) result (second_step (package_tables packages.now) noted.old.begun (link_tables links.old.items) (row_text row.entry)) }
     ensures begun { OnOk result (noted.new.begun ≡ begun_after noted.old.begun (row_text row.entry)) }
     ensures few { OnOk result (noted.new.begun ≤ noted.old.begun + 1) }
-    ensures at { OnOk result (noted.new.at ≡ noted.old.at + length (row_texts TextKind.Name (row_text row.entry))) }
+    ensures at { OnOk result (noted.new.at ≡ noted.old.at + length (row_texts (row_text row.entry))) }
     ensures count { OnOk result (length noted.new.last.items ≡ length (package_tables packages.now)) }
     ensures noted { OnOk result (AreNoted (noted.new.begun - 1) (link_tables links.new.items) noted.new.last.items noted.new.first) }
 {
@@ -225,7 +225,7 @@ pub(crate) fn take_links<S: RowSource>(
     list: &Rc<TextList>,
     source: &S,
 ) -> Result<Vec<Link>, RowError>
-    requires { list.now.value ≡ stored_texts TextKind.Name (S.rows source.now) }
+    requires { list.now.value ≡ stored_texts (S.rows source.now) }
     ensures tables { Reads (λ links. link_tables links.items) result (first_or (faults_by (link_fault (package_tables packages.now)) (S.rows source.now)) (links_of (dependencies_of (package_tables packages.now) (S.rows source.now)))) }
     ensures row { IfErr result (NamesRow (S.rows source.now)) }
 {

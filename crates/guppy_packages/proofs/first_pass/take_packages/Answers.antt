@@ -3,7 +3,7 @@ use Rattle.guppy_packages.specs.Graph.{packages_of}
 use Rattle.guppy_packages.specs.Stored.{package_tables}
 use Rattle.guppy_packages.proofs.Lists.{drop_at}
 use Rattle.guppy_packages.proofs.Passes.{first_answers, first_goes_on}
-use Rattle.guppy_packages.specs.declared.row_texts.TextKind.TheVariants.{Id, Name}
+use Rattle.guppy_packages.specs.inner.RowTexts.{row_ids, row_texts}
 use Rattle.guppy_packages.proofs.RowTextLemmas.{next_at, row_at}
 use Rattle.guppy_packages.proofs.StepCounts.{step_count}
 use Rattle.guppy_packages.proofs.first_pass.take_packages.Goals as goal
@@ -12,13 +12,13 @@ pub take_row_at-requires-clause-ids : goal.take_row_at-requires-clause-ids
 take_row_at-requires-clause-ids g c =
     let all = g.S.RowSource.rows c.args.source.now in
     let i = c.loop-ix.ix in
-    rw c.loop-ix.invariant.count (row_at Id all i _ (drop_at all i _ c.row-row.ensures) c.args.texts.ids.now.value c.requires.ids)
+    rw c.loop-ix.invariant.count (row_at row_ids all i _ (drop_at all i _ c.row-row.ensures) c.args.texts.ids.now.value c.requires.ids)
 
 pub take_row_at-requires-clause-names : goal.take_row_at-requires-clause-names
 take_row_at-requires-clause-names g c =
     let all = g.S.RowSource.rows c.args.source.now in
     let i = c.loop-ix.ix in
-    rw c.loop-ix.invariant.at (row_at Name all i _ (drop_at all i _ c.row-row.ensures) c.args.texts.names.now.value c.requires.names)
+    rw c.loop-ix.invariant.at (row_at row_texts all i _ (drop_at all i _ c.row-row.ensures) c.args.texts.names.now.value c.requires.names)
 
 pub returns-in-Err-clause-tables : goal.returns-in-Err-clause-tables
 returns-in-Err-clause-tables g c =
@@ -39,6 +39,6 @@ loop-ix-preserved g c =
     record {
       none = next.0;
       tables = next.1;
-      at = next_at Name all i _ at within c.loop-ix.at c.in-Ok.next c.loop-ix.invariant.at c.in-Ok.ensures.next;
-      count = next_at Id all i _ at within _ _ c.loop-ix.invariant.count count;
+      at = next_at row_texts all i _ at within c.loop-ix.at c.in-Ok.next c.loop-ix.invariant.at c.in-Ok.ensures.next;
+      count = next_at row_ids all i _ at within _ _ c.loop-ix.invariant.count count;
     }

@@ -5,7 +5,6 @@ use Rattle.guppy_packages.specs.Parts.{first_text}
 use Rattle.guppy_packages.specs.Rows.{row_text, texts}
 use Rattle.guppy_packages.specs.inner.Noted.{AreNoted}
 use Rattle.guppy_packages.specs.inner.RowTexts.{AreAt, row_texts}
-use Rattle.guppy_packages.specs.declared.row_texts.TextKind.TheVariants.{Name}
 use Rattle.guppy_packages.proofs.second_pass.link_row.Goals as goal
 
 pub push_link-requires-clause-noted : goal.push_link-requires-clause-noted
@@ -19,7 +18,7 @@ returns-clause-tables c =
     let all = c.args.list.now.value in
     let name = c.in-Dep.name.now in
     let listed = texts c.in-Dep.features.now in
-    let at : AreAt all c.args.noted.now.at (name ∷ listed) = subst (λ r. AreAt all c.args.noted.now.at (row_texts Name (row_text r))) c.in-Dep.is c.requires.texts in
+    let at : AreAt all c.args.noted.now.at (name ∷ listed) = subst (λ r. AreAt all c.args.noted.now.at (row_texts (row_text r))) c.in-Dep.is c.requires.texts in
     let long : c.in_ok-count.field-0 + 1 ≡ length (name ∷ listed) = omega (arith, c.in_ok-count.ensures, length-map c.in-Dep.features.now (λ t. t.now)) in
     let run : c.in_ok-texts.texts ≡ name ∷ listed = c.in_ok-texts.ensures ∙ ap (λ n. take n (drop c.args.noted.now.at all)) long ∙ at.are in
     let named : first_text c.in_ok-declaration.declaration.texts ≡ name = ap first_text (c.in_ok-declaration.ensures.texts ∙ run) in

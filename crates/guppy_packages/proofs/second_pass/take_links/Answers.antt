@@ -4,15 +4,15 @@ use Rattle.guppy_packages.specs.Graph.{dependencies_of, faults_by, link_fault, l
 use Rattle.guppy_packages.specs.Stored.{link_tables, package_tables}
 use Rattle.guppy_packages.proofs.Lists.{drop_at}
 use Rattle.guppy_packages.proofs.Passes.{second_answers, second_goes_on}
+use Rattle.guppy_packages.specs.inner.RowTexts.{row_texts}
 use Rattle.guppy_packages.proofs.RowTextLemmas.{next_at, row_at}
-use Rattle.guppy_packages.specs.declared.row_texts.TextKind.TheVariants.{Name}
 use Rattle.guppy_packages.proofs.second_pass.take_links.Goals as goal
 
 pub take_link-requires-clause-texts : goal.take_link-requires-clause-texts
 take_link-requires-clause-texts g c =
     let all = g.S.RowSource.rows c.args.source.now in
     let i = c.loop-row.row in
-    rw c.loop-row.invariant.at (row_at Name all i _ (drop_at all i _ c.row.ensures) c.args.list.now.value c.requires)
+    rw c.loop-row.invariant.at (row_at row_texts all i _ (drop_at all i _ c.row.ensures) c.args.list.now.value c.requires)
 
 pub returns-in-Err-clause-tables : goal.returns-in-Err-clause-tables
 returns-in-Err-clause-tables g c =
@@ -36,7 +36,7 @@ loop-row-preserved g c =
       few = few;
       none = next.0;
       counted = c.in_default.ensures.begun ∙ next.1;
-      at = next_at Name all i _ at within c.loop-row.noted.at c.take_link.new.noted.at c.loop-row.invariant.at c.in_default.ensures.at;
+      at = next_at row_texts all i _ at within c.loop-row.noted.at c.take_link.new.noted.at c.loop-row.invariant.at c.in_default.ensures.at;
       size = c.in_default.ensures.count;
       noted = c.in_default.ensures.noted;
       tables = next.2;
