@@ -131,17 +131,18 @@ over_of_parts which passes links =
     ∙ ap (λ z. record { declarations = which; normal = joined_status Normal passes links; build = joined_status Build passes links; dev = joined_status Development passes links; package_links = z }) kept
 
 -- a list with one number
-the_one : (xs : List ℕ) → 1 ≤ length xs → length xs < 2 → xs ≡ get_or xs 0 0 ∷ []
-the_one [] least most = absurd (omega arith)
-the_one (x ∷ []) least most = refl
-the_one (x ∷ (y ∷ xs)) least most = absurd (omega arith)
+-- a list of one element
+pub the_one : {X : Type 0} (xs : List X) (d : X) → 1 ≤ length xs → length xs < 2 → xs ≡ get_or xs 0 d ∷ []
+the_one [] d least most = absurd (omega arith)
+the_one (x ∷ []) d least most = refl
+the_one (x ∷ (y ∷ xs)) d least most = absurd (omega arith)
 
 -- the link over a package link with exactly one declaration that passes
 pub one_covered : (t : Tables) (which : LinkDeclarations) (links : List ℕ) (link : LinkTable) (d : Declared) → 1 ≤ length links → length links < 2 → IsLink t (get_or links 0 0) link
     → filter (λ d. includes which d) link.declarations ≡ d ∷ [] → over_parts which ((get_or links 0 0, d ∷ []) ∷ []) ≡ over which (λ d. includes which d) (links_at t links)
 one_covered t which links link d least most is covered =
     let k : ℕ = get_or links 0 0 in
-    let found : links_at t links ≡ (k, link) ∷ [] = ap (links_at t) (the_one links least most) ∙ ap (λ o. cons_option (option_map (λ l. (k, l)) o) []) is in
+    let found : links_at t links ≡ (k, link) ∷ [] = ap (links_at t) (the_one links 0 least most) ∙ ap (λ o. cons_option (option_map (λ l. (k, l)) o) []) is in
     ap (λ z. over_parts which ((k, z) ∷ [])) (sym covered)
     ∙ over_of_parts which (λ d. includes which d) ((k, link) ∷ [])
     ∙ ap (over which (λ d. includes which d)) (sym found)
@@ -150,7 +151,7 @@ one_covered t which links link d least most is covered =
 pub one_place : (which : LinkDeclarations) (k : ℕ) (ds : List Declared) (places : List ℕ) (d : Declared) → 1 ≤ length places → length places < 2 → slice_get ds (get_or places 0 0) ≡ Some d
     → over_parts which ((k, d ∷ []) ∷ []) ≡ over_parts which ((k, at_places ds places) ∷ [])
 one_place which k ds places d least most there =
-    ap (λ z. over_parts which ((k, z) ∷ [])) (sym (ap (at_places ds) (the_one places least most) ∙ ap (λ o. cons_option o []) there))
+    ap (λ z. over_parts which ((k, z) ∷ [])) (sym (ap (at_places ds) (the_one places 0 least most) ∙ ap (λ o. cons_option o []) there))
 
 -- the links of a package under a name are those with their numbers
 numbered_at : (t : Tables) (test : ℕ × LinkTable → Bool) (q : ℕ) (ls : List LinkTable) → ((j : ℕ) (l : LinkTable) → slice_get ls j ≡ Some l → slice_get t.links (q + j) ≡ Some l)

@@ -1,13 +1,14 @@
 //! The names of links, compared by their first eight bytes where these differ.
-ghost use Rattle.std.specs.Prelude.{◌≡◌, ◌<◌, IfOk, slice_index};
+ghost use Rattle.std.specs.Prelude.{◌≡◌, IfOk, slice_index};
 ghost use Rattle.std.specs.Cmp.Lexicographic.{slice_cmp};
 ghost use Rattle.std.specs.Ordering.{nat_cmp};
 ghost use Rattle.std.specs.Str.{bytes_eq};
-ghost use Rattle.feature_links.specs.inner.LinkOrder.{link_name};
-ghost use Rattle.feature_links.specs.inner.Prefixes.{ArePrefixes, IsPrefix};
+ghost use Rattle.feature_links.specs.inner.LinkOrder.{HasPrefix, link_key, link_name};
+ghost use Rattle.feature_links.specs.inner.Prefixes.{IsPrefix, name_key};
+ghost use Rattle.feature_links.specs.NamedLinks.{number_of};
 
 use guppy_packages::PackageGraph;
-use std::alloc::{AllocError, Global};
+use std::alloc::AllocError;
 use std::cmp::Ordering;
 
 /// A name with its prefix: its first eight bytes as one number, the first byte highest. Zeroes stand for missing bytes.
@@ -30,62 +31,62 @@ impl<'a> Name<'a> {
     }
 }
 
-/// The names of a graph's links. `prefixes` contains the prefix of each name, by the number of its link.
-#[derive(Drop)]
-pub(crate) struct LinkNames<'g> {
-    pub(crate) graph: &'g PackageGraph,
-    prefixes: Vec<u64>,
-    pub(crate) ghost prefixed: { ArePrefixes graph.now prefixes.items },
+/// A link in a list by name: its number, and the prefix of its name.
+#[derive(Clone, Copy)]
+pub struct NamedLink {
+    prefix: u64,
+    number: u32,
 }
 
-impl<'g> LinkNames<'g> {
-    /// Returns the names of the links of `graph`. `AllocError` is the only error.
-    pub(crate) fn new(alloc: Global, graph: &'g PackageGraph) -> Result<Self, AllocError>
-        ensures { IfOk result (λ names. names.graph.now ≡ graph.now) }
+impl NamedLink {
+    /// Returns link `number` of `graph`, or `AllocError` if the number doesn't fit in 32 bits.
+    pub(crate) fn new(graph: &PackageGraph, number: usize) -> Result<Self, AllocError>
+        ensures number { IfOk result (λ link. number_of link ≡ number) }
+        ensures prefix { IfOk result (λ link. HasPrefix graph.now link) }
     {
-        let mut prefixes = Vec::with_capacity(alloc, graph.link_count())?;
-        for ix in 0..graph.link_count() {
-            prefixes.push(prefix_of(dep_name_at(graph, ix).as_bytes()))?;
+        if number > u32::MAX as usize {
+            return Err(AllocError);
         }
-        Ok(LinkNames { graph, prefixes })
+        Ok(NamedLink {
+            prefix: prefix_of(dep_name_at(graph, number).as_bytes()),
+            number: number as u32,
+        })
     }
 
-    /// Returns the prefix of the name of link `ix`, or 0 if there is no such link.
-    fn prefix_at(&self, ix: usize) -> u64
-        ensures { result ≡ slice_index self.now.prefixes.items ix }
+    /// Returns the link's number.
+    pub fn number(self) -> usize
+        ensures { result ≡ number_of self }
     {
-        if ix < self.prefixes.len() {
-            self.prefixes[ix]
-        } else {
-            0
-        }
+        self.number as usize
     }
 
-    /// Returns the order of the names of the links `x` and `y`.
-    pub(crate) fn cmp_links(&self, x: usize, y: usize) -> Ordering
-        ensures { result ≡ slice_cmp nat_cmp (link_name self.now.graph.now x) (link_name self.now.graph.now y) }
+    /// Returns the order of the links `self` and `other` of `graph`, by prefix and name.
+    pub(crate) fn cmp_link(self, graph: &PackageGraph, other: NamedLink) -> Ordering
+        ensures { result ≡ slice_cmp nat_cmp (link_key graph.now self) (link_key graph.now other) }
     {
-        match self.prefix_at(x).cmp(&self.prefix_at(y)) {
-            Ordering::Equal => dep_name_at(self.graph, x).cmp(dep_name_at(self.graph, y)),
+        match self.prefix.cmp(&other.prefix) {
+            Ordering::Equal => {
+                dep_name_at(graph, self.number()).cmp(dep_name_at(graph, other.number()))
+            }
             unequal => unequal,
         }
     }
 
-    /// Returns the order of the name of link `ix` and `name`.
-    pub(crate) fn cmp_name(&self, ix: usize, name: Name<'_>) -> Ordering
-        ensures { result ≡ slice_cmp nat_cmp (link_name self.now.graph.now ix) name.entry.text.now }
+    /// Returns the order of the link's name and `name`, by prefix and name.
+    pub(crate) fn cmp_name(self, graph: &PackageGraph, name: Name<'_>) -> Ordering
+        ensures { result ≡ slice_cmp nat_cmp (link_key graph.now self) (name_key name.entry.text.now) }
     {
-        match self.prefix_at(ix).cmp(&name.prefix) {
-            Ordering::Equal => dep_name_at(self.graph, ix).cmp(name.text),
+        match self.prefix.cmp(&name.prefix) {
+            Ordering::Equal => dep_name_at(graph, self.number()).cmp(name.text),
             unequal => unequal,
         }
     }
 
-    /// Returns whether link `ix` has the name `name`.
-    pub(crate) fn has_name(&self, ix: usize, name: Name<'_>) -> bool
-        ensures { result ≡ bytes_eq name.entry.text.now (link_name self.now.graph.now ix) }
+    /// Returns whether the link has the name `name`.
+    pub(crate) fn has_name(self, graph: &PackageGraph, name: Name<'_>) -> bool
+        ensures { result ≡ bytes_eq (name_key name.entry.text.now) (link_key graph.now self) }
     {
-        name.prefix == self.prefix_at(ix) && name.text == dep_name_at(self.graph, ix)
+        name.prefix == self.prefix && name.text == dep_name_at(graph, self.number())
     }
 }
 

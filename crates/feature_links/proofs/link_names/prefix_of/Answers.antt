@@ -25,4 +25,4 @@ loop-place-preserved c = (
 pub returns : goal.returns
 returns c =
     let all : c.loop-place.place ≡ 8 = omega arith in
-    record { bytes = λ k. (c.type_inv.text k).fits; value = c.loop-place.invariant.0 ∙ ap (λ n. first_bytes n c.args.text.now) all }
+    c.loop-place.invariant.0 ∙ ap (λ n. first_bytes n c.args.text.now) all

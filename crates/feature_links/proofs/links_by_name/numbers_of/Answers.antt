@@ -1,37 +1,39 @@
-use Rattle.std.proofs.Common.{◌∙◌, ◌-◌, ap, arith, drop, length, sym, subst, take}
+use Rattle.std.proofs.Common.{◌∙◌, ◌-◌, ap, arith, drop, length, map, sym, subst, take}
 use Rattle.std.specs.Prelude.{filter}
 use Rattle.std.specs.Str.{bytes_eq}
 use Rattle.guppy_packages.specs.Metadata.{package_number_of}
 use Rattle.guppy_packages.specs.Tables.{AreLinksFrom}
-use Rattle.feature_links.specs.inner.LinkOrder.{AreOrdered, link_name}
+use Rattle.feature_links.specs.inner.LinkOrder.{AreOrdered, link_key}
+use Rattle.feature_links.specs.inner.Prefixes.{name_key}
+use Rattle.feature_links.specs.NamedLinks.{number_of}
 use Rattle.feature_links.proofs.LinkOrderLemmas.{none_under, part_ordered, part_under}
 use Rattle.feature_links.proofs.links_by_name.numbers_of.Goals as goal
 
 pub returns-then-from-package_count : goal.returns-then-from-package_count
-returns-then-from-package_count c = sym (none_under c.args.groups.now.names.graph.now c.facts.ensures c.args.from c.args.name.now c.args.groups.now.numbers.items (omega (arith, c.if-from-package_count.true, c.package_count.ensures)))
+returns-then-from-package_count c = none_under c.args.groups.now.graph.now c.facts.ensures c.args.from c.args.name.now c.args.groups.now.links.items (omega (arith, c.if-from-package_count.true, c.package_count.ensures))
 
-pub numbers_named-requires : goal.numbers_named-requires
-numbers_named-requires c =
+pub links_with_name-requires : goal.links_with_name-requires
+links_with_name-requires c =
     let groups = c.args.groups.now in
-    let t = groups.names.graph.now in
-    let start = c.direct_links-links.result.start in
-    let end = c.direct_links-links.result.end in
+    let t = groups.graph.now in
+    let start = c.direct_links-range.result.start in
+    let end = c.direct_links-range.result.end in
     let from : AreLinksFrom t.links c.args.from start end =
     subst (λ z. AreLinksFrom t.links z start end) c.package.ensures.number
-    (subst (λ g. AreLinksFrom g.links (package_number_of c.package.result) start end) c.package.ensures.graph c.direct_links-links.ensures) in
+    (subst (λ g. AreLinksFrom g.links (package_number_of c.package.result) start end) c.package.ensures.graph c.direct_links-range.ensures) in
     subst (λ xs. AreOrdered t (take (end - start) (drop start xs))) (sym c.deref.ensures.value)
-    (part_ordered t (length t.packages) groups.numbers.items groups.by_name c.args.from start end (omega (arith, c.if-from-package_count.false, c.package_count.ensures)) from)
+    (part_ordered t (length t.packages) groups.links.items groups.by_name c.args.from start end (omega (arith, c.if-from-package_count.false, c.package_count.ensures)) from)
 
 pub returns : goal.returns
 returns c =
     let groups = c.args.groups.now in
-    let t = groups.names.graph.now in
+    let t = groups.graph.now in
     let name = c.args.name.now in
-    let start = c.direct_links-links.result.start in
-    let end = c.direct_links-links.result.end in
+    let start = c.direct_links-range.result.start in
+    let end = c.direct_links-range.result.end in
     let from : AreLinksFrom t.links c.args.from start end =
     subst (λ z. AreLinksFrom t.links z start end) c.package.ensures.number
-    (subst (λ g. AreLinksFrom g.links (package_number_of c.package.result) start end) c.package.ensures.graph c.direct_links-links.ensures) in
-    c.numbers_named.ensures
-    ∙ ap (λ xs. filter (λ k. bytes_eq name (link_name t k)) (take (end - start) (drop start xs))) c.deref.ensures.value
-    ∙ part_under t (length t.packages) groups.numbers.items groups.by_name c.args.from start end (omega (arith, c.if-from-package_count.false, c.package_count.ensures)) from name
+    (subst (λ g. AreLinksFrom g.links (package_number_of c.package.result) start end) c.package.ensures.graph c.direct_links-range.ensures) in
+    ap (map number_of) (c.links_with_name.ensures
+    ∙ ap (λ xs. filter (λ l. bytes_eq (name_key name) (link_key t l)) (take (end - start) (drop start xs))) c.deref.ensures.value)
+    ∙ part_under t (length t.packages) groups.links.items groups.by_name c.args.from start end (omega (arith, c.if-from-package_count.false, c.package_count.ensures)) from name

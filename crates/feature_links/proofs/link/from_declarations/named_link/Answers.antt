@@ -1,26 +1,34 @@
-use Rattle.std.proofs.Common.{◌≡◌, ◌∙◌, Some, ap, subst}
+use Rattle.std.proofs.Common.{◌≡◌, ◌∙◌, ◌<◌, ℕ, List, [], ◌∷◌, Some, length, map, ap, sym, subst}
 use Rattle.std.specs.Prelude.{slice_get}
-use Rattle.feature_links.specs.Links.{over, includes, links_at}
-use Rattle.feature_links.specs.NamedLinks.{link_numbers}
 use Rattle.std.proofs.lemmas.Result.{IfOk-weaker}
-use Rattle.feature_links.proofs.LinkLemmas.{named_at}
+use Rattle.guppy_packages.specs.Rows.{Text}
+use Rattle.guppy_packages.specs.Tables.{Tables}
+use Rattle.feature_labels.specs.declared.link_declarations.LinkDeclarations.{LinkDeclarations}
+use Rattle.feature_links.specs.Links.{by_name, includes, links_at, over}
+use Rattle.feature_links.specs.NamedLinks.{link_numbers, number_of}
+use Rattle.feature_links.proofs.LinkLemmas.{named_at, the_one}
 use Rattle.feature_links.proofs.GroupedLinks.{numbers_below}
 use Rattle.feature_links.proofs.link.from_declarations.named_link.Goals as goal
 
+module _ (t : Tables) (p : ℕ) (name : Text) (numbers : List ℕ) (are : numbers ≡ link_numbers t p name) where
+  below : (i k : ℕ) → slice_get numbers i ≡ Some k → k < length t.links
+  below i k h = numbers_below t p name i k (subst (λ z. slice_get z i ≡ Some k) are h)
+
+  by_numbers : (which : LinkDeclarations) → over which (λ x. includes which x) (links_at t numbers) ≡ by_name t p which name
+  by_numbers which = ap (λ z. over which (λ x. includes which x) (links_at t z)) are ∙ ap (over which (λ x. includes which x)) (named_at t p name)
+
 pub links_over-requires : goal.links_over-requires
-links_over-requires c i k h =
-    let t = c.args.graph.now in
-    let p = c.args.package_ix in
-    let d = c.args.name.now in
-    let links : c.numbers_of-links.result.now ≡ link_numbers t p d = c.numbers_of-links.ensures ∙ c.requires p d in
-    numbers_below t p d i k (subst (λ z. slice_get z i ≡ Some k) links h)
+links_over-requires c = below c.args.graph.now c.args.package_ix c.args.name.now (c.number.result ∷ [])
+    (ap (λ z. z ∷ []) c.number.ensures ∙ sym (ap (map number_of) (the_one c.numbers_of-links.result.now _ c.in-len1.len_at_least c.in-len1.len_below)) ∙ c.numbers_of-links.ensures ∙ c.requires c.args.package_ix c.args.name.now)
+
+pub returns-in-len1 : goal.returns-in-len1
+returns-in-len1 c = IfOk-weaker c.links_over.result _ _ (λ l holds. holds ∙ by_numbers c.args.graph.now c.args.package_ix c.args.name.now (c.number.result ∷ [])
+    (ap (λ z. z ∷ []) c.number.ensures ∙ sym (ap (map number_of) (the_one c.numbers_of-links.result.now _ c.in-len1.len_at_least c.in-len1.len_below)) ∙ c.numbers_of-links.ensures ∙ c.requires c.args.package_ix c.args.name.now) c.args.which) c.links_over.ensures
+
+pub links_over-requires-2 : goal.links_over-requires-2
+links_over-requires-2 c = below c.args.graph.now c.args.package_ix c.args.name.now c.deref.result.now
+    (c.deref.ensures.value ∙ c.in_ok-numbers.ensures ∙ c.numbers_of-links.ensures ∙ c.requires c.args.package_ix c.args.name.now)
 
 pub returns : goal.returns
-returns c =
-    let t = c.args.graph.now in
-    let p = c.args.package_ix in
-    let d = c.args.name.now in
-    IfOk-weaker c.links_over.result _ _ (λ l holds.
-    holds
-    ∙ ap (λ z. over c.args.which (λ x. includes c.args.which x) (links_at t z)) (c.numbers_of-links.ensures ∙ c.requires p d)
-    ∙ ap (over c.args.which (λ x. includes c.args.which x)) (named_at t p d)) c.links_over.ensures
+returns c = IfOk-weaker c.links_over-2.result _ _ (λ l holds. holds ∙ by_numbers c.args.graph.now c.args.package_ix c.args.name.now c.deref.result.now
+    (c.deref.ensures.value ∙ c.in_ok-numbers.ensures ∙ c.numbers_of-links.ensures ∙ c.requires c.args.package_ix c.args.name.now) c.args.which) c.links_over-2.ensures

@@ -1,6 +1,0 @@
-use Rattle.std.proofs.Common.{◌≡◌}
-use Rattle.std.specs.List.{range_with_len}
-use Rattle.feature_links.proofs.link_groups.numbers_below.Given as goal
-
-abbrev pub invariant-loop-ix : goal.invariant-loop-ix
-invariant-loop-ix l = l.numbers.items ≡ range_with_len 0 l.ix
