@@ -14,8 +14,8 @@ use std::alloc::{AllocError, Global};
 use std::cmp::Ordering;
 use std::ops::Range;
 
-/// The links of each package by name. At the places `direct_links()` of a package, `links` contains these links, by name in byte
-/// order. Links of one name ascend.
+/// The links of each package by name. At the places `direct_links()` of a package, `links` contains these links, by prefix and name.
+/// Links of one name ascend.
 #[derive(Drop)]
 pub struct LinkGroups<'g> {
     pub(crate) graph: &'g PackageGraph,
