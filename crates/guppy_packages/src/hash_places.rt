@@ -136,7 +136,7 @@ impl HashPlaces {
     pub(crate) fn with_capacity(alloc: Global, room: usize) -> Result<HashPlaces, AllocError>
         ensures { IfOk result (λ places. places ≡ []) }
     {
-        let slots = empty_slots(alloc, room.saturating_mul(3).saturating_add(32))?;
+        let slots = empty_slots(alloc, room.saturating_mul(2).saturating_add(32))?;
         let hashes = Vec::with_capacity(alloc, room)?;
         Ok(HashPlaces { slots, hashes })
     }
