@@ -132,7 +132,7 @@ impl Named for NamedFeature {
         self.texts.first()
     }
 
-    #[inline]
+    #[inline(always)]
     fn is_named(&self, other: &str) -> bool {
         let bytes = other.as_bytes();
         if bytes.len() > SHORT {
