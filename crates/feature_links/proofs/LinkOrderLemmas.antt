@@ -183,7 +183,7 @@ module _ (t : Tables) (start end : ℕ) (old new : List NamedLink) (s : IsPartSo
           ∙ sym (get_or-append_right s.part s.back (length s.part) (k - start) d refl (omega (arith, m, l, s.end_is)))
           ∙ sym (get_or-append_right s.front (s.part ++ s.back) start k d s.start_is l)
 
-  -- what holds for the links of the part, holds for the sorted ones
+  -- each property that all links of the part have, all sorted links have
   part_holds : (P : NamedLink → Type 0) → ((k : ℕ) (d : NamedLink) → start ≤ k → k < end → P (get_or old k d)) → All P s.part
   part_holds P holds i d l =
       let place : ℕ = start + i in

@@ -25,7 +25,7 @@ Takes-map f new (Err UnknownTarget) given h = ap (result_map f) h
 Takes-map f new (Err OtherName) given h = ap (result_map f) h
 Takes-map f new (Err Memory) given h = tt
 
--- the last package, where ids and data are apart
+-- the last package: ids and contents are two lists
 module _ (ids : List Text) (ds : List PackageData) (even : length ds ≡ length ids) (n : ℕ) (long : n ≡ length ds) (some : 0 < n) (d : PackageData) where
   pub last_at : d ≡ get_or ds (n - 1) d → (id : Text) × (slice_get (zip ids ds) (length (zip ids ds) - 1) ≡ Some (id, d))
   last_at is =
@@ -36,7 +36,7 @@ module _ (ids : List Text) (ds : List PackageData) (even : length ds ≡ length 
       let datum = slice_get-get_or ds k d (omega arith) ∙ ap Some (ap (λ j. get_or ds j d) (sym back) ∙ sym is) in
       (get_or ids k [], ap (slice_get (zip ids ds)) place ∙ zip_at ids ds k (get_or ids k []) d id datum)
 
-  -- other data in its place
+  -- its contents replaced by others
   pub last_put : (id : Text) (new : PackageData) → slice_get (zip ids ds) (length (zip ids ds) - 1) ≡ Some (id, d) → zip ids (set ds (n - 1) new) ≡ set (zip ids ds) (length (zip ids ds) - 1) (id, new)
   last_put id new at =
       let place : n - 1 ≡ length (zip ids ds) - 1 = omega (arith, length-zip ids ds) in
