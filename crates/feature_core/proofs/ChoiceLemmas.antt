@@ -16,7 +16,8 @@ use Rattle.feature_edges.specs.Choices.{is_chosen, chosen_pairs, is_chosen_edge,
 use Rattle.std.proofs.lemmas.Bool.{eqb-true, eqb-false}
 use Rattle.feature_core.proofs.Answered.{decide}
 use Rattle.feature_edges.proofs.AddsLemmas.{Contains-first, Contains-later, Contains-cases, Contains-none}
-use Rattle.feature_core.proofs.PairReach.{Along-weaker, member_alike}
+use Rattle.feature_core.proofs.PairReach.{member_alike}
+use Rattle.order_views.proofs.AlongLemmas.{along_weaker}
 use Rattle.feature_edges.proofs.PushLemmas.{from_filter, into_filter, from_map, into_map}
 
 -- `All` chooses all edges
@@ -91,12 +92,10 @@ chosen_leads t b which Reverse x u w = chosen_pair t which b.edges b.weak x.edge
 
 -- the reach over the chosen pairs is the reach over the chosen edges
 pub chosen_alike : (t : Tables) (b : Built) (which : EdgeChoice) (direction : DependencyDirection) (initials : ℕ → Bool) (n : ℕ) (P : Type 0) → IsBuilt t b → (P ↔ ReachAlong (PairLeads (chosen_pairs which b.edges) direction) initials n) → (P ↔ ChosenReach t which direction initials n)
-chosen_alike t b which direction initials n P x both =
-    let by : ℕ → ℕ → Type 0 = PairLeads (chosen_pairs which b.edges) direction in
-    let to : ℕ → ℕ → Type 0 = ChosenLeads t which direction in (
-      (λ p. let r = both.0 p in (r.0, r.1, Along-weaker by to (λ u w. (chosen_leads t b which direction x u w).0) r.0 n r.2)),
-      (λ r. both.1 (r.0, r.1, Along-weaker to by (λ u w. (chosen_leads t b which direction x u w).1) r.0 n r.2)),
-    )
+chosen_alike t b which direction initials n P x both = (
+  (λ p. let r = both.0 p in (r.0, r.1, along_weaker (λ u w. (chosen_leads t b which direction x u w).0) r.2)),
+  (λ r. both.1 (r.0, r.1, along_weaker (λ u w. (chosen_leads t b which direction x u w).1) r.2)),
+)
 
 -- if all are chosen, it is the reach over all edges
 pub all_alike : (t : Tables) (b : Built) (which : EdgeChoice) (direction : DependencyDirection) (initials : ℕ → Bool) (n : ℕ) (P : Type 0) → which ≡ All → IsBuilt t b → (P ↔ ReachAlong (PairLeads (chosen_pairs which b.edges) direction) initials n) → (P ↔ Reach t direction initials n)

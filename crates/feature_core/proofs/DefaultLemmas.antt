@@ -19,7 +19,7 @@ use Rattle.feature_edges.specs.Choices.{is_chosen_edge, chosen_pairs, ChosenEdge
 use Rattle.feature_core.specs.Defaults.{IsDefaultFeature, by_name, by_base, IsDefault}
 use Rattle.feature_edges.proofs.AddsLemmas.{place_below}
 use Rattle.feature_core.proofs.ChoiceLemmas.{chosen_pair}
-use Rattle.feature_core.proofs.PairReach.{Along-weaker}
+use Rattle.order_views.proofs.AlongLemmas.{along_more, along_weaker}
 use Rattle.feature_edges.proofs.Places.{got_same, node_back}
 use Rattle.feature_edges.proofs.LabelLemmas.{one_base}
 use Rattle.feature_core.proofs.WayNumbers.{marked_set, marked_grows, marked_cases}
@@ -59,11 +59,6 @@ starts_in : (t : Tables) (p n : ℕ) → IsDefaultFeature t p n → IsIn t p n
 starts_in t p n (by_name at) = (named (codes "default"), at)
 starts_in t p n (by_base none at) = (base, at)
 
--- a path and one step more
-along_more : (Step : ℕ → ℕ → Type 0) (u v w : ℕ) → Along Step u v → Step v w → Along Step u w
-along_more Step u v w (nowhere {u = a}) s = onward s nowhere
-along_more Step u v w (onward {u = a} {v = b} {w = c} step rest) s = onward step (along_more Step b c w rest s)
-
 -- a set closed under steps contains the end of each path from its members
 along_in : (Step : ℕ → ℕ → Type 0) (S : ℕ → Type 0) → ((u w : ℕ) → Step u w → S u → S w) → (u w : ℕ) → Along Step u w → S u → S w
 along_in Step S f u w (nowhere {u = a}) s = s
@@ -86,7 +81,7 @@ walked t edges weak initials marks built starts reached n = (
           node = e.1;
           start = r.0;
           is_start = d.1;
-          path = Along-weaker leads (ChosenEdge t FeatureToBaseAndNamed) chosen r.0 n r.2;
+          path = along_weaker chosen r.2;
         },
       ))),
   (λ h. ∥∥₁_elim h (Bool-set _ _) (λ x. along_in (ChosenEdge t FeatureToBaseAndNamed) (λ k. IsTrue (has marks k)) more x.1.start n x.1.path (first x.0 x.1.start x.1.is_start))),
@@ -104,7 +99,7 @@ walked t edges weak initials marks built starts reached n = (
     more : (u w : ℕ) → ChosenEdge t FeatureToBaseAndNamed u w → IsTrue (has marks u) → IsTrue (has marks w)
     more u w h m =
         let r = (reached u).0 m in
-        (reached w).1 (r.0, r.1, along_more leads r.0 u w r.2 ((chosen_pair t FeatureToBaseAndNamed edges weak built u w).1 h))
+        (reached w).1 (r.0, r.1, along_more r.2 ((chosen_pair t FeatureToBaseAndNamed edges weak built u w).1 h))
 
 -- a node is below the number of nodes
 pub start_below : (t : Tables) (p n : ℕ) → IsDefaultFeature t p n → n < length (node_packages t)

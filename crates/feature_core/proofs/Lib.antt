@@ -8,8 +8,8 @@ pub mod Released
 pub mod ReleaseTables
 pub mod ReleaseSteps
 pub mod PackedLemmas
-pub mod ChosenWayLemmas
-pub mod AskingLemmas
+pub mod ChosenEdgeLemmas
+pub mod DirectedLemmas
 pub mod NameLemmas
 pub mod PairReach
 pub mod ChoiceLemmas

@@ -40,6 +40,12 @@ edge_of_facts k (e ∷ es) [] x p = absurd (cc)
 edge_of_facts zero (e ∷ es) (f ∷ fs) x p = (e, refl, some_ap (λ z. z.0) (e.from, e.to, f) x p, some_ap (λ z. z.1) (e.from, e.to, f) x p)
 edge_of_facts (suc k) (e ∷ es) (f ∷ fs) x p = edge_of_facts k es fs x p
 
+pub value_of_facts : (k : ℕ) (es : List Edge) (fs : List EdgeFacts) (x : ℕ × ℕ × EdgeFacts) → slice_get (built_edges es fs) k ≡ Some x → slice_get fs k ≡ Some x.2
+value_of_facts k [] fs x p = absurd (cc)
+value_of_facts k (e ∷ es) [] x p = absurd (cc)
+value_of_facts zero (e ∷ es) (f ∷ fs) x p = ap (λ (y : ℕ × ℕ × EdgeFacts). Some y.2) (got_same (e.from, e.to, f) x p)
+value_of_facts (suc k) (e ∷ es) (f ∷ fs) x p = value_of_facts k es fs x p
+
 -- in reverse no half waits
 none_asked : (f : EdgeFacts) → IsFalse (is_gated (asked Reverse f))
 none_asked base_edge = refl

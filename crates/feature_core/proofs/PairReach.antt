@@ -4,13 +4,9 @@ use Rattle.std.specs.Prelude.{◌↔◌}
 use Rattle.feature_edges.specs.guppy_packages.Tables.{Tables}
 use Rattle.feature_edges.specs.guppy_packages.declared.direction.DependencyDirection.{DependencyDirection}
 use Rattle.feature_edges.specs.guppy_packages.declared.direction.DependencyDirection.TheVariants.{Forward, Reverse}
-use Rattle.feature_edges.specs.Pairs.{Along, nowhere, onward, ReachAlong, Reach, PairLeads, LeadsTo, IsPairList}
+use Rattle.feature_edges.specs.Pairs.{ReachAlong, Reach, PairLeads, LeadsTo, IsPairList}
 use Rattle.feature_core.specs.Built.{Built, IsBuilt, ends_of}
-
--- a path over steps that are all steps of another kind
-pub Along-weaker : (P Q : ℕ → ℕ → Type 0) → ((u w : ℕ) → P u w → Q u w) → (u w : ℕ) → Along P u w → Along Q u w
-Along-weaker P Q f u w (nowhere {u = v}) = nowhere
-Along-weaker P Q f u w (onward {u = a} {v = v} {w = b} step rest) = onward (f a v step) (Along-weaker P Q f v b rest)
+use Rattle.order_views.proofs.AlongLemmas.{along_weaker}
 
 -- a pair of the list leads if and only if a candidate does
 pub leads_alike : (t : Tables) (pairs : List (ℕ × ℕ)) (direction : DependencyDirection) → IsPairList t pairs → (u w : ℕ) → PairLeads pairs direction u w ↔ LeadsTo t direction u w
@@ -19,8 +15,8 @@ leads_alike t pairs Reverse h u w = h.exact w u
 
 pub reach_alike : (t : Tables) (b : Built) (direction : DependencyDirection) (initials : ℕ → Bool) (n : ℕ) → IsBuilt t b → ReachAlong (PairLeads (ends_of b.edges) direction) initials n ↔ Reach t direction initials n
 reach_alike t b direction initials n h = (
-  (λ r. (r.0, r.1, Along-weaker (PairLeads (ends_of b.edges) direction) (LeadsTo t direction) (λ u w. (leads_alike t (ends_of b.edges) direction h.pairs u w).0) r.0 n r.2)),
-  (λ r. (r.0, r.1, Along-weaker (LeadsTo t direction) (PairLeads (ends_of b.edges) direction) (λ u w. (leads_alike t (ends_of b.edges) direction h.pairs u w).1) r.0 n r.2)),
+  (λ r. (r.0, r.1, along_weaker (λ u w. (leads_alike t (ends_of b.edges) direction h.pairs u w).0) r.2)),
+  (λ r. (r.0, r.1, along_weaker (λ u w. (leads_alike t (ends_of b.edges) direction h.pairs u w).1) r.2)),
 )
 
 -- the reach over the pairs is the reach over the edges

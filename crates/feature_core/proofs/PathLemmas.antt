@@ -11,6 +11,7 @@ use Rattle.feature_edges.specs.feature_links.Facts.{EdgeFacts}
 use Rattle.feature_core.specs.Built.{Built, IsBuilt, digraph_of, end_of, ends_of}
 use Rattle.feature_edges.specs.Pairs.{Along, nowhere, onward, LeadsTo, HasCandidate, Reach}
 use Rattle.feature_edges.proofs.PushLemmas.{from_map, into_map}
+use Rattle.order_views.proofs.AlongLemmas.{along_more}
 
 -- ---- an edge of the digraph is a candidate
 
@@ -32,10 +33,6 @@ path_more : (es : List Edge) (a b c : ℕ) → Path es a b → HasEdge es b c �
 path_more es a b c (ended {a = u}) e = along e ended
 path_more es a b c (along {a = u} {b = v} {c = w} f rest) e = along f (path_more es v w c rest e)
 
-along_more : (Step : ℕ → ℕ → Type 0) (a b c : ℕ) → Along Step a b → Step b c → Along Step a c
-along_more Step a b c (nowhere {u = u}) s = onward s nowhere
-along_more Step a b c (onward {u = u} {v = v} {w = w} f rest) s = onward f (along_more Step v w c rest s)
-
 -- ---- both directions
 
 module _ (t : Tables) (b : Built) (h : IsBuilt t b) where
@@ -55,7 +52,7 @@ module _ (t : Tables) (b : Built) (h : IsBuilt t b) where
 
   back : (n a : ℕ) → Path (digraph_of b).edges n a → Along (LeadsTo t Reverse) a n
   back n a (ended {a = u}) = nowhere
-  back n a (along {a = u} {b = v} {c = w} e rest) = along_more (LeadsTo t Reverse) w v u (back v w rest) (leads u v e)
+  back n a (along {a = u} {b = v} {c = w} e rest) = along_more (back v w rest) (leads u v e)
 
   of_back : (a n : ℕ) → Along (LeadsTo t Reverse) a n → Path (digraph_of b).edges n a
   of_back a n (nowhere {u = u}) = ended

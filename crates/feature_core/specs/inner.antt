@@ -1,4 +1,3 @@
 pub mod OpenWays
-pub mod ChosenWays
+pub mod ChosenEdges
 pub mod Releases
-pub mod Asking

@@ -1,27 +1,34 @@
 //! Reach over chosen edges of a digraph.
-ghost use Rattle.std.specs.Prelude.{◌≡◌, ◌↔◌, ℕ, false, IfOk, IsTrue, length};
+ghost use Rattle.std.specs.Prelude.{◌≡◌, ◌↔◌, ◌<◌, ℕ, IfOk, IsTrue, length};
 ghost use Rattle.guppy_support.specs.Bits.{has};
 ghost use Rattle.feature_edges.specs.Pairs.{PairLeads, ReachAlong};
 ghost use Rattle.feature_core.specs.Built.{built_edges};
 ghost use Rattle.feature_edges.specs.Choices.{chosen_pairs};
+ghost use Rattle.feature_core.specs.inner.ChosenEdges.{is_chosen_at};
 
-use crate::directed_edges::Packed;
 use feature_edges::{DependencyDirection, EdgeChoice, EdgeList};
 use guppy_support::{Digraph, IxBitSet};
+use order_views::{EdgeFilter, reach};
 use std::alloc::{AllocError, Global};
-use walk_engine::{Half, Offerer, walk_over};
 
-/// An offerer that refuses each offer.
+/// Follows the edges that `which` chooses.
 #[derive(Drop)]
-struct NoOffers;
+struct ChosenEdges<'a> {
+    edges: &'a EdgeList,
+    which: EdgeChoice,
+}
 
-impl Offerer for NoOffers {
-    ghost can_offer = { λ _ _ _. Unit {0} };
+impl EdgeFilter for ChosenEdges<'_> {
+    ghost knows = { λ f k. k < length f.edges.now };
 
-    ghost gives = { λ _ _ _ answer _. answer ≡ false };
+    ghost is_followed = { λ f k. is_chosen_at f.which f.edges.now k };
 
-    fn offer(&mut self, _edge: usize, _half: Half) -> bool {
-        false
+    #[inline]
+    fn follows(&self, number: usize) -> bool {
+        match self.which {
+            EdgeChoice::All => true,
+            EdgeChoice::FeatureToBaseAndNamed => self.edges.is_unconditional(number),
+        }
     }
 }
 
@@ -39,7 +46,7 @@ pub(crate) fn reach_chosen(
     ensures size { IfOk result (λ set. length set ≡ digraph.now.nodes) }
     ensures members { IfOk result (λ set. (n : ℕ) → IsTrue (has set n) ↔ ReachAlong (PairLeads (chosen_pairs which (built_edges digraph.now.edges edges.now)) direction) (has initials.now) n) }
 {
-    let mut source = Packed::chosen(digraph, edges, which, direction);
-    let walk = walk_over(alloc, &mut source, initials, &mut NoOffers)?;
-    Ok(walk.members)
+    let chosen = ChosenEdges { edges, which };
+    let set = reach(alloc, digraph, &chosen, direction.reading(), initials)?;
+    Ok(set)
 }

@@ -1,73 +1,22 @@
 //! The edges of a feature graph as a source for walks.
-ghost use Rattle.std.specs.Prelude.{◌≡◌, ◌+◌, ◌^◌, ◌<◌, Some, length, slice_get};
-ghost use Rattle.std.specs.Option.{option_map};
+ghost use Rattle.std.specs.Prelude.{◌≡◌, ◌+◌, ◌^◌, ◌<◌, ℕ, List, AllPairs, Some, length, slice_get};
+ghost use Rattle.std.specs.Option.{option_map_or};
 ghost use Rattle.walk_engine.specs.Walks.{starting, told};
 ghost use Rattle.feature_core.specs.Built.{built_edges};
-ghost use Rattle.feature_edges.specs.Choices.{is_chosen};
-ghost use Rattle.feature_core.specs.Ways.{asked, content, waits, Reading};
-ghost use Rattle.feature_core.specs.inner.Asking.{ask_in, gate_in, held, IsTied, IsOrdered, released_place};
-ghost use Rattle.feature_core.specs.inner.ChosenWays.{ask_where, chosen_content};
+ghost use Rattle.feature_edges.specs.Pairs.{IsBefore};
+ghost use Rattle.feature_core.specs.Ways.{asked, content, gate_of, waits, Reading};
 ghost use Rattle.feature_core.specs.inner.OpenWays.{open_way, open_ways};
-ghost use Rattle.feature_core.specs.inner.Releases.{AreTied};
+ghost use Rattle.feature_core.specs.inner.Releases.{AreTied, released_place};
 ghost use Rattle.feature_edges.specs.feature_links.Values.{edge_facts};
 ghost use Rattle.walk_checks.specs.Tables.{Tells};
 
 use crate::data::FeatureGraphData;
 use crate::engine::{Ask, EdgeSource, Taken};
 use crate::gates::{gate_of, released_at};
-use feature_edges::{DependencyDirection, EdgeChoice, EdgeList, FeatureEdge};
+use feature_edges::{DependencyDirection, EdgeList, FeatureEdge};
 use guppy_support::{Digraph, Edge};
 use std::marker::Model;
 use walk_checks::{EdgeTable, TableEdge};
-
-/// The condition for following an edge.
-#[derive(Drop)]
-pub(crate) enum Asking<'a> {
-    /// The offers of each conditional edge. Forward, optional halves wait for their gates.
-    Offers {
-        weak: &'a [(usize, usize)],
-        released: &'a [(usize, usize)],
-    },
-    /// No condition for the chosen edges, and the full link for each other one.
-    Chosen(EdgeChoice),
-}
-
-/// Returns the condition of edge `number`.
-fn ask_of(
-    asking: &Asking<'_>,
-    direction: DependencyDirection,
-    edges: &EdgeList,
-    number: usize,
-) -> Ask
-    requires { number < length edges.now }
-    ensures { Some result ≡ option_map (ask_in asking.now direction) (slice_get edges.now number) }
-{
-    match asking {
-        Asking::Offers {
-            weak: _,
-            released: _,
-        } => offers_of(direction, edges.get(number)),
-        Asking::Chosen(which) => ask_unless(is_chosen(edges, *which, number)),
-    }
-}
-
-/// Returns whether `which` chooses edge `number`.
-fn is_chosen(edges: &EdgeList, which: EdgeChoice, number: usize) -> bool
-    requires { number < length edges.now }
-    ensures { Some result ≡ option_map (is_chosen which) (slice_get edges.now number) }
-{
-    match which {
-        EdgeChoice::All => true,
-        EdgeChoice::FeatureToBaseAndNamed => edges.is_unconditional(number),
-    }
-}
-
-/// Returns no condition if `chosen` is true, and otherwise the full link.
-fn ask_unless(chosen: bool) -> Ask
-    ensures { result ≡ ask_where chosen }
-{
-    if chosen { Ask::Nobody } else { Ask::Full }
-}
 
 /// Returns the offers of `edge` in `direction`.
 fn offers_of(direction: DependencyDirection, edge: &FeatureEdge) -> Ask
@@ -100,21 +49,23 @@ fn waits(direction: DependencyDirection) -> bool
 pub struct Packed<'a> {
     digraph: &'a Digraph,
     edges: &'a EdgeList,
-    asking: Asking<'a>,
+    // each weak link with its gate, and the gate and the number of each weak edge
+    weak: &'a [(usize, usize)],
+    released: &'a [(usize, usize)],
     direction: DependencyDirection,
     reads: u128,
 }
 
 impl<'a> Model for Packed<'a> {
-    ghost use Rattle.feature_core.specs.inner.Asking.{held, IsTied};
+    ghost use Rattle.feature_core.specs.inner.Releases.{AreTied};
     ghost use Rattle.feature_core.specs.Built.{built_edges};
-    ghost use Rattle.feature_core.specs.Ways.{Reading};
+    ghost use Rattle.feature_core.specs.Ways.{content, Reading};
 
     ghost Value = { Reading };
 
-    ghost view = { λ p. record { holds = held p.asking p.direction p.digraph.now.nodes (built_edges p.digraph.now.edges p.edges.now); reads = p.reads } };
+    ghost view = { λ p. record { holds = content p.direction p.digraph.now.nodes (built_edges p.digraph.now.edges p.edges.now) p.weak.now; reads = p.reads } };
 
-    ghost invariant = { λ p. IsTied p.asking p.digraph.now p.edges.now };
+    ghost invariant = { λ p. AreTied p.digraph.now p.edges.now p.weak.now p.released.now };
 }
 
 impl<'a> Packed<'a> {
@@ -139,26 +90,8 @@ impl<'a> Packed<'a> {
         Packed {
             digraph,
             edges,
-            asking: Asking::Offers { weak, released },
-            direction,
-            reads: 0,
-        }
-    }
-
-    /// Returns the edges of `digraph`: those that `which` chooses are unconditional, and every other is offered by its full link.
-    pub(crate) fn chosen(
-        digraph: &'a Digraph,
-        edges: &'a EdgeList,
-        which: EdgeChoice,
-        direction: DependencyDirection,
-    ) -> Self
-        requires { length edges.now ≡ length digraph.now.edges }
-        ensures { result ≡ record { holds = chosen_content which direction digraph.now.nodes (built_edges digraph.now.edges edges.now); reads = 0 } }
-    {
-        Packed {
-            digraph,
-            edges,
-            asking: Asking::Chosen(which),
+            weak,
+            released,
             direction,
             reads: 0,
         }
@@ -197,20 +130,17 @@ fn edge_number(
 
 /// Returns the number of edge `place`, from 0, among those that wait for `gate` in `direction`.
 fn released_number(
-    asking: &Asking<'_>,
+    released: &[(usize, usize)],
     direction: DependencyDirection,
     gate: usize,
     place: usize,
 ) -> Option<usize>
-    requires { IsOrdered asking.now }
-    ensures { result ≡ released_place asking.now direction gate place }
+    requires { AllPairs IsBefore released.now }
+    ensures { result ≡ released_place released.now direction gate place }
 {
-    match asking {
-        Asking::Offers { weak: _, released } => match direction {
-            DependencyDirection::Forward => released_at(released, gate, place),
-            DependencyDirection::Reverse => None,
-        },
-        Asking::Chosen(_) => None,
+    match direction {
+        DependencyDirection::Forward => released_at(released, gate, place),
+        DependencyDirection::Reverse => None,
     }
 }
 
@@ -224,22 +154,16 @@ fn far_end(direction: DependencyDirection, edge: Edge) -> usize
     }
 }
 
-/// Returns edge `edge` as a walk takes it: its number, the end that it leads to, and its condition.
-fn taken(
-    digraph: &Digraph,
-    edges: &EdgeList,
-    asking: &Asking<'_>,
-    direction: DependencyDirection,
-    edge: usize,
-) -> Taken
+/// Returns edge `edge` as a walk takes it: its number, the end that it leads to, and its offers.
+fn taken(digraph: &Digraph, edges: &EdgeList, direction: DependencyDirection, edge: usize) -> Taken
     requires edge { edge < length digraph.now.edges }
     requires same { length edges.now ≡ length digraph.now.edges }
-    ensures { Some result ≡ told (held asking.now direction digraph.now.nodes (built_edges digraph.now.edges edges.now)) (Some edge) }
+    ensures { (weak : List (ℕ × ℕ)) → Some result ≡ told (content direction digraph.now.nodes (built_edges digraph.now.edges edges.now) weak) (Some edge) }
 {
     Taken {
         edge,
         far: far_end(direction, digraph.edge(edge)),
-        ask: ask_of(asking, direction, edges, edge),
+        ask: offers_of(direction, edges.get(edge)),
     }
 }
 
@@ -256,24 +180,21 @@ impl EdgeSource for Packed<'_> {
     fn take(&mut self, start: usize, place: usize) -> Option<Taken> {
         self.reads += 1;
         let edge = edge_number(self.digraph, self.direction, start, place)?;
-        Some(taken(self.digraph, self.edges, &self.asking, self.direction, edge))
+        Some(taken(self.digraph, self.edges, self.direction, edge))
     }
 
     fn release(&mut self, gate: usize, place: usize) -> Option<Taken> {
         self.reads += 1;
-        let edge = released_number(&self.asking, self.direction, gate, place)?;
-        Some(taken(self.digraph, self.edges, &self.asking, self.direction, edge))
+        let edge = released_number(self.released, self.direction, gate, place)?;
+        Some(taken(self.digraph, self.edges, self.direction, edge))
     }
 }
 
-/// Returns the gate of `edge` if its optional half waits, and otherwise 0.
-fn gate_in(asking: &Asking<'_>, edge: &FeatureEdge) -> usize
-    ensures { result ≡ gate_in asking.now (edge_facts edge.now) }
+/// Returns the gate of `edge` if it is weak, and otherwise 0.
+fn gate_or_zero(weak: &[(usize, usize)], edge: &FeatureEdge) -> usize
+    ensures { result ≡ option_map_or (λ gate. gate) (gate_of weak.now (edge_facts edge.now)) 0 }
 {
-    match asking {
-        Asking::Offers { weak, released: _ } => gate_of(weak, edge).unwrap_or(0),
-        Asking::Chosen(_) => 0,
-    }
+    gate_of(weak, edge).unwrap_or(0)
 }
 
 /// Returns the end that `edge` starts from in `direction`.
@@ -290,20 +211,21 @@ fn near_end(direction: DependencyDirection, edge: Edge) -> usize
 fn table_edge(
     digraph: &Digraph,
     edges: &EdgeList,
-    asking: &Asking<'_>,
+    weak: &[(usize, usize)],
     direction: DependencyDirection,
     number: usize,
 ) -> TableEdge
     requires edge { number < length digraph.now.edges }
     requires same { length edges.now ≡ length digraph.now.edges }
-    ensures { Tells (slice_get (held asking.now direction digraph.now.nodes (built_edges digraph.now.edges edges.now)).ways number) (Some result) }
+    ensures { Tells (slice_get (content direction digraph.now.nodes (built_edges digraph.now.edges edges.now) weak.now).ways number) (Some result) }
 {
     let ends = digraph.edge(number);
+    let edge = edges.get(number);
     TableEdge {
         start: near_end(direction, ends),
         far: far_end(direction, ends),
-        ask: ask_of(asking, direction, edges, number),
-        gate: gate_in(asking, edges.get(number)),
+        ask: offers_of(direction, edge),
+        gate: gate_or_zero(weak, edge),
     }
 }
 
@@ -321,13 +243,7 @@ impl EdgeTable for Packed<'_> {
 
     fn edge(&self, number: usize) -> Option<TableEdge> {
         if number < self.digraph.edge_count() {
-            Some(table_edge(
-                self.digraph,
-                self.edges,
-                &self.asking,
-                self.direction,
-                number,
-            ))
+            Some(table_edge(self.digraph, self.edges, self.weak, self.direction, number))
         } else {
             None
         }

@@ -4,6 +4,7 @@ use Rattle.guppy_packages.specs.Tables.{Tables}
 use Rattle.guppy_packages.specs.declared.direction.DependencyDirection.{DependencyDirection}
 use Rattle.guppy_packages.specs.declared.direction.DependencyDirection.TheVariants.{Forward, Reverse}
 use Rattle.feature_edges.specs.Candidates.{Edge, Candidate}
+pub use Rattle.order_views.specs.Reaches.{Along, nowhere, onward, ReachAlong}
 
 -- Some candidate leads from `u` to `w`.
 abbrev pub HasCandidate : Tables → ℕ → ℕ → Type 0
@@ -27,15 +28,6 @@ PairLeads pairs Reverse u w = Contains pairs (w, u)
 abbrev pub LeadsTo : Tables → DependencyDirection → ℕ → ℕ → Type 0
 LeadsTo t Forward u w = HasCandidate t u w
 LeadsTo t Reverse u w = HasCandidate t w u
-
--- A path over steps, possibly empty.
-pub data Along (Step : ℕ → ℕ → Type 0) : ℕ → ℕ → Type 0 where
-  nowhere : {u : ℕ} → Along Step u u
-  onward : {u v w : ℕ} → Step u v → Along Step v w → Along Step u w
-
--- The node `w` ends a path from one of `initials`.
-abbrev pub ReachAlong : (ℕ → ℕ → Type 0) → (ℕ → Bool) → ℕ → Type 0
-ReachAlong Step initials w = (u : ℕ) × IsTrue (initials u) × Along Step u w
 
 -- The reach over all edges.
 abbrev pub Reach : Tables → DependencyDirection → (ℕ → Bool) → ℕ → Type 0

@@ -1,3 +1,4 @@
+pub mod AlongLemmas
 pub mod CycleLemmas
 pub mod Distinct
 pub mod Followed

@@ -1,55 +1,25 @@
 //! Whether a path leads from one node to another.
-ghost use Rattle.std.specs.Prelude.{◌≡◌, ◌↔◌, ◌<◌, ◌++◌, ◌∷◌, [], cond, true, false, length, replicate, slice_set, IfOk, OnOk, IsTrue};
-ghost use Rattle.guppy_support.specs.Bits.{has};
-ghost use Rattle.guppy_support.specs.Paths.{HasEdge, Path};
-ghost use Rattle.order_views.specs.inner.Search.{Finds};
+ghost use Rattle.std.specs.Prelude.{◌≡◌, ◌↔◌, ◌<◌, true, IfOk, IsTrue};
+ghost use Rattle.guppy_support.specs.Paths.{Path};
 
+use crate::reading::Reading;
+use crate::search::{EdgeFilter, find, follow};
 use guppy_support::{Digraph, IxBitSet};
 use std::alloc::{AllocError, Global};
 
-// Inserts `node` into `found` and appends it to `waiting`, unless it was found before.
-fn find(found: &mut IxBitSet, waiting: &mut Vec<usize>, node: usize) -> Result<(), AllocError>
-    requires { node < length found.old }
-    ensures found { found.new ≡ slice_set found.old node true }
-    ensures waiting { OnOk result (waiting.new.items ≡ cond (has found.old node) waiting.old.items (waiting.old.items ++ node ∷ [])) }
-{
-    if !found.contains(node) {
-        found.insert(node);
-        waiting.push(node)?;
-    }
-    Ok(())
-}
+// Follows each edge.
+#[derive(Drop)]
+struct EveryEdge;
 
-// Finds the targets of the edges that leave `node`.
-fn follow(
-    digraph: &Digraph,
-    node: usize,
-    found: &mut IxBitSet,
-    waiting: &mut Vec<usize>,
-) -> Result<(), AllocError>
-    requires node { node < digraph.now.nodes }
-    requires size { length found.old ≡ digraph.now.nodes }
-    ensures { OnOk result (Finds (HasEdge digraph.now.edges node) found.old waiting.old.items found.new waiting.new.items) }
-{
-    digraph.facts();
-    let numbers = digraph.out_edges(node);
-    for number in numbers.start..numbers.end {
-        find(found, waiting, digraph.edge(number).to)?;
-    }
-    Ok(())
-}
+impl EdgeFilter for EveryEdge {
+    ghost knows = { λ _ _. Unit {0} };
 
-// Returns the first state of a search: only `node` is found, and it waits.
-fn begin(alloc: Global, nodes: usize, node: usize) -> Result<(IxBitSet, Vec<usize>), AllocError>
-    requires { node < nodes }
-    ensures found { IfOk result (λ p. p.0 ≡ slice_set (replicate nodes false) node true) }
-    ensures waiting { IfOk result (λ p. p.1.items ≡ node ∷ []) }
-{
-    let mut found = IxBitSet::empty(alloc, nodes)?;
-    found.insert(node);
-    let mut waiting = Vec::new(alloc);
-    waiting.push(node)?;
-    Ok((found, waiting))
+    ghost is_followed = { λ _ _. true };
+
+    #[inline(always)]
+    fn follows(&self, _number: usize) -> bool {
+        true
+    }
 }
 
 /// Returns true if a path, possibly empty, leads from `a` to `b`. The search stops when `b` is found.
@@ -61,12 +31,21 @@ pub fn depends_on(alloc: Global, digraph: &Digraph, a: usize, b: usize) -> Resul
     requires b { b < digraph.now.nodes }
     ensures { IfOk result (λ answer. IsTrue answer ↔ Path digraph.now.edges a b) }
 {
-    let (mut found, mut waiting) = begin(alloc, digraph.node_count(), a)?;
+    let mut found = IxBitSet::empty(alloc, digraph.node_count())?;
+    let mut waiting = Vec::new(alloc);
+    find(&mut found, &mut waiting, a)?;
     while !found.contains(b) {
         let Some(node) = waiting.pop() else {
             return Ok(false);
         };
-        follow(digraph, node, &mut found, &mut waiting)?;
+        follow(
+            digraph,
+            &EveryEdge,
+            Reading::Forward,
+            node,
+            &mut found,
+            &mut waiting,
+        )?;
     }
     Ok(true)
 }

@@ -86,6 +86,7 @@ fn edge_at(digraph: &Digraph, reading: Reading, node: usize, place: usize) -> Op
 }
 
 /// Returns the nodes at which `edge` starts and ends.
+#[inline]
 pub(crate) fn ends_of(digraph: &Digraph, reading: Reading, edge: usize) -> (usize, usize)
     requires { edge < length digraph.now.edges }
     ensures start { result.0 ≡ start_of reading digraph.now.edges edge }

@@ -1,7 +1,9 @@
 -- The edges that wait for a gate, in one list.
-use Rattle.std.specs.Prelude.{◌≡◌, ℕ, ◌<◌, ◌≤◌, ◌+◌, ◌==◌, ◌⊎◌, ◌↔◌, List, [], ◌∷◌, ◌++◌, Some, map, filter, length, slice_get, slice_index_or, AllPairs, Contains}
+use Rattle.std.specs.Prelude.{◌≡◌, ℕ, ◌<◌, ◌≤◌, ◌+◌, ◌==◌, ◌⊎◌, ◌↔◌, List, [], ◌∷◌, ◌++◌, Option, Some, None, map, filter, length, slice_get, slice_index_or, AllPairs, Contains}
 use Rattle.std.specs.Option.{option_map_or}
 use Rattle.guppy_support.specs.Graph.{Graph}
+use Rattle.feature_edges.specs.guppy_packages.declared.direction.DependencyDirection.{DependencyDirection}
+use Rattle.feature_edges.specs.guppy_packages.declared.direction.DependencyDirection.TheVariants.{Forward, Reverse}
 use Rattle.feature_edges.specs.feature_links.Facts.{EdgeFacts}
 use Rattle.feature_edges.specs.Pairs.{IsBefore}
 use Rattle.feature_core.specs.Ways.{gate_of, GatesAreNodes}
@@ -20,6 +22,11 @@ pub record AreTied (g : Graph) (facts : List EdgeFacts) (weak : List (ℕ × ℕ
 -- The numbers with this gate.
 abbrev pub released_by : ℕ → List (ℕ × ℕ) → List ℕ
 released_by gate released = map (λ r. r.1) (filter (λ r. r.0 == gate) released)
+
+-- The number at a place among those that wait for a gate.
+abbrev pub released_place : List (ℕ × ℕ) → DependencyDirection → ℕ → ℕ → Option ℕ
+released_place released Forward gate place = slice_get (released_by gate released) place
+released_place released Reverse gate place = None
 
 -- `first` is the index of the first entry whose gate is at least `gate`.
 pub record Begins (gate first : ℕ) (rs : List (ℕ × ℕ)) : Type 0 where

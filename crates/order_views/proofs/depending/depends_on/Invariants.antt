@@ -1,11 +1,16 @@
-use Rattle.std.proofs.Common.{◌≡◌, length}
+use Rattle.std.proofs.Common.{◌≡◌, true, length}
+use Rattle.std.specs.Prelude.{◌==◌}
+use Rattle.guppy_support.specs.Bits.{has}
+use Rattle.order_views.specs.declared.reading.Reading.TheVariants.{Forward}
+use Rattle.order_views.specs.Reaches.{FollowedStep}
 use Rattle.order_views.specs.inner.Search.{IsSearch, left_over}
 use Rattle.order_views.proofs.depending.depends_on.Given as goal
 
 abbrev pub invariant-loop-waiting : goal.invariant-loop-waiting
 invariant-loop-waiting l = record {
   size : length l.found ≡ l.digraph.nodes;
-  known : IsSearch l.digraph.edges l.a l.found l.waiting.items;
+  start : has l.found l.a ≡ true;
+  known : IsSearch (FollowedStep Forward l.digraph.edges (λ _. true)) (λ v. v == l.a) l.found l.waiting.items;
 }
 
 abbrev pub decreases-loop-waiting : goal.decreases-loop-waiting
