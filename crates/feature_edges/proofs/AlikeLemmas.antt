@@ -1,14 +1,15 @@
 -- The edges of alike keys are equal.
 use Rattle.feature_edges.specs.inner.Keys.{rank}
 use Rattle.std.proofs.Common.{◌≡◌, ℕ, zero, suc, ◌⊎◌, inl, inr, ⊎_elim, List, [], ◌∷◌, ◌++◌, length, map, Bool, true, Some, refl, ap, sym, ◌∙◌, subst, arith}
-use Rattle.std.specs.Prelude.{slice_get, IsTrue}
+use Rattle.std.specs.Prelude.{slice_get, Contains, IsTrue}
+use Rattle.std.proofs.lemmas.List.Elements.{Contains-append_left}
 use Rattle.std.proofs.lemmas.List.{append_assoc, append-nil}
 use Rattle.guppy_packages.specs.Rows.{Text, Declared}
 use Rattle.guppy_packages.specs.Tables.{LinkTable, Tables, AreTables}
 use Rattle.feature_labels.specs.Names.LabelName.{base, named, optional}
 use Rattle.feature_labels.specs.declared.link_declarations.LinkDeclarations.{LinkDeclarations}
 use Rattle.feature_labels.specs.declared.link_declarations.LinkDeclarations.TheVariants.{Unsplit, Required, Optional}
-use Rattle.feature_edges.specs.declared.candidate.CandidateKind.TheVariants.{FeatureToBase, DepColon, SlashFull, SlashOptional, SlashWeak, Section}
+use Rattle.feature_edges.specs.declared.candidate.CandidateKind.TheVariants.{FeatureToBase, NamedFeature, DepColon, SlashFull, SlashOptional, SlashWeak, Section}
 use Rattle.feature_edges.specs.Nodes.{NodeAt}
 use Rattle.feature_links.specs.Links.{LinkFacts, IsLink, over, by_name}
 use Rattle.feature_edges.specs.Candidates.{Edge, dep_colon, slash_full, slash_optional, slash_weak, section, requesting, unsplit_of}
@@ -29,6 +30,7 @@ use Rattle.feature_edges.proofs.KindLemmas.{one_rank}
 use Rattle.feature_edges.proofs.Ranks.{same_home, same_label, same_rank}
 use Rattle.feature_edges.proofs.SectionPlaces.{of_link}
 use Rattle.feature_edges.proofs.ValueLemmas.{made_next}
+use Rattle.feature_edges.proofs.WeakLemmas.{links_kept}
 
 -- a link whose only declaration passes is over all of them
 over_only : (p : Declared → Bool) (which : LinkDeclarations) (k : ℕ) (link : LinkTable) (j : ℕ) (d : Declared) → length link.declarations ≡ 1 → slice_get link.declarations j ≡ Some d → IsTrue (p d)
@@ -166,11 +168,29 @@ not_empty t x y h e = no_subject h.subject
     no_subject (one_link (inr k) source) = omega (arith, same, ap rank k)
     no_subject (one_declaration k source from single) = omega (arith, same, ap rank k)
 
+-- the key of an unconditional edge isn't that of a weak one
+pub plain_strong : (x : Key) → (x.kind ≡ FeatureToBase) ⊎ (x.kind ≡ NamedFeature) → x.kind ≡ SlashWeak → ⊥
+plain_strong x (inl k) w = omega (arith, ap rank k, ap rank w)
+plain_strong x (inr k) w = omega (arith, ap rank k, ap rank w)
+
+-- alike keys of weak edges have one link
+one_source : (t : Tables) (x y : Key) → SharesSubject t x y → y.kind ≡ SlashWeak → x.source ≡ y.source
+one_source t x y (one_end (inl k) to) w = absurd (omega (arith, ap rank k, ap rank w))
+one_source t x y (one_end (inr k) to) w = absurd (omega (arith, ap rank k, ap rank w))
+one_source t x y (one_link k source) w = source
+one_source t x y (one_declaration k source from single) w = source
+
 -- the edge of an alike key in a slot
 pub near_edge : (t : Tables) → AreTables t → (m : MadeEdges) (slots : List (Key × ℕ)) (y : Key) (number : ℕ) → IsOfTables t y → AreNear t m slots → IsAlikeAt t slots y number → HasEdge t m y number
 near_edge t tables m slots y number hy near at = ⊎_elim
     (λ e. absurd (not_empty t at.x y at.alike e))
-    (λ h. record { of_tables = hy; says = h.says; at = h.at; value = λ rest. alike_value t tables at.x y h.of_tables hy at.alike _ h.says (h.value rest) })
+    (λ h. record {
+      of_tables = hy;
+      says = h.says;
+      at = h.at;
+      value = λ rest. alike_value t tables at.x y h.of_tables hy at.alike _ h.says (h.value rest);
+      noted = λ weak. subst (Contains (map (λ e. e.0) m.weak.entries)) (one_source t at.x y at.alike.subject weak) (h.noted (at.alike.kind ∙ weak));
+    })
     (near at.slot at.x number at.at)
 
 -- what is known of the slots stays known while edges and weak links are added
@@ -185,6 +205,7 @@ near_later t old new more slots grown keeps near i x number at = ⊎_elim
       value = λ rest.
           let same : map (λ e. e.0) old.weak.entries ++ (more ++ rest) ≡ map (λ e. e.0) new.weak.entries ++ rest = sym (append_assoc (map (λ e. e.0) old.weak.entries) more rest) ∙ ap (λ z. z ++ rest) (sym grown) in
           subst (λ z. IsValueOf t z x h.says) same (h.value (more ++ rest));
+      noted = λ weak. subst (λ z. Contains z x.source) (sym grown) (Contains-append_left (map (λ e. e.0) old.weak.entries) more x.source (h.noted weak));
     }))
     (near i x number at)
 
@@ -196,14 +217,15 @@ near_added t x old new slots a near = near_later t old new [] slots
     near
 
 -- the edge of a key that takes a slot
-pub near_inserted : (t : Tables) (x : Key) (number : ℕ) (old new : MadeEdges) (slots more : List (Key × ℕ)) → IsOfTables t x → IsAdded t x old new → number ≡ length old.edges
+pub near_inserted : (t : Tables) (x : Key) (number : ℕ) (old new : MadeEdges) (slots more : List (Key × ℕ)) → IsOfTables t x → IsAdded t x old new → (x.kind ≡ SlashWeak → Contains (map (λ e. e.0) old.weak.entries) x.source) → number ≡ length old.edges
     → ((i : ℕ) (y : Key) (n : ℕ) → slice_get more i ≡ Some (y, n) → ((y ≡ x) × (n ≡ number)) ⊎ (slice_get slots i ≡ Some (y, n))) → AreNear t old slots → AreNear t new more
-near_inserted t x number old new slots more hx a end put near i y n at = ⊎_elim
+near_inserted t x number old new slots more hx a noted end put near i y n at = ⊎_elim
     (λ e. inr (subst (λ z. HasEdge t new z n) (sym e.0) (subst (λ z. HasEdge t new x z) (sym e.1) (record {
       of_tables = hx;
       says = a.says;
       at = ap (λ z. slice_get z number) a.appended.edges ∙ get_right old.edges (a.says ∷ []) number 0 (omega (arith, end));
       value = a.value;
+      noted = λ weak. subst (λ z. Contains (map (λ e. e.0) z) x.source) (sym a.appended.weak) (noted weak);
     }))))
     (λ h. near_added t x old new slots a near i y n h)
     (put i y n at)
@@ -229,3 +251,10 @@ added_made t done x old mid new more links gates grown edges ends a h =
     (a.appended.ends ∙ ap (λ z. z ++ edge_end x a.says ∷ []) ends)
     a.value
     h
+
+-- the edges with one more, whose weak link was noted earlier
+pub noted_made : (t : Tables) (done : List Key) (x : Key) (old new : MadeEdges) → (x.kind ≡ SlashWeak → Contains (map (λ e. e.0) old.weak.entries) x.source)
+    → IsAdded t x old new → AreMade t done old → AreMade t (done ++ x ∷ []) new
+noted_made t done x old new noted a h =
+    let numbers : List ℕ = map (λ e. e.0) old.weak.entries in
+    added_made t done x old old new [] (links_kept done x numbers noted h.links) h.gates (sym (append-nil numbers)) refl refl a h

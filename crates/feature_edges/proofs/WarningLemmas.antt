@@ -1,16 +1,14 @@
 -- Warnings, appended one after another.
-use Rattle.std.proofs.Common.{◌≡◌, ℕ, zero, suc, ◌+◌, ◌<◌, ◌≤◌, List, [], ◌∷◌, ◌++◌, Bool, true, false, cond, not, length, map, take, Some, None, refl, ap, sym, ◌∙◌, arith, is_some, if◌then◌else◌}
-use Rattle.std.specs.Prelude.{slice_get, position, nat_lt, flat_map, filter, ◌==◌, ◌&&◌}
-use Rattle.std.specs.List.{enumerate_from, list_any, position_or_len}
+use Rattle.std.proofs.Common.{◌≡◌, ℕ, zero, suc, ◌+◌, ◌<◌, ◌≤◌, List, [], ◌∷◌, ◌++◌, Bool, true, false, cond, length, map, take, Some, refl, ap, sym, ◌∙◌, arith, if◌then◌else◌}
+use Rattle.std.specs.Prelude.{slice_get, flat_map, filter, ◌==◌, ◌&&◌}
+use Rattle.std.specs.List.{enumerate_from}
 use Rattle.std.specs.Option.{option_map_or}
 use Rattle.std.specs.Str.{bytes_eq}
 use Rattle.std.proofs.lemmas.Bool.Decides.{nat_tests}
 use Rattle.std.proofs.lemmas.List.{flat_map_more, take_all}
 use Rattle.std.proofs.lemmas.List.FromFn.{length-enumerate_from}
-use Rattle.std.proofs.lemmas.List.Sums.{prefix_len-le-length}
 use Rattle.guppy_packages.specs.Rows.{Text}
 use Rattle.guppy_packages.specs.Tables.{PackageTable, LinkTable, Tables}
-use Rattle.guppy_packages.proofs.ItemLemmas.{list_any-found, list_any-absent}
 use Rattle.feature_links.specs.Links.{numbered, links_named}
 use Rattle.feature_links.specs.NamedLinks.{link_numbers}
 use Rattle.feature_edges.specs.inner.Collects.{lack_by}
@@ -52,14 +50,6 @@ not_empty xs b e f = grind (arith, nat_tests)
 
 pub is_empty : {X : Type 0} (xs : List X) (b : Bool) → b ≡ (length xs == 0) → b ≡ true → length xs ≡ 0
 is_empty xs b e f = grind (arith, nat_tests)
-
--- there is a first place if and only if an element passes
-pub placed-any : {X : Type 0} (p : X → Bool) (xs : List X) → is_some (position p xs) ≡ list_any p xs
-placed-any p xs = go (nat_lt (position_or_len p xs) (length xs)) refl
-  where
-    go : (b : Bool) → nat_lt (position_or_len p xs) (length xs) ≡ b → is_some (cond b (Some (position_or_len p xs)) None) ≡ list_any p xs
-    go true e = sym (list_any-found p xs (grind (arith, nat_tests)))
-    go false e = let within = prefix_len-le-length (λ x. not (p x)) xs in sym (list_any-absent p xs (grind (arith, nat_tests, within)))
 
 -- a warning if a test fails, and none if it passes
 pub warned : (test : Bool) (start end : List Warning) (x : Warning) → test ≡ false → end ≡ start ++ x ∷ [] → end ≡ start ++ (if test then [] else x ∷ [])

@@ -1,5 +1,5 @@
 -- The weak links of keys, one key after the other.
-use Rattle.std.proofs.Common.{◌≡◌, ℕ, zero, suc, ◌+◌, ⊎_elim, List, [], ◌∷◌, ◌++◌, length, map, Bool, true, false, not, cond, Option, Some, None, refl, sym, ap, ◌∙◌, subst, arith}
+use Rattle.std.proofs.Common.{◌≡◌, ℕ, zero, suc, ◌+◌, ◌⊎◌, inl, inr, ⊎_elim, List, [], ◌∷◌, ◌++◌, length, map, Bool, true, false, not, cond, Option, Some, None, refl, sym, ap, ◌∙◌, subst, arith}
 use Rattle.std.specs.Prelude.{slice_get, ◌==◌, ◌&&◌, IsTrue, Contains, filter, position}
 use Rattle.std.specs.List.{cons_option, list_any, position_from}
 use Rattle.std.specs.Str.{bytes_eq}
@@ -173,6 +173,33 @@ links_next done v x entries weak h =
 pub links_same : (done : List Key) (x : Key) (links : List ℕ) → (x.kind ≡ SlashWeak → ⊥) → links ≡ first_ones (weak_sources done) → links ≡ first_ones (weak_sources (done ++ x ∷ []))
 links_same done x links strong h =
     h ∙ ap first_ones (sym (append-nil (weak_sources done)) ∙ ap (λ z. weak_sources done ++ z) (sym (strong_next x strong)) ∙ sym (filter_map-append weak_source done (x ∷ [])))
+
+-- a number that is among others isn't added
+with_known : (k : ℕ) (xs : List ℕ) → Contains xs k → with_one k xs ≡ xs
+with_known k [] h = absurd (Contains-none k h)
+with_known k (x ∷ xs) h = go (k == x) refl (λ c. with_known k xs c)
+  where
+    go : (b : Bool) → k == x ≡ b → (Contains xs k → with_one k xs ≡ xs) → cond b (x ∷ xs) (x ∷ with_one k xs) ≡ x ∷ xs
+    go true e more = refl
+    go false e more = ap (λ z. x ∷ z) (more (⊎_elim (λ i. absurd (not_itself k x e i)) (λ i. i) (Contains-cases x xs k h)))
+
+weak_or_not : (k : CandidateKind) → (k ≡ SlashWeak) ⊎ (k ≡ SlashWeak → ⊥)
+weak_or_not FeatureToBase = inr (λ e. cc)
+weak_or_not NamedFeature = inr (λ e. cc)
+weak_or_not DepColon = inr (λ e. cc)
+weak_or_not SlashFull = inr (λ e. cc)
+weak_or_not SlashOptional = inr (λ e. cc)
+weak_or_not SlashWeak = inl refl
+weak_or_not Section = inr (λ e. cc)
+
+-- the links after a key whose weak link is noted
+pub links_kept : (done : List Key) (x : Key) (links : List ℕ) → (x.kind ≡ SlashWeak → Contains links x.source) → links ≡ first_ones (weak_sources done) → links ≡ first_ones (weak_sources (done ++ x ∷ []))
+links_kept done x links noted h = ⊎_elim
+    (λ weak.
+    sym (with_known x.source links (noted weak)) ∙ ap (with_one x.source) h ∙ sym (first_ones-more x.source (weak_sources done))
+    ∙ ap (λ z. first_ones (weak_sources done ++ z)) (sym (weak_next x weak)) ∙ ap first_ones (sym (filter_map-append weak_source done (x ∷ []))))
+    (λ strong. links_same done x links strong h)
+    (weak_or_not x.kind)
 
 joined : (a b : Bool) → a ≡ true → b ≡ true → a && b ≡ true
 joined true b h i = i

@@ -101,9 +101,6 @@ impl NearKeys {
         requires { IsOfTables numbers.graph.now key }
         ensures { IfSome result (λ number. IsAlikeAt numbers.entry.graph.now self.now key number) }
     {
-        if key.kind.is_unconditional() {
-            return None;
-        }
         let (earlier, number) = self.slots[key_slot(key)];
         if are_alike(numbers, earlier, key) {
             return Some(number);
@@ -111,13 +108,10 @@ impl NearKeys {
         None
     }
 
-    /// Puts `key` into its slot, with the number of its edge, unless the edge is unconditional: nothing is alike to that.
+    /// Puts `key` into its slot, with the number of its edge.
     pub(crate) fn insert(&mut self, key: Key, number: usize)
         ensures { (i : ℕ) (x : KeyValue) (n : ℕ) → slice_get self.new i ≡ Some (x, n) → ((x ≡ key) × (n ≡ number)) ⊎ (slice_get self.old i ≡ Some (x, n)) }
     {
-        if key.kind.is_unconditional() {
-            return;
-        }
         let slot = key_slot(key);
         self.slots[slot] = (key, number);
     }

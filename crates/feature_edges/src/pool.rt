@@ -4,7 +4,7 @@ ghost use Rattle.std.specs.Option.{option_map};
 ghost use Rattle.feature_links.specs.declared.edge.EdgeChoice.TheVariants.{FeatureToBaseAndNamed};
 ghost use Rattle.feature_edges.specs.Choices.{is_chosen};
 ghost use Rattle.feature_edges.specs.inner.Pools.{fixed_place, IsParted, Keeps};
-ghost use Rattle.feature_links.specs.Facts.{EdgeFacts, has_present_link};
+ghost use Rattle.feature_links.specs.Facts.{EdgeFacts, base_edge, feature_edge, has_present_link};
 ghost use Rattle.feature_links.specs.Values.{edge_facts};
 
 use feature_links::FeatureEdge;
@@ -105,6 +105,24 @@ impl EdgeList {
     {
         let place = place_of(&mut self.pool, edge)?;
         self.places.push(place)?;
+        Ok(())
+    }
+
+    /// Appends an edge to a base.
+    #[inline]
+    pub(crate) fn push_base(&mut self) -> Result<(), AllocError>
+        ensures { OnOk result (self.new ≡ self.old ++ base_edge ∷ []) }
+    {
+        self.places.push(0)?;
+        Ok(())
+    }
+
+    /// Appends an edge to a named feature.
+    #[inline]
+    pub(crate) fn push_named(&mut self) -> Result<(), AllocError>
+        ensures { OnOk result (self.new ≡ self.old ++ feature_edge ∷ []) }
+    {
+        self.places.push(1)?;
         Ok(())
     }
 

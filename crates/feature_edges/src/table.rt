@@ -1,5 +1,5 @@
 //! The edges of a package graph and its warnings, package by package.
-ghost use Rattle.std.specs.Prelude.{◌≡◌, ◌++◌, ◌∷◌, [], ℕ, ◌+◌, ◌<◌, Contains, IfOk, List, OnOk, Some, length, map, slice_get};
+ghost use Rattle.std.specs.Prelude.{◌≡◌, ◌⊎◌, ◌++◌, ◌∷◌, [], ℕ, ◌+◌, ◌<◌, Contains, IfOk, List, OnOk, Some, length, map, slice_get};
 ghost use Rattle.indexmap.specs.IndexMap.{keys};
 ghost use Rattle.feature_edges.specs.declared.candidate.Key.{Key as KeyValue};
 ghost use Rattle.feature_edges.specs.EdgeEnds.{pairs_of, built_edges, end_of};
@@ -16,7 +16,7 @@ ghost use Rattle.feature_edges.specs.Pairs.{IsPairList};
 ghost use Rattle.feature_edges.specs.inner.Parts.{IsOfTables};
 ghost use Rattle.feature_edges.specs.Warnings.{warnings, warnings_in};
 ghost use Rattle.feature_links.specs.Values.{edge_facts};
-ghost use Rattle.guppy_packages.specs.Tables.{Tables};
+ghost use Rattle.guppy_packages.specs.Tables.{AreTables, Tables};
 
 use crate::candidate::{CandidateKind, Key, split_run};
 use crate::collect::{Collected, collect_around, collect_feature};
@@ -29,6 +29,7 @@ use crate::nodes::NodeTable;
 use crate::pool::EdgeList;
 use crate::warnings::FeatureGraphWarning;
 use feature_links::{FeatureEdge, LinkGroups};
+use guppy_packages::PackageGraph;
 use guppy_support::{Digraph, Edge, EdgeColumns};
 use indexmap::IndexMap;
 use std::alloc::{AllocError, Global};
@@ -117,35 +118,24 @@ impl MadeEdges {
         Ok(())
     }
 
-    /// Appends the edge of `key`, whose weak link is noted. If a recent key is alike, its edge is repeated.
-    fn add_noted(
-        &mut self,
-        alloc: Global,
-        material: Material<'_, '_>,
-        near: &mut NearKeys,
-        key: Key,
-        run: &[Key],
-    ) -> Result<(), AllocError>
-        requires material { IsMaterial material }
-        requires of_tables { IsOfTables material.numbers.graph.now key }
-        requires run { IsRun material.numbers.graph.now key run.now }
-        requires noted { key.kind ≡ CandidateKind.SlashWeak → Contains (keys self.now.weak) key.source }
-        requires near { AreNear material.numbers.graph.now self.now near.now }
-        ensures added { OnOk result (IsAdded material.entry.numbers.graph.now key self.old self.new) }
-        ensures near { OnOk result (AreNear material.entry.numbers.graph.now self.new near.new) }
+    /// Appends the edge of `key`, which is unconditional.
+    fn add_unconditional(&mut self, key: Key) -> Result<(), AllocError>
+        requires { (key.kind ≡ CandidateKind.FeatureToBase) ⊎ (key.kind ≡ CandidateKind.NamedFeature) }
+        ensures { OnOk result ((t : Tables) → AreTables t → IsOfTables t key → IsAdded t key self.old self.new) }
     {
-        material.numbers.graph.facts();
-        match near.alike(material.numbers, key) {
-            Some(number) => self.repeat(key, number),
-            None => {
-                near.insert(key, self.edges.len());
-                self.make(alloc, material, key, run)
-            }
+        self.ends.push(Edge {
+            from: key.from as usize,
+            to: key.to as usize,
+            non_dev: true,
+        })?;
+        match key.kind {
+            CandidateKind::FeatureToBase => self.edges.push_base(),
+            _ => self.edges.push_named(),
         }
     }
 
-    /// Appends the edge of `key`. `run` has the keys of its pair.
-    fn add(
+    /// Appends the edge of `key`, and notes its weak link. `run` has the keys of its pair.
+    fn add_own(
         &mut self,
         alloc: Global,
         material: Material<'_, '_>,
@@ -161,7 +151,34 @@ impl MadeEdges {
         ensures near { OnOk result (AreNear material.entry.numbers.graph.now self.new near.new) }
     {
         note_gate(&mut self.weak, material.numbers, key)?;
-        self.add_noted(alloc, material, near, key, run)
+        near.insert(key, self.edges.len());
+        self.make(alloc, material, key, run)
+    }
+
+    /// Appends the edge of `key`. `run` has the keys of its pair. If a recent key is alike, its edge is repeated.
+    fn add(
+        &mut self,
+        alloc: Global,
+        material: Material<'_, '_>,
+        near: &mut NearKeys,
+        key: Key,
+        run: &[Key],
+    ) -> Result<(), AllocError>
+        requires material { IsMaterial material }
+        requires of_tables { IsOfTables material.numbers.graph.now key }
+        requires run { IsRun material.numbers.graph.now key run.now }
+        requires near { AreNear material.numbers.graph.now self.now near.now }
+        ensures made { OnOk result ((done : List KeyValue) → AreMade material.entry.numbers.graph.now done self.old → AreMade material.entry.numbers.graph.now (done ++ key ∷ []) self.new) }
+        ensures near { OnOk result (AreNear material.entry.numbers.graph.now self.new near.new) }
+    {
+        material.numbers.graph.facts();
+        if key.kind.is_unconditional() {
+            return self.add_unconditional(key);
+        }
+        match near.alike(material.numbers, key) {
+            Some(number) => self.repeat(key, number),
+            None => self.add_own(alloc, material, near, key, run),
+        }
     }
 
     /// Appends the edges of sorted keys, one for each pair.
@@ -323,15 +340,29 @@ fn edges_with_capacity(alloc: Global, room: usize, own: usize) -> Result<MadeEdg
 /// The capacity up to which a refused request means that memory ran out.
 const LITTLE_ROOM: usize = 1_024;
 
-/// Returns no edges, with capacity for one edge per node and four per link, and for three distinct edges per link. Most graphs need
-/// no more, and unused capacity is never touched. If that much is refused, the capacity is small.
-fn no_edges(alloc: Global, nodes: usize, links: usize) -> Result<MadeEdges, AllocError>
+/// Returns the number of items of all features.
+fn item_count(graph: &PackageGraph) -> usize {
+    let mut count: usize = 0;
+    for ix in 0..graph.package_count() {
+        for feature in graph.package(ix).named_features() {
+            count = count.saturating_add(feature.item_count());
+        }
+    }
+    count
+}
+
+/// Returns no edges, with capacity for one edge per node and per item and four per link, and for three distinct edges per link. Most
+/// graphs need no more, and unused capacity is never touched. If that much is refused, the capacity is small.
+fn no_edges(alloc: Global, nodes: usize, graph: &PackageGraph) -> Result<MadeEdges, AllocError>
     ensures edges { IfOk result (λ made. made.edges ≡ []) }
     ensures ends { IfOk result (λ made. made.ends ≡ []) }
     ensures weak { IfOk result (λ made. made.weak.entries ≡ []) }
 {
+    let links = graph.link_count();
     let own = links.saturating_mul(3);
-    let room = nodes.saturating_add(links.saturating_mul(4));
+    let room = nodes
+        .saturating_add(item_count(graph))
+        .saturating_add(links.saturating_mul(4));
     match edges_with_capacity(alloc, room, own) {
         Err(_) if room > LITTLE_ROOM => edges_with_capacity(alloc, 0, 0),
         made => made,
@@ -352,7 +383,7 @@ fn made_edges(
     ensures made { IfOk result (λ m. AreMadeBelow numbers.entry.graph.now (length numbers.entry.graph.now.packages) m.0) }
     ensures warnings { IfOk result (λ m. warnings_in m.1 ≡ warnings numbers.entry.graph.now) }
 {
-    let mut made = no_edges(alloc, packages.len(), numbers.graph.link_count())?;
+    let mut made = no_edges(alloc, packages.len(), numbers.graph)?;
     let warnings = made.fill(alloc, numbers, packages, groups, defaults)?;
     Ok((made, warnings))
 }

@@ -7,11 +7,11 @@ use Rattle.std.specs.Str.{bytes_eq}
 use Rattle.std.proofs.lemmas.Bool.{cases_eq, cases_lt, false≢true}
 use Rattle.std.proofs.lemmas.Bool.Decides.{nat_tests}
 use Rattle.std.proofs.lemmas.Nat.{mod-mul-add, mod_below, rows}
-use Rattle.std.proofs.lemmas.List.{get_or_default, get_or-map, get_or-set_other, get_or-set_same, get_or_append_left, length-map, length-replicate, length-set}
+use Rattle.std.proofs.lemmas.List.{get_or-map, get_or-set_other, get_or-set_same, get_or_append_left, length-map, length-replicate, length-set, map-append}
 use Rattle.std.proofs.lemmas.List.Sums.{position_or_len_is, sum_by-cons, sum_by-set}
 use Rattle.guppy_packages.proofs.Lists.{position-map}
 use Rattle.guppy_packages.specs.Rows.{Text}
-use Rattle.guppy_packages.specs.inner.HashPlaces.{AreIn, IsFirstEmpty, IsIn, name_hash, slot_of}
+use Rattle.guppy_packages.specs.inner.HashPlaces.{AreIn, IsFirstEmpty, IsIn, hashes_of, name_hash, slot_of}
 
 -- ---- a hash's slots
 
@@ -41,7 +41,7 @@ slot_far m hash d small lt le =
     let first = first_within m hash (omega arith) small in
     sym (mod_over m (hash * m / 2 ^ 32 + d) _ (omega arith) (omega arith))
 
-slot_within : (m hash d : ℕ) → d < m → slot_of m hash d < m
+pub slot_within : (m hash d : ℕ) → d < m → slot_of m hash d < m
 unfolding slot_of
 slot_within m hash d lt = mod_below (hash * m / 2 ^ 32 + d) m (omega arith)
 
@@ -57,7 +57,7 @@ slot_reached m hash s lt small =
 
 -- ---- empty slots
 
-used_not_empty : (x : ℕ) → 0 < x → cond {A = ℕ} (nat_eq 0 x) 1 0 ≡ 0
+pub used_not_empty : (x : ℕ) → 0 < x → cond {A = ℕ} (nat_eq 0 x) 1 0 ≡ 0
 used_not_empty x pos = grind (arith, nat_tests)
 
 -- if no slot is empty, none is counted
@@ -83,7 +83,7 @@ replicate_empty (suc m) =
     let all = sum_by-cons (λ (y : ℕ). cond {A = ℕ} (nat_eq 0 y) 1 0) 0 (replicate m 0) in
     omega (arith, all, rest)
 
-replicate_zero : (m s : ℕ) → get_or (replicate {A = ℕ} m 0) s 0 ≡ 0
+pub replicate_zero : (m s : ℕ) → get_or (replicate {A = ℕ} m 0) s 0 ≡ 0
 replicate_zero zero s = refl
 replicate_zero (suc m) zero = refl
 replicate_zero (suc m) (suc s) = replicate_zero m s
@@ -145,20 +145,28 @@ in_more n slots hashes slot h first =
           lower = λ e lt. rw (long, used_kept slots slot (n + 1) _ first.empty (first.used e lt)) (h.below _);
         }
 
--- places stay in their slots when hashes are appended
-pub in_push : (slots hashes : List ℕ) (hash : ℕ) → AreIn (length hashes) slots hashes → AreIn (length hashes) slots (hashes ++ hash ∷ [])
-in_push slots hashes hash h = record {
-  few = h.few;
-  below = h.below;
-  each = λ i lt. rw (get_or_append_left hashes (hash ∷ []) 0 i lt) (h.each i lt);
-  empty = h.empty;
-}
+-- places stay in their slots when an item is appended
+pub in_push : {X : Type 0} (name_of : X → Text) (slots : List ℕ) (items : List X) (item : X) → AreIn (length items) slots (hashes_of name_of items) → AreIn (length items) slots (hashes_of name_of (items ++ item ∷ []))
+in_push name_of slots items item h =
+    let hash = name_hash (name_of item) in
+    let long : length (hashes_of name_of items) ≡ length items = length-map items (λ t. name_hash (name_of t)) in
+    rw (map-append (λ t. name_hash (name_of t)) items (item ∷ [])) (record {
+      few = h.few;
+      below = h.below;
+      each = λ i lt. rw (get_or_append_left (hashes_of name_of items) (hash ∷ []) 0 i (rw long lt)) (h.each i lt);
+      empty = h.empty;
+    })
+
+-- the hash of item `i`
+pub hash_at : {X : Type 0} (name_of : X → Text) (items : List X) (i : ℕ) (item : X) → i < length items → item ≡ get_or items i item → get_or (hashes_of name_of items) i 0 ≡ name_hash (name_of item)
+hash_at name_of items i item lt is = get_or-map (λ t. name_hash (name_of t)) items i item 0 lt ∙ ap (λ t. name_hash (name_of t)) (sym is)
+
+-- and of the last
+pub hash_of_last : {X : Type 0} (name_of : X → Text) (items : List X) (item : X) → get_or (hashes_of name_of (items ++ item ∷ [])) (length items) 0 ≡ name_hash (name_of item)
+hash_of_last name_of [] item = refl
+hash_of_last name_of (x ∷ xs) item = hash_of_last name_of xs item
 
 -- ---- the first place of a name
-
--- the content of a hash's slot
-pub read_slot : (slots : List ℕ) (m hash o at x : ℕ) → m ≡ length slots → at ≡ slot_of m hash o → at < length slots → x ≡ get_or slots at x → x ≡ get_or slots (slot_of (length slots) hash o) 0
-read_slot slots m hash o at x long is within read = read ∙ get_or_default slots at x 0 within ∙ ap (λ k. get_or slots k 0) (is ∙ ap (λ k. slot_of k hash o) long)
 
 -- the places in the first `o` slots of a hash have other names
 pub record AreOthers (name : Text) (names : List Text) (slots : List ℕ) (hash o : ℕ) : Type 0 where
@@ -167,7 +175,7 @@ pub record AreOthers (name : Text) (names : List Text) (slots : List ℕ) (hash 
 pub no_others : (name : Text) (names : List Text) (slots : List ℕ) (hash : ℕ) → AreOthers name names slots hash 0
 no_others name names slots hash = record { others = λ d i lt is. absurd (omega arith) }
 
-others_more : (name : Text) (names : List Text) (slots : List ℕ) (hash o i : ℕ) → AreOthers name names slots hash o → get_or slots (slot_of (length slots) hash o) 0 ≡ i + 1 → bytes_eq name (get_or names i []) ≡ false
+pub others_more : (name : Text) (names : List Text) (slots : List ℕ) (hash o i : ℕ) → AreOthers name names slots hash o → get_or slots (slot_of (length slots) hash o) 0 ≡ i + 1 → bytes_eq name (get_or names i []) ≡ false
     → AreOthers name names slots hash (o + 1)
 others_more name names slots hash o i h there other = record {
   others = λ d j lt is.
@@ -178,7 +186,7 @@ others_more name names slots hash o i h there other = record {
       (cases_eq d o);
 }
 
-false_unless : (b : Bool) → (b ≡ true → ⊥) → b ≡ false
+pub false_unless : (b : Bool) → (b ≡ true → ⊥) → b ≡ false
 false_unless false h = refl
 false_unless true h = absurd (h refl)
 
@@ -195,33 +203,26 @@ first_passes p names i lt is none =
     rw at (sym (grind arith))
 
 -- the hashes of named items
-hashes_named : {X : Type 0} (name_of : X → Text) (items : List X) → map (λ t. name_hash (name_of t)) items ≡ map name_hash (map name_of items)
+hashes_named : {X : Type 0} (name_of : X → Text) (items : List X) → hashes_of name_of items ≡ map name_hash (map name_of items)
 hashes_named name_of [] = refl
 hashes_named name_of (x ∷ xs) = ap (λ l. name_hash (name_of x) ∷ l) (hashes_named name_of xs)
 
-module _ {X : Type 0} (name_of : X → Text) (items : List X) (slots hashes : List ℕ) (whole : AreIn (length hashes) slots hashes) (are : hashes ≡ map (λ t. name_hash (name_of t)) items) where
-  long : length hashes ≡ length items
-  long = ap length are ∙ length-map items (λ t. name_hash (name_of t))
-
+module _ {X : Type 0} (name_of : X → Text) (items : List X) (slots : List ℕ) (whole : AreIn (length items) slots (hashes_of name_of items)) where
   -- what a slot has is a place
   pub place_within : (s x : ℕ) → x ≡ get_or slots s 0 → x ≢ 0 → x - 1 < length items
-  place_within s x read some = let le = whole.below s in omega (arith, long)
-
-  -- with the hash of its item's name
-  pub hash_there : (i hash : ℕ) (item : X) → i < length items → hash ≡ get_or hashes i hash → item ≡ get_or items i item → hash ≡ name_hash (name_of item)
-  hash_there i hash item lt read is = read ∙ ap (λ l. get_or l i hash) are ∙ get_or-map (λ t. name_hash (name_of t)) items i item hash lt ∙ ap (λ t. name_hash (name_of t)) (sym is)
+  place_within s x read some = let le = whole.below s in omega arith
 
   module _ (name : Text) (hash : ℕ) (is : hash ≡ name_hash name) where
-    there : (i : ℕ) → i < length items → bytes_eq name (get_or (map name_of items) i []) ≡ true → get_or hashes i 0 ≡ hash
-    there i lt same =
-        ap (λ l. get_or l i 0) (are ∙ hashes_named name_of items) ∙ get_or-map name_hash (map name_of items) i [] 0 (rw (length-map items name_of) lt)
+    pub same_hash : (i : ℕ) → i < length items → bytes_eq name (get_or (map name_of items) i []) ≡ true → get_or (hashes_of name_of items) i 0 ≡ hash
+    same_hash i lt same =
+        ap (λ l. get_or l i 0) (hashes_named name_of items) ∙ get_or-map name_hash (map name_of items) i [] 0 (rw (length-map items name_of) lt)
         ∙ ap name_hash (sym ((bytes_decides name (get_or (map name_of items) i [])).0 same)) ∙ sym is
 
     -- a place with the name is in a later slot of its hash
     not_before : (o : ℕ) → AreOthers name (map name_of items) slots hash o → (i : ℕ) → i < length items → bytes_eq name (get_or (map name_of items) i []) ≡ true → (d : ℕ) × (o ≤ d) × IsIn slots hash i d
     not_before o h i lt same =
-        let at = whole.each i (omega (arith, long)) in
-        let here : IsIn slots hash i at.0 = subst (λ k. IsIn slots k i at.0) (there i lt same) at.1 in
+        let at = whole.each i lt in
+        let here : IsIn slots hash i at.0 = subst (λ k. IsIn slots k i at.0) (same_hash i lt same) at.1 in
         (at.0, ⊎_elim (λ (low : at.0 < o). absurd (false≢true (sym (h.others at.0 i low here.there) ∙ same))) (λ (high : o ≤ at.0). high) (cases_lt at.0 o), here)
 
     -- a place that is not in the next slot is in one after it

@@ -20,4 +20,5 @@ pub mod SharedLemmas
 pub mod Sound
 pub mod StepCounts
 pub mod StoredLemmas
+pub mod TagLemmas
 pub mod TakenLemmas

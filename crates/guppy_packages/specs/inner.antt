@@ -1,5 +1,6 @@
 -- Definitions for private functions: the two passes, one row at a time; sets of names; short names; the state of the second pass; the
--- first link of each package; texts that are appended to one another; the texts of rows; and what declarations share.
+-- first link of each package; texts that are appended to one another; the texts of rows; texts with a slash; and what declarations
+-- share.
 pub mod Begins
 pub mod Declarations
 pub mod HashPlaces
@@ -8,5 +9,6 @@ pub mod NameSets
 pub mod Noted
 pub mod Pushed
 pub mod RowTexts
+pub mod Slashes
 pub mod SpecPlatforms
 pub mod Steps

@@ -25,27 +25,34 @@ use crate::text_run::TextRun;
 use std::alloc::{AllocError, Global};
 use std::rc::Rc;
 
-/// Returns a package with no features and no optional names, with room for `room` features. `AllocError` is the only error.
+/// The number of features and of optional declarations for which a package has room.
+#[derive(Clone, Copy)]
+struct Room {
+    features: usize,
+    optional: usize,
+}
+
+/// Returns a package with no features and no optional names, with this room. `AllocError` is the only error.
 #[inline]
-fn blank_package(alloc: Global, in_workspace: bool, room: usize) -> Result<PackageData, AllocError>
+fn blank_package(alloc: Global, in_workspace: bool, room: Room) -> Result<PackageData, AllocError>
     ensures { IfOk result (λ blank. blank ≡ record { in_workspace = in_workspace; features = []; optional_names = [] }) }
 {
     Ok(PackageData {
         in_workspace,
-        features: NameSet::with_capacity(alloc, room)?,
-        optional_names: OptionalNames::new(),
+        features: NameSet::with_capacity(alloc, room.features)?,
+        optional_names: OptionalNames::with_capacity(alloc, room.optional)?,
     })
 }
 
-/// Reads a Package row: appends the package `id`, with room for `room` features, or returns `DuplicatePackage` if `packages` already
-/// has it. The id is the first of `texts`.
+/// Reads a Package row: appends the package `id`, with this room, or returns `DuplicatePackage` if `packages` already has it. The id is
+/// the first of `texts`.
 fn push_package(
     alloc: Global,
     packages: &mut PackageList,
     id: &str,
     texts: TextRun,
     in_workspace: bool,
-    room: usize,
+    room: Room,
 ) -> Result<(), RowFault>
     requires some { 0 < length texts }
     requires id { first_text texts ≡ id.now }
@@ -138,7 +145,7 @@ pub(crate) struct RowTexts<'l> {
 }
 
 /// Reads a row in the first pass, or returns its fault. Its names are those of `texts` from `at` up to, not including, `next`; its id is
-/// that of the next package. A new package has room for `room` features.
+/// that of the next package. A new package has this room.
 fn take_row(
     alloc: Global,
     packages: &mut PackageList,
@@ -146,7 +153,7 @@ fn take_row(
     at: usize,
     next: usize,
     row: Row,
-    room: usize,
+    room: Room,
 ) -> Result<(), RowFault>
     requires ids { AreAt texts.ids.now.value (length (package_tables packages.old)) (row_ids (row_text row)) }
     requires names { AreAt texts.names.now.value at (row_texts (row_text row)) }
@@ -168,14 +175,14 @@ fn take_row(
 }
 
 /// Reads a row in the first pass, or returns its fault. Its names begin at `at` in `texts`; returns where those of the next row begin.
-/// A new package has room for `room` features.
+/// A new package has this room.
 fn take_row_at(
     alloc: Global,
     packages: &mut PackageList,
     texts: RowTexts<'_>,
     at: usize,
     row: Row,
-    room: usize,
+    room: Room,
 ) -> Result<usize, RowFault>
     requires ids { AreAt texts.ids.now.value (length (package_tables packages.old)) (row_ids (row_text row)) }
     requires names { AreAt texts.names.now.value at (row_texts (row_text row)) }
@@ -187,25 +194,34 @@ fn take_row_at(
     Ok(next)
 }
 
-/// Returns the number of Feature rows from row `start` up to the next Package row, or up to the end.
-fn features_from<S: RowSource>(source: &S, start: usize) -> usize {
-    let mut count: usize = 0;
+/// The room of a package that has no rows of its own.
+const NO_ROOM: Room = Room {
+    features: 0,
+    optional: 0,
+};
+
+/// Returns the room for the rows from row `start` up to the next Package row, or up to the end.
+fn room_from<S: RowSource>(source: &S, start: usize) -> Room {
+    let mut room = NO_ROOM;
     for ix in start..source.row_count() {
         match source.row(ix) {
-            Row::Package { .. } => return count,
-            Row::Feature { .. } => count = count.saturating_add(1),
+            Row::Package { .. } => return room,
+            Row::Feature { .. } => room.features = room.features.saturating_add(1),
+            Row::Dep { optional, .. } if optional => {
+                room.optional = room.optional.saturating_add(1);
+            }
             Row::Dep { .. } => {}
         }
     }
-    count
+    room
 }
 
-/// Returns the number of features for which a package needs room, if `row` is its Package row and row `next` is the one after it. For
-/// any other row it is 0.
-fn room_for<S: RowSource>(source: &S, row: Row, next: usize) -> usize {
+/// Returns the room that a package needs, if `row` is its Package row and row `next` is the one after it. For any other row there is
+/// none.
+fn room_for<S: RowSource>(source: &S, row: Row, next: usize) -> Room {
     match row {
-        Row::Package { .. } => features_from(source, next),
-        Row::Feature { .. } | Row::Dep { .. } => 0,
+        Row::Package { .. } => room_from(source, next),
+        Row::Feature { .. } | Row::Dep { .. } => NO_ROOM,
     }
 }
 

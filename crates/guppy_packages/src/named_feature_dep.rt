@@ -1,6 +1,8 @@
 //! The meaning of a feature item's text.
-ghost use Rattle.std.specs.Prelude.{◌≡◌};
-ghost use Rattle.guppy_packages.specs.Items.{item_of, meaning};
+ghost use Rattle.std.specs.Prelude.{◌≡◌, position};
+ghost use Rattle.std.specs.Option.{option_map};
+ghost use Rattle.guppy_packages.specs.Items.{is_slash, item_of, meaning};
+ghost use Rattle.guppy_packages.specs.inner.Slashes.{parts_of};
 
 /// An item of a named feature.
 #[derive(Clone, Copy, PartialEq, Eq, Debug)]
@@ -17,13 +19,30 @@ pub enum NamedFeatureDep<'a> {
     },
 }
 
+/// Returns the place of the first `/`.
+#[inline]
+fn slash_at(bytes: &[u8]) -> Option<usize>
+    ensures { result ≡ position is_slash bytes.now }
+{
+    bytes.iter().position(|byte| *byte == b'/')
+}
+
+/// Returns the parts of `input` before and after its first `/`.
+#[inline]
+fn cut_at_slash(input: &str) -> Option<(&str, &str)>
+    ensures { option_map (λ parts. (parts.0.now, parts.1.now)) result ≡ parts_of input.now }
+{
+    let at = slash_at(input.as_bytes())?;
+    Some((&input[..at], &input[at + 1..]))
+}
+
 impl<'a> NamedFeatureDep<'a> {
     /// Returns the meaning of `input`, an item's text. It is cut at its first `/`; a `?` at the end of the left part makes it
     /// weak. Without a `/`, the prefix `dep:` means an optional dependency, and any other text a named feature.
     pub fn from_cargo_string(input: &'a str) -> Self
         ensures { meaning result ≡ item_of input.now }
     {
-        if let Some((left, feature)) = input.split_once('/') {
+        if let Some((left, feature)) = cut_at_slash(input) {
             return match left.strip_suffix('?') {
                 Some(dep_name) => NamedFeatureDep::DependencyNamedFeature {
                     dep_name,

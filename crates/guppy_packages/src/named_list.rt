@@ -1,9 +1,9 @@
 //! Named items by number, found by name.
-ghost use Rattle.std.specs.Prelude.{◌≡◌, ◌<◌, ◌++◌, ◌∷◌, [], IfOk, OnErr, OnOk, Some, length, map, position, slice_get};
+ghost use Rattle.std.specs.Prelude.{◌≡◌, ◌<◌, ◌++◌, ◌∷◌, [], IfOk, OnErr, OnOk, Some, length, position, slice_get};
 ghost use Rattle.std.specs.Str.{bytes_eq};
 ghost use Rattle.guppy_packages.specs.inner.HashPlaces.{name_hash};
 
-use crate::hash_places::{HashPlaces, hash_of};
+use crate::hash_places::{find, hash_of, make_room, put, slots_of};
 use crate::named::Named;
 use crate::pushing::push_to;
 use std::alloc::{AllocError, Global};
@@ -13,30 +13,19 @@ use std::marker::Model;
 #[derive(Drop)]
 pub(crate) struct NamedList<T: Named> {
     pub(crate) items: Vec<T>,
-    // the hashes of the items' names
-    pub(crate) places: HashPlaces,
+    /// The items' places, by the hashes of their names.
+    pub(crate) slots: Vec<u32>,
 }
 
 impl<T: Named> Model for NamedList<T> {
-    ghost use Rattle.std.specs.Prelude.{◌≡◌, List, map};
-    ghost use Rattle.guppy_packages.specs.inner.HashPlaces.{name_hash};
+    ghost use Rattle.std.specs.Prelude.{List, length};
+    ghost use Rattle.guppy_packages.specs.inner.HashPlaces.{AreTagged, hashes_of};
 
     ghost Value = { List T };
 
     ghost view = { λ l. l.items.items };
 
-    ghost invariant = { λ l. l.places ≡ map (λ t. name_hash (T.name t)) l.items.items };
-}
-
-/// Returns the hashes of the names of `items`, with room for `room` hashes.
-fn hashed<T: Named>(alloc: Global, items: &[T], room: usize) -> Result<HashPlaces, AllocError>
-    ensures { IfOk result (λ places. places ≡ map (λ t. name_hash (T.name t)) items.now) }
-{
-    let mut places = HashPlaces::with_capacity(alloc, room)?;
-    for item in items {
-        places.push(alloc, hash_of(item.name()))?;
-    }
-    Ok(places)
+    ghost invariant = { λ l. AreTagged (length l.items.items) l.slots.items (hashes_of T.name l.items.items) };
 }
 
 impl<T: Named + Drop> NamedList<T> {
@@ -44,17 +33,16 @@ impl<T: Named + Drop> NamedList<T> {
     pub(crate) fn with_capacity(alloc: Global, room: usize) -> Result<NamedList<T>, AllocError>
         ensures { IfOk result (λ list. list ≡ []) }
     {
-        let items = Vec::with_capacity(alloc, room)?;
-        let places = HashPlaces::with_capacity(alloc, room)?;
-        Ok(NamedList { items, places })
+        NamedList::of(alloc, Vec::with_capacity(alloc, room)?)
     }
 
-    /// Returns the list of `items`, with the room that they have. `AllocError` is the only error.
+    /// Returns the list of `items`, with the room that they have: three slots for each two, and some more. `AllocError` is the only error.
     pub(crate) fn of(alloc: Global, items: Vec<T>) -> Result<NamedList<T>, AllocError>
         ensures { IfOk result (λ list. list ≡ items.items) }
     {
-        let places = hashed(alloc, &items, items.capacity())?;
-        Ok(NamedList { items, places })
+        let count = items.capacity().saturating_mul(3) / 2 + 32;
+        let slots = slots_of(alloc, &items, count)?;
+        Ok(NamedList { items, slots })
     }
 
     /// Returns the number of items.
@@ -91,7 +79,7 @@ impl<T: Named + Drop> NamedList<T> {
         requires { hash ≡ name_hash name.now }
         ensures { result ≡ position (λ t. bytes_eq name.now (T.name t)) self.now }
     {
-        self.places.find(self.items.as_slice(), name, hash)
+        find(&self.slots, &self.items, name, hash)
     }
 
     /// Appends `item`, whose name has this hash. `AllocError` is the only error, and then the list is unchanged.
@@ -106,11 +94,9 @@ impl<T: Named + Drop> NamedList<T> {
         ensures kept { OnErr result (self.new ≡ self.old) }
     {
         let at = self.items.len();
+        make_room(alloc, &mut self.slots, &self.items)?;
         push_to(&mut self.items, item)?;
-        if self.places.push(alloc, hash).is_err() {
-            self.items.truncate(at);
-            return Err(AllocError);
-        }
+        put(&mut self.slots, hash, at);
         Ok(())
     }
 
@@ -119,6 +105,5 @@ impl<T: Named + Drop> NamedList<T> {
         ensures { self.new ≡ self.old }
     {
         self.items.shrink_to_fit();
-        self.places.shrink_to_fit();
     }
 }

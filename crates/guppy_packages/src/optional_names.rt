@@ -36,11 +36,17 @@ fn boxed(alloc: Global, name: String) -> Result<Box<NameSet<String>>, AllocError
 }
 
 impl OptionalNames {
-    /// Returns the empty list, which allocates nothing.
-    pub(crate) fn new() -> OptionalNames
-        ensures { result ≡ [] }
+    /// Returns the empty list, with room for `room` names. If that is 0, nothing is allocated. `AllocError` is the only error.
+    pub(crate) fn with_capacity(alloc: Global, room: usize) -> Result<OptionalNames, AllocError>
+        ensures { IfOk result (λ names. names ≡ []) }
     {
-        OptionalNames { held: None }
+        if room == 0 {
+            return Ok(OptionalNames { held: None });
+        }
+        let names = NameSet::with_capacity(alloc, room)?;
+        Ok(OptionalNames {
+            held: Some(Box::new(alloc, names)?),
+        })
     }
 
     /// Returns the names, in insertion order.

@@ -1,5 +1,5 @@
 -- Keys whose edges are equal, as the keys show.
-use Rattle.std.specs.Prelude.{◌≡◌, ℕ, ◌⊎◌, List, [], ◌∷◌, ◌++◌, Some, length, map, slice_get}
+use Rattle.std.specs.Prelude.{◌≡◌, ℕ, ◌⊎◌, List, [], ◌∷◌, ◌++◌, Contains, Some, length, map, slice_get}
 use Rattle.guppy_packages.specs.Tables.{LinkTable, Tables}
 use Rattle.feature_links.specs.Links.{IsLink}
 use Rattle.feature_links.specs.Facts.{EdgeFacts}
@@ -23,12 +23,13 @@ pub record AreAlike (t : Tables) (x y : Key) : Type 0 where
   pub kind : x.kind ≡ y.kind
   pub subject : SharesSubject t x y
 
--- Edge `number` is that of key `x`, for any weak links that follow.
+-- Edge `number` is that of key `x`, for any weak links that follow. If it is weak, its link is noted.
 pub record HasEdge (t : Tables) (m : MadeEdges) (x : Key) (number : ℕ) : Type 0 where
   pub of_tables : IsOfTables t x
   pub says : EdgeFacts
   pub at : slice_get m.edges number ≡ Some says
   pub value : (rest : List ℕ) → IsValueOf t (map (λ e. e.0) m.weak.entries ++ rest) x says
+  pub noted : x.kind ≡ SlashWeak → Contains (map (λ e. e.0) m.weak.entries) x.source
 
 -- Each slot has a key and the number of its edge, or is empty: it has a key that is alike to none.
 abbrev pub AreNear : Tables → MadeEdges → List (Key × ℕ) → Type 0

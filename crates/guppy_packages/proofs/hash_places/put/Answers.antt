@@ -1,9 +1,15 @@
-use Rattle.std.proofs.Common.{get_or, subst}
-use Rattle.guppy_packages.specs.inner.HashPlaces.{IsFirstEmpty}
-use Rattle.guppy_packages.proofs.HashLemmas.{in_more}
+use Rattle.std.proofs.Common.{◌≡◌, ◌∙◌, ◌+◌, ap, arith, length, rules, set, subst, sym}
+use Rattle.guppy_packages.specs.inner.HashPlaces.{AreTagged, IsFirstEmpty, tag_of}
+use Rattle.guppy_packages.proofs.TagLemmas.{tagged_more}
 use Rattle.guppy_packages.proofs.hash_places.put.Goals as goal
 
 pub returns-clause-put : goal.returns-clause-put
-returns-clause-put c =
-    in_more c.args.at c.args.slots.now.items c.args.hashes.now c.first_empty-slot.result c.requires.below
-    (subst (λ slots. IsFirstEmpty slots (get_or c.args.hashes.now c.args.at 0) c.first_empty-slot.result) c.deref.ensures.value c.first_empty-slot.ensures.first)
+returns-clause-put c hashes below is =
+    let slots = c.args.slots.now.items in
+    let at = c.args.at in
+    let slot = c.first_empty-slot.result in
+    let first = subst (λ l. IsFirstEmpty l c.args.hash slot) c.deref.ensures.value c.first_empty-slot.ensures.first in
+    let long : c.len.result ≡ length slots = search rules in
+    let tag : c.tag_of.result ≡ tag_of (length slots) c.args.hash = c.tag_of.ensures.value ∙ ap (λ m. tag_of m c.args.hash) long in
+    let value : tag_of (length slots) c.args.hash + (at + 1) ≡ c.tag_of.result + at + 1 = omega (arith, tag) in
+    subst (λ v. AreTagged (at + 1) (set slots slot v) hashes) value (tagged_more at c.args.hash slot slots hashes below is c.requires.room first)

@@ -4,7 +4,7 @@ use Rattle.std.specs.Str.{bytes_eq}
 use Rattle.guppy_packages.specs.Metadata.{package_table_of, package_graph_of}
 use Rattle.feature_links.specs.Links.{IsPackage}
 use Rattle.feature_edges.proofs.LabelLemmas.{package_there, named_place, place_fits, named_found, named_missing}
-use Rattle.feature_edges.proofs.WarningLemmas.{placed-any}
+use Rattle.guppy_packages.proofs.Lists.{is_some-position}
 use Rattle.feature_edges.proofs.node_numbers.Numbers.named.Goals as goal
 
 pub overflow_add-place : goal.overflow_add-place
@@ -36,7 +36,7 @@ returns-in-None-clause-node c =
     named_missing t p table is c.args.name.now (sym c.in-None.ensures)
 
 pub returns-in-Some-clause-found : goal.returns-in-Some-clause-found
-returns-in-Some-clause-found c = ap is_some c.in-Some.ensures ∙ placed-any (λ f. bytes_eq c.args.name.now f.name) (package_table_of c.args.metadata).features
+returns-in-Some-clause-found c = ap is_some c.in-Some.ensures ∙ is_some-position (λ f. bytes_eq c.args.name.now f.name) (package_table_of c.args.metadata).features
 
 pub returns-in-None-clause-found : goal.returns-in-None-clause-found
-returns-in-None-clause-found c = ap is_some c.in-None.ensures ∙ placed-any (λ f. bytes_eq c.args.name.now f.name) (package_table_of c.args.metadata).features
+returns-in-None-clause-found c = ap is_some c.in-None.ensures ∙ is_some-position (λ f. bytes_eq c.args.name.now f.name) (package_table_of c.args.metadata).features

@@ -7,7 +7,7 @@ use Rattle.guppy_packages.specs.Metadata.{package_table_of, package_graph_of}
 use Rattle.feature_links.specs.Links.{IsPackage}
 use Rattle.feature_edges.specs.Nodes.{first_node}
 use Rattle.feature_edges.proofs.LabelLemmas.{package_there, optional_place_below, place_fits, optional_found, optional_missing}
-use Rattle.feature_edges.proofs.WarningLemmas.{placed-any}
+use Rattle.guppy_packages.proofs.Lists.{is_some-position}
 use Rattle.feature_edges.proofs.node_numbers.Numbers.optional.Goals as goal
 
 pub overflow_add-features : goal.overflow_add-features
@@ -54,7 +54,7 @@ returns-in-None-clause-node c =
     optional_missing t p table is c.args.name.now (sym c.in-None.ensures)
 
 pub returns-in-Some-clause-found : goal.returns-in-Some-clause-found
-returns-in-Some-clause-found c = ap is_some c.in-Some.ensures ∙ placed-any (bytes_eq c.args.name.now) (package_table_of c.args.metadata).optional_names
+returns-in-Some-clause-found c = ap is_some c.in-Some.ensures ∙ is_some-position (bytes_eq c.args.name.now) (package_table_of c.args.metadata).optional_names
 
 pub returns-in-None-clause-found : goal.returns-in-None-clause-found
-returns-in-None-clause-found c = ap is_some c.in-None.ensures ∙ placed-any (bytes_eq c.args.name.now) (package_table_of c.args.metadata).optional_names
+returns-in-None-clause-found c = ap is_some c.in-None.ensures ∙ is_some-position (bytes_eq c.args.name.now) (package_table_of c.args.metadata).optional_names
