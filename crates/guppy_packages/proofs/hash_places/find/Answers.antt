@@ -1,4 +1,4 @@
-use Rattle.std.proofs.Common.{◌≡◌, ◌∙◌, ap, arith, get_or, length, sym}
+use Rattle.std.proofs.Common.{◌∙◌, ap, arith, get_or, sym}
 use Rattle.guppy_packages.proofs.TagLemmas.{tagged_apart, tagged_empty, tagged_found, tagged_left, tagged_other, tagged_within}
 use Rattle.guppy_packages.proofs.hash_places.find.Goals as goal
 use Rattle.guppy_packages.proofs.hash_places.find.Goals.{then-slot-tag+then-slot-tag-2+else-is_named, else-slot-tag, else-slot-tag-via-then-slot-tag+else-slot-tag-2, else-slot-tag-via-else-slot-tag}

@@ -1,4 +1,4 @@
-use Rattle.std.proofs.Common.{◌≡◌, ◌∙◌, ◌+◌, ap, arith, length, rules, set, subst, sym}
+use Rattle.std.proofs.Common.{◌≡◌, ◌∙◌, ◌+◌, ap, arith, length, rules, set, subst}
 use Rattle.guppy_packages.specs.inner.HashPlaces.{AreTagged, IsFirstEmpty, tag_of}
 use Rattle.guppy_packages.proofs.TagLemmas.{tagged_more}
 use Rattle.guppy_packages.proofs.hash_places.put.Goals as goal
