@@ -75,6 +75,14 @@ empty_reached slots hash small some each =
     let none : count_by (nat_eq 0) slots ≡ 0 = none_empty slots (λ s lt. let at = slot_reached (length slots) hash s lt small in subst (λ k. 0 < get_or slots k 0) at.2 (each at.0 at.1)) in
     omega arith
 
+-- one more slot of a hash is used
+pub used_more : (slots : List ℕ) (hash o x : ℕ) → ((d : ℕ) → d < o → 0 < get_or slots (slot_of (length slots) hash d) 0) → x ≡ get_or slots (slot_of (length slots) hash o) 0 → x ≢ 0
+    → (d : ℕ) → d < o + 1 → 0 < get_or slots (slot_of (length slots) hash d) 0
+used_more slots hash o x used read some d lt = ⊎_elim
+    (λ (e : d ≡ o). subst (λ k. 0 < get_or slots (slot_of (length slots) hash k) 0) (sym e) (omega (arith, read, some)))
+    (λ (apart : d ≢ o). used d (omega (arith, lt, apart)))
+    (cases_eq d o)
+
 -- only empty slots
 replicate_empty : (m : ℕ) → count_by (nat_eq 0) (replicate m 0) ≡ m
 replicate_empty zero = refl

@@ -1,9 +1,9 @@
 -- Two lists of one length as a list of pairs.
 use Rattle.std.proofs.Common.{◌≡◌, ◌∙◌, ℕ, zero, suc, List, [], ◌∷◌, ◌++◌, Bool, Some, length, set, refl, ap, sym, arith}
 use Rattle.std.specs.Prelude.{position, slice_get}
-use Rattle.std.specs.List.{zip}
+use Rattle.std.specs.List.{list_any, zip}
 use Rattle.std.proofs.lemmas.Slice.Zip.{firsts-zip, length-zip}
-use Rattle.guppy_packages.proofs.Lists.{position-map}
+use Rattle.guppy_packages.proofs.Lists.{list_any-map, position-map}
 
 module _ {A B : Type 0} where
   pub zip-push : (ks : List A) (vs : List B) (k : A) (v : B) → length vs ≡ length ks → zip (ks ++ k ∷ []) (vs ++ v ∷ []) ≡ zip ks vs ++ (k, v) ∷ []
@@ -38,3 +38,6 @@ module _ {A B : Type 0} where
   -- a search by the first parts
   pub position-firsts : (p : A → Bool) (ks : List A) (vs : List B) → length vs ≡ length ks → position p ks ≡ position (λ (e : A × B). p e.0) (zip ks vs)
   position-firsts p ks vs e = ap (position p) (sym (firsts-zip ks vs e)) ∙ position-map (λ (e : A × B). e.0) p (zip ks vs)
+
+  pub list_any-firsts : (p : A → Bool) (ks : List A) (vs : List B) → length vs ≡ length ks → list_any p ks ≡ list_any (λ (e : A × B). p e.0) (zip ks vs)
+  list_any-firsts p ks vs e = ap (list_any p) (sym (firsts-zip ks vs e)) ∙ list_any-map (λ (e : A × B). e.0) p (zip ks vs)

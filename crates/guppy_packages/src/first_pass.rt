@@ -58,12 +58,11 @@ fn push_package(
     requires id { first_text texts ≡ id.now }
     ensures { Takes (package_tables packages.new) result (add_package id.now in_workspace (package_tables packages.old)) }
 {
-    let hash = hash_of(id);
-    if packages.place_hashed(id, hash).is_some() {
+    let data = blank_package(alloc, in_workspace, room)?;
+    let added = packages.insert(alloc, PackageId::of_texts(texts), data, hash_of(id))?;
+    if !added {
         return Err(RowFault::DuplicatePackage);
     }
-    let data = blank_package(alloc, in_workspace, room)?;
-    packages.push_hashed(alloc, PackageId::of_texts(texts), data, hash)?;
     Ok(())
 }
 

@@ -6,7 +6,7 @@
 //!
 //! Hashes of names are those of SipHash with a fixed key. An author of the names can search for collisions, but no simple pattern
 //! collides, as it would with a multiplying hash.
-ghost use Rattle.std.specs.Prelude.{◌≡◌, ◌+◌, ◌^◌, ◌<◌, ◌≤◌, ℕ, IfOk, List, OnOk, OnErr, length, position, slice_index, count_by, nat_eq, replicate};
+ghost use Rattle.std.specs.Prelude.{◌≡◌, ◌+◌, ◌^◌, ◌<◌, ◌≤◌, ℕ, IfErr, IfOk, List, None, OnOk, OnErr, Some, length, position, slice_index, count_by, nat_eq, replicate};
 ghost use Rattle.std.specs.Str.{bytes_eq};
 ghost use Rattle.guppy_packages.specs.inner.HashPlaces.{AreTagged, IsFirstEmpty, hashes_of, name_hash, slot_of, tag_of};
 
@@ -36,15 +36,21 @@ fn probe(hash: u32, slots: usize, offset: usize) -> usize
     if slot < slots { slot } else { slot - slots }
 }
 
-/// Returns the tag of `hash` among `slots` slots.
+/// The number of slots from which on there are no tags: a place needs more than 24 of a slot's 32 bits.
+const UNTAGGED: usize = 16_777_216;
+
+/// Returns the tag of `hash` among `slots` slots: its last eight bits, as the first of a slot's 32 bits.
 #[inline]
 fn tag_of(hash: u32, slots: usize) -> usize
-    requires some { 0 < slots }
-    requires few { slots < 2 ^ 32 }
+    requires { slots < 2 ^ 32 }
     ensures value { result ≡ tag_of slots hash }
     ensures fits { (x : ℕ) → x < slots → result + x < 2 ^ 32 }
 {
-    hash as usize % (4_294_967_296 / slots) * slots
+    if slots < UNTAGGED {
+        hash as usize % 256 * UNTAGGED
+    } else {
+        0
+    }
 }
 
 /// Returns the first empty slot of `hash`.
@@ -63,8 +69,19 @@ fn first_empty(slots: &[u32], hash: u32) -> usize
     unreachable!()
 }
 
+/// Puts place `at`, whose hash is `hash`, into the hash's first empty slot `slot`. All lower places are in slots.
+pub(crate) fn put_at(slots: &mut Vec<u32>, slot: usize, hash: u32, at: usize)
+    requires few { length slots.old.items < 2 ^ 32 }
+    requires room { at + 1 < length slots.old.items }
+    requires first { IsFirstEmpty slots.old.items hash slot }
+    ensures put { (hashes : List ℕ) → AreTagged at slots.old.items hashes → slice_index hashes at ≡ hash → AreTagged (at + 1) slots.new.items hashes }
+    ensures slots { length slots.new.items ≡ length slots.old.items }
+{
+    slots[slot] = (tag_of(hash, slots.len()) + at + 1) as u32;
+}
+
 /// Puts place `at`, whose hash is `hash`, into a slot. All lower places are in slots.
-pub(crate) fn put(slots: &mut Vec<u32>, hash: u32, at: usize)
+fn put(slots: &mut Vec<u32>, hash: u32, at: usize)
     requires few { length slots.old.items < 2 ^ 32 }
     requires room { at + 1 < length slots.old.items }
     requires empty { count_by (nat_eq 0) slots.old.items + at ≡ length slots.old.items }
@@ -72,7 +89,7 @@ pub(crate) fn put(slots: &mut Vec<u32>, hash: u32, at: usize)
     ensures slots { length slots.new.items ≡ length slots.old.items }
 {
     let slot = first_empty(slots, hash);
-    slots[slot] = (tag_of(hash, slots.len()) + at + 1) as u32;
+    put_at(slots, slot, hash, at);
 }
 
 /// Returns `count` empty slots, or `AllocError` if the allocation fails or the number doesn't fit in 32 bits.
@@ -121,27 +138,33 @@ pub(crate) fn make_room<T: Named>(
     Ok(())
 }
 
-/// Returns the place of the first of `items` whose name is `name`, with this hash.
-pub(crate) fn find<T: Named>(slots: &[u32], items: &[T], name: &str, hash: u32) -> Option<usize>
+/// Looks for the first of `items` whose name is `name`, with this hash. Returns its place, or the hash's first empty slot if there is no
+/// such item.
+pub(crate) fn look_up<T: Named>(
+    slots: &[u32],
+    items: &[T],
+    name: &str,
+    hash: u32,
+) -> Result<usize, usize>
     requires put { AreTagged (length items.now) slots.now (hashes_of T.name items.now) }
     requires hash { hash ≡ name_hash name.now }
-    ensures { result ≡ position (λ t. bytes_eq name.now (T.name t)) items.now }
+    ensures found { IfOk result (λ place. Some place ≡ position (λ t. bytes_eq name.now (T.name t)) items.now) }
+    ensures none { IfErr result (λ _. None ≡ position (λ t. bytes_eq name.now (T.name t)) items.now) }
+    ensures empty { 0 < count_by (nat_eq 0) slots.now → IfErr result (IsFirstEmpty slots.now hash) }
 {
-    if slots.is_empty() {
-        return None;
-    }
     let tag = tag_of(hash, slots.len());
     for offset in 0..slots.len() {
-        let slot = slots[probe(hash, slots.len(), offset)] as usize;
+        let at = probe(hash, slots.len(), offset);
+        let slot = slots[at] as usize;
         if slot == 0 {
-            return None;
+            return Err(at);
         }
         if slot > tag && slot - tag < slots.len() {
             let place = slot - tag - 1;
             if items[place].is_named(name) {
-                return Some(place);
+                return Ok(place);
             }
         }
     }
-    None
+    Err(slots.len())
 }

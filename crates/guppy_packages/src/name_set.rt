@@ -53,9 +53,9 @@ fn has<T: Named>(items: &[T], name: &str) -> bool
 fn grown<T: Named + Drop>(alloc: Global, items: Vec<T>, item: T) -> Result<Held<T>, AllocError>
     ensures { IfOk result (λ held. held_items held ≡ items.items ++ item ∷ []) }
 {
-    let mut many = NamedList::of(alloc, items)?;
-    let hash = hash_of(item.name());
-    many.push_hashed(alloc, item, hash)?;
+    let mut all = items;
+    push_to(&mut all, item)?;
+    let many = NamedList::of(alloc, all)?;
     Ok(Held::Many(Box::new(alloc, many)?))
 }
 
@@ -85,11 +85,7 @@ fn insert_many<T: Named + Drop>(
     ensures items { IfOk result (λ _. items.new ≡ inserted T.name items.old item) }
 {
     let hash = hash_of(item.name());
-    if items.place_hashed(item.name(), hash).is_some() {
-        return Ok(false);
-    }
-    items.push_hashed(alloc, item, hash)?;
-    Ok(true)
+    items.insert(alloc, item, hash)
 }
 
 /// Appends `item` unless one of its name is there, and returns whether it did. If an allocation fails, items may be lost.

@@ -1,9 +1,11 @@
 //! Named items by number, found by name.
-ghost use Rattle.std.specs.Prelude.{◌≡◌, ◌<◌, ◌++◌, ◌∷◌, [], IfOk, OnErr, OnOk, Some, length, position, slice_get};
+ghost use Rattle.std.specs.Prelude.{◌≡◌, ◌<◌, [], IfOk, OnErr, Some, length, not, position, slice_get};
+ghost use Rattle.std.specs.List.{list_any};
 ghost use Rattle.std.specs.Str.{bytes_eq};
 ghost use Rattle.guppy_packages.specs.inner.HashPlaces.{name_hash};
+ghost use Rattle.guppy_packages.specs.inner.NameSets.{inserted};
 
-use crate::hash_places::{find, hash_of, make_room, put, slots_of};
+use crate::hash_places::{hash_of, look_up, make_room, put_at, slots_of};
 use crate::named::Named;
 use crate::pushing::push_to;
 use std::alloc::{AllocError, Global};
@@ -71,33 +73,28 @@ impl<T: Named + Drop> NamedList<T> {
     pub(crate) fn place_of(&self, name: &str) -> Option<usize>
         ensures { result ≡ position (λ t. bytes_eq name.now (T.name t)) self.now }
     {
-        self.place_hashed(name, hash_of(name))
+        match look_up(&self.slots, &self.items, name, hash_of(name)) {
+            Ok(place) => Some(place),
+            Err(_) => None,
+        }
     }
 
-    /// Returns the number of the first item whose name is `name`, with this hash.
-    pub(crate) fn place_hashed(&self, name: &str, hash: u32) -> Option<usize>
-        requires { hash ≡ name_hash name.now }
-        ensures { result ≡ position (λ t. bytes_eq name.now (T.name t)) self.now }
-    {
-        find(&self.slots, &self.items, name, hash)
-    }
-
-    /// Appends `item`, whose name has this hash. `AllocError` is the only error, and then the list is unchanged.
-    pub(crate) fn push_hashed(
-        &mut self,
-        alloc: Global,
-        item: T,
-        hash: u32,
-    ) -> Result<(), AllocError>
+    /// Appends `item`, whose name has this hash, unless an item of its name is there, and returns whether it did. `AllocError` is the only
+    /// error, and then the list is unchanged.
+    pub(crate) fn insert(&mut self, alloc: Global, item: T, hash: u32) -> Result<bool, AllocError>
         requires { hash ≡ name_hash (T.name item) }
-        ensures pushed { OnOk result (self.new ≡ self.old ++ item ∷ []) }
+        ensures added { IfOk result (λ added. added ≡ not (list_any (λ t. bytes_eq (T.name item) (T.name t)) self.old)) }
+        ensures items { IfOk result (λ _. self.new ≡ inserted T.name self.old item) }
         ensures kept { OnErr result (self.new ≡ self.old) }
     {
-        let at = self.items.len();
         make_room(alloc, &mut self.slots, &self.items)?;
+        let Err(slot) = look_up(&self.slots, &self.items, item.name(), hash) else {
+            return Ok(false);
+        };
+        let at = self.items.len();
         push_to(&mut self.items, item)?;
-        put(&mut self.slots, hash, at);
-        Ok(())
+        put_at(&mut self.slots, slot, hash, at);
+        Ok(true)
     }
 
     /// Frees the spare capacity.

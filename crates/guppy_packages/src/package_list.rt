@@ -1,5 +1,6 @@
 //! Packages by number, found by id.
-ghost use Rattle.std.specs.Prelude.{◌≡◌, ◌<◌, ◌++◌, ◌∷◌, [], IfOk, OnErr, OnOk, Some, length, position, slice_get};
+ghost use Rattle.std.specs.Prelude.{◌≡◌, ◌<◌, ◌++◌, ◌∷◌, [], IfOk, OnErr, Some, if◌then◌else◌, length, not, position, slice_get};
+ghost use Rattle.std.specs.List.{list_any};
 ghost use Rattle.std.specs.Str.{bytes_eq};
 ghost use Rattle.guppy_packages.specs.inner.HashPlaces.{name_hash};
 
@@ -79,33 +80,33 @@ impl PackageList {
         self.ids.place_of(id)
     }
 
-    /// Returns the number of the package whose id is `id`, with this hash.
-    pub(crate) fn place_hashed(&self, id: &str, hash: u32) -> Option<usize>
-        requires { hash ≡ name_hash id.now }
-        ensures { result ≡ position (λ e. bytes_eq id.now e.0) self.now }
-    {
-        self.ids.place_hashed(id, hash)
-    }
-
-    /// Appends the package with the id `id`, which has this hash. `AllocError` is the only error, and then the list is unchanged.
-    pub(crate) fn push_hashed(
+    /// Appends the package with the id `id`, which has this hash, unless a package of this id is there, and returns whether it did.
+    /// `AllocError` is the only error, and then the list is unchanged.
+    pub(crate) fn insert(
         &mut self,
         alloc: Global,
         id: PackageId,
         contents: PackageData,
         hash: u32,
-    ) -> Result<(), AllocError>
+    ) -> Result<bool, AllocError>
         requires { hash ≡ name_hash id }
-        ensures pushed { OnOk result (self.new ≡ self.old ++ (id, contents) ∷ []) }
+        ensures added { IfOk result (λ added. added ≡ not (list_any (λ e. bytes_eq id e.0) self.old)) }
+        ensures packages { IfOk result (λ added. self.new ≡ (if added then self.old ++ (id, contents) ∷ [] else self.old)) }
         ensures kept { OnErr result (self.new ≡ self.old) }
     {
         let at = self.contents.len();
         push_to(&mut self.contents, contents)?;
-        if self.ids.push_hashed(alloc, id, hash).is_err() {
-            self.contents.truncate(at);
-            return Err(AllocError);
+        match self.ids.insert(alloc, id, hash) {
+            Ok(true) => Ok(true),
+            Ok(false) => {
+                self.contents.truncate(at);
+                Ok(false)
+            }
+            Err(error) => {
+                self.contents.truncate(at);
+                Err(error)
+            }
         }
-        Ok(())
     }
 
     /// Frees the spare capacity.

@@ -1,5 +1,5 @@
 -- Hashes of names, in slots.
-use Rattle.std.specs.Prelude.{◌≡◌, ℕ, ◌+◌, ◌*◌, ◌/◌, ◌%◌, ◌^◌, ◌<◌, ◌≤◌, List, length, map, slice_index, count_by, nat_eq}
+use Rattle.std.specs.Prelude.{◌≡◌, ℕ, ◌+◌, ◌*◌, ◌/◌, ◌%◌, ◌^◌, ◌<◌, ◌≤◌, List, length, map, slice_index, count_by, if◌then◌else◌, nat_eq, nat_lt}
 use Rattle.std.specs.Hash.DefaultHasher as sip
 use Rattle.guppy_packages.specs.Rows.{Text}
 
@@ -29,13 +29,18 @@ pub record AreIn (n : ℕ) (slots hashes : List ℕ) : Type 0 where
   pub each : (i : ℕ) → i < n → (d : ℕ) × IsIn slots (slice_index hashes i) i d
   pub empty : count_by (nat_eq 0) slots + n ≡ length slots
 
--- The tag of a hash among `m` slots, a multiple of `m`. The hash's first slot is decided by its upper part, and the tag by the rest.
+-- Each of `m` slots has its place below this number, and its tag is a multiple of it.
+unfoldable pub width_of : ℕ → ℕ
+width_of m = if nat_lt m (2 ^ 24) then 2 ^ 24 else 2 ^ 32
+
+-- The tag of a hash among `m` slots. The hash's first slot is decided by its first bits, and the tag by its last eight. Very many slots
+-- have no tags.
 unfoldable pub tag_of : (m hash : ℕ) → ℕ
-tag_of m hash = hash % (2 ^ 32 / m) * m
+tag_of m hash = if nat_lt m (2 ^ 24) then hash % 2 ^ 8 * 2 ^ 24 else 0
 
 -- The slots without tags.
 abbrev pub untagged : List ℕ → List ℕ
-untagged slots = map (λ s. s % length slots) slots
+untagged slots = map (λ s. s % width_of (length slots)) slots
 
 -- A slot has the tag of its place's hash, and one plus the place.
 pub record IsTagged (n m : ℕ) (hashes : List ℕ) (slot : ℕ) : Type 0 where

@@ -1,16 +1,11 @@
-use Rattle.std.proofs.Common.{◌≡◌, Bool, true, false, not, map, ap, sym, ◌∙◌}
+use Rattle.std.proofs.Common.{◌≡◌, true, false, not, map, ap, sym, ◌∙◌}
 use Rattle.std.specs.List.{list_any}
 use Rattle.std.specs.Str.{bytes_eq}
 use Rattle.std.proofs.lemmas.List.{map-append}
 use Rattle.guppy_packages.specs.NamedFeature.{feature_table, name_text, table_of_texts}
 use Rattle.guppy_packages.specs.Tables.{has_feature}
-use Rattle.guppy_packages.proofs.Lists.{list_any-map}
+use Rattle.guppy_packages.proofs.Lists.{list_any-map, was_there}
 use Rattle.guppy_packages.proofs.first_pass.push_feature.Goals as goal
-
--- whether a key was present, by whether it was added
-was_there : (there added : Bool) → added ≡ not there → there ≡ not added
-was_there true added h = ap not (sym h)
-was_there false added h = ap not (sym h)
 
 pub returns-then-not-added : goal.returns-then-not-added
 returns-then-not-added c =
