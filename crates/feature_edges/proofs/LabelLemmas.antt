@@ -185,23 +185,23 @@ module _ (t : Tables) (p : ℕ) (table : PackageTable) (is : IsPackage t p table
       none_some : (n : ℕ) → ◌≡◌ {A = Option ℕ} None (Some n) → NodeAt t n p (named name)
       none_some n e = cc
 
+  -- a package has one node of an optional name
+  pub one_optional : AreTables t → (name : Text) (m n : ℕ) → NodeAt t m p (optional name) → NodeAt t n p (optional name) → m ≡ n
+  one_optional tables name m n a b =
+      let r = row_back m (optional name) a in
+      let s = row_back n (optional name) b in
+      let i = optional_back table r.0 name r.2 in
+      let j = optional_back table s.0 name s.2 in
+      omega (arith, r.1, s.1, i.1, j.1, tables.optional_names p table is i.0 j.0 name i.2 j.2)
+
   -- the number of an optional name found at a place
   pub optional_found : AreTables t → (name : Text) (k m : ℕ) → optional_place name table.optional_names ≡ Some k → m ≡ first_node t p + (1 + length table.features + k) → (n : ℕ) → (◌≡◌ {A = Option ℕ} (Some m) (Some n)) ↔ NodeAt t n p (optional name)
   optional_found tables name k m h e n =
       let q = position_there (bytes_eq name) k table.optional_names h in
       let same : q.element ≡ name = sym ((bytes_decides name q.element).0 q.passes) in
-      let there : slice_get table.optional_names k ≡ Some name = q.there ∙ ap Some same in (
-        (λ i.
-            let at : NodeAt t (first_node t p + suc (length table.features + k)) p (optional name) = node_there t p (suc (length table.features + k)) table (optional name) is (optional_label table k name there) in
-            let is_n : first_node t p + suc (length table.features + k) ≡ n = let z : m ≡ n = same_some m n i in omega arith in
-            subst (λ z. NodeAt t z p (optional name)) is_n at),
-        (λ i.
-            let r = row_back n (optional name) i in
-            let b = optional_back table r.0 name r.2 in
-            let place : b.0 ≡ k = tables.optional_names p table is b.0 k name b.2 there in
-            let is_m : m ≡ n = omega (arith, r.1, b.1, place) in
-            ap Some is_m),
-      )
+      let there : slice_get table.optional_names k ≡ Some name = q.there ∙ ap Some same in
+      let at : NodeAt t m p (optional name) = subst (λ z. NodeAt t z p (optional name)) (omega (arith, e)) (node_there t p (suc (length table.features + k)) table (optional name) is (optional_label table k name there)) in
+      (λ i. subst (λ z. NodeAt t z p (optional name)) (same_some m n i) at, λ i. ap Some (one_optional tables name m n at i))
 
   pub optional_missing : (name : Text) → optional_place name table.optional_names ≡ None → (n : ℕ) → (◌≡◌ {A = Option ℕ} None (Some n)) ↔ NodeAt t n p (optional name)
   optional_missing name h n = (

@@ -22,6 +22,7 @@ pub mod ValueLemmas
 pub mod AlikeLemmas
 pub mod NodeLabels
 pub mod DefaultLemmas
+pub mod GateLemmas
 pub mod WarningLemmas
 pub mod CollectLemmas
 pub mod LeavingLinks

@@ -136,17 +136,11 @@ module _ (t : Tables) (u p k j : ℕ) (d : Declared) where
 pub only_node : (t : Tables) (p : ℕ) (label : LabelName) (node : ℕ) → IsFound t p label (Some node) → (n : ℕ) → (node ≡ n) ↔ NodeAt t n p label
 only_node t p label node found n = (λ e. (found n).0 (ap Some e), λ h. got_same node n ((found n).1 h))
 
--- a declaration starts from the base or from the optional dependency
+-- a declaration that is not optional starts from the base
 pub start_base : (t : Tables) (link : LinkTable) (d : Declared) (p first : ℕ) → d.optional ≡ false → p ≡ link.from → first ≡ first_node t p → NodeAt t first p base → (n : ℕ) → (first ≡ n) ↔ NodeAt t n link.from (start_of link d)
 start_base t link d p first required q is node =
     subst (λ label. (n : ℕ) → (first ≡ n) ↔ NodeAt t n link.from label) (sym (ap (λ b. cond b (optional link.name) base) required))
     (subst (λ z. (n : ℕ) → (first ≡ n) ↔ NodeAt t n z base) q (only_node t p base first (base_found t p first is node)))
-
-pub start_optional : (t : Tables) (link : LinkTable) (d : Declared) (p node : ℕ) (name : Text) → d.optional ≡ true → p ≡ link.from → name ≡ link.name → IsFound t p (optional name) (Some node) → (n : ℕ) → (node ≡ n) ↔ NodeAt t n link.from (start_of link d)
-start_optional t link d p node name is q same found =
-    subst (λ label. (n : ℕ) → (node ≡ n) ↔ NodeAt t n link.from label) (sym (ap (λ b. cond b (optional link.name) base) is))
-    (subst (λ z. (n : ℕ) → (node ≡ n) ↔ NodeAt t n z (optional link.name)) q
-    (subst (λ z. (n : ℕ) → (node ≡ n) ↔ NodeAt t n p (optional z)) same (only_node t p (optional name) node found)))
 
 -- the keys of declaration `d`, which starts from `u`
 abbrev IsByStart : Tables → ℕ → ℕ → LinkTable → Declared → Key → Type 0

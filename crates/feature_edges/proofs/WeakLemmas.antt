@@ -220,11 +220,11 @@ optional_node t tables k link is o =
     let at : slice_get table.0.optional_names found.place ≡ Some link.name = found.there ∙ ap Some same in
     (first_node t link.from + suc (length table.0.features + found.place), node_there t link.from (suc (length table.0.features + found.place)) table.0 (optional link.name) table.1 (optional_label table.0 found.place link.name at))
 
--- a link with this optional declaration has a node for its name
-pub declared_node : (t : Tables) → AreTables t → (k : ℕ) (link : LinkTable) (d : Declared) → IsLink t k link → Contains link.declarations d → d.optional ≡ true → (n : ℕ) × NodeAt t n link.from (optional link.name)
-declared_node t tables k link d is there o =
+-- a link with this optional declaration has one
+pub declared_optional : (t : Tables) (k : ℕ) (link : LinkTable) (d : Declared) → IsLink t k link → Contains link.declarations d → d.optional ≡ true → IsOptionalLink t k
+declared_optional t k link d is there o =
     let at = place_of_element link.declarations d there in
-    optional_node t tables k link is (list_any_there (λ d. d.optional) link.declarations at.0 d at.1 o)
+    record { link = link; is_link = is; is_optional = list_any_there (λ d. d.optional) link.declarations at.0 d at.1 o }
 
 weak_over : (b : Bool) → cond b SlashWeak SlashFull ≡ SlashWeak → b ≡ true
 weak_over true h = refl

@@ -3,6 +3,7 @@ pub mod Keys
 pub mod Parts
 pub mod Made
 pub mod Weak
+pub mod GateNodes
 pub mod Pools
 pub mod Collects
 pub mod Alike

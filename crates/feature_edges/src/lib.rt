@@ -5,6 +5,7 @@
 mod candidate;
 mod collect;
 mod default_nodes;
+mod gate_nodes;
 mod gates;
 mod make;
 mod near_keys;

@@ -22,14 +22,15 @@ use feature_links::{
 use indexmap::IndexMap;
 use std::alloc::{AllocError, Global};
 
-/// The input for edges: the numbers of nodes, the package of each node, the links by package and name, and the node of each
-/// package's feature `default`.
+/// The input for edges: the numbers of nodes, the package of each node, the links by package and name, the node of each package's
+/// feature `default`, and the gate of each package link.
 #[derive(Clone, Copy)]
 pub(crate) struct Material<'a, 'g> {
     pub(crate) numbers: Numbers<'g>,
     pub(crate) packages: &'a [u32],
     pub(crate) groups: &'a LinkGroups<'g>,
     pub(crate) defaults: &'a [u32],
+    pub(crate) gates: &'a [u32],
 }
 
 /// Returns the name of node `ix`, which is no base.

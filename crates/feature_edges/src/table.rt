@@ -21,6 +21,7 @@ ghost use Rattle.guppy_packages.specs.Tables.{AreTables, Tables};
 use crate::candidate::{CandidateKind, Key, split_run};
 use crate::collect::{Collected, collect_around, collect_feature};
 use crate::default_nodes::default_nodes;
+use crate::gate_nodes::gate_nodes;
 use crate::gates::{entries_of, note_gate};
 use crate::make::{Material, edge_of};
 use crate::near_keys::NearKeys;
@@ -150,7 +151,7 @@ impl MadeEdges {
         ensures made { OnOk result ((done : List KeyValue) → AreMade material.entry.numbers.graph.now done self.old → AreMade material.entry.numbers.graph.now (done ++ key ∷ []) self.new) }
         ensures near { OnOk result (AreNear material.entry.numbers.graph.now self.new near.new) }
     {
-        note_gate(&mut self.weak, material.numbers, key)?;
+        note_gate(&mut self.weak, material.numbers, material.gates, key)?;
         near.insert(key, self.edges.len());
         self.make(alloc, material, key, run)
     }
@@ -225,15 +226,7 @@ impl MadeEdges {
     {
         let features = material.numbers.graph.package(ix).named_features();
         for place in 0..features.len() {
-            collect_feature(
-                &mut room.collected,
-                alloc,
-                material.numbers,
-                material.groups,
-                material.defaults,
-                ix,
-                place,
-            )?;
+            collect_feature(&mut room.collected, alloc, material, ix, place)?;
             self.add_all(alloc, material, &mut room.near, &room.collected.keys)?;
         }
         Ok(())
@@ -257,15 +250,7 @@ impl MadeEdges {
         ensures near { OnOk result (AreNear material.entry.numbers.graph.now self.new room.new.near) }
     {
         material.numbers.graph.facts();
-        collect_around(
-            &mut room.collected,
-            &mut room.later,
-            alloc,
-            material.numbers,
-            material.groups,
-            material.defaults,
-            ix,
-        )?;
+        collect_around(&mut room.collected, &mut room.later, alloc, material, ix)?;
         self.add_all(alloc, material, &mut room.near, &room.collected.keys)?;
         self.add_features(alloc, material, room, ix)?;
         self.add_all(alloc, material, &mut room.near, &room.later)?;
@@ -297,26 +282,15 @@ impl MadeEdges {
     fn fill(
         &mut self,
         alloc: Global,
-        numbers: Numbers<'_>,
-        packages: &[u32],
-        groups: &LinkGroups<'_>,
-        defaults: &[u32],
+        material: Material<'_, '_>,
     ) -> Result<Vec<FeatureGraphWarning>, AllocError>
-        requires packages { packages.now ≡ node_packages numbers.graph.now }
-        requires links { AreNamedLinks numbers.graph.now groups.now }
-        requires defaults { AreDefaultNodes numbers.graph.now defaults.now }
-        requires made { AreMadeBelow numbers.graph.now 0 self.old }
-        ensures made { OnOk result (AreMadeBelow numbers.entry.graph.now (length numbers.entry.graph.now.packages) self.new) }
-        ensures warnings { IfOk result (λ found. warnings_in found ≡ warnings numbers.entry.graph.now) }
+        requires material { IsMaterial material }
+        requires made { AreMadeBelow material.numbers.graph.now 0 self.old }
+        ensures made { OnOk result (AreMadeBelow material.entry.numbers.graph.now (length material.entry.numbers.graph.now.packages) self.new) }
+        ensures warnings { IfOk result (λ found. warnings_in found ≡ warnings material.entry.numbers.graph.now) }
     {
-        numbers.graph.facts();
+        material.numbers.graph.facts();
         let mut room = Room::new(alloc)?;
-        let material = Material {
-            numbers,
-            packages,
-            groups,
-            defaults,
-        };
         self.add_packages(alloc, material, &mut room)?;
         room.collected.into_warnings()
     }
@@ -372,19 +346,14 @@ fn no_edges(alloc: Global, nodes: usize, graph: &PackageGraph) -> Result<MadeEdg
 /// Returns the edges of the nodes of all packages, and the warnings.
 fn made_edges(
     alloc: Global,
-    numbers: Numbers<'_>,
-    packages: &[u32],
-    groups: &LinkGroups<'_>,
-    defaults: &[u32],
+    material: Material<'_, '_>,
 ) -> Result<(MadeEdges, Vec<FeatureGraphWarning>), AllocError>
-    requires packages { packages.now ≡ node_packages numbers.graph.now }
-    requires links { AreNamedLinks numbers.graph.now groups.now }
-    requires defaults { AreDefaultNodes numbers.graph.now defaults.now }
-    ensures made { IfOk result (λ m. AreMadeBelow numbers.entry.graph.now (length numbers.entry.graph.now.packages) m.0) }
-    ensures warnings { IfOk result (λ m. warnings_in m.1 ≡ warnings numbers.entry.graph.now) }
+    requires { IsMaterial material }
+    ensures made { IfOk result (λ m. AreMadeBelow material.entry.numbers.graph.now (length material.entry.numbers.graph.now.packages) m.0) }
+    ensures warnings { IfOk result (λ m. warnings_in m.1 ≡ warnings material.entry.numbers.graph.now) }
 {
-    let mut made = no_edges(alloc, packages.len(), numbers.graph)?;
-    let warnings = made.fill(alloc, numbers, packages, groups, defaults)?;
+    let mut made = no_edges(alloc, material.packages.len(), material.numbers.graph)?;
+    let warnings = made.fill(alloc, material)?;
     Ok((made, warnings))
 }
 
@@ -408,8 +377,15 @@ pub fn edge_table(
 {
     numbers.graph.facts();
     let defaults = default_nodes(alloc, numbers)?;
-    let packages = table.packages.as_slice();
-    let (made, warnings) = made_edges(alloc, numbers, packages, groups, &defaults)?;
+    let gates = gate_nodes(alloc, numbers)?;
+    let material = Material {
+        numbers,
+        packages: table.packages.as_slice(),
+        groups,
+        defaults: defaults.as_slice(),
+        gates: gates.as_slice(),
+    };
+    let (made, warnings) = made_edges(alloc, material)?;
     let MadeEdges { edges, ends, weak } = made;
     let weak = entries_of(alloc, weak)?;
     let digraph = Digraph::from_columns(alloc, table.packages.len(), ends)?;

@@ -13,14 +13,16 @@ use Rattle.feature_edges.specs.DefaultNodes.{AreDefaultNodes}
 use Rattle.feature_edges.specs.inner.Parts.{IsOfTables}
 use Rattle.feature_edges.specs.declared.candidate.Key.{Key}
 use Rattle.feature_edges.specs.inner.Weak.{AreGates, weak_sources}
+use Rattle.feature_edges.specs.inner.GateNodes.{AreGateNodes}
 use Rattle.feature_edges.specs.declared.make.Material.{Material}
 use Rattle.feature_edges.specs.declared.table.MadeEdges.{MadeEdges}
 
--- The input for edges: the packages of nodes, the links by name, and the nodes of features `default`.
+-- The input for edges: the packages of nodes, the links by name, the nodes of features `default`, and the gates of package links.
 pub record IsMaterial (m : Material) : Type 0 where
   pub packages : m.packages.now ≡ node_packages m.numbers.graph.now
   pub groups : AreNamedLinks m.numbers.graph.now m.groups.now
   pub defaults : AreDefaultNodes m.numbers.graph.now m.defaults.now
+  pub gates : AreGateNodes m.numbers.graph.now m.gates.now
 
 -- Sorted keys of the tables: for each source node of a key, all keys from that node.
 pub record AreWholeKeys (t : Tables) (keys : List Key) : Type 0 where

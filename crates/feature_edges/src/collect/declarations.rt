@@ -7,6 +7,7 @@ ghost use Rattle.feature_links.specs.Links.{IsLink};
 ghost use Rattle.feature_edges.specs.Nodes.{NodeAt};
 ghost use Rattle.feature_edges.specs.Warnings.{lack_over, of_link};
 ghost use Rattle.feature_edges.specs.inner.Collects.{Collects, links_from};
+ghost use Rattle.feature_edges.specs.inner.GateNodes.{AreGateNodes};
 ghost use Rattle.feature_edges.specs.inner.Parts.{start_of, IsRequest, IsOfDeclarationAt, IsOfLinkAt, IsLinkFrom};
 
 use crate::candidate::CandidateKind;
@@ -14,6 +15,7 @@ use crate::collect::Collected;
 use crate::collect::features::push_to;
 use crate::collect::package_input::PackageInput;
 use crate::default_nodes::default_at;
+use crate::gate_nodes::gate_at;
 use crate::node_numbers::Numbers;
 use crate::warnings::push_lack;
 use guppy_packages::{Declaration, PackageLink};
@@ -52,9 +54,16 @@ fn push_requests(
     Ok(())
 }
 
-/// Returns the source node of a declaration of `link`: the optional dependency if it is optional, and otherwise the base.
-fn start<'g>(numbers: Numbers<'g>, link: PackageLink<'g>, declaration: &Declaration) -> usize
+/// Returns the source node of a declaration of `link`: the optional dependency if it is optional, and otherwise the base. `gates`
+/// has the gate of each package link.
+fn start<'g>(
+    numbers: Numbers<'g>,
+    gates: &[u32],
+    link: PackageLink<'g>,
+    declaration: &Declaration,
+) -> usize
     requires graph { link_graph_of link ≡ numbers.graph.now }
+    requires gates { AreGateNodes numbers.graph.now gates.now }
     requires declaration { Contains (link_table_of link).declarations (declared declaration.now) }
     ensures { (n : ℕ) → (result ≡ n) ↔ NodeAt numbers.entry.graph.now n (link_table_of link.entry).from (start_of (link_table_of link.entry) (declared declaration.now)) }
 {
@@ -62,10 +71,7 @@ fn start<'g>(numbers: Numbers<'g>, link: PackageLink<'g>, declaration: &Declarat
     if !declaration.optional() {
         return numbers.base(link.from());
     }
-    let Some(node) = numbers.optional(link.from(), link.dep_name()) else {
-        unreachable!()
-    };
-    node
+    gate_at(numbers, gates, link.link_ix())
 }
 
 /// Appends the keys and warnings of `declaration`, which is the one at `place` of `link`.
@@ -80,7 +86,7 @@ fn push_declaration(
     requires declaration { slice_get (link_table_of link).declarations place ≡ Some (declared declaration.now) }
     ensures { OnOk result (Collects (IsOfDeclarationAt input.entry.numbers.graph.now (link_number_of link.entry) (link_table_of link.entry) place) [] (flat_map (lack_over input.entry.numbers.graph.now (link_table_of link.entry)) (declared declaration.now).features) collected.old collected.new) }
 {
-    let from = start(input.numbers, link, declaration);
+    let from = start(input.numbers, input.gates, link, declaration);
     push_requests(collected, input, link, from, place, declaration)
 }
 

@@ -8,12 +8,10 @@ ghost use Rattle.feature_labels.specs.Names.LabelName.{base, named, optional};
 ghost use Rattle.guppy_packages.specs.Rows.{Text};
 ghost use Rattle.feature_edges.specs.inner.Adds.{Adds, Below};
 ghost use Rattle.feature_edges.specs.inner.Collects.{Collects, lack_by, links_from, of_feature_at};
-ghost use Rattle.feature_edges.specs.DefaultNodes.{AreDefaultNodes};
 ghost use Rattle.feature_edges.specs.inner.Keys.{IsNoLater};
 ghost use Rattle.feature_links.specs.Links.{links_named};
-ghost use Rattle.feature_links.specs.NamedLinks.{AreNamedLinks};
 ghost use Rattle.feature_edges.specs.inner.Parts.{key, over_kind, IsToFirstFrom, IsOver, IsOverLink, IsBeside, IsOfItem, IsOfItemAt, IsOfFeature, IsOfOptional, IsAround};
-ghost use Rattle.feature_edges.specs.inner.Made.{AreFrom};
+ghost use Rattle.feature_edges.specs.inner.Made.{AreFrom, IsMaterial};
 ghost use Rattle.feature_edges.specs.Nodes.{first_node, features_in};
 ghost use Rattle.feature_edges.specs.Warnings.{lacks_over, of_item, of_link, warnings_in};
 
@@ -21,10 +19,11 @@ use crate::candidate::{CandidateKind, Key, set_aside, sort_keys};
 use crate::collect::Collected;
 use crate::collect::declarations::push_links;
 use crate::collect::package_input::PackageInput;
+use crate::make::Material;
 use crate::node_numbers::Numbers;
 use crate::warnings::{push_lack, push_lack_of_dependency, push_missing, push_self_loop};
 use feature_labels::LinkDeclarations;
-use feature_links::{LinkGroups, is_any_included, numbers_of};
+use feature_links::{is_any_included, numbers_of};
 use guppy_packages::{NamedFeature, NamedFeatureDep, PackageLink, PackageMetadata};
 use std::alloc::{AllocError, Global};
 
@@ -321,26 +320,25 @@ pub(crate) fn collect_around(
     collected: &mut Collected,
     later: &mut Vec<Key>,
     alloc: Global,
-    numbers: Numbers<'_>,
-    groups: &LinkGroups<'_>,
-    defaults: &[u32],
+    material: Material<'_, '_>,
     ix: usize,
 ) -> Result<(), AllocError>
-    requires links { AreNamedLinks numbers.graph.now groups.now }
-    requires defaults { AreDefaultNodes numbers.graph.now defaults.now }
-    requires package { ix < length numbers.graph.now.packages }
+    requires material { IsMaterial material }
+    requires package { ix < length material.numbers.graph.now.packages }
     ensures base_ordered { OnOk result (AllPairs IsNoLater collected.new.keys.items) }
-    ensures base { OnOk result (AreFrom numbers.entry.graph.now (first_node numbers.entry.graph.now ix) (first_node numbers.entry.graph.now ix + 1) collected.new.keys.items) }
+    ensures base { OnOk result (AreFrom material.entry.numbers.graph.now (first_node material.entry.numbers.graph.now ix) (first_node material.entry.numbers.graph.now ix + 1) collected.new.keys.items) }
     ensures later_ordered { OnOk result (AllPairs IsNoLater later.new.items) }
-    ensures later { OnOk result (AreFrom numbers.entry.graph.now (first_node numbers.entry.graph.now ix + 1 + features_in numbers.entry.graph.now ix) (first_node numbers.entry.graph.now (ix + 1)) later.new.items) }
+    ensures later { OnOk result (AreFrom material.entry.numbers.graph.now (first_node material.entry.numbers.graph.now ix + 1 + features_in material.entry.numbers.graph.now ix) (first_node material.entry.numbers.graph.now (ix + 1)) later.new.items) }
     ensures items { OnOk result (warnings_in collected.new.item_warnings ≡ warnings_in collected.old.item_warnings) }
-    ensures names { OnOk result (warnings_in collected.new.name_warnings ≡ warnings_in collected.old.name_warnings ++ flat_map (of_link numbers.entry.graph.now) (links_from numbers.entry.graph.now ix)) }
+    ensures names { OnOk result (warnings_in collected.new.name_warnings ≡ warnings_in collected.old.name_warnings ++ flat_map (of_link material.entry.numbers.graph.now) (links_from material.entry.numbers.graph.now ix)) }
 {
+    let numbers = material.numbers;
     let input = PackageInput {
         alloc,
         numbers,
-        groups,
-        defaults,
+        groups: material.groups,
+        defaults: material.defaults,
+        gates: material.gates,
         metadata: numbers.graph.package(ix),
     };
     push_around(collected, input)?;
@@ -354,26 +352,25 @@ pub(crate) fn collect_around(
 pub(crate) fn collect_feature(
     collected: &mut Collected,
     alloc: Global,
-    numbers: Numbers<'_>,
-    groups: &LinkGroups<'_>,
-    defaults: &[u32],
+    material: Material<'_, '_>,
     ix: usize,
     place: usize,
 ) -> Result<(), AllocError>
-    requires links { AreNamedLinks numbers.graph.now groups.now }
-    requires defaults { AreDefaultNodes numbers.graph.now defaults.now }
-    requires package { ix < length numbers.graph.now.packages }
-    requires place { place < features_in numbers.graph.now ix }
+    requires material { IsMaterial material }
+    requires package { ix < length material.numbers.graph.now.packages }
+    requires place { place < features_in material.numbers.graph.now ix }
     ensures ordered { OnOk result (AllPairs IsNoLater collected.new.keys.items) }
-    ensures keys { OnOk result (AreFrom numbers.entry.graph.now (first_node numbers.entry.graph.now ix + 1 + place) (first_node numbers.entry.graph.now ix + 1 + (place + 1)) collected.new.keys.items) }
-    ensures items { OnOk result (warnings_in collected.new.item_warnings ≡ warnings_in collected.old.item_warnings ++ of_feature_at numbers.entry.graph.now ix place) }
+    ensures keys { OnOk result (AreFrom material.entry.numbers.graph.now (first_node material.entry.numbers.graph.now ix + 1 + place) (first_node material.entry.numbers.graph.now ix + 1 + (place + 1)) collected.new.keys.items) }
+    ensures items { OnOk result (warnings_in collected.new.item_warnings ≡ warnings_in collected.old.item_warnings ++ of_feature_at material.entry.numbers.graph.now ix place) }
     ensures names { OnOk result (warnings_in collected.new.name_warnings ≡ warnings_in collected.old.name_warnings) }
 {
+    let numbers = material.numbers;
     let input = PackageInput {
         alloc,
         numbers,
-        groups,
-        defaults,
+        groups: material.groups,
+        defaults: material.defaults,
+        gates: material.gates,
         metadata: numbers.graph.package(ix),
     };
     let features = input.metadata.named_features();

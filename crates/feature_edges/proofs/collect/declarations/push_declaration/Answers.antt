@@ -8,6 +8,7 @@ use Rattle.feature_edges.proofs.collect.declarations.push_declaration.Goals as g
 pub start-from-requires : goal.start-from-requires
 start-from-requires c = record {
   graph = c.requires.graph;
+  gates = c.args.input.gate_nodes;
   declaration = element_at_place (link_table_of c.args.link).declarations c.args.place (declared c.args.declaration.now) c.requires.declaration;
 }
 

@@ -15,7 +15,7 @@ use Rattle.feature_edges.proofs.collect.features.collect_around.Goals as goal
 
 pub returns-clause-base : goal.returns-clause-base
 returns-clause-base c =
-    let t = c.args.numbers.graph.now in
+    let t = c.args.material.numbers.graph.now in
     let p = c.args.ix in
     let table = package_table_of c.package.result in
     let is : IsPackage t p table = c.package.ensures.package in
@@ -30,7 +30,7 @@ returns-clause-base c =
 
 pub returns-clause-later : goal.returns-clause-later
 returns-clause-later c =
-    let t = c.args.numbers.graph.now in
+    let t = c.args.material.numbers.graph.now in
     let p = c.args.ix in
     let table = package_table_of c.package.result in
     let is : IsPackage t p table = c.package.ensures.package in
@@ -45,5 +45,5 @@ returns-clause-later c =
 
 pub returns-clause-names : goal.returns-clause-names
 returns-clause-names c =
-    let t = c.args.numbers.graph.now in
+    let t = c.args.material.numbers.graph.now in
     c.in_ok-push_around.ensures.names ∙ ap (λ z. warnings_in c.args.collected.now.name_warnings ++ flat_map (of_link t) (links_from t z)) c.package.ensures.number

@@ -18,12 +18,12 @@ use Rattle.feature_edges.proofs.collect.features.collect_feature.Goals as goal
 pub feature-from-requires : goal.feature-from-requires
 feature-from-requires c =
     let table = package_table_of c.package.result in
-    let is : IsPackage c.args.numbers.graph.now c.args.ix table = c.package.ensures.package in
-    record { graph = c.package.ensures.graph; place = omega (arith, c.requires.place, count_of c.args.numbers.graph.now c.args.ix table is) }
+    let is : IsPackage c.args.material.numbers.graph.now c.args.ix table = c.package.ensures.package in
+    record { graph = c.package.ensures.graph; place = omega (arith, c.requires.place, count_of c.args.material.numbers.graph.now c.args.ix table is) }
 
 pub returns-clause-keys : goal.returns-clause-keys
 returns-clause-keys c =
-    let t = c.args.numbers.graph.now in
+    let t = c.args.material.numbers.graph.now in
     let p = c.package.result.package_ix in
     let table = package_table_of c.package.result in
     let feature = feature_table c.index-features-place.result in
@@ -40,7 +40,7 @@ returns-clause-keys c =
 
 pub returns-clause-items : goal.returns-clause-items
 returns-clause-items c =
-    let t = c.args.numbers.graph.now in
+    let t = c.args.material.numbers.graph.now in
     let table = package_table_of c.package.result in
     let feature = feature_table c.index-features-place.result in
     let is : IsPackage t c.args.ix table = c.package.ensures.package in

@@ -5,7 +5,7 @@ use Rattle.feature_edges.proofs.table.MadeEdges.fill.Goals as goal
 
 pub returns-clause-warnings : goal.returns-clause-warnings
 returns-clause-warnings c =
-    let t = c.args.numbers.graph.now in
+    let t = c.args.material.numbers.graph.now in
     IfOk-weaker c.into_warnings.result _ _
     (λ found is. is ∙ warnings-all t (length t.packages) c.add_packages.new.room.collected c.facts.ensures refl c.in_ok-add_packages.ensures.warnings)
     c.into_warnings.ensures
@@ -14,4 +14,4 @@ pub add_packages-requires-clause-near : goal.add_packages-requires-clause-near
 add_packages-requires-clause-near c = λ i x number h. inl (c.in_ok-room.ensures.near i x number h)
 
 pub add_packages-requires-clause-warnings : goal.add_packages-requires-clause-warnings
-add_packages-requires-clause-warnings c = c.in_ok-room.ensures.warnings c.args.numbers.graph.now
+add_packages-requires-clause-warnings c = c.in_ok-room.ensures.warnings c.args.material.numbers.graph.now
