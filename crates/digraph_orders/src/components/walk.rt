@@ -32,16 +32,22 @@ pub(crate) struct Walk {
     pub(crate) several: IxBitSet,
 }
 
-/// Sets the mark of each pending node from place `from` on to `level`.
-fn give(marks: &mut Vec<u32>, pending: &[u32], from: usize, level: u32)
+/// Sets the mark of each pending node from place `from` on to `level`, and inserts the node into `finished`.
+fn give(marks: &mut Vec<u32>, finished: &mut IxBitSet, pending: &[u32], from: usize, level: u32)
     requires from { from ≤ length pending.now }
     requires placed { (i : ℕ) → i < length pending.now → (slice_index pending.now i < length marks.old.items) × (slice_index marks.old.items (slice_index pending.now i) ≡ i + 1) }
     requires known { (v : ℕ) → 0 < slice_index marks.old.items v → slice_index marks.old.items v ≤ length pending.now → slice_index pending.now (slice_index marks.old.items v - 1) ≡ v }
+    requires nodes { (i : ℕ) → i < length pending.now → slice_index pending.now i < length finished.old }
     ensures long { length marks.new.items ≡ length marks.old.items }
     ensures given { AreGiven marks.old.items marks.new.items from (length pending.now) level }
+    ensures finished_long { length finished.new ≡ length finished.old }
+    ensures only { (v : ℕ) → has finished.new v ≡ true → IsInOrFrom finished.old pending.now from v }
+    ensures all { (v : ℕ) → IsInOrFrom finished.old pending.now from v → has finished.new v ≡ true }
 {
     for place in from..pending.len() {
-        marks[pending[place] as usize] = level;
+        let node = pending[place] as usize;
+        marks[node] = level;
+        finished.insert(node);
     }
 }
 
@@ -130,8 +136,13 @@ impl Walk {
             return;
         }
         let _ = self.bounds.pop();
-        give(&mut self.marks, &self.pending, place as usize, self.level);
-        insert_from(&mut self.finished, &self.pending, place as usize);
+        give(
+            &mut self.marks,
+            &mut self.finished,
+            &self.pending,
+            place as usize,
+            self.level,
+        );
         note_several(&mut self.several, &self.pending, place as usize);
         self.pending.truncate(place as usize);
         self.level -= 1;

@@ -77,8 +77,8 @@ returns-clause-walk c =
       closed_root g s.marks.items s.pending.items s.bounds.items s.opened.items s.left.items s.level w c.args.top last some c.requires.top none _ _ opened left
           c.pop-3.new.self.items c.truncate.new.self.items c.give.new.marks.items place (s.level - 1) bounds top_at front short given c.give.ensures.long (omega (arith, w.room, marked)),
       finished_given g s.marks.items c.give.new.marks.items s.pending.items s.bounds.items s.opened.items s.left.items place s.level w given
-          (omega (arith, top_at, (rw c.requires.top at (w.opened_pending last (omega (arith, some)))).1)) s.finished c.insert_from.new.set s.several c.note_several.new.several c.requires.walk.1 c.insert_from.ensures.long
-          c.note_several.ensures.long (rw c.deref-2.ensures.value at c.insert_from.ensures.only) c.note_several.ensures.kept (rw c.deref-3.ensures.value at c.note_several.ensures.all),
+          (omega (arith, top_at, (rw c.requires.top at (w.opened_pending last (omega (arith, some)))).1)) s.finished c.give.new.finished s.several c.note_several.new.several c.requires.walk.1 c.give.ensures.finished_long
+          c.note_several.ensures.long (rw c.deref.ensures.value at c.give.ensures.only) c.note_several.ensures.kept (rw c.deref-2.ensures.value at c.note_several.ensures.all),
     )
 
 pub returns-clause-steps : goal.returns-clause-steps
