@@ -1,7 +1,7 @@
 //! The state between two nodes of the order, and the steps that list the next one.
-ghost use Rattle.std.specs.Prelude.{◌≡◌, ◌≢◌, ℕ, [], ◌∷◌, ◌++◌, ◌+◌, ◌-◌, ◌<◌, ◌≤◌, length, slice_index, slice_set, IfSome, IfNone, IfOk, OnOk, Contains, set, true};
+ghost use Rattle.std.specs.Prelude.{◌≡◌, ◌≢◌, ℕ, [], ◌∷◌, ◌++◌, ◌+◌, ◌-◌, ◌<◌, ◌≤◌, length, slice_index, slice_set, IfSome, IfNone, IfOk, OnOk, Contains, set, true, false};
 ghost use Rattle.guppy_support.specs.Graph.{IsDigraph, sources};
-ghost use Rattle.guppy_support.specs.Bits.{members};
+ghost use Rattle.guppy_support.specs.Bits.{has, members};
 ghost use Rattle.guppy_support.specs.Rows.{places};
 ghost use Rattle.digraph_orders.specs.inner.Groups.{AreGroups};
 ghost use Rattle.digraph_orders.specs.Orders.{IsOrder};
@@ -202,6 +202,7 @@ impl Plan {
         ensures done { self.new.done ≡ self.old.done }
         ensures listed { self.new.listed.items ≡ self.old.listed.items }
         ensures room { HasRoom self.new }
+        ensures ready { self.new.ready ≡ self.old.ready }
     {
         leave_outside(
             &mut self.outside,
@@ -245,6 +246,7 @@ impl Plan {
         ensures done { self.new.done ≡ self.old.done }
         ensures listed { self.new.listed.items ≡ self.old.listed.items }
         ensures room { HasRoom self.new }
+        ensures ready { has groups.now.several node ≡ false → self.new.ready ≡ self.old.ready }
     {
         let edge = out_edge(graph, node, place);
         let rank = groups.rank(ranks, node, graph.node_count());
@@ -266,6 +268,7 @@ impl Plan {
         ensures at { OnOk result (IsAtIn graph.now ranks.now node 0 self.new) }
         ensures longer { OnOk result (length self.new.listed.items ≡ length self.old.listed.items + 1) }
         ensures room { OnOk result (HasRoom self.new) }
+        ensures ready { self.new.ready ≡ self.old.ready }
     {
         let _nodes = graph.node_count();
         let _ranks = ranks.len();
@@ -289,6 +292,7 @@ impl Plan {
         ensures within { OnOk result (IsWithinIn graph.now ranks.now (slice_index ranks.now node) self.new) }
         ensures longer { OnOk result (length self.new.listed.items ≡ length self.old.listed.items + 1) }
         ensures room { OnOk result (HasRoom self.new) }
+        ensures ready { OnOk result (has groups.now.several node ≡ false → self.new.ready ≡ self.old.ready) }
     {
         self.mark(graph, ranks, node)?;
         let edges = graph.out_edges(node);
@@ -309,6 +313,7 @@ impl Plan {
         ensures some { IfSome result (λ v. IsChosenIn graph.now ranks.now v self.new) }
         ensures listed { self.new.listed.items ≡ self.old.listed.items }
         ensures room { HasRoom self.new }
+        ensures ready { IfSome result (λ v. has groups.now.several v ≡ false → members self.new.ready ≡ []) }
     {
         let Some(start) = pop_fresh(&mut self.starts, &self.done) else {
             return None;
@@ -364,8 +369,11 @@ impl Plan {
     {
         while let Some(start) = self.begin(graph, ranks, groups) {
             self.list(graph, ranks, groups, start)?;
-            let rank = groups.rank(ranks, start, graph.node_count());
-            self.finish(graph, ranks, groups, rank)?;
+            // Nothing of the component of a lone node is left, and nearly all nodes are alone.
+            if !groups.is_alone(ranks, start, graph.node_count()) {
+                let rank = ranks[start] as usize;
+                self.finish(graph, ranks, groups, rank)?;
+            }
         }
         Ok(())
     }
@@ -413,6 +421,7 @@ fn make_ready(
     requires room { length held.now ≤ length ready.old }
     ensures waits { RowWaits (places (slice_index ranks.now start) ranks.now) held.now start (members ready.new) }
     ensures room { length ready.new ≡ length ready.old }
+    ensures alone { has groups.now.several start ≡ false → ready.new ≡ ready.old }
 {
     if groups.is_alone(ranks, start, nodes) {
         return;

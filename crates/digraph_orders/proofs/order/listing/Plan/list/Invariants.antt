@@ -1,4 +1,5 @@
-use Rattle.std.proofs.Common.{◌≡◌, length}
+use Rattle.std.proofs.Common.{◌≡◌, false, length}
+use Rattle.guppy_support.specs.Bits.{has}
 use Rattle.digraph_orders.specs.inner.Plans.{IsAtIn, HasRoom}
 use Rattle.digraph_orders.proofs.order.listing.Plan.list.Given as goal
 
@@ -8,4 +9,5 @@ invariant-loop-place l =
       at : IsAtIn l.graph l.ranks l.node l.place l.self;
       room : HasRoom l.self;
       longer : length l.self.listed.items ≡ length l.initial.self.listed.items;
+      ready : has l.groups.several l.node ≡ false → l.self.ready ≡ l.initial.self.ready;
     }
