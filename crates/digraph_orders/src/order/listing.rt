@@ -149,8 +149,7 @@ fn out_edge(graph: &Digraph, node: usize, place: usize) -> Edge
 }
 
 impl Plan {
-    /// Returns the next node of the current component, or `None` if all are listed. The only node of a
-    /// component is listed already, as its start.
+    /// Returns the next node of the current component, or `None` if all are listed.
     fn next_within(
         &mut self,
         graph: &Digraph,
@@ -170,9 +169,6 @@ impl Plan {
     {
         if let Some(node) = pop_fresh(&mut self.ready, &self.done) {
             return Some(node);
-        }
-        if groups.is_alone(ranks, rank, graph.node_count()) {
-            return None;
         }
         let members = groups.row(ranks, rank, graph.node_count());
         let Some(place) = fresh_from(members, self.next, &self.done) else {

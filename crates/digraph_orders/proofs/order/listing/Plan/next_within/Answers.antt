@@ -3,7 +3,6 @@ use Rattle.guppy_support.specs.Bits.{members}
 use Rattle.guppy_support.specs.Rows.{places}
 use Rattle.digraph_orders.specs.inner.Plans.{rest_of, IsFreshPlace}
 use Rattle.digraph_orders.proofs.PlaceLemmas.{places_within}
-use Rattle.digraph_orders.proofs.GroupLemmas.{alone_done}
 use Rattle.digraph_orders.proofs.ChoiceLemmas.{choose_ready, choose_rest, within_end, rank_small, takes_row, row_done}
 use Rattle.digraph_orders.proofs.order.listing.Plan.next_within.Goals as goal
 
@@ -20,17 +19,6 @@ returns-in-Some-clause-some c =
     rw (c.requires.within.run.ready_only c.in-Some.node t.was).1.0
     (choose_ready c.args.graph.now c.args.ranks.now c.requires.setup p.listed.items p.done p.outside.items p.held.items (members p.starts)
     c.args.rank (members p.ready) (rest_of c.args.ranks.now c.args.rank p) c.requires.within c.in-Some.node (members c.pop_fresh.new.queue) t)
-
-pub returns-then-is_alone-clause-none : goal.returns-then-is_alone-clause-none
-returns-then-is_alone-clause-none c =
-    let p = c.args.self.now in
-    let w = c.requires.within in (
-      within_end c.args.graph.now c.args.ranks.now c.requires.setup p.listed.items p.done p.outside.items p.held.items (members p.starts)
-          c.args.rank (members p.ready) (rest_of c.args.ranks.now c.args.rank p) w
-          (row_done (places c.args.rank c.args.ranks.now) p.done p.next
-          (λ j from l. alone_done c.args.ranks.now p.done c.args.rank (omega (arith, w.plan.done_long, c.requires.setup.ranking.long)) (c.is_alone.ensures.alone c.if-is_alone.true) w.run.begun j l)),
-      c.in_default.ensures.empty,
-    )
 
 pub row-members-requires-clause-rank : goal.row-members-requires-clause-rank
 row-members-requires-clause-rank c =
