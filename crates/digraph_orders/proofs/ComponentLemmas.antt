@@ -657,16 +657,13 @@ zero_at n v xs e =
       | inr p ↦ let long : length xs ≡ n = ap length e ∙ length-replicate n 0 in get_or_past xs v 0 (omega (arith, p, long))
     ]
 
--- The marks minus a base are levels.
-pub levelled : (g : Graph) (m ps bs os ls : List ℕ) (level : ℕ) (levels : List ℕ) → IsDigraph g → IsWalking g m ps bs os ls level → ((v : ℕ) → v < g.nodes → g.nodes < get_or m v 0)
-    → length levels ≡ length m → ((v : ℕ) → v < length m → get_or levels v 0 + (g.nodes + 1) ≡ get_or m v 0) → AreLevels g levels
-levelled g m ps bs os ls level levels ok w whole long each =
+-- The marks are levels.
+pub levelled : (g : Graph) (m ps bs os ls : List ℕ) (level : ℕ) → IsDigraph g → IsWalking g m ps bs os ls level → ((v : ℕ) → v < g.nodes → g.nodes < get_or m v 0) → AreLevels g m
+levelled g m ps bs os ls level ok w whole =
     record {
-      long = long ∙ w.marks_long;
-      ascends = λ a b e.
-          let ends = nodes_of_edge g ok e in
-          omega (arith, each a (omega (arith, ends.0, w.marks_long)), each b (omega (arith, ends.1, w.marks_long)), w.ascends a b (whole a ends.0) e);
-      same = λ a b la lb e. w.same a b (whole a la) (omega (arith, e, each a (omega (arith, la, w.marks_long)), each b (omega (arith, lb, w.marks_long))));
+      long = w.marks_long;
+      ascends = λ a b e. w.ascends a b (whole a (nodes_of_edge g ok e).0) e;
+      same = λ a b la lb e. w.same a b (whole a la) e;
     }
 
 -- The least nodes of levels are ranks.

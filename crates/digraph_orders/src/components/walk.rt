@@ -316,16 +316,3 @@ pub(crate) fn walked(alloc: Global, graph: &Digraph) -> Result<Walk, AllocError>
     }
     Ok(walk)
 }
-
-/// Subtracts `base` from each number.
-pub(crate) fn lowered(numbers: Vec<u32>, base: u32) -> Vec<u32>
-    requires { (i : ℕ) → i < length numbers.items → base ≤ slice_index numbers.items i }
-    ensures long { length result.items ≡ length numbers.items }
-    ensures each { (i : ℕ) → i < length numbers.items → slice_index result.items i + base ≡ slice_index numbers.items i }
-{
-    let mut less = numbers;
-    for place in 0..less.len() {
-        less[place] -= base;
-    }
-    less
-}

@@ -9,6 +9,6 @@ invariant-loop-node l =
       firsts_long : length l.firsts.items ≡ length l.initial.ranks.items;
       rest : (v : ℕ) → l.node ≤ v → slice_index l.ranks.items v ≡ slice_index l.initial.ranks.items v;
       lone : (v : ℕ) → v < l.node → has l.several v ≡ false → slice_index l.ranks.items v ≡ v;
-      first : (v : ℕ) → v < l.node → has l.several v ≡ true → slice_index l.ranks.items v + 1 ≡ slice_index l.firsts.items (slice_index l.initial.ranks.items v);
-      known : (c : ℕ) → slice_index l.firsts.items c ≢ 0 → (slice_index l.firsts.items c ≤ l.node) × (slice_index l.initial.ranks.items (slice_index l.firsts.items c - 1) ≡ c);
+      first : (v : ℕ) → v < l.node → has l.several v ≡ true → slice_index l.ranks.items v + 1 ≡ slice_index l.firsts.items (slice_index l.initial.ranks.items v - l.base);
+      known : (c : ℕ) → slice_index l.firsts.items c ≢ 0 → (slice_index l.firsts.items c ≤ l.node) × (slice_index l.initial.ranks.items (slice_index l.firsts.items c - 1) ≡ c + l.base);
     }
