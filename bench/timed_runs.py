@@ -20,12 +20,16 @@ class Run(NamedTuple):
     out: bytes
 
 
+def runnable(program, fault):
+    """Returns the path `program`. Raises `OSError` with the text `fault` if it is no file that can be run."""
+    if not program.is_file() or not os.access(program, os.X_OK):
+        raise OSError(fault)
+    return program
+
+
 def program_of(name):
     """Returns the path of a built program. Raises `OSError` if it is not built."""
-    program = TOP / 'crates' / name / 'out' / name
-    if not os.access(program, os.X_OK):
-        raise OSError('the proved program is not built; run ./build first')
-    return program
+    return runnable(TOP / 'crates' / name / 'out' / name, 'the proved program is not built; run ./build first')
 
 
 def run_count(default):
