@@ -3,6 +3,5 @@ pub mod FileViews
 pub mod Files
 pub mod Messages
 pub mod Parts
-pub mod Pipes
 pub mod Platforms
 pub mod WordMessages

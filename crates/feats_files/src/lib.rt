@@ -6,7 +6,6 @@ mod fault;
 mod files;
 mod message;
 mod opening;
-mod pipe;
 mod platforms;
 mod word_messages;
 
@@ -15,6 +14,5 @@ pub use fault::Fault;
 pub use files::{PlatformFile, resolver, target, target_platforms};
 pub use message::refused;
 pub use opening::{bytes_of, no_command, not_text, unopened};
-pub use pipe::ToPipe;
 pub use platforms::{held_on, held_on_each, id_at};
 pub use word_messages::words_refused;

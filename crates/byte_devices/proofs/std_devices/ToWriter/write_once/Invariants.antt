@@ -1,6 +1,6 @@
 use Rattle.std.proofs.Common.{◌≡◌}
 use Rattle.std.specs.Io.KnownBytes.{Keeps}
-use Rattle.feats_files.proofs.pipe.ToPipe.write_once.Given as goal
+use Rattle.byte_devices.proofs.std_devices.ToWriter.write_once.Given as goal
 
 -- An interrupted write appends nothing.
 abbrev pub invariant-loop-attempt : goal.invariant-loop-attempt
