@@ -2,17 +2,20 @@
 //!
 //! Each command answers a question about one build, as `plan` and `why` do; `diff` compares two. The answer, and the text of `--help`,
 //! go to standard output; the exit status of a negative answer is 1. A fault is one line on standard error, or `clap`'s text about the
-//! words; the exit status is then 2. A pipe that is closed at its other end is no fault.
+//! words; the exit status is then 2. A pipe that is closed at its other end is no fault: the status is that of the answer.
+//! `feats --version` prints the version, and whether the program is proved.
 #![tactic(auto)]
 
 ghost use Rattle.std.specs.Prelude.{◌≡◌, false, IfOk};
 ghost use Rattle.byte_devices.specs.StdDevices.{read_failed};
 
-use byte_devices::{ByteInput, Failed, FromReader, write_all};
+use byte_devices::{ByteInput, FromReader, ToWriter};
 use clap::Error;
 use clap::error::ErrorKind as MistakeKind;
-use feats_comparisons::{Side, compare, compared_words};
-use feats_files::{Fault, PlatformFile, ToPipe, bytes_of, no_command, not_text, unopened};
+use feats_comparisons::{Side, compared_words, run as run_difference};
+use feats_files::{
+    Ended, Fault, PlatformFile, bytes_of, no_command, not_text, refused, unopened, write_answer,
+};
 use feats_tool::{PlanFiles, command_arguments, platform_file, run};
 use feats_words::{CommandArguments, PlatformWord, Question, Request, ResolverSource, parse};
 use std::alloc::{AllocError, Global};
@@ -20,6 +23,9 @@ use std::fs::File;
 use std::io::ErrorKind;
 use std::process::ExitCode;
 use std::{env, io};
+
+/// The answer to `--version`. `./build` and the launchers replace the text in parentheses, if it isn't true of their program.
+const VERSION: &str = "feats 0.6.0 (proved, rattle-kit-13b logic dac8208d650f15bf)\n";
 
 /// Opens the file at `path`.
 fn opened(rt: &HostRuntime, path: &str) -> Result<FromReader<File>, Fault>
@@ -37,7 +43,7 @@ fn file_bytes(rt: &HostRuntime, path: &str) -> Result<Vec<u8>, Fault> {
     bytes_of(rt.alloc(), &mut reader, path)
 }
 
-/// Returns the bytes of the document at `path`: those of standard input, if `path` is `-`.
+/// Returns the bytes of the document or policy at `path`: those of standard input, if `path` is `-`.
 fn document_bytes(rt: &HostRuntime, path: &str) -> Result<Vec<u8>, Fault> {
     if path == "-" {
         let mut reader = FromReader::new(rt.stdin());
@@ -54,10 +60,16 @@ fn manifest(rt: &HostRuntime, source: ResolverSource<'_>) -> Result<Vec<u8>, Fau
     }
 }
 
-/// Returns the bytes of the policy that `question` names; none, if it names no policy.
-fn policy(rt: &HostRuntime, question: Question<'_>) -> Result<Vec<u8>, Fault> {
-    match question {
-        Question::Check { policy, .. } => file_bytes(rt, policy),
+/// Returns the bytes of the policy that `arguments` name; none, if they name no policy. Standard input can't be the document too.
+fn policy(rt: &HostRuntime, arguments: &CommandArguments<'_>) -> Result<Vec<u8>, Fault> {
+    match arguments.question {
+        Question::Check { policy: "-", .. } if arguments.metadata == "-" => Err(refused(
+            rt.alloc(),
+            &[
+                "both the policy and the document are `-`, standard input: write the path of a file for one of them",
+            ],
+        )),
+        Question::Check { policy, .. } => document_bytes(rt, policy),
         _ => Ok(Vec::new(rt.alloc())),
     }
 }
@@ -88,7 +100,7 @@ fn plan_files<'f>(
     let manifest = manifest(rt, arguments.resolver)?;
     let host = platform(rt, arguments.host)?;
     let targets = platforms(rt, &arguments.targets)?;
-    let policy = policy(rt, arguments.question)?;
+    let policy = policy(rt, arguments)?;
     Ok(PlanFiles {
         manifest,
         host,
@@ -97,8 +109,17 @@ fn plan_files<'f>(
     })
 }
 
+/// Returns whether the answer of a run is negative. It must be written, unless the pipe is closed at its other end.
+fn outcome(ended: Ended, is_closed: bool) -> Result<bool, Fault> {
+    if ended.is_written || is_closed {
+        Ok(ended.is_negative)
+    } else {
+        Err(Fault::CannotWrite)
+    }
+}
+
 /// Writes the answer over the document of `reader` to standard output. Returns whether it is negative.
-fn write_answer<R: ByteInput>(
+fn answer_document<R: ByteInput>(
     rt: &HostRuntime,
     arguments: &CommandArguments<'_>,
     files: &PlanFiles<'_>,
@@ -106,12 +127,9 @@ fn write_answer<R: ByteInput>(
 ) -> Result<bool, Fault>
     requires { R.failed reader.old ≡ false }
 {
-    let mut writer = ToPipe::new(io::writer(rt));
-    let ended = run(rt.alloc(), arguments, files, reader, &mut writer);
-    if writer.is_closed() {
-        return Ok(false);
-    }
-    ended
+    let mut writer = ToWriter::new(io::writer(rt));
+    let ended = run(rt.alloc(), arguments, files, reader, &mut writer)?;
+    outcome(ended, writer.is_closed())
 }
 
 /// Answers `arguments`, over these files and the document that they name. Returns whether the answer is negative.
@@ -122,25 +140,17 @@ fn answer(
 ) -> Result<bool, Fault> {
     if arguments.metadata == "-" {
         let mut reader = FromReader::new(rt.stdin());
-        return write_answer(rt, arguments, files, &mut reader);
+        return answer_document(rt, arguments, files, &mut reader);
     }
     let mut reader = opened(rt, arguments.metadata)?;
-    write_answer(rt, arguments, files, &mut reader)
+    answer_document(rt, arguments, files, &mut reader)
 }
 
-/// Writes `bytes` to standard output. Returns false if the pipe is closed at its other end, and else `outcome`.
-fn write_bytes(rt: &HostRuntime, bytes: &[u8], outcome: bool) -> Result<bool, Fault> {
-    let mut writer = ToPipe::new(io::writer(rt));
-    match write_all(&mut writer, bytes) {
-        Ok(()) => Ok(outcome),
-        Err(Failed) => {
-            if writer.is_closed() {
-                Ok(false)
-            } else {
-                Err(Fault::CannotWrite)
-            }
-        }
-    }
+/// Writes `bytes`, which aren't a negative answer, to standard output. Returns false.
+fn write_bytes(rt: &HostRuntime, bytes: &[u8]) -> Result<bool, Fault> {
+    let mut writer = ToWriter::new(io::writer(rt));
+    let ended = write_answer(&mut writer, bytes, false);
+    outcome(ended, writer.is_closed())
 }
 
 /// Writes what differs between the builds of two sides. Returns whether anything does.
@@ -149,8 +159,9 @@ fn write_difference(
     old: Side<'_, '_, '_>,
     new: Side<'_, '_, '_>,
 ) -> Result<bool, Fault> {
-    let answer = compare(rt.alloc(), old, new)?;
-    write_bytes(rt, &answer.text, answer.is_negative)
+    let mut writer = ToWriter::new(io::writer(rt));
+    let ended = run_difference(rt.alloc(), old, new, &mut writer)?;
+    outcome(ended, writer.is_closed())
 }
 
 /// Compares `old` with the side of `arguments` and `files`, whose document is at `path`. Returns whether the builds differ.
@@ -249,7 +260,7 @@ fn text_of(alloc: Global, error: &Error) -> Result<String, AllocError> {
 /// Writes the text of `--help` to standard output. Returns false: no answer is negative.
 fn help(rt: &HostRuntime, error: &Error) -> Result<bool, Fault> {
     let text = text_of(rt.alloc(), error)?;
-    write_bytes(rt, text.as_bytes(), false)
+    write_bytes(rt, text.as_bytes())
 }
 
 /// Returns the exit status of a run that ended so, where an answer may be negative, and says the fault.
@@ -313,6 +324,9 @@ fn compare_lines(rt: &HostRuntime, before: &[&str], after: &[&str]) -> ExitCode 
 
 /// Answers `words`, the first of which is the program's name, and returns the exit status.
 fn answer_words(rt: &HostRuntime, words: &[&str]) -> ExitCode {
+    if let [_, "--version" | "-V"] = words {
+        return ended(rt, write_bytes(rt, VERSION.as_bytes()));
+    }
     match compared_words(rt.alloc(), words) {
         Ok(Some(lines)) => compare_lines(rt, &lines.before, &lines.after),
         Ok(None) => answer_line(rt, words),

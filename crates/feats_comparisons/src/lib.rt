@@ -8,6 +8,6 @@ mod sides;
 mod visitors;
 
 pub use command_lines::{ComparedWords, compared_words};
-pub use comparing::compare;
+pub use comparing::{compare, run};
 pub use feats_differences::Answer;
 pub use sides::Side;

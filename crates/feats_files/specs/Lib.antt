@@ -5,3 +5,4 @@ pub mod Messages
 pub mod Parts
 pub mod Platforms
 pub mod WordMessages
+pub mod Writing

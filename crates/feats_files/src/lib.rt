@@ -8,6 +8,7 @@ mod message;
 mod opening;
 mod platforms;
 mod word_messages;
+mod writing;
 
 pub use documents::document_of;
 pub use fault::Fault;
@@ -16,3 +17,4 @@ pub use message::refused;
 pub use opening::{bytes_of, no_command, not_text, unopened};
 pub use platforms::{held_on, held_on_each, id_at};
 pub use word_messages::words_refused;
+pub use writing::{Ended, write_answer};

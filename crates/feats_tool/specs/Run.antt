@@ -1,28 +1,27 @@
 -- How a run ends, and what it has written.
-use Rattle.std.specs.Prelude.{◌≡◌, ◌++◌, Option, Bool, true, false, IfSome, string_bytes}
-use Rattle.std.specs.Io.KnownBytes.{Keeps, Appends}
+use Rattle.std.specs.Prelude.{◌≡◌, Option, Bool, true, false, IfSome, string_bytes}
+use Rattle.std.specs.Io.KnownBytes.{Keeps}
 use Rattle.cargo_workspaces.specs.Workspaces.{Text}
 use Rattle.feats_files.specs.declared.fault.Fault.{Fault}
 use Rattle.feats_files.specs.declared.fault.Fault.TheVariants as fault
+use Rattle.feats_files.specs.declared.writing.Ended.{Ended}
+use Rattle.feats_files.specs.Writing.{Writes}
 use Rattle.feats_tool.specs.Answers.{IsAnswer, IsNoAnswer}
 use Rattle.feats_plans.specs.Inputs.{InputsText, unread_message}
 
--- A run over the bytes `left` wrote a beginning of the answer.
-pub record WritesBeginning (inputs : InputsText) (left old new : Option Text) : Type 0 where
-  pub is_negative : Bool
-  pub front : Text
-  pub rest : Text
-  pub is_answer : IfSome left (λ bytes. IsAnswer inputs bytes (record { content = front ++ rest; is_negative = is_negative }))
-  pub written : Appends old new front
+-- THE END of a run over the bytes `left` that has an answer: what it says of the answer, and what it wrote of it.
+pub record HasAnswer (inputs : InputsText) (ended : Ended) (left old new : Option Text) : Type 0 where
+  pub text : Text
+  pub is_answer : IfSome left (λ bytes. IsAnswer inputs bytes (record { content = text; is_negative = ended.is_negative }))
+  pub written : Writes ended.is_written text old new
 
 -- Why a run over the bytes `left` has no answer: a read failed, or the bytes have none.
 pub data IsRefusedBy (inputs : InputsText) (left : Option Text) (read_failed : Bool) (message : Text) : Type 0 where
   by_reading : read_failed ≡ true → message ≡ unread_message inputs.arguments.metadata → IsRefusedBy inputs left read_failed message
   by_bytes : read_failed ≡ false → IfSome left (λ bytes. IsNoAnswer inputs bytes message) → IsRefusedBy inputs left read_failed message
 
--- A run over the bytes `left` ended with this fault, with the output `old` before it and `new` after it. Nothing was written, unless a
--- write failed.
+-- A run over the bytes `left` ended with this fault, with the output `old` before it and `new` after it. Nothing was written.
 abbrev pub Ends : InputsText → Fault → Option Text → Option Text → Option Text → Bool → Bool → Type 0
 Ends inputs (fault.Refused message) left old new read_failed write_failed = Keeps old new × (write_failed ≡ false) × IsRefusedBy inputs left read_failed (string_bytes message)
 Ends inputs fault.Memory left old new read_failed write_failed = Keeps old new × (write_failed ≡ false)
-Ends inputs fault.CannotWrite left old new read_failed write_failed = (read_failed ≡ false) × (write_failed ≡ true) × WritesBeginning inputs left old new
+Ends inputs fault.CannotWrite left old new read_failed write_failed = ⊥

@@ -406,6 +406,7 @@ fn bare_command<'a>(alloc: Global) -> Command<'a>
 {
     Command::new(alloc, "feats")
         .about("Says which features Cargo turns on in a build, and why")
+        .after_help("`feats --version` prints the version, and whether the program is proved.\n")
         .subcommand_required(true)
 }
 

@@ -3,7 +3,7 @@
 pub(crate) const PLAN_EXAMPLE: &str = "\
 Example:
   cargo metadata --format-version 1 --all-features >metadata.json
-  rustc --print cfg >host.cfg
+  rustc --print cfg --crate-type proc-macro | grep -vx proc_macro >host.cfg
   feats plan --metadata metadata.json --host x86_64-unknown-linux-gnu=host.cfg -p server -F tls
 ";
 

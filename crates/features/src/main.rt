@@ -1,34 +1,62 @@
 //! The program `features FILE COMMAND ARGS`.
 //!
 //! FILE is the path of a row file, or `-` for standard input. The output goes to standard output, and a fault is one
-//! line on standard error. The exit status is 2 for a fault of the command line, and 1 for every other fault.
+//! line on standard error. The exit status is 2 for a fault of the command line, and 1 for every other fault. A pipe that is closed at
+//! its other end is no fault. `features --version` prints the version, and whether the program is proved.
 #![tactic(auto)]
 
+ghost use Rattle.std.specs.Prelude.{◌≡◌, false};
+
 use guppy_support::collect_exactly;
-use guppy_tool::{Command, Fault, FromReader, ToWriter, parse_words, run};
+use guppy_tool::{ByteInput, Command, Fault, FromReader, ToWriter, parse_words, run};
 use std::fs::File;
 use std::io::ErrorKind;
 use std::process::ExitCode;
 use std::{env, io};
 
+/// The answer to `--version`. `./build` and the launchers replace the text in parentheses, if it isn't true of their program.
+const VERSION: &str = "features 0.6.0 (proved, rattle-kit-13b logic dac8208d650f15bf)";
+
+/// Runs `command` over the rows of `reader`. The output of a closed pipe ends silently.
+fn answer_rows<R: ByteInput>(
+    rt: &HostRuntime,
+    command: &Command<'_>,
+    reader: &mut R,
+) -> Result<(), Fault>
+    requires { R.failed reader.old ≡ false }
+{
+    let mut writer = ToWriter::new(io::writer(rt));
+    let ended = run(rt.alloc(), command, reader, &mut writer);
+    if writer.is_closed() {
+        return Ok(());
+    }
+    ended
+}
+
 /// Runs `command` over the row file at `path`, or over standard input if `path` is `-`.
 fn answer(rt: &HostRuntime, path: &str, command: &Command<'_>) -> Result<(), Fault> {
-    let mut writer = ToWriter::new(io::writer(rt));
     if path == "-" {
-        let mut reader = FromReader::new(rt.stdin());
-        return run(rt.alloc(), command, &mut reader, &mut writer);
+        return answer_rows(rt, command, &mut FromReader::new(rt.stdin()));
     }
     match File::open(rt, path) {
-        Ok(file) => {
-            let mut reader = FromReader::new(file);
-            run(rt.alloc(), command, &mut reader, &mut writer)
-        }
+        Ok(file) => answer_rows(rt, command, &mut FromReader::new(file)),
         Err(_) => Err(Fault::CannotRead),
+    }
+}
+
+/// Writes the version to standard output.
+fn write_version(rt: &HostRuntime) -> Result<(), Fault> {
+    match println!(rt; "{VERSION}") {
+        Err(error) if error.kind() != ErrorKind::BrokenPipe => Err(Fault::CannotWrite),
+        _ => Ok(()),
     }
 }
 
 /// Runs the command of `words`.
 fn answer_words(rt: &HostRuntime, words: &[&str]) -> Result<(), Fault> {
+    if let ["--version" | "-V"] = words {
+        return write_version(rt);
+    }
     let (path, command) = parse_words(rt.alloc(), words)?;
     answer(rt, path, &command)
 }
