@@ -1,10 +1,13 @@
 # Functions for ./features, ./rows and ./feats. Each sets `top`, the repository's folder, and calls `launch`, or ./feats `launch_feats`.
 #
 # These run the program that ./build proved and built. If there is none, or a source file is newer than it, they run the same
-# program by `rt try`, with checks at run time in place of proofs. Its output, faults and exit status are the same.
+# program without proofs, with checks at run time in their place: ./unproved makes it at the first call and keeps it. If it can't, they
+# run `rt try`. Output, faults and exit status are the same.
 
-# The exit status if the program can't be run to its end: `rt` is missing, or a limit of `rt try` is met.
+# The exit status if the program can't be run to its end: `rt` is missing, a check at run time failed, or a limit of `rt try` is met.
 NO_ANSWER=70
+# The exit status of a program that ends by SIGILL, as a failed check at run time does.
+FAILED_CHECK=132
 
 # Prints a crate of the repository and those on which it depends.
 crates_of() {
@@ -22,20 +25,60 @@ crates_of() {
   ' "$top/crates.txt"
 }
 
+# Prints a file of the sources that is newer than a program, or nothing. The arguments are the crate, the program, and the folders of the
+# crates in which it looks.
+newer_source() {
+  local name=$1 program=$2 crate folder sources=("$top/crates.txt")
+  shift 2
+  for crate in $(crates_of "$name"); do
+    for folder in "${@/#/"$top/crates/$crate/"}"; do
+      if [ -d "$folder" ]; then sources+=("$folder"); fi
+    done
+  done
+  find "${sources[@]}" -type f -newer "$program" -print -quit 2>/dev/null || true
+}
+
 # Prints why the proved program of a crate can't be run, or nothing if it can.
 why_not_current() {
-  local name=$1 program=$top/crates/$1/out/$1 crate folder file sources=("$top/crates.txt")
+  local name=$1 program=$top/crates/$1/out/$1 file
   if [ ! -x "$program" ]; then
     echo "no proved program is built"
     return
   fi
-  for crate in $(crates_of "$name"); do
-    for folder in "$top/crates/$crate"/{src,specs,proofs}; do
-      if [ -d "$folder" ]; then sources+=("$folder"); fi
-    done
-  done
-  file=$(find "${sources[@]}" -type f -newer "$program" -print -quit 2>/dev/null || true)
+  file=$(newer_source "$name" "$program" src specs proofs)
   if [ -n "$file" ]; then echo "${file#"$top/"} is newer than the proved program"; fi
+}
+
+# Returns whether the kept program without proofs is current: no source is newer than it, and the kit is the one that made it.
+is_kept_current() {
+  local name=$1 program=$top/out/unproved/$1 rt
+  [ -x "$program" ] && [ -r "$program.made" ] && [ ! "$top/unproved" -nt "$program" ] || return 1
+  [ -z "$(newer_source "$name" "$program" src)" ] || return 1
+  rt=$(command -v rt) || return 0
+  [ "$(sed -n 's/^rt //p' -- "$program.made")" = "$(stat -L -c '%s %Y %i' -- "$rt")" ]
+}
+
+# Sees to it that the kept program without proofs is current, and returns whether it is. Sets `unkept` to the reason if it isn't. The
+# arguments are the crate, and why the proved program can't be run.
+keep_unproved() {
+  local status=0
+  unkept=
+  if is_kept_current "$1"; then return 0; fi
+  command -v rt >/dev/null || no_answer "$1" "the command rt of the kit is not in PATH"
+  unkept=$("$top/unproved" "$1" "$2") || status=$?
+  # (an interrupt ends the launcher too)
+  if [ "$status" -gt 128 ]; then exit "$status"; fi
+  return "$status"
+}
+
+# Runs the kept program of a crate, and exits with its status. The arguments are the crate and the program's own.
+run_kept() {
+  local name=$1 status=0
+  shift
+  # The shell's own message about a signal is left out.
+  { (ulimit -c 0 && exec "$top/out/unproved/$name" "$@" 2>&3); } 3>&2 2>/dev/null || status=$?
+  if [ "$status" -eq "$FAILED_CHECK" ]; then no_answer "$name" "an internal check failed; run it again by \`rt try\` in crates/$name"; fi
+  exit "$status"
 }
 
 # Prints on standard error why there is no output, and exits.
@@ -46,8 +89,7 @@ no_answer() {
 
 # Begins a run by `rt try`. Sets `room` to a folder for the input of the program named by the argument, and `given` to no words.
 begin_try() {
-  command -v rt >/dev/null || no_answer "$1" "the command rt of the kit is not in PATH"
-  room=$(mktemp -d)
+  room=$(mktemp -d) || no_answer "$1" "there is no temporary folder"
   trap 'rm -rf -- "$room"' EXIT
   given=()
 }
@@ -82,7 +124,7 @@ try_unproved() {
     *) no_answer "$name" "the unproved build met a limit of rt try ($(limit_of "$room/faults")); ./build makes the proved program, which has none" ;;
   esac
   # The last two lines are from rt try.
-  head -n -2 -- "$room/faults" >&2
+  head -n -2 -- "$room/faults" >&2 || true
   [ ! -s "$room/output" ] || LC_ALL=C cat -- "$room/output" 2>"$room/unwritten" || unwritten $? "$status"
   exit "$status"
 }
@@ -92,20 +134,31 @@ limit_of() {
   grep -v '^$' -- "$1" | tail -n 1 | cut -c 1-200
 }
 
-# Runs the proved program of a crate if it is current, and else says why not. The arguments are the crate and the program's own.
-run_proved() {
+# Runs the proved program of a crate if it is current, and else the one without proofs. Returns if neither can be run, and says why. The
+# arguments are the crate and the program's own.
+run_built() {
   local name=$1 why
   shift
   why=$(why_not_current "$name")
   if [ -z "$why" ]; then
     exec "$top/crates/$name/out/$name" "$@"
   fi
-  echo "$name: $why: this answer comes from a build that is checked while it runs and is not proved; ./build proves it, in some 115 processor minutes" >&2
+  if keep_unproved "$name" "$why"; then
+    run_kept "$name" "$@"
+  fi
+  echo "$name: $why, and none without proofs is kept ($unkept): this answer comes from \`rt try\`, which checks it while it runs, and is not proved" >&2
 }
 
-# Exits as a program does that can't write, in `launch_feats` as `feats` does. The arguments are the exit status of cat, and that of the
-# program.
+# Returns whether a text wasn't written because the pipe is closed at its other end. Then the status of cat, the argument, is that of
+# SIGPIPE, or cat says so where the signal is ignored.
+is_closed_pipe() {
+  [ "$1" -eq 141 ] || grep -q 'Broken pipe' "$room/unwritten"
+}
+
+# Exits as a program does that can't write, in `launch_feats` as `feats` does. A closed pipe is no fault. The arguments are the exit status
+# of cat, and that of the program.
 unwritten() {
+  if is_closed_pipe "$1"; then exit "$2"; fi
   echo "cannot write" >&2
   exit 1
 }
@@ -120,7 +173,7 @@ are_text() {
 launch() {
   local name=$1 needs=$2 input
   shift 2
-  run_proved "$name" "$@"
+  run_built "$name" "$@"
   begin_try "$name"
   if ! are_text "$@"; then
     # The programs refuse such arguments as they refuse two unknown ones.
@@ -201,14 +254,12 @@ takes_value() {
 # Runs the program `feats`. Some of its options and words name files. The arguments are its own.
 launch_feats() {
   local words=() command=${1-} policy= policy_copy=policy.$$.$RANDOM.$RANDOM
-  # A pipe that is closed at its other end is no fault: then the status of cat is that of SIGPIPE, or cat says so where the signal is
-  # ignored. There is an answer, perhaps a negative one.
   unwritten() {
-    if [ "$1" -eq 141 ] || grep -q 'Broken pipe' "$room/unwritten"; then exit 0; fi
+    if is_closed_pipe "$1"; then exit "$2"; fi
     echo "feats: cannot write the answer" >&2
     exit 2
   }
-  run_proved feats "$@"
+  run_built feats "$@"
   if ! are_text "$@"; then
     echo "feats: a word of the command line isn't UTF-8: rename the file" >&2
     exit 2

@@ -1,5 +1,5 @@
 //! Writing an answer.
-ghost use Rattle.std.specs.Prelude.{◌≡◌, Bool, true, false, not};
+ghost use Rattle.std.specs.Prelude.{◌≡◌, false, not};
 ghost use Rattle.feats_files.specs.Writing.{Writes};
 
 use byte_devices::{ByteOutput, Failed, write_all};

@@ -9,7 +9,6 @@ returns-clause-ok g c =
     let old = side_text c.args.old in
     let new = side_text c.args.new in
     let answer = answer_text c.in_ok-answer.answer in
-    let is_negative = c.write_answer.result.is_negative in
     let said = subst (λ t. IsComparison old new (record { content = t; is_negative = answer.is_negative })) (sym c.deref.ensures.value) c.in_ok-answer.ensures.answer in
     record {
       text = c.deref.result.now;
