@@ -45,6 +45,10 @@ resolver_of_edition text =
 abbrev pub value_at : Text → Text → Data → Option Data
 value_at section key d = option_and_then (get key) (get section d)
 
+-- The value of a key in the table of the root package: `package`, or `project`, its older name, if there is no `package`.
+abbrev pub package_value : Text → Data → Option Data
+package_value key d = option_map_or (get key) (get (codes "package") d) (value_at (codes "project") key d)
+
 -- The resolver that the value of a key names.
 abbrev pub named_by : ManifestKey → Data → Result Resolver KeyFault
 named_by key value = ok_or (option_and_then resolver_named (as_str value)) (Unknown key)
@@ -66,10 +70,10 @@ by_package_edition d value = if is_inherited value then of_inherited d else of_e
 
 -- The resolver of the root package's edition: the first, if it has none.
 abbrev pub by_edition : Data → Result Resolver KeyFault
-by_edition d = option_map_or (by_package_edition d) (value_at (codes "package") (codes "edition") d) (Ok V1)
+by_edition d = option_map_or (by_package_edition d) (package_value (codes "edition") d) (Ok V1)
 
 abbrev pub by_package : Data → Result Resolver KeyFault
-by_package d = option_map_or (named_by PackageResolver) (value_at (codes "package") (codes "resolver") d) (by_edition d)
+by_package d = option_map_or (named_by PackageResolver) (package_value (codes "resolver") d) (by_edition d)
 
 -- The resolver that a root manifest chooses: by `workspace.resolver`, else by `package.resolver`, else by the edition of the root
 -- package.

@@ -16,6 +16,16 @@ fn value_at<'v>(manifest: &'v Value, section: &str, key: &str) -> Option<&'v Val
     manifest.get(section)?.get(key)
 }
 
+/// Returns the value of `key` in the table of the root package: `package`, or `project`, its older name, if there is no `package`.
+fn package_value<'v>(manifest: &'v Value, key: &str) -> Option<&'v Value>
+    ensures { option_map (λ v. view v.now) result ≡ spec.package_value key.now (view manifest.now) }
+{
+    match manifest.get("package") {
+        Some(package) => package.get(key),
+        None => value_at(manifest, "project", key),
+    }
+}
+
 /// Returns the resolver that `value`, the value of `key`, names.
 fn named(key: ManifestKey, value: &Value) -> Result<Resolver, KeyFault>
     ensures { result ≡ spec.named_by key (view value.now) }
@@ -63,7 +73,7 @@ fn is_inherited(value: &Value) -> bool
 fn by_edition(manifest: &Value) -> Result<Resolver, KeyFault>
     ensures { result ≡ spec.by_edition (view manifest.now) }
 {
-    match value_at(manifest, "package", "edition") {
+    match package_value(manifest, "edition") {
         Some(value) => {
             if is_inherited(value) {
                 of_inherited(manifest)
@@ -76,14 +86,14 @@ fn by_edition(manifest: &Value) -> Result<Resolver, KeyFault>
 }
 
 /// Returns the resolver that the root manifest `manifest` chooses: by `workspace.resolver`, else by `package.resolver`, else by the
-/// edition of the root package. The error is the key whose value Cargo doesn't know, or which is missing.
+/// edition of the root package. The table `project` stands for `package`, if there is none. The error is the key whose value Cargo doesn't know, or which is missing.
 pub fn resolver_of(manifest: &Value) -> Result<Resolver, KeyFault>
     ensures { result ≡ spec.resolver_in (view manifest.now) }
 {
     if let Some(value) = value_at(manifest, "workspace", "resolver") {
         return named(ManifestKey::WorkspaceResolver, value);
     }
-    if let Some(value) = value_at(manifest, "package", "resolver") {
+    if let Some(value) = package_value(manifest, "resolver") {
         return named(ManifestKey::PackageResolver, value);
     }
     by_edition(manifest)
