@@ -149,6 +149,10 @@ MANIFESTS = {
     '[package]\nname = "a"\nedition = "2024"\n': '2',
     '[package]\nname = "a"\nedition = "2021"\n': '2',
     '[package]\nname = "a"\nedition = "2015"\n': '1',
+    '[project]\nname = "a"\nedition = "2021"\n': '2',
+    '[project]\nname = "a"\nedition = "2018"\n': '1',
+    '[project]\nname = "a"\nresolver = "2"\n': '2',
+    '[project]\nname = "a"\nedition = "2021"\n[package]\nname = "b"\nedition = "2018"\n': '1',
     '[package]\nname = "a"\n': '1',
     'package = { name = "a", edition.workspace = true }\n[workspace.package]\nedition = "2021"\n': '2',
 }

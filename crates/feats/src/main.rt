@@ -12,7 +12,7 @@ ghost use Rattle.byte_devices.specs.StdDevices.{read_failed};
 use byte_devices::{ByteInput, FromReader, ToWriter};
 use clap::Error;
 use clap::error::ErrorKind as MistakeKind;
-use feats_comparisons::{Side, compared_words, run as run_difference};
+use feats_comparisons::{Side, compared_words, one_format, run as run_difference};
 use feats_files::{
     Ended, Fault, PlatformFile, bytes_of, no_command, not_text, refused, unopened, write_answer,
 };
@@ -239,6 +239,7 @@ fn compare_arguments(
 fn compare_requests(rt: &HostRuntime, old: Request<'_>, new: Request<'_>) -> Result<bool, Fault> {
     let old = command_arguments(rt.alloc(), old)?;
     let new = command_arguments(rt.alloc(), new)?;
+    one_format(rt.alloc(), &old, &new)?;
     compare_arguments(rt, &old, &new)
 }
 

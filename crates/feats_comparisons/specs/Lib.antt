@@ -1,5 +1,6 @@
 pub mod Builds
 pub mod CommandLines
 pub mod Comparisons
+pub mod Formats
 pub mod Sides
 pub mod SideView

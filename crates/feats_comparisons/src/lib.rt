@@ -4,10 +4,12 @@
 mod builds;
 mod command_lines;
 mod comparing;
+mod formats;
 mod sides;
 mod visitors;
 
 pub use command_lines::{ComparedWords, compared_words};
 pub use comparing::{compare, run};
 pub use feats_differences::Answer;
+pub use formats::one_format;
 pub use sides::Side;
