@@ -68,21 +68,17 @@ _feats_by_list() {
   done
 }
 
-# Completes `part` by the names of files, which may have blanks and any other character.
-_feats_by_files() {
-  local part=$1 name
-  while IFS= read -r name; do COMPREPLY+=("$name"); done < <(compgen -f -- "$part")
-  compopt -o filenames 2>/dev/null
-}
-
-# Completes `part`, the last word or what follows its `=`, by what a table says.
+# Completes `part`, the last word or what follows its `=`, by what a table says. The name of a file may have blanks and any other character.
 _feats_by_kind() {
-  local part=$2
+  local part=$2 name
   case $1 in
-    files) _feats_by_files "$part" ;;
+    files)
+      while IFS= read -r name; do COMPREPLY+=("$name"); done < <(compgen -f -- "$part")
+      compopt -o filenames 2>/dev/null
+      ;;
     platforms)
       if [[ $part == *=* ]]; then
-        _feats_by_files "${part#*=}"
+        _feats_by_kind files "${part#*=}"
       else
         _feats_by_list "$part" "$(_feats_triples)" =
         compopt -o nospace 2>/dev/null
