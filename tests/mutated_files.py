@@ -15,7 +15,7 @@ MANIFESTS = (b'[workspace]\nmembers = ["a", "b"]\nresolver = "3"\n\n[workspace.p
              b'[package]\nname = "a"\nversion = "0.1.0"\nedition = "2024"\nresolver = "1"\n\n[dependencies]\nb = { path = "b", features = ["x"] }\n',
              b'[package]\nname = "a"\nversion.workspace = true\nedition.workspace = true\n\n[workspace]\n[workspace.package]\nedition = "2018"\n')
 SELECTIONS = ([], ['--workspace'], ['--workspace', '--all-features'], ['--workspace', '--no-default-features'], ['--workspace', '--tests'])
-# In a document this text becomes bytes that aren't UTF-8.
+# In a file this text becomes bytes that aren't UTF-8.
 NOT_UTF_8 = 'not UTF-8'
 # Texts that a name, a version, a platform spec or an item of a feature may have.
 TEXTS = ('', ' ', '\0', '\n', '\t', '\x1b[31m', '\x7f\x85', '\u202e', '\ud800', '\U0001f980', 'x' * 5000, '(' * 300, NOT_UTF_8, '/', '*', '?', '#', '@', '-', '--',
@@ -59,8 +59,12 @@ class Bases:
         return self.large if at == 99 else random.choice(self.small), random.choice(SELECTIONS)
 
 
+def encoded(text):
+    return text.encode(errors='replace').replace(NOT_UTF_8.encode(), b'\xff\xfe')
+
+
 def bytes_of(value):
-    return json.dumps(value).encode().replace(NOT_UTF_8.encode(), b'\xff\xfe')
+    return encoded(json.dumps(value))
 
 
 # Parts of a document that may be broken.
@@ -152,7 +156,7 @@ def changed_lines(random, data, words):
     else:
         mark = random.choice((b'\t', b' ', b'=', b'"', b','))
         parts = lines[at].split(mark)
-        parts[random.randrange(len(parts))] = random.choice(words).encode(errors='replace')
+        parts[random.randrange(len(parts))] = encoded(random.choice(words))
         lines[at] = mark.join(parts)
     return b'\n'.join(lines)
 
@@ -184,7 +188,7 @@ def change_json(random, value):
     elif how == 3 and isinstance(spot, list):
         spot.insert(random.randrange(len(spot) + 1), copy.deepcopy(spot[key]))
     elif how == 4:
-        spot[key] = random.choice(VALUES)
+        spot[key] = copy.deepcopy(random.choice(VALUES))
     else:
         held = [it[:2] for it in spots if isinstance(it[0][it[1]], str)]
         change_text(random, value, *random.choice(held or [(spot, key)]))
@@ -209,7 +213,7 @@ def change_alike(random, value):
 def drawn_policy(random, value):
     """Returns a policy whose rules name parts of a document."""
     rules = ('deny {}', 'deny {} # a reason', f'deny {{}} on {HOST}', f'deny {{}} on {WINDOWS}', 'require {}', 'deny-duplicates {}', '# {}', '')
-    return ''.join(random.choice(rules).format(drawn_word(random, value)) + '\n' for _ in range(random.randrange(6))).encode(errors='replace')
+    return encoded(''.join(random.choice(rules).format(drawn_word(random, value)) + '\n' for _ in range(random.randrange(6))))
 
 
 def drawn_document(random, value):
