@@ -89,7 +89,7 @@ no_answer() {
 
 # Begins a run by `rt try`. Sets `room` to a folder for the input of the program named by the argument, and `given` to no words.
 begin_try() {
-  room=$(mktemp -d) || no_answer "$1" "there is no temporary folder"
+  room=$(mktemp -d) && room=$(cd -P -- "$room" && pwd) || no_answer "$1" "there is no temporary folder"
   trap 'rm -rf -- "$room"' EXIT
   given=()
 }
@@ -105,11 +105,12 @@ give() {
   given+=(--data "$2=$room/$2")
 }
 
-# Writes the path of a policy into a file in the place of the name of its copy, which the program knows it by.
+# Writes the path of the policy into a file in the place of the name of its copy, which the program knows it by.
 restore_policy() {
-  local path
-  path=$(printf '%s' "$policy" | sed 's/[&|\\]/\\&/g')
-  sed -i "s|$policy_copy|$path|g" -- "$1"
+  python3 -c 'import os, sys
+name, copy, path = map(os.fsencode, sys.argv[1:])
+content = open(name, "rb").read()
+open(name, "wb").write(content.replace(copy, path))' "$1" "$policy_copy" "$policy"
 }
 
 # Runs a program by `rt try`, and exits. The arguments are its crate and its own arguments.
@@ -117,7 +118,9 @@ try_unproved() {
   local name=$1 status=0 last
   shift
   (cd -- "$top/crates/$name" && exec rt try --seconds 1000000 "${given[@]}" -- "$@") </dev/null >"$room/output" 2>"$room/faults" || status=$?
-  if [ -n "${policy-}" ]; then restore_policy "$room/output" && restore_policy "$room/faults"; fi
+  if [ -n "${policy-}" ]; then
+    restore_policy "$room/output" && restore_policy "$room/faults" || no_answer "$name" "the temporary folder can't be written to"
+  fi
   last=$(tail -n 1 -- "$room/faults")
   case $last in
     "run=ended status=$status "*) ;;
@@ -165,7 +168,7 @@ unwritten() {
 
 # Returns whether the arguments are UTF-8: rt try accepts no others.
 are_text() {
-  printf '%s\n' "$@" | iconv -f UTF-8 -t UTF-8 >/dev/null 2>&1
+  python3 -c 'import sys; "".join(sys.argv).encode()' "$@" 2>/dev/null
 }
 
 # Runs a program. The arguments are its crate, the number of arguments without which it doesn't read its input, and its own

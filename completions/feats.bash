@@ -44,32 +44,49 @@ _feats_word() {
   esac
 }
 
-# Prints the names of the packages in the nearest Cargo.lock.
+# Prints the names of the packages in the nearest Cargo.lock. A stranger may have written it, so only names of plain characters count.
 _feats_packages() {
   local folder=$PWD
   until [ -f "$folder/Cargo.lock" ]; do
     [ -n "$folder" ] || return
     folder=${folder%/*}
   done
-  sed -n 's/^name = "\(.*\)"$/\1/p' "$folder/Cargo.lock" | sort -u
+  env LC_ALL=C sed -n 's/^name = "\([A-Za-z0-9_-]\{1,\}\)"$/\1/p' "$folder/Cargo.lock" | sort -u
 }
 
-# Completes `part`, the last word or what follows its `=`, by what a table says.
+# Prints the triples of plain characters that rustc lists. A file in the folder may choose that rustc.
+_feats_triples() {
+  rustc --print target-list 2>/dev/null | env LC_ALL=C sed -n '/^[A-Za-z0-9_.-]\{1,\}$/p'
+}
+
+# Completes `part` by the words of a list that begin with it, each with `suffix` after it. Unlike `compgen -W` it expands no word.
+_feats_by_list() {
+  local part=$1 list=$2 suffix=${3-} words=() word
+  IFS=$' \n' read -r -d '' -a words <<<"$list"
+  for word in "${words[@]}"; do
+    if [[ $word == "$part"* ]]; then COMPREPLY+=("$word$suffix"); fi
+  done
+}
+
+# Completes `part`, the last word or what follows its `=`, by what a table says. The name of a file may have blanks and any other character.
 _feats_by_kind() {
-  local part=$2
+  local part=$2 name
   case $1 in
-    files) COMPREPLY=($(compgen -f -- "$part")) && compopt -o filenames 2>/dev/null ;;
+    files)
+      while IFS= read -r name; do COMPREPLY+=("$name"); done < <(compgen -f -- "$part")
+      compopt -o filenames 2>/dev/null
+      ;;
     platforms)
       if [[ $part == *=* ]]; then
         _feats_by_kind files "${part#*=}"
       else
-        COMPREPLY=($(compgen -S = -W "$(rustc --print target-list 2>/dev/null)" -- "$part"))
+        _feats_by_list "$part" "$(_feats_triples)" =
         compopt -o nospace 2>/dev/null
       fi
       ;;
-    triples) COMPREPLY=($(compgen -W "host-tuple $(rustc --print target-list 2>/dev/null)" -- "$part")) ;;
-    packages) COMPREPLY=($(compgen -W "$(_feats_packages)" -- "$part")) ;;
-    words\ *) COMPREPLY=($(compgen -W "${1#words }" -- "$part")) ;;
+    triples) _feats_by_list "$part" "host-tuple $(_feats_triples)" ;;
+    packages) _feats_by_list "$part" "$(_feats_packages)" ;;
+    words\ *) _feats_by_list "$part" "${1#words }" ;;
   esac
 }
 
@@ -107,9 +124,9 @@ _feats_complete() {
   elif [[ $current == --*=* ]]; then
     _feats_by_kind "$(_feats_value "$program" "${current%%=*}")" "${current#*=}"
   elif [ -z "$command" ]; then
-    COMPREPLY=($(compgen -W "$(_feats_list "$program" commands) --help" -- "$current"))
+    _feats_by_list "$current" "$(_feats_list "$program" commands) --help"
   elif [[ $current == -* ]]; then
-    COMPREPLY=($(compgen -W "$(_feats_list "$program" "$command")" -- "$current"))
+    _feats_by_list "$current" "$(_feats_list "$program" "$command")"
   else
     _feats_by_kind "$(_feats_word "$command" "$number")" "$current"
   fi

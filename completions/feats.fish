@@ -1,17 +1,18 @@
 # Completions of fish for `feats`, `cargo feats` and `cargo-feats`. Made by completions/make from the texts of --help.
 
-# Prints the names of the packages in the nearest Cargo.lock.
+# Prints the names of the packages in the nearest Cargo.lock. A stranger may have written it, so only names of plain characters count.
 function __feats_packages
     set -l folder $PWD
     while not test -f "$folder/Cargo.lock"
         test -n "$folder"; or return
-        set folder (string replace -r '/[^/]*$' '' -- $folder)
+        set folder (string replace -r '/[^/]*$' '' -- $folder | string collect)
     end
-    sed -n 's/^name = "\(.*\)"$/\1/p' "$folder/Cargo.lock" | sort -u
+    env LC_ALL=C sed -n 's/^name = "\([A-Za-z0-9_-]\{1,\}\)"$/\1/p' "$folder/Cargo.lock" | sort -u
 end
 
+# Prints the triples of plain characters that rustc lists. A file in the folder may choose that rustc.
 function __feats_triples
-    rustc --print target-list 2>/dev/null
+    rustc --print target-list 2>/dev/null | env LC_ALL=C sed -n '/^[A-Za-z0-9_.-]\{1,\}$/p'
 end
 
 # Returns whether the command of the program is one of the other arguments; without others, whether there is no command.
