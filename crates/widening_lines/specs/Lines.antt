@@ -37,7 +37,7 @@ said_lines (not_planned message) = codes ": not planned: " ++ (message ++ codes 
 
 -- What follows, if the feature is off with all widenings together.
 abbrev pub closing : Widening → SaidText → Text
-closing widening.Together off = codes "no choice of members, features, tests and platforms turns it on\n"
+closing widening.Together off = codes "no choice of members, their features, tests and platforms turns it on\n"
 closing _ _ = []
 
 -- The lines about a widening.

@@ -63,7 +63,7 @@ fn push_closing(text: &mut Vec<u8>, widening: Widening, said: Said<'_>) -> Resul
     match (widening, said) {
         (Widening::Together, Said::Off) => push(
             text,
-            "no choice of members, features, tests and platforms turns it on\n",
+            "no choice of members, their features, tests and platforms turns it on\n",
         ),
         _ => Ok(()),
     }
