@@ -26,7 +26,7 @@ IsComparison old new answer = AfterPlanning old.inputs old.document (λ p. IsAns
 abbrev pub IsNoComparison : SideText → SideText → Text → Type 0
 IsNoComparison old new message = IsPlanningRefusal old.inputs old.document (λ _. IsNewRefusal new) message
 
--- THE END of a run that compares two sides: what it says of the answer, and what it wrote of it.
+-- THE END of a run that compares two sides: the text of the answer, whether it is negative, and the part of it that was written.
 pub record HasComparison (old_side new_side : SideText) (ended : Ended) (old new : Option Text) : Type 0 where
   pub text : Text
   pub is_comparison : IsComparison old_side new_side (record { content = text; is_negative = ended.is_negative })

@@ -9,7 +9,7 @@ use Rattle.feats_files.specs.Writing.{Writes}
 use Rattle.feats_tool.specs.Answers.{IsAnswer, IsNoAnswer}
 use Rattle.feats_plans.specs.Inputs.{InputsText, unread_message}
 
--- THE END of a run over the bytes `left` that has an answer: what it says of the answer, and what it wrote of it.
+-- THE END of a run over the bytes `left` that has an answer: its text, whether it is negative, and the part of it that was written.
 pub record HasAnswer (inputs : InputsText) (ended : Ended) (left old new : Option Text) : Type 0 where
   pub text : Text
   pub is_answer : IfSome left (λ bytes. IsAnswer inputs bytes (record { content = text; is_negative = ended.is_negative }))
