@@ -18,7 +18,6 @@ pub mod RunLemmas
 pub mod Sections
 pub mod SharedLemmas
 pub mod Sound
-pub mod StepCounts
 pub mod StoredLemmas
 pub mod TagLemmas
 pub mod TakenLemmas

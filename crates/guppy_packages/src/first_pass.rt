@@ -3,14 +3,12 @@ ghost use Rattle.std.specs.Prelude.{◌≡◌, ◌+◌, ◌<◌, [], Ok, IfErr, 
 ghost use Rattle.std.specs.String.{string_bytes};
 ghost use Rattle.guppy_packages.specs.Graph.{NamesRow, Reads, first_or, faults_by, row_fault, packages_of};
 ghost use Rattle.guppy_packages.specs.NamedFeature.{feature_table, table_of_texts};
-ghost use Rattle.guppy_packages.specs.Parts.{first_text};
 ghost use Rattle.guppy_packages.specs.Rows.{row_text};
 ghost use Rattle.guppy_packages.specs.Stored.{package_tables};
-ghost use Rattle.guppy_packages.specs.inner.RowTexts.{AreAt, row_ids, row_texts, stored_ids, stored_texts};
+ghost use Rattle.guppy_packages.specs.inner.RowTexts.{AreAt, row_texts, stored_texts};
 ghost use Rattle.guppy_packages.specs.inner.Steps.{Takes, add_package, add_feature, add_name, change_last, first_step, with_feature, with_name};
 
 use crate::contents::PackageData;
-use crate::hash_places::hash_of;
 use crate::name_set::NameSet;
 use crate::named_feature::NamedFeature;
 use crate::optional_names::OptionalNames;
@@ -44,22 +42,18 @@ fn blank_package(alloc: Global, in_workspace: bool, room: Room) -> Result<Packag
     })
 }
 
-/// Reads a Package row: appends the package `id`, with this room, or returns `DuplicatePackage` if `packages` already has it. The id is
-/// the first of `texts`.
+/// Reads a Package row: appends the package `id`, with this room, or returns `DuplicatePackage` if `packages` already has it.
 fn push_package(
     alloc: Global,
     packages: &mut PackageList,
     id: &str,
-    texts: TextRun,
     in_workspace: bool,
     room: Room,
 ) -> Result<(), RowFault>
-    requires some { 0 < length texts }
-    requires id { first_text texts ≡ id.now }
     ensures { Takes (package_tables packages.new) result (add_package id.now in_workspace (package_tables packages.old)) }
 {
     let data = blank_package(alloc, in_workspace, room)?;
-    let added = packages.insert(alloc, PackageId::of_texts(texts), data, hash_of(id))?;
+    let added = packages.insert(PackageId::new(alloc, id)?, data)?;
     if !added {
         return Err(RowFault::DuplicatePackage);
     }
@@ -136,60 +130,50 @@ fn end_package(packages: &mut PackageList)
     last.optional_names.shrink_to_fit();
 }
 
-/// The lists of the texts of all rows.
-#[derive(Clone, Copy)]
-pub(crate) struct RowTexts<'l> {
-    pub(crate) ids: &'l Rc<TextList>,
-    pub(crate) names: &'l Rc<TextList>,
-}
-
-/// Reads a row in the first pass, or returns its fault. Its names are those of `texts` from `at` up to, not including, `next`; its id is
-/// that of the next package. A new package has this room.
+/// Reads a row in the first pass, or returns its fault. Its names are those of `names` from `at` up to, not including, `next`. A new
+/// package has this room.
 fn take_row(
     alloc: Global,
     packages: &mut PackageList,
-    texts: RowTexts<'_>,
+    names: &Rc<TextList>,
     at: usize,
     next: usize,
     row: Row,
     room: Room,
 ) -> Result<(), RowFault>
-    requires ids { AreAt texts.ids.now.value (length (package_tables packages.old)) (row_ids (row_text row)) }
-    requires names { AreAt texts.names.now.value at (row_texts (row_text row)) }
+    requires names { AreAt names.now.value at (row_texts (row_text row)) }
     requires next { next ≡ at + length (row_texts (row_text row)) }
     ensures { Takes (package_tables packages.new) result (first_step (package_tables packages.old) (row_text row.entry)) }
 {
     match row {
         Row::Package { id, in_workspace } => {
-            let text = TextRun::new(texts.ids, packages.len(), 1)?;
             end_package(packages);
-            push_package(alloc, packages, id, text, in_workspace, room)
+            push_package(alloc, packages, id, in_workspace, room)
         }
         Row::Feature { .. } => {
-            let text = TextRun::new(texts.names, at, next - at)?;
+            let text = TextRun::new(names, at, next - at)?;
             push_feature_row(alloc, packages, text)
         }
         Row::Dep { name, optional, .. } => push_dep_row(alloc, packages, name, optional),
     }
 }
 
-/// Reads a row in the first pass, or returns its fault. Its names begin at `at` in `texts`; returns where those of the next row begin.
+/// Reads a row in the first pass, or returns its fault. Its names begin at `at` in `names`; returns where those of the next row begin.
 /// A new package has this room.
 fn take_row_at(
     alloc: Global,
     packages: &mut PackageList,
-    texts: RowTexts<'_>,
+    names: &Rc<TextList>,
     at: usize,
     row: Row,
     room: Room,
 ) -> Result<usize, RowFault>
-    requires ids { AreAt texts.ids.now.value (length (package_tables packages.old)) (row_ids (row_text row)) }
-    requires names { AreAt texts.names.now.value at (row_texts (row_text row)) }
+    requires names { AreAt names.now.value at (row_texts (row_text row)) }
     ensures tables { Takes (package_tables packages.new) result (first_step (package_tables packages.old) (row_text row.entry)) }
     ensures next { IfOk result (λ next. next ≡ at + length (row_texts (row_text row.entry))) }
 {
     let next = next_name(at, row)?;
-    take_row(alloc, packages, texts, at, next, row, room)?;
+    take_row(alloc, packages, names, at, next, row, room)?;
     Ok(next)
 }
 
@@ -224,24 +208,23 @@ fn room_for<S: RowSource>(source: &S, row: Row, next: usize) -> Room {
     }
 }
 
-/// Runs the first pass and returns the packages, or the first fault of a row by itself. `texts` has the texts of all rows. The list's
+/// Runs the first pass and returns the packages, or the first fault of a row by itself. `names` has the texts of all rows. The list's
 /// spare capacity is freed.
 pub(crate) fn take_packages<S: RowSource>(
     alloc: Global,
-    texts: RowTexts<'_>,
+    names: &Rc<TextList>,
     source: &S,
 ) -> Result<PackageList, RowError>
-    requires ids { texts.ids.now.value ≡ stored_ids (S.rows source.now) }
-    requires names { texts.names.now.value ≡ stored_texts (S.rows source.now) }
+    requires { names.now.value ≡ stored_texts (S.rows source.now) }
     ensures tables { Reads package_tables result (first_or (faults_by row_fault (S.rows source.now)) (packages_of (S.rows source.now))) }
     ensures row { IfErr result (NamesRow (S.rows source.now)) }
 {
-    let mut packages = PackageList::with_capacity(alloc, texts.ids.len())?;
+    let mut packages = PackageList::new(alloc);
     let mut at = 0;
     for ix in 0..source.row_count() {
         let row = source.row(ix);
         let room = room_for(source, row, ix + 1);
-        match take_row_at(alloc, &mut packages, texts, at, row, room) {
+        match take_row_at(alloc, &mut packages, names, at, row, room) {
             Ok(next) => at = next,
             Err(fault) => return Err(RowError::new(ix, fault)),
         }

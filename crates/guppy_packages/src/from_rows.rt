@@ -37,8 +37,8 @@ fn begins_and_order(
 
 impl PackageGraph {
     /// Returns the graph of `rows`, or the first fault. Faults of rows by themselves precede those among all packages. `Memory`
-    /// is returned when an allocation fails, or if the ids of packages, or the texts of features and dependencies, are more than
-    /// 4294967295 or longer than as many bytes.
+    /// is returned when an allocation fails, or if the texts of features and dependencies are more than 4294967295 or longer than as
+    /// many bytes.
     pub fn from_rows(alloc: Global, rows: &[Row]) -> Result<PackageGraph, RowError>
         ensures tables { Reads (λ graph. graph) result (tables_of (map row_text rows.now)) }
         ensures row { IfErr result (NamesRow rows.now) }
@@ -59,7 +59,7 @@ impl PackageGraph {
     pub fn from_tables(alloc: Global, tables: PackageTables) -> Result<PackageGraph, AllocError>
         ensures { IfOk result (λ graph. graph ≡ tables) }
     {
-        let PackageTables { packages, links } = tables;
+        let (packages, links) = tables.into_parts();
         let (begins, order) = begins_and_order(alloc, &packages, &links)?;
         Ok(PackageGraph {
             packages,

@@ -1,5 +1,5 @@
 //! Named items by number, found by name.
-ghost use Rattle.std.specs.Prelude.{◌≡◌, ◌<◌, [], IfOk, OnErr, Some, length, not, position, slice_get};
+ghost use Rattle.std.specs.Prelude.{◌≡◌, IfOk, OnErr, not, position};
 ghost use Rattle.std.specs.List.{list_any};
 ghost use Rattle.std.specs.Str.{bytes_eq};
 ghost use Rattle.guppy_packages.specs.inner.HashPlaces.{name_hash};
@@ -31,13 +31,6 @@ impl<T: Named> Model for NamedList<T> {
 }
 
 impl<T: Named + Drop> NamedList<T> {
-    /// Returns the list of no items, with room for `room` items. `AllocError` is the only error.
-    pub(crate) fn with_capacity(alloc: Global, room: usize) -> Result<NamedList<T>, AllocError>
-        ensures { IfOk result (λ list. list ≡ []) }
-    {
-        NamedList::of(alloc, Vec::with_capacity(alloc, room)?)
-    }
-
     /// Returns the list of `items`, with the room that they have: three slots for each two, and some more. `AllocError` is the only error.
     pub(crate) fn of(alloc: Global, items: Vec<T>) -> Result<NamedList<T>, AllocError>
         ensures { IfOk result (λ list. list ≡ items.items) }
@@ -45,21 +38,6 @@ impl<T: Named + Drop> NamedList<T> {
         let count = items.capacity().saturating_mul(3) / 2 + 32;
         let slots = slots_of(alloc, &items, count)?;
         Ok(NamedList { items, slots })
-    }
-
-    /// Returns the number of items.
-    pub(crate) fn len(&self) -> usize
-        ensures { result ≡ length self.now }
-    {
-        self.items.len()
-    }
-
-    /// Returns item `ix`.
-    pub(crate) fn get(&self, ix: usize) -> &T
-        requires { ix < length self.now }
-        ensures { slice_get self.now ix ≡ Some result.now }
-    {
-        &self.items[ix]
     }
 
     /// Returns the items.

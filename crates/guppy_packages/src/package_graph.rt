@@ -125,7 +125,7 @@ impl PackageGraph {
             (λ _. package_place id.now self.now.packages ≡ None) }
         ensures id { IfOk result (λ m. package_id_of m ≡ id.now) }
     {
-        match self.packages.place_of(id.repr()) {
+        match self.packages.place_of(id) {
             Some(ix) => Ok(self.package(ix)),
             None => Err(UnknownPackageId),
         }

@@ -2,36 +2,21 @@
 ghost use Rattle.std.specs.Prelude.{◌≡◌, ◌<◌, ◌++◌, ◌∷◌, [], IfOk, OnErr, Some, if◌then◌else◌, length, not, position, slice_get};
 ghost use Rattle.std.specs.List.{list_any};
 ghost use Rattle.std.specs.Str.{bytes_eq};
-ghost use Rattle.guppy_packages.specs.inner.HashPlaces.{name_hash};
+ghost use Rattle.indexmap.specs.IndexSet.{insert_key};
 
 use crate::contents::PackageData;
-use crate::named::Named;
-use crate::named_list::NamedList;
 use crate::package_id::PackageId;
 use crate::pushing::push_to;
+use crate::text_map::TextSet;
+use indexmap::IndexSet;
 use std::alloc::{AllocError, Global};
+use std::hash::BuildHasherDefault;
 use std::marker::Model;
 
-impl Named for PackageId {
-    ghost name = { λ id. id };
-
-    #[inline(always)]
-    fn name(&self) -> &str {
-        self.repr()
-    }
-
-    #[inline(always)]
-    fn is_named(&self, other: &str) -> bool {
-        other == self.repr()
-    }
-}
-
 /// Packages by number, found by id. A contract sees it as the list of their ids and contents.
-///
-/// The ids are apart from the contents, because a look-up reads ids alone.
 #[derive(Drop)]
 pub(crate) struct PackageList {
-    ids: NamedList<PackageId>,
+    ids: TextSet<PackageId>,
     pub(crate) contents: Vec<PackageData>,
 }
 
@@ -43,19 +28,32 @@ impl Model for PackageList {
 
     ghost Value = { List (Text × PackageData) };
 
-    ghost view = { λ l. zip l.ids l.contents.items };
+    ghost view = { λ l. zip l.ids.keys l.contents.items };
 
-    ghost invariant = { λ l. length l.contents.items ≡ length l.ids };
+    ghost invariant = { λ l. length l.contents.items ≡ length l.ids.keys };
+}
+
+/// Inserts `id` into `ids`, and returns whether it is new. `AllocError` is the only error, and then `ids` is unchanged.
+fn insert_id(ids: &mut TextSet<PackageId>, id: PackageId) -> Result<bool, AllocError>
+    ensures added { IfOk result (λ added. added ≡ not (list_any (bytes_eq id) ids.old.keys)) }
+    ensures ids { IfOk result (λ _. ids.new.keys ≡ insert_key bytes_eq ids.old.keys id) }
+    ensures kept { OnErr result (ids.new.keys ≡ ids.old.keys) }
+{
+    match ids.insert(id) {
+        Ok(added) => Ok(added),
+        Err(_) => Err(AllocError),
+    }
 }
 
 impl PackageList {
-    /// Returns the list of no packages, with room for `room` packages. `AllocError` is the only error.
-    pub(crate) fn with_capacity(alloc: Global, room: usize) -> Result<PackageList, AllocError>
-        ensures { IfOk result (λ list. list ≡ []) }
+    /// Returns the list of no packages, which allocates nothing.
+    pub(crate) fn new(alloc: Global) -> PackageList
+        ensures { result ≡ [] }
     {
-        let ids = NamedList::with_capacity(alloc, room)?;
-        let contents = Vec::with_capacity(alloc, room)?;
-        Ok(PackageList { ids, contents })
+        PackageList {
+            ids: IndexSet::with_hasher(alloc, BuildHasherDefault::new()),
+            contents: Vec::new(alloc),
+        }
     }
 
     /// Returns the number of packages.
@@ -70,33 +68,33 @@ impl PackageList {
         requires { ix < length self.now }
         ensures { slice_get self.now ix ≡ Some (result.0.now, result.1.now) }
     {
-        (self.ids.get(ix), &self.contents[ix])
+        let Some(id) = self.ids.get_index(ix) else {
+            unreachable!()
+        };
+        (id, &self.contents[ix])
     }
 
     /// Returns the number of the package whose id is `id`.
-    pub(crate) fn place_of(&self, id: &str) -> Option<usize>
+    pub(crate) fn place_of(&self, id: &PackageId) -> Option<usize>
         ensures { result ≡ position (λ e. bytes_eq id.now e.0) self.now }
     {
-        self.ids.place_of(id)
+        self.ids.get_index_of(id)
     }
 
-    /// Appends the package with the id `id`, which has this hash, unless a package of this id is there, and returns whether it did.
-    /// `AllocError` is the only error, and then the list is unchanged.
+    /// Appends the package with the id `id`, unless a package of this id is there, and returns whether it did. `AllocError` is the only
+    /// error, and then the list is unchanged.
     pub(crate) fn insert(
         &mut self,
-        alloc: Global,
         id: PackageId,
         contents: PackageData,
-        hash: u32,
     ) -> Result<bool, AllocError>
-        requires { hash ≡ name_hash id }
         ensures added { IfOk result (λ added. added ≡ not (list_any (λ e. bytes_eq id e.0) self.old)) }
         ensures packages { IfOk result (λ added. self.new ≡ (if added then self.old ++ (id, contents) ∷ [] else self.old)) }
         ensures kept { OnErr result (self.new ≡ self.old) }
     {
         let at = self.contents.len();
         push_to(&mut self.contents, contents)?;
-        match self.ids.insert(alloc, id, hash) {
+        match insert_id(&mut self.ids, id) {
             Ok(true) => Ok(true),
             Ok(false) => {
                 self.contents.truncate(at);

@@ -3,26 +3,32 @@ ghost use Rattle.std.specs.Prelude.{◌≡◌, IfOk, IfErr};
 ghost use Rattle.guppy_packages.specs.Graph.{NamesRow, Reads, tables_of};
 ghost use Rattle.guppy_packages.specs.Stored.{link_tables, package_tables};
 ghost use Rattle.guppy_packages.specs.Tables.{AreTables};
-ghost use Rattle.guppy_packages.specs.inner.RowTexts.{stored_ids, stored_texts};
 
 use crate::contents::Link;
-use crate::first_pass::{RowTexts, take_packages};
+use crate::first_pass::take_packages;
 use crate::package_list::PackageList;
 use crate::row_error::RowError;
 use crate::row_source::RowSource;
 use crate::row_texts::stored_texts;
 use crate::second_pass::take_links;
-use crate::text_list::TextList;
 use std::alloc::{AllocError, Global};
 use std::marker::Model;
-use std::rc::Rc;
 
 /// Packages and links that are not yet in order. They share nothing with the source of their rows, which can be dropped before the
 /// graph is made of them. A contract sees them as plain tables.
-#[derive(Drop)]
 pub struct PackageTables {
     pub(crate) packages: PackageList,
     pub(crate) links: Vec<Link>,
+}
+
+impl Drop for PackageTables {
+    // Written out, so that a crate above calls it. A derived drop is proved in each crate that drops a value, with those of all fields.
+    fn drop(self) {
+        let PackageTables {
+            packages: _packages,
+            links: _links,
+        } = self;
+    }
 }
 
 impl Model for PackageTables {
@@ -36,18 +42,6 @@ impl Model for PackageTables {
     ghost invariant = { λ t. AreTables (record { packages = package_tables t.packages; links = link_tables t.links.items }) };
 }
 
-/// Returns the ids and the names of all rows, in row order. The errors are those of [`stored_texts`].
-fn shared_texts<S: RowSource>(
-    alloc: Global,
-    source: &S,
-) -> Result<(Rc<TextList>, Rc<TextList>), AllocError>
-    ensures ids { IfOk result (λ lists. lists.0.value ≡ stored_ids (S.rows source.now)) }
-    ensures names { IfOk result (λ lists. lists.1.value ≡ stored_texts (S.rows source.now)) }
-{
-    let (ids, names) = stored_texts(alloc, source)?;
-    Ok((Rc::new(alloc, ids)?, Rc::new(alloc, names)?))
-}
-
 /// Runs both passes and returns the packages and the links.
 fn take_tables<S: RowSource>(
     alloc: Global,
@@ -57,25 +51,29 @@ fn take_tables<S: RowSource>(
     ensures sound { IfOk result (λ both. AreTables (record { packages = package_tables both.0; links = link_tables both.1.items })) }
     ensures row { IfErr result (NamesRow (S.rows source.now)) }
 {
-    let (ids, names) = shared_texts(alloc, source)?;
-    let texts = RowTexts {
-        ids: &ids,
-        names: &names,
-    };
-    let packages = take_packages(alloc, texts, source)?;
+    let names = stored_texts(alloc, source)?;
+    let packages = take_packages(alloc, &names, source)?;
     let links = take_links(alloc, &packages, &names, source)?;
     Ok((packages, links))
 }
 
 impl PackageTables {
     /// Returns the tables of the rows of `source`, or the first fault. Faults of rows by themselves precede those among all packages.
-    /// `Memory` is returned when an allocation fails, or if the ids of packages, or the texts of features and dependencies, are more than
-    /// 4294967295 or longer than as many bytes. Each row is requested at most four times.
+    /// `Memory` is returned when an allocation fails, or if the texts of features and dependencies are more than 4294967295 or longer
+    /// than as many bytes. Each row is requested at most four times.
     pub fn from_source<S: RowSource>(alloc: Global, source: &S) -> Result<PackageTables, RowError>
         ensures tables { Reads (λ tables. tables) result (tables_of (S.rows source.now)) }
         ensures row { IfErr result (NamesRow (S.rows source.now)) }
     {
         let (packages, links) = take_tables(alloc, source)?;
         Ok(PackageTables { packages, links })
+    }
+
+    /// Returns the packages and the links.
+    pub(crate) fn into_parts(self) -> (PackageList, Vec<Link>)
+        ensures { record { packages = package_tables result.0; links = link_tables result.1.items } ≡ self }
+    {
+        let PackageTables { packages, links } = self;
+        (packages, links)
     }
 }

@@ -4,7 +4,7 @@ ghost use Rattle.std.specs.String.{string_bytes};
 ghost use Rattle.guppy_packages.specs.Parts.{AreEnds, parts};
 ghost use Rattle.guppy_packages.specs.Rows.{Text, row_text, texts};
 ghost use Rattle.guppy_packages.specs.inner.Pushed.{IsPushed};
-ghost use Rattle.guppy_packages.specs.inner.RowTexts.{row_ids, row_texts, stored_ids, stored_texts};
+ghost use Rattle.guppy_packages.specs.inner.RowTexts.{row_texts, stored_texts};
 
 use crate::narrow::narrow;
 use crate::pushing::push_to;
@@ -12,6 +12,7 @@ use crate::row::Row;
 use crate::row_source::RowSource;
 use crate::text_list::TextList;
 use std::alloc::{AllocError, Global};
+use std::rc::Rc;
 
 /// Appends `added` to `text`, and its end in `text` to `ends`. Returns `AllocError` if an allocation fails or the end doesn't fit in
 /// 32 bits.
@@ -32,16 +33,6 @@ fn push_texts(text: &mut String, ends: &mut Vec<u32>, added: &[&str]) -> Result<
         push_text(text, ends, item)?;
     }
     Ok(())
-}
-
-/// Appends the id of `row`, if it is a Package row. The errors are those of `push_text`.
-fn push_id(text: &mut String, ends: &mut Vec<u32>, row: Row) -> Result<(), AllocError>
-    ensures { OnOk result ((before : List Text) → IsPushed before (string_bytes text.old) ends.old.items → IsPushed (before ++ row_ids (row_text row.entry)) (string_bytes text.new) ends.new.items) }
-{
-    match row {
-        Row::Package { id, .. } => push_text(text, ends, id),
-        Row::Feature { .. } | Row::Dep { .. } => Ok(()),
-    }
 }
 
 /// Appends the name in `row` and the features or items that it lists. The errors are those of `push_text`.
@@ -69,37 +60,20 @@ pub(crate) fn next_name(at: usize, row: Row) -> Result<usize, AllocError>
     Ok(narrow(at.saturating_add(count))? as usize)
 }
 
-/// Appends the ids and the names of all rows, in row order. The errors are those of `push_text`.
+/// Appends the names of all rows, in row order. The errors are those of `push_text`.
 fn push_rows<S: RowSource>(
-    id_text: &mut String,
-    id_ends: &mut Vec<u32>,
-    name_text: &mut String,
-    name_ends: &mut Vec<u32>,
+    text: &mut String,
+    ends: &mut Vec<u32>,
     source: &S,
 ) -> Result<(), AllocError>
-    requires id_text { string_bytes id_text.old ≡ [] }
-    requires id_ends { id_ends.old.items ≡ [] }
-    requires name_text { string_bytes name_text.old ≡ [] }
-    requires name_ends { name_ends.old.items ≡ [] }
-    ensures ids { OnOk result (IsPushed (stored_ids (S.rows source.now)) (string_bytes id_text.new) id_ends.new.items) }
-    ensures names { OnOk result (IsPushed (stored_texts (S.rows source.now)) (string_bytes name_text.new) name_ends.new.items) }
+    requires text { string_bytes text.old ≡ [] }
+    requires ends { ends.old.items ≡ [] }
+    ensures { OnOk result (IsPushed (stored_texts (S.rows source.now)) (string_bytes text.new) ends.new.items) }
 {
     for ix in 0..source.row_count() {
-        let row = source.row(ix);
-        push_id(id_text, id_ends, row)?;
-        push_names(name_text, name_ends, row)?;
+        push_names(text, ends, source.row(ix))?;
     }
     Ok(())
-}
-
-/// Returns the list of `text` alone. The errors are those of `push_text`.
-pub(crate) fn one_text(alloc: Global, text: &str) -> Result<TextList, AllocError>
-    ensures { IfOk result (λ list. list ≡ text.now ∷ []) }
-{
-    let mut whole = String::new(alloc);
-    let mut ends = Vec::new(alloc);
-    push_text(&mut whole, &mut ends, text)?;
-    Ok(TextList::new(whole, ends))
 }
 
 /// Returns the list of the texts that end at `ends`, one after the other in `text`, without spare capacity.
@@ -114,25 +88,16 @@ fn trimmed(text: String, ends: Vec<u32>) -> TextList
     TextList::new(text, ends)
 }
 
-/// Returns the ids and the names of all rows, in row order. Returns `AllocError` if an allocation fails, or if the texts of a list are
-/// longer than 4294967295 bytes.
+/// Returns the names of all rows, in row order. Returns `AllocError` if an allocation fails, or if the names are longer than 4294967295
+/// bytes.
 pub(crate) fn stored_texts<S: RowSource>(
     alloc: Global,
     source: &S,
-) -> Result<(TextList, TextList), AllocError>
-    ensures ids { IfOk result (λ lists. lists.0 ≡ stored_ids (S.rows source.now)) }
-    ensures names { IfOk result (λ lists. lists.1 ≡ stored_texts (S.rows source.now)) }
+) -> Result<Rc<TextList>, AllocError>
+    ensures { IfOk result (λ list. list.value ≡ stored_texts (S.rows source.now)) }
 {
-    let mut id_text = String::new(alloc);
-    let mut id_ends = Vec::new(alloc);
-    let mut name_text = String::new(alloc);
-    let mut name_ends = Vec::new(alloc);
-    push_rows(
-        &mut id_text,
-        &mut id_ends,
-        &mut name_text,
-        &mut name_ends,
-        source,
-    )?;
-    Ok((trimmed(id_text, id_ends), trimmed(name_text, name_ends)))
+    let mut text = String::new(alloc);
+    let mut ends = Vec::new(alloc);
+    push_rows(&mut text, &mut ends, source)?;
+    Ok(Rc::new(alloc, trimmed(text, ends))?)
 }

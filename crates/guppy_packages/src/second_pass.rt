@@ -16,6 +16,7 @@ use crate::contents::{Link, LinkData};
 use crate::declaration::Declaration;
 use crate::declarations::Declarations;
 use crate::narrow::narrow;
+use crate::package_id::PackageId;
 use crate::package_list::PackageList;
 use crate::pushing::push_to;
 use crate::row::Row;
@@ -41,6 +42,8 @@ struct Noted {
     at: usize,
     /// What declarations share.
     shared: Shared,
+    /// The id of the package that is looked up.
+    sought: PackageId,
 }
 
 /// Returns whether link `at` joins `from` to `to`. Links before `first` leave other packages and are not looked at.
@@ -112,11 +115,16 @@ fn push_link(
     begin_link(links, &mut noted.last, (from, to), declaration)
 }
 
-/// Returns the number of the package whose id is `id`.
-fn place_of(packages: &PackageList, id: &str) -> Option<usize>
-    ensures { result ≡ package_place id.now (package_tables packages.now) }
+/// Returns the number of the package whose id is `id`, which replaces the text of `sought`. `AllocError` is the only error.
+fn place_of(
+    packages: &PackageList,
+    sought: &mut PackageId,
+    id: &str,
+) -> Result<Option<usize>, AllocError>
+    ensures { IfOk result (λ place. place ≡ package_place id.now (package_tables packages.now)) }
 {
-    packages.place_of(id)
+    sought.set(id)?;
+    Ok(packages.place_of(sought))
 }
 
 /// Reads a row in the second pass, with `begun` Package rows read. Returns `UnknownTarget` if the target is no package,
@@ -149,7 +157,7 @@ fn link_row(
     else {
         return Ok(());
     };
-    let Some(to) = place_of(packages, target) else {
+    let Some(to) = place_of(packages, &mut noted.sought, target)? else {
         return Err(RowFault::UnknownTarget);
     };
     let count = narrow(features.len())? as usize + 1;
@@ -237,6 +245,7 @@ pub(crate) fn take_links<S: RowSource>(
         begun: 0,
         at: 0,
         shared,
+        sought: PackageId::new(alloc, "")?,
     };
     for row in 0..source.row_count() {
         if let Err(fault) = take_link(

@@ -1,16 +1,7 @@
--- The texts of rows that a package graph stores in two lists.
+-- The texts of rows that a package graph stores in one list.
 use Rattle.std.specs.Prelude.{◌≡◌, ℕ, ◌≤◌, ◌+◌, List, [], ◌∷◌, drop, length, take}
 use Rattle.std.specs.List.{flat_map}
 use Rattle.guppy_packages.specs.Rows.{Text, RowText, a_package, a_feature, a_dep}
-
--- A package's id.
-abbrev pub row_ids : RowText → List Text
-row_ids (a_package id in_workspace) = id ∷ []
-row_ids (a_feature name items) = []
-row_ids (a_dep name target d) = []
-
-abbrev pub stored_ids : List RowText → List Text
-stored_ids rows = flat_map row_ids rows
 
 -- A feature's name and its items; a dependency's name and the features that it lists.
 abbrev pub row_texts : RowText → List Text

@@ -8,7 +8,7 @@ use Rattle.guppy_packages.proofs.first_pass.end_package.Goals as goal
 
 pub returns : goal.returns
 returns c =
-    let ids = c.packages.inside.ids in
+    let ids = c.packages.inside.ids.keys in
     let ds = c.packages.inside.contents.items in
     let d = c.in-Some.last.now in
     let new = record d { features = c.shrink_to_fit.new.self; optional_names = c.shrink_to_fit-2.new.self } in

@@ -6,7 +6,7 @@ use Rattle.guppy_packages.proofs.first_pass.push_dep_row.Goals as goal
 
 pub returns-then-optional : goal.returns-then-optional
 returns-then-optional c =
-    let ids = c.packages.inside.ids in
+    let ids = c.packages.inside.ids.keys in
     let ds = c.packages.inside.contents.items in
     let d = c.in-Some.current.now in
     let new = record d { optional_names = c.push_name.new.names } in
@@ -18,7 +18,7 @@ returns-then-optional c =
 
 pub returns : goal.returns
 returns c =
-    let ids = c.packages.inside.ids in
+    let ids = c.packages.inside.ids.keys in
     let ds = c.packages.inside.contents.items in
     let d = c.in-Some.current.now in
     let n : vec_len c.packages.inside.contents ≡ length ds = search rules in

@@ -6,7 +6,7 @@ use Rattle.guppy_packages.proofs.first_pass.push_feature_row.Goals as goal
 
 pub returns : goal.returns
 returns c =
-    let ids = c.packages.inside.ids in
+    let ids = c.packages.inside.ids.keys in
     let ds = c.packages.inside.contents.items in
     let d = c.in-Some.current.now in
     let new = record d { features = c.push_feature.new.features } in

@@ -1,7 +1,7 @@
 use Rattle.std.proofs.Common.{◌≡◌, [], length, take}
 use Rattle.guppy_packages.specs.Graph.{faults_by, packages_of, row_fault}
 use Rattle.guppy_packages.specs.Stored.{package_tables}
-use Rattle.guppy_packages.specs.inner.RowTexts.{stored_ids, stored_texts}
+use Rattle.guppy_packages.specs.inner.RowTexts.{stored_texts}
 use Rattle.guppy_packages.proofs.first_pass.take_packages.Given as goal
 
 -- the packages so far are those of the rows so far, which have no fault
@@ -11,6 +11,5 @@ invariant-loop-ix g l =
     record {
       none : faults_by row_fault (take l.ix rows) ≡ [];
       at : l.at ≡ length (stored_texts (take l.ix rows));
-      count : length (package_tables l.packages) ≡ length (stored_ids (take l.ix rows));
       tables : package_tables l.packages ≡ packages_of (take l.ix rows);
     }

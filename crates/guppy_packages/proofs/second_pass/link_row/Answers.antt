@@ -23,4 +23,4 @@ returns-clause-tables c =
     let run : c.in_ok-texts.texts ≡ name ∷ listed = c.in_ok-texts.ensures ∙ ap (λ n. take n (drop c.args.noted.now.at all)) long ∙ at.are in
     let named : first_text c.in_ok-declaration.declaration.texts ≡ name = ap first_text (c.in_ok-declaration.ensures.texts ∙ run) in
     let features : drop 1 c.in_ok-texts.texts ≡ listed = ap (drop 1) run in
-    rw (c.in-Dep.is, ← c.in-Some.ensures) (rw (named, c.saturating_sub-from.ensures, c.in_ok-declaration.ensures.declared, features) at c.push_link.ensures.tables)
+    rw (c.in-Dep.is, ← c.in_ok-to.ensures, c.in-Some.is) (rw (named, c.saturating_sub-from.ensures, c.in_ok-declaration.ensures.declared, features) at c.push_link.ensures.tables)

@@ -6,4 +6,4 @@ pub returns : goal.returns
 returns c =
     let contents = c.self.inside.contents in
     let count : vec_len contents ≡ length contents.items = search rules in
-    omega (arith, c.len.ensures, count, zip_long c.self.inside.ids contents.items c.self.invariant, ap length c.self.view_is)
+    omega (arith, c.len.ensures, count, zip_long c.self.inside.ids.keys contents.items c.self.invariant, ap length c.self.view_is)
