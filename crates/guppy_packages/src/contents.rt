@@ -4,7 +4,6 @@ ghost use Rattle.std.specs.Prelude.{◌≡◌};
 use crate::declarations::Declarations;
 use crate::name_set::NameSet;
 use crate::named_feature::NamedFeature;
-use crate::optional_names::OptionalNames;
 use std::fmt;
 
 /// A package's data, without its id.
@@ -12,7 +11,7 @@ use std::fmt;
 pub struct PackageData {
     pub(crate) in_workspace: bool,
     pub(crate) features: NameSet<NamedFeature>,
-    pub(crate) optional_names: OptionalNames,
+    pub(crate) optional_names: NameSet<String>,
 }
 
 /// A link: the numbers of the packages that it leaves and leads to, and its data.

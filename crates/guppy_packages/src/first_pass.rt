@@ -11,7 +11,6 @@ ghost use Rattle.guppy_packages.specs.inner.Steps.{Takes, add_package, add_featu
 use crate::contents::PackageData;
 use crate::name_set::NameSet;
 use crate::named_feature::NamedFeature;
-use crate::optional_names::OptionalNames;
 use crate::package_id::PackageId;
 use crate::package_list::PackageList;
 use crate::row::Row;
@@ -38,7 +37,7 @@ fn blank_package(alloc: Global, in_workspace: bool, room: Room) -> Result<Packag
     Ok(PackageData {
         in_workspace,
         features: NameSet::with_capacity(alloc, room.features)?,
-        optional_names: OptionalNames::with_capacity(alloc, room.optional)?,
+        optional_names: NameSet::with_capacity(alloc, room.optional)?,
     })
 }
 
@@ -93,7 +92,7 @@ fn push_feature_row(
 }
 
 /// Inserts `name` into `names`, the optional names of a package.
-fn push_name(alloc: Global, names: &mut OptionalNames, name: &str) -> Result<(), RowFault>
+fn push_name(alloc: Global, names: &mut NameSet<String>, name: &str) -> Result<(), RowFault>
     ensures { Takes (map string_bytes names.new) result (Ok (with_name name.now (map string_bytes names.old))) }
 {
     names.insert(alloc, String::from_str(alloc, name)?)?;

@@ -16,7 +16,6 @@ mod named_feature;
 mod named_feature_dep;
 mod named_list;
 mod narrow;
-mod optional_names;
 mod package_graph;
 mod package_id;
 mod package_link;

@@ -115,15 +115,6 @@ fn insert_into<T: Named + Drop>(
 }
 
 impl<T: Named + Drop> NameSet<T> {
-    /// Returns the empty set, which allocates nothing.
-    pub(crate) fn new(alloc: Global) -> NameSet<T>
-        ensures { result ≡ [] }
-    {
-        NameSet {
-            held: Held::Few(Vec::new(alloc)),
-        }
-    }
-
     /// Returns the empty set, with room for `room` items. `AllocError` is the only error.
     pub(crate) fn with_capacity(alloc: Global, room: usize) -> Result<NameSet<T>, AllocError>
         ensures { IfOk result (λ set. set ≡ []) }
