@@ -4,7 +4,6 @@
 pub mod Begins
 pub mod Declarations
 pub mod HashPlaces
-pub mod Heads
 pub mod NameSets
 pub mod Noted
 pub mod Pushed

@@ -1,7 +1,5 @@
 //! A named feature of a package.
-ghost use Rattle.guppy_packages.specs.Parts.{first_text};
-ghost use Rattle.guppy_packages.specs.inner.Heads.{IsHead};
-ghost use Rattle.std.specs.Prelude.{◌≡◌, ◌<◌, ◌≤◌, Some, length, slice_get, take};
+ghost use Rattle.std.specs.Prelude.{◌≡◌, ◌<◌, Some, length, slice_get};
 
 use crate::named::Named;
 use crate::text_run::TextRun;
@@ -10,43 +8,11 @@ use std::hash::{Hash, Hasher};
 
 /// A named feature with its items. Names are distinct within a package, so equality compares names only.
 ///
-/// The name and the items are consecutive texts of a list, which all features of a graph share. A short name is also in the feature
-/// itself, as is the beginning of a longer one: names are compared there first, because the list's texts may be anywhere in memory.
+/// The name and the items are consecutive texts of a list, which all features of a graph share.
 #[derive(Drop)]
 pub struct NamedFeature {
     texts: TextRun,
-    head: [u8; 7],
-    size: u8,
     ghost named: { 0 < length texts },
-    ghost headed: { IsHead (first_text texts) head size },
-}
-
-/// The greatest length of a short name, in bytes.
-const SHORT: usize = 7;
-
-/// Returns the first `count` bytes of `bytes`, followed by zeroes.
-fn beginning(bytes: &[u8], count: usize) -> [u8; 7]
-    requires room { count ≤ 7 }
-    requires within { count ≤ length bytes.now }
-    ensures long { length result ≡ 7 }
-    ensures bytes { take count result ≡ take count bytes.now }
-{
-    let mut head = [0u8; 7];
-    for ix in 0..count {
-        head[ix] = bytes[ix];
-    }
-    head
-}
-
-/// Returns the bytes of a short name, followed by zeroes, and its length. For a longer name, returns its first bytes, and 8.
-fn head_of(name: &str) -> ([u8; 7], u8)
-    ensures { IsHead name.now result.0 result.1 }
-{
-    let bytes = name.as_bytes();
-    if bytes.len() > SHORT {
-        return (beginning(bytes, SHORT), 8);
-    }
-    (beginning(bytes, bytes.len()), bytes.len() as u8)
 }
 
 impl NamedFeature {
@@ -57,8 +23,7 @@ impl NamedFeature {
         requires { 0 < length texts }
         ensures { feature_table result ≡ table_of_texts texts }
     {
-        let (head, size) = head_of(texts.first());
-        NamedFeature { texts, head, size }
+        NamedFeature { texts }
     }
 
     /// Returns the feature's name.
@@ -134,11 +99,7 @@ impl Named for NamedFeature {
 
     #[inline(always)]
     fn is_named(&self, other: &str) -> bool {
-        let bytes = other.as_bytes();
-        if bytes.len() > SHORT {
-            return self.size > 7 && bytes[..SHORT] == self.head[..] && other == self.texts.first();
-        }
-        self.size as usize == bytes.len() && bytes == &self.head[..bytes.len()]
+        other == self.texts.first()
     }
 }
 
