@@ -1,13 +1,13 @@
 -- Edges and their links as plain values.
-use Rattle.std.specs.Prelude.{ℕ, [], ◌∷◌, Bool, true, false, Option, None, Some, if◌then◌else◌}
+use Rattle.std.specs.Prelude.{ℕ, Bool, true, false, Option, if◌then◌else◌}
 use Rattle.std.specs.Option.{option_map}
 use Rattle.guppy_packages.specs.Platform.{Status, always_status, never_status, impl_status}
+use Rattle.guppy_packages.specs.declared.platform.PlatformStatusImpl.{PlatformStatusImpl}
 use Rattle.guppy_packages.specs.declared.row.DependencyKind.{DependencyKind}
 use Rattle.guppy_packages.specs.declared.row.DependencyKind.TheVariants.{Normal, Build, Development}
-use Rattle.feature_links.specs.declared.link.held.HeldLink.{HeldLink}
-use Rattle.feature_links.specs.declared.link.held.HeldLink.TheVariants.{Plain, Platform, Full}
-use Rattle.feature_links.specs.declared.link.held.FullLink.{FullLink}
-use Rattle.feature_links.specs.declared.link.held.PlatformLink.{PlatformLink}
+use Rattle.feature_links.specs.declared.link.held.LinkStatuses.{LinkStatuses}
+use Rattle.feature_links.specs.declared.link.held.LinkStatuses.TheVariants.{Plain, One, Full}
+use Rattle.feature_links.specs.declared.link.held.FullStatuses.{FullStatuses}
 use Rattle.feature_links.specs.declared.link.ConditionalLinkImpl.{ConditionalLinkImpl}
 use Rattle.feature_links.specs.declared.link.EnabledLink.{EnabledLink}
 use Rattle.feature_links.specs.declared.edge.WeakIndex.{WeakIndex}
@@ -22,41 +22,38 @@ abbrev pub plain_status : Bool → Status
 plain_status true = always_status
 plain_status false = never_status
 
-abbrev pub full_facts : FullLink → LinkFacts
-full_facts l = record {
+-- A status for each kind.
+pub record KindStatuses : Type 0 where
+  pub normal : Status
+  pub build : Status
+  pub dev : Status
+
+abbrev pub at_kind : DependencyKind → KindStatuses → Status
+at_kind Normal s = s.normal
+at_kind Build s = s.build
+at_kind Development s = s.dev
+
+abbrev pub full_statuses : FullStatuses → KindStatuses
+full_statuses s = record { normal = impl_status s.normal; build = impl_status s.build; dev = impl_status s.dev }
+
+-- The platforms of one kind, and never for the others.
+abbrev pub one_status : DependencyKind → PlatformStatusImpl → DependencyKind → Status
+one_status only platform kind = if is_kind kind only then impl_status platform else never_status
+
+abbrev pub statuses_of : LinkStatuses → KindStatuses
+statuses_of (Plain normal build dev) = record { normal = plain_status normal; build = plain_status build; dev = plain_status dev }
+statuses_of (One only platform) = record { normal = one_status only platform.value Normal; build = one_status only platform.value Build; dev = one_status only platform.value Development }
+statuses_of (Full full) = full_statuses full.value
+
+-- The content of a link.
+abbrev pub link_facts : ConditionalLinkImpl → LinkFacts
+link_facts l = record {
   declarations = l.declarations;
-  normal = impl_status l.normal;
-  build = impl_status l.build;
-  dev = impl_status l.dev;
+  normal = (statuses_of l.statuses).normal;
+  build = (statuses_of l.statuses).build;
+  dev = (statuses_of l.statuses).dev;
   package_links = l.package_link_ixs.items;
 }
-
--- The link's platforms for its own kind, and never for the others.
-abbrev pub kind_status : DependencyKind → PlatformLink → Status
-kind_status kind l = if is_kind kind l.kind then impl_status l.platform.value else never_status
-
-abbrev pub platform_facts : PlatformLink → LinkFacts
-platform_facts l = record {
-  declarations = l.declarations;
-  normal = kind_status Normal l;
-  build = kind_status Build l;
-  dev = kind_status Development l;
-  package_links = l.package_link_ix ∷ [];
-}
-
-abbrev pub held_facts : HeldLink → LinkFacts
-held_facts (Plain which normal build dev link) = record {
-  declarations = which;
-  normal = plain_status normal;
-  build = plain_status build;
-  dev = plain_status dev;
-  package_links = link ∷ [];
-}
-held_facts (Platform link) = platform_facts link.value
-held_facts (Full full) = full_facts full.value
-
-abbrev pub link_facts : ConditionalLinkImpl → LinkFacts
-link_facts l = held_facts l.held
 
 abbrev pub half_facts : EnabledLink → Option LinkFacts
 half_facts half = option_map link_facts half.link

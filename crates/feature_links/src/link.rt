@@ -9,23 +9,29 @@ pub(crate) mod from_declarations;
 mod held;
 mod statuses;
 
-use crate::link::held::{HeldLink, status_where};
+use crate::link::held::LinkStatuses;
 use feature_labels::LinkDeclarations;
 use guppy_packages::{DependencyKind, PlatformStatus};
+use smallvec::SmallVec;
 use std::alloc::{AllocError, Global};
 use std::fmt;
-use std::slice::from_ref;
 
 /// The link of a conditional edge: the declarations that it covers, their platforms for each kind of dependency, and the package
 /// links that have one of them.
 pub struct ConditionalLinkImpl {
-    held: HeldLink,
+    declarations: LinkDeclarations,
+    statuses: LinkStatuses,
+    package_link_ixs: SmallVec<usize, 1>,
 }
 
 impl Drop for ConditionalLinkImpl {
     // Written out, so that a crate above calls it. A derived drop is proved in each crate that drops a value, with those of all fields.
     fn drop(self) {
-        let ConditionalLinkImpl { held: _held } = self;
+        let ConditionalLinkImpl {
+            declarations: _declarations,
+            statuses: _statuses,
+            package_link_ixs: _package_link_ixs,
+        } = self;
     }
 }
 
@@ -34,58 +40,35 @@ impl ConditionalLinkImpl {
     pub fn declarations(&self) -> LinkDeclarations
         ensures { result ≡ (link_facts self.now).declarations }
     {
-        match &self.held {
-            HeldLink::Plain { declarations, .. } => *declarations,
-            HeldLink::Platform(link) => link.declarations,
-            HeldLink::Full(full) => full.declarations,
-        }
+        self.declarations
     }
 
     /// Returns the platforms of the covered declarations for normal use.
     pub fn normal(&self) -> PlatformStatus<'_>
         ensures { status_of result ≡ (link_facts self.now).normal }
     {
-        match &self.held {
-            HeldLink::Plain { normal, .. } => status_where(*normal),
-            HeldLink::Platform(link) => link.status(DependencyKind::Normal),
-            HeldLink::Full(full) => PlatformStatus::new(&full.normal),
-        }
+        self.statuses.status(DependencyKind::Normal)
     }
 
     /// Returns the platforms of the covered declarations for build scripts.
     pub fn build(&self) -> PlatformStatus<'_>
         ensures { status_of result ≡ (link_facts self.now).build }
     {
-        match &self.held {
-            HeldLink::Plain { build, .. } => status_where(*build),
-            HeldLink::Platform(link) => link.status(DependencyKind::Build),
-            HeldLink::Full(full) => PlatformStatus::new(&full.build),
-        }
+        self.statuses.status(DependencyKind::Build)
     }
 
     /// Returns the platforms of the covered declarations for development.
     pub fn dev(&self) -> PlatformStatus<'_>
         ensures { status_of result ≡ (link_facts self.now).dev }
     {
-        match &self.held {
-            HeldLink::Plain { dev, .. } => status_where(*dev),
-            HeldLink::Platform(link) => link.status(DependencyKind::Development),
-            HeldLink::Full(full) => PlatformStatus::new(&full.dev),
-        }
+        self.statuses.status(DependencyKind::Development)
     }
 
     /// Returns the numbers of the package links that have a covered declaration, ascending.
     pub fn package_link_ixs(&self) -> &[usize]
         ensures { result.now ≡ (link_facts self.now).package_links }
     {
-        match &self.held {
-            HeldLink::Plain {
-                package_link_ix,
-                ..
-            } => from_ref(package_link_ix),
-            HeldLink::Platform(link) => from_ref(&link.package_link_ix),
-            HeldLink::Full(full) => full.package_link_ixs.as_slice(),
-        }
+        self.package_link_ixs.as_slice()
     }
 
     /// Returns whether no covered declaration is for normal use or for build scripts.
@@ -106,8 +89,13 @@ impl ConditionalLinkImpl {
     pub fn try_clone(&self, alloc: Global) -> Result<ConditionalLinkImpl, AllocError>
         ensures { IfOk result (λ link. link_facts link ≡ link_facts self.now) }
     {
-        let held = self.held.try_clone(alloc)?;
-        Ok(ConditionalLinkImpl { held })
+        let statuses = self.statuses.try_clone()?;
+        let package_link_ixs = SmallVec::from_slice(alloc, self.package_link_ixs.as_slice())?;
+        Ok(ConditionalLinkImpl {
+            declarations: self.declarations,
+            statuses,
+            package_link_ixs,
+        })
     }
 }
 

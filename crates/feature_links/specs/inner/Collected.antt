@@ -13,7 +13,8 @@ use Rattle.feature_links.specs.declared.link.statuses.KindCollectors.{KindCollec
 use Rattle.feature_links.specs.declared.link.from_declarations.LinkParts.{LinkParts}
 use Rattle.feature_labels.specs.declared.link_declarations.LinkDeclarations.{LinkDeclarations}
 use Rattle.guppy_packages.specs.Tables.{LinkTable}
-use Rattle.feature_links.specs.Links.{platforms_of, includes, at_places}
+use Rattle.feature_links.specs.Links.{platforms_of, platforms_status, includes, at_places}
+use Rattle.feature_links.specs.Values.{KindStatuses}
 
 abbrev pub texts_in : {S : Type 0} → IndexSet (Bor (List ℕ)) S → List Text
 texts_in set = map (λ t. t.now) set.keys
@@ -28,6 +29,14 @@ pub record HasKinds (c : KindCollectors) (declarations : List Declared) : Type 0
   pub normal : HasPlatforms c.normal (platforms_of Normal declarations)
   pub build : HasPlatforms c.build (platforms_of Build declarations)
   pub dev : HasPlatforms c.dev (platforms_of Development declarations)
+
+-- The statuses of these declarations.
+abbrev pub statuses_over : List Declared → KindStatuses
+statuses_over declarations = record {
+  normal = platforms_status (platforms_of Normal declarations);
+  build = platforms_status (platforms_of Build declarations);
+  dev = platforms_status (platforms_of Development declarations);
+}
 
 -- `c` has collected these declarations of package links, and lists the package links that have one.
 pub record HasParts (c : LinkParts) (parts : List (ℕ × List Declared)) : Type 0 where

@@ -1,32 +1,31 @@
 //! Links over declarations of package links.
-ghost use Rattle.std.specs.Prelude.{◌≡◌, ◌++◌, ◌∷◌, ◌<◌, [], ℕ, Bool, true, if◌then◌else◌, List, None, Some, IfOk, IfSome, OnOk, length, map, filter, is_some, slice_get};
+ghost use Rattle.std.specs.Prelude.{◌≡◌, ◌++◌, ◌∷◌, ◌<◌, [], ℕ, Bool, true, if◌then◌else◌, List, Some, IfOk, IfSome, OnOk, length, map, filter, is_some, slice_get};
 ghost use Rattle.std.specs.List.{list_any};
 ghost use Rattle.guppy_packages.specs.Metadata.{link_table_of};
-ghost use Rattle.guppy_packages.specs.Platform.{impl_status};
 ghost use Rattle.guppy_packages.specs.Rows.{Declared};
 ghost use Rattle.guppy_packages.specs.Stored.{declared};
 ghost use Rattle.guppy_packages.specs.Tables.{LinkTable};
-ghost use Rattle.feature_links.specs.Links.{by_name, half_of, IsLink, includes, links_at, at_places, platforms_status, over, over_parts, platforms_of, ArePassing};
+ghost use Rattle.feature_links.specs.Links.{by_name, half_of, IsLink, includes, links_at, at_places, over, over_parts, ArePassing};
 ghost use Rattle.feature_links.specs.inner.Collected.{HasKinds, HasParts, wanted, wanted_parts};
 ghost use Rattle.feature_links.specs.NamedLinks.{AreNamedLinks, number_of};
 ghost use Rattle.feature_links.specs.Values.{link_facts, half_facts};
 
-use crate::link::held::{FullLink, HeldLink, PlatformLink};
+use crate::link::held::LinkStatuses;
 use crate::link::statuses::KindCollectors;
 use crate::link::{ConditionalLinkImpl, EnabledLink};
 use crate::link_groups::LinkGroups;
 use crate::link_names::NamedLink;
 use crate::links_by_name::numbers_of;
 use feature_labels::LinkDeclarations;
-use guppy_packages::{Declaration, DependencyKind, PackageGraph, PackageLink, PlatformStatusImpl};
+use guppy_packages::{Declaration, PackageGraph, PackageLink};
+use smallvec::SmallVec;
 use std::alloc::{AllocError, Global};
-use std::slice::from_ref;
 
 /// A link under construction: the statuses of its declarations so far, and the package links that have one of them.
 #[derive(Drop)]
 struct LinkParts<'g> {
     statuses: KindCollectors<'g>,
-    links: Vec<usize>,
+    links: SmallVec<usize, 1>,
 }
 
 /// Returns whether `which` covers `declaration`.
@@ -125,7 +124,7 @@ impl<'g> LinkParts<'g> {
     {
         LinkParts {
             statuses: KindCollectors::new(alloc),
-            links: Vec::new(alloc),
+            links: SmallVec::new(alloc),
         }
     }
 
@@ -157,25 +156,19 @@ impl<'g> LinkParts<'g> {
     }
 
     /// Returns the finished link; `which` is recorded as the declarations that it covers.
-    fn to_link(
-        &self,
+    fn into_link(
+        self,
         alloc: Global,
         which: LinkDeclarations,
     ) -> Result<ConditionalLinkImpl, AllocError>
-        ensures { IfOk result (λ l. (parts : List (ℕ × List Declared)) → HasParts self.now parts → link_facts l ≡ over_parts which parts) }
+        ensures { IfOk result (λ l. (parts : List (ℕ × List Declared)) → HasParts self.entry parts → link_facts l ≡ over_parts which parts) }
     {
-        let normal = self.statuses.normal.status(alloc)?;
-        let build = self.statuses.build.status(alloc)?;
-        let dev = self.statuses.dev.status(alloc)?;
-        let full = FullLink {
+        let LinkParts { statuses, links } = self;
+        Ok(ConditionalLinkImpl {
             declarations: which,
-            normal,
-            build,
-            dev,
-            package_link_ixs: Vec::from_slice(alloc, &self.links)?,
-        };
-        let held = HeldLink::new(alloc, full)?;
-        Ok(ConditionalLinkImpl { held })
+            statuses: statuses.statuses(alloc)?,
+            package_link_ixs: links,
+        })
     }
 
     /// Adds declarations of `link`: those at `places` if it is `Some`, and otherwise those that `which` covers.
@@ -193,22 +186,21 @@ impl<'g> LinkParts<'g> {
         }
     }
 
-    /// Adds the declarations of each of `links`, as `add` does, and returns the finished link.
-    fn over(
+    /// Adds the declarations of each of `links`, as `add` does.
+    fn add_all(
         &mut self,
-        alloc: Global,
         graph: &'g PackageGraph,
         links: &[usize],
         which: LinkDeclarations,
         places: Option<&[usize]>,
-    ) -> Result<ConditionalLinkImpl, AllocError>
+    ) -> Result<(), AllocError>
         requires { (i k : ℕ) → slice_get links.now i ≡ Some k → k < length graph.now.links }
-        ensures { IfOk result (λ l. HasParts self.old [] → link_facts l ≡ over_parts which (wanted_parts which places.entry (links_at graph.now links.now))) }
+        ensures { OnOk result (HasParts self.old [] → HasParts self.new (wanted_parts which places.entry (links_at graph.now links.now))) }
     {
         for link_ix in links {
             self.add(graph.link(*link_ix), which, places)?;
         }
-        self.to_link(alloc, which)
+        Ok(())
     }
 }
 
@@ -224,26 +216,8 @@ fn collected(
     ensures { IfOk result (λ l. link_facts l ≡ over_parts which (wanted_parts which places.entry (links_at graph.now links.now))) }
 {
     let mut parts = LinkParts::new(alloc);
-    parts.over(alloc, graph, links, which, places)
-}
-
-/// Returns the link over one declaration of package link `link_ix`, with the kind `kind`, that applies on all platforms.
-fn link_everywhere(
-    link_ix: usize,
-    which: LinkDeclarations,
-    kind: DependencyKind,
-) -> ConditionalLinkImpl
-    ensures { (d : Declared) → d.kind ≡ kind → d.platform ≡ None → link_facts result ≡ over_parts which ((link_ix, d ∷ []) ∷ []) }
-{
-    ConditionalLinkImpl {
-        held: HeldLink::Plain {
-            declarations: which,
-            normal: kind == DependencyKind::Normal,
-            build: kind == DependencyKind::Build,
-            dev: kind == DependencyKind::Development,
-            package_link_ix: link_ix,
-        },
-    }
+    parts.add_all(graph, links, which, places)?;
+    parts.into_link(alloc, which)
 }
 
 /// Returns the link over one declaration of package link `link_ix`.
@@ -255,17 +229,11 @@ fn link_over_one(
 ) -> Result<ConditionalLinkImpl, AllocError>
     ensures { IfOk result (λ l. link_facts l ≡ over_parts which ((link_ix, declared declaration.now ∷ []) ∷ [])) }
 {
-    if let PlatformStatusImpl::Always = declaration.platform() {
-        return Ok(link_everywhere(link_ix, which, declaration.kind()));
-    }
-    let link = PlatformLink {
+    Ok(ConditionalLinkImpl {
         declarations: which,
-        kind: declaration.kind(),
-        platform: declaration.shared_platform()?,
-        package_link_ix: link_ix,
-    };
-    let held = HeldLink::Platform(Box::new(alloc, link)?);
-    Ok(ConditionalLinkImpl { held })
+        statuses: LinkStatuses::of_one(declaration)?,
+        package_link_ixs: SmallVec::from_buf(alloc, [link_ix]),
+    })
 }
 
 /// Returns the declaration if there is exactly one and `which` covers it.

@@ -1,51 +1,43 @@
-//! The compact storage of a link.
-ghost use Rattle.std.specs.Prelude.{◌≡◌, IfOk, IfSome};
+//! The compact storage of a link's statuses.
+ghost use Rattle.std.specs.Prelude.{◌≡◌, ◌∷◌, [], None, IfOk, IfSome};
 ghost use Rattle.guppy_packages.specs.Platform.{impl_status, status_of};
-ghost use Rattle.feature_links.specs.Values.{full_facts, held_facts, kind_status, plain_status, platform_facts};
+ghost use Rattle.guppy_packages.specs.Rows.{Declared};
+ghost use Rattle.guppy_packages.specs.Stored.{declared};
+ghost use Rattle.feature_links.specs.Values.{at_kind, full_statuses, plain_status, statuses_of};
+ghost use Rattle.feature_links.specs.inner.Collected.{statuses_over};
 
-use feature_labels::LinkDeclarations;
-use guppy_packages::{DependencyKind, PlatformStatus, PlatformStatusImpl};
+use guppy_packages::{Declaration, DependencyKind, PlatformStatus, PlatformStatusImpl};
 use std::alloc::{AllocError, Global};
 use std::rc::Rc;
 
-/// A link: the declarations that it covers, its status for each kind, and its package links.
+/// The status of a link for each kind of dependency.
 #[derive(Drop)]
-pub(crate) enum HeldLink {
-    /// A link over one package link, with each kind on all platforms (`true`) or on none (`false`).
+pub(crate) enum LinkStatuses {
+    /// Each kind on all platforms (`true`) or on none (`false`).
     Plain {
-        declarations: LinkDeclarations,
         normal: bool,
         build: bool,
         dev: bool,
-        package_link_ix: usize,
     },
-    /// A link over one declaration that applies on some platforms.
-    Platform(Box<PlatformLink>),
-    /// Any link.
-    Full(Box<FullLink>),
+    /// The kind of one declaration on its platforms, which are shared with it. The other kinds are on none.
+    One {
+        kind: DependencyKind,
+        platform: Rc<PlatformStatusImpl>,
+    },
+    /// Any statuses.
+    Full(Rc<FullStatuses>),
 }
 
-/// A link over one declaration of one package link, with the declaration's kind and platforms. The platforms are shared with it.
+/// A status for each kind of dependency.
 #[derive(Drop)]
-pub(crate) struct PlatformLink {
-    pub(crate) declarations: LinkDeclarations,
-    pub(crate) kind: DependencyKind,
-    pub(crate) platform: Rc<PlatformStatusImpl>,
-    pub(crate) package_link_ix: usize,
-}
-
-/// A link with one status for each kind and its package links.
-#[derive(Drop)]
-pub(crate) struct FullLink {
-    pub(crate) declarations: LinkDeclarations,
+pub(crate) struct FullStatuses {
     pub(crate) normal: PlatformStatusImpl,
     pub(crate) build: PlatformStatusImpl,
     pub(crate) dev: PlatformStatusImpl,
-    pub(crate) package_link_ixs: Vec<usize>,
 }
 
 /// Returns the status on all platforms if `always` is true, and otherwise on none.
-pub(crate) fn status_where(always: bool) -> PlatformStatus<'static>
+fn status_where(always: bool) -> PlatformStatus<'static>
     ensures { status_of result ≡ plain_status always }
 {
     if always {
@@ -66,106 +58,103 @@ fn plain_of(status: &PlatformStatusImpl) -> Option<bool>
     }
 }
 
-impl PlatformLink {
-    /// Returns the status of `kind`: the platforms if it is the declaration's kind, and otherwise never.
-    pub(crate) fn status(&self, kind: DependencyKind) -> PlatformStatus<'_>
-        ensures { status_of result ≡ kind_status kind self.now }
+impl FullStatuses {
+    /// Returns the statuses as `Plain`, or `None` if one depends on the platform.
+    fn plain(&self) -> Option<LinkStatuses>
+        ensures { IfSome result (λ statuses. statuses_of statuses ≡ full_statuses self.now) }
     {
-        if self.kind == kind {
-            PlatformStatus::new(self.platform.as_ref())
-        } else {
-            PlatformStatus::Never
-        }
-    }
-
-    /// Returns an equal link. `AllocError` is the only error.
-    fn try_clone(&self) -> Result<PlatformLink, AllocError>
-        ensures { IfOk result (λ link. platform_facts link ≡ platform_facts self.now) }
-    {
-        Ok(PlatformLink {
-            declarations: self.declarations,
-            kind: self.kind,
-            platform: self.platform.clone()?,
-            package_link_ix: self.package_link_ix,
-        })
-    }
-}
-
-impl FullLink {
-    /// Returns the link as `Plain`, or `None` if it has several package links or a status that depends on the platform.
-    fn plain(&self) -> Option<HeldLink>
-        ensures { IfSome result (λ held. held_facts held ≡ full_facts self.now) }
-    {
-        let [package_link_ix] = self.package_link_ixs.as_slice() else {
-            return None;
-        };
         let normal = plain_of(&self.normal)?;
         let build = plain_of(&self.build)?;
         let dev = plain_of(&self.dev)?;
-        Some(HeldLink::Plain {
-            declarations: self.declarations,
-            normal,
-            build,
-            dev,
-            package_link_ix: *package_link_ix,
-        })
+        Some(LinkStatuses::Plain { normal, build, dev })
     }
 
-    /// Returns an equal link. `AllocError` is the only error.
-    fn try_clone(&self, alloc: Global) -> Result<FullLink, AllocError>
-        ensures { IfOk result (λ full. full_facts full ≡ full_facts self.now) }
+    /// Returns the status of `kind`.
+    fn status(&self, kind: DependencyKind) -> PlatformStatus<'_>
+        ensures { status_of result ≡ at_kind kind (full_statuses self.now) }
     {
-        let normal = self.normal.try_clone(alloc)?;
-        let build = self.build.try_clone(alloc)?;
-        let dev = self.dev.try_clone(alloc)?;
-        let package_link_ixs = Vec::from_slice(alloc, &self.package_link_ixs)?;
-        Ok(FullLink {
-            declarations: self.declarations,
-            normal,
-            build,
-            dev,
-            package_link_ixs,
+        PlatformStatus::new(match kind {
+            DependencyKind::Normal => &self.normal,
+            DependencyKind::Build => &self.build,
+            DependencyKind::Development => &self.dev,
         })
     }
 }
 
-impl HeldLink {
-    /// Returns the link `full`, in the smallest form.
-    pub(crate) fn new(alloc: Global, full: FullLink) -> Result<HeldLink, AllocError>
-        ensures { IfOk result (λ held. held_facts held ≡ full_facts full) }
+impl LinkStatuses {
+    /// Returns the statuses `full`, in the smallest form. `AllocError` is the only error.
+    pub(crate) fn new(alloc: Global, full: FullStatuses) -> Result<LinkStatuses, AllocError>
+        ensures { IfOk result (λ statuses. statuses_of statuses ≡ full_statuses full) }
     {
         match full.plain() {
             Some(plain) => Ok(plain),
-            None => Ok(HeldLink::Full(Box::new(alloc, full)?)),
+            None => Ok(LinkStatuses::Full(Rc::new(alloc, full)?)),
         }
     }
 
-    /// Returns an equal link. `AllocError` is the only error.
-    pub(crate) fn try_clone(&self, alloc: Global) -> Result<HeldLink, AllocError>
-        ensures { IfOk result (λ held. held_facts held ≡ held_facts self.now) }
+    /// Returns the statuses of a declaration with the kind `kind` that applies on all platforms.
+    fn everywhere(kind: DependencyKind) -> LinkStatuses
+        ensures { (d : Declared) → d.kind ≡ kind → d.platform ≡ None → statuses_of result ≡ statuses_over (d ∷ []) }
+    {
+        LinkStatuses::Plain {
+            normal: kind == DependencyKind::Normal,
+            build: kind == DependencyKind::Build,
+            dev: kind == DependencyKind::Development,
+        }
+    }
+
+    /// Returns the statuses of one declaration. `AllocError` is the only error.
+    pub(crate) fn of_one(declaration: &Declaration) -> Result<LinkStatuses, AllocError>
+        ensures { IfOk result (λ statuses. statuses_of statuses ≡ statuses_over (declared declaration.now ∷ [])) }
+    {
+        let kind = declaration.kind();
+        if let PlatformStatusImpl::Always = declaration.platform() {
+            return Ok(LinkStatuses::everywhere(kind));
+        }
+        let platform = declaration.shared_platform()?;
+        Ok(LinkStatuses::One { kind, platform })
+    }
+
+    /// Returns the status of `kind`.
+    pub(crate) fn status(&self, kind: DependencyKind) -> PlatformStatus<'_>
+        ensures { status_of result ≡ at_kind kind (statuses_of self.now) }
     {
         match self {
-            HeldLink::Plain {
-                declarations,
-                normal,
-                build,
-                dev,
-                package_link_ix,
-            } => Ok(HeldLink::Plain {
-                declarations: *declarations,
+            LinkStatuses::Plain { normal, build, dev } => status_where(match kind {
+                DependencyKind::Normal => *normal,
+                DependencyKind::Build => *build,
+                DependencyKind::Development => *dev,
+            }),
+            LinkStatuses::One {
+                kind: only,
+                platform,
+            } => {
+                if *only == kind {
+                    PlatformStatus::new(platform.as_ref())
+                } else {
+                    PlatformStatus::Never
+                }
+            }
+            LinkStatuses::Full(full) => full.status(kind),
+        }
+    }
+
+    /// Returns equal statuses, which share their platforms with these. `AllocError` is the only error, and means that they have as many
+    /// owners as fit.
+    pub(crate) fn try_clone(&self) -> Result<LinkStatuses, AllocError>
+        ensures { IfOk result (λ statuses. statuses_of statuses ≡ statuses_of self.now) }
+    {
+        match self {
+            LinkStatuses::Plain { normal, build, dev } => Ok(LinkStatuses::Plain {
                 normal: *normal,
                 build: *build,
                 dev: *dev,
-                package_link_ix: *package_link_ix,
             }),
-            HeldLink::Platform(link) => {
-                let link = link.try_clone()?;
-                Ok(HeldLink::Platform(Box::new(alloc, link)?))
-            }
-            HeldLink::Full(full) => {
-                let full = full.try_clone(alloc)?;
-                Ok(HeldLink::Full(Box::new(alloc, full)?))
-            }
+            LinkStatuses::One { kind, platform } => Ok(LinkStatuses::One {
+                kind: *kind,
+                platform: platform.clone()?,
+            }),
+            LinkStatuses::Full(full) => Ok(LinkStatuses::Full(full.clone()?)),
         }
     }
 }

@@ -7,8 +7,10 @@ ghost use Rattle.guppy_packages.specs.Platform.{platform_specs, impl_status, spe
 ghost use Rattle.guppy_packages.specs.Rows.{Text, Declared};
 ghost use Rattle.guppy_packages.specs.Stored.{declared};
 ghost use Rattle.feature_links.specs.Links.{platforms_status};
-ghost use Rattle.feature_links.specs.inner.Collected.{HasPlatforms, HasKinds, texts_in};
+ghost use Rattle.feature_links.specs.inner.Collected.{HasPlatforms, HasKinds, statuses_over, texts_in};
+ghost use Rattle.feature_links.specs.Values.{statuses_of};
 
+use crate::link::held::{FullStatuses, LinkStatuses};
 use guppy_packages::{Declaration, DependencyKind, PlatformStatusImpl, Spec};
 use indexmap::IndexSet;
 use std::alloc::{AllocError, Global};
@@ -71,7 +73,7 @@ impl<'g> StatusCollector<'g> {
     }
 
     /// Returns the status that joins the platforms. If it is `Always`, no text is copied.
-    pub(crate) fn status(&self, alloc: Global) -> Result<PlatformStatusImpl, AllocError>
+    fn status(&self, alloc: Global) -> Result<PlatformStatusImpl, AllocError>
         ensures { IfOk result (λ status. (platforms : List (Option Text)) → HasPlatforms self.now platforms → impl_status status ≡ platforms_status platforms) }
     {
         if self.always {
@@ -85,9 +87,9 @@ impl<'g> StatusCollector<'g> {
 /// The statuses of the declarations so far, one for each kind.
 #[derive(Drop)]
 pub(crate) struct KindCollectors<'g> {
-    pub(crate) normal: StatusCollector<'g>,
-    pub(crate) build: StatusCollector<'g>,
-    pub(crate) dev: StatusCollector<'g>,
+    normal: StatusCollector<'g>,
+    build: StatusCollector<'g>,
+    dev: StatusCollector<'g>,
 }
 
 impl<'g> KindCollectors<'g> {
@@ -112,5 +114,14 @@ impl<'g> KindCollectors<'g> {
             DependencyKind::Build => self.build.add(platform),
             DependencyKind::Development => self.dev.add(platform),
         }
+    }
+    /// Returns the statuses that join the platforms of each kind. `AllocError` is the only error.
+    pub(crate) fn statuses(&self, alloc: Global) -> Result<LinkStatuses, AllocError>
+        ensures { IfOk result (λ statuses. (declarations : List Declared) → HasKinds self.now declarations → statuses_of statuses ≡ statuses_over declarations) }
+    {
+        let normal = self.normal.status(alloc)?;
+        let build = self.build.status(alloc)?;
+        let dev = self.dev.status(alloc)?;
+        LinkStatuses::new(alloc, FullStatuses { normal, build, dev })
     }
 }
