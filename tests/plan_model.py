@@ -438,15 +438,18 @@ class Plan:
         return bool(wanted) and all(self.has_required(package, it) for it in target.get('required-features', []))
 
     def has_required(self, package, word):
-        """Whether a required feature is on. `d/f` counts if version resolving kept the dependency, and one of its declarations is for
-        this build and for a platform of it."""
+        """Whether a required feature is on. `d/f` is if `f` is on in a package to which a declaration `d` leads that version resolving
+        kept, and one of these that lead there is for this build and for a platform of it."""
         name, feature, _ = parts_of(word)
         if name is None:
             return feature in self.features(TARGET, package.id)
         kept = [it for it in package.named(name) if it.to is not None and self.is_resolved(package, it)]
         platforms = [self.selection.host, *self.selection.platforms()]
-        counts = any((it.kind != 'dev' or self.selection.is_test) and (it.spec is None or any(at.holds(it.spec) for at in platforms)) for it in kept)
-        return counts and any(feature in self.features(self.lands(it, TARGET), it.to) for it in kept)
+        counting = {
+            it.to for it in kept
+            if (it.kind != 'dev' or self.selection.is_test) and (it.spec is None or any(at.holds(it.spec) for at in platforms))
+        }
+        return any(it.to in counting and feature in self.features(self.lands(it, TARGET), it.to) for it in kept)
 
     def is_resolved(self, package, it):
         """Whether version resolving follows the declaration."""

@@ -9,7 +9,7 @@ use Rattle.std.proofs.lemmas.Nat.{mod-mul-add}
 use Rattle.guppy_packages.specs.Items.{Item, feature_item, optional_item, slash_item, item_of}
 use Rattle.feature_labels.specs.Names.{LabelName}
 use Rattle.feature_labels.specs.Names.LabelName.{named}
-use Rattle.cargo_workspaces.specs.Workspaces.{DeclarationText, FeatureText, IsPackage, IsWorkspace, PackageText, TargetText, Text, WorkspaceText, has_kind, has_script, is_proc_macro}
+use Rattle.cargo_workspaces.specs.Workspaces.{DeclarationText, FeatureText, IsPackage, IsWorkspace, PackageText, TargetText, Text, WorkspaceText, both_lead_to, has_kind, has_script, is_proc_macro}
 use Rattle.feature_core.proofs.AddsLemmas.{Contains-none}
 use Rattle.feature_core.proofs.Places.{get_cases, get_left, get_right}
 use Rattle.plan_rows.specs.Commands.{is_started}
@@ -22,7 +22,7 @@ use Rattle.plan_rows.proofs.EntryLemmas.{length-each_from}
 use Rattle.plan_rows.proofs.EntryRules.{number_is}
 use Rattle.cargo_plans.specs.plan_starts.PackageVisits.{PairVisit, is_kept, is_on}
 use Rattle.cargo_plans.specs.plan_starts.Starts.{dev_flags, is_among, start_flags, start_places, started, starts_of, starts_on_host, times}
-use Rattle.cargo_plans.specs.plan_starts.Targets.{TargetRules, builds, counts, is_built, is_chosen, is_followed, is_macro, is_of, leads_on}
+use Rattle.cargo_plans.specs.plan_starts.Targets.{TargetRules, builds, counts, counts_for, is_built, is_chosen, is_followed, is_macro, is_of, leads_on}
 use Rattle.plan_laws.specs.Growth.{CommandsGrow, with_commands}
 use Rattle.plan_laws.specs.Laws.{AreAmong}
 use Rattle.plan_laws.proofs.BuiltStep.{all_place, entries_within}
@@ -200,20 +200,27 @@ module _ (w : WorkspaceText) (is : IsWorkspace w) (s : SettingsText) (commands :
   abbrev met : TargetRules → ℕ → PackageText → Text → Item → Bool
   met r p x need item = elim item [
     | slash_item name feature weak ↦
-        list_any (λ d. is_of r p name d && counts r.settings d) x.declarations && list_any (λ d. is_of r p name d && leads_on r feature d) x.declarations
+        list_any (λ d. is_of r p name d && leads_on r feature d && counts_for r p name x.declarations d.leads_to) x.declarations
     | _ ↦ is_on r.on Target p (named need)
   ]
+
+  counts_more : (p : ℕ) (name : Text) (ds : List DeclarationText) (to : Option ℕ) → counts_for rules p name ds to ≡ true → counts_for others p name ds to ≡ true
+  counts_more p name ds to h =
+      any_weaker (λ d. is_of rules p name d && counts s d && both_lead_to to d.leads_to) (λ d. is_of others p name d && counts (with_commands s commands) d && both_lead_to to d.leads_to) ds
+      (λ d i.
+      let q = both_true (is_of rules p name d) (counts s d && both_lead_to to d.leads_to) i in
+      two_true (is_of others p name d) (counts (with_commands s commands) d && both_lead_to to d.leads_to) (of_more p name d q.0) q.1) h
 
   met_more : (p : ℕ) (x : PackageText) (need : Text) (item : Item) → met rules p x need item ≡ true → met others p x need item ≡ true
   met_more p x need (feature_item f) h = on_more Target p (named need) h
   met_more p x need (optional_item d) h = on_more Target p (named need) h
   met_more p x need (slash_item name feature weak) h =
-      let parts = both_true (list_any (λ d. is_of rules p name d && counts s d) x.declarations) (list_any (λ d. is_of rules p name d && leads_on rules feature d) x.declarations) h in
-      two_true (list_any (λ d. is_of others p name d && counts (with_commands s commands) d) x.declarations) (list_any (λ d. is_of others p name d && leads_on others feature d) x.declarations)
-      (any_weaker (λ d. is_of rules p name d && counts s d) (λ d. is_of others p name d && counts (with_commands s commands) d) x.declarations
-      (λ d i. let q = both_true (is_of rules p name d) (counts s d) i in two_true (is_of others p name d) (counts (with_commands s commands) d) (of_more p name d q.0) q.1) parts.0)
-      (any_weaker (λ d. is_of rules p name d && leads_on rules feature d) (λ d. is_of others p name d && leads_on others feature d) x.declarations
-      (λ d i. let q = both_true (is_of rules p name d) (leads_on rules feature d) i in two_true (is_of others p name d) (leads_on others feature d) (of_more p name d q.0) (leads_more feature d q.1)) parts.1)
+      any_weaker (λ d. is_of rules p name d && leads_on rules feature d && counts_for rules p name x.declarations d.leads_to) (λ d. is_of others p name d && leads_on others feature d && counts_for others p name x.declarations d.leads_to) x.declarations
+      (λ d i.
+      let q = both_true (is_of rules p name d) (leads_on rules feature d && counts_for rules p name x.declarations d.leads_to) i in
+      let on = both_true (leads_on rules feature d) (counts_for rules p name x.declarations d.leads_to) q.1 in
+      two_true (is_of others p name d) (leads_on others feature d && counts_for others p name x.declarations d.leads_to) (of_more p name d q.0)
+      (two_true (leads_on others feature d) (counts_for others p name x.declarations d.leads_to) (leads_more feature d on.0) (counts_more p name x.declarations d.leads_to on.1))) h
 
   target_more : (p : ℕ) (x : PackageText) (t : TargetText) → is_built rules p x t ≡ true → is_built others p x t ≡ true
   target_more p x t h =

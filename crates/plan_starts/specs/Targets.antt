@@ -1,11 +1,11 @@
 -- The targets of a package that a command line chooses.
-use Rattle.std.specs.Prelude.{ℕ, List, Bool, true, false, not, ◌&&◌, ◌||◌, if◌then◌else◌, codes, slice_get}
+use Rattle.std.specs.Prelude.{ℕ, List, Option, Bool, true, false, not, ◌&&◌, ◌||◌, if◌then◌else◌, codes, slice_get}
 use Rattle.std.specs.List.{list_all, list_any}
 use Rattle.std.specs.Option.{is_some, option_map_or}
 use Rattle.std.specs.Str.{bytes_eq}
 use Rattle.step_visits.specs.guppy_packages.Items.{slash_item, item_of}
 use Rattle.step_visits.specs.feature_labels.Names.LabelName.{named}
-use Rattle.cargo_workspaces.specs.Workspaces.{Text, DeclarationText, TargetText, PackageText, has_kind, is_library, is_proc_macro}
+use Rattle.cargo_workspaces.specs.Workspaces.{Text, DeclarationText, TargetText, PackageText, both_lead_to, has_kind, is_library, is_proc_macro}
 use Rattle.plan_rows.specs.Commands.{is_started}
 use Rattle.plan_rows.specs.Steps.{SettingsText, admits, is_development, lands}
 use Rattle.plan_rows.specs.declared.side.Side.TheVariants.{Target}
@@ -49,12 +49,15 @@ leads_on r feature d =
 abbrev pub is_of : TargetRules → ℕ → Text → DeclarationText → Bool
 is_of r p name d = bytes_eq d.name name && is_followed r p d
 
--- Whether a feature that a target of package `p` requires is on, looked at on the target side. A dependency's feature also needs a
--- declaration that counts.
+-- Whether a declaration with the name, which is followed and counts, also leads to this package.
+abbrev pub counts_for : TargetRules → ℕ → Text → List DeclarationText → Option ℕ → Bool
+counts_for r p name ds to = list_any (λ d. is_of r p name d && counts r.settings d && both_lead_to to d.leads_to) ds
+
+-- Whether a feature that a target of package `p` requires is on, looked at on the target side. A feature of a dependency must be on in a
+-- package to which a declaration that counts leads.
 abbrev pub is_met : TargetRules → ℕ → PackageText → Text → Bool
 is_met r p x need = elim (item_of need) [
-  | slash_item name feature weak ↦
-      list_any (λ d. is_of r p name d && counts r.settings d) x.declarations && list_any (λ d. is_of r p name d && leads_on r feature d) x.declarations
+  | slash_item name feature weak ↦ list_any (λ d. is_of r p name d && leads_on r feature d && counts_for r p name x.declarations d.leads_to) x.declarations
   | _ ↦ is_on r.on Target p (named need)
 ]
 

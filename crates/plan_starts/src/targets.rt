@@ -2,7 +2,7 @@
 ghost use Rattle.std.specs.Prelude.{◌≡◌, ◌&&◌, not, codes, map, option_map};
 ghost use Rattle.std.specs.List.{list_all, list_any};
 ghost use Rattle.cargo_workspaces.specs.Views.{declaration_text, package_text, target_text, texts};
-ghost use Rattle.cargo_workspaces.specs.Workspaces.{has_kind};
+ghost use Rattle.cargo_workspaces.specs.Workspaces.{both_lead_to, has_kind};
 ghost use Rattle.plan_rows.specs.Commands.{command_texts, is_started};
 ghost use Rattle.plan_rows.specs.SettingsView.{settings_text};
 ghost use Rattle.plan_rows.specs.Steps as steps;
@@ -143,24 +143,39 @@ fn is_of<P: Platform>(
     declaration.name == name && is_followed(rules, ix, declaration)
 }
 
-/// Returns whether a declaration of package `ix` with the name `name` is followed, and counts in the build.
+/// Returns whether both are the same package; false if one is `None`.
+fn both_lead_to(one: Option<usize>, other: Option<usize>) -> bool
+    ensures { result ≡ both_lead_to one other }
+{
+    match (one, other) {
+        (Some(one), Some(other)) => one == other,
+        _ => false,
+    }
+}
+
+/// Returns whether a declaration of package `ix` with the name `name` is followed, counts in the build and leads to package `to`.
 fn any_counts<P: Platform>(
     rules: &TargetRules<'_, '_, '_, '_, P>,
     ix: usize,
     name: &str,
     declarations: &[Declaration<'_>],
+    to: Option<usize>,
 ) -> bool
-    ensures { result ≡ list_any (λ d. spec.is_of (rules_text P.holds rules.now) ix name.now d && spec.counts (settings_text P.holds rules.now.settings.now) d) (map declaration_text declarations.now) }
+    ensures { result ≡ spec.counts_for (rules_text P.holds rules.now) ix name.now (map declaration_text declarations.now) to }
 {
     for declaration in declarations {
-        if is_of(rules, ix, name, declaration) && counts(rules.settings, declaration) {
+        if is_of(rules, ix, name, declaration)
+            && counts(rules.settings, declaration)
+            && both_lead_to(to, declaration.leads_to)
+        {
             return true;
         }
     }
     false
 }
 
-/// Returns whether a declaration of package `ix` with the name `name` is followed, and leads to a package with the feature on.
+/// Returns whether a declaration of package `ix` with the name `name` is followed, and leads to a package with the feature on, to which
+/// a declaration with the name that counts in the build leads too.
 fn any_leads_on<P: Platform>(
     rules: &TargetRules<'_, '_, '_, '_, P>,
     ix: usize,
@@ -168,10 +183,13 @@ fn any_leads_on<P: Platform>(
     feature: &str,
     declarations: &[Declaration<'_>],
 ) -> bool
-    ensures { result ≡ list_any (λ d. spec.is_of (rules_text P.holds rules.now) ix name.now d && spec.leads_on (rules_text P.holds rules.now) feature.now d) (map declaration_text declarations.now) }
+    ensures { result ≡ list_any (λ d. spec.is_of (rules_text P.holds rules.now) ix name.now d && spec.leads_on (rules_text P.holds rules.now) feature.now d && spec.counts_for (rules_text P.holds rules.now) ix name.now (map declaration_text declarations.now) d.leads_to) (map declaration_text declarations.now) }
 {
     for declaration in declarations {
-        if is_of(rules, ix, name, declaration) && leads_on(rules, feature, declaration) {
+        if is_of(rules, ix, name, declaration)
+            && leads_on(rules, feature, declaration)
+            && any_counts(rules, ix, name, declarations, declaration.leads_to)
+        {
             return true;
         }
     }
@@ -192,11 +210,7 @@ fn is_met<P: Platform>(
             dep_name,
             feature,
             ..
-        } => {
-            let declarations = &package.declarations;
-            any_counts(rules, ix, dep_name, declarations)
-                && any_leads_on(rules, ix, dep_name, feature, declarations)
-        }
+        } => { any_leads_on(rules, ix, dep_name, feature, &package.declarations) }
         NamedFeatureDep::NamedFeature(_) | NamedFeatureDep::OptionalDependency(_) => {
             rules.on.has_feature(Side::Target, ix, need)
         }
