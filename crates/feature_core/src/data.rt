@@ -33,6 +33,7 @@ use feature_edges::{
     named_links, node_table, numbers_in,
 };
 use guppy_support::{Digraph, IxBitSet};
+use indexmap::IndexMap;
 use order_views::cyclic_components;
 use std::alloc::{AllocError, Global};
 use std::marker::Model;
@@ -46,7 +47,7 @@ pub struct FeatureGraphData {
     order: Order,
     cyclic: Vec<usize>,
     edges: EdgeList,
-    weak: Vec<(usize, usize)>,
+    weak: IndexMap<usize, usize>,
     released: Vec<(usize, usize)>,
     warnings: Vec<FeatureGraphWarning>,
     defaults: IxBitSet,
@@ -80,13 +81,13 @@ impl Model for FeatureGraphData {
 
     ghost Value = { Built };
 
-    ghost view = { λ d. record { stamp = d.stamp; firsts = d.table.firsts.items; packages = d.table.packages.items; edges = built_edges d.digraph.edges d.edges; weak = d.weak.items; warnings = warnings_in d.warnings; defaults = d.defaults } };
+    ghost view = { λ d. record { stamp = d.stamp; firsts = d.table.firsts.items; packages = d.table.packages.items; edges = built_edges d.digraph.edges d.edges; weak = d.weak.entries; warnings = warnings_in d.warnings; defaults = d.defaults } };
 
     ghost invariant = { λ d.
         (d.digraph.nodes ≡ length d.table.packages.items)
         × (length d.edges ≡ length d.digraph.edges)
         × (d.digraph.edges ≡ map end_of (built_edges d.digraph.edges d.edges))
-        × AreTied d.digraph d.edges d.weak.items d.released.items
+        × AreTied d.digraph d.edges d.weak.entries d.released.items
         × (length d.defaults ≡ length d.table.packages.items)
         × IsOrderOf d.digraph d.order
         × (d.cyclic.items ≡ cyclic_components d.digraph.edges d.order) };
@@ -132,10 +133,10 @@ fn ordered(alloc: Global, digraph: &Digraph) -> Result<(Order, Vec<usize>), Allo
 fn found_with(alloc: Global, numbers: Numbers<'_>, table: &EdgeTable) -> Result<Found, AllocError>
     requires nodes { table.now.digraph.nodes ≡ length (node_packages numbers.graph.now) }
     requires long { length table.now.edges ≡ length table.now.digraph.edges }
-    requires edges { AreBuilt numbers.graph.now (built_edges table.now.digraph.edges table.now.edges) table.now.weak.items }
+    requires edges { AreBuilt numbers.graph.now (built_edges table.now.digraph.edges table.now.edges) table.now.weak.entries }
     requires defaults { AreDefaultNodes numbers.graph.now table.now.defaults.items }
     ensures defaults { IfOk result (λ f. AreDefaults numbers.entry.graph.now f.defaults) }
-    ensures released { IfOk result (λ f. AreReleases table.now.edges table.now.weak.items f.released.items) }
+    ensures released { IfOk result (λ f. AreReleases table.now.edges table.now.weak.entries f.released.items) }
     ensures order { IfOk result (λ f. IsOrderOf table.now.digraph f.order) }
     ensures cyclic { IfOk result (λ f. f.cyclic.items ≡ cyclic_components table.now.digraph.edges f.order) }
 {
@@ -162,7 +163,7 @@ fn made(
     ensures pairs { IfOk result (λ m. IsPairList numbers.entry.graph.now (pairs_of m.0.digraph.edges)) }
     ensures long { IfOk result (λ m. length m.0.edges ≡ length m.0.digraph.edges) }
     ensures ends { IfOk result (λ m. m.0.digraph.edges ≡ map end_of (built_edges m.0.digraph.edges m.0.edges)) }
-    ensures edges { IfOk result (λ m. AreBuilt numbers.entry.graph.now (built_edges m.0.digraph.edges m.0.edges) m.0.weak.items) }
+    ensures edges { IfOk result (λ m. AreBuilt numbers.entry.graph.now (built_edges m.0.digraph.edges m.0.edges) m.0.weak.entries) }
     ensures defaults { IfOk result (λ m. AreDefaultNodes numbers.entry.graph.now m.0.defaults.items) }
     ensures warnings { IfOk result (λ m. warnings_in m.1 ≡ warnings numbers.entry.graph.now) }
 {
@@ -281,10 +282,10 @@ impl FeatureGraphData {
 
     /// Returns the weak links, by index: the package link of its weak edges, and the gate, which is the node that their optional
     /// halves wait for.
-    pub fn weak_links(&self) -> &[(usize, usize)]
-        ensures { result.now ≡ self.now.weak }
+    pub fn weak_links(&self) -> &IndexMap<usize, usize>
+        ensures { result.now.entries ≡ self.now.weak }
     {
-        self.weak.as_slice()
+        &self.weak
     }
 
     /// Returns the number of the package of node `ix`.

@@ -55,7 +55,7 @@ pub(crate) fn default_marks(
 ) -> Result<IxBitSet, AllocError>
     requires nodes { table.now.digraph.nodes ≡ length (node_packages numbers.graph.now) }
     requires long { length table.now.edges ≡ length table.now.digraph.edges }
-    requires edges { AreBuilt numbers.graph.now (built_edges table.now.digraph.edges table.now.edges) table.now.weak.items }
+    requires edges { AreBuilt numbers.graph.now (built_edges table.now.digraph.edges table.now.edges) table.now.weak.entries }
     requires defaults { AreDefaultNodes numbers.graph.now table.now.defaults.items }
     ensures { IfOk result (λ marks. AreDefaults numbers.entry.graph.now marks) }
 {

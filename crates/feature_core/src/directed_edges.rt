@@ -15,6 +15,7 @@ use crate::engine::{Ask, EdgeSource, Taken};
 use crate::gates::{gate_of, released_at};
 use feature_edges::{DependencyDirection, EdgeList, FeatureEdge};
 use guppy_support::{Digraph, Edge};
+use indexmap::IndexMap;
 use std::marker::Model;
 use walk_checks::{EdgeTable, TableEdge};
 
@@ -49,8 +50,8 @@ fn waits(direction: DependencyDirection) -> bool
 pub struct Packed<'a> {
     digraph: &'a Digraph,
     edges: &'a EdgeList,
-    // each weak link with its gate, and the gate and the number of each weak edge
-    weak: &'a [(usize, usize)],
+    // the gate of each weak link, and the gate and the number of each weak edge
+    weak: &'a IndexMap<usize, usize>,
     released: &'a [(usize, usize)],
     direction: DependencyDirection,
     reads: u128,
@@ -63,9 +64,9 @@ impl<'a> Model for Packed<'a> {
 
     ghost Value = { Reading };
 
-    ghost view = { λ p. record { holds = content p.direction p.digraph.now.nodes (built_edges p.digraph.now.edges p.edges.now) p.weak.now; reads = p.reads } };
+    ghost view = { λ p. record { holds = content p.direction p.digraph.now.nodes (built_edges p.digraph.now.edges p.edges.now) p.weak.now.entries; reads = p.reads } };
 
-    ghost invariant = { λ p. AreTied p.digraph.now p.edges.now p.weak.now p.released.now };
+    ghost invariant = { λ p. AreTied p.digraph.now p.edges.now p.weak.now.entries p.released.now };
 }
 
 impl<'a> Packed<'a> {
@@ -80,12 +81,12 @@ impl<'a> Packed<'a> {
     pub(crate) fn over(
         digraph: &'a Digraph,
         edges: &'a EdgeList,
-        weak: &'a [(usize, usize)],
+        weak: &'a IndexMap<usize, usize>,
         released: &'a [(usize, usize)],
         direction: DependencyDirection,
     ) -> Self
-        requires { AreTied digraph.now edges.now weak.now released.now }
-        ensures { result ≡ record { holds = content direction digraph.now.nodes (built_edges digraph.now.edges edges.now) weak.now; reads = 0 } }
+        requires { AreTied digraph.now edges.now weak.now.entries released.now }
+        ensures { result ≡ record { holds = content direction digraph.now.nodes (built_edges digraph.now.edges edges.now) weak.now.entries; reads = 0 } }
     {
         Packed {
             digraph,
@@ -191,8 +192,8 @@ impl EdgeSource for Packed<'_> {
 }
 
 /// Returns the gate of `edge` if it is weak, and otherwise 0.
-fn gate_or_zero(weak: &[(usize, usize)], edge: &FeatureEdge) -> usize
-    ensures { result ≡ option_map_or (λ gate. gate) (gate_of weak.now (edge_facts edge.now)) 0 }
+fn gate_or_zero(weak: &IndexMap<usize, usize>, edge: &FeatureEdge) -> usize
+    ensures { result ≡ option_map_or (λ gate. gate) (gate_of weak.now.entries (edge_facts edge.now)) 0 }
 {
     gate_of(weak, edge).unwrap_or(0)
 }
@@ -211,13 +212,13 @@ fn near_end(direction: DependencyDirection, edge: Edge) -> usize
 fn table_edge(
     digraph: &Digraph,
     edges: &EdgeList,
-    weak: &[(usize, usize)],
+    weak: &IndexMap<usize, usize>,
     direction: DependencyDirection,
     number: usize,
 ) -> TableEdge
     requires edge { number < length digraph.now.edges }
     requires same { length edges.now ≡ length digraph.now.edges }
-    ensures { Tells (slice_get (content direction digraph.now.nodes (built_edges digraph.now.edges edges.now) weak.now).ways number) (Some result) }
+    ensures { Tells (slice_get (content direction digraph.now.nodes (built_edges digraph.now.edges edges.now) weak.now.entries).ways number) (Some result) }
 {
     let ends = digraph.edge(number);
     let edge = edges.get(number);

@@ -13,6 +13,7 @@ use feature_edges::{
     PlatformStatus, Spec, WeakSlashImpl,
 };
 use guppy_support::{Digraph, Edge};
+use indexmap::IndexMap;
 use std::alloc::Global;
 
 /// Returns whether `a` and `b` have the same text.
@@ -175,10 +176,12 @@ pub(crate) fn same_warnings(a: &[FeatureGraphWarning], b: &[FeatureGraphWarning]
 }
 
 /// Returns whether `a` and `b` are the same weak links with the same gates, in the same order.
-pub(crate) fn same_gates(a: &[(usize, usize)], b: &[(usize, usize)]) -> bool
-    ensures { IsTrue result ↔ (a.now ≡ b.now) }
+pub(crate) fn same_gates(a: &IndexMap<usize, usize>, b: &IndexMap<usize, usize>) -> bool
+    ensures { IsTrue result ↔ (a.now.entries ≡ b.now.entries) }
 {
-    a == b
+    let own = a.as_slice();
+    let others = b.as_slice();
+    own == others
 }
 
 impl FeatureGraphData {

@@ -8,11 +8,12 @@ ghost use Rattle.feature_edges.specs.feature_links.Facts.{EdgeFacts};
 ghost use Rattle.feature_edges.specs.feature_links.Values.{edge_facts};
 
 use feature_edges::{EdgeList, FeatureEdge};
+use indexmap::IndexMap;
 use std::alloc::{AllocError, Global};
 
 /// Returns the gate of a weak edge's optional half; `None` for another edge.
-pub(crate) fn gate_of(weak: &[(usize, usize)], edge: &FeatureEdge) -> Option<usize>
-    ensures { result ≡ gate_of weak.now (edge_facts edge.now) }
+pub(crate) fn gate_of(weak: &IndexMap<usize, usize>, edge: &FeatureEdge) -> Option<usize>
+    ensures { result ≡ gate_of weak.now.entries (edge_facts edge.now) }
 {
     match edge {
         FeatureEdge::NamedFeatureWithWeakSlash(halves) => {
@@ -23,19 +24,19 @@ pub(crate) fn gate_of(weak: &[(usize, usize)], edge: &FeatureEdge) -> Option<usi
 }
 
 /// Returns the gate of weak link `index`, or 0 if there is none.
-fn gate_at(weak: &[(usize, usize)], index: usize) -> usize
-    ensures { result ≡ gate_at weak.now index }
+fn gate_at(weak: &IndexMap<usize, usize>, index: usize) -> usize
+    ensures { result ≡ gate_at weak.now.entries index }
 {
-    match weak.get(index) {
+    match weak.get_index(index) {
         Some((_, gate)) => *gate,
         None => 0,
     }
 }
 
 /// Returns the gate of edge `number` if it is weak. An unconditional edge isn't read.
-fn edge_gate(weak: &[(usize, usize)], edges: &EdgeList, number: usize) -> Option<usize>
+fn edge_gate(weak: &IndexMap<usize, usize>, edges: &EdgeList, number: usize) -> Option<usize>
     requires { number < length edges.now }
-    ensures { (f : EdgeFacts) → slice_get edges.now number ≡ Some f → result ≡ gate_of weak.now f }
+    ensures { (f : EdgeFacts) → slice_get edges.now number ≡ Some f → result ≡ gate_of weak.now.entries f }
 {
     if edges.is_unconditional(number) {
         return None;
@@ -61,9 +62,9 @@ fn push_release(
 fn releases(
     alloc: Global,
     edges: &EdgeList,
-    weak: &[(usize, usize)],
+    weak: &IndexMap<usize, usize>,
 ) -> Result<Vec<(usize, usize)>, AllocError>
-    ensures { IfOk result (λ released. released.items ≡ releases_from weak.now 0 edges.now) }
+    ensures { IfOk result (λ released. released.items ≡ releases_from weak.now.entries 0 edges.now) }
 {
     let mut released = Vec::new(alloc);
     for number in 0..edges.len() {
@@ -77,9 +78,9 @@ fn releases(
 pub(crate) fn release_table(
     alloc: Global,
     edges: &EdgeList,
-    weak: &[(usize, usize)],
+    weak: &IndexMap<usize, usize>,
 ) -> Result<Vec<(usize, usize)>, AllocError>
-    ensures { IfOk result (λ released. AreReleases edges.now weak.now released.items) }
+    ensures { IfOk result (λ released. AreReleases edges.now weak.now.entries released.items) }
 {
     let mut released = releases(alloc, edges, weak)?;
     sort_releases(&mut released);

@@ -1,5 +1,5 @@
 //! The weak links of keys, with their gates.
-ghost use Rattle.std.specs.Prelude.{◌≡◌, ◌++◌, ◌∷◌, [], ℕ, List, Contains, IfOk, OnOk, map};
+ghost use Rattle.std.specs.Prelude.{◌≡◌, ◌++◌, ◌∷◌, [], ℕ, List, Contains, OnOk, map};
 ghost use Rattle.feature_edges.specs.declared.candidate.Key.{Key as KeyValue};
 ghost use Rattle.feature_edges.specs.Edges.{first_ones};
 ghost use Rattle.feature_edges.specs.inner.GateNodes.{AreGateNodes};
@@ -9,9 +9,8 @@ ghost use Rattle.feature_edges.specs.inner.Weak.{AreGates, weak_sources};
 use crate::candidate::{CandidateKind, Key};
 use crate::gate_nodes::gate_at;
 use crate::node_numbers::Numbers;
-use guppy_support::collect_exactly;
 use indexmap::IndexMap;
-use std::alloc::{AllocError, Global};
+use std::alloc::AllocError;
 
 /// Inserts the weak link of `key` and its gate into `table`, if the edge of `key` is weak. `gates` has the gate of each package
 /// link.
@@ -34,14 +33,4 @@ pub(crate) fn note_gate(
     let gate = gate_at(numbers, gates, key.source as usize);
     table.insert(key.source as usize, gate)?;
     Ok(())
-}
-
-/// Returns the weak links of `table` with their gates, by index.
-pub(crate) fn entries_of(
-    alloc: Global,
-    table: IndexMap<usize, usize>,
-) -> Result<Vec<(usize, usize)>, AllocError>
-    ensures { IfOk result (λ entries. entries.items ≡ table.entries) }
-{
-    collect_exactly(table.into_iter(), alloc)
 }

@@ -22,7 +22,7 @@ use crate::candidate::{CandidateKind, Key, split_run};
 use crate::collect::{Collected, collect_around, collect_feature};
 use crate::default_nodes::default_nodes;
 use crate::gate_nodes::gate_nodes;
-use crate::gates::{entries_of, note_gate};
+use crate::gates::note_gate;
 use crate::make::{Material, edge_of};
 use crate::near_keys::NearKeys;
 use crate::node_numbers::Numbers;
@@ -35,13 +35,13 @@ use guppy_support::{Digraph, Edge, EdgeColumns};
 use indexmap::IndexMap;
 use std::alloc::{AllocError, Global};
 
-/// The edges, sorted by source and then by target, the weak links, each with its package link and its gate, and the node of each
-/// package's feature `default`, or 0 if it has none.
+/// The edges, sorted by source and then by target, the gate of each weak link by its package link, and the node of each package's
+/// feature `default`, or 0 if it has none.
 #[derive(Drop)]
 pub struct EdgeTable {
     pub digraph: Digraph,
     pub edges: EdgeList,
-    pub weak: Vec<(usize, usize)>,
+    pub weak: IndexMap<usize, usize>,
     pub defaults: Vec<u32>,
 }
 
@@ -371,7 +371,7 @@ pub fn edge_table(
     ensures pairs { IfOk result (λ e. IsPairList numbers.entry.graph.now (pairs_of e.0.digraph.edges)) }
     ensures long { IfOk result (λ e. length e.0.edges ≡ length e.0.digraph.edges) }
     ensures ends { IfOk result (λ e. e.0.digraph.edges ≡ map end_of (built_edges e.0.digraph.edges e.0.edges)) }
-    ensures edges { IfOk result (λ e. AreBuilt numbers.entry.graph.now (built_edges e.0.digraph.edges e.0.edges) e.0.weak.items) }
+    ensures edges { IfOk result (λ e. AreBuilt numbers.entry.graph.now (built_edges e.0.digraph.edges e.0.edges) e.0.weak.entries) }
     ensures defaults { IfOk result (λ e. AreDefaultNodes numbers.entry.graph.now e.0.defaults.items) }
     ensures warnings { IfOk result (λ e. warnings_in e.1 ≡ warnings numbers.entry.graph.now) }
 {
@@ -387,7 +387,6 @@ pub fn edge_table(
     };
     let (made, warnings) = made_edges(alloc, material)?;
     let MadeEdges { edges, ends, weak } = made;
-    let weak = entries_of(alloc, weak)?;
     let digraph = Digraph::from_columns(alloc, table.packages.len(), ends)?;
     let edge_table = EdgeTable {
         digraph,

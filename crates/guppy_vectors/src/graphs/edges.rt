@@ -137,10 +137,10 @@ fn tell_line(
 
 /// Writes each weak link on a line: its index, its link and its gate.
 fn tell_weak_links(out: &Out, built: &FeatureGraphData) {
-    for (number, weak) in built.weak_links().iter().enumerate() {
+    for (number, (link, gate)) in built.weak_links().iter().enumerate() {
         out.number("weak(", number);
-        out.number(") link=", weak.0);
-        out.number(" gate=", weak.1);
+        out.number(") link=", *link);
+        out.number(" gate=", *gate);
         out.line("");
     }
 }

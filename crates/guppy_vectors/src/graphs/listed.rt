@@ -49,7 +49,7 @@ fn ask_of(built: &FeatureGraphData, edge: &FeatureEdge, forward: bool) -> (Ask, 
                 required,
                 gated: forward,
             };
-            match built.weak_links().get(weak.index().index()) {
+            match built.weak_links().get_index(weak.index().index()) {
                 Some((_, gate)) if forward => (ask, *gate),
                 _ => (ask, 0),
             }

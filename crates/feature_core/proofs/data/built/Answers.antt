@@ -21,7 +21,7 @@ returns-clause-built c =
       firsts = c.in_ok-table.ensures.firsts;
       packages = c.in_ok-table.ensures.packages;
       pairs = subst (λ z. IsPairList t z) (sym ends) (subst (λ z. IsPairList z (pairs_of table.digraph.edges)) graph made.pairs);
-      edges = subst (λ z. AreBuilt z (built_edges table.digraph.edges facts) table.weak.items) graph made.edges;
+      edges = subst (λ z. AreBuilt z (built_edges table.digraph.edges facts) table.weak.entries) graph made.edges;
       warnings = made.warnings ∙ ap warnings graph;
       defaults = subst (λ z. AreDefaults z c.in_ok-found.found.defaults) graph c.in_ok-found.ensures.defaults;
     }
@@ -34,14 +34,14 @@ invariant_of-result c =
     let found = c.in_ok-found.ensures in
     let table = c.in_ok-edge_table.edge_table in
     let facts = table.edges in
-    let built : AreBuilt t (built_edges table.digraph.edges facts) table.weak.items = subst (λ z. AreBuilt z (built_edges table.digraph.edges facts) table.weak.items) graph made.edges in
+    let built : AreBuilt t (built_edges table.digraph.edges facts) table.weak.entries = subst (λ z. AreBuilt z (built_edges table.digraph.edges facts) table.weak.entries) graph made.edges in
     let nodes : table.digraph.nodes ≡ length (node_packages t) = made.nodes ∙ ap length c.in_ok-table.ensures.packages in (
       made.nodes,
       made.long,
       made.ends,
       record {
         each = made.long;
-        gates = built_gates t (built_edges table.digraph.edges facts) table.weak.items table.digraph.nodes built nodes;
+        gates = built_gates t (built_edges table.digraph.edges facts) table.weak.entries table.digraph.nodes built nodes;
         releases = found.released;
       },
       found.defaults.long ∙ ap (λ z. length (node_packages z)) graph ∙ sym (ap length c.in_ok-table.ensures.packages),

@@ -12,5 +12,5 @@ returns c =
     let marks : List Bool = c.in_ok-marks.marks in
     record {
       long = c.in_ok-marks.ensures.size ∙ c.requires.nodes;
-      exact = walked t edges table.weak.items initials marks c.requires.edges c.in_ok-initials.ensures.members c.in_ok-marks.ensures.members;
+      exact = walked t edges table.weak.entries initials marks c.requires.edges c.in_ok-initials.ensures.members c.in_ok-marks.ensures.members;
     }

@@ -2,6 +2,7 @@ use Rattle.std.proofs.Common.{◌≡◌, ◌∙◌, ◌&&◌, ℕ, Bool, true, f
 use Rattle.std.specs.Bool.{Decides}
 use Rattle.std.proofs.lemmas.Bool.Decides.{Decides-eqb}
 use Rattle.std.proofs.lemmas.Slice.Eq.{slice_eq-Decides}
+use Rattle.feature_core.proofs.SameData.{alike_at}
 use Rattle.feature_core.proofs.equality.same_gates.Goals as goal
 
 both : (a b : Bool) → a ≡ true → b ≡ true → (a && b) ≡ true
@@ -20,4 +21,4 @@ pairs p q = (
 )
 
 pub returns : goal.returns
-returns c = slice_eq-Decides {E = λ p q. eqb p.0 q.0 && eqb p.1 q.1} pairs c.args.a.now c.args.b.now c.eq.result c.eq.ensures
+returns c = alike_at _ _ _ _ _ c.as_slice-own.ensures.entries c.as_slice-others.ensures.entries (slice_eq-Decides {E = λ p q. eqb p.0 q.0 && eqb p.1 q.1} pairs c.as_slice-own.result c.as_slice-others.result c.eq.result c.eq.ensures)

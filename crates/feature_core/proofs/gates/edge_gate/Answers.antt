@@ -15,4 +15,4 @@ no_gate weak (weak_edge l halves) h = cc
 no_gate weak (section_edge l) h = cc
 
 pub returns-then-is_unconditional : goal.returns-then-is_unconditional
-returns-then-is_unconditional c = λ f at. sym (no_gate c.args.weak.now f (ap Some (sym c.if-is_unconditional.true) ∙ c.is_unconditional.ensures ∙ ap (option_map (is_chosen FeatureToBaseAndNamed)) at))
+returns-then-is_unconditional c = λ f at. sym (no_gate c.args.weak.now.entries f (ap Some (sym c.if-is_unconditional.true) ∙ c.is_unconditional.ensures ∙ ap (option_map (is_chosen FeatureToBaseAndNamed)) at))

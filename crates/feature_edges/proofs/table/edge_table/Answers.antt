@@ -1,7 +1,5 @@
 use Rattle.std.proofs.Common.{rules, ◌≡◌, ◌∙◌, ap, sym, subst, length, refl}
 use Rattle.guppy_support.specs.Graph.{IsDigraph}
-use Rattle.feature_edges.specs.EdgeEnds.{built_edges}
-use Rattle.feature_edges.specs.Edges.{AreBuilt}
 use Rattle.feature_edges.specs.Nodes.{node_packages}
 use Rattle.feature_edges.proofs.SoundEnds.{pairs_sound}
 use Rattle.feature_edges.proofs.BuildLemmas.{all_long, all_ends, all_pairs, all_built}
@@ -21,7 +19,7 @@ returns-clause-edges c =
     let t = c.args.numbers.graph.now in
     let made = c.in_ok-made.made in
     let ends = c.in_ok-digraph.digraph.edges in
-    subst (AreBuilt t (built_edges ends made.edges)) (sym c.in_ok-weak.ensures) (all_built t c.facts.ensures made c.in_ok-made.ensures.made ends (ap (λ g. g.edges) c.in_ok-digraph.ensures))
+    all_built t c.facts.ensures made c.in_ok-made.ensures.made ends (ap (λ g. g.edges) c.in_ok-digraph.ensures)
 
 pub from_columns-requires : goal.from_columns-requires
 from_columns-requires c =

@@ -9,4 +9,4 @@ pub returns : goal.returns
 returns c =
     let p = c.self.inside in
     subst (λ (r : Reading). c.edge_number.result ≡ slice_get (starting r.holds c.args.start) c.args.place) c.self.view_is
-    (sym (take_told p.weak.now p.direction p.digraph.now p.edges.now c.args.start c.args.place c.edge_number.result c.self.invariant.each c.edge_number.ensures))
+    (sym (take_told p.weak.now.entries p.direction p.digraph.now p.edges.now c.args.start c.args.place c.edge_number.result c.self.invariant.each c.edge_number.ensures))

@@ -10,4 +10,4 @@ returns-clause-count c = c.node_count.ensures ∙ ap (λ (r : Reading). r.holds.
 pub returns-clause-ends : goal.returns-clause-ends
 returns-clause-ends c =
     let p = c.self.inside in
-    subst (λ (r : Reading). EndsAreNodes r.holds) c.self.view_is (content_ends p.weak.now p.direction p.digraph.now p.edges.now c.facts.ensures c.self.invariant.gates)
+    subst (λ (r : Reading). EndsAreNodes r.holds) c.self.view_is (content_ends p.weak.now.entries p.direction p.digraph.now p.edges.now c.facts.ensures c.self.invariant.gates)
