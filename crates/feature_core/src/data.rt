@@ -180,20 +180,14 @@ fn built(alloc: Global, graph: &PackageGraph, stamp: u64) -> Result<FeatureGraph
     let numbers = numbers_in(graph, &table);
     let (edge_table, warnings) = made(alloc, numbers, &table)?;
     let found = found_with(alloc, numbers, &edge_table)?;
-    let EdgeTable {
-        digraph,
-        edges,
-        weak,
-        defaults: _defaults,
-    } = edge_table;
     Ok(FeatureGraphData {
         stamp,
         table,
-        digraph,
+        digraph: edge_table.digraph,
         order: found.order,
         cyclic: found.cyclic,
-        edges,
-        weak,
+        edges: edge_table.edges,
+        weak: edge_table.weak,
         released: found.released,
         warnings,
         defaults: found.defaults,

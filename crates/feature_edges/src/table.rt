@@ -37,23 +37,12 @@ use std::alloc::{AllocError, Global};
 
 /// The edges, sorted by source and then by target, the gate of each weak link by its package link, and the node of each package's
 /// feature `default`, or 0 if it has none.
+#[derive(Drop)]
 pub struct EdgeTable {
     pub digraph: Digraph,
     pub edges: EdgeList,
     pub weak: IndexMap<usize, usize>,
     pub defaults: Vec<u32>,
-}
-
-impl Drop for EdgeTable {
-    // Written out, so that a crate above calls it. A derived drop is proved in each crate that drops a value, with those of all fields.
-    fn drop(self) {
-        let EdgeTable {
-            digraph: _digraph,
-            edges: _edges,
-            weak: _weak,
-            defaults: _defaults,
-        } = self;
-    }
 }
 
 /// Returns the digraph's edge of `key`, whose built edge is `edge`.

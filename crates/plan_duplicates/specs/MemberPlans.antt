@@ -2,14 +2,14 @@
 use Rattle.std.specs.Prelude.{◌≡◌, ℕ, List, [], ◌∷◌, Bool, true, false, IsFalse, Some, map, nat_eq, slice_get}
 use Rattle.std.specs.List.{AllByRecursion, filter, list_any}
 use Rattle.cargo_workspaces.specs.Workspaces.{Text, PackageText, WorkspaceText}
-use Rattle.cargo_plans.specs.Plans.{AfterWords, WordsText}
+use Rattle.cargo_plans.specs.plan_steps.Plans.{PlanText}
+use Rattle.cargo_plans.specs.Plans.{AfterWords, IsPlanOf, WordsText}
 use Rattle.cargo_plans.specs.Refusals.{IsRefusal}
 use Rattle.cargo_plans.specs.declared.fault.PlanFault.{PlanFault}
 use Rattle.cargo_plans.specs.declared.fault.PlanFault.TheVariants as fault
 use Rattle.plan_messages.specs.Messages.{plan_message}
 use Rattle.cargo_plans.specs.plan_units.Units.{UnitText}
 use Rattle.plan_words.specs.Selections.{SelectionText, named}
-use Rattle.plan_parts.specs.Units.{AreBuiltBy}
 
 -- The selection with the package of this id, and no other.
 abbrev pub select_one : Text → SelectionText → SelectionText
@@ -34,6 +34,12 @@ pub record IsRefusedWith (w : WorkspaceText) (words : WordsText) (message : Text
   pub is_refusal : IsRefusal w words refusal
   pub is_own : IsFalse (is_memory refusal)
   pub is_message : message ≡ plan_message w.packages refusal
+
+-- These are the units of a plan of the words.
+pub record AreBuiltBy (w : WorkspaceText) (words : WordsText) (units : List UnitText) : Type 0 where
+  pub plan : PlanText
+  pub is_plan : IsPlanOf w words plan
+  pub are_units : units ≡ plan.units
 
 abbrev pub IsOutcome : WorkspaceText → WordsText → OutcomeText → Type 0
 IsOutcome w words (built units) = AreBuiltBy w words units

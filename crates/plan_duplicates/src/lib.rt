@@ -4,6 +4,7 @@
 #![tactic(auto)]
 
 mod alone;
+mod copies;
 mod declarations;
 mod differences;
 mod disagreements;

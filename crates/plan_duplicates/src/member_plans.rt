@@ -1,6 +1,6 @@
 //! The plans of the selected members, each alone.
-ghost use Rattle.std.specs.Prelude.{◌≡◌, ◌<◌, Err, IfErr, IfOk, length, map, nat_eq};
-ghost use Rattle.std.specs.List.{list_any};
+ghost use Rattle.std.specs.Prelude.{◌≡◌, ◌<◌, ◌++◌, ◌∷◌, [], Err, IfErr, IfOk, OnOk, if◌then◌else◌, length, map, nat_eq};
+ghost use Rattle.std.specs.List.{AllByRecursion, list_any};
 ghost use Rattle.cargo_workspaces.specs.Views.{package_text};
 ghost use Rattle.cargo_workspaces.specs.WorkspaceView.{workspace_text};
 ghost use Rattle.cargo_plans.specs.WordsView.{words_text};
@@ -78,6 +78,25 @@ fn is_selected(selected: &[usize], member: usize) -> bool
     selected.contains(&member)
 }
 
+/// Appends the plan of member `member` alone, if `flag`.
+fn push_if<'w, P: Platform>(
+    alloc: Global,
+    plans: &mut Vec<MemberPlan<'w>>,
+    workspace: &'w Workspace<'_>,
+    words: &PlanWords<'w, '_, P>,
+    member: usize,
+    flag: bool,
+) -> Result<(), AllocError>
+    requires { member < length (workspace_text workspace.now).packages }
+    ensures members { OnOk result (map (λ p. p.member) (map member_plan_text plans.new.items) ≡ map (λ p. p.member) (map member_plan_text plans.old.items) ++ (if flag then member ∷ [] else [])) }
+    ensures plans { OnOk result (AllByRecursion (IsMemberPlan (workspace_text workspace.now) (words_text P.holds words.now)) (map member_plan_text plans.old.items) → AllByRecursion (IsMemberPlan (workspace_text workspace.now) (words_text P.holds words.now)) (map member_plan_text plans.new.items)) }
+{
+    if flag {
+        plans.push(plan_of_member(alloc, workspace, words, member)?)?;
+    }
+    Ok(())
+}
+
 /// Returns the plans of the members among the packages `selected`, each alone.
 fn plans_of<'w, P: Platform>(
     alloc: Global,
@@ -91,9 +110,8 @@ fn plans_of<'w, P: Platform>(
     workspace.facts();
     let mut plans = Vec::new(alloc);
     for member in workspace.members() {
-        if is_selected(selected, *member) {
-            plans.push(plan_of_member(alloc, workspace, words, *member)?)?;
-        }
+        let flag = is_selected(selected, *member);
+        push_if(alloc, &mut plans, workspace, words, *member, flag)?;
     }
     Ok(plans)
 }

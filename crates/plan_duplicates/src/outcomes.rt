@@ -6,11 +6,11 @@ ghost use Rattle.plan_messages.specs.Messages.{plan_message};
 ghost use Rattle.plan_duplicates.specs.MemberPlans.{IsOutcome};
 ghost use Rattle.plan_duplicates.specs.Views.{outcome_text};
 
-use cargo_plans::{PlanFault, PlanWords, Unit};
+use crate::copies::copies_of;
+use cargo_plans::{PlanFault, PlanWords, Unit, plan};
 use cargo_workspaces::Workspace;
 use feats_files::Fault;
 use plan_messages::plan_refused;
-use plan_parts::units_of;
 use plan_rows::Platform;
 use std::alloc::{AllocError, Global};
 
@@ -38,6 +38,8 @@ fn message_of<'p>(
 }
 
 /// Returns what `words` build in `workspace`, or the message why they have no plan. An allocation's failure is the only error.
+///
+/// The units are copies. The plan is dropped, because it also has the visits of its steps.
 pub(crate) fn outcome_of<'w, P: Platform>(
     alloc: Global,
     workspace: &'w Workspace<'_>,
@@ -45,8 +47,8 @@ pub(crate) fn outcome_of<'w, P: Platform>(
 ) -> Result<Outcome<'w>, AllocError>
     ensures { IfOk result (λ outcome. IsOutcome (workspace_text workspace.now) (words_text P.holds words.now) (outcome_text outcome)) }
 {
-    match units_of(alloc, workspace, words) {
-        Ok(units) => Ok(Outcome::Built(units)),
+    match plan(alloc, workspace, words) {
+        Ok(plan) => Ok(Outcome::Built(copies_of(alloc, plan.units())?)),
         Err(PlanFault::Memory) => Err(AllocError),
         Err(fault) => Ok(Outcome::NotPlanned(message_of(alloc, workspace, fault)?)),
     }

@@ -52,7 +52,7 @@ package_at k (x ∷ es) zero e h =
 package_at k (x ∷ es) (suc m) e h =
     ap (λ ps. slice_get ps (suc m)) (packages_step k x es) ∙ package_at (k + 1) es m e h ∙ ap (λ n. Some (package_of n e)) (number_on k m)
 
-pub packages_long : (k : ℕ) (es : List Entry) → length (packages_of (rows_from k es)) ≡ length es
+packages_long : (k : ℕ) (es : List Entry) → length (packages_of (rows_from k es)) ≡ length es
 packages_long k [] = refl
 packages_long k (e ∷ es) = ap length (packages_step k e es) ∙ ap suc (packages_long (k + 1) es)
 

@@ -58,7 +58,7 @@ two_true : (a b : Bool) → a ≡ true → b ≡ true → (a && b) ≡ true
 two_true a b x y = rw (x, y) refl
 
 -- the node that is found is at the place
-pub got : (t : Tables) (n p : ℕ) (l : LabelName) → node_at t p l ≡ Some n → NodeAt t n p l
+got : (t : Tables) (n p : ℕ) (l : LabelName) → node_at t p l ≡ Some n → NodeAt t n p l
 got t n p l h =
     let q = position_there (is_place (p, l)) n (node_places t) h in
     let parts = both_true (p == q.element.0) (label_eq l q.element.1) q.passes in
@@ -72,7 +72,7 @@ one_place : (t : Tables) (n p q : ℕ) (a b : LabelName) → NodeAt t n p a → 
 one_place t n p q a b x y = let e : ◌≡◌ {A = Option (ℕ × LabelName)} (Some (p, a)) (Some (q, b)) = sym x ∙ y in cc
 
 -- a place has one node, which is found
-pub found : (t : Tables) → AreTables t → (n p : ℕ) (l : LabelName) → NodeAt t n p l → node_at t p l ≡ Some n
+found : (t : Tables) → AreTables t → (n p : ℕ) (l : LabelName) → NodeAt t n p l → node_at t p l ≡ Some n
 found t tables n p l x = sym (node_found t p l (Some n) (λ m. (
   (λ e. let same : n ≡ m = cc in subst (λ z. NodeAt t z p l) same x),
   (λ y. ap Some (one m y)),
@@ -182,7 +182,7 @@ module _ (t s : Tables) (ts : AreTables t) (ss : AreTables s) (R : ℕ → Bool)
       features_y : List LabelName
       features_y = map (λ f. named f.name) y.features ++ map (λ d. optional d) y.optional_names
 
-  pub node_on : (n p : ℕ) (l : LabelName) → IsTrue (R p) → NodeAt t n p l → (m : ℕ) × NodeAt s m (number p) l
+  node_on : (n p : ℕ) (l : LabelName) → IsTrue (R p) → NodeAt t n p l → (m : ℕ) × NodeAt s m (number p) l
   node_on n p l r x =
       let b = node_back t n p l x in
       let y = more.packages p b.row r b.is_row in
@@ -450,12 +450,12 @@ module _ (t s : Tables) (ts : AreTables t) (ss : AreTables s) (R : ℕ → Bool)
     grown n m p l x y r = sym (member_is m (number p) l y) ∙ (both_true (R p) (member (number p) l) (sym (at_node n p l x) ∙ r a is_a A A_closed)).1
 
   -- the larger tables reach what the smaller ones reach
-  pub reached_more : (starts others : List (ℕ × LabelName)) → AreAmongBy number starts others → ((x : ℕ × LabelName) → Contains starts x → IsTrue (R x.0)) → (n m p : ℕ) (l : LabelName) → NodeAt t n p l → NodeAt s m (number p) l → IsReached t starts n → IsReached s others m
+  reached_more : (starts others : List (ℕ × LabelName)) → AreAmongBy number starts others → ((x : ℕ × LabelName) → Contains starts x → IsTrue (R x.0)) → (n m p : ℕ) (l : LabelName) → NodeAt t n p l → NodeAt s m (number p) l → IsReached t starts n → IsReached s others m
   reached_more starts others among begins n m p l x y r b is_b B closed =
       stable (B m) (λ none. built_exists t ts (λ a. none (grown a.0 b a.1 is_b starts others among begins B closed n m p l x y r)))
 
   -- a node that is reached is in the set
-  pub in_region : (starts : List (ℕ × LabelName)) → ((x : ℕ × LabelName) → Contains starts x → IsTrue (R x.0)) → (n p : ℕ) (l : LabelName) → NodeAt t n p l → IsReached t starts n → IsTrue (R p)
+  in_region : (starts : List (ℕ × LabelName)) → ((x : ℕ × LabelName) → Contains starts x → IsTrue (R x.0)) → (n p : ℕ) (l : LabelName) → NodeAt t n p l → IsReached t starts n → IsTrue (R p)
   in_region starts begins n p l x r =
       sym (at_found t R n p l (found t ts n p l x)) ∙ stable (in_set t R n) (λ none. built_exists t ts (λ a. none (reached_in t R (λ k link is q. (more.links k link q is).1) a.0 a.1 starts begins n r)))
 

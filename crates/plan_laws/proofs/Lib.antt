@@ -7,7 +7,6 @@ mod EntryGrowth
 mod EntryLinks
 mod Flags
 mod Grown
-mod KeptEach
 mod Members
 mod Monotone
 mod MoreBuilt
@@ -20,12 +19,6 @@ mod NoChoice
 mod Numbered
 mod OneOutcome
 mod OnePlan
-mod PartChecks
-mod PartEntries
-mod PartPlans
-mod PartStarts
-mod PartUnits
-mod PartVisits
 mod Resolvers
 mod Wider
 mod WidestWords

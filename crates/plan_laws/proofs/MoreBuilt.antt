@@ -78,7 +78,7 @@ module _ (w : WorkspaceText) (is : IsWorkspace w) (s : SettingsText) (dev : ℕ 
         (λ i. targets_named (suc a) ts i.0 e (subst (λ b. slice_get (steps.built_from w.packages s turned_on dev b ts) i.0 ≡ Some e) (one_further a) i.2))
         (get_cases (steps.built_place w.packages s (turned_on Target) dev (a * count) holds) (steps.built_from w.packages s turned_on dev (a * count + count) ts) m e h)
 
-    pub built_named : (m : ℕ) (e : Entry) → slice_get (steps.built_entries w s turned_on dev) m ≡ Some e → HasOneName e
+    built_named : (m : ℕ) (e : Entry) → slice_get (steps.built_entries w s turned_on dev) m ≡ Some e → HasOneName e
     built_named m e h = ⊎_elim
         (λ i. place_named (turned_on (steps.side_of s.split true)) 0 s.host m e (subst (λ b. slice_get (steps.built_place w.packages s (turned_on (steps.side_of s.split true)) dev b s.host) m ≡ Some e) none i))
         (λ i. targets_named 1 s.targets i.0 e (subst (λ b. slice_get (steps.built_from w.packages s turned_on dev b s.targets) i.0 ≡ Some e) one i.2))

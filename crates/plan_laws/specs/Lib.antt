@@ -2,5 +2,4 @@ pub mod EveryChoice
 pub mod Growth
 pub mod Laws
 pub mod NoChoice
-pub mod PartLaws
 pub mod Widening

@@ -1,7 +1,6 @@
 //! Laws of visits and of plans. Each function does nothing: its contract is the law.
 ghost use Rattle.plan_laws.specs.Growth.{GrownTablesReachMore, MoreTurnsNothingOff, MoreWordsTurnNothingOff};
 ghost use Rattle.plan_laws.specs.Laws.{MoreStartsReachMore, MoreStartsVisitMore, OnePlan, OnePlanOfWords, PlanExcludesRefusal, PlanOfWordsExcludesRefusal, PlansFollowDeclarations, ResolversAgree};
-ghost use Rattle.plan_laws.specs.PartLaws.{PlansOfParts};
 ghost use Rattle.plan_laws.specs.Widening.{LargerTurnsNothingOff, NoSelectionTurnsOn, WidestTurnsAllOn};
 
 use feature_core::laws::least_monotone;
@@ -67,10 +66,4 @@ pub fn plan_excludes_refusal()
 /// the resolver.
 pub fn resolvers_agree()
     ensures { ResolversAgree }
-{}
-
-/// States that a plan of a part of a workspace is one of the whole workspace: it has the same units, by their packages' numbers there. So
-/// a plan depends only on the packages that it starts, and those to which declarations lead from them.
-pub fn plans_of_parts()
-    ensures { PlansOfParts }
 {}

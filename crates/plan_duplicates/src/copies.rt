@@ -1,9 +1,8 @@
-//! Copies of the units of a plan.
+//! Copies of units.
 ghost use Rattle.std.specs.Prelude.{◌≡◌, ◌++◌, IfOk, map};
-ghost use Rattle.cargo_plans.specs.plan_steps.PlanViews.{plan_text};
 ghost use Rattle.cargo_plans.specs.plan_units.UnitViews.{unit_text};
 
-use cargo_plans::{Plan, Unit};
+use cargo_plans::Unit;
 use std::alloc::{AllocError, Global};
 
 /// Returns a copy of `unit`.
@@ -18,7 +17,7 @@ fn copy_of<'w>(alloc: Global, unit: &Unit<'w>) -> Result<Unit<'w>, AllocError>
 }
 
 /// Returns copies of `units`.
-fn copies_of<'w>(alloc: Global, units: &[Unit<'w>]) -> Result<Vec<Unit<'w>>, AllocError>
+pub(crate) fn copies_of<'w>(alloc: Global, units: &[Unit<'w>]) -> Result<Vec<Unit<'w>>, AllocError>
     ensures { IfOk result (λ copies. map unit_text copies.items ≡ map unit_text units.now) }
 {
     let mut copies = Vec::with_capacity(alloc, units.len())?;
@@ -26,13 +25,4 @@ fn copies_of<'w>(alloc: Global, units: &[Unit<'w>]) -> Result<Vec<Unit<'w>>, All
         copies.push(copy_of(alloc, unit)?)?;
     }
     Ok(copies)
-}
-
-/// Returns copies of what `plan` builds. The plan is dropped, because it also has the visit of a whole step.
-pub(crate) fn built_by<'w>(alloc: Global, plan: Plan<'w>) -> Result<Vec<Unit<'w>>, AllocError>
-    ensures { IfOk result (λ units. map unit_text units.items ≡ (plan_text plan.entry).units) }
-{
-    let units = copies_of(alloc, plan.units());
-    drop(plan);
-    units
 }

@@ -1,2 +1,0 @@
-mod Chosen
-mod Lists

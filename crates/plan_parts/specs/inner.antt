@@ -1,5 +1,0 @@
--- Definitions for private functions.
-pub mod Names
-pub mod Numbers
-pub mod Plans
-pub mod Starts

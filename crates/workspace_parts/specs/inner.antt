@@ -1,3 +1,0 @@
--- Definitions that only contracts of private functions use.
-pub mod Flags
-pub mod Ranks
