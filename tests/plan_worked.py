@@ -161,6 +161,15 @@ WORKED = [
         Row('-p c -p b --target linux', 'target b; target leaf x'),
         Row('-p c -p b --target windows', 'target b; target c; target leaf x'),
     ]),
+    Worked('required-package', 'a required feature of a dependency is of one package, to which a declaration for this build leads', [
+        Package('a', 'a', declared=[Declared('vendor/unix-x', spec='cfg(unix)', rename='x'), Declared('vendor/windows-x', spec=ON_WINDOWS, rename='x')],
+                library=None, targets=[Target('bin', 'one', ('x/g',))]),
+        member('b', Declared('vendor/windows-x', ('g',))),
+        Package('vendor/unix-x', 'unix-x', features={'g': []}), Package('vendor/windows-x', 'windows-x', features={'g': []}),
+    ], [
+        Row('-p a -p b --target linux', 'target b; target windows-x g'),
+        Row('-p a -p b --target windows', 'target a; target b; target windows-x g'),
+    ]),
     Worked('required', 'a target is chosen if its required features are on', [
         Package('a', 'a', features={'x': [], 'cli': ['dep:leaf']}, declared=[leaf(is_optional=True)], library=None,
                 targets=[Target('bin', 'one', ('cli', 'leaf/x'))]),

@@ -1,5 +1,5 @@
 -- A workspace and a selection have one plan: all that a step takes from a visit is which labels it reaches.
-use Rattle.std.proofs.Common.{◌≡◌, ℕ, zero, suc, ◌+◌, List, [], ◌∷◌, ◌++◌, Bool, true, false, Result, Ok, length, map, refl, ap, ap₂, sym, ◌∙◌, subst, if◌then◌else◌, codes}
+use Rattle.std.proofs.Common.{◌≡◌, ℕ, zero, suc, ◌+◌, List, [], ◌∷◌, ◌++◌, Bool, true, false, Option, Result, Ok, length, map, refl, ap, ap₂, sym, ◌∙◌, subst, if◌then◌else◌, codes}
 use Rattle.std.specs.Prelude.{◌&&◌, ◌||◌, filter, nat_lt, not}
 use Rattle.std.specs.List.{list_all, list_any}
 use Rattle.std.specs.Option.{is_some, option_map_or}
@@ -8,7 +8,7 @@ use Rattle.guppy_packages.specs.Items.{slash_item, item_of}
 use Rattle.guppy_packages.specs.Rows.{RowText}
 use Rattle.feature_labels.specs.Names.{LabelName}
 use Rattle.feature_labels.specs.Names.LabelName.{base, named, optional}
-use Rattle.cargo_workspaces.specs.Workspaces.{DeclarationText, PackageText, TargetText, Text, WorkspaceText, has_kind}
+use Rattle.cargo_workspaces.specs.Workspaces.{DeclarationText, PackageText, TargetText, Text, WorkspaceText, both_lead_to, has_kind}
 use Rattle.plan_rows.specs.Commands.{is_started}
 use Rattle.plan_rows.specs.Steps.{SettingsText, built_entries, is_development, is_host, lands, on_entries, resolved_entries, side_of}
 use Rattle.plan_rows.specs.Tables.{each_from, flag_at, rows_of}
@@ -64,10 +64,12 @@ module _ (s : SettingsText) (packages : List PackageText) (selected : List ℕ) 
   abbrev called : ℕ → Text → DeclarationText → Bool
   called p name d = bytes_eq d.name name && followed p d
 
+  abbrev counting : ℕ → Text → List DeclarationText → Option ℕ → Bool
+  counting p name ds to = list_any (λ d. called p name d && counts s d && both_lead_to to d.leads_to) ds
+
   abbrev met : ℕ → PackageText → Text → Bool
   met p x need = elim (item_of need) [
-    | slash_item name feature weak ↦
-        list_any (λ d. called p name d && counts s d) x.declarations && list_any (λ d. called p name d && leads feature d) x.declarations
+    | slash_item name feature weak ↦ list_any (λ d. called p name d && leads feature d && counting p name x.declarations d.leads_to) x.declarations
     | _ ↦ on_by on Target p (named need)
   ]
 
