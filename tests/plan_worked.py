@@ -1,7 +1,7 @@
 """The worked rows of docs/PLANS.md: small workspaces, each with selections and the plan of each. Cargo must agree (record_plans).
 
-All packages have a library. `leaf` has the features x, y and z. A plan is written as `place package features; ...` without versions:
-`host`, or `target`, or with two targets `windows` and `mac`.
+All packages have a library. `leaf` has the features x, y and z. A plan is written as `place package features; ...`: `host`, or `target`,
+or with two targets `windows` and `mac`. Only a package with the name `old` has its version after the name.
 """
 from typing import NamedTuple
 
@@ -41,6 +41,7 @@ def weak(name, **how):
     return Package(name, name.rsplit('/')[-1], features={'w': ['leaf?/x'], 'on': ['dep:leaf']}, declared=[leaf(is_optional=True)], **how)
 
 
+MACRO_PROGRAM = Target('bin', 'one', lines=('proc-macro = true',))
 ON_WINDOWS, ON_MAC = 'cfg(windows)', 'cfg(target_os = "macos")'
 
 WORKED = [
@@ -170,6 +171,18 @@ WORKED = [
         Row('-p a -p b --target linux', 'target b; target windows-x g'),
         Row('-p a -p b --target windows', 'target a; target b; target windows-x g'),
     ]),
+    Worked('required-package-dev', 'the same, where a declaration for development leads to another package', [
+        Package('a', 'a', declared=[Declared('vendor/normal-x', rename='x'), Declared('vendor/dev-x', table=DEV, rename='x')],
+                library=None, targets=[Target('bin', 'one', ('x/g',))]),
+        member('b', Declared('vendor/dev-x', ('g',))), member('c', Declared('vendor/normal-x', ('g',))),
+        Package('vendor/normal-x', 'normal-x', features={'g': []}), Package('vendor/dev-x', 'dev-x', features={'g': []}),
+    ], [
+        Row(words, plan, resolver) for resolver in '12' for words, plan in (
+            ('-p a -p b', 'target b; target dev-x g'),
+            ('-p a -p b --tests', 'target a; target b; target dev-x g; target normal-x'),
+            ('-p a -p c', 'target a; target c; target normal-x g'),
+        )
+    ]),
     Worked('required', 'a target is chosen if its required features are on', [
         Package('a', 'a', features={'x': [], 'cli': ['dep:leaf']}, declared=[leaf(is_optional=True)], library=None,
                 targets=[Target('bin', 'one', ('cli', 'leaf/x'))]),
@@ -200,6 +213,31 @@ WORKED = [
     ], [
         Row('--target linux', 'target a; target b'),
         Row('--target linux -F b/w', 'target a; target b w', cargo='refused', differs='version resolving wants a package that the registry doesn\'t have'),
+    ]),
+    Worked('two-names', 'two names of a package for one package can\'t both be on', [
+        member('a', Declared('ext/b')), Package('ext/b', 'b', declared=[leaf(rename='one'), leaf('x', rename='two', is_optional=True)]), LEAF,
+    ], [
+        Row('', 'target a; target b; target leaf'),
+        Row('-F b/two', 'refused'),
+    ]),
+    Worked('macro-program', 'a program with `proc-macro = true` is planned as any other', [
+        Package('a', 'a', declared=[leaf()], targets=[MACRO_PROGRAM]), LEAF,
+    ], [
+        Row('', 'target a; target leaf', cargo='refused', differs='a program of a member can\'t have `proc-macro = true`'),
+    ]),
+    Worked('macro-program-other', 'the same for a package that isn\'t a member', [
+        member('a', Declared('ext/b')), Package('ext/b', 'b', declared=[leaf()], targets=[MACRO_PROGRAM]), LEAF,
+    ], [
+        Row('', 'target a; target b; target leaf'),
+        Row('-p b', 'target b; target leaf', cargo='refused', differs='cargo builds the program for the host, and has features of the package for the target alone'),
+    ]),
+    Worked('namesake', 'with resolver 1 a word `m/f` is an item of the member `m` if that is selected, not if another package `m` is', [
+        Package('.', 'top', declared=[Declared('vendor/old', ('y',))]), member('old', version='0.2.0', features=XYZ), Package('vendor/old', 'old', features=XYZ),
+    ], [
+        Row('-p top -F old/x', 'target top; target old 0.1.0 x y', '1'),
+        Row('-p top -p old@0.2.0 -F old/x', 'target top; target old 0.2.0 x; target old 0.1.0 y', '1'),
+        Row('-p top -p old@0.1.0 -F old/x', 'target top; target old 0.1.0 x y', '1', cargo='refused',
+            differs='cargo panics, because the selected package has the name of a member that isn\'t selected'),
     ]),
     Worked('twins', 'packages with the same name and version are shown with their sources', [
         member('a', leaf('x')), member('b', Declared('vendor/leaf', ('y',), requirement='0.1.0')), LEAF, Package('vendor/leaf', 'leaf', features=XYZ),
@@ -268,9 +306,9 @@ def lines_of_difference(row, packages):
     """The lines of a row's plan, where cargo's is another."""
     if row.cargo is None:
         return []
-    versions = {it.name: it.version for it in packages}
+    versions = {it.name: [it.version] for it in packages} | {'old': []}
     found = [it.split(' ') for it in row.plan.split('; ')] if row.plan != 'refused' else []
-    return [f'differs {row.differs}', *(' '.join(['=', place, name, versions[name], *features]) for place, name, *features in found)]
+    return [f'differs {row.differs}', *(' '.join(['=', place, name, *versions[name], *features]) for place, name, *features in found)]
 
 
 assert HOST == LINUX

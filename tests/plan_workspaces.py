@@ -43,6 +43,8 @@ class Target(NamedTuple):
     kind: str
     name: str
     required: tuple = ()
+    # further lines of its table
+    lines: tuple = ()
 
 
 @dataclass
@@ -116,6 +118,7 @@ def manifest_lines(package, packages, resolver):
         yield f'name = "{it.name}"'
         if it.required:
             yield f'required-features = {json.dumps(list(it.required))}'
+        yield from it.lines
     yield from declaration_lines(package, packages)
     if package.features:
         yield '[features]'
