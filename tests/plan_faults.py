@@ -6,11 +6,19 @@ import json
 import os
 from typing import NamedTuple
 
-from plan_files import HOST, TARGETS, TOP, cases_of, table_of
+from plan_files import HOST, TARGETS, TOP, cases_of, command_of, table_of
 from plan_workspaces import WINDOWS
 
 METADATA = '`cargo metadata --format-version 1 --all-features`'
-CFG = f'`rustc --print cfg --target {HOST}`'
+
+
+def cfg_of(triple):
+    return f'`rustc --print cfg --target {triple} --crate-type proc-macro` without the line `proc_macro`'
+
+
+CFG = cfg_of(HOST)
+# What a feature word ends at: white space and commas, in runs and at both ends.
+BETWEEN = (' ', '\t', '\n', '\r', '\x0c', '\r\n', ' \t,\n, ')
 
 
 class Run(NamedTuple):
@@ -67,6 +75,8 @@ def word_faults():
     yield 'a resolver', [*usual, '--resolver', '4'], "`4` isn't a version of the resolver: write 1, 2 or 3"
     yield 'two resolvers', [*usual, '--resolver', '1', '--manifest', '{none}'], '--resolver and --manifest are both given: leave one out'
     yield 'a format', [*usual, '--format', 'xml'], "`xml` isn't a format: write text or json"
+    for word in ('json', 'text', 'xml'):
+        yield f'the format {word} of dot', ['dot', *usual[1:], '--format', word], '`dot` prints a graph for Graphviz: leave --format out'
 
 
 def file_faults():
@@ -84,7 +94,7 @@ def file_faults():
     yield 'an empty name', words(''), 'cannot open ``: check the path and its permissions'
     yield 'a host that is not UTF-8', words(host='{latin}'), f"the cfg text of {HOST} isn't UTF-8: make it by {CFG}"
     yield 'a host with a line that is no fact', words(host='{no-fact}'), f'line 3 of the cfg text of {HOST} is no fact: make it by {CFG}'
-    target = f'the cfg text of {WINDOWS} is no fact: make it by `rustc --print cfg --target {WINDOWS}`'
+    target = f'the cfg text of {WINDOWS} is no fact: make it by {cfg_of(WINDOWS)}'
     yield 'such a target', words('{document}', '{host}', '--target', f'{HOST}={{host}}', '--target', f'{WINDOWS}={{no-fact}}'), f'line 3 of {target}'
     yield 'a manifest that is not UTF-8', words('{document}', '{no-fact}', '--manifest', '{latin}'), "the manifest isn't UTF-8: pass the root Cargo.toml"
     yield 'the manifest, before the host', words('{document}', '{latin}', '--manifest', '{no-toml}'), "the manifest isn't a TOML document: pass the root Cargo.toml"
@@ -184,6 +194,11 @@ def runs(room):
         yield Run(name, usual, said, value if isinstance(value, bytes) else json.dumps(value).encode())
     for name, case, words, said in plan_faults(cases):
         yield Run(name, [*usual, '--resolver', case.resolver, *words], said, json.dumps(case.general).encode())
+    for case in [case for case in cases_of(TOP / 'tests/plans/worked.plans') if case.words[-1:] in (['leaf/y,b/x'], ['cli,leaf/x'])]:
+        for between in BETWEEN:
+            features = between + case.words[-1].replace(',', between) + between
+            words = [*command_of(case)[:-1], features]
+            yield Run(f'the features {features!r}', words, '', json.dumps(case.general).encode(), table_of(case.plan), 0)
     for number, (manifest, wanted) in enumerate([*MANIFESTS.items(), *WITHOUT.items()]):
         path = os.path.join(room, f'{number}.toml')
         with open(path, 'w', encoding='utf-8') as it:

@@ -36,10 +36,10 @@ IsVersionRefusal (version_given version) bytes message = ⊥
 IsVersionRefusal (manifest_at path) bytes message = IsManifestRefusal bytes message
 
 abbrev pub line_message : Text → ℕ → Text
-line_message triple line = joined (codes "line " ∷ decimal line ∷ codes " of the cfg text of " ∷ triple ∷ codes " is no fact: make it by `rustc --print cfg --target " ∷ triple ∷ codes "`" ∷ [])
+line_message triple line = joined (codes "line " ∷ decimal line ∷ codes " of the cfg text of " ∷ triple ∷ codes " is no fact: make it by `rustc --print cfg --target " ∷ triple ∷ codes " --crate-type proc-macro` without the line `proc_macro`" ∷ [])
 
 abbrev pub text_message : Text → Text
-text_message triple = joined (codes "the cfg text of " ∷ triple ∷ codes " isn't UTF-8: make it by `rustc --print cfg --target " ∷ triple ∷ codes "`" ∷ [])
+text_message triple = joined (codes "the cfg text of " ∷ triple ∷ codes " isn't UTF-8: make it by `rustc --print cfg --target " ∷ triple ∷ codes " --crate-type proc-macro` without the line `proc_macro`" ∷ [])
 
 -- The bytes are the cfg text of the target with this triple.
 abbrev pub IsTargetOf : Text → Text → Target → Type 0

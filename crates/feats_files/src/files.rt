@@ -103,7 +103,7 @@ fn line_refused(alloc: Global, triple: &str, line: usize) -> Fault
                 triple,
                 " is no fact: make it by `rustc --print cfg --target ",
                 triple,
-                "`",
+                " --crate-type proc-macro` without the line `proc_macro`",
             ],
         ),
         Err(_) => Fault::Memory,
@@ -123,7 +123,7 @@ pub fn target(alloc: Global, triple: &str, bytes: &[u8]) -> Result<TargetCfg, Fa
                 triple,
                 " isn't UTF-8: make it by `rustc --print cfg --target ",
                 triple,
-                "`",
+                " --crate-type proc-macro` without the line `proc_macro`",
             ],
         ));
     };

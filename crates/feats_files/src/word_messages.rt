@@ -37,6 +37,10 @@ pub fn words_refused(alloc: Global, fault: WordsFault<'_>) -> Fault
             alloc,
             &["`", word, "` isn't a format: write text or json"],
         ),
+        WordsFault::GraphFormat => refused(
+            alloc,
+            &["`dot` prints a graph for Graphviz: leave --format out"],
+        ),
         WordsFault::Depth(word) => refused(
             alloc,
             &["`", word, "` isn't a depth: write a decimal number"],

@@ -1,4 +1,5 @@
 pub mod Decimals
 pub mod Each
 pub mod Yields
+pub mod Words
 pub mod Building

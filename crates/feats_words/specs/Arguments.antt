@@ -10,8 +10,8 @@ use Rattle.feats_words.specs.Depths.{depth}
 use Rattle.feats_words.specs.Edges.{edges}
 use Rattle.feats_words.specs.FeatureWords.{words_in}
 use Rattle.feats_words.specs.PlatformWords.{PlatformText, platform_word}
-use Rattle.feats_words.specs.Refusals.{Refusal, bad_platform, bad_resolver, two_resolvers, bad_format, each, ◌>>=◌}
-use Rattle.feats_words.specs.Requests.{QuestionText, RequestText}
+use Rattle.feats_words.specs.Refusals.{Refusal, bad_platform, bad_resolver, two_resolvers, bad_format, graph_format, each, ◌>>=◌}
+use Rattle.feats_words.specs.Requests.{QuestionText, RequestText, dot}
 use Rattle.feats_words.specs.declared.command_arguments.Format.{Format}
 use Rattle.feats_words.specs.declared.command_arguments.Format.TheVariants.{Text as text_format, Json as json_format}
 use Rattle.feats_words.specs.declared.edges.Edges.{Edges}
@@ -66,12 +66,17 @@ format_named word =
 abbrev pub format : Option Text → Result Format Refusal
 format word = option_map_or format_named word (Ok text_format)
 
+-- The format of an answer to a question. `dot` takes none.
+abbrev pub format_for : QuestionText → Option Text → Result Format Refusal
+format_for dot (Some word) = Err graph_format
+format_for _ word = format word
+
 abbrev pub arguments : RequestText → Result ArgumentsText Refusal
 arguments r =
     platform r.host >>= λ host.
     platforms r.targets >>= λ targets.
     resolver_source r.resolver r.manifest >>= λ resolver.
-    format r.format >>= λ form.
+    format_for r.question r.format >>= λ form.
     depth r.depth >>= λ limit.
     edges r.edges >>= λ nodes.
     Ok (record {

@@ -9,6 +9,7 @@ pub data Refusal : Type 0 where
   bad_resolver : Text → Refusal
   two_resolvers : Refusal
   bad_format : Text → Refusal
+  graph_format : Refusal
   bad_depth : Text → Refusal
   bad_edges : Text → Refusal
   out_of_memory : Refusal
@@ -18,6 +19,7 @@ refusal_of (fault.Platform word) = bad_platform word.now
 refusal_of (fault.Resolver word) = bad_resolver word.now
 refusal_of fault.TwoResolvers = two_resolvers
 refusal_of (fault.Format word) = bad_format word.now
+refusal_of fault.GraphFormat = graph_format
 refusal_of (fault.Depth word) = bad_depth word.now
 refusal_of (fault.Edges word) = bad_edges word.now
 refusal_of fault.Memory = out_of_memory

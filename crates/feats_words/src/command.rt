@@ -1,5 +1,5 @@
 //! The commands of the program and their options, as `clap` knows them.
-ghost use Rattle.std.specs.Prelude.{◌≡◌, ◌++◌, ◌∷◌, [], false, IfOk};
+ghost use Rattle.std.specs.Prelude.{◌≡◌, ◌++◌, ◌∷◌, [], codes, false, IfOk};
 ghost use Rattle.clap.specs.Words.{App, Rule, Shape, app_of, new_app, rule_of, with_subcommand};
 ghost use Rattle.feats_words.specs.Commands as spec;
 ghost use Rattle.feats_words.specs.inner.Building.{IsMade, alone, with_rules};
@@ -38,7 +38,7 @@ fn with_platforms<'a>(alloc: Global, command: Made<'a>) -> Made<'a>
             alloc,
             "host",
             "TRIPLE=CFGFILE",
-            "The host, and a file with the output of `rustc --print cfg`",
+            "The host, and a file with the output of `rustc --print cfg --crate-type proc-macro`, without the line `proc_macro`",
         ),
     );
     let command = with_arg(
@@ -47,7 +47,7 @@ fn with_platforms<'a>(alloc: Global, command: Made<'a>) -> Made<'a>
             alloc,
             "target",
             "TRIPLE=CFGFILE",
-            "A target platform, and a file with the output of `rustc --print cfg --target TRIPLE`; without it the host",
+            "A target platform, and a file with the output of `rustc --print cfg --target TRIPLE --crate-type proc-macro`, without the line `proc_macro`; without it the host",
         ),
     );
     let command = with_arg(
@@ -81,7 +81,7 @@ fn with_features<'a>(alloc: Global, command: Made<'a>) -> Made<'a>
             "features",
             'F',
             "FEATURES",
-            "Features to turn on, separated by spaces or commas",
+            "Features to turn on, separated by white space or commas",
         ),
     );
     let command = with_arg(
@@ -102,8 +102,22 @@ fn with_features<'a>(alloc: Global, command: Made<'a>) -> Made<'a>
     )
 }
 
+/// Returns the option of the form of the answer; the help of `dot`, which takes none, hides it.
+fn format<'a>(alloc: Global, is_hidden: bool) -> Arg<'a>
+    ensures rule { rule_of result ≡ spec.option_rule (codes "format") }
+    ensures local { result.global ≡ false }
+{
+    option(
+        alloc,
+        "format",
+        "FORMAT",
+        "`text` (the default) or `json`: one object a line",
+    )
+    .hide(is_hidden)
+}
+
 /// Adds the options that select packages and features, and the form of the answer.
-fn with_selection<'a>(alloc: Global, command: Made<'a>) -> Made<'a>
+fn with_selection<'a>(alloc: Global, command: Made<'a>, hides_format: bool) -> Made<'a>
     ensures { (app : App) → IfOk command.entry (λ c. IsMade c app) → IfOk result (λ r. IsMade r (with_rules app spec.selection_rules)) }
 {
     let command = with_arg(
@@ -122,26 +136,18 @@ fn with_selection<'a>(alloc: Global, command: Made<'a>) -> Made<'a>
     );
     let command = with_features(alloc, command);
     let command = with_arg(command, flag(alloc, "tests", "Build the tests too"));
-    with_arg(
-        command,
-        option(
-            alloc,
-            "format",
-            "FORMAT",
-            "`text` (the default) or `json`: one object a line",
-        ),
-    )
+    with_arg(command, format(alloc, hides_format))
 }
 
 /// Adds the options of commands without a document.
-fn with_common<'a>(alloc: Global, command: Made<'a>) -> Made<'a>
+fn with_common<'a>(alloc: Global, command: Made<'a>, hides_format: bool) -> Made<'a>
     ensures { (app : App) → IfOk command.entry (λ c. IsMade c app) → IfOk result (λ r. IsMade r (with_rules app (spec.platform_rules ++ spec.selection_rules))) }
 {
-    with_selection(alloc, with_platforms(alloc, command))
+    with_selection(alloc, with_platforms(alloc, command), hides_format)
 }
 
 /// Adds the options of a command about a document.
-fn with_options<'a>(alloc: Global, command: Made<'a>) -> Made<'a>
+fn with_options<'a>(alloc: Global, command: Made<'a>, hides_format: bool) -> Made<'a>
     ensures { (app : App) → IfOk command.entry (λ c. IsMade c app) → IfOk result (λ r. IsMade r (with_rules app (spec.document_rule ∷ (spec.platform_rules ++ spec.selection_rules)))) }
 {
     let command = with_arg(
@@ -153,7 +159,7 @@ fn with_options<'a>(alloc: Global, command: Made<'a>) -> Made<'a>
             "The output of `cargo metadata --format-version 1 --all-features`; `-` is standard input",
         ),
     );
-    with_common(alloc, command)
+    with_common(alloc, command, hides_format)
 }
 
 /// Returns a command without options.
@@ -167,7 +173,7 @@ fn begun<'a>(alloc: Global, name: &'a str, about: &'a str, example: &'a str) -> 
 fn wordless<'a>(alloc: Global, name: &'a str, about: &'a str, example: &'a str) -> Made<'a>
     ensures { IfOk result (λ r. IsMade r (alone (spec.command_shape name.entry.now []))) }
 {
-    with_options(alloc, begun(alloc, name, about, example))
+    with_options(alloc, begun(alloc, name, about, example), false)
 }
 
 /// Returns a command with one word, or one option, of its own.
@@ -181,7 +187,11 @@ fn worded<'a>(
     requires { word.global ≡ false }
     ensures { IfOk result (λ r. IsMade r (alone (spec.command_shape name.entry.now (rule_of word.entry ∷ [])))) }
 {
-    with_options(alloc, with_arg(begun(alloc, name, about, example), word))
+    with_options(
+        alloc,
+        with_arg(begun(alloc, name, about, example), word),
+        false,
+    )
 }
 
 /// Returns the command `plan`.
@@ -215,7 +225,7 @@ fn why_command<'a>(alloc: Global) -> Made<'a>
             "Print every direct reason of each step, and not only one",
         ),
     );
-    with_options(alloc, command)
+    with_options(alloc, command, false)
 }
 
 /// Returns the command `why-not`.
@@ -316,20 +326,20 @@ fn tree_command<'a>(alloc: Global) -> Made<'a>
         command,
         option(alloc, "depth", "N", "Print nothing below this depth"),
     );
-    with_options(alloc, with_arg(command, edges(alloc)))
+    with_options(alloc, with_arg(command, edges(alloc)), false)
 }
 
 /// Returns the command `dot`.
 fn dot_command<'a>(alloc: Global) -> Made<'a>
     ensures { IfOk result (λ r. IsMade r (alone spec.dot_shape)) }
 {
-    worded(
+    let command = begun(
         alloc,
         "dot",
         "Prints what depends on what, as a graph for Graphviz",
         DOT_EXAMPLE,
-        edges(alloc),
-    )
+    );
+    with_options(alloc, with_arg(command, edges(alloc)), true)
 }
 
 /// Returns the command `check`.
@@ -354,7 +364,7 @@ fn check_command<'a>(alloc: Global) -> Made<'a>
             "Check each `deny` for every choice of members, features of members, tests and platforms",
         ),
     );
-    with_options(alloc, command)
+    with_options(alloc, command, false)
 }
 
 /// Returns the command `diff`.
@@ -385,7 +395,7 @@ fn diff_command<'a>(alloc: Global) -> Made<'a>
             "That after the change; `-` is standard input",
         ),
     );
-    with_common(alloc, command)
+    with_common(alloc, command, false)
 }
 
 /// Returns the command `slim`.

@@ -3,7 +3,7 @@ ghost use Rattle.std.specs.Prelude.{map, option_map};
 ghost use Rattle.feats_words.specs.Arguments as spec;
 ghost use Rattle.feats_words.specs.Refusals.{Gives};
 ghost use Rattle.feats_words.specs.Requests.{texts};
-ghost use Rattle.feats_words.specs.Views.{arguments_text, platform_text, request_text, source_text};
+ghost use Rattle.feats_words.specs.Views.{arguments_text, platform_text, question_text, request_text, source_text};
 
 use crate::depths::depth_of;
 use crate::edges::{Edges, edges_of};
@@ -133,6 +133,16 @@ fn format_of(word: Option<&str>) -> Result<Format, WordsFault<'_>>
     }
 }
 
+/// Returns the format that `word` names for the answer to `question`. `GraphFormat` if `dot` is given one.
+fn format_for<'a>(question: Question<'_>, word: Option<&'a str>) -> Result<Format, WordsFault<'a>>
+    ensures { Gives (λ f. f) result (spec.format_for (question_text question.entry) (option_map (λ t. t.now) word.entry)) }
+{
+    match (question, word) {
+        (Question::Dot, Some(_)) => Err(WordsFault::GraphFormat),
+        (_, word) => format_of(word),
+    }
+}
+
 /// Returns the arguments of a request. The error is the first word that can't be read: of the host, of the targets, of the resolver, of
 /// the format, of the depth, of the edges; or `Memory`.
 pub fn arguments<'a>(
@@ -144,7 +154,7 @@ pub fn arguments<'a>(
     let host = platform(request.host)?;
     let targets = platforms(alloc, &request.targets)?;
     let resolver = resolver_source(request.resolver, request.manifest)?;
-    let format = format_of(request.format)?;
+    let format = format_for(request.question, request.format)?;
     let depth = depth_of(request.depth)?;
     let edges = edges_of(request.edges)?;
     let features = feature_words(alloc, &request.features)?;

@@ -14,6 +14,8 @@ pub enum WordsFault<'a> {
     TwoResolvers,
     /// The word isn't a format.
     Format(&'a str),
+    /// A format is given, and `dot` prints a graph alone.
+    GraphFormat,
     /// The word isn't a decimal number.
     Depth(&'a str),
     /// The word is neither `packages` nor `features`.

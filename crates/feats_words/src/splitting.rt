@@ -26,17 +26,17 @@ fn push_between_commas<'a>(words: &mut Vec<&'a str>, text: &'a str) -> Result<()
     Ok(())
 }
 
-/// Appends the words of `text`, which spaces and commas separate.
+/// Appends the words of `text`, which ASCII white space and commas separate.
 fn push_words<'a>(words: &mut Vec<&'a str>, text: &'a str) -> Result<(), AllocError>
     ensures { OnOk result (texts words.new.items ≡ texts words.old.items ++ spec.words_in text.entry.now) }
 {
-    for part in text.split(' ') {
+    for part in text.split_ascii_whitespace() {
         push_between_commas(words, part)?;
     }
     Ok(())
 }
 
-/// Returns the words of `values`, the values of `--features`: spaces and commas separate them.
+/// Returns the words of `values`, the values of `--features`: ASCII white space and commas separate them.
 pub fn feature_words<'a>(alloc: Global, values: &[&'a str]) -> Result<Vec<&'a str>, AllocError>
     ensures { IfOk result (λ words. texts words.items ≡ flat_map spec.words_in (texts values.now)) }
 {

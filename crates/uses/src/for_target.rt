@@ -18,7 +18,7 @@ pub struct Given {
     /// The path of a row file.
     pub rows: String,
     pub triple: String,
-    /// The path of a cfg text: the output of `rustc --print cfg --target TRIPLE`.
+    /// The path of a cfg text: the output of `rustc --print cfg --target TRIPLE --crate-type proc-macro` without the line `proc_macro`.
     pub cfg: String,
 }
 

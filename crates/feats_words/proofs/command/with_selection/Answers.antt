@@ -10,4 +10,4 @@ returns c = λ app made.
     let before = lettered_rule (codes "package") 112 ∷ flag_rule (codes "workspace") ∷ [] in
     let features = joined c.with_features-command.result app before feature_rules (c.with_features-command.ensures _ workspace) in
     let tests = joined c.with_arg-command-3.result app (before ++ feature_rules) (flag_rule (codes "tests") ∷ []) (c.with_arg-command-3.ensures _ (flag_rule (codes "tests")) c.flag-2.ensures.rule features) in
-    joined c.with_arg.result app (before ++ feature_rules ++ flag_rule (codes "tests") ∷ []) (option_rule (codes "format") ∷ []) (c.with_arg.ensures _ (option_rule (codes "format")) c.option.ensures.rule tests)
+    joined c.with_arg.result app (before ++ feature_rules ++ flag_rule (codes "tests") ∷ []) (option_rule (codes "format") ∷ []) (c.with_arg.ensures _ (option_rule (codes "format")) c.format.ensures.rule tests)
