@@ -134,10 +134,7 @@ fn format_of(word: Option<&str>) -> Result<Format, WordsFault<'_>>
 }
 
 /// Returns the format that `word` names for the answer to `question`. `GraphFormat` if `dot` is given one.
-fn format_for<'a>(
-    question: Question<'_>,
-    word: Option<&'a str>,
-) -> Result<Format, WordsFault<'a>>
+fn format_for<'a>(question: Question<'_>, word: Option<&'a str>) -> Result<Format, WordsFault<'a>>
     ensures { Gives (λ f. f) result (spec.format_for (question_text question.entry) (option_map (λ t. t.now) word.entry)) }
 {
     match (question, word) {
