@@ -208,8 +208,10 @@ module _ (w : WorkspaceText) (is : IsWorkspace w) (s : SettingsText) (commands :
   counts_more p name ds to h =
       any_weaker (λ d. is_of rules p name d && counts s d && both_lead_to to d.leads_to) (λ d. is_of others p name d && counts (with_commands s commands) d && both_lead_to to d.leads_to) ds
       (λ d i.
-      let q = both_true (is_of rules p name d) (counts s d && both_lead_to to d.leads_to) i in
-      two_true (is_of others p name d) (counts (with_commands s commands) d && both_lead_to to d.leads_to) (of_more p name d q.0) q.1) h
+      let q = both_true (is_of rules p name d && counts s d) (both_lead_to to d.leads_to) i in
+      let first = both_true (is_of rules p name d) (counts s d) q.0 in
+      two_true (is_of others p name d && counts (with_commands s commands) d) (both_lead_to to d.leads_to)
+      (two_true (is_of others p name d) (counts (with_commands s commands) d) (of_more p name d first.0) first.1) q.1) h
 
   met_more : (p : ℕ) (x : PackageText) (need : Text) (item : Item) → met rules p x need item ≡ true → met others p x need item ≡ true
   met_more p x need (feature_item f) h = on_more Target p (named need) h
@@ -217,10 +219,10 @@ module _ (w : WorkspaceText) (is : IsWorkspace w) (s : SettingsText) (commands :
   met_more p x need (slash_item name feature weak) h =
       any_weaker (λ d. is_of rules p name d && leads_on rules feature d && counts_for rules p name x.declarations d.leads_to) (λ d. is_of others p name d && leads_on others feature d && counts_for others p name x.declarations d.leads_to) x.declarations
       (λ d i.
-      let q = both_true (is_of rules p name d) (leads_on rules feature d && counts_for rules p name x.declarations d.leads_to) i in
-      let on = both_true (leads_on rules feature d) (counts_for rules p name x.declarations d.leads_to) q.1 in
-      two_true (is_of others p name d) (leads_on others feature d && counts_for others p name x.declarations d.leads_to) (of_more p name d q.0)
-      (two_true (leads_on others feature d) (counts_for others p name x.declarations d.leads_to) (leads_more feature d on.0) (counts_more p name x.declarations d.leads_to on.1))) h
+      let q = both_true (is_of rules p name d && leads_on rules feature d) (counts_for rules p name x.declarations d.leads_to) i in
+      let first = both_true (is_of rules p name d) (leads_on rules feature d) q.0 in
+      two_true (is_of others p name d && leads_on others feature d) (counts_for others p name x.declarations d.leads_to)
+      (two_true (is_of others p name d) (leads_on others feature d) (of_more p name d first.0) (leads_more feature d first.1)) (counts_more p name x.declarations d.leads_to q.1)) h
 
   target_more : (p : ℕ) (x : PackageText) (t : TargetText) → is_built rules p x t ≡ true → is_built others p x t ≡ true
   target_more p x t h =
