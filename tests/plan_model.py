@@ -224,10 +224,14 @@ def is_version(word, version):
     return word in (version, numbers) or '-' not in numbers and numbers.startswith(f'{word}.')
 
 
+def is_spec(word, package):
+    """Whether `word` is the package's name, or its name, `@` or `:`, and a version."""
+    name, mark, version = re.fullmatch('([^@:]*)([@:]?)(.*)', word, re.DOTALL).groups()
+    return name == package.name and (not mark or is_version(version, package.version))
+
+
 def packages_named(document, word):
-    name, at, version = word.partition('@')
-    return [id for id, it in document.packages.items() if id == word] or [
-        id for id, it in document.packages.items() if it.name == name and (not at or is_version(version, it.version))]
+    return [id for id in document.packages if id == word] or [id for id, it in document.packages.items() if is_spec(word, it)]
 
 
 def package_named(document, word):

@@ -48,13 +48,26 @@ fn fits_version(word: &str, version: &str) -> bool
     word == version || word == front || !has_dash(front) && begins_numbers(word, front)
 }
 
-/// Returns whether `word` is the name of `package`, or its name, `@` and a version that fits.
+/// Returns whether `rest`, which follows a package's name, is nothing, or `@` or `:` and a version that fits.
+fn fits_rest(rest: &str, version: &str) -> bool
+    ensures { result ≡ spec.fits_rest rest.now version.now }
+{
+    match rest.strip_prefix('@') {
+        Some(word) => fits_version(word, version),
+        None => match rest.strip_prefix(':') {
+            Some(word) => fits_version(word, version),
+            None => rest.is_empty(),
+        },
+    }
+}
+
+/// Returns whether `word` is the name of `package`, or its name, `@` or `:`, and a version that fits.
 fn is_named(word: &str, package: &Package<'_>) -> bool
     ensures { result ≡ spec.is_named word.now (package_text «package».now) }
 {
-    match word.split_once('@') {
-        Some((name, version)) => name == package.name && fits_version(version, package.version),
-        None => word == package.name,
+    match word.strip_prefix(package.name) {
+        Some(rest) => fits_rest(rest, package.version),
+        None => false,
     }
 }
 
@@ -92,8 +105,8 @@ fn packages_named(
     Ok(numbers)
 }
 
-/// Returns the numbers of the packages that `word` names, ascending: the package with this id alone, else those with this `NAME` or
-/// `NAME@VERSION`. The version may be a beginning of the package's numbers, as in `clap@4`.
+/// Returns the numbers of the packages that `word` names, ascending: the package with this id alone, else those with this `NAME`,
+/// `NAME@VERSION` or `NAME:VERSION`. The version may be a beginning of the package's numbers, as in `clap@4`.
 pub fn packages_of_word(
     alloc: Global,
     workspace: &Workspace<'_>,
