@@ -247,10 +247,11 @@ def is_ambiguous(value, words):
 
 
 def selected_packages(document, selection):
-    if selection.is_workspace:
-        return document.members
     if selection.words is None:
-        return document.default_members
+        selected = document.members if selection.is_workspace else document.default_members
+        if not selected:
+            raise Refused('no package is selected')
+        return selected
     return [package_named(document, it) for it in selection.words]
 
 

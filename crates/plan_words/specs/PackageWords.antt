@@ -4,7 +4,7 @@ use Rattle.std.specs.List.{list_any, before_first, starts_with}
 use Rattle.std.specs.Str.{bytes_eq}
 use Rattle.cargo_workspaces.specs.Workspaces.{Text, PackageText, WorkspaceText}
 use Rattle.plan_words.specs.Selections.{ChoiceText, default_members, all_members, named}
-use Rattle.plan_words.specs.Refusals.{Refusal, unknown_package, ambiguous_package, ◌>>=◌}
+use Rattle.plan_words.specs.Refusals.{Refusal, ambiguous_package, no_packages, unknown_package, ◌>>=◌}
 
 -- A version follows `@` or `:`.
 abbrev pub is_mark : ℕ → Bool
@@ -71,8 +71,13 @@ packages_of_words packages [] = Ok []
 packages_of_words packages (word ∷ words) =
     the_one word (packages_of_word packages word) >>= λ p. packages_of_words packages words >>= λ ps. Ok (p ∷ ps)
 
+-- A selection must have a package.
+abbrev pub some_of : List ℕ → Result (List ℕ) Refusal
+some_of [] = Err no_packages
+some_of (p ∷ ps) = Ok (p ∷ ps)
+
 -- The selected packages, in the order of the workspace or of the words.
 abbrev pub selected : WorkspaceText → ChoiceText → Result (List ℕ) Refusal
-selected w default_members = Ok w.default_members
-selected w all_members = Ok w.members
+selected w default_members = some_of w.default_members
+selected w all_members = some_of w.members
 selected w (named words) = packages_of_words w.packages words

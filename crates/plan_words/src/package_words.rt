@@ -168,7 +168,18 @@ fn packages_of_words<'s>(
     Ok(packages)
 }
 
-/// Returns the numbers of the packages that `choice` selects, in the order of the workspace or of the words.
+/// Returns `numbers`, those of the selected packages; NoPackages if there are none.
+fn some_of<'s>(alloc: Global, numbers: &[usize]) -> Result<Vec<usize>, WordFault<'s>>
+    ensures { Gives (λ packages. packages.items) result (spec.some_of numbers.now) }
+{
+    if numbers.is_empty() {
+        return Err(WordFault::NoPackages);
+    }
+    Ok(Vec::from_slice(alloc, numbers)?)
+}
+
+/// Returns the numbers of the packages that `choice` selects, in the order of the workspace or of the words; NoPackages if that
+/// is none.
 pub(crate) fn selected<'s>(
     alloc: Global,
     workspace: &Workspace<'_>,
@@ -180,8 +191,8 @@ pub(crate) fn selected<'s>(
     // (calls named facts() carry the invariant into the proof)
     workspace.facts();
     match choice {
-        PackageChoice::Default => Ok(Vec::from_slice(alloc, workspace.default_members())?),
-        PackageChoice::Workspace => Ok(Vec::from_slice(alloc, workspace.members())?),
+        PackageChoice::Default => some_of(alloc, workspace.default_members()),
+        PackageChoice::Workspace => some_of(alloc, workspace.members()),
         PackageChoice::Named(words) => packages_of_words(alloc, workspace, words),
     }
 }
