@@ -127,6 +127,9 @@ def plan_faults(cases):
     manifest = 'look it up in its manifest'
     needs = 'features are asked for, and no selected package is a member of the workspace: select a member, or leave the features out'
     at = 'path+file:///w'
+    for word in ([], ['-F', 'no']):
+        yield f'no selected package{"".join(word)}', cases['no-default'], word, (
+            'no package is selected: the workspace has no default members, or no members at all; select packages by -p or --workspace')
     yield 'no package', command, ['-p', 'nobody'], 'no package of the document fits `nobody`: write NAME, NAME@VERSION or an id'
     yield 'the second word', command, ['-p', 'tool', '-p', 'tool@2'], 'no package of the document fits `tool@2`: write NAME, NAME@VERSION or an id'
     ids = f'\n  {at}/ext/new#old@1.10.0\n  {at}/ext/old#1.2.3'

@@ -231,10 +231,14 @@ def is_version(word, version):
     return word in (version, numbers) or '-' not in numbers and numbers.startswith(f'{word}.')
 
 
+def is_spec(word, package):
+    """Whether `word` is the package's name, or its name, `@` or `:`, and a version."""
+    name, mark, version = re.fullmatch('([^@:]*)([@:]?)(.*)', word, re.DOTALL).groups()
+    return name == package.name and (not mark or is_version(version, package.version))
+
+
 def packages_named(document, word):
-    name, at, version = word.partition('@')
-    return [id for id, it in document.packages.items() if id == word] or [
-        id for id, it in document.packages.items() if it.name == name and (not at or is_version(version, it.version))]
+    return [id for id in document.packages if id == word] or [id for id, it in document.packages.items() if is_spec(word, it)]
 
 
 def package_named(document, word):
@@ -250,10 +254,11 @@ def is_ambiguous(value, words):
 
 
 def selected_packages(document, selection):
-    if selection.is_workspace:
-        return document.members
     if selection.words is None:
-        return document.default_members
+        selected = document.members if selection.is_workspace else document.default_members
+        if not selected:
+            raise Refused('no package is selected')
+        return selected
     return [package_named(document, it) for it in selection.words]
 
 

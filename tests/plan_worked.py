@@ -26,6 +26,8 @@ class Worked(NamedTuple):
     shows: str
     packages: list
     rows: list
+    # folders of the default members, or None
+    default: list = None
 
 
 def leaf(*features, **how):
@@ -289,6 +291,12 @@ WORKED = [
         Row('-p a -p leaf', 'refused', cargo='target a; target leaf', differs='version resolving reaches one of the packages'),
         Row('-p a -p leaf@0.1', 'target a; target leaf'),
     ]),
+    Worked('no-default', 'a selection must have a package, and a workspace may have no default member', [member('a', leaf()), LEAF], [
+        Row('', 'refused'),
+        Row('-F no-such-feature', 'refused'),
+        Row('-p a', 'target a; target leaf'),
+        Row('--workspace', 'target a; target leaf'),
+    ], default=[]),
     Worked('others', 'packages that aren\'t members can be named; if all are such, the members start with their defaults', [
         member('a', leaf(), Declared('ext/old'), features={'default': ['leaf/x'], 'b': []}), LEAF,
         Package('ext/old', 'old', '1.2.3', declared=[Declared('ext/new', rename='later')]), Package('ext/new', 'old', '1.10.0'),
@@ -301,6 +309,11 @@ WORKED = [
         Row('-p leaf --target linux --no-default-features', 'refused'),
         Row('-p old@1.2', 'target old 1.10.0; target old 1.2.3'),
         Row('-p old@1.10.0', 'target old 1.10.0'),
+        Row('-p old:1.2', 'target old 1.10.0; target old 1.2.3'),
+        Row('-p old:1.10.0', 'target old 1.10.0'),
+        Row('-p old:1', 'refused'),
+        Row('-p old:1.1', 'refused'),
+        Row('-p old@1:10', 'refused'),
         Row('-p old', 'refused'),
         Row('-p nobody', 'refused'),
         Row('-p tested', 'refused'),
@@ -315,7 +328,7 @@ def workspaces():
     for it in WORKED:
         for resolver in sorted({row.resolver for row in it.rows}):
             rows = [row for row in it.rows if row.resolver == resolver]
-            yield Workspace(it.name if resolver == '2' else f'{it.name}-{resolver}', resolver, it.packages), it.shows, rows
+            yield Workspace(it.name if resolver == '2' else f'{it.name}-{resolver}', resolver, it.packages, it.default), it.shows, rows
 
 
 TRIPLES = {'linux': LINUX, 'windows': WINDOWS, 'mac': MAC}
