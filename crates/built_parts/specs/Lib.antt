@@ -1,0 +1,2 @@
+pub mod Built
+pub mod BuiltViews
