@@ -5,7 +5,7 @@ ghost use Rattle.plan_steps.specs.PlanViews.{plan_text};
 ghost use Rattle.plan_steps.specs.plan_starts.PackageVisits.{is_on};
 ghost use Rattle.plan_steps.specs.plan_units.UnitViews.{unit_text};
 ghost use Rattle.built_parts.specs.Built as spec;
-ghost use Rattle.built_parts.specs.BuiltViews.{builds_in, flag_at, state_in};
+ghost use Rattle.built_parts.specs.BuiltViews.{builds_in, flag_at, is_built_in, state_in};
 
 use crate::flags::{flag_of, mark};
 use crate::state::PartState;
@@ -71,6 +71,7 @@ impl<'p> BuiltParts<'p> {
         plan: &'p Plan<'_>,
     ) -> Result<BuiltParts<'p>, AllocError>
         ensures parts { IfOk result (λ parts. state_in parts ≡ spec.state_of split (plan_text plan.entry.now)) }
+        ensures built { IfOk result (λ parts. is_built_in parts ≡ spec.is_part_built split (plan_text plan.entry.now)) }
         ensures packages { IfOk result (λ parts. builds_in parts ≡ spec.is_built split (plan_text plan.entry.now).units) }
     {
         let target = built_on(alloc, split, Side::Target, plan.units())?;
@@ -101,6 +102,13 @@ impl<'p> BuiltParts<'p> {
             FeatureLabel::Named(name) => self.on.has_feature(side, ix, name),
             FeatureLabel::OptionalDependency(name) => TurnedOn::is_on(self.on, side, ix, name),
         }
+    }
+
+    /// Returns whether `label` of package `ix` is on, on `side`, and the package is built there.
+    pub fn is_built(&self, side: Side, ix: usize, label: FeatureLabel<'_>) -> bool
+        ensures { result ≡ is_built_in self.now side ix (label_of label.entry) }
+    {
+        self.is_on(side, ix, label) && self.builds(side, ix)
     }
 
     /// Returns the state of `label` of package `ix` on `side`.
