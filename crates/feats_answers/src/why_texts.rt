@@ -9,11 +9,15 @@ ghost use Rattle.plan_platforms.specs.HeldSpecs.{holds_on};
 ghost use Rattle.cargo_plans.specs.plan_steps.PlanViews.{plan_text};
 ghost use Rattle.plan_whys.specs.StepViews.{found_text, reasoned_text as reasoned_view, spot_text, why_text};
 ghost use Rattle.why_lines.specs.Settings.{settings_text};
-ghost use Rattle.feats_answers.specs.AnswerViews.{texts_of};
+ghost use Rattle.feats_answers.specs.AnswerViews.{answer_text, texts_of};
 ghost use Rattle.feats_answers.specs.Gathered.{AreShown};
 ghost use Rattle.feats_answers.specs.WhyTexts as spec;
 
+use crate::answer::{Answer, negative, positive};
+use crate::built_spots::{spots_in, unbuilt_text_of};
+use crate::gathered::{gathered, separated};
 use crate::parts::spot_on;
+use built_parts::{BuiltParts, PartState};
 use cargo_plans::{Plan, PlanWords, Side};
 use cargo_workspaces::Workspace;
 use feats_words::Format;
@@ -155,20 +159,73 @@ pub(crate) fn spots_of<'w>(alloc: Global, named: &[Named<'w>]) -> Result<Vec<Spo
     Ok(spots)
 }
 
-/// Returns the texts of why each of `named` is on in `plan`, side by side. With `all` they have every direct reason of each step.
-pub(crate) fn why_texts(
+/// Returns the texts of why each of `spots` is on in `plan`, spot by spot. With `all` they have every direct reason of each step.
+fn spot_texts(
     alloc: Global,
     format: Format,
     all: bool,
     workspace: &Workspace<'_>,
     words: &PlanWords<'_, '_, HeldSpecs<'_>>,
     plan: &Plan<'_>,
-    named: &[Named<'_>],
+    spots: &[Spot<'_>],
 ) -> Result<Vec<Vec<u8>>, AllocError>
     requires plan { IsPlanOf (workspace_text workspace.now) (words_text holds_on words.now) (plan_text plan.now) }
-    ensures { IfOk result (λ texts. AreShown (spec.IsSpotShown format all (workspace_text workspace.now) (words_text holds_on words.now) (plan_text plan.now)) (flat_map spec.spots_of_part (map named_text named.now)) (texts_of texts.items)) }
+    ensures { IfOk result (λ texts. AreShown (spec.IsSpotShown format all (workspace_text workspace.now) (words_text holds_on words.now) (plan_text plan.now)) (map spot_text spots.now) (texts_of texts.items)) }
 {
-    let spots = spots_of(alloc, named)?;
-    let founds = why_each(alloc, workspace, words, plan, &spots)?;
+    let founds = why_each(alloc, workspace, words, plan, spots)?;
     founds_shown(alloc, format, all, workspace, words, plan, &founds)
+}
+
+/// Returns the answer of `texts`, which explain what is built, and of `lines`, which are about what isn't. If there are none, it says no
+/// about `word`, which names the parts `named`.
+fn answer_of(
+    alloc: Global,
+    format: Format,
+    workspace: &Workspace<'_>,
+    word: &str,
+    named: &[Named<'_>],
+    texts: Vec<Vec<u8>>,
+    lines: Vec<u8>,
+) -> Result<Answer, AllocError>
+    ensures { IfOk result (λ answer. answer_text answer ≡ spec.answer_of format (workspace_text workspace.now).packages word.now (map named_text named.now) (texts_of texts.entry.items) lines.entry.items) }
+{
+    let mut texts = texts;
+    if lines.is_empty() {
+        let end = " is off in this build: ask why-not\n";
+        return gathered(alloc, format, workspace, word, named, end, &texts);
+    }
+    if texts.is_empty() {
+        return Ok(negative(lines));
+    }
+    texts.push(lines)?;
+    Ok(positive(separated(alloc, format, &texts)?))
+}
+
+/// The word of `why`, and whether every direct reason is asked for.
+#[derive(Clone, Copy)]
+pub(crate) struct WhyWord<'a> {
+    pub(crate) word: &'a str,
+    pub(crate) all: bool,
+}
+
+/// Returns the answer to `why` with the word of `asked`, which names the parts `named`: why each that is built is on in `plan`, side by
+/// side, and then a line for each that is on and not built.
+pub(crate) fn why_answer_of(
+    alloc: Global,
+    format: Format,
+    asked: WhyWord<'_>,
+    workspace: &Workspace<'_>,
+    words: &PlanWords<'_, '_, HeldSpecs<'_>>,
+    plan: &Plan<'_>,
+    named: &[Named<'_>],
+) -> Result<Answer, AllocError>
+    requires plan { IsPlanOf (workspace_text workspace.now) (words_text holds_on words.now) (plan_text plan.now) }
+    ensures { IfOk result (λ answer. spec.IsWhyAnswerOf format asked.entry.all (workspace_text workspace.now) (words_text holds_on words.now) (plan_text plan.now) asked.entry.word.now (map named_text named.now) (answer_text answer)) }
+{
+    let parts = BuiltParts::of_plan(alloc, words.selection.split, plan)?;
+    let spots = spots_of(alloc, named)?;
+    let built = spots_in(alloc, &parts, PartState::Built, &spots)?;
+    let texts = spot_texts(alloc, format, asked.all, workspace, words, plan, &built)?;
+    let lines = unbuilt_text_of(alloc, format, workspace, words, &parts, &spots)?;
+    answer_of(alloc, format, workspace, asked.word, named, texts, lines)
 }

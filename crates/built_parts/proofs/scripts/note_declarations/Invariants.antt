@@ -10,4 +10,4 @@ use Rattle.built_parts.proofs.scripts.note_declarations.Given as goal
 abbrev pub invariant-loop-declaration : goal.invariant-loop-declaration
 invariant-loop-declaration g l =
     (q : ℕ) → slot_at l.first.items q ≡ option_or (slot_at l.fn.first.items q)
-        (if list_any (spec.wants_by (g.P.Platform.holds l.host) (λ name. is_built_in l.parts l.side l.ix (optional name)) q) (map declaration_text (take l.declaration-index l.declarations)) then Some l.ix else None)
+    (if list_any (spec.wants_by (g.P.Platform.holds l.host) (λ name. is_built_in l.parts l.side l.ix (optional name)) q) (map declaration_text (take l.declaration-index l.declarations)) then Some l.ix else None)
