@@ -17,9 +17,9 @@ use Rattle.why_lines.specs.ReasonedObjects.{reasoned_objects}
 use Rattle.why_lines.specs.Settings.{SettingsText}
 use Rattle.feats_words.specs.declared.command_arguments.Format.{Format}
 use Rattle.feats_words.specs.declared.command_arguments.Format.TheVariants as format
-use Rattle.feats_answers.specs.AnswerTexts.{AnswerText, positive, negative}
+use Rattle.feats_answers.specs.AnswerTexts.{AnswerText}
 use Rattle.feats_answers.specs.BuiltSpots.{spots_in, unbuilt_text_of}
-use Rattle.feats_answers.specs.Gathered.{AreShown, gathered, separated}
+use Rattle.feats_answers.specs.Gathered.{AreShown, gathered}
 use Rattle.feats_answers.specs.Parts.{ArePartsOf, spot_on}
 
 -- The settings of the steps' lines. The side is shown, if the resolver tells sides apart.
@@ -70,12 +70,20 @@ abbrev pub unless_empty : Text → List Text
 unless_empty [] = []
 unless_empty (b ∷ bs) = (b ∷ bs) ∷ []
 
--- The answer of the texts that explain what is built, and then of the lines about what isn't. It is positive if something is built. If
--- there are no texts and no lines, it says no.
+abbrev pub is_none : List Text → Bool
+is_none [] = true
+is_none (first ∷ more) = false
+
+-- These texts. If there is none, the line that says no.
+abbrev pub gathered_why : Format → List PackageText → Text → List NamedText → List Text → AnswerText
+gathered_why form packages word parts texts = gathered form packages word parts off_end texts
+
+-- The answer of the texts that explain what is built, and then of the lines about what isn't. It is negative if nothing is built.
 abbrev pub answer_of : Format → List PackageText → Text → List NamedText → List Text → Text → AnswerText
-answer_of form packages word parts [] [] = gathered form packages word parts off_end []
-answer_of form packages word parts [] (b ∷ bs) = negative (b ∷ bs)
-answer_of form packages word parts (first ∷ more) lines = positive (separated form (first ∷ (more ++ unless_empty lines)))
+answer_of form packages word parts shown lines = record {
+  content = (gathered_why form packages word parts (shown ++ unless_empty lines)).content;
+  is_negative = is_none shown;
+}
 
 -- The answer to `why` with a word that names these parts: why each that is built is on, side by side, and then a line for each that is on
 -- and not built. With `all` it has every direct reason of each step.

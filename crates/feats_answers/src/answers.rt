@@ -34,7 +34,7 @@ use crate::parts::parts_of;
 use crate::plan_texts::text_of_units;
 use crate::policy_texts::{PolicyWord, check_answer};
 use crate::spec_texts::spec_text;
-use crate::why_texts::{WhyWord, why_answer_of};
+use crate::why_texts::{WhyQuestion, why_answer_of};
 use cargo_plans::{Plan, PlanWords};
 use cargo_workspaces::Workspace;
 use feats_files::{Fault, PlatformFile};
@@ -121,8 +121,8 @@ fn why_answer<'w>(
     ensures fault { IfErr result (λ fault. Says fault (IsPartRefusal (workspace_text workspace.now) (words_text holds_on words.now) word.now)) }
 {
     let named = parts_of(alloc, workspace, words, word)?;
-    let asked = WhyWord { word, all };
-    Ok(why_answer_of(alloc, format, asked, workspace, words, plan, &named)?)
+    let asked = WhyQuestion { format, word, all };
+    Ok(why_answer_of(alloc, asked, workspace, words, plan, &named)?)
 }
 
 /// Returns the answer to `why-not` with this word. `specs` are the platform specs of the workspace.

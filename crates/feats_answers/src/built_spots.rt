@@ -18,7 +18,7 @@ use std::alloc::{AllocError, Global};
 use why_lines::{UnbuiltSpot, unbuilt_lines};
 
 /// Returns those of `spots` whose state is `wanted`.
-pub(crate) fn spots_in<'w>(
+pub(crate) fn those_in<'w>(
     alloc: Global,
     parts: &BuiltParts<'_>,
     wanted: PartState,
@@ -81,7 +81,7 @@ pub(crate) fn unbuilt_text_of(
 {
     match format {
         Format::Text => {
-            let unbuilt = spots_in(alloc, parts, PartState::Unbuilt, spots)?;
+            let unbuilt = those_in(alloc, parts, PartState::Unbuilt, spots)?;
             if unbuilt.is_empty() {
                 return Ok(Vec::new(alloc));
             }

@@ -26,11 +26,7 @@ fn push_more(text: &mut Vec<u8>, format: Format, more: &[Vec<u8>]) -> Result<(),
 }
 
 /// Returns `texts`, with an empty line between two of them, or with nothing between objects.
-pub(crate) fn separated(
-    alloc: Global,
-    format: Format,
-    texts: &[Vec<u8>],
-) -> Result<Vec<u8>, AllocError>
+fn separated(alloc: Global, format: Format, texts: &[Vec<u8>]) -> Result<Vec<u8>, AllocError>
     ensures { IfOk result (λ text. text.items ≡ spec.separated format (texts_of texts.now)) }
 {
     let mut text = Vec::new(alloc);

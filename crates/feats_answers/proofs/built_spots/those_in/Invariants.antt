@@ -2,7 +2,7 @@ use Rattle.std.proofs.Common.{◌≡◌, ◌++◌, drop, map}
 use Rattle.built_parts.specs.BuiltViews.{state_in}
 use Rattle.plan_whys.specs.StepViews.{spot_text}
 use Rattle.feats_answers.specs.BuiltSpots as spec
-use Rattle.feats_answers.proofs.built_spots.spots_in.Given as goal
+use Rattle.feats_answers.proofs.built_spots.those_in.Given as goal
 
 abbrev pub invariant-loop-spot : goal.invariant-loop-spot
 invariant-loop-spot l =
