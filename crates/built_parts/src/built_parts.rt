@@ -15,13 +15,23 @@ use plan_steps::{PackageVisit, Place, Plan, Side, Unit};
 use std::alloc::{AllocError, Global};
 
 /// The parts of packages that are on in a plan, and which packages it builds on each side.
-#[derive(Drop)]
 pub struct BuiltParts<'p> {
     pub(crate) on: &'p PackageVisit,
-    /// Whether each package is built for a target platform, by its number. A package past the end isn't.
+    /// Whether each package is built in a place of the target side, by its number. A package past the end isn't.
     pub(crate) target: Vec<bool>,
     /// The same for the host side.
     pub(crate) host: Vec<bool>,
+}
+
+impl Drop for BuiltParts<'_> {
+    // Written out, so that a crate above calls it. A derived drop is proved in each crate that drops a value, with those of all fields.
+    fn drop(self) {
+        let BuiltParts {
+            on: _on,
+            target: _target,
+            host: _host,
+        } = self;
+    }
 }
 
 /// Returns the side whose features `place` has. `split` is whether the resolver tells the sides apart.

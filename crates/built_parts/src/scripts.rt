@@ -17,10 +17,16 @@ use plan_steps::Side;
 use std::alloc::{AllocError, Global};
 
 /// For each package, the first one that is built, lacks a build script, and declares it for builds.
-#[derive(Drop)]
 pub struct LackingScripts {
     /// By the number of the package that is declared. None past the end.
     pub(crate) first: Vec<Option<usize>>,
+}
+
+impl Drop for LackingScripts {
+    // Written out, so that a crate above calls it. A derived drop is proved in each crate that drops a value, with those of all fields.
+    fn drop(self) {
+        let LackingScripts { first: _first } = self;
+    }
 }
 
 /// Appends None until `first` has a slot for `number`.
