@@ -320,6 +320,15 @@ WORKED = [
         Row('-p tested --tests', 'refused'),
         Row('-p leaf --tests', 'target leaf x'),
     ]),
+    Worked('unbuilt', 'what a package without a build script declares for builds is on, and isn\'t built by it', [
+        member('a', leaf('x', table=BUILD)), member('b', leaf('y', table=BUILD), has_script=True), member('c', leaf('z')), LEAF,
+    ], [
+        Row('-p a', 'target a'),
+        Row('-p a -p b', 'host leaf x y; target a; target b'),
+        Row('-p a -p c', 'target a; target c; target leaf z'),
+        Row('-p a', 'target a', '1'),
+        Row('-p a -p c', 'target a; target c; target leaf x z', '1'),
+    ]),
 ]
 
 
