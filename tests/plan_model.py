@@ -241,11 +241,21 @@ def packages_named(document, word):
     return [id for id in document.packages if id == word] or [id for id, it in document.packages.items() if is_spec(word, it)]
 
 
-def package_named(document, word):
+def members_fitting(document, pattern):
+    """The members whose names fit a pattern, in which a star stands for any text."""
+    pattern = re.compile('.*'.join(map(re.escape, pattern.split('*'))), re.DOTALL)
+    return [id for id in document.members if pattern.fullmatch(document.packages[id].name)]
+
+
+def selected_by(document, word):
+    """What a word of `-p` selects: the one package that it names, else the members that fit it."""
     found = packages_named(document, word)
-    if len(found) != 1:
+    if len(found) > 1:
         raise Refused(f'the word {word} names {len(found)} packages')
-    return found[0]
+    fitting = found or members_fitting(document, word)
+    if not fitting:
+        raise Refused(f'nothing fits the word {word}')
+    return fitting
 
 
 def is_ambiguous(value, words):
@@ -259,7 +269,7 @@ def selected_packages(document, selection):
         if not selected:
             raise Refused('no package is selected')
         return selected
-    return [package_named(document, it) for it in selection.words]
+    return [id for it in selection.words for id in selected_by(document, it)]
 
 
 def item_of_word(package, word):

@@ -291,6 +291,23 @@ WORKED = [
         Row('-p a -p leaf', 'refused', cargo='target a; target leaf', differs='version resolving reaches one of the packages'),
         Row('-p a -p leaf@0.1', 'target a; target leaf'),
     ]),
+    Worked('patterns', 'a word of `-p` that names no package selects the members whose names fit it', [
+        member('alpha'), member('apex'), member('beta', leaf()), LEAF,
+    ], [
+        Row('-p a*', 'target alpha; target apex'),
+        Row('-p *a', 'target alpha; target beta; target leaf'),
+        Row('-p a*h*a', 'target alpha'),
+        Row('-p *', 'target alpha; target apex; target beta; target leaf'),
+        Row('-p alpha -p a*', 'target alpha; target apex'),
+        Row('-p al* -p a*', 'target alpha; target apex'),
+        Row('-p x*', 'refused'),
+        Row('-p leaf*', 'refused'),
+        Row('-p a*@0.1.0', 'refused'),
+        Row('-p a* -p al*', 'target alpha; target apex', cargo='refused', differs='cargo refuses a pattern all of whose members fit patterns before it'),
+        Row('-p a**', 'target alpha; target apex', cargo='refused', differs='two stars together are no pattern of cargo'),
+        Row('-p ?lpha', 'refused', cargo='target alpha', differs='a star is the only sign of a pattern'),
+        Row('-p [ab]*', 'refused', cargo='target alpha; target apex; target beta; target leaf', differs='a star is the only sign of a pattern'),
+    ]),
     Worked('no-default', 'a selection must have a package, and a workspace may have no default member', [member('a', leaf()), LEAF], [
         Row('', 'refused'),
         Row('-F no-such-feature', 'refused'),

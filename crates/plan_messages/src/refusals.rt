@@ -78,7 +78,7 @@ fn selection_refused<'p>(alloc: Global, workspace: &'p Workspace<'_>, fault: Wor
             &[
                 "no package of the document fits `",
                 word,
-                "`: write NAME, NAME@VERSION or an id",
+                "`: write NAME, NAME@VERSION, an id, or a pattern of members' names with `*`",
             ],
         ),
         WordFault::AmbiguousPackage { word, candidates } => {

@@ -1,8 +1,10 @@
 -- The packages that words name, as Cargo's package id specs do.
-use Rattle.std.specs.Prelude.{ℕ, ◌+◌, List, [], ◌∷◌, Bool, true, length, drop, Result, Ok, Err, nat_eq, not, ◌==◌, ◌&&◌, ◌||◌, if◌then◌else◌, codes}
-use Rattle.std.specs.List.{list_any, before_first, starts_with}
+use Rattle.std.specs.Prelude.{ℕ, ◌+◌, List, [], ◌∷◌, ◌++◌, Bool, true, false, length, drop, Result, Ok, Err, nat_eq, not, ◌==◌, ◌&&◌, ◌||◌, if◌then◌else◌, codes, slice_get}
+use Rattle.std.specs.List.{before_first, filter, list_any, starts_with}
+use Rattle.std.specs.Option.{option_map_or}
 use Rattle.std.specs.Str.{bytes_eq}
 use Rattle.cargo_workspaces.specs.Workspaces.{Text, PackageText, WorkspaceText}
+use Rattle.plan_words.specs.Patterns.{fits}
 use Rattle.plan_words.specs.Selections.{ChoiceText, default_members, all_members, named}
 use Rattle.plan_words.specs.Refusals.{Refusal, ambiguous_package, no_packages, unknown_package, ◌>>=◌}
 
@@ -59,17 +61,27 @@ or_else (n ∷ ns) others = n ∷ ns
 abbrev pub packages_of_word : List PackageText → Text → List ℕ
 packages_of_word packages word = or_else (numbers_from (has_id word) 0 packages) (numbers_from (is_named word) 0 packages)
 
--- A word must name one package.
-abbrev pub the_one : Text → List ℕ → Result ℕ Refusal
-the_one word [] = Err (unknown_package word)
-the_one word (p ∷ []) = Ok p
-the_one word (p ∷ q ∷ more) = Err (ambiguous_package word (p ∷ q ∷ more))
+-- The members whose names fit a pattern.
+abbrev pub has_fitting_name : WorkspaceText → Text → ℕ → Bool
+has_fitting_name w pattern m = option_map_or (λ p. fits pattern p.name) (slice_get w.packages m) false
 
--- The package of each word, or the first refusal.
-abbrev pub packages_of_words : List PackageText → List Text → Result (List ℕ) Refusal
-packages_of_words packages [] = Ok []
-packages_of_words packages (word ∷ words) =
-    the_one word (packages_of_word packages word) >>= λ p. packages_of_words packages words >>= λ ps. Ok (p ∷ ps)
+abbrev pub members_fitting : WorkspaceText → Text → List ℕ
+members_fitting w pattern = filter (has_fitting_name w pattern) w.members
+
+-- What a word selects: the one package that it names; if it names none, the members that fit it as a pattern.
+abbrev pub selected_of : Text → List ℕ → List ℕ → Result (List ℕ) Refusal
+selected_of word (p ∷ []) fitting = Ok (p ∷ [])
+selected_of word (p ∷ q ∷ more) fitting = Err (ambiguous_package word (p ∷ q ∷ more))
+selected_of word [] [] = Err (unknown_package word)
+selected_of word [] (m ∷ ms) = Ok (m ∷ ms)
+
+abbrev pub selected_by : WorkspaceText → Text → Result (List ℕ) Refusal
+selected_by w word = selected_of word (packages_of_word w.packages word) (members_fitting w word)
+
+-- What the words select, one after the other, or the first refusal.
+abbrev pub selected_by_words : WorkspaceText → List Text → Result (List ℕ) Refusal
+selected_by_words w [] = Ok []
+selected_by_words w (word ∷ words) = selected_by w word >>= λ ps. selected_by_words w words >>= λ more. Ok (ps ++ more)
 
 -- A selection must have a package.
 abbrev pub some_of : List ℕ → Result (List ℕ) Refusal
@@ -80,4 +92,4 @@ some_of (p ∷ ps) = Ok (p ∷ ps)
 abbrev pub selected : WorkspaceText → ChoiceText → Result (List ℕ) Refusal
 selected w default_members = some_of w.default_members
 selected w all_members = some_of w.members
-selected w (named words) = packages_of_words w.packages words
+selected w (named words) = selected_by_words w words

@@ -1,5 +1,5 @@
 //! The packages that words name.
-ghost use Rattle.std.specs.Prelude.{◌≡◌, ◌<◌, IfOk, IsTrue, length, map, nat_lt};
+ghost use Rattle.std.specs.Prelude.{◌≡◌, IfOk, IsTrue, length, map, nat_lt};
 ghost use Rattle.std.specs.List.{list_all};
 ghost use Rattle.cargo_workspaces.specs.Views.{package_text, texts};
 ghost use Rattle.cargo_workspaces.specs.WorkspaceView.{workspace_text};
@@ -8,6 +8,7 @@ ghost use Rattle.plan_words.specs.Refusals.{Gives};
 ghost use Rattle.plan_words.specs.Selections.{choice_text};
 
 use crate::fault::WordFault;
+use crate::patterns::fits;
 use crate::selection::PackageChoice;
 use cargo_workspaces::{Package, Workspace};
 use std::alloc::{AllocError, Global};
@@ -123,13 +124,37 @@ pub fn packages_of_word(
     }
 }
 
-/// Returns the only one of `numbers`, the packages that `word` names.
-fn the_one<'s>(word: &'s str, numbers: Vec<usize>) -> Result<usize, WordFault<'s>>
-    ensures { Gives (λ p. p) result (spec.the_one word.now numbers.items) }
+/// Returns the members of `workspace` whose names fit `pattern`, in which a star stands for any text.
+fn members_fitting(
+    alloc: Global,
+    workspace: &Workspace<'_>,
+    pattern: &str,
+) -> Result<Vec<usize>, AllocError>
+    ensures { IfOk result (λ fitting. fitting.items ≡ spec.members_fitting (workspace_text workspace.now) pattern.now) }
 {
-    match *numbers.as_slice() {
-        [] => Err(WordFault::UnknownPackage(word)),
-        [only] => Ok(only),
+    // (calls named facts() carry the invariant into the proof)
+    workspace.facts();
+    let mut fitting = Vec::new(alloc);
+    for member in workspace.members() {
+        if fits(pattern, workspace.package(*member).name) {
+            fitting.push(*member)?;
+        }
+    }
+    Ok(fitting)
+}
+
+/// Returns the one of `numbers`, the packages that `word` names; if there is none, `fitting`, the members that fit it as a pattern.
+fn selected_of<'s>(
+    word: &'s str,
+    numbers: Vec<usize>,
+    fitting: Vec<usize>,
+) -> Result<Vec<usize>, WordFault<'s>>
+    ensures { Gives (λ packages. packages.items) result (spec.selected_of word.now numbers.items fitting.items) }
+{
+    match (numbers.as_slice(), fitting.as_slice()) {
+        ([], []) => Err(WordFault::UnknownPackage(word)),
+        ([], _) => Ok(fitting),
+        ([_], _) => Ok(numbers),
         _ => Err(WordFault::AmbiguousPackage {
             word,
             candidates: numbers,
@@ -137,33 +162,37 @@ fn the_one<'s>(word: &'s str, numbers: Vec<usize>) -> Result<usize, WordFault<'s
     }
 }
 
-/// Returns the number of the package that `word` names.
-fn package_of_word<'s>(
+/// Returns the numbers of the packages that `word` selects: the one that it names; if it names none, the members that fit it as a
+/// pattern.
+fn selected_by<'s>(
     alloc: Global,
     workspace: &Workspace<'_>,
     word: &'s str,
-) -> Result<usize, WordFault<'s>>
-    ensures one { Gives (λ p. p) result (spec.the_one word.now (spec.packages_of_word (workspace_text workspace.now).packages word.now)) }
-    ensures within { IfOk result (λ p. p < length (workspace_text workspace.now).packages) }
+) -> Result<Vec<usize>, WordFault<'s>>
+    ensures packages { Gives (λ packages. packages.items) result (spec.selected_by (workspace_text workspace.now) word.now) }
+    ensures within { IfOk result (λ packages. IsTrue (list_all (λ p. nat_lt p (length (workspace_text workspace.now).packages)) packages.items)) }
 {
+    // (calls named facts() carry the invariant into the proof)
+    workspace.facts();
     let numbers = packages_of_word(alloc, workspace, word)?;
-    the_one(word, numbers)
+    let fitting = members_fitting(alloc, workspace, word)?;
+    selected_of(word, numbers, fitting)
 }
 
-/// Returns the number of the package that each of `words` names, or the first fault.
-#[tactic(auto, using(crate::proofs::Lists::list_all_more))]
-fn packages_of_words<'s>(
+/// Returns the numbers of the packages that `words` select, one after the other, or the first fault.
+#[tactic(auto, using(crate::proofs::Lists::list_all_both, crate::proofs::Within::one_more_word))]
+fn selected_by_words<'s>(
     alloc: Global,
     workspace: &Workspace<'_>,
     words: &[&'s str],
 ) -> Result<Vec<usize>, WordFault<'s>>
-    ensures packages { Gives (λ packages. packages.items) result (spec.packages_of_words (workspace_text workspace.now).packages (texts words.now)) }
+    ensures packages { Gives (λ packages. packages.items) result (spec.selected_by_words (workspace_text workspace.now) (texts words.now)) }
     ensures within { IfOk result (λ packages. IsTrue (list_all (λ p. nat_lt p (length (workspace_text workspace.now).packages)) packages.items)) }
 {
     let mut packages = Vec::with_capacity(alloc, words.len())?;
     for word in words {
-        let number = package_of_word(alloc, workspace, word)?;
-        packages.push(number)?;
+        let more = selected_by(alloc, workspace, word)?;
+        packages.extend_from_slice(&more)?;
     }
     Ok(packages)
 }
@@ -193,6 +222,6 @@ pub(crate) fn selected<'s>(
     match choice {
         PackageChoice::Default => some_of(alloc, workspace.default_members()),
         PackageChoice::Workspace => some_of(alloc, workspace.members()),
-        PackageChoice::Named(words) => packages_of_words(alloc, workspace, words),
+        PackageChoice::Named(words) => selected_by_words(alloc, workspace, words),
     }
 }
