@@ -1,7 +1,7 @@
 //! The lines about what is on, and isn't built.
 ghost use Rattle.std.specs.Prelude.{◌≡◌, ◌++◌, IfOk, OnOk, flat_map, map, string_bytes};
 ghost use Rattle.cargo_workspaces.specs.WorkspaceView.{workspace_text};
-ghost use Rattle.plan_whys.specs.StepViews.{spot_text};
+ghost use Rattle.why_lines.specs.Labels.{spot_label};
 ghost use Rattle.why_lines.specs.Unbuilt as spec;
 ghost use Rattle.why_lines.specs.inner.Labelled.{AreLabels, packages_of};
 
@@ -21,15 +21,23 @@ pub struct UnbuiltSpot<'v> {
     pub lacking: Option<usize>,
 }
 
-/// Returns the spot of package `package` itself on `side`.
-fn base_at(side: Side, package: usize) -> Spot<'static>
-    ensures { spot_text result ≡ spec.base_at side «package» }
+/// Appends the label of package `package` on `side`.
+fn push_base(
+    alloc: Global,
+    text: &mut String,
+    labels: &Labels<'_, '_>,
+    side: Side,
+    package: usize,
+) -> Result<(), AllocError>
+    requires { AreLabels labels.now }
+    ensures { OnOk result (string_bytes text.new ≡ string_bytes text.old ++ spot_label (packages_of labels.now) labels.now.sides (spec.base_at side «package»)) }
 {
-    Spot {
+    let spot = Spot {
         side,
         package,
         label: FeatureLabel::Base,
-    }
+    };
+    push_spot(alloc, text, labels, spot)
 }
 
 /// Appends which package lacks a build script, if there is one.
@@ -45,7 +53,7 @@ fn push_lacking(
     match lacking {
         Some(package) => {
             text.push_str(": ")?;
-            push_spot(alloc, text, labels, base_at(Side::Target, package))?;
+            push_base(alloc, text, labels, Side::Target, package)?;
             text.push_str(" has no build script")
         }
         None => Ok(()),
@@ -65,7 +73,7 @@ fn push_unbuilt(
     let spot = unbuilt.spot;
     push_spot(alloc, text, labels, spot)?;
     text.push_str(" is asked for, but ")?;
-    push_spot(alloc, text, labels, base_at(spot.side, spot.package))?;
+    push_base(alloc, text, labels, spot.side, spot.package)?;
     text.push_str(" isn't built")?;
     push_lacking(alloc, text, labels, unbuilt.lacking)?;
     text.push_str("\n")
