@@ -111,7 +111,7 @@ def lead_of(packages, package, uses, declared):
     if len(used) != 1:
         candidates = used or (fitting if declared['optional'] else [])
         used = [it for it in candidates if admits(declared['req'], packages[it['pkg']]['version'])]
-    return used[0]['pkg'] if used else None
+    return used[0]['pkg'] if len(used) == 1 else None
 
 
 def document_of(value):

@@ -201,6 +201,17 @@ WORKED = [
         Row('--target linux -F b/leaf', 'target a; target b leaf; target leaf'),
         Row('--target linux -F b/w', 'target a; target b w'),
     ]),
+    Worked('several-fit', 'an optional declaration that fits several packages leads nowhere, until the document says which', [
+        member('a', Declared('ext/b')), Package('ext/b', 'b', declared=[
+            Declared('vendor/old-2', requirement='2'), Declared('vendor/old-1', requirement='1', table=BUILD),
+            Declared('vendor/old-2', requirement='>=1', spec=ON_WINDOWS, is_optional=True),
+        ], has_script=True),
+        Package('vendor/old-1', 'old', '1.0.0'), Package('vendor/old-2', 'old', '2.0.0'),
+    ], [
+        Row('--target linux', 'host old 1.0.0; target a; target b; target old 2.0.0'),
+        Row('--target linux -F b/old', 'host old 1.0.0; target a; target b old; target old 2.0.0'),
+        Row('--target windows -F b/old', 'host old 1.0.0; target a; target b old; target old 1.0.0; target old 2.0.0'),
+    ]),
     Worked('no-library', 'a required dependency without a library leads nowhere', [
         member('a', Declared('ext/tool'), leaf()), LEAF,
         Package('ext/tool', 'tool', declared=[leaf('x')], library=None, targets=[Target('bin', 'tool')]),
