@@ -42,6 +42,8 @@ def weak(name, **how):
 
 
 MACRO_PROGRAM = Target('bin', 'one', lines=('proc-macro = true',))
+MACRO_TEST = Target('test', 'one', lines=('proc-macro = true',))
+MACRO_EXAMPLE = Target('example', 'one', lines=('crate-type = ["proc-macro"]',))
 ON_WINDOWS, ON_MAC = 'cfg(windows)', 'cfg(target_os = "macos")'
 
 WORKED = [
@@ -151,6 +153,29 @@ WORKED = [
     ], [
         Row('--target windows --tests', 'host pm; target leaf x; target pm'),
         Row('--target windows', 'host pm'),
+    ]),
+    Worked('macro-links', 'a script waits for that of a procedural macro with `links`, which is run for the host', [
+        member('a', Declared('ext/pm'), has_script=True), Package('ext/pm', 'pm', declared=[leaf('x')], library='proc-macro', has_script=True, has_links=True), LEAF,
+    ], [
+        Row(words, 'host leaf x; host pm; target a', resolver) for resolver in '12' for words in ('', '--target windows')
+    ]),
+    Worked('macro-example', 'an example that is a procedural macro is built for the host, and its package starts on both sides', [
+        member('a', leaf('x'), leaf('y', table=DEV), targets=[MACRO_EXAMPLE]), member('b', leaf(table=BUILD), has_script=True), member('c', Declared('a')), LEAF,
+    ], [
+        Row('-p a --tests', 'host a; host leaf x y; target a; target leaf x y'),
+        Row('-p a --target windows --tests', 'host a; host leaf x y; target a; target leaf x y'),
+        Row('-p a --target windows --target mac --tests', 'host a; host leaf x y; windows a; windows leaf x y; mac a; mac leaf x y'),
+        Row('-p a -p b --target windows', 'host leaf x; target a; target b; target leaf x'),
+        Row('-p b --target windows', 'host leaf; target b'),
+        Row('-p c --target windows --tests', 'target a; target c; target leaf x'),
+        Row('-p a --target windows --tests', 'host a; host leaf x y; target a; target leaf x y', '1'),
+        Row('-p a -p b --target windows', 'host leaf x y; target a; target b; target leaf x y', '1'),
+    ]),
+    Worked('macro-test', 'a test with `proc-macro = true` is planned as any other', [
+        member('a', leaf(), targets=[MACRO_TEST]), LEAF,
+    ], [
+        Row('--target windows --tests', 'target a; target leaf', cargo='host a; host leaf; target a; target leaf',
+            differs='the document doesn\'t say that the test is a procedural macro'),
     ]),
     Worked('required-kinds', 'a required feature of a dependency counts if a declaration is for this build and a platform of it', [
         Package('a', 'a', declared=[leaf(table=DEV)], library=None, targets=[Target('bin', 'one', ('leaf/x',))]),

@@ -1,13 +1,13 @@
 //! The targets of a package that a command line chooses.
-ghost use Rattle.std.specs.Prelude.{◌≡◌, ◌&&◌, not, codes, map, option_map};
+ghost use Rattle.std.specs.Prelude.{◌≡◌, ◌&&◌, not, map, option_map};
 ghost use Rattle.std.specs.List.{list_all, list_any};
 ghost use Rattle.cargo_workspaces.specs.Views.{declaration_text, package_text, target_text, texts};
-ghost use Rattle.cargo_workspaces.specs.Workspaces.{both_lead_to, has_kind};
+ghost use Rattle.cargo_workspaces.specs.Workspaces.{both_lead_to, is_macro_target};
 ghost use Rattle.plan_rows.specs.Commands.{command_texts, is_started};
 ghost use Rattle.plan_rows.specs.SettingsView.{settings_text};
 ghost use Rattle.plan_rows.specs.Steps as steps;
 ghost use Rattle.plan_starts.specs.Targets as spec;
-ghost use Rattle.plan_starts.specs.Targets.{is_macro};
+ghost use Rattle.plan_starts.specs.Targets.{has_macro, is_macro};
 ghost use Rattle.plan_starts.specs.TargetViews.{rules_text};
 
 use crate::package_visit::PackageVisit;
@@ -52,12 +52,22 @@ fn lands(split: bool, declaration: &Declaration<'_>, is_macro: bool) -> Side
     }
 }
 
-/// Returns whether package `ix` is a procedural macro.
-pub fn is_macro_at(packages: &[Package<'_>], ix: usize) -> bool
+/// Returns whether package `ix` is a procedural macro for those that depend on it.
+fn is_macro_at(packages: &[Package<'_>], ix: usize) -> bool
     ensures { result ≡ is_macro (map package_text packages.now) ix }
 {
     match packages.get(ix) {
         Some(package) => package.is_proc_macro(),
+        None => false,
+    }
+}
+
+/// Returns whether a target of package `ix` is a procedural macro.
+pub fn has_macro_at(packages: &[Package<'_>], ix: usize) -> bool
+    ensures { result ≡ has_macro (map package_text packages.now) ix }
+{
+    match packages.get(ix) {
+        Some(package) => package.has_proc_macro(),
         None => false,
     }
 }
@@ -252,10 +262,10 @@ fn builds_macro<P: Platform>(
     ix: usize,
     package: &Package<'_>,
 ) -> bool
-    ensures { result ≡ list_any (λ t. has_kind (codes "proc-macro") t && spec.is_built (rules_text P.holds rules.now) ix (package_text «package».now) t) (package_text «package».now).targets }
+    ensures { result ≡ list_any (λ t. is_macro_target t && spec.is_built (rules_text P.holds rules.now) ix (package_text «package».now) t) (package_text «package».now).targets }
 {
     for target in &package.targets {
-        if target.has_kind("proc-macro") && is_built(rules, ix, package, target) {
+        if target.is_proc_macro() && is_built(rules, ix, package, target) {
             return true;
         }
     }
@@ -268,10 +278,10 @@ fn builds_other<P: Platform>(
     ix: usize,
     package: &Package<'_>,
 ) -> bool
-    ensures { result ≡ list_any (λ t. not (has_kind (codes "proc-macro") t) && spec.is_built (rules_text P.holds rules.now) ix (package_text «package».now) t) (package_text «package».now).targets }
+    ensures { result ≡ list_any (λ t. not (is_macro_target t) && spec.is_built (rules_text P.holds rules.now) ix (package_text «package».now) t) (package_text «package».now).targets }
 {
     for target in &package.targets {
-        if !target.has_kind("proc-macro") && is_built(rules, ix, package, target) {
+        if !target.is_proc_macro() && is_built(rules, ix, package, target) {
             return true;
         }
     }
