@@ -217,10 +217,10 @@ fn built_texts(
 fn push_unless_empty(texts: &mut Vec<Vec<u8>>, lines: Vec<u8>) -> Result<(), AllocError>
     ensures { OnOk result (texts_of texts.new.items ≡ texts_of texts.old.items ++ spec.unless_empty lines.entry.items) }
 {
-    if lines.is_empty() {
-        return Ok(());
+    if !lines.is_empty() {
+        texts.push(lines)?;
     }
-    texts.push(lines)
+    Ok(())
 }
 
 /// Returns the answer of `texts` to `asked`, whose word names the parts `named`. It is negative if `is_negative` is true.

@@ -1,3 +1,4 @@
 pub mod Loops
 pub mod Members
+pub mod Pushed
 pub mod Tokens
