@@ -88,7 +88,7 @@ abbrev pub diff_shape : Shape
 diff_shape = record (new_shape (codes "diff")) { rules = (word_rule (codes "old") ∷ word_rule (codes "new") ∷ []) ++ (platform_rules ++ selection_rules) }
 
 abbrev pub slim_shape : Shape
-slim_shape = command_shape (codes "slim") []
+slim_shape = command_shape (codes "slim") (option_rule (codes "member-manifests") ∷ [])
 
 -- The program without its commands, of which one must be given.
 abbrev pub bare_app : App
