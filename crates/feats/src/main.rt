@@ -111,6 +111,16 @@ fn policy(rt: &HostRuntime, arguments: &CommandArguments<'_>) -> Result<Vec<u8>,
     }
 }
 
+/// Returns the bytes of the file with the manifests of the members; none, if `question` names no such file.
+fn member_manifests(rt: &HostRuntime, question: Question<'_>) -> Result<Vec<u8>, Fault> {
+    match question {
+        Question::Slim {
+            manifests: Some(path),
+        } => file_bytes(rt, path),
+        _ => Ok(Vec::new(rt.alloc())),
+    }
+}
+
 /// Returns the platform of `word`, with the bytes of its file.
 fn platform<'f>(
     rt: &HostRuntime,
@@ -150,11 +160,13 @@ fn plan_files<'f>(
     let host = platform(rt, arguments.host, old)?;
     let targets = platforms(rt, &arguments.targets, old)?;
     let policy = policy(rt, arguments)?;
+    let member_manifests = member_manifests(rt, arguments.question)?;
     Ok(PlanFiles {
         manifest,
         host,
         targets,
         policy,
+        member_manifests,
     })
 }
 

@@ -6,7 +6,6 @@ use Rattle.plan_names.specs.Faults.{package_named}
 use Rattle.plan_platforms.specs.DeclaredSpecs.{declared_specs}
 use Rattle.cargo_plans.specs.plan_steps.Plans.{PlanText}
 use Rattle.feats_words.specs.Requests.{QuestionText, check, dot, duplicates, list, plan, slim, specs, tree, why, why_not}
-use Rattle.slim_lines.specs.Texts.{IsSlimText}
 use Rattle.feats_answers.specs.AnswerTexts.{AnswerText}
 pub use Rattle.feats_answers.specs.AnswerTexts.{IsPositive}
 use Rattle.feats_answers.specs.Asked.{AskedText}
@@ -17,6 +16,7 @@ use Rattle.feats_answers.specs.NameMessages.{IsNameRefusal}
 use Rattle.feats_answers.specs.Parts.{IsPartRefusal}
 use Rattle.feats_answers.specs.PlanTexts.{text_of_units}
 use Rattle.feats_answers.specs.PolicyTexts.{IsCheckAnswer, IsCheckRefusal}
+use Rattle.feats_answers.specs.SlimTexts.{IsNoSlim, IsSlimBy}
 use Rattle.feats_answers.specs.SpecTexts.{IsSpecText, places}
 use Rattle.feats_answers.specs.WhyNotTexts.{IsWhyNotAnswer}
 use Rattle.feats_answers.specs.WhyTexts.{IsWhyAnswer}
@@ -32,7 +32,7 @@ Answers (duplicates alone) a w words build = IsPositive (IsDuplicatesText a.argu
 Answers (tree invert) a w words build = IsTreeBy a.arguments.edges a w words build invert
 Answers dot a w words build = IsDotBy a.arguments.edges a.targets w words build
 Answers (check file every_choice) a w words build = IsCheckAnswer a w (declared_specs w.packages) words build file every_choice
-Answers slim a w words build = IsPositive (IsSlimText a.arguments.format w words build.units)
+Answers (slim file) a w words build = IsPositive (IsSlimBy a.arguments.format a.member_manifests w words build.units)
 
 -- THE ANSWER to the question of the arguments about the build of these words.
 abbrev pub IsAnswerTo : AskedText → WorkspaceText → WordsText → PlanText → AnswerText → Type 0
@@ -49,8 +49,8 @@ Refuses (duplicates alone) a w words build = λ _. ⊥
 Refuses (tree invert) a w words build = IsNoTreeBy a.arguments.edges w words invert
 Refuses dot a w words build = λ _. ⊥
 Refuses (check file every_choice) a w words build = IsCheckRefusal a w (declared_specs w.packages) words build file every_choice
-Refuses slim a w words build = λ _. ⊥
+Refuses (slim file) a w words build = IsNoSlim a.member_manifests
 
--- THE MESSAGE that refuses the question: its word names nothing or several things, or a policy can't be checked.
+-- THE MESSAGE that refuses the question: its word names nothing or several things, a policy can't be checked, or a manifest isn't TOML.
 abbrev pub IsNoAnswerTo : AskedText → WorkspaceText → WordsText → PlanText → Text → Type 0
 IsNoAnswerTo asked w words build = Refuses asked.arguments.question asked w words build

@@ -13,6 +13,7 @@ pub mod NameMessages
 pub mod Parts
 pub mod PlanTexts
 pub mod PolicyTexts
+pub mod SlimTexts
 pub mod SpecTexts
 pub mod TreeTexts
 pub mod WhyNotTexts

@@ -8,7 +8,6 @@ ghost use Rattle.plan_platforms.specs.DeclaredSpecs.{declared_specs};
 ghost use Rattle.plan_platforms.specs.HeldSpecs.{holds_on};
 ghost use Rattle.plan_platforms.specs.Views.{declared_text};
 ghost use Rattle.cargo_plans.specs.plan_steps.PlanViews.{plan_text};
-ghost use Rattle.slim_lines.specs.Texts.{IsSlimText};
 ghost use Rattle.feats_files.specs.FileViews.{file_text};
 ghost use Rattle.feats_files.specs.Messages.{Says};
 ghost use Rattle.feats_answers.specs.AnswerViews.{answer_text};
@@ -19,6 +18,7 @@ ghost use Rattle.feats_answers.specs.ListTexts.{IsListText};
 ghost use Rattle.feats_answers.specs.NameMessages.{IsNameRefusal};
 ghost use Rattle.feats_answers.specs.Parts.{IsPartRefusal};
 ghost use Rattle.feats_answers.specs.PlanTexts.{text_of_units};
+ghost use Rattle.feats_answers.specs.SlimTexts.{IsNoSlim, IsSlimBy};
 ghost use Rattle.feats_answers.specs.SpecTexts.{IsSpecText, places};
 ghost use Rattle.feats_answers.specs.WhyNotTexts.{IsWhyNotAnswer};
 ghost use Rattle.feats_answers.specs.WhyTexts.{IsWhyAnswer};
@@ -33,6 +33,7 @@ use crate::off_parts::off_parts;
 use crate::parts::parts_of;
 use crate::plan_texts::text_of_units;
 use crate::policy_texts::{PolicyWord, check_answer};
+use crate::slim_texts::slim_text;
 use crate::spec_texts::spec_text;
 use crate::why_texts::{WhyQuestion, why_answer_of};
 use cargo_plans::{Plan, PlanWords};
@@ -40,7 +41,6 @@ use cargo_workspaces::Workspace;
 use feats_files::{Fault, PlatformFile};
 use feats_words::{Format, Question};
 use plan_platforms::{DeclaredSpec, HeldSpecs, every_spec};
-use slim_lines::slim_text;
 use std::alloc::{AllocError, Global};
 use why_nots::why_not_texts;
 
@@ -147,26 +147,27 @@ fn why_not_answer<'w, 's>(
     Ok(gathered(alloc, format, workspace, word, &named, end, &texts)?)
 }
 
-/// Returns the answer to `slim`.
+/// Returns the answer to `slim`, by the manifests in `bytes`.
 fn slim_answer<'w>(
     alloc: Global,
     format: Format,
+    bytes: &[u8],
     workspace: &'w Workspace<'_>,
     words: &PlanWords<'w, '_, HeldSpecs<'_>>,
     plan: &Plan<'_>,
-) -> Result<Answer, AllocError>
-    ensures { IfOk result (λ answer. IsPositive (IsSlimText format (workspace_text workspace.now) (words_text holds_on words.now) (plan_text plan.now).units) (answer_text answer)) }
+) -> Result<Answer, Fault>
+    ensures answer { IfOk result (λ answer. IsPositive (IsSlimBy format bytes.now (workspace_text workspace.now) (words_text holds_on words.now) (plan_text plan.now).units) (answer_text answer)) }
+    ensures fault { IfErr result (λ fault. Says fault (IsNoSlim bytes.now)) }
 {
-    match slim_text(alloc, format, workspace, words, plan) {
+    match slim_text(alloc, format, bytes, workspace, words, plan) {
         Ok(text) => Ok(positive(text)),
-        // The words have a plan, so they aren't refused.
-        Err(_) => Err(AllocError),
+        Err(fault) => Err(fault),
     }
 }
 
 /// Returns the answer to the question of `asked` about `plan`, which is that of `words`; `specs` are the platform specs of the workspace.
-/// Returns `Refused` if the word of the question names nothing or several things, or if a policy can't be checked, and `Memory` if an
-/// allocation fails.
+/// Returns `Refused` if the word of the question names nothing or several things, if a policy can't be checked, or if a manifest isn't TOML,
+/// and `Memory` if an allocation fails.
 pub fn answer_to<'w, 'n, 's>(
     alloc: Global,
     asked: Asked<'_, 'w, '_, 'n>,
@@ -209,6 +210,15 @@ pub fn answer_to<'w, 'n, 's>(
             let policy = PolicyWord { file, every_choice };
             check_answer(alloc, asked, policy, workspace, specs, words, plan)
         }
-        Question::Slim => Ok(slim_answer(alloc, format, workspace, words, plan)?),
+        Question::Slim { manifests: _file } => {
+            slim_answer(
+                alloc,
+                format,
+                asked.member_manifests,
+                workspace,
+                words,
+                plan,
+            )
+        }
     }
 }

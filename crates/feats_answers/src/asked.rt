@@ -4,7 +4,7 @@ use feats_files::PlatformFile;
 use feats_words::CommandArguments;
 use policies::Rule;
 
-/// A question about a build: the arguments, the rules of a policy and the files of platforms.
+/// A question about a build: the arguments, the rules of a policy, the files of platforms and the manifests of members.
 #[derive(Clone, Copy)]
 pub struct Asked<'a, 'w, 'p, 'n> {
     pub arguments: &'a CommandArguments<'w>,
@@ -12,4 +12,6 @@ pub struct Asked<'a, 'w, 'p, 'n> {
     pub rules: &'a [Rule<'p>],
     /// The files of the target platforms. Empty if the arguments name none.
     pub targets: &'a [PlatformFile<'n>],
+    /// The manifests of `slim`, each ended by a NUL byte. Empty without such a file.
+    pub member_manifests: &'a [u8],
 }

@@ -17,6 +17,7 @@ mod parts;
 mod places;
 mod plan_texts;
 mod policy_texts;
+mod slim_texts;
 mod spec_texts;
 mod tree_texts;
 mod why_texts;

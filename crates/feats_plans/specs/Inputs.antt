@@ -16,9 +16,17 @@ pub record InputsText : Type 0 where
   pub host : FileText
   pub targets : List FileText
   pub policy : Text
+  pub member_manifests : Text
 
 abbrev pub inputs_text : CommandArguments → PlanFiles → InputsText
-inputs_text a f = record { arguments = arguments_text a; manifest = f.manifest.items; host = file_text f.host; targets = map file_text f.targets.items; policy = f.policy.items }
+inputs_text a f = record {
+  arguments = arguments_text a;
+  manifest = f.manifest.items;
+  host = file_text f.host;
+  targets = map file_text f.targets.items;
+  policy = f.policy.items;
+  member_manifests = f.member_manifests.items;
+}
 
 -- The message if the file at a path can't be read.
 abbrev pub unread_message : Text → Text

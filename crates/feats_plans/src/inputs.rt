@@ -18,6 +18,8 @@ pub struct PlanFiles<'f> {
     pub targets: Vec<PlatformFile<'f>>,
     /// The policy; empty if no policy is named.
     pub policy: Vec<u8>,
+    /// The manifests of the members, each ended by a NUL byte; empty if no such file is named.
+    pub member_manifests: Vec<u8>,
 }
 
 impl Drop for PlanFiles<'_> {
@@ -28,6 +30,7 @@ impl Drop for PlanFiles<'_> {
             host: _host,
             targets: _targets,
             policy: _policy,
+            member_manifests: _member_manifests,
         } = self;
     }
 }

@@ -14,7 +14,7 @@ use Rattle.shown_texts.specs.Plain.{is_plain}
 
 -- What is asked by the arguments, with these rules of the policy.
 abbrev pub asked_by : InputsText → List RuleText → AskedText
-asked_by inputs rules = record { arguments = inputs.arguments; rules = rules; targets = inputs.targets }
+asked_by inputs rules = record { arguments = inputs.arguments; rules = rules; targets = inputs.targets; member_manifests = inputs.member_manifests }
 
 -- The answer about a plan, with these rules.
 abbrev pub IsPlanAnswer : List RuleText → PlannedText → AnswerText → Type 0

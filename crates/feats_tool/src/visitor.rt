@@ -30,6 +30,7 @@ fn planned_answer(
         arguments: planned.arguments,
         rules,
         targets: &planned.files.targets,
+        member_manifests: &planned.files.member_manifests,
     };
     answer_to(
         alloc,

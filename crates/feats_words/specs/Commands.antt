@@ -90,7 +90,7 @@ diff_shape = record (new_shape (codes "diff")) {
 }
 
 abbrev pub slim_shape : Shape
-slim_shape = command_shape (codes "slim") []
+slim_shape = command_shape (codes "slim") (option_rule (codes "member-manifests") ∷ [])
 
 -- The program without its commands, of which one must be given.
 abbrev pub bare_app : App

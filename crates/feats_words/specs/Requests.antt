@@ -10,7 +10,8 @@ abbrev pub texts : List (Bor Text) → List Text
 texts = map (λ t. t.now)
 
 -- The question that a command asks about a build. `why` also says whether every direct reason is wanted, `duplicates` whether the selected
--- members are planned alone too, and `check`, whose word is the policy's file, whether it asks about every choice.
+-- members are planned alone too, and `check`, whose word is the policy's file, whether it asks about every choice. `slim` may name the file of
+-- the manifests.
 pub data QuestionText : Type 0 where
   plan : QuestionText
   why : Text → Bool → QuestionText
@@ -21,7 +22,7 @@ pub data QuestionText : Type 0 where
   tree : Option Text → QuestionText
   dot : QuestionText
   check : Text → Bool → QuestionText
-  slim : QuestionText
+  slim : Option Text → QuestionText
 
 -- What a command line asks for.
 pub record RequestText : Type 0 where
@@ -74,7 +75,7 @@ question_of name rows =
     else (if bytes_eq name (codes "dot") then Some dot
     else (if bytes_eq name (codes "check") then Some (check (required_value (codes "policy") rows) (is_given (codes "every-choice") rows))
     else (if bytes_eq name (codes "diff") then Some plan
-    else (if bytes_eq name (codes "slim") then Some slim
+    else (if bytes_eq name (codes "slim") then Some (slim (value (codes "member-manifests") rows))
     else None))))))))))
 
 abbrev pub asked : QuestionText → List Row → RequestText

@@ -413,11 +413,17 @@ fn diff_command<'a>(alloc: Global) -> Made<'a>
 fn slim_command<'a>(alloc: Global) -> Made<'a>
     ensures { IfOk result (λ r. IsMade r (alone spec.slim_shape)) }
 {
-    wordless(
+    worded(
         alloc,
         "slim",
         "Prints which single edits of the members' dependencies make the build smaller, and by how much",
         SLIM_EXAMPLE,
+        option(
+            alloc,
+            "member-manifests",
+            "FILE",
+            "The manifests of the members and the root manifest, each ended by a NUL byte; they say what is inherited from [workspace.dependencies]",
+        ),
     )
 }
 

@@ -57,6 +57,9 @@ Examples, with the files of `feats plan --help`; the second asks whether any cho
 pub(crate) const SLIM_EXAMPLE: &str = "\
 Example, with the files of `feats plan --help`. Whether the code compiles after an edit isn't checked:
   feats slim --metadata metadata.json --host x86_64-unknown-linux-gnu=host.cfg -p server
+With the manifests, edits of [workspace.dependencies] are tried too; `cargo feats` passes them:
+  for MANIFEST in Cargo.toml */Cargo.toml; do cat \"$MANIFEST\"; printf '\\0'; done >manifests
+  feats slim --member-manifests manifests --metadata metadata.json --host x86_64-unknown-linux-gnu=host.cfg -p server
 ";
 
 pub(crate) const DIFF_EXAMPLE: &str = "\

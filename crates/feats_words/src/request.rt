@@ -31,8 +31,8 @@ pub enum Question<'a> {
     Dot,
     /// Which rules of the policy in this file are broken? With `every_choice`, which `deny` does some choice break?
     Check { policy: &'a str, every_choice: bool },
-    /// Which edit of a declaration makes the build smaller?
-    Slim,
+    /// Which edit of a declaration makes the build smaller? The file has the manifests, which say what the members inherit.
+    Slim { manifests: Option<&'a str> },
 }
 
 /// What a command line asks for.
@@ -152,7 +152,9 @@ fn question_of<'a>(name: &str, matches: &ArgMatches<'a>) -> Option<Question<'a>>
             every_choice: is_given(matches, "every-choice"),
         }),
         "diff" => Some(Question::Plan),
-        "slim" => Some(Question::Slim),
+        "slim" => Some(Question::Slim {
+            manifests: value(matches, "member-manifests"),
+        }),
         _ => None,
     }
 }

@@ -5,6 +5,7 @@ use Rattle.std.specs.List.{AllByRecursion}
 use Rattle.std.specs.List.Sorted.{IsSortedBy, IsStable, IsStableBy, ties}
 use Rattle.std.specs.Ordering.{is_lt}
 use Rattle.std.proofs.lemmas.List.Sorted.{sorted_far, ranks_by}
+use Rattle.workspace_edits.specs.declared.edits.EditPlace.TheVariants as place
 use Rattle.workspace_edits.specs.declared.edits.Without.TheVariants as without
 use Rattle.plan_slims.specs.Orders.{Descends, SlimText, slim_cmp, slim_total}
 use Rattle.plan_slims.specs.SlimViews.{slim_text}
@@ -36,7 +37,7 @@ seen f test (x ∷ xs) = ap (λ ys. cond (test (f x)) (f x ∷ ys) ys) (seen f t
 
 -- an edit with these numbers
 abbrev with_numbers : SlimText → Slim
-with_numbers s = record { edit = record { «package» = 0; declaration = 0; without = without.Defaults }; packages = s.packages; features = s.features }
+with_numbers s = record { edit = record { place = place.Declaration 0 0; without = without.Defaults }; packages = s.packages; features = s.features }
 
 pub stays : (xs ys : List Slim) → IsStableBy before xs ys → IsStable slim_cmp (map slim_text xs) (map slim_text ys)
 stays xs ys stable = λ s.

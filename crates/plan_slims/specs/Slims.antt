@@ -9,6 +9,7 @@ use Rattle.cargo_plans.specs.declared.fault.PlanFault.TheVariants as fault
 use Rattle.plan_slims.specs.Losses.{LossesText, losses_of}
 use Rattle.cargo_plans.specs.plan_steps.Plans.{PlanText}
 use Rattle.cargo_plans.specs.plan_units.Units.{UnitText}
+use Rattle.inherited_dependencies.specs.Inheritances.{InheritanceText}
 use Rattle.workspace_edits.specs.Edits.{EditText, edited_text, edits_of}
 use Rattle.plan_slims.specs.Orders.{IsInOrder, SlimText}
 
@@ -40,13 +41,13 @@ abbrev pub IsTriedIn : List PackageText → WorkspaceText → WordsText → List
 IsTriedIn packages edited words before s = IsCountedIn packages edited words before s ⊎ HasNoPlanIn edited words s
 
 -- How much falls away from the units `before` by an edit: by the plan of the same words in the edited workspace.
-abbrev pub IsTried : WorkspaceText → WordsText → List UnitText → SlimText → Type 0
-IsTried w words before s = IsTriedIn w.packages (edited_text w s.edit) words before s
+abbrev pub IsTried : WorkspaceText → InheritanceText → WordsText → List UnitText → SlimText → Type 0
+IsTried w i words before s = IsTriedIn w.packages (edited_text w i s.edit) words before s
 
 -- Each of the edits, with how much falls away by it.
-pub record AreTried (w : WorkspaceText) (words : WordsText) (before : List UnitText) (edits : List EditText) (tried : List SlimText) : Type 0 where
+pub record AreTried (w : WorkspaceText) (i : InheritanceText) (words : WordsText) (before : List UnitText) (edits : List EditText) (tried : List SlimText) : Type 0 where
   pub are_edits : map (λ s. s.edit) tried ≡ edits
-  pub are_tried : AllByRecursion (IsTried w words before) tried
+  pub are_tried : AllByRecursion (IsTried w i words before) tried
 
 abbrev pub makes_smaller : SlimText → Bool
 makes_smaller s = nat_lt 0 s.packages || nat_lt 0 s.features
@@ -56,12 +57,12 @@ abbrev pub selected_members : WorkspaceText → List ℕ → List ℕ
 selected_members w selected = filter (λ m. list_any (nat_eq m) selected) w.members
 
 -- The edits of the declarations of these packages by which something falls away, in order.
-pub record AreSlimsBy (w : WorkspaceText) (words : WordsText) (before : List UnitText) (numbers : List ℕ) (slims : List SlimText) : Type 0 where
+pub record AreSlimsBy (w : WorkspaceText) (i : InheritanceText) (words : WordsText) (before : List UnitText) (numbers : List ℕ) (slims : List SlimText) : Type 0 where
   pub tried : List SlimText
-  pub are_tried : AreTried w words before (edits_of w numbers) tried
+  pub are_tried : AreTried w i words before (edits_of w i numbers) tried
   pub are_in_order : IsInOrder (filter makes_smaller tried) slims
 
--- THE EDITS of the selected members' declarations by which less is built than these units, with how much falls away: most packages first,
--- then most features, then in the order of the edits.
-abbrev pub AreSlimsOf : WorkspaceText → WordsText → List UnitText → List SlimText → Type 0
-AreSlimsOf w words before slims = AfterWords w words (λ chosen. AreSlimsBy w words before (selected_members w chosen.selected) slims)
+-- THE EDITS of the selected members' declarations, and of entries that they inherit, by which less is built than these units, with how much
+-- falls away: most packages first, then most features, then in the order of the edits.
+abbrev pub AreSlimsOf : WorkspaceText → InheritanceText → WordsText → List UnitText → List SlimText → Type 0
+AreSlimsOf w i words before slims = AfterWords w words (λ chosen. AreSlimsBy w i words before (selected_members w chosen.selected) slims)

@@ -14,4 +14,4 @@ mod trials;
 pub use cargo_plans::{Plan, PlanWords, WordFault};
 pub use lost::Slim;
 pub use slims::slims_of;
-pub use workspace_edits::{Edit, Without};
+pub use workspace_edits::{Edit, EditPlace, Inheritance, Without};

@@ -3,6 +3,7 @@ ghost use Rattle.std.specs.Prelude.{◌≡◌, ◌++◌, ◌∷◌, [], Err, IfE
 ghost use Rattle.std.specs.List.{filter, list_any};
 ghost use Rattle.cargo_workspaces.specs.WorkspaceView.{workspace_text};
 ghost use Rattle.cargo_plans.specs.WordsView.{words_text};
+ghost use Rattle.inherited_dependencies.specs.InheritanceView.{inheritance_text};
 ghost use Rattle.cargo_plans.specs.plan_steps.PlanViews.{plan_text};
 ghost use Rattle.cargo_plans.specs.plan_units.UnitViews.{unit_text};
 ghost use Rattle.plan_words.specs.Choices.{choose as chosen_by};
@@ -21,7 +22,7 @@ use cargo_workspaces::Workspace;
 use plan_rows::Platform;
 use plan_words::choose;
 use std::alloc::{AllocError, Global};
-use workspace_edits::edits_of;
+use workspace_edits::{Inheritance, edits_of};
 
 /// Returns whether `member` is one of `selected`.
 fn is_selected(selected: &[usize], member: usize) -> bool
@@ -80,14 +81,15 @@ fn in_order<'v>(alloc: Global, tried: &[Slim<'v>]) -> Result<Vec<Slim<'v>>, Allo
 fn slims_by<'w, 'v, P: Platform>(
     alloc: Global,
     workspace: &Workspace<'v>,
+    inheritance: &Inheritance<'_>,
     words: &PlanWords<'w, '_, P>,
     before: &[Unit<'_>],
     members: &[usize],
 ) -> Result<Vec<Slim<'v>>, AllocError>
-    ensures { IfOk result (λ slims. AreSlimsBy (workspace_text workspace.now) (words_text P.holds words.now) (map unit_text before.now) members.now (map slim_text slims.items)) }
+    ensures { IfOk result (λ slims. AreSlimsBy (workspace_text workspace.now) (inheritance_text inheritance.now) (words_text P.holds words.now) (map unit_text before.now) members.now (map slim_text slims.items)) }
 {
-    let edits = edits_of(alloc, workspace, members)?;
-    let tried = all_tried(alloc, workspace, words, before, &edits)?;
+    let edits = edits_of(alloc, workspace, inheritance, members)?;
+    let tried = all_tried(alloc, workspace, inheritance, words, before, &edits)?;
     in_order(alloc, &tried)
 }
 
@@ -95,29 +97,38 @@ fn slims_by<'w, 'v, P: Platform>(
 fn slims_of_selected<'w, 'v, P: Platform>(
     alloc: Global,
     workspace: &Workspace<'v>,
+    inheritance: &Inheritance<'_>,
     words: &PlanWords<'w, '_, P>,
     before: &[Unit<'_>],
     selected: &[usize],
 ) -> Result<Vec<Slim<'v>>, AllocError>
-    ensures { IfOk result (λ slims. AreSlimsBy (workspace_text workspace.now) (words_text P.holds words.now) (map unit_text before.now) (spec.selected_members (workspace_text workspace.now) selected.now) (map slim_text slims.items)) }
+    ensures { IfOk result (λ slims. AreSlimsBy (workspace_text workspace.now) (inheritance_text inheritance.now) (words_text P.holds words.now) (map unit_text before.now) (spec.selected_members (workspace_text workspace.now) selected.now) (map slim_text slims.items)) }
 {
     let members = selected_members(alloc, workspace, selected)?;
-    slims_by(alloc, workspace, words, before, &members)
+    slims_by(alloc, workspace, inheritance, words, before, &members)
 }
 
-/// Returns the single edits of declarations of the selected members by which packages or features of `plan` fall away: most packages
-/// first, then most features, then in the order of the edits. `plan` is that of `words` in `workspace`; the numbers are by the plan of
-/// the same words in the edited workspace. An edit is left out if nothing falls away by it, or if the words have no plan in its workspace.
+/// Returns the single edits of declarations of the selected members, and of entries that these inherit by `inheritance`, by which packages
+/// or features of `plan` fall away: most packages first, then most features, then in the order of the edits. `plan` is that of `words` in
+/// `workspace`; the numbers are by the plan of the same words in the edited workspace. An edit is left out if nothing falls away by it, or if the words have no plan in its workspace.
 /// The only errors are the refusal of the words, and `Memory` if an allocation fails.
 pub fn slims_of<'w, 'v, P: Platform>(
     alloc: Global,
     workspace: &'w Workspace<'v>,
+    inheritance: &Inheritance<'_>,
     words: &PlanWords<'w, '_, P>,
     plan: &Plan<'_>,
 ) -> Result<Vec<Slim<'v>>, WordFault<'w>>
-    ensures slims { IfOk result (λ slims. AreSlimsOf (workspace_text workspace.now) (words_text P.holds words.now) (plan_text plan.now).units (map slim_text slims.items)) }
+    ensures slims { IfOk result (λ slims. AreSlimsOf (workspace_text workspace.now) (inheritance_text inheritance.now) (words_text P.holds words.now) (plan_text plan.now).units (map slim_text slims.items)) }
     ensures fault { IfErr result (λ fault. IfNotMemory (refusal_of fault) (chosen_by (workspace_text workspace.now) (selection_text words.now.selection) ≡ Err (refusal_of fault))) }
 {
     let chosen = choose(alloc, workspace, &words.selection)?;
-    Ok(slims_of_selected(alloc, workspace, words, plan.units(), &chosen.selected)?)
+    Ok(slims_of_selected(
+        alloc,
+        workspace,
+        inheritance,
+        words,
+        plan.units(),
+        &chosen.selected,
+    )?)
 }

@@ -6,6 +6,7 @@ ghost use Rattle.cargo_plans.specs.WordsView.{words_text};
 ghost use Rattle.plan_slims.specs.Losses.{losses_of as losses_by};
 ghost use Rattle.cargo_plans.specs.plan_steps.PlanViews.{plan_text};
 ghost use Rattle.cargo_plans.specs.plan_units.UnitViews.{unit_text};
+ghost use Rattle.inherited_dependencies.specs.InheritanceView.{inheritance_text};
 ghost use Rattle.workspace_edits.specs.EditViews.{edit_text};
 ghost use Rattle.plan_slims.specs.Slims.{AreTried, HasNumbersOf, IsTried, IsTriedIn, nothing};
 ghost use Rattle.plan_slims.specs.SlimViews.{slim_text};
@@ -16,7 +17,7 @@ use cargo_plans::{Plan, PlanFault, PlanWords, Unit, plan};
 use cargo_workspaces::{Package, Workspace};
 use plan_rows::Platform;
 use std::alloc::{AllocError, Global};
-use workspace_edits::{Edit, edited};
+use workspace_edits::{Edit, Inheritance, edited};
 
 /// Returns `edit` with the numbers of what falls away from the units `before` to the units `after`.
 fn counted<'v>(
@@ -105,15 +106,16 @@ fn words_in<'s, 'w: 's, 'n, P: Platform>(
 /// Returns `edit` with the numbers of what falls away from the units `before` to the plan of `words` after `edit` of `workspace`.
 fn tried<'w, 'v, P: Platform>(
     alloc: Global,
-    workspace: &Workspace<'v>,
+    workspace: &Workspace<'_>,
+    inheritance: &Inheritance<'_>,
     words: &PlanWords<'w, '_, P>,
     before: &[Unit<'_>],
     edit: &Edit<'v>,
 ) -> Result<Slim<'v>, AllocError>
     ensures edit { IfOk result (λ slim. (slim_text slim).edit ≡ edit_text edit.now) }
-    ensures tried { IfOk result (λ slim. IsTried (workspace_text workspace.now) (words_text P.holds words.now) (map unit_text before.now) (slim_text slim)) }
+    ensures tried { IfOk result (λ slim. IsTried (workspace_text workspace.now) (inheritance_text inheritance.now) (words_text P.holds words.now) (map unit_text before.now) (slim_text slim)) }
 {
-    let edited = edited(alloc, workspace, edit)?;
+    let edited = edited(alloc, workspace, inheritance, edit)?;
     let here = words_in(&edited, words);
     tried_in(alloc, workspace.packages(), &edited, &here, before, edit)
 }
@@ -121,16 +123,17 @@ fn tried<'w, 'v, P: Platform>(
 /// Returns `edits`, each with the numbers of what falls away from the units `before` to the plan of `words` after it.
 pub(crate) fn all_tried<'w, 'v, P: Platform>(
     alloc: Global,
-    workspace: &Workspace<'v>,
+    workspace: &Workspace<'_>,
+    inheritance: &Inheritance<'_>,
     words: &PlanWords<'w, '_, P>,
     before: &[Unit<'_>],
     edits: &[Edit<'v>],
 ) -> Result<Vec<Slim<'v>>, AllocError>
-    ensures { IfOk result (λ tried. AreTried (workspace_text workspace.now) (words_text P.holds words.now) (map unit_text before.now) (map edit_text edits.now) (map slim_text tried.items)) }
+    ensures { IfOk result (λ tried. AreTried (workspace_text workspace.now) (inheritance_text inheritance.now) (words_text P.holds words.now) (map unit_text before.now) (map edit_text edits.now) (map slim_text tried.items)) }
 {
     let mut all = Vec::with_capacity(alloc, edits.len())?;
     for edit in edits {
-        all.push(tried(alloc, workspace, words, before, edit)?)?;
+        all.push(tried(alloc, workspace, inheritance, words, before, edit)?)?;
     }
     Ok(all)
 }

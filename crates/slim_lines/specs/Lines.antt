@@ -1,13 +1,13 @@
 -- The lines in columns.
 use Rattle.std.specs.Prelude.{ℕ, ◌-◌, List, [], ◌∷◌, ◌++◌, Option, Some, None, map, length, replicate, codes}
 use Rattle.std.specs.Fmt.{decimal}
-use Rattle.cargo_workspaces.specs.Workspaces.{Text, PackageText}
+use Rattle.cargo_workspaces.specs.Workspaces.{DeclarationText, PackageText, Text}
 use Rattle.cargo_workspaces.specs.declared.package.Kind.{Kind}
 use Rattle.cargo_workspaces.specs.declared.package.Kind.TheVariants as kind
 use Rattle.line_parts.specs.Tables.{RowText, table_of}
 use Rattle.plan_slims.specs.Orders.{SlimText}
 use Rattle.workspace_edits.specs.Edits.{WithoutText, defaults, feature}
-use Rattle.slim_lines.specs.Shown.{ShownText, all_shown}
+use Rattle.slim_lines.specs.Shown.{ShownPlaceText, ShownText, all_shown, declared, inherited}
 
 -- Digits at the right of a column as wide as its title.
 abbrev pub at_right : Text → Text
@@ -33,13 +33,19 @@ abbrev pub without_words : WithoutText → Text
 without_words defaults = codes " without default features"
 without_words (feature name) = codes " without feature " ++ quoted name
 
--- The declaration, and what is taken out of it.
-abbrev pub edit_words : ShownText → Text
-edit_words s =
-    s.owner.name ++ (codes ": " ++ (s.declared.name ++ (kind_words s.declared.kind ++ (platform_words s.declared.platform ++ without_words s.without))))
+abbrev pub declared_words : PackageText → DeclarationText → Text
+declared_words x d = x.name ++ (codes ": " ++ (d.name ++ (kind_words d.kind ++ platform_words d.platform)))
+
+abbrev pub inherited_words : Text → WithoutText → Text
+inherited_words name without = codes "[workspace.dependencies]: " ++ (name ++ (without_words without ++ codes ", for all members that inherit it"))
+
+-- What is edited, and what is taken out there.
+abbrev pub edit_words : ShownPlaceText → WithoutText → Text
+edit_words (declared x d) without = declared_words x d ++ without_words without
+edit_words (inherited name) without = inherited_words name without
 
 abbrev pub row_of : ShownText → RowText
-row_of s = record { first = number_cell s.packages; second = number_cell s.features; third = edit_words s }
+row_of s = record { first = number_cell s.packages; second = number_cell s.features; third = edit_words s.place s.without }
 
 abbrev pub titles : RowText
 titles = record { first = codes "packages"; second = codes "features"; third = codes "edit of a declaration" }

@@ -1,13 +1,13 @@
 -- The lines as JSON objects.
 use Rattle.std.specs.Prelude.{ℕ, List, ◌∷◌, ◌++◌, Option, Some, None, flat_map, codes}
 use Rattle.json.specs.Token.{Token, begin_object}
-use Rattle.cargo_workspaces.specs.Workspaces.{Text, PackageText}
+use Rattle.cargo_workspaces.specs.Workspaces.{DeclarationText, PackageText, Text}
 use Rattle.cargo_workspaces.specs.declared.package.Kind.{Kind}
 use Rattle.cargo_workspaces.specs.declared.package.Kind.TheVariants as kind
 use Rattle.line_parts.specs.Members.{number_member, object_line, optional_member, text_member}
 use Rattle.plan_slims.specs.Orders.{SlimText}
 use Rattle.workspace_edits.specs.Edits.{WithoutText, defaults, feature}
-use Rattle.slim_lines.specs.Shown.{ShownText, all_shown}
+use Rattle.slim_lines.specs.Shown.{ShownPlaceText, ShownText, all_shown, declared, inherited}
 
 abbrev pub kind_word : Kind → Text
 kind_word kind.Normal = codes "normal"
@@ -15,10 +15,20 @@ kind_word kind.Build = codes "build"
 kind_word kind.Development = codes "dev"
 
 -- The id of the package, and its declaration.
-abbrev pub declared_members : ShownText → List Token
-declared_members s =
-    text_member (codes "package") s.owner.id
-    ++ (text_member (codes "dependency") s.declared.name ++ (text_member (codes "kind") (kind_word s.declared.kind) ++ optional_member (codes "platform") s.declared.platform))
+abbrev pub declared_members : PackageText → DeclarationText → List Token
+declared_members x d =
+    text_member (codes "package") x.id
+    ++ (text_member (codes "dependency") d.name ++ (text_member (codes "kind") (kind_word d.kind) ++ optional_member (codes "platform") d.platform))
+
+-- The name of the workspace's entry.
+abbrev pub inherited_members : Text → List Token
+inherited_members name =
+    optional_member (codes "package") None
+    ++ (text_member (codes "dependency") name ++ (optional_member (codes "kind") None ++ optional_member (codes "platform") None))
+
+abbrev pub place_members : ShownPlaceText → List Token
+place_members (declared x d) = declared_members x d
+place_members (inherited name) = inherited_members name
 
 abbrev pub out_members : Text → Option Text → List Token
 out_members word name = text_member (codes "without") word ++ optional_member (codes "feature") name
@@ -33,7 +43,7 @@ abbrev pub number_members : ℕ → ℕ → List Token
 number_members packages features = number_member (codes "packages") packages ++ number_member (codes "features") features
 
 abbrev pub members : ShownText → List Token
-members s = declared_members s ++ (without_members s.without ++ number_members s.packages s.features)
+members s = place_members s.place ++ (without_members s.without ++ number_members s.packages s.features)
 
 abbrev pub line_of : ShownText → Text
 line_of s = object_line (begin_object ∷ members s)

@@ -1,14 +1,14 @@
 //! Edits by which a build is smaller, as JSON objects.
 ghost use Rattle.std.specs.Prelude.{◌≡◌, ◌++◌, IfOk, OnOk, codes, map, flat_map, option_map};
-ghost use Rattle.cargo_workspaces.specs.Views.{package_text};
+ghost use Rattle.cargo_workspaces.specs.Views.{declaration_text, package_text};
 ghost use Rattle.line_parts.specs.Members.{Appends, text_member};
 ghost use Rattle.plan_slims.specs.SlimViews.{slim_text};
 ghost use Rattle.workspace_edits.specs.EditViews.{without_text};
 ghost use Rattle.slim_lines.specs.Objects as spec;
-ghost use Rattle.slim_lines.specs.Views.{shown_text};
+ghost use Rattle.slim_lines.specs.Views.{shown_place_text, shown_text};
 
-use crate::shown::{Shown, all_shown};
-use cargo_workspaces::{Kind, Package};
+use crate::shown::{Shown, ShownPlace, all_shown};
+use cargo_workspaces::{Declaration, Kind, Package};
 use json::Writer;
 use line_parts::{begin_line, end_line, write_member, write_number, write_optional};
 use plan_slims::{Slim, Without};
@@ -32,14 +32,41 @@ fn write_kind(writer: &mut Writer, kind: Kind) -> Result<(), AllocError>
     write_member(writer, "kind", kind_word(kind))
 }
 
-/// Writes the declaration of `shown`.
-fn write_declared(writer: &mut Writer, shown: &Shown<'_, '_>) -> Result<(), AllocError>
-    ensures { OnOk result (Appends writer.old writer.new (spec.declared_members (shown_text shown.now))) }
+/// Writes `declaration` of `package`.
+fn write_declared(
+    writer: &mut Writer,
+    package: &Package<'_>,
+    declaration: &Declaration<'_>,
+) -> Result<(), AllocError>
+    ensures { OnOk result (Appends writer.old writer.new (spec.declared_members (package_text «package».now) (declaration_text declaration.now))) }
 {
-    write_member(writer, "package", shown.package.id)?;
-    write_member(writer, "dependency", shown.declaration.name)?;
-    write_kind(writer, shown.declaration.kind)?;
-    write_optional(writer, "platform", shown.declaration.platform)
+    write_member(writer, "package", package.id)?;
+    write_member(writer, "dependency", declaration.name)?;
+    write_kind(writer, declaration.kind)?;
+    write_optional(writer, "platform", declaration.platform)
+}
+
+/// Writes the workspace's entry `name`.
+fn write_inherited(writer: &mut Writer, name: &str) -> Result<(), AllocError>
+    ensures { OnOk result (Appends writer.old writer.new (spec.inherited_members name.now)) }
+{
+    write_optional(writer, "package", None)?;
+    write_member(writer, "dependency", name)?;
+    write_optional(writer, "kind", None)?;
+    write_optional(writer, "platform", None)
+}
+
+/// Writes `place`, which an edit changes.
+fn write_place(writer: &mut Writer, place: ShownPlace<'_, '_>) -> Result<(), AllocError>
+    ensures { OnOk result (Appends writer.old writer.new (spec.place_members (shown_place_text place.entry))) }
+{
+    match place {
+        ShownPlace::Declared {
+            package,
+            declaration,
+        } => write_declared(writer, package, declaration),
+        ShownPlace::Inherited(name) => write_inherited(writer, name),
+    }
 }
 
 /// Writes `word`, which says what an edit takes out, and `feature`, if there is one.
@@ -72,7 +99,7 @@ fn write_numbers(writer: &mut Writer, packages: usize, features: usize) -> Resul
 fn write_members(writer: &mut Writer, shown: &Shown<'_, '_>) -> Result<(), AllocError>
     ensures { OnOk result (Appends writer.old writer.new (spec.members (shown_text shown.now))) }
 {
-    write_declared(writer, shown)?;
+    write_place(writer, shown.place)?;
     write_without(writer, shown.without)?;
     write_numbers(writer, shown.packages, shown.features)
 }
@@ -97,8 +124,8 @@ fn objects_of(alloc: Global, shown: &[Shown<'_, '_>]) -> Result<Vec<u8>, AllocEr
     Ok(text)
 }
 
-/// Returns a line for each of `slims`: a JSON object with the package, the declaration, the default features or the feature that the edit
-/// takes out, and the numbers of packages and features that fall away. `packages` are those of the workspace; edits of declarations that they
+/// Returns a line for each of `slims`: a JSON object with the package and the declaration, or the workspace's entry, the default features or the
+/// feature that the edit takes out, and the numbers of packages and features that fall away. `packages` are those of the workspace; edits of declarations that they
 /// don't have are left out.
 pub fn slim_objects<'u>(
     alloc: Global,

@@ -1,13 +1,14 @@
 //! The rows of the table of edits.
 ghost use Rattle.std.specs.Prelude.{◌≡◌, ◌++◌, ◌-◌, IfOk, OnOk, codes, length, option_map, replicate, string_bytes};
 ghost use Rattle.std.specs.Fmt.{decimal};
+ghost use Rattle.cargo_workspaces.specs.Views.{declaration_text, package_text};
 ghost use Rattle.line_parts.specs.Views.{row_text};
 ghost use Rattle.workspace_edits.specs.EditViews.{without_text};
 ghost use Rattle.slim_lines.specs.Lines as spec;
 ghost use Rattle.slim_lines.specs.Views.{shown_text};
 
-use crate::shown::Shown;
-use cargo_workspaces::Kind;
+use crate::shown::{Shown, ShownPlace};
+use cargo_workspaces::{Declaration, Kind, Package};
 use line_parts::Row;
 use plan_slims::Without;
 use std::alloc::{AllocError, Global};
@@ -98,17 +99,58 @@ fn push_without(text: &mut String, without: Without<'_>) -> Result<(), AllocErro
     }
 }
 
+/// Returns the words for `declaration` of `package`.
+fn declared_words(
+    alloc: Global,
+    package: &Package<'_>,
+    declaration: &Declaration<'_>,
+) -> Result<String, AllocError>
+    ensures { IfOk result (λ text. string_bytes text ≡ spec.declared_words (package_text «package».now) (declaration_text declaration.now)) }
+{
+    let mut text = String::from_str(alloc, package.name)?;
+    text.push_str(": ")?;
+    text.push_str(declaration.name)?;
+    text.push_str(kind_words(declaration.kind))?;
+    push_platform(&mut text, declaration.platform)?;
+    Ok(text)
+}
+
+/// Returns the words for an edit of `declaration` of `package`.
+fn declared_edit(
+    alloc: Global,
+    package: &Package<'_>,
+    declaration: &Declaration<'_>,
+    without: Without<'_>,
+) -> Result<String, AllocError>
+    ensures { IfOk result (λ text. string_bytes text ≡ spec.declared_words (package_text «package».now) (declaration_text declaration.now) ++ spec.without_words (without_text without.entry)) }
+{
+    let mut text = declared_words(alloc, package, declaration)?;
+    push_without(&mut text, without)?;
+    Ok(text)
+}
+
+/// Returns the words for an edit of the workspace's entry `name`.
+fn inherited_edit(alloc: Global, name: &str, without: Without<'_>) -> Result<String, AllocError>
+    ensures { IfOk result (λ text. string_bytes text ≡ spec.inherited_words name.now (without_text without.entry)) }
+{
+    let mut text = String::from_str(alloc, "[workspace.dependencies]: ")?;
+    text.push_str(name)?;
+    push_without(&mut text, without)?;
+    text.push_str(", for all members that inherit it")?;
+    Ok(text)
+}
+
 /// Returns the words for the edit of `shown`.
 fn edit_words(alloc: Global, shown: &Shown<'_, '_>) -> Result<String, AllocError>
-    ensures { IfOk result (λ text. string_bytes text ≡ spec.edit_words (shown_text shown.now)) }
+    ensures { IfOk result (λ text. string_bytes text ≡ spec.edit_words (shown_text shown.now).place (shown_text shown.now).without) }
 {
-    let mut text = String::from_str(alloc, shown.package.name)?;
-    text.push_str(": ")?;
-    text.push_str(shown.declaration.name)?;
-    text.push_str(kind_words(shown.declaration.kind))?;
-    push_platform(&mut text, shown.declaration.platform)?;
-    push_without(&mut text, shown.without)?;
-    Ok(text)
+    match shown.place {
+        ShownPlace::Declared {
+            package,
+            declaration,
+        } => declared_edit(alloc, package, declaration, shown.without),
+        ShownPlace::Inherited(name) => inherited_edit(alloc, name, shown.without),
+    }
 }
 
 /// Returns the row of `shown`.

@@ -1,20 +1,31 @@
-//! Edits with the package and the declaration that a line shows.
-ghost use Rattle.std.specs.Prelude.{◌≡◌, ◌++◌, ◌∷◌, [], IfOk, OnOk, map, flat_map, option_map, slice_get};
+//! Edits with the places that lines show.
+ghost use Rattle.std.specs.Prelude.{◌≡◌, ◌++◌, IfOk, OnOk, map, flat_map, option_map, slice_get};
 ghost use Rattle.cargo_workspaces.specs.Views.{declaration_text, package_text};
 ghost use Rattle.plan_slims.specs.SlimViews.{slim_text};
 ghost use Rattle.slim_lines.specs.Shown as spec;
-ghost use Rattle.slim_lines.specs.Views.{shown_text};
+ghost use Rattle.slim_lines.specs.Views.{shown_place_text, shown_text};
+ghost use Rattle.workspace_edits.specs.EditViews.{place_text};
 
 use cargo_workspaces::{Declaration, Package};
-use plan_slims::{Slim, Without};
+use plan_slims::{EditPlace, Slim, Without};
 use std::alloc::{AllocError, Global};
 
-/// An edit with the package and the declaration that its line shows.
+/// What an edit changes, as its line shows it.
+#[derive(Clone, Copy)]
+pub(crate) enum ShownPlace<'u, 'v> {
+    /// A declaration of a package.
+    Declared {
+        package: &'u Package<'v>,
+        declaration: &'u Declaration<'v>,
+    },
+    /// The entry of the table `[workspace.dependencies]` with this name.
+    Inherited(&'u str),
+}
+
+/// An edit with the place that its line shows.
 #[derive(Clone, Copy)]
 pub(crate) struct Shown<'u, 'v> {
-    /// The package whose declaration is edited.
-    pub(crate) package: &'u Package<'v>,
-    pub(crate) declaration: &'u Declaration<'v>,
+    pub(crate) place: ShownPlace<'u, 'v>,
     pub(crate) without: Without<'u>,
     /// The number of packages that fall away.
     pub(crate) packages: usize,
@@ -36,18 +47,41 @@ fn declaration_at<'u, 'v>(package: &'u Package<'v>, number: usize) -> Option<&'u
     package.declarations.get(number)
 }
 
-/// Appends `slim` with its declaration, which is one of `package`. Appends nothing if `package` has no such declaration.
-fn push_declared<'u, 'v>(
-    shown: &mut Vec<Shown<'u, 'v>>,
-    package: &'u Package<'v>,
-    slim: &Slim<'u>,
-) -> Result<(), AllocError>
-    ensures { OnOk result (map shown_text shown.new.items ≡ map shown_text shown.old.items ++ spec.shown_in (package_text «package».now) (slim_text slim.now)) }
+/// Returns the place of declaration `number` of `package`, if there is one.
+fn declared_in<'u, 'v>(number: usize, package: &'u Package<'v>) -> Option<ShownPlace<'u, 'v>>
+    ensures { option_map shown_place_text result ≡ spec.declared_in number (package_text «package».now) }
 {
-    if let Some(declaration) = declaration_at(package, slim.edit.declaration) {
-        shown.push(Shown {
+    let declaration = declaration_at(package, number)?;
+    Some(ShownPlace::Declared {
+        package,
+        declaration,
+    })
+}
+
+/// Returns the place that a line about `place` shows. `packages` are those of the workspace; there is none if they don't have the declaration.
+fn place_of<'u, 'v>(packages: &'u [Package<'v>], place: EditPlace<'u>) -> Option<ShownPlace<'u, 'v>>
+    ensures { option_map shown_place_text result ≡ spec.place_of (map package_text packages.now) (place_text place.entry) }
+{
+    match place {
+        EditPlace::Declaration {
             package,
             declaration,
+        } => declared_in(declaration, package_at(packages, package)?),
+        EditPlace::TableEntry(name) => Some(ShownPlace::Inherited(name)),
+    }
+}
+
+/// Appends `slim` with `place`, if there is one.
+fn push_at<'u, 'v>(
+    shown: &mut Vec<Shown<'u, 'v>>,
+    slim: &Slim<'u>,
+    place: Option<ShownPlace<'u, 'v>>,
+) -> Result<(), AllocError>
+    ensures { OnOk result (map shown_text shown.new.items ≡ map shown_text shown.old.items ++ spec.shown_if (slim_text slim.now) (option_map shown_place_text place.entry)) }
+{
+    if let Some(place) = place {
+        shown.push(Shown {
+            place,
             without: slim.edit.without,
             packages: slim.packages,
             features: slim.features,
@@ -56,7 +90,7 @@ fn push_declared<'u, 'v>(
     Ok(())
 }
 
-/// Appends `slim` with its package and its declaration. Appends nothing if `packages` have no such declaration.
+/// Appends `slim` with its place. Appends nothing if `packages` don't have its declaration.
 fn push_shown<'u, 'v>(
     shown: &mut Vec<Shown<'u, 'v>>,
     packages: &'u [Package<'v>],
@@ -64,13 +98,10 @@ fn push_shown<'u, 'v>(
 ) -> Result<(), AllocError>
     ensures { OnOk result (map shown_text shown.new.items ≡ map shown_text shown.old.items ++ spec.shown_of (map package_text packages.now) (slim_text slim.now)) }
 {
-    match package_at(packages, slim.edit.package) {
-        Some(package) => push_declared(shown, package, slim),
-        None => Ok(()),
-    }
+    push_at(shown, slim, place_of(packages, slim.edit.place))
 }
 
-/// Returns `slims` with their packages and declarations, without those whose declaration `packages` don't have.
+/// Returns `slims` with their places, without those whose declaration `packages` don't have.
 pub(crate) fn all_shown<'u, 'v>(
     alloc: Global,
     packages: &'u [Package<'v>],

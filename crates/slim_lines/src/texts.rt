@@ -8,6 +8,7 @@ ghost use Rattle.plan_slims.specs.cargo_plans.plan_steps.PlanViews.{plan_text};
 ghost use Rattle.plan_words.specs.Choices.{choose as chosen_by};
 ghost use Rattle.plan_words.specs.Refusals.{IfNotMemory, refusal_of};
 ghost use Rattle.plan_words.specs.Selections.{selection_text};
+ghost use Rattle.toml.specs.View.{view};
 ghost use Rattle.slim_lines.specs.Texts as spec;
 ghost use Rattle.slim_lines.specs.Texts.{IsSlimText};
 
@@ -15,9 +16,11 @@ use crate::objects::slim_objects;
 use crate::table::slim_lines;
 use cargo_workspaces::{Package, Workspace};
 use feats_words::Format;
+use inherited_dependencies::inheritance_in;
 use plan_rows::Platform;
 use plan_slims::{Plan, PlanWords, Slim, WordFault, slims_of};
 use std::alloc::{AllocError, Global};
+use toml::Value;
 
 /// Returns the text of `slims`.
 fn text_of<'u>(
@@ -34,18 +37,20 @@ fn text_of<'u>(
     }
 }
 
-/// Returns the text about the single edits of the selected members' declarations by which packages or features of `plan` fall away.
-/// `plan` is that of `words` in `workspace`. The only errors are the refusal of the words, and `Memory` if an allocation fails.
+/// Returns the text about the single edits of the selected members' declarations, and of what they inherit by `manifests`, by which packages
+/// or features of `plan` fall away. `plan` is that of `words` in `workspace`. The only errors are the refusal of the words, and `Memory` if an allocation fails.
 pub fn slim_text<'w, P: Platform>(
     alloc: Global,
     format: Format,
     workspace: &'w Workspace<'_>,
+    manifests: &[Value],
     words: &PlanWords<'w, '_, P>,
     plan: &Plan<'_>,
 ) -> Result<Vec<u8>, WordFault<'w>>
-    ensures text { IfOk result (λ text. IsSlimText format (workspace_text workspace.now) (words_text P.holds words.now) (plan_text plan.now).units text.items) }
+    ensures text { IfOk result (λ text. IsSlimText format (workspace_text workspace.now) (map view manifests.now) (words_text P.holds words.now) (plan_text plan.now).units text.items) }
     ensures fault { IfErr result (λ fault. IfNotMemory (refusal_of fault) (chosen_by (workspace_text workspace.now) (selection_text words.now.selection) ≡ Err (refusal_of fault))) }
 {
-    let slims = slims_of(alloc, workspace, words, plan)?;
+    let inheritance = inheritance_in(alloc, workspace, manifests)?;
+    let slims = slims_of(alloc, workspace, &inheritance, words, plan)?;
     Ok(text_of(alloc, format, workspace.packages(), &slims)?)
 }

@@ -1,6 +1,8 @@
 -- The values that edits contain.
-use Rattle.workspace_edits.specs.Edits.{EditText, WithoutText, defaults, feature}
+use Rattle.workspace_edits.specs.Edits.{EditText, PlaceText, WithoutText, declaration_at, defaults, feature, table_entry}
 use Rattle.workspace_edits.specs.declared.edits.Edit.{Edit}
+use Rattle.workspace_edits.specs.declared.edits.EditPlace.{EditPlace}
+use Rattle.workspace_edits.specs.declared.edits.EditPlace.TheVariants as place
 use Rattle.workspace_edits.specs.declared.edits.Without.{Without}
 use Rattle.workspace_edits.specs.declared.edits.Without.TheVariants as without
 
@@ -8,5 +10,9 @@ abbrev pub without_text : Without → WithoutText
 without_text without.Defaults = defaults
 without_text (without.Feature name) = feature name.now
 
+abbrev pub place_text : EditPlace → PlaceText
+place_text (place.Declaration p n) = declaration_at p n
+place_text (place.TableEntry name) = table_entry name.now
+
 abbrev pub edit_text : Edit → EditText
-edit_text e = record { number = e.«package»; declaration = e.declaration; without = without_text e.without }
+edit_text e = record { place = place_text e.place; without = without_text e.without }

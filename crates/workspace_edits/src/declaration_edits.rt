@@ -1,13 +1,17 @@
 //! The edits of declarations.
-ghost use Rattle.std.specs.Prelude.{◌≡◌, ◌++◌, ◌∷◌, [], IfOk, OnOk, if◌then◌else◌, map, option_map, slice_get};
+ghost use Rattle.std.specs.Prelude.{◌≡◌, ◌++◌, ◌∷◌, [], IfOk, OnOk, if◌then◌else◌, flat_map, map, option_map, slice_get};
 ghost use Rattle.cargo_workspaces.specs.Views.{declaration_text, package_text, texts};
 ghost use Rattle.cargo_workspaces.specs.WorkspaceView.{workspace_text};
-ghost use Rattle.workspace_edits.specs.EditViews.{edit_text, without_text};
+ghost use Rattle.inherited_dependencies.specs.InheritanceView.{inheritance_text};
+ghost use Rattle.workspace_edits.specs.EditViews.{edit_text, place_text, without_text};
 ghost use Rattle.workspace_edits.specs.Edits as spec;
 ghost use Rattle.workspace_edits.specs.inner.Seen.{HasTexts};
 
-use crate::edits::{Edit, Without};
+use crate::edits::{Edit, EditPlace, Without};
+use crate::same_edits::each_once;
+use crate::sources::{is_own, is_shared};
 use cargo_workspaces::{Declaration, Package, Workspace};
+use inherited_dependencies::Inheritance;
 use std::alloc::{AllocError, Global};
 use std::collections::BTreeSet;
 
@@ -73,21 +77,57 @@ fn parts_of<'v>(
     Ok(parts)
 }
 
-/// Appends the edits of declaration `number` of package `package`, which take out `parts`.
-fn push_parts<'v>(
-    edits: &mut Vec<Edit<'v>>,
+/// Returns what to edit to take `without` out of declaration `number` of package `package`, which has the name `name`.
+fn place_of<'v>(
+    inheritance: &Inheritance<'_>,
     package: usize,
     number: usize,
-    parts: &[Without<'v>],
-) -> Result<(), AllocError>
-    ensures { OnOk result (map edit_text edits.new.items ≡ map edit_text edits.old.items ++ map (spec.edit_by «package» number) (map without_text parts.now)) }
+    name: &'v str,
+    without: Without<'_>,
+) -> Option<EditPlace<'v>>
+    ensures { option_map place_text result ≡ spec.place_of (inheritance_text inheritance.now) «package» number name.entry.now (without_text without.entry) }
 {
-    for part in parts {
-        edits.push(Edit {
+    let own = inheritance.own_entry(package, number);
+    if is_own(inheritance.shared_entry(name), own, without) {
+        return Some(EditPlace::Declaration {
             package,
             declaration: number,
-            without: *part,
-        })?;
+        });
+    }
+    if is_shared(own, without) {
+        return Some(EditPlace::TableEntry(name));
+    }
+    None
+}
+
+/// Appends the edit that takes `without` out of `place`, if there is one.
+fn push_edit<'v>(
+    edits: &mut Vec<Edit<'v>>,
+    place: Option<EditPlace<'v>>,
+    without: Without<'v>,
+) -> Result<(), AllocError>
+    ensures { OnOk result (map edit_text edits.new.items ≡ map edit_text edits.old.items ++ spec.edit_if (option_map place_text place.entry) (without_text without.entry)) }
+{
+    if let Some(place) = place {
+        edits.push(Edit { place, without })?;
+    }
+    Ok(())
+}
+
+/// Appends the edits of declaration `number` of package `package`, which has the name `name`, by which `parts` are taken out.
+fn push_parts<'v>(
+    edits: &mut Vec<Edit<'v>>,
+    inheritance: &Inheritance<'_>,
+    package: usize,
+    number: usize,
+    name: &'v str,
+    parts: &[Without<'v>],
+) -> Result<(), AllocError>
+    ensures { OnOk result (map edit_text edits.new.items ≡ map edit_text edits.old.items ++ flat_map (spec.edit_of (inheritance_text inheritance.now) «package» number name.entry.now) (map without_text parts.now)) }
+{
+    for part in parts {
+        let place = place_of(inheritance, package, number, name, *part);
+        push_edit(edits, place, *part)?;
     }
     Ok(())
 }
@@ -96,27 +136,36 @@ fn push_parts<'v>(
 fn push_declaration<'v>(
     alloc: Global,
     edits: &mut Vec<Edit<'v>>,
+    inheritance: &Inheritance<'_>,
     package: usize,
     number: usize,
     declaration: &Declaration<'v>,
 ) -> Result<(), AllocError>
-    ensures { OnOk result (map edit_text edits.new.items ≡ map edit_text edits.old.items ++ map (spec.edit_by «package» number) (spec.parts_of (declaration_text declaration.now))) }
+    ensures { OnOk result (map edit_text edits.new.items ≡ map edit_text edits.old.items ++ flat_map (spec.edit_of (inheritance_text inheritance.now) «package» number (declaration_text declaration.now).name) (spec.parts_of (declaration_text declaration.now))) }
 {
     let parts = parts_of(alloc, declaration)?;
-    push_parts(edits, package, number, &parts)
+    push_parts(
+        edits,
+        inheritance,
+        package,
+        number,
+        declaration.name,
+        &parts,
+    )
 }
 
 /// Appends the edits of `declarations`, which are those of package `package`.
 fn push_declarations<'v>(
     alloc: Global,
     edits: &mut Vec<Edit<'v>>,
+    inheritance: &Inheritance<'_>,
     package: usize,
     declarations: &[Declaration<'v>],
 ) -> Result<(), AllocError>
-    ensures { OnOk result (map edit_text edits.new.items ≡ map edit_text edits.old.items ++ spec.edits_from «package» 0 (map declaration_text declarations.now)) }
+    ensures { OnOk result (map edit_text edits.new.items ≡ map edit_text edits.old.items ++ spec.edits_from (inheritance_text inheritance.now) «package» 0 (map declaration_text declarations.now)) }
 {
     for (number, declaration) in declarations.iter().enumerate() {
-        push_declaration(alloc, edits, package, number, declaration)?;
+        push_declaration(alloc, edits, inheritance, package, number, declaration)?;
     }
     Ok(())
 }
@@ -132,30 +181,45 @@ fn package_at<'u, 'v>(packages: &'u [Package<'v>], package: usize) -> Option<&'u
 fn push_package<'v>(
     alloc: Global,
     edits: &mut Vec<Edit<'v>>,
+    inheritance: &Inheritance<'_>,
     packages: &[Package<'v>],
     package: usize,
 ) -> Result<(), AllocError>
-    ensures { OnOk result (map edit_text edits.new.items ≡ map edit_text edits.old.items ++ spec.edits_at (map package_text packages.now) «package») }
+    ensures { OnOk result (map edit_text edits.new.items ≡ map edit_text edits.old.items ++ spec.edits_at (inheritance_text inheritance.now) (map package_text packages.now) «package») }
 {
     match package_at(packages, package) {
-        Some(described) => push_declarations(alloc, edits, package, &described.declarations),
+        Some(described) => push_declarations(
+            alloc,
+            edits,
+            inheritance,
+            package,
+            &described.declarations,
+        ),
         None => Ok(()),
     }
 }
 
 /// Returns the edits of the declarations of the packages with the numbers `packages`, package by package. For each declaration these are
-/// the edit without default features, if it uses them, and one without each feature that it lists. An allocation's failure is the
-/// only error.
+/// the edit without default features, if it uses them, and one without each feature that it lists. If `inheritance` says that the
+/// declaration inherits such a part, the edit is that of the entry in `[workspace.dependencies]`, listed once; if both have the part,
+/// there is none. An allocation's failure is the only error.
 pub fn edits_of<'v>(
     alloc: Global,
     workspace: &Workspace<'v>,
+    inheritance: &Inheritance<'_>,
     packages: &[usize],
 ) -> Result<Vec<Edit<'v>>, AllocError>
-    ensures { IfOk result (λ edits. map edit_text edits.items ≡ spec.edits_of (workspace_text workspace.now) packages.now) }
+    ensures { IfOk result (λ edits. map edit_text edits.items ≡ spec.edits_of (workspace_text workspace.now) (inheritance_text inheritance.now) packages.now) }
 {
     let mut edits = Vec::new(alloc);
     for package in packages {
-        push_package(alloc, &mut edits, workspace.packages(), *package)?;
+        push_package(
+            alloc,
+            &mut edits,
+            inheritance,
+            workspace.packages(),
+            *package,
+        )?;
     }
-    Ok(edits)
+    each_once(alloc, &edits)
 }

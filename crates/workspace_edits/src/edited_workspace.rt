@@ -2,12 +2,15 @@
 ghost use Rattle.std.specs.Prelude.{◌≡◌, ◌++◌, IfOk, filter, if◌then◌else◌, map};
 ghost use Rattle.cargo_workspaces.specs.Views.{declaration_text, package_text, texts};
 ghost use Rattle.cargo_workspaces.specs.WorkspaceView.{workspace_text};
-ghost use Rattle.workspace_edits.specs.EditViews.{edit_text, without_text};
+ghost use Rattle.inherited_dependencies.specs.InheritanceView.{inheritance_text};
+ghost use Rattle.workspace_edits.specs.EditViews.{edit_text, place_text, without_text};
 ghost use Rattle.workspace_edits.specs.Edits as spec;
 
-use crate::copies::{copies_of_declarations, copy_of_declaration, declaration_with, package_with};
-use crate::edits::{Edit, Without};
+use crate::copies::{copy_of_declaration, declaration_with, package_with};
+use crate::edits::{Edit, EditPlace, Without};
+use crate::sources::is_shared;
 use cargo_workspaces::{Declaration, Package, Workspace};
+use inherited_dependencies::Inheritance;
 use std::alloc::{AllocError, Global};
 
 /// Returns those of `features` that aren't `name`.
@@ -76,93 +79,119 @@ fn declaration_after<'v>(
     }
 }
 
-/// Returns copies of `declarations`, of which that with the number `number` is without `without`.
+/// Returns whether the edit of `place` takes `without` out of declaration `number` of package `package`, which has the name `name`.
+fn is_changed(
+    inheritance: &Inheritance<'_>,
+    place: EditPlace<'_>,
+    without: Without<'_>,
+    package: usize,
+    number: usize,
+    name: &str,
+) -> bool
+    ensures { result ≡ spec.is_changed_at (inheritance_text inheritance.now) (place_text place.entry) (without_text without.entry) «package» number name.now }
+{
+    match place {
+        EditPlace::Declaration {
+            package: edited,
+            declaration,
+        } => edited == package && declaration == number,
+        EditPlace::TableEntry(entry) => {
+            entry == name && is_shared(inheritance.own_entry(package, number), without)
+        }
+    }
+}
+
+/// Returns a copy of declaration `number` of package `package` after `edit`.
+fn declaration_by<'v>(
+    alloc: Global,
+    inheritance: &Inheritance<'_>,
+    edit: &Edit<'_>,
+    package: usize,
+    number: usize,
+    declaration: &Declaration<'v>,
+) -> Result<Declaration<'v>, AllocError>
+    ensures { IfOk result (λ after. declaration_text after ≡ spec.declaration_after (inheritance_text inheritance.now) (edit_text edit.now) «package» number (declaration_text declaration.now)) }
+{
+    let changed = is_changed(
+        inheritance,
+        edit.place,
+        edit.without,
+        package,
+        number,
+        declaration.name,
+    );
+    declaration_after(alloc, changed, edit.without, declaration)
+}
+
+/// Returns copies of `declarations`, which are those of package `package`, after `edit`.
 fn edited_declarations<'v>(
     alloc: Global,
-    number: usize,
-    without: Without<'_>,
+    inheritance: &Inheritance<'_>,
+    edit: &Edit<'_>,
+    package: usize,
     declarations: &[Declaration<'v>],
 ) -> Result<Vec<Declaration<'v>>, AllocError>
-    ensures { IfOk result (λ edited. map declaration_text edited.items ≡ spec.changed_at (spec.edited_declaration (without_text without.entry)) number (map declaration_text declarations.now)) }
+    ensures { IfOk result (λ edited. map declaration_text edited.items ≡ spec.edited_declarations (inheritance_text inheritance.now) (edit_text edit.now) «package» (map declaration_text declarations.now)) }
 {
     let mut edited = Vec::with_capacity(alloc, declarations.len())?;
-    for (ix, declaration) in declarations.iter().enumerate() {
-        let after = declaration_after(alloc, number == ix, without, declaration)?;
+    for (number, declaration) in declarations.iter().enumerate() {
+        let after = declaration_by(alloc, inheritance, edit, package, number, declaration)?;
         edited.push(after)?;
     }
     Ok(edited)
 }
 
-/// Returns a copy of `package` after `edit`, which edits a declaration of it.
+/// Returns a copy of package `number` after `edit`.
 fn edited_package<'v>(
     alloc: Global,
+    inheritance: &Inheritance<'_>,
     edit: &Edit<'_>,
+    number: usize,
     package: &Package<'v>,
 ) -> Result<Package<'v>, AllocError>
-    ensures { IfOk result (λ edited. package_text edited ≡ spec.edited_package (edit_text edit.now).declaration (edit_text edit.now).without (package_text «package».now)) }
+    ensures { IfOk result (λ edited. package_text edited ≡ spec.edited_package (inheritance_text inheritance.now) (edit_text edit.now) number (package_text «package».now)) }
 {
     let declarations = edited_declarations(
         alloc,
-        edit.declaration,
-        edit.without,
+        inheritance,
+        edit,
+        number,
         &package.declarations,
     )?;
     package_with(alloc, package, declarations)
 }
 
-/// Returns a copy of `package`.
-fn copy_of_package<'v>(alloc: Global, package: &Package<'v>) -> Result<Package<'v>, AllocError>
-    ensures { IfOk result (λ copy. package_text copy ≡ package_text «package».now) }
-{
-    let declarations = copies_of_declarations(alloc, &package.declarations)?;
-    package_with(alloc, package, declarations)
-}
-
-/// Returns a copy of `package`, after `edit` if `is_edited`.
-fn package_after<'v>(
-    alloc: Global,
-    is_edited: bool,
-    edit: &Edit<'_>,
-    package: &Package<'v>,
-) -> Result<Package<'v>, AllocError>
-    ensures { IfOk result (λ after. package_text after ≡ (if is_edited then spec.edited_package (edit_text edit.now).declaration (edit_text edit.now).without (package_text «package».now) else package_text «package».now)) }
-{
-    if is_edited {
-        edited_package(alloc, edit, package)
-    } else {
-        copy_of_package(alloc, package)
-    }
-}
-
 /// Returns copies of `packages` after `edit`.
 fn edited_packages<'v>(
     alloc: Global,
+    inheritance: &Inheritance<'_>,
     edit: &Edit<'_>,
     packages: &[Package<'v>],
 ) -> Result<Vec<Package<'v>>, AllocError>
-    ensures { IfOk result (λ edited. map package_text edited.items ≡ spec.edited_packages (edit_text edit.now) (map package_text packages.now)) }
+    ensures { IfOk result (λ edited. map package_text edited.items ≡ spec.edited_packages (inheritance_text inheritance.now) (edit_text edit.now) (map package_text packages.now)) }
 {
     let mut edited = Vec::with_capacity(alloc, packages.len())?;
-    for (ix, package) in packages.iter().enumerate() {
-        let after = package_after(alloc, edit.package == ix, edit, package)?;
+    for (number, package) in packages.iter().enumerate() {
+        let after = edited_package(alloc, inheritance, edit, number, package)?;
         edited.push(after)?;
     }
     Ok(edited)
 }
 
-/// Returns the workspace of the document in which only the declaration of `edit` is changed, in all else a copy of `workspace`. An
-/// allocation's failure is the only error.
+/// Returns the workspace of the document in which only those declarations are changed that `edit` changes, in all else a copy of
+/// `workspace`. An allocation's failure is the only error.
 pub fn edited<'v>(
     alloc: Global,
     workspace: &Workspace<'v>,
+    inheritance: &Inheritance<'_>,
     edit: &Edit<'_>,
 ) -> Result<Workspace<'v>, AllocError>
-    ensures { IfOk result (λ edited. workspace_text edited ≡ spec.edited_text (workspace_text workspace.now) (edit_text edit.now)) }
+    ensures { IfOk result (λ edited. workspace_text edited ≡ spec.edited_text (workspace_text workspace.now) (inheritance_text inheritance.now) (edit_text edit.now)) }
 {
     // (calls named facts() carry the invariant into the proof)
     workspace.facts();
     let members = Vec::from_slice(alloc, workspace.members())?;
     let default_members = Vec::from_slice(alloc, workspace.default_members())?;
-    let packages = edited_packages(alloc, edit, workspace.packages())?;
+    let packages = edited_packages(alloc, inheritance, edit, workspace.packages())?;
     Ok(Workspace::new(packages, members, default_members, workspace.root()))
 }

@@ -102,7 +102,12 @@ returns-in-Check-clause-fault c =
     refuses asked w words build c.args.asked.arguments.now.question (question.Check c.in-Check.file c.in-Check.every_choice) c.check_answer.result c.in-Check.is
     (subst (λ declared. IfErr c.check_answer.result (λ f. Says f (IsCheckRefusal asked w declared words build c.in-Check.file.now c.in-Check.every_choice))) c.requires.specs c.check_answer.ensures.fault)
 
-pub returns-in_ok-slim_answer-in-Slim-clause-answer : goal.returns-in_ok-slim_answer-in-Slim-clause-answer
-returns-in_ok-slim_answer-in-Slim-clause-answer c =
-    answers (asked_text c.args.asked) (workspace_text c.args.workspace.now) (words_text holds_on c.args.words.now) (plan_text c.args.plan.now) c.args.asked.arguments.now.question question.Slim
-    (Ok c.in_ok-slim_answer-in-Slim.field-0) c.in-Slim.is c.in_ok-slim_answer-in-Slim.ensures
+pub returns-in-Slim-clause-answer : goal.returns-in-Slim-clause-answer
+returns-in-Slim-clause-answer c =
+    answers (asked_text c.args.asked) (workspace_text c.args.workspace.now) (words_text holds_on c.args.words.now) (plan_text c.args.plan.now) c.args.asked.arguments.now.question (question.Slim c.in-Slim._file)
+    c.slim_answer.result c.in-Slim.is c.slim_answer.ensures.answer
+
+pub returns-in-Slim-clause-fault : goal.returns-in-Slim-clause-fault
+returns-in-Slim-clause-fault c =
+    refuses (asked_text c.args.asked) (workspace_text c.args.workspace.now) (words_text holds_on c.args.words.now) (plan_text c.args.plan.now) c.args.asked.arguments.now.question (question.Slim c.in-Slim._file)
+    c.slim_answer.result c.in-Slim.is c.slim_answer.ensures.fault

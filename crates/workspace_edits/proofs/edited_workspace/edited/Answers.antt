@@ -1,5 +1,6 @@
 use Rattle.std.proofs.Common.{◌∙◌, ap}
 use Rattle.cargo_workspaces.specs.WorkspaceView.{workspace_text}
+use Rattle.inherited_dependencies.specs.InheritanceView.{inheritance_text}
 use Rattle.workspace_edits.specs.EditViews.{edit_text}
 use Rattle.workspace_edits.specs.Edits.{edited_packages}
 use Rattle.workspace_edits.proofs.EditLemmas.{made}
@@ -7,9 +8,10 @@ use Rattle.workspace_edits.proofs.edited_workspace.edited.Goals as goal
 
 pub new-requires : goal.new-requires
 new-requires c =
+    let i = inheritance_text c.args.inheritance.now in
     let e = edit_text c.args.edit.now in
-    made (workspace_text c.args.workspace.now) e _ _ _ _
-    (c.in_ok-packages.ensures ∙ ap (edited_packages e) c.packages.ensures)
+    made (workspace_text c.args.workspace.now) i e _ _ _ _
+    (c.in_ok-packages.ensures ∙ ap (edited_packages i e) c.packages.ensures)
     (c.in_ok-members.ensures.items ∙ c.members.ensures)
     (c.in_ok-default_members.ensures.items ∙ c.default_members.ensures)
     c.root.ensures

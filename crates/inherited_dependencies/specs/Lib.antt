@@ -1,0 +1,4 @@
+pub mod Entries
+pub mod Inheritances
+pub mod InheritanceView
+pub mod Manifests
