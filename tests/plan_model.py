@@ -231,10 +231,19 @@ def is_version(word, version):
     return word in (version, numbers) or '-' not in numbers and numbers.startswith(f'{word}.')
 
 
-def is_spec(word, package):
+def is_named(word, package):
     """Whether `word` is the package's name, or its name, `@` or `:`, and a version."""
     name, mark, version = re.fullmatch('([^@:]*)([@:]?)(.*)', word, re.DOTALL).groups()
     return name == package.name and (not mark or is_version(version, package.version))
+
+
+def is_spec(word, package):
+    """Whether `word` names the package: by its name, or by the URL of its source, with or without its kind and query."""
+    place, mark, fragment = word.partition('#')
+    source = package.id.partition('#')[0]
+    url = re.sub('^(registry|git|path)[+]', '', source).partition('?')[0]
+    is_last = url.endswith(f'/{package.name}') and (not mark or is_version(fragment, package.version))
+    return is_named(word, package) or place in (source, url) and (is_named(fragment, package) or is_last)
 
 
 def packages_named(document, word):

@@ -308,6 +308,22 @@ WORKED = [
         Row('-p ?lpha', 'refused', cargo='target alpha', differs='a star is the only sign of a pattern'),
         Row('-p [ab]*', 'refused', cargo='target alpha; target apex; target beta; target leaf', differs='a star is the only sign of a pattern'),
     ]),
+    Worked('urls', 'a word of `-p` may be the URL of a package, with or without its kind, and the package\'s name, version or both', [
+        member('a', Declared('ext/folder'), Declared('vendor/old')), Package('ext/folder', 'other'), Package('ext/leaf', 'leaf'),
+        member('b', Declared('ext/leaf')), Package('vendor/old', 'old'),
+    ], [
+        *(Row(f'-p b -p {word}', 'target b; target leaf') for word in (
+            'file:///w/ext/leaf', 'path+file:///w/ext/leaf', 'file:///w/ext/leaf#leaf', 'file:///w/ext/leaf#0.1', 'path+file:///w/ext/leaf#leaf@0',
+            'file:///w/ext/leaf#leaf:0.1.0')),
+        *(Row(f'-p a -p {word}', 'target a; target old 0.1.0; target other') for word in (
+            'file:///w/ext/folder#other', 'file:///w/ext/folder#other@0.1.0', 'https://github.com/rust-lang/crates.io-index#old',
+            'registry+https://github.com/rust-lang/crates.io-index#old@0.1')),
+        *(Row(f'-p a -p b -p {word}', 'refused') for word in (
+            'git+file:///w/ext/leaf', 'file:///w/ext/leaf?x=1', 'path+file:///w/ext/leaf#1', 'file:///w/ext/folder', 'file:///w/ext/folder#0.1.0',
+            'https://github.com/rust-lang/crates.io-index', 'https://github.com/rust-lang/crates.io-index#0.1.0', 'ext/leaf')),
+        Row('-p b -p file:///w/ext/leaf#', 'refused'),
+        Row('-p b -p file:///w/ext/../ext/leaf', 'refused', cargo='target b; target leaf', differs='cargo brings the URL of a word into its usual form'),
+    ]),
     Worked('no-default', 'a selection must have a package, and a workspace may have no default member', [member('a', leaf()), LEAF], [
         Row('', 'refused'),
         Row('-F no-such-feature', 'refused'),

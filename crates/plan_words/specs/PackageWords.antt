@@ -1,12 +1,18 @@
 -- The packages that words name, as Cargo's package id specs do.
 use Rattle.std.specs.Prelude.{ℕ, ◌+◌, List, [], ◌∷◌, ◌++◌, Bool, true, false, length, drop, Result, Ok, Err, nat_eq, not, ◌==◌, ◌&&◌, ◌||◌, if◌then◌else◌, codes, slice_get}
-use Rattle.std.specs.List.{before_first, filter, list_any, starts_with}
+use Rattle.std.specs.List.{after_first, before_first, ends_with, filter, list_any, starts_with}
 use Rattle.std.specs.Option.{option_map_or}
 use Rattle.std.specs.Str.{bytes_eq}
 use Rattle.cargo_workspaces.specs.Workspaces.{Text, PackageText, WorkspaceText}
 use Rattle.plan_words.specs.Patterns.{fits}
 use Rattle.plan_words.specs.Selections.{ChoiceText, default_members, all_members, named}
 use Rattle.plan_words.specs.Refusals.{Refusal, ambiguous_package, no_packages, unknown_package, ◌>>=◌}
+
+abbrev pub is_hash : ℕ → Bool
+is_hash c = c == 35
+
+abbrev pub is_question : ℕ → Bool
+is_question c = c == 63
 
 -- A version follows `@` or `:`.
 abbrev pub is_mark : ℕ → Bool
@@ -41,8 +47,41 @@ fits_rest [] version = true
 fits_rest (c ∷ word) version = is_mark c && fits_version word version
 
 -- Whether `word` is the package's name, or its name, `@` or `:`, and a version that fits.
+abbrev pub fits_name : Text → PackageText → Bool
+fits_name word p = starts_with nat_eq word p.name && fits_rest (drop (length p.name) word) p.version
+
+-- A text without its beginning, if that is `front`.
+abbrev pub without : Text → Text → Text
+without front text = if starts_with nat_eq text front then drop (length front) text else text
+
+-- The source in a package's id, as `git+https://host/repo?branch=b`, and its URL without the kind and the query.
+abbrev pub source_of : PackageText → Text
+source_of p = before_first is_hash p.id
+
+abbrev pub url_of : PackageText → Text
+url_of p = before_first is_question (without (codes "path+") (without (codes "git+") (without (codes "registry+") (source_of p))))
+
+-- Whether the last part of the URL is the package's name.
+abbrev pub is_last_part : PackageText → Bool
+is_last_part p = ends_with nat_eq (url_of p) (47 ∷ p.name)
+
+-- Whether what follows the `#` of a URL names the package. It may be a version if the last part of the URL is the name.
+abbrev pub fits_fragment : Text → PackageText → Bool
+fits_fragment fragment p = fits_name fragment p || is_last_part p && fits_version fragment p.version
+
+abbrev pub is_place : Text → PackageText → Bool
+is_place place p = bytes_eq place (source_of p) || bytes_eq place (url_of p)
+
+-- Whether `word` is the package's source or its URL, `#`, and what names the package; or one of the first two alone, if its last part
+-- is the name.
+abbrev pub fits_url : Text → PackageText → Bool
+fits_url word p =
+    if list_any is_hash word then is_place (before_first is_hash word) p && fits_fragment (after_first is_hash word) p
+    else is_place word p && is_last_part p
+
+-- Whether a word names the package, by its name or by its URL.
 abbrev pub is_named : Text → PackageText → Bool
-is_named word p = starts_with nat_eq word p.name && fits_rest (drop (length p.name) word) p.version
+is_named word p = fits_name word p || fits_url word p
 
 abbrev pub has_id : Text → PackageText → Bool
 has_id word p = bytes_eq word p.id

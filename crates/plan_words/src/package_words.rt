@@ -63,13 +63,90 @@ fn fits_rest(rest: &str, version: &str) -> bool
 }
 
 /// Returns whether `word` is the name of `package`, or its name, `@` or `:`, and a version that fits.
-fn is_named(word: &str, package: &Package<'_>) -> bool
-    ensures { result ≡ spec.is_named word.now (package_text «package».now) }
+fn fits_name(word: &str, package: &Package<'_>) -> bool
+    ensures { result ≡ spec.fits_name word.now (package_text «package».now) }
 {
     match word.strip_prefix(package.name) {
         Some(rest) => fits_rest(rest, package.version),
         None => false,
     }
+}
+
+/// Returns `text` without its beginning, if that is `front`.
+fn without<'t>(front: &str, text: &'t str) -> &'t str
+    ensures { result.now ≡ spec.without front.now text.now }
+{
+    match text.strip_prefix(front) {
+        Some(rest) => rest,
+        None => text,
+    }
+}
+
+/// Returns the source in the id of `package`.
+fn source_of<'p>(package: &Package<'p>) -> &'p str
+    ensures { result.now ≡ spec.source_of (package_text «package».now) }
+{
+    match package.id.split_once('#') {
+        Some((source, _)) => source,
+        None => package.id,
+    }
+}
+
+/// Returns the URL of the source of `package`, without its kind and its query.
+fn url_of<'p>(package: &Package<'p>) -> &'p str
+    ensures { result.now ≡ spec.url_of (package_text «package».now) }
+{
+    let url = without(
+        "path+",
+        without("git+", without("registry+", source_of(package))),
+    );
+    match url.split_once('?') {
+        Some((front, _)) => front,
+        None => url,
+    }
+}
+
+/// Returns whether the last part of the URL of `package` is its name.
+fn is_last_part(package: &Package<'_>) -> bool
+    ensures { result ≡ spec.is_last_part (package_text «package».now) }
+{
+    match url_of(package).strip_suffix(package.name) {
+        Some(front) => front.ends_with('/'),
+        None => false,
+    }
+}
+
+/// Returns whether `fragment`, which follows the `#` of a URL, names `package`. It may be a version if the last part of the URL is the
+/// name.
+fn fits_fragment(fragment: &str, package: &Package<'_>) -> bool
+    ensures { result ≡ spec.fits_fragment fragment.now (package_text «package».now) }
+{
+    fits_name(fragment, package) || is_last_part(package) && fits_version(fragment, package.version)
+}
+
+/// Returns whether `place` is the source of `package` or its URL.
+fn is_place(place: &str, package: &Package<'_>) -> bool
+    ensures { result ≡ spec.is_place place.now (package_text «package».now) }
+{
+    place == source_of(package) || place == url_of(package)
+}
+
+/// Returns whether `word` is the source of `package` or its URL, `#`, and what names the package; or one of the first two alone, if
+/// its last part is the name.
+fn fits_url(word: &str, package: &Package<'_>) -> bool
+    ensures { result ≡ spec.fits_url word.now (package_text «package».now) }
+{
+    match word.split_once('#') {
+        Some((place, fragment)) => is_place(place, package) && fits_fragment(fragment, package),
+        None => is_place(word, package) && is_last_part(package),
+    }
+}
+
+/// Returns whether `word` names `package`: by its name, perhaps with a version, or by its URL.
+fn is_named(word: &str, package: &Package<'_>) -> bool
+    ensures { result ≡ spec.is_named word.now (package_text «package».now) }
+{
+    fits_name(word, package) || fits_url(word, package)
 }
 
 /// Returns the numbers of the packages whose id is `word`.
@@ -107,7 +184,7 @@ fn packages_named(
 }
 
 /// Returns the numbers of the packages that `word` names, ascending: the package with this id alone, else those with this `NAME`,
-/// `NAME@VERSION` or `NAME:VERSION`. The version may be a beginning of the package's numbers, as in `clap@4`.
+/// `NAME@VERSION` or `NAME:VERSION`, or with this URL. The version may be a beginning of the package's numbers, as in `clap@4`.
 pub fn packages_of_word(
     alloc: Global,
     workspace: &Workspace<'_>,

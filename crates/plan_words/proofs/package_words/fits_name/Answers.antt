@@ -3,7 +3,7 @@ use Rattle.std.specs.Prelude.{◌&&◌, drop, length}
 use Rattle.std.proofs.lemmas.Str.Pattern.{starts_text}
 use Rattle.plan_words.specs.PackageWords.{fits_rest}
 use Rattle.plan_words.proofs.Texts.{named_rest}
-use Rattle.plan_words.proofs.package_words.is_named.Goals as goal
+use Rattle.plan_words.proofs.package_words.fits_name.Goals as goal
 
 pub returns-in-Some : goal.returns-in-Some
 returns-in-Some c =
