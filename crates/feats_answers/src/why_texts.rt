@@ -215,7 +215,7 @@ fn built_texts(
 
 /// Appends `lines` to `texts`, unless it is empty.
 fn push_unless_empty(texts: &mut Vec<Vec<u8>>, lines: Vec<u8>) -> Result<(), AllocError>
-    ensures { OnOk result (texts_of texts.new.items ≡ texts_of texts.old.items ++ spec.unless_empty lines.entry.items) }
+    ensures { OnOk result (texts_of texts.new.items ≡ texts_of texts.old.items ++ spec.unless_empty lines.items) }
 {
     if !lines.is_empty() {
         texts.push(lines)?;
